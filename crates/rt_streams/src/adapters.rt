@@ -1,0 +1,104 @@
+// A source and a sink over std's readers and writers: the trusted edge, which tells no content.
+ghost use Rattle.std.specs.Prelude.{◌≡◌, ◌≤◌, None};
+ghost use Rattle.rt_streams.specs.Streams.{HasCause, Rose};
+
+use crate::{Failed, Sink, Source};
+use std::io::{Read, Write};
+
+// Counts a fault.
+fn failed(faults: &mut u64) -> Failed
+    ensures later { faults.old ≤ faults.new }
+    ensures rose { Rose faults.old faults.new }
+{
+    *faults = faults.saturating_add(1);
+    Failed
+}
+
+/// A source over a reader, as standard input. It tells no bytes. Each `Err` of the reader is a fault.
+/// This project's own edge.
+#[derive(Drop)]
+pub struct Reading<R> {
+    inner: R,
+    taken: u64,
+    faults: u64,
+}
+
+impl<R: Read> Reading<R> {
+    /// A source of which nothing was taken yet.
+    pub fn new(inner: R) -> Self
+        ensures taken { ⟦<Reading<R> as Source>⟧.taken result ≡ 0 }
+        ensures faults { ⟦<Reading<R> as Source>⟧.faults result ≡ 0 }
+    {
+        Reading {
+            inner,
+            taken: 0,
+            faults: 0,
+        }
+    }
+}
+
+impl<R: Read> Source for Reading<R> {
+    ghost left = { λ _. None };
+
+    ghost taken = { λ s. s.taken };
+
+    ghost faults = { λ s. s.faults };
+
+    fn read(&mut self, buf: &mut [u8]) -> Result<usize, Failed> {
+        match self.inner.read(buf) {
+            Ok(count) => {
+                self.taken = self.taken.wrapping_add(count as u64);
+                Ok(count)
+            }
+            Err(_) => Err(failed(&mut self.faults)),
+        }
+    }
+}
+
+/// A sink over a writer, as standard output. It tells no bytes. Each `Err` of the writer is a fault,
+/// and so is each write that takes nothing of a piece that has bytes. This project's own edge.
+///
+/// Give it a `std::io::BufWriter` where many short pieces are written, and call `flush` at the end:
+/// what a buffer still holds is not written when it is dropped without a fault being told.
+#[derive(Drop)]
+pub struct Writing<W> {
+    inner: W,
+    faults: u64,
+}
+
+impl<W: Write> Writing<W> {
+    /// A sink to which nothing was written yet.
+    pub fn new(inner: W) -> Self
+        ensures faults { ⟦<Writing<W> as Sink>⟧.faults result ≡ 0 }
+    {
+        Writing { inner, faults: 0 }
+    }
+
+    /// Writes out what the writer holds back. It fails only with a fault.
+    pub fn flush(&mut self) -> Result<(), Failed>
+        ensures cause { HasCause (⟦<Writing<W> as Sink>⟧.faults self.old) (⟦<Writing<W> as Sink>⟧.faults self.new) result }
+    {
+        match self.inner.flush() {
+            Ok(()) => Ok(()),
+            Err(_) => Err(failed(&mut self.faults)),
+        }
+    }
+}
+
+impl<W: Write> Sink for Writing<W> {
+    ghost written = { λ _. None };
+
+    ghost faults = { λ s. s.faults };
+
+    fn write(&mut self, piece: &[u8]) -> Result<usize, Failed> {
+        match self.inner.write(piece) {
+            Ok(count) => {
+                if count == 0 && !piece.is_empty() {
+                    failed(&mut self.faults);
+                }
+                Ok(count)
+            }
+            Err(_) => Err(failed(&mut self.faults)),
+        }
+    }
+}

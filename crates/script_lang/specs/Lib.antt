@@ -1,0 +1,4 @@
+pub mod Scripts
+pub mod Steps
+pub mod Lines
+pub mod Paired

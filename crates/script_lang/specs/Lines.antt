@@ -1,0 +1,195 @@
+-- The lines that are printed of a history: one for each call, and behind the dispose of a frame's snapshot what the frame tells.
+use Rattle.std.specs.Prelude.{ℕ, zero, suc, ◌+◌, ◌-◌, ◌*◌, ◌^◌, ◌==◌, not, List, [], ◌∷◌, ◌++◌, Bool, true, false, codes, Option, Some, None, if◌then◌else◌, slice_get}
+use Rattle.std.specs.List.{flat_map, filter}
+use Rattle.std.specs.Option.{option_map_or}
+use Rattle.std.specs.Fmt.{decimal}
+use Rattle.rt_values.specs.declared.value.Value.{Value}
+use Rattle.rt_values.specs.declared.value.Ty.{Ty}
+use Rattle.rt_values.specs.declared.value.Ty.TheVariants as ty
+use Rattle.rt_values.specs.declared.names.Kind.{Kind}
+use Rattle.rt_values.specs.declared.names.Kind.TheVariants.{Mutable, Readonly}
+use Rattle.rt_values.specs.Values.{value_text}
+use Rattle.rt_values.specs.Maps.{Map, contains}
+use Rattle.rt_values.specs.Trail.{Attribute}
+use Rattle.rt_values.specs.Nodes.{Nodes, Branch, nodes}
+use Rattle.rt_values.specs.Nodes as tree
+use Rattle.rt_values.specs.Frames.{Composed, Report, unseen}
+use Rattle.lang_ast.specs.declared.program.State.{State}
+use Rattle.lang_ast.specs.declared.program.Stmt.{Stmt}
+use Rattle.lang_ast.specs.Frame.{Good, frame}
+use Rattle.snap_policy.specs.declared.policy.BuiltIn.{BuiltIn}
+use Rattle.snap_policy.specs.Table.{table}
+use Rattle.snap_api.specs.declared.data.Request.{Request}
+use Rattle.snap_api.specs.declared.data.Request.TheVariants as request
+use Rattle.snap_api.specs.declared.data.Reply.{Reply}
+use Rattle.snap_api.specs.declared.data.Reply.TheVariants as reply
+use Rattle.snap_api.specs.declared.data.Refusal.{Refusal}
+use Rattle.snap_api.specs.declared.data.Refusal.TheVariants as refusal
+use Rattle.snap_api.specs.declared.data.Logged.{Logged}
+use Rattle.snap_api.specs.World.{World, History, call, shot_of}
+use Rattle.script_lang.specs.declared.script.Step.{Step}
+use Rattle.script_lang.specs.Steps.{opening, sequential}
+
+-- the names that lines have: those of the states by number, and the actor's
+pub record Titles : Type 0 where
+  pub states : List State
+  pub actor : List ℕ
+
+-- a line ends with LF
+abbrev pub line : List ℕ → List ℕ
+line t = t ++ 10 ∷ []
+
+abbrev pub state_name : List State → ℕ → List ℕ
+state_name states x = option_map_or (λ s. s.name) (slice_get states x) []
+
+-- a blank and the name of each
+abbrev pub state_names : List State → List ℕ → List ℕ
+state_names states [] = []
+state_names states (x ∷ xs) = 32 ∷ state_name states x ++ state_names states xs
+
+-- a snapshot is @ and its number, and @- where it was never taken
+abbrev pub never_taken : ℕ
+never_taken = 2 ^ 64 - 1
+
+abbrev pub snapshot : ℕ → List ℕ
+snapshot name = if name == never_taken then codes "@-" else 64 ∷ decimal name
+
+abbrev pub kind_text : Kind → List ℕ
+kind_text Mutable = codes "mutable"
+kind_text Readonly = codes "readonly"
+
+abbrev pub type_text : Ty → List ℕ
+type_text ty.Int = codes "Int"
+
+abbrev pub request_text : List State → Request → List ℕ
+request_text states (request.Take parent kind) = codes "take " ++ kind_text kind ++ 32 ∷ snapshot parent
+request_text states (request.TakeFor watcher) = codes "frame"
+request_text states (request.Read name x) = codes "read " ++ snapshot name ++ 32 ∷ state_name states x
+request_text states (request.Write name x v) = codes "write " ++ snapshot name ++ 32 ∷ state_name states x ++ 32 ∷ value_text v
+request_text states (request.Apply name) = codes "apply " ++ snapshot name
+request_text states (request.Dispose name) = codes "dispose " ++ snapshot name
+
+abbrev pub refusal_text : Titles → Refusal → List ℕ
+refusal_text t refusal.Spent = codes "spent"
+refusal_text t (refusal.Closed name) = codes "closed"
+refusal_text t refusal.Global = codes "global"
+refusal_text t (refusal.NotYours owner) = codes "owned by " ++ t.actor
+refusal_text t refusal.UnknownObject = codes "unknown object"
+refusal_text t refusal.UnknownWatcher = codes "unknown watcher"
+refusal_text t refusal.ReadOnly = codes "read only"
+refusal_text t (refusal.WrongType kept) = codes "wrong type " ++ type_text kept
+refusal_text t refusal.BadPolicy = codes "bad policy"
+refusal_text t refusal.ParentClosed = codes "parent closed"
+refusal_text t (refusal.Conflict x) = codes "conflict " ++ state_name t.states x
+refusal_text t refusal.NoMemory = codes "no memory"
+
+abbrev pub reply_text : Titles → Reply → List ℕ
+reply_text t (reply.Taken name) = snapshot name
+reply_text t (reply.TakenFor name changed) = snapshot name ++ codes " changed" ++ state_names t.states changed
+reply_text t (reply.Got v) = value_text v
+reply_text t (reply.Wrote true) = codes "changed"
+reply_text t (reply.Wrote false) = codes "same"
+reply_text t reply.Applied = codes "applied"
+reply_text t reply.Disposed = codes "disposed"
+reply_text t (reply.Refused r) = refusal_text t r
+
+-- the line of a call: A: REQUEST = REPLY
+abbrev pub entry_line : Titles → Logged → List ℕ
+entry_line t e = line (t.actor ++ codes ": " ++ request_text t.states e.request ++ codes " = " ++ reply_text t e.reply)
+
+-- a word and a number
+unfoldable pub count_text : List ℕ → ℕ → List ℕ
+count_text word count = word ++ decimal count
+
+-- what ran
+abbrev pub work_text : ℕ → ℕ → ℕ → List ℕ
+work_text ran calculated reads = count_text (codes "report: ran ") ran ++ (count_text (codes ", calculated ") calculated ++ count_text (codes ", reads ") reads)
+
+-- what there is
+abbrev pub size_text : ℕ → ℕ → List ℕ
+size_text groups nodes = count_text (codes ", groups ") groups ++ count_text (codes ", nodes ") nodes
+
+abbrev pub report_line : Report → List ℕ
+report_line r = line (work_text r.ran r.calculated r.reads ++ size_text r.groups r.nodes)
+
+-- two blanks for each level
+abbrev pub margin : ℕ → List ℕ
+margin zero = []
+margin (suc depth) = 32 ∷ 32 ∷ margin depth
+
+-- a blank, the name, = and the value of each
+abbrev pub attributes_text : List Attribute → List ℕ
+attributes_text [] = []
+attributes_text (a ∷ more) = 32 ∷ a.name ++ 61 ∷ value_text a.value ++ attributes_text more
+
+abbrev pub node_line : ℕ → ℕ → List ℕ → List Attribute → List ℕ
+node_line depth number kind attributes = line (margin depth ++ 35 ∷ decimal number ++ 32 ∷ kind ++ attributes_text attributes)
+
+-- a line for each node in preorder
+abbrev pub tree_lines : ℕ → Nodes → List (List ℕ)
+tree_lines depth tree.None = []
+tree_lines depth (Branch number kind attributes children rest) =
+    node_line depth number kind attributes ∷ (tree_lines (depth + 1) children ++ tree_lines depth rest)
+
+-- a good frame tells its report and its tree
+abbrev pub frame_lines : Option Good → List (List ℕ)
+frame_lines None = line (codes "refused: too many groups") ∷ []
+frame_lines (Some good) = report_line good.told ∷ tree_lines 0 (nodes good.left.trail)
+
+-- Where a walk along a history stands: the plain world, what is kept of the last good frame, and the snapshots of frames that are not disposed yet.
+pub record Standing : Type 0 where
+  pub world : World BuiltIn
+  pub kept : Composed
+  pub frames : List ℕ
+
+-- what is kept after a frame: a refused one leaves it
+abbrev pub kept_after : Composed → Option Good → Composed
+kept_after k None = k
+kept_after k (Some good) = good.left
+
+-- whether a call ends a frame
+abbrev pub ends_frame : List ℕ → Request → Bool
+ends_frame frames (request.Dispose name) = contains name frames
+ends_frame frames _ = false
+
+-- the name that a call is about
+abbrev pub name_in : Request → ℕ
+name_in (request.Dispose name) = name
+name_in _ = 0
+
+-- the frames that are open behind a reply
+abbrev pub with_frame : List ℕ → Reply → List ℕ
+with_frame frames (reply.TakenFor name changed) = frames ++ name ∷ []
+with_frame frames _ = frames
+
+-- the frame that a call ends is composed in the view of its snapshot
+abbrev pub frame_at : List Stmt → Standing → Logged → Option Good
+frame_at root s e = frame root s.kept (shot_of s.world (name_in e.request)).view
+
+abbrev pub lines_at : Titles → List Stmt → Standing → Logged → List (List ℕ)
+lines_at t root s e = entry_line t e ∷ (if ends_frame s.frames e.request then frame_lines (frame_at root s e) else [])
+
+abbrev pub next : List Stmt → Standing → Logged → Standing
+next root s e =
+    let world = (call table s.world e.caller e.request).0 in
+    if ends_frame s.frames e.request
+    then record { world = world; kept = kept_after s.kept (frame_at root s e); frames = filter (λ n. not (n == name_in e.request)) s.frames }
+    else record { world = world; kept = s.kept; frames = with_frame s.frames e.reply }
+
+-- the lines of a history, from where the walk stands
+abbrev pub lines : Titles → List Stmt → Standing → History → List (List ℕ)
+lines t root s [] = []
+lines t root s (e ∷ es) = lines_at t root s e ++ lines t root (next root s e) es
+
+-- where the walk stands behind a history
+abbrev pub standing_after : List Stmt → Standing → History → Standing
+standing_after root s [] = s
+standing_after root s (e ∷ es) = standing_after root (next root s e) es
+
+-- a walk begins in the opening world, before any frame
+abbrev pub beginning : List State → Standing
+beginning states = record { world = opening states; kept = unseen; frames = [] }
+
+-- All that a run prints: the lines of the history that the steps make one after the other.
+unfoldable pub run_text : Titles → List Stmt → List Step → List ℕ
+run_text t root steps = flat_map (λ l. l) (lines t root (beginning t.states) (sequential (opening t.states) steps))

@@ -1,0 +1,256 @@
+// The lines of calls.
+ghost use Rattle.std.specs.Prelude.{◌≡◌, ◌++◌, ◌∷◌, [], List, ℕ, OnOk, codes};
+ghost use Rattle.std.specs.Fmt.{decimal};
+ghost use Rattle.rt_values.specs.Values.{value_text};
+ghost use Rattle.script_lang.specs.Lines.{Titles, state_name, state_names, snapshot, kind_text, type_text, request_text, refusal_text, reply_text, entry_line, line};
+
+use crate::Script;
+use itoa::Buffer;
+use lang_ast::State;
+use lang_checks::Checked;
+use rt_values::{Kind, Name, NoMemory, ObjectNo, Ty, Value};
+use snap_api::{Logged, Refusal, Reply, Request};
+
+// A piece at the end of a text.
+pub fn add(text: &mut Vec<u8>, piece: &[u8]) -> Result<(), NoMemory>
+    ensures { OnOk result (text.new.items ≡ text.old.items ++ piece.now) }
+{
+    text.extend_from_slice(piece)?;
+    Ok(())
+}
+
+// The decimals of a number at the end of a text.
+pub fn add_number(text: &mut Vec<u8>, number: u64) -> Result<(), NoMemory>
+    ensures { OnOk result (text.new.items ≡ text.old.items ++ decimal number) }
+{
+    let mut digits = Buffer::new();
+    add(text, digits.format(number).as_bytes())
+}
+
+fn add_state(text: &mut Vec<u8>, states: &[State], x: ObjectNo) -> Result<(), NoMemory>
+    ensures { OnOk result (text.new.items ≡ text.old.items ++ state_name states.now x) }
+{
+    match states.get(x as usize) {
+        Some(state) => add(text, state.name.bytes()),
+        None => Ok(()),
+    }
+}
+
+// A blank and the name of each of the states.
+#[tactic(auto, using(crate::proofs::Texts::joins))]
+fn add_states(text: &mut Vec<u8>, states: &[State], numbers: &[ObjectNo]) -> Result<(), NoMemory>
+    ensures { OnOk result (text.new.items ≡ text.old.items ++ state_names states.now numbers.now) }
+{
+    let mut rest = numbers;
+    while let Some((x, more)) = rest.split_first() {
+        add(text, b" ")?;
+        add_state(text, states, *x)?;
+        rest = more;
+    }
+    Ok(())
+}
+
+// A name that is never handed out.
+const NEVER_TAKEN: Name = 18446744073709551615;
+
+#[tactic(auto, using(crate::proofs::Texts::joins))]
+fn add_snapshot(text: &mut Vec<u8>, name: Name) -> Result<(), NoMemory>
+    ensures { OnOk result (text.new.items ≡ text.old.items ++ snapshot name) }
+{
+    if name == NEVER_TAKEN {
+        return add(text, b"@-");
+    }
+    add(text, b"@")?;
+    add_number(text, name)
+}
+
+fn kind_word(kind: Kind) -> &'static [u8]
+    ensures { result.now ≡ kind_text kind }
+{
+    match kind {
+        Kind::Mutable => b"mutable",
+        Kind::Readonly => b"readonly",
+    }
+}
+
+fn type_word(ty: Ty) -> &'static [u8]
+    ensures { result.now ≡ type_text ty }
+{
+    match ty {
+        Ty::Int => b"Int",
+    }
+}
+
+fn add_request(
+    text: &mut Vec<u8>,
+    states: &[State],
+    request: &Request,
+) -> Result<(), NoMemory>
+    ensures { OnOk result (text.new.items ≡ text.old.items ++ request_text states.now request.now) }
+{
+    match request {
+        Request::Take { parent, kind } => add_take(text, *parent, *kind),
+        Request::TakeFor { watcher: _ } => add(text, b"frame"),
+        Request::Read { name, object } => add_read(text, states, *name, *object),
+        Request::Write {
+            name,
+            object,
+            value,
+        } => add_write(text, states, *name, *object, value),
+        Request::Apply { name } => add_named(text, b"apply ", *name),
+        Request::Dispose { name } => add_named(text, b"dispose ", *name),
+    }
+}
+
+#[tactic(auto, using(crate::proofs::Texts::joins))]
+fn add_take(text: &mut Vec<u8>, parent: Name, kind: Kind) -> Result<(), NoMemory>
+    ensures { OnOk result (text.new.items ≡ text.old.items ++ (codes "take " ++ kind_text kind ++ 32 ∷ snapshot parent)) }
+{
+    add(text, b"take ")?;
+    add(text, kind_word(kind))?;
+    add(text, b" ")?;
+    add_snapshot(text, parent)
+}
+
+// A word and a snapshot.
+#[tactic(auto, using(crate::proofs::Texts::joins))]
+fn add_named(text: &mut Vec<u8>, word: &[u8], name: Name) -> Result<(), NoMemory>
+    ensures { OnOk result (text.new.items ≡ text.old.items ++ (word.now ++ snapshot name)) }
+{
+    add(text, word)?;
+    add_snapshot(text, name)
+}
+
+#[tactic(auto, using(crate::proofs::Texts::joins))]
+fn add_read(
+    text: &mut Vec<u8>,
+    states: &[State],
+    name: Name,
+    object: ObjectNo,
+) -> Result<(), NoMemory>
+    ensures { OnOk result (text.new.items ≡ text.old.items ++ (codes "read " ++ snapshot name ++ 32 ∷ state_name states.now object)) }
+{
+    add_named(text, b"read ", name)?;
+    add(text, b" ")?;
+    add_state(text, states, object)
+}
+
+#[tactic(auto, using(crate::proofs::Texts::joins))]
+fn add_write(
+    text: &mut Vec<u8>,
+    states: &[State],
+    name: Name,
+    object: ObjectNo,
+    value: &Value,
+) -> Result<(), NoMemory>
+    ensures { OnOk result (text.new.items ≡ text.old.items ++ (codes "write " ++ snapshot name ++ 32 ∷ state_name states.now object ++ 32 ∷ value_text value.now)) }
+{
+    add_named(text, b"write ", name)?;
+    add(text, b" ")?;
+    add_state(text, states, object)?;
+    add(text, b" ")?;
+    value.put(text)
+}
+
+fn add_reply(
+    text: &mut Vec<u8>,
+    states: &[State],
+    actor: &[u8],
+    reply: &Reply,
+) -> Result<(), NoMemory>
+    ensures { OnOk result (text.new.items ≡ text.old.items ++ reply_text (record { states = states.now; actor = actor.now }) reply.now) }
+{
+    match reply {
+        Reply::Taken(name) => add_snapshot(text, *name),
+        Reply::TakenFor(name, changed) => add_taken(text, states, *name, changed.numbers()),
+        Reply::Got(value) => value.put(text),
+        Reply::Wrote { changed } => {
+            if *changed {
+                add(text, b"changed")
+            } else {
+                add(text, b"same")
+            }
+        }
+        Reply::Applied => add(text, b"applied"),
+        Reply::Disposed => add(text, b"disposed"),
+        Reply::Refused(refusal) => add_refusal(text, states, actor, *refusal),
+    }
+}
+
+#[tactic(auto, using(crate::proofs::Texts::joins))]
+fn add_taken(
+    text: &mut Vec<u8>,
+    states: &[State],
+    name: Name,
+    changed: &[ObjectNo],
+) -> Result<(), NoMemory>
+    ensures { OnOk result (text.new.items ≡ text.old.items ++ (snapshot name ++ codes " changed" ++ state_names states.now changed.now)) }
+{
+    add_snapshot(text, name)?;
+    add(text, b" changed")?;
+    add_states(text, states, changed)
+}
+
+fn add_refusal(
+    text: &mut Vec<u8>,
+    states: &[State],
+    actor: &[u8],
+    refusal: Refusal,
+) -> Result<(), NoMemory>
+    ensures { OnOk result (text.new.items ≡ text.old.items ++ refusal_text (record { states = states.now; actor = actor.now }) refusal) }
+{
+    match refusal {
+        Refusal::Spent => add(text, b"spent"),
+        Refusal::Closed { name: _ } => add(text, b"closed"),
+        Refusal::Global => add(text, b"global"),
+        Refusal::NotYours { owner: _ } => add_two(text, b"owned by ", actor),
+        Refusal::UnknownObject => add(text, b"unknown object"),
+        Refusal::UnknownWatcher => add(text, b"unknown watcher"),
+        Refusal::ReadOnly => add(text, b"read only"),
+        Refusal::WrongType { kept } => add_two(text, b"wrong type ", type_word(kept)),
+        Refusal::BadPolicy => add(text, b"bad policy"),
+        Refusal::ParentClosed => add(text, b"parent closed"),
+        Refusal::Conflict { object } => add_conflict(text, states, object),
+        Refusal::NoMemory => add(text, b"no memory"),
+    }
+}
+
+#[tactic(auto, using(crate::proofs::Texts::joins))]
+fn add_two(text: &mut Vec<u8>, first: &[u8], second: &[u8]) -> Result<(), NoMemory>
+    ensures { OnOk result (text.new.items ≡ text.old.items ++ (first.now ++ second.now)) }
+{
+    add(text, first)?;
+    add(text, second)
+}
+
+#[tactic(auto, using(crate::proofs::Texts::joins))]
+fn add_conflict(
+    text: &mut Vec<u8>,
+    states: &[State],
+    object: ObjectNo,
+) -> Result<(), NoMemory>
+    ensures { OnOk result (text.new.items ≡ text.old.items ++ (codes "conflict " ++ state_name states.now object)) }
+{
+    add(text, b"conflict ")?;
+    add_state(text, states, object)
+}
+
+/// Adds the line of a call and its reply: the actor, what was asked for and what was answered, ended by LF.
+#[tactic(auto, using(crate::proofs::Texts::joins))]
+pub fn add_line(
+    text: &mut Vec<u8>,
+    program: &Checked,
+    script: &Script,
+    entry: &Logged,
+) -> Result<(), NoMemory>
+    ensures { OnOk result (text.new.items ≡ text.old.items ++ entry_line (record { states = program.now.states.items; actor = script.now.actor }) entry.now) }
+{
+    let states = program.states();
+    let actor = script.actor.bytes();
+    add(text, actor)?;
+    add(text, b": ")?;
+    add_request(text, states, &entry.request)?;
+    add(text, b" = ")?;
+    add_reply(text, states, actor, &entry.reply)?;
+    add(text, b"\n")
+}

@@ -1,0 +1,10 @@
+pub mod Trees
+pub mod Walks
+pub mod Complete
+pub mod Sound
+pub mod Refusals
+pub mod Fronts
+pub mod Causes
+pub mod Layouts
+pub mod Utf8
+pub mod Printed

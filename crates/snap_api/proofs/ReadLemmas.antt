@@ -1,0 +1,29 @@
+-- A read leaves the plain world, refused or not.
+use Rattle.std.proofs.Common.{◌≡◌, ℕ, List, [], ◌∷◌, refl, Bool, true, false, not, nat_lt, length, subst}
+use Rattle.snap_policy.specs.Rules.{Rules}
+use Rattle.snap_api.specs.Calls.{Does, Calls, is_no_memory}
+use Rattle.snap_api.specs.World.{World, call, unless, is_closed, is_foreign, shot_of}
+use Rattle.snap_api.specs.declared.data.Refusal.{Refusal}
+use Rattle.snap_api.specs.declared.data.Refusal.TheVariants as refusal
+use Rattle.snap_api.specs.declared.data.Reply.{Reply}
+use Rattle.snap_api.specs.declared.data.Reply.TheVariants.{Refused}
+use Rattle.snap_api.specs.declared.data.Request.TheVariants.{Read}
+
+-- a refusal for another cause than memory is the plain world's
+does_refused : {W : Type 0} (before after : W → Type 0) (step : W → W × Reply) (r : Refusal) → is_no_memory (Refused r) ≡ false → Does before after step (Refused r) → (w : W) → before w → after (step w).0
+does_refused before after step refusal.NoMemory other does w h = absurd cc
+does_refused before after step r other does w h = (does w h).1
+
+unless_same : {P : Type 0} (w : World P) (tests : List (Bool × Refusal)) (effect : World P × Reply) → effect.0 ≡ w → (unless w tests effect).0 ≡ w
+unless_same w [] effect same = same
+unless_same w ((true, r) ∷ tests) effect same = refl
+unless_same w ((false, r) ∷ tests) effect same = unless_same w tests effect same
+
+pub call-read : {P : Type 0} (rules : Rules P) (w : World P) (caller name x : ℕ) → (call rules w caller (Read name x)).0 ≡ w
+call-read rules w caller name x = unless_same w
+    ((is_closed w name, refusal.Closed name) ∷ (is_foreign w caller name, refusal.NotYours (shot_of w name).owner) ∷ (not (nat_lt x (length w.objects)), refusal.UnknownObject) ∷ []) _ refl
+
+pub stands_refused : {P : Type 0} (rules : Rules P) (before after : World P → Type 0) (caller name x : ℕ) (r : Refusal) → is_no_memory (Refused r) ≡ false →
+    Calls rules before after caller (Read name x) (Refused r) → (w : World P) → before w → after w
+stands_refused rules before after caller name x r other does w h =
+    subst after (call-read rules w caller name x) (does_refused before after (λ v. call rules v caller (Read name x)) r other does w h)

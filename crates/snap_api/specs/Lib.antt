@@ -1,0 +1,6 @@
+pub mod Settle
+pub mod World
+pub mod Calls
+pub mod Shaped
+pub mod Eyes
+pub mod Keeps

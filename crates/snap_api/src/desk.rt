@@ -1,0 +1,73 @@
+// A view of one snapshot, over a lent world.
+ghost use Rattle.std.specs.Prelude.{◌≡◌};
+ghost use Rattle.snap_api.specs.Eyes.{Eyes};
+ghost use Rattle.snap_api.specs.Keeps.{KeepsDesk, keeps_itself, keeps_on};
+
+use crate::{Refusal, Versions};
+use rt_values::{Caller, Name, NoMemory, ObjectNo, Objects, Value, View};
+use std::alloc::Global;
+
+/// What a caller reads in its open snapshot of a lent world, with a lent list that gets each object asked for,
+/// as a composition's read observer does. Whoever lent both has them back when the desk is gone.
+#[derive(Drop)]
+pub struct OwnDesk<'a, V: Versions> {
+    world: &'a mut V,
+    asked: &'a mut Objects,
+    caller: Caller,
+    opened: Option<Name>,
+}
+
+impl<'a, V: Versions> OwnDesk<'a, V> {
+    /// A desk of this caller in this snapshot, which is live and the caller's own or global; without a
+    /// snapshot it shows nothing.
+    pub fn new(
+        world: &'a mut V,
+        asked: &'a mut Objects,
+        caller: Caller,
+        opened: Option<Name>,
+    ) -> OwnDesk<'a, V>
+        ensures same_world { result.world.ghost_name ≡ world.entry.ghost_name }
+        ensures world { result.world.now ≡ world.entry.now }
+        ensures same_list { result.asked.ghost_name ≡ asked.entry.ghost_name }
+        ensures asked { result.asked.now ≡ asked.entry.now }
+        ensures rest { (result.caller ≡ caller) × (result.opened ≡ opened) }
+    {
+        OwnDesk {
+            world,
+            asked,
+            caller,
+            opened,
+        }
+    }
+}
+
+impl<V: Versions> View for OwnDesk<'_, V> {
+    ghost shows = { λ s m. Eyes (V.stands s.world.now) s.caller s.opened m };
+
+    ghost asked = { λ s. s.asked.now };
+
+    ghost keeps = { λ s t. KeepsDesk s.world.ghost_name t.world.ghost_name s.asked.ghost_name t.asked.ghost_name (V.stands s.world.now) (V.stands t.world.now) s.caller t.caller s.opened t.opened s.asked.now t.asked.now };
+
+    ghost keeps_itself = { λ s. keeps_itself _ _ _ _ _ _ };
+
+    ghost keeps_on = { λ r s t h k. keeps_on h k };
+
+    fn read(&mut self, alloc: Global, x: ObjectNo) -> Result<Value, NoMemory> {
+        let Some(name) = self.opened else {
+            return Err(NoMemory); // nothing is shown then
+        };
+        let Ok(()) = self.asked.push(x) else {
+            return Err(NoMemory);
+        };
+        match self.world.read(alloc, self.caller, name, x) {
+            Ok(value) => Ok(value),
+            Err(Refusal::UnknownObject) => Ok(Value::Int(0)),
+            Err(refusal) => {
+                if refusal.is_no_memory() {
+                    self.asked.pop();
+                }
+                Err(NoMemory) // another refusal comes only where no map is shown
+            }
+        }
+    }
+}

@@ -1,0 +1,19 @@
+//! Worlds of snapshots: their calls, what each call answers, and a view of one snapshot over a lent world.
+//!
+//! It is `Snapshot` of `androidx.compose.runtime.snapshots`: take a snapshot, read and write state objects in
+//! it, apply it to its parent or dispose it. `Versions` is what a composition and a script stand on, `OwnDesk`
+//! is what a composition reads through.
+//! Promises: a world answers each call as the plain world of `specs/World.antt` does, which copies whole maps
+//! and keeps every snapshot; the refusals of a call come in one order; want of memory leaves the world as it
+//! was.
+#![tactic(auto)]
+
+mod data;
+mod desk;
+#[cfg(test)]
+mod tests;
+mod versions;
+
+pub use data::{CLOCK_LIMIT, Logged, Object, Refusal, Reply, Request, Shot, Status};
+pub use desk::OwnDesk;
+pub use versions::Versions;

@@ -1,0 +1,77 @@
+// What a policy answers, and the policies that programs name.
+ghost use Rattle.std.specs.Prelude.{◌≡◌, true, IfOk, Some};
+ghost use Rattle.rt_values.specs.declared.value.Value.{Value as value_data};
+ghost use Rattle.rt_values.specs.declared.value.Ty.{Ty as ty_data};
+ghost use Rattle.rt_values.specs.Values.{type_of};
+ghost use Rattle.snap_policy.specs.Rules.{Rules};
+
+use rt_values::{NoMemory, Ty, Value};
+use std::alloc::Global;
+
+/// When two values of a state object count as equal, and how two changes of it are merged
+/// (`SnapshotMutationPolicy`).
+pub trait Policy: Drop {
+    // Which values count as equal, what a merge gives, and which types it fits.
+    ghost rules: { Rules Self };
+
+    /// Whether a write of one value over the other changes nothing (`SnapshotMutationPolicy.equivalent`).
+    fn equivalent(&self, a: &Value, b: &Value) -> bool
+        ensures { result ≡ rules.equiv self.now a.now b.now };
+
+    /// One value for the two changes of `previous` to `current` and to `applied`, or None where they conflict
+    /// (`SnapshotMutationPolicy.merge`). It fails for want of memory alone.
+    fn merge(
+        &self,
+        alloc: Global,
+        previous: &Value,
+        current: &Value,
+        applied: &Value,
+    ) -> Result<Option<Value>, NoMemory>
+        ensures { IfOk result (λ m. m ≡ rules.merge self.now previous.now current.now applied.now) };
+
+    /// Whether objects of this type may have the policy; this project's own rule.
+    fn fits(&self, ty: Ty) -> bool
+        ensures { result ≡ rules.fits self.now ty };
+
+    // Of three values of one type that fits, a merged value has that type too.
+    ghost merge_keeps_type: { (p : Self) (t : ty_data) (previous current applied merged : value_data) → rules.fits p t ≡ true → type_of previous ≡ t → type_of current ≡ t → type_of applied ≡ t → rules.merge p previous current applied ≡ Some merged → type_of merged ≡ t };
+}
+
+/// The policies that programs name.
+#[derive(Clone, Copy, Debug, PartialEq, Eq)]
+pub enum BuiltIn {
+    /// `structuralEqualityPolicy`: it fits all types, equal values are equivalent, and it merges nothing.
+    Structural,
+}
+
+impl Policy for BuiltIn {
+    ghost use Rattle.snap_policy.specs.Table.{table, table_merge_keeps_type};
+
+    ghost rules = { table };
+
+    ghost merge_keeps_type = { table_merge_keeps_type };
+
+    fn equivalent(&self, a: &Value, b: &Value) -> bool {
+        match self {
+            BuiltIn::Structural => a.same(b),
+        }
+    }
+
+    fn merge(
+        &self,
+        _alloc: Global,
+        _previous: &Value,
+        _current: &Value,
+        _applied: &Value,
+    ) -> Result<Option<Value>, NoMemory> {
+        match self {
+            BuiltIn::Structural => Ok(None),
+        }
+    }
+
+    fn fits(&self, _ty: Ty) -> bool {
+        match self {
+            BuiltIn::Structural => true,
+        }
+    }
+}
