@@ -1,12 +1,15 @@
 -- Numbers and their decimals.
-use Rattle.std.proofs.Common.{◌≡◌, ℕ, ◌^◌, ◌<◌, List, Bool, true, false, ◌&&◌, None, Some, ℤ, pos, negsuc, refl, arith}
+use Rattle.std.proofs.Common.{◌≡◌, ◌∙◌, ℕ, suc, ◌^◌, ◌<◌, ◌==◌, List, [], ◌∷◌, length, Bool, true, false, ◌&&◌, None, Some, ℤ, pos, negsuc, neg_ℤ, refl, ap, sym, arith}
 use Rattle.std.specs.Prelude.{FitsSigned}
 use Rattle.std.specs.Int.{w64}
-use Rattle.std.specs.Fmt.{signed_decimal}
+use Rattle.std.specs.Fmt.{signed_decimal, decimal}
 use Rattle.std.specs.Str.{bytes_eq}
-use Rattle.std.specs.Str.Parse.{signed_digits_value}
+use Rattle.std.specs.Str.Parse.{AllDigits, digits_value, signed_digits_value}
+use Rattle.std.proofs.lemmas.Bool.{and_parts, ltb-true, ne_eqb}
+use Rattle.std.proofs.lemmas.Fmt.{decimal_is_IsNumeral}
+use Rattle.std.proofs.lemmas.Option.{cond_some}
 use Rattle.std.proofs.lemmas.Slice.Eq.{bytes_eq-Decides}
-use borrow.Author.Tests.{ltb-true}
+use Rattle.std.proofs.lemmas.Str.Parse.{digit_from_value}
 use Rattle.std.specs.Int.Signed.{mag}
 use Rattle.std.proofs.lemmas.Int.{ints}
 use Rattle.lang_forms.specs.Names.{fits}
@@ -30,3 +33,39 @@ no_int a never = cases (bytes_eq (signed_decimal (signed_digits_value 10 a)) a) 
 pub small : (z : ℤ) → FitsSigned w64 z → mag z < 2 ^ 63
 small (pos n) f = omega (arith, ints)
 small (negsuc n) f = omega (arith, ints)
+
+-- bytes are the same as themselves
+pub same_bytes : (a : List ℕ) → bytes_eq a a ≡ true
+same_bytes a = (bytes_eq-Decides a a).1 refl
+
+-- digits have no sign in front
+value_of_digits : (ds : List ℕ) → AllDigits 10 ds → 0 < length ds → signed_digits_value 10 ds ≡ pos (digits_value 10 ds)
+value_of_digits [] d some = absurd (omega arith)
+value_of_digits (c ∷ cs) d some =
+    let digit = digit_from_value c d.0 in
+    let minus : (c == 45) ≡ false = ne_eqb c 45 (λ e. omega arith) in
+    let plus : (c == 43) ≡ false = ne_eqb c 43 (λ e. omega arith) in
+    rw (minus, plus)
+
+-- the decimals of a number have it as their value
+value_of_decimals : (z : ℤ) → fits z ≡ true → signed_digits_value 10 (signed_decimal z) ≡ z
+value_of_decimals (pos n) h =
+    let lt : n < 2 ^ 63 = ltb-true n (2 ^ 63) h in
+    let k = decimal_is_IsNumeral n (omega arith) in
+    value_of_digits (decimal n) k.0.1 k.0.0 ∙ ap pos k.1
+value_of_decimals (negsuc n) h =
+    let lt : n < 2 ^ 63 = ltb-true n (2 ^ 63) h in
+    ap (λ m. neg_ℤ (pos m)) (decimal_is_IsNumeral (suc n) (omega arith)).1
+
+-- the decimals of a number that fits are read as it
+pub int-decimal : (z : ℤ) → fits z ≡ true → int_of (signed_decimal z) ≡ Some z
+unfolding int_of
+int-decimal z h = rw (value_of_decimals z h, same_bytes (signed_decimal z), h)
+
+-- and what is read as a number is its decimals
+pub decimal-int : (a : List ℕ) (z : ℤ) → int_of a ≡ Some z → (a ≡ signed_decimal z) × (fits z ≡ true)
+unfolding int_of
+decimal-int a z h =
+    let c = cond_some _ _ z h in
+    let both = and_parts _ _ c.0 in
+    (sym ((bytes_eq-Decides _ a).0 both.0) ∙ ap signed_decimal c.1, ap fits (sym c.1) ∙ both.1)

@@ -1,2 +1,4 @@
 pub mod Seen
 pub mod Ints
+pub mod FormsAreRead
+pub mod ReadHasForms

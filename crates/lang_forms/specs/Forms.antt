@@ -1,5 +1,5 @@
 -- The forms of programs and scripts: which trees stand for them. Places are not told: they are 0.
-use Rattle.std.specs.Prelude.{◌≡◌, ℕ, ◌&&◌, ◌==◌, nat_le, List, [], ◌∷◌, length, Bool, true, codes, Option, Some, None}
+use Rattle.std.specs.Prelude.{◌≡◌, ℕ, ◌&&◌, ◌==◌, nat_le, List, [], ◌∷◌, length, Bool, true, codes}
 use Rattle.std.specs.List.{position}
 use Rattle.std.specs.Option.{unwrap_or}
 use Rattle.std.specs.Fmt.{signed_decimal}
@@ -62,6 +62,7 @@ abbrev pub scripts_forms : List DoForm → Forest
 scripts_forms [] = empty
 scripts_forms (d ∷ more) = form (word (codes "do") (word d.actor (steps_forms d.steps))) (scripts_forms more)
 
+-- the states, and what stands behind them
 abbrev pub states_forms : List State → Forest → Forest
 states_forms [] f = f
 states_forms (s ∷ more) f = state_form s (states_forms more f)
@@ -85,17 +86,22 @@ abbrev pub number_of : List State → List ℕ → ℕ
 number_of states name = unwrap_or (position (λ s. bytes_eq s.name name) states) (length states)
 
 -- Whether names are names, numbers fit in 64 bits, and numbers of states are those of their names.
+
+-- a literal of 64 bits with a sign
 abbrev pub literal_fits : Value → Bool
 literal_fits (Int z) = fits z
 
+-- each state has a name, and a first value that fits
 abbrev pub states_fit : List State → Bool
 states_fit [] = true
 states_fit (s ∷ more) = (is_name s.name && literal_fits s.initial) && states_fit more
 
+-- a number fits; a state is read by a name, and has the number of its name
 abbrev pub expr_fits : List State → Expr → Bool
 expr_fits states (Literal v) = literal_fits v
 expr_fits states (Get name number) = is_name name && number == number_of states name
 
+-- each attribute has a name, and an expression that fits
 abbrev pub attributes_fit : List State → List Attribute → Bool
 attributes_fit states [] = true
 attributes_fit states (a ∷ more) = (is_name a.name && expr_fits states a.value) && attributes_fit states more
@@ -105,16 +111,18 @@ abbrev pub stmts_fit : List State → List Stmt → Bool
 stmts_fit states [] = true
 stmts_fit states (Node kind attributes ∷ more) = (is_name kind && (nat_le (length attributes) 1 && attributes_fit states attributes)) && stmts_fit states more
 
+-- a state is written by a name, has the number of its name, and the value fits
 abbrev pub steps_fit : List State → List StepForm → Bool
 steps_fit states [] = true
 steps_fit states (Write name number v ∷ more) = ((is_name name && number == number_of states name) && literal_fits v) && steps_fit states more
 steps_fit states (Frame ∷ more) = steps_fit states more
 
+-- each actor has a name, and steps that fit
 abbrev pub scripts_fit : List State → List DoForm → Bool
 scripts_fit states [] = true
 scripts_fit states (d ∷ more) = (is_name d.actor && steps_fit states d.steps) && scripts_fit states more
 
--- and there are at most 256 states
+-- all of it fits, and there are at most 256 states
 abbrev pub parts_fit : Parts → Bool
 parts_fit p = nat_le (length p.states) 256 && (states_fit p.states && (stmts_fit p.states p.root && scripts_fit p.states p.scripts))
 

@@ -1,5 +1,4 @@
 -- The parts that a program and a script in memory are.
-use Rattle.std.specs.Prelude.{ℕ}
 use Rattle.lang_ast.specs.declared.program.Program.{Program}
 use Rattle.lang_forms.specs.declared.rest.Rest.{Rest}
 use Rattle.lang_forms.specs.Forms.{Parts}

@@ -1,6 +1,6 @@
 -- The reading of forms from left to right, as a function of the forest. That it reads exactly what has the forms is proved.
 use Rattle.std.specs.Prelude.{◌≡◌, ℕ, ◌&&◌, nat_le, List, [], ◌∷◌, length, Bool, true, false, Option, Some, None, Result, Ok, Err, if◌then◌else◌, codes, ℤ}
-use Rattle.std.specs.Option.{option_and_then, option_map, is_some}
+use Rattle.std.specs.Option.{option_and_then, option_map}
 use Rattle.std.specs.Fmt.{signed_decimal}
 use Rattle.std.specs.Str.{bytes_eq}
 use Rattle.std.specs.Str.Parse.{signed_digits_value}
@@ -17,8 +17,8 @@ use Rattle.lang_ast.specs.declared.program.Stmt.TheVariants.{Node}
 use Rattle.lang_forms.specs.declared.rest.StepForm.{StepForm}
 use Rattle.lang_forms.specs.declared.rest.StepForm.TheVariants.{Write, Frame}
 use Rattle.lang_forms.specs.declared.rest.DoForm.{DoForm}
-use Rattle.lang_forms.specs.declared.program.FormStop.{FormStop}
-use Rattle.lang_forms.specs.declared.program.FormStop.TheVariants.{Form, NoMemory}
+use Rattle.lang_forms.specs.declared.stop.FormStop.{FormStop}
+use Rattle.lang_forms.specs.declared.stop.FormStop.TheVariants.{Form, NoMemory}
 use Rattle.lang_forms.specs.Names.{is_name, fits}
 use Rattle.lang_forms.specs.Forms.{number_of, Parts}
 
@@ -32,10 +32,12 @@ Reads view (Ok x) o = o ≡ Some (view x)
 Reads view (Err Form) o = o ≡ None
 Reads view (Err NoMemory) o = Unit {0}
 
+-- one reading behind another; none where one of them is none
 infixl 10 ◌>>=◌
 abbrev pub ◌>>=◌ : {A B : Type 0} → Option A → (A → Option B) → Option B
 o >>= f = option_and_then f o
 
+-- a value, where a test holds
 abbrev pub when : {A : Type 0} → Bool → A → Option A
 when b a = if b then Some a else None
 
@@ -53,18 +55,20 @@ list_of (atom at a f) = None
 list_of (text at s f) = None
 list_of (list at i f) = Some (i, f)
 
+-- whether there is no tree
 abbrev pub is_end : Forest → Bool
 is_end empty = true
 is_end (atom at a f) = false
 is_end (text at s f) = false
 is_end (list at i f) = false
 
--- this very atom
+-- this very atom in front; the trees behind it
 unfoldable pub word_of : List ℕ → Forest → Option Forest
 word_of word f = do
   a ← atom_of f
   when (bytes_eq a.0 word) a.1
 
+-- a name in front, and the trees behind it
 unfoldable pub name_of : Forest → Option (List ℕ × Forest)
 name_of f = do
   a ← atom_of f
@@ -74,6 +78,7 @@ name_of f = do
 unfoldable pub int_of : List ℕ → Option ℤ
 int_of a = when (bytes_eq (signed_decimal (signed_digits_value 10 a)) a && fits (signed_digits_value 10 a)) (signed_digits_value 10 a)
 
+-- a number in front, and the trees behind it
 unfoldable pub integer_of : Forest → Option (ℤ × Forest)
 integer_of f = do
   a ← atom_of f
@@ -108,12 +113,14 @@ get_of states f = do
   n ← name_of g
   when (is_end n.1) (Get n.0 (number_of states n.0))
 
+-- an expression in front, a number or a list with get, and the trees behind it
 unfoldable pub expr_of : List State → Forest → Option (Expr × Forest)
 expr_of states empty = None
 expr_of states (atom at a f) = option_map (λ z. (Literal (value.Int z), f)) (int_of a)
 expr_of states (text at s f) = None
 expr_of states (list at i f) = option_map (λ e. (e, f)) (get_of states i)
 
+-- a name and an expression
 unfoldable pub attribute_of : List State → Forest → Option Attribute
 attribute_of states f = do
   n ← name_of f
@@ -127,6 +134,7 @@ attributes_of states (atom at a f) = None
 attributes_of states (text at s f) = None
 attributes_of states (list at i f) = attribute_of states i >>= λ a. when (is_end f) (a ∷ [])
 
+-- a kind and its attributes behind the word node
 unfoldable pub stmt_of : List State → Forest → Option Stmt
 stmt_of states f = do
   w ← word_of (codes "node") f
@@ -135,12 +143,14 @@ stmt_of states f = do
   a ← attributes_of states l.0
   when (is_end l.1) (Node n.0 a)
 
+-- statements, each in a list of its own
 unfoldable pub stmts_of : List State → Forest → Option (List Stmt)
 stmts_of states empty = Some []
 stmts_of states (atom at a f) = None
 stmts_of states (text at s f) = None
 stmts_of states (list at i f) = stmt_of states i >>= λ s. option_map (λ more. s ∷ more) (stmts_of states f)
 
+-- global, a name and a number behind the word write
 unfoldable pub write_of : List State → Forest → Option StepForm
 write_of states f = do
   w ← word_of (codes "write") f
@@ -154,9 +164,11 @@ abbrev pub frame_or : Option Forest → Option StepForm → Option StepForm
 frame_or (Some f) other = when (is_end f) Frame
 frame_or None other = other
 
+-- a frame, or a write
 unfoldable pub step_of : List State → Forest → Option StepForm
 step_of states f = frame_or (word_of (codes "frame") f) (write_of states f)
 
+-- steps, each in a list of its own
 unfoldable pub steps_of : List State → Forest → Option (List StepForm)
 steps_of states empty = Some []
 steps_of states (atom at a f) = None
@@ -171,6 +183,7 @@ script_of states f = do
   s ← steps_of states a.1
   Some (record { actor = a.0; steps = s })
 
+-- scripts, each in a list of its own
 unfoldable pub scripts_of : List State → Forest → Option (List DoForm)
 scripts_of states empty = Some []
 scripts_of states (atom at a f) = None
@@ -193,6 +206,7 @@ header_of f = do
   o ← word_of (codes "1") c
   when (is_end o) o
 
+-- the header, at most 256 states, the function root, and the scripts
 unfoldable pub parts_of : Forest → Option Parts
 parts_of f = do
   h ← list_of f

@@ -1,4 +1,4 @@
-// Steps of a reading of trees, from left to right.
+// One item in front of the trees, as an atom, a word or a number, and the trees behind it.
 ghost use Rattle.std.specs.Prelude.{◌≡◌, Bool, slice_index};
 ghost use Rattle.std.specs.Option.{option_map};
 ghost use Rattle.std.specs.List.{list_all};
@@ -32,7 +32,7 @@ pub fn list_in(trees: &[Tree]) -> Option<(&[Tree], &[Tree])>
     }
 }
 
-// Whether there is no tree.
+// Whether there is no tree. Each kind has an arm of its own, so that the proof knows the forest there.
 #[tactic(auto, using(crate::proofs::Seen::views))]
 pub fn is_over(trees: &[Tree]) -> bool
     ensures { result ≡ is_end (seen trees.now) }
@@ -45,7 +45,8 @@ pub fn is_over(trees: &[Tree]) -> bool
     }
 }
 
-fn same(a: &[u8], b: &[u8]) -> bool
+// Whether both are the same bytes.
+fn same_bytes(a: &[u8], b: &[u8]) -> bool
     ensures { result ≡ bytes_eq a.now b.now }
 {
     a == b
@@ -57,46 +58,56 @@ pub fn word_in<'a>(word: &[u8], trees: &'a [Tree]) -> Option<&'a [Tree]>
     ensures { option_map (λ p. seen p.now) result ≡ word_of word.now (seen trees.now) }
 {
     let (atom, rest) = atom_in(trees)?;
-    if same(atom, word) { Some(rest) } else { None }
+    if same_bytes(atom, word) {
+        Some(rest)
+    } else {
+        None
+    }
 }
 
-fn letter(b: u8) -> bool
+// Whether a byte is a letter.
+fn is_letter_byte(b: u8) -> bool
     ensures { result ≡ is_letter b }
 {
     (b'a' <= b && b <= b'z') || (b'A' <= b && b <= b'Z')
 }
 
-fn name_byte(b: u8) -> bool
+// Whether a name may have this byte.
+fn is_byte_of_name(b: u8) -> bool
     ensures { result ≡ is_name_byte b }
 {
-    letter(b) || (b'0' <= b && b <= b'9') || b == b'_'
+    is_letter_byte(b) || (b'0' <= b && b <= b'9') || b == b'_'
 }
 
-fn starts_well(name: &[u8]) -> bool
+// Whether a letter stands first.
+fn begins_with_letter(name: &[u8]) -> bool
     ensures { result ≡ is_letter (slice_index name.now 0) }
 {
     match name.first() {
-        Some(b) => letter(*b),
+        Some(b) => is_letter_byte(*b),
         None => false,
     }
 }
 
-fn all_fit(name: &[u8]) -> bool
+// Whether a name may have each of these bytes.
+fn has_bytes_of_name(name: &[u8]) -> bool
     ensures { result ≡ list_all is_name_byte name.now }
 {
-    name.iter().all(|b| name_byte(*b))
+    name.iter().all(|b| is_byte_of_name(*b))
 }
 
-fn is_kept(name: &[u8]) -> bool
+// Whether this is a word that is no name.
+fn is_kept_name(name: &[u8]) -> bool
     ensures { result ≡ is_kept_word name.now }
 {
-    same(name, b"global") || same(name, b"true") || same(name, b"false")
+    same_bytes(name, b"global") || same_bytes(name, b"true") || same_bytes(name, b"false")
 }
 
-fn named(name: &[u8]) -> bool
+// Whether this is a name.
+fn is_good_name(name: &[u8]) -> bool
     ensures { result ≡ is_name name.now }
 {
-    starts_well(name) && all_fit(name) && name.len() <= 64 && !is_kept(name)
+    begins_with_letter(name) && has_bytes_of_name(name) && name.len() <= 64 && !is_kept_name(name)
 }
 
 // A name in front, and the trees behind it.
@@ -105,7 +116,11 @@ pub fn name_in(trees: &[Tree]) -> Option<(&[u8], &[Tree])>
     ensures { option_map (λ p. (p.0.now, seen p.1.now)) result ≡ name_of (seen trees.now) }
 {
     let (atom, rest) = atom_in(trees)?;
-    if named(atom) { Some((atom, rest)) } else { None }
+    if is_good_name(atom) {
+        Some((atom, rest))
+    } else {
+        None
+    }
 }
 
 // The number whose decimals these are.
@@ -120,7 +135,7 @@ fn int_in(alloc: Global, digits: &[u8]) -> Result<i64, FormStop>
         return Err(FormStop::Form);
     };
     let decimals = number.to_string(alloc)?;
-    if same(decimals.as_bytes(), digits) {
+    if same_bytes(decimals.as_bytes(), digits) {
         Ok(number)
     } else {
         Err(FormStop::Form)

@@ -1,61 +1,17 @@
-// The program of a text, and what stands behind it.
+// The states and the statements of a program.
 ghost use Rattle.std.specs.Prelude.{◌≡◌, List, ℕ, Bool, Option, IfOk, Err, codes, length};
-ghost use Rattle.std.specs.Option.{option_map, is_some};
+ghost use Rattle.std.specs.Option.{option_map};
 ghost use Rattle.std.specs.List.{position};
 ghost use Rattle.std.specs.Str.{bytes_eq};
-ghost use Rattle.sexp_text.specs.View.{forest_view};
-ghost use Rattle.lang_forms.specs.Forms.{HasForms, Parts, number_of};
-ghost use Rattle.lang_forms.specs.Parts.{parts};
-ghost use Rattle.lang_forms.specs.Reading.{seen, Reads, state_of, states_of, get_of, expr_of, attribute_of, attributes_of, stmt_of, stmts_of, root_of, header_of, parts_of};
+ghost use Rattle.lang_forms.specs.Forms.{number_of};
+ghost use Rattle.lang_forms.specs.Reading.{seen, Reads, state_of, states_of, get_of, expr_of, attribute_of, attributes_of, stmt_of, stmts_of, root_of};
 
-use crate::items::{atom_in, integer_in, is_over, list_in, name_in, word_in};
-use crate::rest::Rest;
-use crate::script::scripts_in;
-use lang_ast::{Attribute, Attributes, Expr, Program, State, Stmt};
-use rt_values::{NoMemory, ObjectNo, Txt, Value};
+use crate::FormStop;
+use crate::items::{integer_in, is_over, list_in, name_in, word_in};
+use lang_ast::{Attribute, Attributes, Expr, State, Stmt};
+use rt_values::{ObjectNo, Txt, Value};
 use sexp_text::Tree;
-use std::alloc::{AllocError, AllocFailed, Global};
-
-/// Why no program was read.
-#[derive(Clone, Copy, Debug, PartialEq, Eq)]
-pub enum FormStop {
-    /// The trees have the forms of no program with a script.
-    Form,
-    NoMemory,
-}
-
-impl From<AllocError> for FormStop {
-    ghost use Rattle.std.specs.Prelude.{◌≡◌};
-    ghost use Rattle.lang_forms.specs.declared.program.FormStop.TheVariants.{NoMemory};
-
-    ghost from_gives = { λ _ e. e ≡ NoMemory };
-
-    fn from(_: AllocError) -> Self {
-        FormStop::NoMemory
-    }
-}
-
-impl<T: Drop> From<AllocFailed<T>> for FormStop {
-    ghost use Rattle.std.specs.Prelude.{◌≡◌};
-    ghost use Rattle.lang_forms.specs.declared.program.FormStop.TheVariants.{NoMemory};
-
-    ghost from_gives = { λ _ e. e ≡ NoMemory };
-
-    fn from(_: AllocFailed<T>) -> Self {
-        FormStop::NoMemory
-    }
-}
-
-impl From<NoMemory> for FormStop {
-    ghost use Rattle.std.specs.Prelude.{◌≡◌};
-    ghost use Rattle.lang_forms.specs.declared.program.FormStop.TheVariants.{NoMemory as no_memory};
-
-    ghost from_gives = { λ _ e. e ≡ no_memory };
-
-    fn from(_: NoMemory) -> Self {
-        FormStop::NoMemory
-    }
-}
+use std::alloc::Global;
 
 // A state behind the word `state`.
 #[tactic(auto, unfolding(crate::specs::Reading::state_of))]
@@ -83,7 +39,7 @@ fn state_in(alloc: Global, trees: &[Tree]) -> Result<State, FormStop>
 
 // The states in front, and where the other forms begin.
 #[tactic(auto, unfolding(crate::specs::Reading::states_of), using(crate::proofs::Seen::views))]
-fn states_in(alloc: Global, trees: &[Tree]) -> Result<(Vec<State>, &[Tree]), FormStop>
+pub fn states_in(alloc: Global, trees: &[Tree]) -> Result<(Vec<State>, &[Tree]), FormStop>
     ensures { Reads (λ p. (p.0.items, seen p.1.now)) result (states_of (seen trees.now)) }
 {
     let mut states = Vec::new(alloc);
@@ -101,6 +57,7 @@ fn states_in(alloc: Global, trees: &[Tree]) -> Result<(Vec<State>, &[Tree]), For
     Ok((states, rest))
 }
 
+// The place of the first state of this name.
 fn place_in(states: &[State], name: &[u8]) -> Option<usize>
     ensures { result ≡ position (λ s. bytes_eq s.name name.now) states.now }
 {
@@ -117,6 +74,7 @@ pub fn number_in(states: &[State], name: &[u8]) -> ObjectNo
     }
 }
 
+// get NAME
 #[tactic(auto, unfolding(crate::specs::Reading::get_of))]
 fn get_in(alloc: Global, states: &[State], trees: &[Tree]) -> Result<Expr, FormStop>
     ensures { Reads (λ e. e) result (get_of states.now (seen trees.now)) }
@@ -137,6 +95,7 @@ fn get_in(alloc: Global, states: &[State], trees: &[Tree]) -> Result<Expr, FormS
     })
 }
 
+// An expression in front, and the trees behind it.
 #[tactic(auto, unfolding(crate::specs::Reading::expr_of, crate::specs::Reading::integer_of), using(crate::proofs::Seen::views))]
 fn expr_in<'a>(
     alloc: Global,
@@ -158,6 +117,7 @@ fn expr_in<'a>(
     }
 }
 
+// NAME EXPR
 #[tactic(auto, unfolding(crate::specs::Reading::attribute_of))]
 fn attribute_in(alloc: Global, states: &[State], trees: &[Tree]) -> Result<Attribute, FormStop>
     ensures { Reads (λ a. a) result (attribute_of states.now (seen trees.now)) }
@@ -175,6 +135,7 @@ fn attribute_in(alloc: Global, states: &[State], trees: &[Tree]) -> Result<Attri
     })
 }
 
+// None, or one in a list of its own.
 #[tactic(auto, unfolding(crate::specs::Reading::attributes_of), using(crate::proofs::Seen::views))]
 fn attributes_in(alloc: Global, states: &[State], trees: &[Tree]) -> Result<Attributes, FormStop>
     ensures { Reads (λ a. a) result (attributes_of states.now (seen trees.now)) }
@@ -194,6 +155,7 @@ fn attributes_in(alloc: Global, states: &[State], trees: &[Tree]) -> Result<Attr
     }
 }
 
+// node NAME (ATTRIBUTE)
 #[tactic(auto, unfolding(crate::specs::Reading::stmt_of))]
 fn stmt_in(alloc: Global, states: &[State], trees: &[Tree]) -> Result<Stmt, FormStop>
     ensures { Reads (λ s. s) result (stmt_of states.now (seen trees.now)) }
@@ -217,6 +179,7 @@ fn stmt_in(alloc: Global, states: &[State], trees: &[Tree]) -> Result<Stmt, Form
     })
 }
 
+// Statements, each in a list of its own.
 #[tactic(auto, unfolding(crate::specs::Reading::stmts_of), using(crate::proofs::Seen::views))]
 fn stmts_in(alloc: Global, states: &[State], trees: &[Tree]) -> Result<Vec<Stmt>, FormStop>
     ensures { Reads (λ v. v.items) result (stmts_of states.now (seen trees.now)) }
@@ -235,7 +198,7 @@ fn stmts_in(alloc: Global, states: &[State], trees: &[Tree]) -> Result<Vec<Stmt>
 
 // fun root () STMT..
 #[tactic(auto, unfolding(crate::specs::Reading::root_of))]
-fn root_in(alloc: Global, states: &[State], trees: &[Tree]) -> Result<Vec<Stmt>, FormStop>
+pub fn root_in(alloc: Global, states: &[State], trees: &[Tree]) -> Result<Vec<Stmt>, FormStop>
     ensures { Reads (λ v. v.items) result (root_of states.now (seen trees.now)) }
 {
     let Some(rest) = word_in(b"fun", trees) else {
@@ -251,49 +214,4 @@ fn root_in(alloc: Global, states: &[State], trees: &[Tree]) -> Result<Vec<Stmt>,
         return Err(FormStop::Form);
     }
     stmts_in(alloc, states, rest)
-}
-
-// compose 1
-#[tactic(auto, unfolding(crate::specs::Reading::header_of))]
-fn has_header(trees: &[Tree]) -> bool
-    ensures { result ≡ is_some (header_of (seen trees.now)) }
-{
-    match word_in(b"compose", trees) {
-        None => false,
-        Some(rest) => match word_in(b"1", rest) {
-            None => false,
-            Some(rest) => is_over(rest),
-        },
-    }
-}
-
-#[tactic(auto, unfolding(crate::specs::Reading::parts_of))]
-fn read_parts(alloc: Global, trees: &[Tree]) -> Result<(Program, Rest), FormStop>
-    ensures { Reads parts result (parts_of (seen trees.now)) }
-{
-    let Some((header, rest)) = list_in(trees) else {
-        return Err(FormStop::Form);
-    };
-    if !has_header(header) {
-        return Err(FormStop::Form);
-    }
-    let (states, rest) = states_in(alloc, rest)?;
-    if states.len() > 256 {
-        return Err(FormStop::Form);
-    }
-    let Some((function, rest)) = list_in(rest) else {
-        return Err(FormStop::Form);
-    };
-    let root = root_in(alloc, &states, function)?;
-    let forms = scripts_in(alloc, &states, rest)?;
-    Ok((Program { states, root }, Rest { forms }))
-}
-
-/// The program and the script whose forms these trees are, wherever they stand in their text. A number of a
-/// state that is nowhere is how many states there are.
-pub fn parts_in(alloc: Global, trees: &[Tree]) -> Result<(Program, Rest), FormStop>
-    ensures forms { IfOk result (λ r. HasForms (forest_view trees.now) (parts r)) }
-    ensures none { result ≡ Err FormStop.Form → (p : Parts) → HasForms (forest_view trees.now) p → ⊥ }
-{
-    read_parts(alloc, trees)
 }

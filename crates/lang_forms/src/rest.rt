@@ -4,20 +4,23 @@ ghost use Rattle.std.specs.Prelude.{◌≡◌};
 use rt_values::{ObjectNo, Txt, Value};
 use std::marker::Model;
 
-/// A step as it was read. A state's number is that of its name, or how many states there are where none has it.
+/// A step of a script as it was read. This project's own rule: scripts stand in place of test code.
 #[derive(Drop)]
 pub enum StepForm {
-    /// Writes a state in global.
+    /// A write to a state object outside any snapshot.
     Write {
+        /// The state's name.
         state: Txt,
+        /// The number of the first state of that name, or how many states there are where none has it.
         number: ObjectNo,
+        /// The value to be written.
         value: Value,
     },
-    /// Asks for a frame.
+    /// A frame of the composition (`Recomposer`).
     Frame,
 }
 
-/// Steps in order.
+/// The steps of one actor, in order.
 #[derive(Drop)]
 pub struct Steps {
     items: Vec<StepForm>,
@@ -48,15 +51,18 @@ impl Steps {
     }
 }
 
-/// What one actor does: its name and its steps.
+/// What one actor does. This project's own rule.
 #[derive(Drop)]
 pub struct DoForm {
+    /// The actor's name.
     pub actor: Txt,
+    /// What it does.
     pub steps: Steps,
 }
 
-/// The script behind a program, as it was read.
+/// The script behind a program, as it was read. This project's own rule.
 #[derive(Drop)]
 pub struct Rest {
+    /// The `do` forms, in the order in which they stand; there may be none.
     pub forms: Vec<DoForm>,
 }

@@ -37,6 +37,7 @@ fn write_in(alloc: Global, states: &[State], trees: &[Tree]) -> Result<StepForm,
     })
 }
 
+// frame, or a write
 #[tactic(auto, unfolding(crate::specs::Reading::step_of))]
 fn step_in(alloc: Global, states: &[State], trees: &[Tree]) -> Result<StepForm, FormStop>
     ensures { Reads (λ s. s) result (step_of states.now (seen trees.now)) }
@@ -53,6 +54,7 @@ fn step_in(alloc: Global, states: &[State], trees: &[Tree]) -> Result<StepForm, 
     }
 }
 
+// Steps, each in a list of its own.
 #[tactic(auto, unfolding(crate::specs::Reading::steps_of), using(crate::proofs::Seen::views))]
 fn steps_in(alloc: Global, states: &[State], trees: &[Tree]) -> Result<Vec<StepForm>, FormStop>
     ensures { Reads (λ v. v.items) result (steps_of states.now (seen trees.now)) }

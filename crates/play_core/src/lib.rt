@@ -1,13 +1,19 @@
-// A library with one function.
+//! The program `compose_play` as a library: `play` reads a program with its script from a source, makes the
+//! script's steps on a world of snapshots, composes each frame in its snapshot, and writes each line.
+//!
+//! It joins what `Recomposer` and its caller do in Compose: the recomposer's frame stands here until it has a
+//! crate of its own. `compose_play` hands in the world and the real streams.
+//! Promises: what `play` wrote is what plain copied maps and composing from scratch give, line by line, and
+//! each status has its cause in `play`'s own clauses; after a fault or want of memory a first part was written.
 #![tactic(auto)]
 
-ghost use Rattle.std.specs.Prelude.{◌≡◌};
-ghost use Rattle.play_core.specs.Echo.{echo_of};
+mod entries;
+mod frame;
+mod open;
+mod say;
+mod steps;
+mod text;
+mod top;
 
-// The `ensures` clause is the contract: what `echo` returns is `echo_of` of its argument, a definition
-// in `specs/Echo.antt`, which a caller's clause can cite too.
-pub fn echo(x: usize) -> usize
-    ensures { result ≡ echo_of x }
-{
-    x
-}
+pub use top::Status;
+

@@ -157,10 +157,10 @@ abbrev pub name_in : Request → ℕ
 name_in (request.Dispose name) = name
 name_in _ = 0
 
--- the frames that are open behind a reply
-abbrev pub with_frame : List ℕ → Reply → List ℕ
-with_frame frames (reply.TakenFor name changed) = frames ++ name ∷ []
-with_frame frames _ = frames
+-- the snapshot that a call takes for a frame
+abbrev pub frame_taken : Request → Reply → List ℕ
+frame_taken (request.TakeFor watcher) (reply.TakenFor name changed) = name ∷ []
+frame_taken _ _ = []
 
 -- the frame that a call ends is composed in the view of its snapshot
 abbrev pub frame_at : List Stmt → Standing → Logged → Option Good
@@ -174,7 +174,7 @@ next root s e =
     let world = (call table s.world e.caller e.request).0 in
     if ends_frame s.frames e.request
     then record { world = world; kept = kept_after s.kept (frame_at root s e); frames = filter (λ n. not (n == name_in e.request)) s.frames }
-    else record { world = world; kept = s.kept; frames = with_frame s.frames e.reply }
+    else record { world = world; kept = s.kept; frames = s.frames ++ frame_taken e.request e.reply }
 
 -- the lines of a history, from where the walk stands
 abbrev pub lines : Titles → List Stmt → Standing → History → List (List ℕ)

@@ -64,14 +64,15 @@ pub fn add_refused(text: &mut Vec<u8>) -> Result<(), NoMemory>
     add(text, b"\n")
 }
 
-// A blank, the name, = and the value of each.
+// A blank, the name, = and the value of each; the values behind theirs.
 #[tactic(auto, using(crate::proofs::Texts::joins))]
-fn add_attributes(
+fn add_attributes<'a>(
     text: &mut Vec<u8>,
     attributes: &[Attribute],
-    values: &[Value],
-) -> Result<(), NoMemory>
-    ensures { OnOk result (text.new.items ≡ text.old.items ++ attributes_text (paired attributes.now values.now)) }
+    values: &'a [Value],
+) -> Result<&'a [Value], NoMemory>
+    ensures text { OnOk result (text.new.items ≡ text.old.items ++ attributes_text (paired attributes.now values.now)) }
+    ensures behind { IfOk result (λ rest. rest.now ≡ drop (length attributes.now) values.now) }
 {
     let mut left = attributes;
     let mut rest = values;
@@ -85,25 +86,27 @@ fn add_attributes(
         left = fewer;
         rest = more;
     }
-    Ok(())
+    Ok(rest)
 }
 
-/// Adds the line of a node at the top of the tree: its number, its kind and its attributes with these values,
-/// one for each in order.
+/// Adds the line of a node at the top of the tree: its number, its kind and its attributes with the first of
+/// these values, one for each in order. The values behind those are handed back.
 #[tactic(auto, using(crate::proofs::Texts::joins))]
-pub fn add_node(
+pub fn add_node<'a>(
     text: &mut Vec<u8>,
     number: u64,
     kind: &Txt,
     attributes: &[Attribute],
-    values: &[Value],
-) -> Result<(), NoMemory>
-    ensures { OnOk result (text.new.items ≡ text.old.items ++ node_line 0 number kind.now (paired attributes.now values.now)) }
+    values: &'a [Value],
+) -> Result<&'a [Value], NoMemory>
+    ensures text { OnOk result (text.new.items ≡ text.old.items ++ node_line 0 number kind.now (paired attributes.now values.now)) }
+    ensures behind { IfOk result (λ rest. rest.now ≡ drop (length attributes.now) values.now) }
 {
     add(text, b"#")?;
     add_number(text, number)?;
     add(text, b" ")?;
     add(text, kind.bytes())?;
-    add_attributes(text, attributes, values)?;
-    add(text, b"\n")
+    let rest = add_attributes(text, attributes, values)?;
+    add(text, b"\n")?;
+    Ok(rest)
 }

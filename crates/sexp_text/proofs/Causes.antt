@@ -1,5 +1,5 @@
 -- Each refusal has its cause, and bytes have at most one.
-use Rattle.std.proofs.Common.{subst, ◌≡◌, ◌≢◌, ◌⊎◌, inl, inr, ◌≤◌, ◌<◌, ℕ, ◌+◌, zero, suc, List, [], ◌∷◌, ◌++◌, Some, None, Ok, Err, refl, sym, ap, ◌∙◌, length, take, drop, get_or, arith, append_assoc}
+use Rattle.std.proofs.Common.{subst, ◌≡◌, ◌≢◌, ◌⊎◌, inl, inr, ◌≤◌, ◌<◌, ℕ, suc, List, [], ◌∷◌, ◌++◌, Some, None, Ok, Err, refl, sym, ap, ◌∙◌, length, take, drop, get_or, arith, append_assoc}
 use Rattle.std.proofs.Math.Nat.{eq-or-lt_of_le}
 use Rattle.std.proofs.Math.Seq.{take-suc}
 use Rattle.std.proofs.lemmas.List.{take-append-drop, take-take, take_all}
@@ -14,7 +14,7 @@ use Rattle.sexp_text.specs.declared.stop.TextStop.TheVariants as stops
 use Rattle.sexp_text.specs.Forest.{Forest, nesting}
 use Rattle.sexp_text.specs.Grammar.{Spells}
 use Rattle.sexp_text.specs.Places.{Begins, BeginsShallow, IsBadAt, IsTooDeepAt, Cause}
-use Rattle.sexp_text.specs.Machine.{State, next, run, at_first, state_at, whole, reached, IsShallow, Fails, GoesDeep, Refuses}
+use Rattle.sexp_text.specs.Machine.{State, next, run, at_first, state_at, reached, IsShallow, Fails, GoesDeep, Refuses}
 use Rattle.sexp_text.proofs.Walks.{walk_on}
 use Rattle.sexp_text.proofs.Complete.{whole-spells}
 use Rattle.sexp_text.proofs.Refusals.{none_whole, deep_whole}
@@ -51,9 +51,9 @@ stuck_next bytes at s lt e n = sym (walk_on bytes at s (next s at (get_or bytes 
 
 bad_before : (bytes : List ℕ) (at : ℕ) (s : State) → IsUtf8 bytes → Fails bytes at → state_at bytes at ≡ Some s → IsUtf8 (take at bytes)
 bad_before bytes at s utf8 r e = elim (eq-or-lt_of_le r.within) [
-    inl end ↦ subst IsUtf8 (sym (take_all at bytes (omega arith))) utf8
+  | inl end ↦ subst IsUtf8 (sym (take_all at bytes (omega arith))) utf8
   | inr lt ↦ front_utf8 bytes at s utf8 lt e (inl (stuck_next bytes at s lt e (r.stuck lt)))
-  ]
+]
 
 bad_cause : (bytes : List ℕ) (at : ℕ) → IsUtf8 bytes → Fails bytes at → IsBadAt bytes at
 bad_cause bytes at utf8 r =
@@ -104,9 +104,9 @@ pub no_cause : (bytes : List ℕ) (stop : TextStop) (f : Forest) → Cause bytes
 no_cause bytes stops.NoMemory f r n s le = n refl
 no_cause bytes (stops.NotUtf8 at) f r n s le = r.0 s.utf8
 no_cause bytes (stops.Bad at) f r n s le = elim (eq-or-lt_of_le r.within) [
-    inl e ↦ r.unfinished e f s
+  | inl e ↦ r.unfinished e f s
   | inr lt ↦ r.stuck lt (begins (take (suc at) bytes) (front_begins bytes (suc at) f s le))
-  ]
+]
 no_cause bytes (stops.TooDeep at) f r n s le = r.deep (front_begins bytes (suc at) f s le)
 
 -- shorter fronts of a front that begins a text
@@ -130,12 +130,12 @@ deep_least bytes p q r b lt = r.deep (shorter bytes (suc p) q lt b)
 -- bad and too deep at once
 bad_deep : (bytes : List ℕ) (p q : ℕ) → IsBadAt bytes p → IsTooDeepAt bytes q → ⊥
 bad_deep bytes p q r d = elim (lt_eq_or_gt p q) [
-    inl lt ↦ bad_least bytes p q r d.before (omega (arith, d.within)) lt
+  | inl lt ↦ bad_least bytes p q r d.before (omega (arith, d.within)) lt
   | inr h ↦ elim h [
-      inl e ↦ r.stuck (omega (arith, d.within)) (subst (λ (n : ℕ). Begins (take (suc n) bytes)) (sym e) d.begins)
+    | inl e ↦ r.stuck (omega (arith, d.within)) (subst (λ (n : ℕ). Begins (take (suc n) bytes)) (sym e) d.begins)
     | inr gt ↦ deep_least bytes q p d r.before gt
-    ]
   ]
+]
 
 same_place : (p q : ℕ) → ¬ (p < q) → ¬ (q < p) → p ≡ q
 same_place p q a b = elim (lt_eq_or_gt p q) [ inl lt ↦ absurd (a lt) | inr h ↦ elim h [ inl e ↦ e | inr gt ↦ absurd (b gt) ] ]

@@ -1,16 +1,16 @@
 -- The machine reads each spelling of a forest as that forest.
-use Rattle.std.proofs.Common.{subst, ◌≡◌, ◌≤◌, ◌<◌, ℕ, ◌+◌, ◌==◌, zero, suc, Bool, true, false, cond, ◌&&◌, not, List, [], ◌∷◌, ◌++◌, Some, None, refl, sym, ap, ◌∙◌, length, arith, append_assoc, nat_le}
+use Rattle.std.proofs.Common.{subst, ◌≡◌, ℕ, ◌+◌, ◌==◌, suc, Bool, true, false, cond, ◌&&◌, not, List, [], ◌∷◌, ◌++◌, Some, refl, sym, ap, ◌∙◌, length, arith, append_assoc, nat_le}
 use Rattle.std.proofs.lemmas.Bool.{eqb-true, false_from_ne_true}
 use Rattle.std.proofs.lemmas.List.{append-nil, length-append}
+use Rattle.std.proofs.lemmas.Option.{same_Some}
 use Rattle.std.proofs.Math.Bool.{or-false, ◌||◌}
 use Rattle.std.specs.List.{list_all}
-use Rattle.std.specs.declared.option.Option.{Option}
 use Rattle.std.specs.Option.{option_and_then}
 use Rattle.sexp_text.specs.Forest.{Forest, empty, atom, text, list, behind}
 use Rattle.sexp_text.specs.Grammar.{is_blank, is_atom_byte, is_char, is_name, is_comment, is_tail, escape, escaped, Spelling, nothing, blank, comment, word, quoted, parens, written, begins_with_word, is_well_spelled, forest_at, Spells}
-use Rattle.sexp_text.specs.Machine.{Mode, gap, in_comment, in_word, in_text, in_escape, Around, State, closed, start, step, next, run, at_first, finish, finished, all_closed, whole}
+use Rattle.sexp_text.specs.Machine.{Mode, gap, in_comment, in_word, in_text, in_escape, Around, State, start, step, run, finish, finished, whole}
 use Rattle.sexp_text.proofs.Trees.{behind-empty, behind_assoc}
-use Rattle.sexp_text.proofs.Walks.{run-append, run_on}
+use Rattle.sexp_text.proofs.Walks.{run_on}
 
 -- both of two tests
 pub both : (a b : Bool) → (a && b) ≡ true → (a ≡ true) × (b ≡ true)
@@ -263,3 +263,7 @@ whole-spells bytes f s =
     ∙ tail_on s.tail t.0 t.1 (0 + length (written s.spelling)) (behind-between s.spelling gap empty 0 tt) s.ends
     ∙ ap Some (behind-settled s.spelling gap empty 0)
     ∙ ap Some (sym s.forest_is)
+
+-- a text spells one forest
+pub spells_one : (bytes : List ℕ) (f g : Forest) → Spells bytes f → Spells bytes g → f ≡ g
+spells_one bytes f g s t = same_Some f g (sym (whole-spells bytes f s) ∙ whole-spells bytes g t)

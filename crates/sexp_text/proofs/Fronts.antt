@@ -1,16 +1,15 @@
 -- Where the machine has come so far, the bytes so far begin a text.
-use Rattle.std.proofs.Common.{subst, ◌≡◌, ◌≢◌, ◌⊎◌, inl, inr, ◌≤◌, ◌<◌, ℕ, ◌+◌, ◌==◌, zero, suc, Bool, true, false, cond, ◌&&◌, List, [], ◌∷◌, ◌++◌, Some, None, refl, sym, ap, ◌∙◌, length, take, drop, get_or, arith, nat_le}
+use Rattle.std.proofs.Common.{subst, ◌≡◌, ◌⊎◌, inl, inr, ◌≤◌, ◌<◌, ℕ, ◌+◌, ◌==◌, zero, suc, Bool, true, false, cond, ◌&&◌, List, [], ◌∷◌, ◌++◌, Some, None, refl, sym, ap, ◌∙◌, length, take, get_or, arith, nat_le}
 use Rattle.std.proofs.Math.Bool.{◌||◌}
 use Rattle.std.proofs.Math.Seq.{take-suc}
 use Rattle.std.proofs.lemmas.Bool.{eqb-true, leb-true, leb-false}
-use Rattle.std.proofs.lemmas.Option.{IfSome_then}
 use Rattle.std.proofs.lemmas.Str.{IsUtf8-append, IsUtf8-from_ascii, IsUtf8-take, IsCharBoundary-start, IsCharBoundary-after_ascii}
-use Rattle.std.specs.Str.{IsUtf8, IsCharBoundary, IsAscii}
+use Rattle.std.specs.Str.{IsUtf8, IsCharBoundary}
 use Rattle.std.specs.declared.option.Option.{Option}
-use Rattle.std.specs.Option.{option_and_then, IfSome, IsSomeAnd}
+use Rattle.std.specs.Option.{option_and_then, IfSome}
 use Rattle.sexp_text.specs.Forest.{Forest, empty, atom, text, list, behind, nesting}
 use Rattle.sexp_text.specs.Grammar.{is_blank, is_atom_byte, Spells}
-use Rattle.sexp_text.specs.Machine.{Mode, gap, in_comment, in_word, in_text, in_escape, Around, State, closed, start, step, next, run, at_first, finish, finished, state_at, reached}
+use Rattle.sexp_text.specs.Machine.{Mode, gap, in_comment, in_word, in_text, in_escape, Around, State, closed, start, step, next, run, at_first, finished, state_at, reached}
 use Rattle.sexp_text.proofs.Walks.{tested, run_none, run_on, walk_on, reached-behind, reached_same, length_le-reached}
 use Rattle.sexp_text.proofs.Complete.{both}
 use Rattle.sexp_text.proofs.Sound.{spells-whole}
@@ -125,17 +124,17 @@ pub atom_ascii : (b : ℕ) → is_atom_byte b ≡ true → b < 128
 atom_ascii b =
     let P : Type 0 = b < 128 in
     either P _ _ (either P _ _ (either P _ _ (either P _ _ (either P _ _ (either P _ _ (either P _ _ (either P _ _ (either P _ _ (either P _ _ (either P _ _ (either P _ _ (either P _ _ (within_ascii b 97 122 (omega arith)) (within_ascii b 65 90 (omega arith))) (within_ascii b 48 57 (omega arith)))
-        (is_ascii b 43 (omega arith)))
-        (is_ascii b 45 (omega arith)))
-        (is_ascii b 42 (omega arith)))
-        (is_ascii b 47 (omega arith)))
-        (is_ascii b 37 (omega arith)))
-        (is_ascii b 60 (omega arith)))
-        (is_ascii b 62 (omega arith)))
-        (is_ascii b 61 (omega arith)))
-        (is_ascii b 33 (omega arith)))
-        (is_ascii b 63 (omega arith)))
-        (is_ascii b 95 (omega arith))
+    (is_ascii b 43 (omega arith)))
+    (is_ascii b 45 (omega arith)))
+    (is_ascii b 42 (omega arith)))
+    (is_ascii b 47 (omega arith)))
+    (is_ascii b 37 (omega arith)))
+    (is_ascii b 60 (omega arith)))
+    (is_ascii b 62 (omega arith)))
+    (is_ascii b 61 (omega arith)))
+    (is_ascii b 33 (omega arith)))
+    (is_ascii b 63 (omega arith)))
+    (is_ascii b 95 (omega arith))
 
 -- modes that no byte of a longer character leads to
 abbrev pub IsSharp : Mode → Type 0
@@ -202,7 +201,7 @@ stuck_boundary (in_word from name) os f at b e = inl tt
 stuck_boundary (in_text from chars) os f at b e =
     let P = (λ (o : Option State). o ≡ None → b < 128) in
     inr (tested P (b == 34) _ _ (λ _ h. cc) (λ _. tested P (b == 92) _ _ (λ _ h. cc) (λ _. tested P (nat_le 32 b) _ _ (λ _ h. cc)
-        (λ lt _. let below : b < 32 = leb-false 32 b lt in omega arith))) e)
+    (λ lt _. let below : b < 32 = leb-false 32 b lt in omega arith))) e)
 stuck_boundary (in_escape from chars) os f at b e = inl tt
 
 -- a byte that is not taken, or a parenthesis, stands behind whole characters

@@ -5,9 +5,9 @@ use Rattle.std.proofs.lemmas.List.{append-nil}
 use Rattle.sexp_text.specs.View.{joined, view_step, tree_view, forest_view}
 use Rattle.sexp_text.specs.declared.tree.Tree.{Tree, fold_out-Tree}
 use Rattle.sexp_text.specs.declared.tree.Tree.TheOpen.{Tree-F}
-use Rattle.sexp_text.specs.Forest.{Forest, empty, atom, text, list, behind, nesting, unplaced}
+use Rattle.sexp_text.specs.Forest.{Forest, empty, atom, text, list, behind}
 use Rattle.sexp_text.specs.Grammar.{escape, escaped}
-use Rattle.sexp_text.specs.Layout.{spaced, row, lines}
+use Rattle.sexp_text.specs.Layout.{spaced, row}
 
 pub escaped-append : (xs ys : List ℕ) → escaped (xs ++ ys) ≡ escaped xs ++ escaped ys
 escaped-append [] ys = refl

@@ -1,5 +1,5 @@
 -- Printed text spells what was printed, and what a text spells can be printed.
-use Rattle.std.proofs.Common.{subst, ◌≡◌, ◌<◌, ℕ, ◌+◌, ◌==◌, suc, max, Bool, true, false, ◌&&◌, not, List, [], ◌∷◌, ◌++◌, refl, sym, ap, ◌∙◌, length, arith, append_assoc}
+use Rattle.std.proofs.Common.{subst, ◌≡◌, ◌<◌, ℕ, ◌+◌, Bool, true, false, ◌&&◌, not, List, [], ◌∷◌, ◌++◌, refl, sym, ap, ◌∙◌, length, arith, append_assoc}
 use Rattle.std.proofs.lemmas.List.{append-nil}
 use Rattle.std.proofs.lemmas.Str.{IsUtf8-append, IsUtf8-nil}
 use Rattle.std.specs.List.{list_all}
@@ -8,7 +8,7 @@ use Rattle.sexp_text.specs.Forest.{Forest, empty, atom, text, list, nesting, unp
 use Rattle.sexp_text.specs.Grammar.{is_blank, is_atom_byte, is_char, is_name, is_comment, escaped, Spelling, nothing, blank, comment, word, quoted, parens, written, begins_with_word, is_well_spelled, forest_at, Spells}
 use Rattle.sexp_text.specs.Layout.{spaced, row, lines, CanBeSpelled, SpellsUnplaced}
 use Rattle.sexp_text.proofs.Complete.{both}
-use Rattle.sexp_text.proofs.Fronts.{ascii_one, blank_ascii}
+use Rattle.sexp_text.proofs.Fronts.{ascii_one, blank_ascii, atom_ascii}
 use Rattle.sexp_text.proofs.Utf8.{name_utf8, escaped_utf8, unescaped_utf8, split_utf8}
 
 -- the spelling that a row is, and that of lines
@@ -66,7 +66,7 @@ unplaced-row (text p s f) due at =
 unplaced-row (list p i f) due at =
     unplaced-behind_blank due (parens (row_spelling false i) (row_spelling true f)) (list 0 (unplaced i) (unplaced f))
     (λ k. ap (λ g. list 0 g (unplaced (forest_at (k + length (written (row_spelling false i)) + 2) (row_spelling true f)))) (unplaced-row i false (k + 1))
-        ∙ ap (list 0 (unplaced i)) (unplaced-row f true (k + length (written (row_spelling false i)) + 2))) at
+    ∙ ap (list 0 (unplaced i)) (unplaced-row f true (k + length (written (row_spelling false i)) + 2))) at
 
 unplaced-lines : (f : Forest) (at : ℕ) → unplaced (forest_at at (lines_spelling f)) ≡ unplaced f
 unplaced-lines empty at = refl
@@ -118,11 +118,11 @@ row_utf8 (atom at a f) due h = IsUtf8-append (spaced due ++ a) (row true f) (IsU
 row_utf8 (text at s f) due h =
     subst IsUtf8 (sym (append_assoc (spaced due) (34 ∷ escaped s) (34 ∷ row true f)))
     (IsUtf8-append (spaced due) (34 ∷ escaped s ++ 34 ∷ row true f) (spaced_utf8 due)
-     (around_utf8 34 34 (escaped s) (row true f) (omega arith) (omega arith) (escaped_utf8 s h.0) (row_utf8 f true h.2)))
+    (around_utf8 34 34 (escaped s) (row true f) (omega arith) (omega arith) (escaped_utf8 s h.0) (row_utf8 f true h.2)))
 row_utf8 (list at i f) due h =
     subst IsUtf8 (sym (append_assoc (spaced due) (40 ∷ row false i) (41 ∷ row true f)))
     (IsUtf8-append (spaced due) (40 ∷ row false i ++ 41 ∷ row true f) (spaced_utf8 due)
-     (around_utf8 40 41 (row false i) (row true f) (omega arith) (omega arith) (row_utf8 i false h.0) (row_utf8 f true h.1)))
+    (around_utf8 40 41 (row false i) (row true f) (omega arith) (omega arith) (row_utf8 i false h.0) (row_utf8 f true h.1)))
 
 line_end : (ys : List ℕ) → IsUtf8 ys → IsUtf8 (10 ∷ ys)
 line_end ys y = IsUtf8-append (10 ∷ []) ys (ascii_one 10 (omega arith)) y
@@ -159,3 +159,50 @@ printed_spells f h =
       same = same;
       deep = sym (nesting-unplaced (forest_at 0 s)) ∙ ap nesting same ∙ nesting-unplaced f;
     }
+
+after_name : (name ys : List ℕ) → list_all is_atom_byte name ≡ true → IsUtf8 (name ++ ys) → IsUtf8 ys
+after_name [] ys h u = u
+after_name (b ∷ name) ys h u =
+    let p = both (is_atom_byte b) (list_all is_atom_byte name) h in
+    after_name name ys p.1 (split_utf8 [] b (name ++ ys) (atom_ascii b p.0) u).1
+
+after_word : (name ys : List ℕ) → is_name name ≡ true → IsUtf8 (name ++ ys) → IsUtf8 ys
+after_word [] ys h u = u
+after_word (b ∷ name) ys h u = after_name (b ∷ name) ys h u
+
+-- a part that two ASCII bytes enclose, and what is behind it
+enclosed : (b d : ℕ) (xs ys rest : List ℕ) → b < 128 → d < 128 → IsUtf8 ((b ∷ xs ++ d ∷ ys) ++ rest) → IsUtf8 xs × IsUtf8 (ys ++ rest)
+enclosed b d xs ys rest small other u =
+    let p = split_utf8 (b ∷ xs) d (ys ++ rest) other (subst (λ (l : List ℕ). IsUtf8 (b ∷ l)) (append_assoc xs (d ∷ ys) rest) u) in
+    ((split_utf8 [] b xs small p.0).1, p.1)
+
+-- the trees of a spelling in UTF-8 can be spelled, and what is behind it is UTF-8
+spelling_can : (s : Spelling) (rest : List ℕ) (at : ℕ) → is_well_spelled s ≡ true → IsUtf8 (written s ++ rest) → CanBeSpelled (forest_at at s) × IsUtf8 rest
+spelling_can nothing rest at h u = (tt, u)
+spelling_can (blank b s) rest at h u =
+    let p = both (is_blank b) (is_well_spelled s) h in
+    spelling_can s rest (at + 1) p.1 (split_utf8 [] b (written s ++ rest) (blank_ascii b p.0) u).1
+spelling_can (comment cs s) rest at h u =
+    let p = both (is_comment cs) (is_well_spelled s) h in
+    spelling_can s rest (at + length cs + 2) p.1 (enclosed 59 10 cs (written s) rest (omega arith) (omega arith) u).1
+spelling_can (word name s) rest at h u =
+    let p = both (is_name name && not (begins_with_word s)) (is_well_spelled s) h in
+    let q = both (is_name name) (not (begins_with_word s)) p.0 in
+    let r = spelling_can s rest (at + length name) p.1 (after_word name (written s ++ rest) q.0 (subst IsUtf8 (append_assoc name (written s) rest) u)) in
+    ((q.0, r.0), r.1)
+spelling_can (quoted cs s) rest at h u =
+    let p = both (list_all is_char cs) (is_well_spelled s) h in
+    let e = enclosed 34 34 (escaped cs) (written s) rest (omega arith) (omega arith) u in
+    let r = spelling_can s rest (at + length (escaped cs) + 2) p.1 e.1 in
+    ((unescaped_utf8 cs e.0, p.0, r.0), r.1)
+spelling_can (parens inner s) rest at h u =
+    let p = both (is_well_spelled inner) (is_well_spelled s) h in
+    let inside = (split_utf8 [] 40 ((written inner ++ 41 ∷ written s) ++ rest) (omega arith) u).1 in
+    let q = spelling_can inner (41 ∷ written s ++ rest) (at + 1) p.0 (subst IsUtf8 (append_assoc (written inner) (41 ∷ written s) rest) inside) in
+    let r = spelling_can s rest (at + length (written inner) + 2) p.1 (split_utf8 [] 41 (written s ++ rest) (omega arith) q.1).1 in
+    ((q.0, r.0), r.1)
+
+-- what a text spells can be spelled
+pub spells_can : (bytes : List ℕ) (f : Forest) → Spells bytes f → CanBeSpelled f
+spells_can bytes f s =
+    subst CanBeSpelled (sym s.forest_is) (spelling_can s.spelling s.tail 0 s.well_spelled (subst IsUtf8 s.bytes_are s.utf8)).0

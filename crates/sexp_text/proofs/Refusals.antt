@@ -1,16 +1,10 @@
 -- Where the machine goes no further, or too deep, no text or no shallow one goes on.
-use Rattle.std.proofs.Common.{subst, ◌⊎◌, inl, inr, ◌≡◌, ◌≢◌, ◌≤◌, ◌<◌, ℕ, ◌+◌, suc, List, [], ◌∷◌, ◌++◌, Some, None, refl, sym, ap, ◌∙◌, length, take, drop, arith}
-use Rattle.std.proofs.Math.Nat.{eq-or-lt_of_le}
-use Rattle.std.proofs.lemmas.List.{take-append-drop}
+use Rattle.std.proofs.Common.{◌≡◌, ◌≤◌, ◌<◌, ℕ, ◌+◌, List, [], ◌∷◌, ◌++◌, Some, None, refl, sym, ap, ◌∙◌, length, arith}
 use Rattle.std.specs.declared.option.Option.{Option}
 use Rattle.std.specs.Option.{option_and_then, IsSomeAnd}
-use Rattle.sexp_text.specs.declared.stop.TextStop.{TextStop}
-use Rattle.sexp_text.specs.declared.stop.TextStop.TheVariants as stops
 use Rattle.sexp_text.specs.Forest.{Forest, nesting}
-use Rattle.sexp_text.specs.Grammar.{Spells}
-use Rattle.sexp_text.specs.Machine.{State, next, run, at_first, finished, state_at, whole, reached, Fails, GoesDeep, Refuses}
+use Rattle.sexp_text.specs.Machine.{State, next, run, at_first, finished, whole, reached}
 use Rattle.sexp_text.proofs.Walks.{run_on, run_none, next_deepens, finish_reaches}
-use Rattle.sexp_text.proofs.Complete.{whole-spells}
 
 -- a forest nests at least as deep as the machine has been
 pub run_reaches : (bs : List ℕ) (s : State) (at : ℕ) (g : Forest) → option_and_then finished (run s at bs) ≡ Some g → reached s.1 s.2 ≤ nesting g

@@ -1,6 +1,6 @@
 -- What the machine reads as a forest is a spelling of it.
-use Rattle.std.proofs.Common.{subst, ◌≡◌, ◌⊎◌, inl, inr, ℕ, ◌+◌, ◌==◌, zero, suc, Bool, true, false, cond, ◌&&◌, not, List, [], ◌∷◌, ◌++◌, Some, None, refl, sym, ap, ◌∙◌, length, arith, append_assoc, nat_le}
-use Rattle.std.proofs.Math.Bool.{or-false, ◌||◌}
+use Rattle.std.proofs.Common.{subst, ◌≡◌, ◌⊎◌, inl, inr, ℕ, ◌+◌, ◌==◌, suc, Bool, true, false, cond, ◌&&◌, not, List, [], ◌∷◌, ◌++◌, Some, None, refl, sym, ap, ◌∙◌, length, arith, append_assoc, nat_le}
+use Rattle.std.proofs.Math.Bool.{◌||◌}
 use Rattle.std.proofs.lemmas.Bool.{eqb-true, false_from_ne_true}
 use Rattle.std.proofs.lemmas.List.{append-nil, length-append}
 use Rattle.std.proofs.lemmas.Option.{same_Some, IfSome_then}

@@ -1,5 +1,5 @@
 -- Escapes and UTF-8.
-use Rattle.std.proofs.Common.{subst, ◌≡◌, ◌⊎◌, inl, inr, ◌≤◌, ◌<◌, ℕ, ◌+◌, ◌==◌, zero, suc, Bool, true, false, cond, ◌&&◌, List, [], ◌∷◌, ◌++◌, refl, sym, ap, ◌∙◌, length, take, drop, get_or, arith, append_assoc}
+use Rattle.std.proofs.Common.{subst, ◌≡◌, ◌⊎◌, inl, inr, ◌≤◌, ◌<◌, ℕ, ◌+◌, ◌==◌, suc, Bool, true, false, List, [], ◌∷◌, ◌++◌, refl, sym, ap, ◌∙◌, length, get_or, arith}
 use Rattle.std.proofs.lemmas.Bool.{eqb-true, false_from_ne_true}
 use Rattle.std.proofs.Math.Seq.{get_or-append_seam, take-append_seam, drop-append-add}
 use Rattle.std.proofs.lemmas.List.{append-nil, length-append}
@@ -45,14 +45,15 @@ large (b ∷ bs) h = (h 0 (omega arith), large bs (λ k lt. h (suc k) (omega ari
 encode_large : (c : ℕ) → 128 ≤ c → AllLarge (encode_utf8 c)
 encode_large c le =
     large (encode_utf8 c) (λ k lt. elim (small_or_large (get_or (encode_utf8 c) k 0)) [
-        inl small ↦ let same = inside_one c [] (encode_utf8 c) k (sym (append-nil (encode_utf8 c))) lt small in absurd (omega (arith, same))
+      | inl small ↦ let same = inside_one c [] (encode_utf8 c) k (sym (append-nil (encode_utf8 c))) lt small in absurd (omega (arith, same))
       | inr h ↦ h
-      ])
+    ])
 
 escape_utf8 : (c : ℕ) → c < 128 → IsUtf8 (escape c)
 escape_utf8 c lt = by (c == 34) (c == 92) (c == 10) refl refl refl where
   two : (b : ℕ) → b < 128 → IsUtf8 (92 ∷ b ∷ [])
   two b small = IsUtf8-append (92 ∷ []) (b ∷ []) (ascii_one 92 (omega arith)) (ascii_one b small)
+
   by : (u v w : Bool) → c == 34 ≡ u → c == 92 ≡ v → c == 10 ≡ w → IsUtf8 (escape c)
   by true v w e1 e2 e3 = rw e1 (two 34 (omega arith))
   by false true w e1 e2 e3 = rw (e1, e2) (two 92 (omega arith))
@@ -61,9 +62,9 @@ escape_utf8 c lt = by (c == 34) (c == 92) (c == 10) refl refl refl where
 
 escaped_char : (c : ℕ) → IsScalar c → IsUtf8 (escaped (encode_utf8 c))
 escaped_char c h = elim (small_or_large c) [
-    inl lt ↦ subst (λ (l : List ℕ). IsUtf8 (escaped l)) (sym (encode_ascii c lt)) (subst IsUtf8 (sym (append-nil (escape c))) (escape_utf8 c lt))
+  | inl lt ↦ subst (λ (l : List ℕ). IsUtf8 (escaped l)) (sym (encode_ascii c lt)) (subst IsUtf8 (sym (append-nil (escape c))) (escape_utf8 c lt))
   | inr le ↦ subst IsUtf8 (sym (escaped-large (encode_utf8 c) (encode_large c le))) (IsUtf8-encode c h)
-  ]
+]
 
 -- a string that is UTF-8 is written in UTF-8
 escaped_chars : (cs : List ℕ) → all_scalars cs ≡ true → IsUtf8 (escaped (encode_utf8_all cs))
@@ -83,9 +84,10 @@ split_utf8 xs b ys lt u =
     let at = length xs in
     let long : length text ≡ at + suc (length ys) = length-append xs (b ∷ ys) in
     let byte : get_or text at 0 ≡ b = get_or-append_seam xs b ys 0 in
-    let front : IsCharBoundary text at = (omega arith, λ _ large. absurd (omega (arith, large))) in
-    (subst IsUtf8 (take-append_seam xs (b ∷ ys)) (IsUtf8-take text at u front),
-     subst IsUtf8 (drop-append-add xs (b ∷ ys) 1) (IsUtf8-drop text (at + 1) u (IsCharBoundary-after_ascii text at u (omega arith) (omega arith))))
+    let front : IsCharBoundary text at = (omega arith, λ _ large. absurd (omega (arith, large))) in (
+      subst IsUtf8 (take-append_seam xs (b ∷ ys)) (IsUtf8-take text at u front),
+      subst IsUtf8 (drop-append-add xs (b ∷ ys) 1) (IsUtf8-drop text (at + 1) u (IsCharBoundary-after_ascii text at u (omega arith) (omega arith))),
+    )
 
 -- how one byte is written: as it is, or behind a backslash
 record Escaped (b : ℕ) : Type 0 where
@@ -112,7 +114,7 @@ unescaped_large : (front rest s : List ℕ) → AllLarge front → front ++ rest
 unescaped_large [] rest s h e = record { more = s; is = refl; behind = e }
 unescaped_large (x ∷ front) rest [] h e = cc
 unescaped_large (x ∷ front) rest (b ∷ s) h e = elim (escape_shape b) [
-    inl p ↦
+  | inl p ↦
       let all : x ∷ (front ++ rest) ≡ b ∷ escaped s = e ∙ ap (λ l. l ++ escaped s) p in
       let same : b ≡ x = cc in
       let r = unescaped_large front rest s h.1 cc in
@@ -121,31 +123,31 @@ unescaped_large (x ∷ front) rest (b ∷ s) h e = elim (escape_shape b) [
       let all : x ∷ (front ++ rest) ≡ 92 ∷ p.letter ∷ escaped s = e ∙ ap (λ l. l ++ escaped s) p.is in
       let same : x ≡ 92 = cc in
       absurd (omega (arith, h.0))
-  ]
+]
 
 -- a string whose escapes begin with an ASCII character
 small_char : (c : ℕ) (rest s : List ℕ) → c < 128 → ((t : List ℕ) → rest ≡ escaped t → IsUtf8 t) → ((x : ℕ) (t : List ℕ) → x < 128 → rest ≡ x ∷ escaped t → IsUtf8 t)
     → c ∷ rest ≡ escaped s → IsUtf8 s
 small_char c rest [] lt one two e = cc
 small_char c rest (b ∷ s) lt one two e = elim (escape_shape b) [
-    inl p ↦
+  | inl p ↦
       let all : c ∷ rest ≡ b ∷ escaped s = e ∙ ap (λ l. l ++ escaped s) p in
       let same : c ≡ b = cc in
       IsUtf8-append (b ∷ []) s (ascii_one b (omega arith)) (one s cc)
   | inr p ↦
       let all : c ∷ rest ≡ 92 ∷ p.letter ∷ escaped s = e ∙ ap (λ l. l ++ escaped s) p.is in
       IsUtf8-append (b ∷ []) s (ascii_one b p.small) (two p.letter s p.letter_small cc)
-  ]
+]
 
 -- a string whose escapes begin with a character
 any_char : (c : ℕ) (rest s : List ℕ) → IsScalar c → ((t : List ℕ) → rest ≡ escaped t → IsUtf8 t) → ((x : ℕ) (t : List ℕ) → x < 128 → rest ≡ x ∷ escaped t → IsUtf8 t)
     → encode_utf8 c ++ rest ≡ escaped s → IsUtf8 s
 any_char c rest s scalar one two e = elim (small_or_large c) [
-    inl lt ↦ small_char c rest s lt one two (ap (λ l. l ++ rest) (sym (encode_ascii c lt)) ∙ e)
+  | inl lt ↦ small_char c rest s lt one two (ap (λ l. l ++ rest) (sym (encode_ascii c lt)) ∙ e)
   | inr le ↦
       let r = unescaped_large (encode_utf8 c) rest s (encode_large c le) e in
       subst IsUtf8 (sym r.is) (IsUtf8-append (encode_utf8 c) r.more (IsUtf8-encode c scalar) (one r.more r.behind))
-  ]
+]
 
 past_letter : (d x : ℕ) (rest more : List ℕ) → x < 128 → encode_utf8 d ++ rest ≡ x ∷ more → rest ≡ more
 past_letter d x rest more lt e =
@@ -156,9 +158,9 @@ past_letter d x rest more lt e =
 unescaped_chars : (cs s : List ℕ) → all_scalars cs ≡ true → encode_utf8_all cs ≡ escaped s → IsUtf8 s
 unescaped_chars [] [] h e = IsUtf8-nil
 unescaped_chars [] (b ∷ s) h e = elim (escape_shape b) [
-    inl p ↦ let all : [] ≡ b ∷ escaped s = e ∙ ap (λ l. l ++ escaped s) p in cc
+  | inl p ↦ let all : [] ≡ b ∷ escaped s = e ∙ ap (λ l. l ++ escaped s) p in cc
   | inr p ↦ let all : [] ≡ 92 ∷ p.letter ∷ escaped s = e ∙ ap (λ l. l ++ escaped s) p.is in cc
-  ]
+]
 unescaped_chars (c ∷ []) s h e =
     let p = both _ (all_scalars []) h in
     any_char c [] s p.0 (λ t k. unescaped_chars [] t refl k) (λ x t lt k. cc) e

@@ -1,4 +1,4 @@
--- A reader of texts, one byte a step.
+-- How texts are read, one byte a step: what this crate's own functions promise one another. No public contract speaks of it.
 use Rattle.std.specs.Prelude.{slice_index, ◌≡◌, ◌<◌, ◌≤◌, take, ℕ, ◌+◌, ◌==◌, nat_le, max, suc, List, [], ◌∷◌, ◌++◌, map, reverse, length, Option, Some, None, if◌then◌else◌, Vec}
 use Rattle.std.specs.Option.{option_and_then, IsSomeAnd}
 use Rattle.std.specs.declared.alloc.Global.{Global}
@@ -8,6 +8,7 @@ use Rattle.sexp_text.specs.View.{forest_view}
 use Rattle.sexp_text.specs.declared.tree.Tree.{Tree}
 use Rattle.sexp_text.specs.declared.stop.TextStop.{TextStop}
 use Rattle.sexp_text.specs.declared.stop.TextStop.TheVariants as stops
+use Rattle.sexp_text.specs.declared.reader.Reader.{Reader}
 use Rattle.sexp_text.specs.declared.reader.Place as places
 use Rattle.sexp_text.specs.declared.reader.Place.TheVariants as kinds
 
@@ -104,6 +105,17 @@ mode_of (kinds.Escape from chars) = in_escape from chars.items
 -- the open lists in memory, where the innermost stands last
 abbrev pub around_view : List (ℕ × Vec Tree Global) → Around
 around_view os = reverse (map (λ o. (o.0, forest_view o.1.items)) os)
+
+-- the lists around the place that a reader has come to, and the trees before it in the innermost
+abbrev pub lists : Reader → Around
+lists r = around_view r.around.items
+
+abbrev pub trees : Reader → Forest
+trees r = forest_view r.current.items
+
+-- the state of a reader
+abbrev pub state_of : places.Place → Reader → State
+state_of place r = (mode_of place, lists r, trees r)
 
 -- Why one byte at a place is not taken: memory, or the machine has no state to go to, or a parenthesis would open a list within 100 others.
 abbrev pub Stops : Option State → ℕ → ℕ → TextStop → Type 0

@@ -1,4 +1,5 @@
--- Why bytes are refused, and where.
+-- Why bytes are refused, and where: at the first byte with which they begin no text that nests at most 100 deep.
+-- So of a byte that fits nowhere and a list that stands too deep, the one with the lesser place answers.
 use Rattle.std.specs.Prelude.{◌≡◌, ◌≤◌, ◌<◌, ◌++◌, ℕ, suc, List, length, take, slice_index}
 use Rattle.std.specs.Str.{IsUtf8}
 use Rattle.std.specs.Str.Lossy.{utf8_valid_len}
@@ -38,7 +39,8 @@ pub record IsTooDeepAt (bytes : List ℕ) (at : ℕ) : Type 0 where
   pub begins : Begins (take (suc at) bytes)
   pub deep : ¬ BeginsShallow (take (suc at) bytes)
 
--- what stands where bytes are refused: nothing is said of memory
+-- What stands where bytes are refused. Bytes that are not UTF-8 are refused for that, at the length of their longest front that is,
+-- whatever stands before it. Of memory nothing is said.
 abbrev pub Cause : List ℕ → TextStop → Type 0
 Cause bytes (stops.NotUtf8 at) = ¬ IsUtf8 bytes × (at ≡ utf8_valid_len bytes)
 Cause bytes (stops.Bad at) = IsBadAt bytes at

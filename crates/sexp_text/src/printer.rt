@@ -1,8 +1,8 @@
 // Trees as text.
-ghost use Rattle.std.specs.Prelude.{◌≡◌, ◌++◌, ◌∷◌, [], false, true, IfOk, OnOk};
+ghost use Rattle.std.specs.Prelude.{◌≡◌, ◌++◌, ◌∷◌, [], false, IfOk, OnOk};
 ghost use Rattle.sexp_text.specs.View.{tree_view, forest_view};
 ghost use Rattle.sexp_text.specs.Grammar.{escape, escaped};
-ghost use Rattle.sexp_text.specs.Layout.{spaced, row, lines};
+ghost use Rattle.sexp_text.specs.Layout.{spaced, row, lines, CanBeSpelled, SpellsUnplaced};
 
 use crate::Tree;
 use std::alloc::{AllocError, Global};
@@ -78,6 +78,7 @@ fn print_row(out: &mut Vec<u8>, trees: &Vec<Tree>) -> Result<(), AllocError>
 /// This project's own rule. It fails only where memory runs out; its stack grows with the nesting of the trees.
 pub fn print(alloc: Global, trees: &[Tree]) -> Result<Vec<u8>, AllocError>
     ensures text { IfOk result (λ v. v.items ≡ lines (forest_view trees.now)) }
+    ensures spells { IfOk result (λ v. CanBeSpelled (forest_view trees.now) → SpellsUnplaced v.items (forest_view trees.now)) }
 {
     let mut out = Vec::new(alloc);
     for tree in trees {

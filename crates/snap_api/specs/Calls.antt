@@ -10,6 +10,7 @@ use Rattle.snap_api.specs.declared.data.Reply.{Reply}
 use Rattle.snap_api.specs.declared.data.Reply.TheVariants as reply
 use Rattle.snap_api.specs.declared.data.Request.{Request}
 
+-- whether a reply is want of memory
 abbrev pub is_no_memory : Reply → Bool
 is_no_memory (reply.Refused NoMemory) = true
 is_no_memory _ = false
@@ -23,6 +24,7 @@ Does {W} before after step r = (w : W) → before w → (r ≡ (step w).1) × af
 abbrev pub Calls : {P : Type 0} → Rules P → (World P → Type 0) → (World P → Type 0) → ℕ → Request → Reply → Type 0
 Calls rules before after caller request r = Does before after (λ w. call rules w caller request) r
 
+-- the reply that a take gives, and so on for the other calls
 abbrev pub taken_reply : Result ℕ Refusal → Reply
 taken_reply (Ok name) = reply.Taken name
 taken_reply (Err e) = reply.Refused e

@@ -17,10 +17,12 @@ pub data Settled : Type 0 where
   settled : Map → List ℕ → Settled
   conflict : ℕ → Settled
 
+-- an object that keeps the parent's entry, before those behind it
 abbrev pub put_kept : Entry → Settled → Settled
 put_kept e (settled m changed) = settled (e ∷ m) changed
 put_kept e (conflict x) = conflict x
 
+-- object x with another entry, before those behind it
 abbrev pub put_changed : ℕ → Entry → Settled → Settled
 put_changed x e (settled m changed) = settled (e ∷ m) (x ∷ changed)
 put_changed x e (conflict y) = conflict y
@@ -31,6 +33,7 @@ put_verdict x current (takes e) rest = put_changed x e rest
 put_verdict x current keeps rest = put_kept current rest
 put_verdict x current clashes rest = conflict x
 
+-- what the policy merged has the stamp of now; where it merged nothing there is a conflict
 abbrev pub merged : Option Value → ℕ → Verdict
 merged (Some v) now = takes (record { value = v; stamp = now })
 merged None now = clashes

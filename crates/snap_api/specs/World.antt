@@ -33,6 +33,7 @@ pub record World (P : Type 0) : Type 0 where
 abbrev pub global : Shot
 global = record { parent = 0; owner = 0; kind = Mutable; status = Live; base = []; view = []; wrote = [] }
 
+-- a world with the global snapshot alone, at this clock
 abbrev pub start : {P : Type 0} → ℕ → World P
 start clock = record { clock = clock; objects = []; shots = global ∷ []; lasts = [] }
 
@@ -40,11 +41,13 @@ start clock = record { clock = clock; objects = []; shots = global ∷ []; lasts
 abbrev pub absent : Shot
 absent = record { parent = 0; owner = 0; kind = Readonly; status = Disposed; base = []; view = []; wrote = [] }
 
+-- whether a snapshot is open
 abbrev pub is_live : Status → Bool
 is_live Live = true
 is_live Applied = false
 is_live Disposed = false
 
+-- whether a snapshot may be written
 abbrev pub is_mutable : Kind → Bool
 is_mutable Mutable = true
 is_mutable Readonly = false
@@ -62,6 +65,7 @@ with_members (x ∷ xs) ys = with_members xs (with_member x ys)
 abbrev pub child_of : ℕ → ℕ → Kind → Shot → Shot
 child_of caller name kind parent = record { parent = name; owner = caller; kind = kind; status = Live; base = parent.view; view = parent.view; wrote = [] }
 
+-- a snapshot that was closed, with how
 abbrev pub with_status : Shot → Status → Shot
 with_status s status = record s { status = status }
 
@@ -78,12 +82,15 @@ abbrev pub made_in : Entry → Shot → Shot
 made_in e s = record s { base = s.base ++ e ∷ []; view = s.view ++ e ∷ [] }
 
 module _ {P : Type 0} where
+  -- the snapshot with this name
   abbrev pub shot_of : World P → ℕ → Shot
   shot_of w name = slice_index_or w.shots name absent
 
+  -- the map that a watcher was given last, if it was given one
   abbrev pub last_of : World P → ℕ → Option Map
   last_of w watcher = slice_index_or w.lasts watcher None
 
+  -- the clock is at its last value
   abbrev pub is_spent : World P → Bool
   is_spent w = w.clock == clock_limit
 
@@ -100,15 +107,19 @@ module _ {P : Type 0} where
   unless w [] effect = effect
   unless w (t ∷ ts) effect = if t.0 then (w, reply.Refused t.1) else unless w ts effect
 
+  -- the snapshot with this name is another
   abbrev pub with_shot : World P → ℕ → Shot → World P
   with_shot w name s = record w { shots = slice_set w.shots name s }
 
+  -- after a take: one snapshot more, and the clock is raised
   abbrev pub taken : World P → ℕ → ℕ → Kind → World P
   taken w caller parent kind = record w { clock = w.clock + 1; shots = w.shots ++ child_of caller parent kind (shot_of w parent) ∷ [] }
 
+  -- after a take of global for a watcher, whose last map is global's then
   abbrev pub taken_for : World P → ℕ → ℕ → World P
   taken_for w caller watcher = record (taken w caller 0 Readonly) { lasts = slice_set w.lasts watcher (Some (shot_of w 0).view) }
 
+  -- after a write that changes object x: its stamp is the raised clock
   abbrev pub written : World P → ℕ → ℕ → Value → World P
   written w name x value = record (with_shot w name (with_entry (shot_of w name) x (record { value = value; stamp = w.clock + 1 }))) { clock = w.clock + 1 }
 
@@ -147,6 +158,7 @@ module _ {P : Type 0} (rules : Rules P) (w : World P) (caller : ℕ) where
       ((not (is_mutable (shot_of w name).kind), refusal.ReadOnly) ∷ (not (same_type (type_of value) o.ty), refusal.WrongType o.ty) ∷ [])
       (if rules.equiv o.policy (value_at (shot_of w name).view x) value then (w, reply.Wrote false) else (written w name x value, reply.Wrote true))
 
+  -- a value of the type of an object that is there
   abbrev pub write : ℕ → ℕ → Value → World P × Reply
   write name x value = unless w
       ((is_spent w, refusal.Spent) ∷ (is_closed w name, refusal.Closed name) ∷ (is_foreign w caller name, refusal.NotYours (shot_of w name).owner) ∷ [])
@@ -157,10 +169,12 @@ module _ {P : Type 0} (rules : Rules P) (w : World P) (caller : ℕ) where
   settled_of name =
       let s = shot_of w name in settle_from rules (w.clock + 1) s.wrote 0 w.objects s.base (shot_of w s.parent).view s.view
 
+  -- the settled objects go into the parent, or the least conflict is told
   abbrev pub apply_to : ℕ → Settled → World P × Reply
   apply_to name (settled m changed) = (applied w name m changed, reply.Applied)
   apply_to name (conflict x) = (w, reply.Refused (refusal.Conflict x))
 
+  -- a live mutable snapshot goes into its live parent
   abbrev pub apply : ℕ → World P × Reply
   apply name = unless w
       ((is_spent w, refusal.Spent) ∷ (is_closed w name, refusal.Closed name) ∷ (name == 0, refusal.Global)
@@ -203,6 +217,7 @@ abbrev pub History : Type 0
 History = List Logged
 
 module _ {P : Type 0} (rules : Rules P) where
+  -- the world after a history
   abbrev pub world_after : World P → History → World P
   world_after w [] = w
   world_after w (e ∷ es) = world_after (call rules w e.caller e.request).0 es

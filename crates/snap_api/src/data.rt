@@ -7,7 +7,9 @@ pub const CLOCK_LIMIT: u64 = 1152921504606846976;
 /// What a world keeps of a state object beside its entries (`StateObject`).
 #[derive(Drop)]
 pub struct Object<P> {
+    /// The type of its values.
     pub ty: Ty,
+    /// When its values count as equal, and how changes are merged; it fits the type.
     pub policy: P,
 }
 
@@ -85,43 +87,53 @@ impl Refusal {
     }
 }
 
-/// A call on a world: a snapshot's parent and kind, a watcher that asks what changed, and so on.
+/// A call on a world.
 #[derive(Drop)]
 pub enum Request {
+    /// A child of this snapshot.
     Take {
         parent: Name,
         kind: Kind,
     },
+    /// A readonly child of global, with what changed since this watcher asked last.
     TakeFor {
         watcher: WatcherNo,
     },
+    /// An object's value in a snapshot.
     Read {
         name: Name,
         object: ObjectNo,
     },
+    /// Another value for an object in a snapshot.
     Write {
         name: Name,
         object: ObjectNo,
         value: Value,
     },
+    /// A snapshot's changes become its parent's.
     Apply {
         name: Name,
     },
+    /// A snapshot is closed, and its changes are lost.
     Dispose {
         name: Name,
     },
 }
 
-/// What a call answers: the new snapshot's name, for a watcher with the objects that changed since it asked
-/// last, the value read, whether a write changed anything, and so on.
+/// What a call answers.
 #[derive(Drop)]
 pub enum Reply {
+    /// The new snapshot's name.
     Taken(Name),
+    /// The new snapshot's name, and the objects that changed since the watcher asked last, by rising number.
     TakenFor(Name, Objects),
+    /// The value that was read.
     Got(Value),
+    /// Whether the write changed anything.
     Wrote { changed: bool },
     Applied,
     Disposed,
+    /// Why the call was refused; nothing changed.
     Refused(Refusal),
 }
 

@@ -1,21 +1,19 @@
 -- One object more of an apply, and one member more of a list.
-use Rattle.std.proofs.Common.{◌≡◌, ℕ, suc, ◌+◌, ◌<◌, List, [], ◌∷◌, ◌++◌, refl, ap, sym, ◌∙◌, take, drop, length, get_or, Bool, cond, append_assoc, add-one, arith}
-use Rattle.std.proofs.Math.Seq.{drop-cons}
+use Rattle.std.proofs.Common.{◌≡◌, ℕ, ◌+◌, ◌<◌, List, [], ◌∷◌, ◌++◌, refl, take, length, get_or, append_assoc}
 use Rattle.std.proofs.lemmas.List.{take_more}
-use Rattle.rt_values.specs.Maps.{Map, contains, entry_at, no_entry, with_member}
+use Rattle.rt_values.specs.Maps.{Map, with_member}
 use Rattle.rt_values.specs.declared.maps.Entry.{Entry}
-use Rattle.snap_policy.specs.Rules.{Rules}
-use Rattle.snap_api.specs.Settle.{Settled, settled, conflict, settle, settle_from, put_verdict, put_kept}
+use Rattle.snap_api.specs.Settle.{Settled, settled, conflict}
 use Rattle.snap_api.specs.World.{with_members}
-use Rattle.snap_api.specs.declared.data.Object.{Object}
 use Rattle.snap_plain.specs.Chosen.{chosen, put_all}
-use Rattle.snap_plain.specs.declared.settling.Choice.{Choice}
 use Rattle.snap_plain.specs.declared.settling.Choice.TheVariants.{Changed, Kept}
 
+-- a changed object goes behind those before it
 pub put_all-changed : (front : Map) (changed : List ℕ) (x : ℕ) (e : Entry) (rest : Settled) → put_all front changed (chosen x (Changed e) rest) ≡ put_all (front ++ e ∷ []) (changed ++ x ∷ []) rest
 put_all-changed front changed x e (settled m more) = rw (append_assoc front (e ∷ []) m, append_assoc changed (x ∷ []) more)
 put_all-changed front changed x e (conflict y) = refl
 
+-- so does one that is kept
 pub put_all-kept : (front : Map) (changed : List ℕ) (x : ℕ) (e : Entry) (rest : Settled) → put_all front changed (chosen x (Kept e) rest) ≡ put_all (front ++ e ∷ []) changed rest
 put_all-kept front changed x e (settled m more) = rw (append_assoc front (e ∷ []) m)
 put_all-kept front changed x e (conflict y) = refl
@@ -26,5 +24,6 @@ with_members-snoc : (xs ys : List ℕ) (x : ℕ) → with_members (xs ++ x ∷ [
 with_members-snoc [] ys x = refl
 with_members-snoc (z ∷ xs) ys x = with_members-snoc xs (with_member z ys) x
 
+-- one member more
 pub members_more : (xs ys : List ℕ) (i : ℕ) → i < length xs → with_members (take (i + 1) xs) ys ≡ with_member (get_or xs i 0) (with_members (take i xs) ys)
 members_more xs ys i within = rw (take_more xs i 0 within) (with_members-snoc (take i xs) ys (get_or xs i 0))

@@ -13,6 +13,7 @@ chosen x (Changed e) rest = put_changed x e rest
 chosen x (Kept e) rest = put_kept e rest
 chosen x Clash rest = conflict x
 
+-- what the code settled, as the verdict on all objects
 abbrev pub outcome : Outcome → Settled
 outcome (Merged m changed) = settled m changed
 outcome (Conflict x) = conflict x

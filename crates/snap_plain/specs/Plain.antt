@@ -6,6 +6,7 @@ use Rattle.snap_api.specs.World.{World}
 use Rattle.snap_api.specs.declared.data.Shot.{Shot}
 use Rattle.snap_plain.specs.declared.world.PlainWorld.{PlainWorld}
 
+-- clock, objects, snapshots and last maps are its fields
 abbrev pub world_of : {P : Type 0} → PlainWorld P → World P
 world_of s = record { clock = s.clock; objects = s.objects.items; shots = s.shots.items; lasts = s.lasts.items }
 

@@ -1,6 +1,7 @@
 // Changes of the snapshots that a plain world keeps.
 ghost use Rattle.std.specs.Prelude.{◌≡◌, ℕ, ◌<◌, ◌++◌, ◌∷◌, [], List, map, length, slice_set, slice_index_or, IfOk, OnOk, OnErr, vec_len};
 ghost use Rattle.snap_api.specs.World.{absent, global, child_of, with_status, with_entry, with_members, made_in};
+ghost use Rattle.snap_api.specs.Shaped.{AreShaped};
 ghost use Rattle.snap_plain.specs.Plain.{with_view};
 
 use rt_values::{Caller, Entry, Kind, Map, Name, NoMemory, ObjectNo, Objects};
@@ -65,7 +66,8 @@ pub fn push_child(
 /// Closes a snapshot, or marks it so.
 pub fn set_status(shots: &mut Vec<Shot>, name: Name, status: Status)
     requires { name < length shots.old.items }
-    ensures { shots.new.items ≡ slice_set shots.old.items name (with_status (slice_index_or shots.old.items name absent) status) }
+    ensures is { shots.new.items ≡ slice_set shots.old.items name (with_status (slice_index_or shots.old.items name absent) status) }
+    ensures shaped { (n : ℕ) → AreShaped n shots.old.items → AreShaped n shots.new.items }
 {
     let shot = &mut shots[name as usize];
     shot.status = status;
@@ -92,7 +94,8 @@ pub fn set_entry(
 /// Another view, and other objects that were written.
 pub fn set_settled(shots: &mut Vec<Shot>, name: Name, view: Map, wrote: Objects)
     requires { name < length shots.old.items }
-    ensures { shots.new.items ≡ slice_set shots.old.items name (with_view (slice_index_or shots.old.items name absent) view wrote) }
+    ensures is { shots.new.items ≡ slice_set shots.old.items name (with_view (slice_index_or shots.old.items name absent) view wrote) }
+    ensures shaped { (n : ℕ) → AreShaped n shots.old.items → length view ≡ n → AreShaped n shots.new.items }
 {
     let shot = &mut shots[name as usize];
     shot.view = view;

@@ -1,5 +1,5 @@
 // The plain world and the calls on it.
-ghost use Rattle.std.specs.Prelude.{◌≡◌, ℕ, ◌≤◌, ◌<◌, ◌^◌, true, false, IfOk, IsOk, OnErr, length};
+ghost use Rattle.std.specs.Prelude.{◌≡◌, ◌≢◌, ℕ, ◌≤◌, ◌<◌, ◌^◌, true, false, IfOk, length};
 ghost use Rattle.snap_api.specs.Calls.{Calls, read_reply};
 ghost use Rattle.snap_api.specs.Shaped.{AreShaped};
 ghost use Rattle.snap_api.specs.World.{World, start, shot_of, is_spent, is_closed, is_foreign, is_mutable};
@@ -212,7 +212,10 @@ impl<P: Policy> Versions for PlainWorld<P> {
         caller: Caller,
         name: Name,
         object: ObjectNo,
-    ) -> Result<Value, Refusal> {
+    ) -> Result<Value, Refusal>
+        ensures call { Calls P.rules (⟦<PlainWorld<P> as Versions>⟧.stands self.old) (⟦<PlainWorld<P> as Versions>⟧.stands self.new) caller (Request.Read name object) (read_reply result) }
+        ensures flat { (w : World P) → ⟦<PlainWorld<P> as Versions>⟧.stands self.old w → is_flat (value_at (shot_of w name).view object) ≡ true → result ≢ Err Refusal.NoMemory }
+    {
         if self.is_closed(name) {
             return Err(Refusal::Closed { name });
         }

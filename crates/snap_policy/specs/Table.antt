@@ -20,6 +20,7 @@ table_merge Structural previous current applied = None
 abbrev pub table_fits : BuiltIn → Ty → Bool
 table_fits Structural t = true
 
+-- the rules of the policies that programs name
 abbrev pub table : Rules BuiltIn
 table = record { equiv = table_equiv; merge = table_merge; fits = table_fits }
 

@@ -1,11 +1,10 @@
 use Rattle.std.proofs.Common.{◌≡◌, ◌≤◌, Some, length}
-use Rattle.sexp_text.specs.View.{forest_view}
-use Rattle.sexp_text.specs.Machine.{state_at, reached, mode_of, around_view}
+use Rattle.sexp_text.specs.Machine.{state_at, state_of, lists, trees, reached}
 use Rattle.sexp_text.proofs.reader.read_trees.Given as goal
 
 abbrev pub invariant-loop-at : goal.invariant-loop-at
 invariant-loop-at l = record {
-  here : state_at l.bytes l.at ≡ Some (mode_of l.place, around_view l.around.items, forest_view l.current.items);
-  few : length (around_view l.around.items) ≤ 100;
-  shallow : reached (around_view l.around.items) (forest_view l.current.items) ≤ 100;
+  here : state_at l.bytes l.at ≡ Some (state_of l.place l.reader);
+  few : length (lists l.reader) ≤ 100;
+  shallow : reached (lists l.reader) (trees l.reader) ≤ 100;
 }

@@ -1,0 +1,85 @@
+-- The lines of a history are those of the steps that made it, one after the other.
+use Rattle.std.proofs.Common.{◌≡◌, ℕ, ◌==◌, List, [], ◌∷◌, ◌++◌, Bool, true, false, not, ◌||◌, cond, refl, sym, ap, ◌∙◌, append_assoc, append-nil, inl, inr}
+use Rattle.std.specs.List.{filter, flat_map}
+use Rattle.std.proofs.lemmas.Grind.{flat_map-append}
+use Rattle.std.proofs.lemmas.Bool.Decides.{eqb_tells}
+use Rattle.rt_values.specs.Frames.{Composed, unseen}
+use Rattle.lang_ast.specs.declared.program.Stmt.{Stmt}
+use Rattle.lang_ast.specs.Frame.{frame}
+use Rattle.snap_policy.specs.declared.policy.BuiltIn.{BuiltIn}
+use Rattle.snap_policy.specs.Table.{table}
+use Rattle.snap_api.specs.declared.data.Reply.{Reply}
+use Rattle.snap_api.specs.declared.data.Reply.TheVariants as reply
+use Rattle.snap_api.specs.declared.data.Request.TheVariants as request
+use Rattle.snap_api.specs.declared.data.Logged.{Logged}
+use Rattle.snap_api.specs.World.{World, History, call, world_after, shot_of}
+use Rattle.script_lang.specs.declared.script.Step.{Step}
+use Rattle.script_lang.specs.declared.script.Step.TheVariants.{Write, Frame}
+use Rattle.script_lang.specs.Steps.{actor_number, watcher_number, closing, calls_of, sequential}
+use Rattle.script_lang.specs.Lines.{Titles, Standing, entry_line, frame_lines, kept_after, lines, lines_at, next, standing_after, ends_frame, frame_at, name_in, frame_taken}
+use Rattle.play_core.specs.Turns.{Between, Turn, standing, behind_take, frame_turn, done, told, turn, turns}
+use Rattle.play_core.specs.Standing.{flat}
+
+-- the lines of the first step, then those of the others
+pub turns-next : (t : Titles) (root : List Stmt) (b : Between) (s : Step) (more all : List Step) → all ≡ s ∷ more →
+    flat (turns t root b all) ≡ flat (turn t root b s).lines ++ flat (turns t root (turn t root b s).left more)
+turns-next t root b s more all e = ap (λ l. flat (turns t root b l)) e ∙ flat_map-append (λ l. l) (turn t root b s).lines (turns t root (turn t root b s).left more)
+
+module _ (t : Titles) (root : List Stmt) where
+  lines-append : (s : Standing) (xs ys : History) → lines t root s (xs ++ ys) ≡ lines t root s xs ++ lines t root (standing_after root s xs) ys
+  lines-append s [] ys = refl
+  lines-append s (x ∷ xs) ys = ap (λ l. lines_at t root s x ++ l) (lines-append (next root s x) xs ys) ∙ sym (append_assoc (lines_at t root s x) _ _)
+
+  next-world : (s : Standing) (e : Logged) → (next root s e).world ≡ (call table s.world e.caller e.request).0
+  next-world s e = by (ends_frame s.frames e.request)
+    where
+      by : (b : Bool) → (cond {A = Standing} b (record { world = (call table s.world e.caller e.request).0; kept = kept_after s.kept (frame_at root s e); frames = filter (λ n. not (n == name_in e.request)) s.frames })
+          (record { world = (call table s.world e.caller e.request).0; kept = s.kept; frames = s.frames ++ frame_taken e.request e.reply })).world ≡ (call table s.world e.caller e.request).0
+      by true = refl
+      by false = refl
+
+  world-after : (s : Standing) (es : History) → (standing_after root s es).world ≡ world_after table s.world es
+  world-after s [] = refl
+  world-after s (e ∷ es) = world-after (next root s e) es ∙ ap (λ w. world_after table w es) (next-world s e)
+
+  itself : (n : ℕ) → (n == n) ≡ true
+  itself n = elim (eqb_tells n n) [ inl e ↦ e.0 | inr e ↦ absurd (e.1 refl) ]
+
+  -- one step
+  record Made (b : Between) (es : History) (turned : Turn) : Type 0 where
+    pub lines_are : lines t root (standing b) es ≡ turned.lines
+    pub left_is : standing_after root (standing b) es ≡ standing turned.left
+
+  made-frame : (b : Between) (r : Reply) →
+      Made b (told (request.TakeFor watcher_number) r ∷ closing (done b.world (request.TakeFor watcher_number)).0 r) (frame_turn t root b.kept (done b.world (request.TakeFor watcher_number)).0 r)
+  made-frame b (reply.TakenFor n changed) = 
+      let w = (done b.world (request.TakeFor watcher_number)).0 in
+      let taken = entry_line t (told (request.TakeFor watcher_number) (reply.TakenFor n changed)) in
+      let closed = entry_line t (told (request.Dispose n) (done w (request.Dispose n)).1) in
+      record {
+        lines_are = rw (itself n) (ap (λ l. taken ∷ (closed ∷ l)) (append-nil (frame_lines (frame root b.kept (shot_of w n).view))));
+        left_is = rw (itself n) refl;
+      }
+  made-frame b (reply.Taken n) = record { lines_are = refl; left_is = refl }
+  made-frame b (reply.Got v) = record { lines_are = refl; left_is = refl }
+  made-frame b (reply.Wrote c) = record { lines_are = refl; left_is = refl }
+  made-frame b reply.Applied = record { lines_are = refl; left_is = refl }
+  made-frame b reply.Disposed = record { lines_are = refl; left_is = refl }
+  made-frame b (reply.Refused r) = record { lines_are = refl; left_is = refl }
+
+  made : (b : Between) (s : Step) → Made b (calls_of b.world s) (turn t root b s)
+  made b (Write x v) = record { lines_are = refl; left_is = refl }
+  made b Frame = made-frame b (done b.world (request.TakeFor watcher_number)).1
+
+  pub lines-turns : (b : Between) (ss : List Step) → lines t root (standing b) (sequential b.world ss) ≡ turns t root b ss
+  lines-turns b [] = refl
+  lines-turns b (s ∷ more) =
+      let m = made b s in
+      let here = calls_of b.world s in
+      let after = world_after table b.world here in
+      let world : after ≡ (turn t root b s).left.world = sym (world-after (standing b) here) ∙ ap (λ (p : Standing). p.world) m.left_is in
+      lines-append (standing b) here (sequential after more)
+      ∙ ap (λ l. l ++ lines t root (standing_after root (standing b) here) (sequential after more)) m.lines_are
+      ∙ ap (λ p. (turn t root b s).lines ++ lines t root p (sequential after more)) m.left_is
+      ∙ ap (λ w. (turn t root b s).lines ++ lines t root (standing (turn t root b s).left) (sequential w more)) world
+      ∙ ap (λ l. (turn t root b s).lines ++ l) (lines-turns (turn t root b s).left more)

@@ -1,0 +1,11 @@
+pub mod Members
+pub mod Written
+pub mod Listed
+pub mod Forests
+pub mod Trees
+pub mod Frames
+pub mod Takings
+pub mod Laws
+pub mod Openings
+pub mod Uniques
+pub mod Plays

@@ -1,0 +1,125 @@
+-- What stands around a frame's take and behind a write.
+use Rattle.std.proofs.Common.{◌≡◌, ℕ, ◌≤◌, List, [], ◌∷◌, ◌++◌, Bool, true, false, cond, Option, Some, None, refl, sym, ap, ◌∙◌, subst, append-nil, OnOk, not}
+use Rattle.std.specs.Prelude.{slice_get, slice_index_or}
+use Rattle.std.specs.declared.result.Result.{Result}
+use Rattle.rt_values.specs.declared.value.Value.{Value}
+use Rattle.rt_values.specs.Maps.{Map, differ, value_at}
+use Rattle.rt_values.specs.Values.{type_of, same_type}
+use Rattle.rt_values.specs.Frames.{Composed}
+use Rattle.lang_ast.specs.declared.program.Stmt.{Stmt}
+use Rattle.lang_ast.specs.Frame.{frame}
+use Rattle.snap_policy.specs.declared.policy.BuiltIn.{BuiltIn}
+use Rattle.snap_policy.specs.Table.{table}
+use Rattle.snap_api.specs.declared.data.Object.{Object}
+use Rattle.snap_api.specs.declared.data.Logged.{Logged}
+use Rattle.snap_api.specs.declared.data.Refusal.{Refusal}
+use Rattle.snap_api.specs.declared.data.Refusal.TheVariants as refusal
+use Rattle.snap_api.specs.declared.data.Reply.{Reply}
+use Rattle.snap_api.specs.declared.data.Reply.TheVariants as reply
+use Rattle.snap_api.specs.declared.data.Request.TheVariants as request
+use Rattle.snap_api.specs.declared.data.Shot.{Shot}
+use Rattle.snap_api.specs.Eyes.{Eyes}
+use Rattle.snap_api.specs.World.{World, shot_of, last_of, unless, is_spent, is_closed, is_foreign, is_mutable, write_to, written}
+use Rattle.snap_api.proofs.Takes.{TookFor, call-TakeFor, took_own, took_eyes, call-Dispose}
+use Rattle.snap_api.proofs.Valid.{shaped_call}
+use Rattle.script_lang.specs.Lines.{Titles, entry_line, frame_lines, kept_after}
+use Rattle.script_lang.specs.Steps.{actor_number, watcher_number}
+use Rattle.play_core.specs.Turns.{Between, behind_take, done, told, turn}
+use Rattle.play_core.specs.Standing.{Stands, Took, InFrame, IsKept, IsSmall, Says, flat}
+use Rattle.play_core.proofs.Frames.{seen-small}
+
+abbrev behind_of : Between → World BuiltIn
+behind_of b = (done b.world (request.TakeFor watcher_number)).0
+
+module _ {V : Type 0} {stands : V → World BuiltIn → Type 0} {world : V} {root : List Stmt} {started : Bool} {ns read : List ℕ} {b : Between} {name : ℕ} {changed : List ℕ} where
+  took-for : Took stands world root started ns read b (reply.TakenFor name changed) → TookFor b.world (behind_of b) actor_number watcher_number name changed
+  took-for h = call-TakeFor table b.world actor_number watcher_number name changed h.answered
+
+  -- its view is what was global
+  view-is : Took stands world root started ns read b (reply.TakenFor name changed) → (shot_of (behind_of b) name).view ≡ (shot_of b.world 0).view
+  view-is h = ap (λ (s : Shot). s.view) (took-for h).shot
+
+  pub in-frame : Took stands world root started ns read b (reply.TakenFor name changed) → InFrame stands world root started ns read b.kept (behind_of b) name changed
+  in-frame h =
+      let t = took-for h in
+      record {
+        world_stands = h.world_stands;
+        shaped = shaped_call table b.world actor_number h.shaped (request.TakeFor watcher_number);
+        own = took_own t h.shaped;
+        eyes = subst (Eyes (stands world) actor_number (Some name)) (sym (view-is h)) (took_eyes t (stands world) h.shaped h.world_stands);
+        listed = λ small. t.listed ∙ ap (λ o. differ o (shot_of b.world 0).view) (h.last small) ∙ ap (differ b.kept.seen) (sym (view-is h));
+        last = t.last ∙ ap Some (sym (view-is h));
+        kept = h.kept;
+        read_is = h.read_is;
+      }
+
+  -- behind the frame: its snapshot is disposed
+  pub after-frame : {W : Type 0} {stands' : W → World BuiltIn → Type 0} {world' : W} {started' : Bool} {ns' read' : List ℕ} → (t : Titles) → Took stands world root started ns read b (reply.TakenFor name changed) →
+      IsKept root started' ns' (kept_after b.kept (frame root b.kept (shot_of (behind_of b) name).view)) → stands' world' (done (behind_of b) (request.Dispose name)).0 → read' ≡ read →
+      Stands stands' world' root started' ns' read' (behind_take t root b.kept (behind_of b) (reply.TakenFor name changed)).left
+  after-frame t h kept stood same =
+      let f = in-frame h in
+      record {
+        world_stands = stood;
+        shaped = shaped_call table (behind_of b) actor_number f.shaped (request.Dispose name);
+        last = λ small. ap (λ (p : World BuiltIn × Reply). last_of p.0 watcher_number) (call-Dispose table (behind_of b) actor_number name f.own) ∙ f.last ∙ sym (seen-small root b.kept (shot_of (behind_of b) name).view small);
+        kept = kept;
+        read_is = same ∙ h.read_is;
+      }
+
+-- a write leaves the watchers' last maps
+
+lasts-unless : (w : World BuiltIn) (ts : List (Bool × Refusal)) (effect : World BuiltIn × Reply) → effect.0.lasts ≡ w.lasts → (unless w ts effect).0.lasts ≡ w.lasts
+lasts-unless w [] effect e = e
+lasts-unless w ((true, r) ∷ ts) effect e = refl
+lasts-unless w ((false, r) ∷ ts) effect e = lasts-unless w ts effect e
+
+lasts-choice : (w : World BuiltIn) (b : Bool) (one other : World BuiltIn × Reply) → one.0.lasts ≡ w.lasts → other.0.lasts ≡ w.lasts → (cond b one other).0.lasts ≡ w.lasts
+lasts-choice w true one other e f = e
+lasts-choice w false one other e f = f
+
+lasts-write_to : (w : World BuiltIn) (name x : ℕ) (v : Value) (o : Option (Object BuiltIn)) → (write_to table w actor_number name x v o).0.lasts ≡ w.lasts
+lasts-write_to w name x v None = refl
+lasts-write_to w name x v (Some o) =
+    lasts-unless w ((not (is_mutable (shot_of w name).kind), refusal.ReadOnly) ∷ (not (same_type (type_of v) o.ty), refusal.WrongType o.ty) ∷ []) _
+    (lasts-choice w (table.equiv o.policy (value_at (shot_of w name).view x) v) (w, reply.Wrote false) (written w name x v, reply.Wrote true) refl refl)
+
+pub lasts-write : (w : World BuiltIn) (name x : ℕ) (v : Value) → (done w (request.Write name x v)).0.lasts ≡ w.lasts
+lasts-write w name x v =
+    lasts-unless w ((is_spent w, refusal.Spent) ∷ (is_closed w name, refusal.Closed name) ∷ (is_foreign w actor_number name, refusal.NotYours (shot_of w name).owner) ∷ []) _
+    (lasts-write_to w name x v (slice_get w.objects x))
+
+pub after-write : {V : Type 0} {stands : V → World BuiltIn → Type 0} {world world' : V} {root : List Stmt} {started : Bool} {ns read : List ℕ} (b : Between) (x : ℕ) (v : Value) →
+    Stands stands world root started ns read b → stands world' (done b.world (request.Write 0 x v)).0 →
+    Stands stands world' root started ns read (record { world = (done b.world (request.Write 0 x v)).0; kept = b.kept })
+after-write b x v h stood = record {
+  world_stands = stood;
+  shaped = shaped_call table b.world actor_number h.shaped (request.Write 0 x v);
+  last = λ small. ap (λ (ls : List (Option Map)). slice_index_or ls watcher_number None) (lasts-write b.world 0 x v) ∙ h.last small;
+  kept = h.kept;
+  read_is = h.read_is;
+}
+
+-- the lines behind a take that was answered with a snapshot
+pub taken-says : {T E : Type 0} (r : Result T E) (a z : Option (List ℕ)) (t : Titles) (root : List Stmt) (k : Composed) (w : World BuiltIn) (answer : Reply) (name : ℕ) (changed : List ℕ) →
+    answer ≡ reply.TakenFor name changed →
+    Says a z (entry_line t (told (request.Dispose name) (done w (request.Dispose name)).1) ++ flat (frame_lines (frame root k (shot_of w name).view))) r →
+    Says a z (flat (behind_take t root k w answer).lines) r
+taken-says r a z t root k w answer name changed e says = subst (λ reply. Says a z (flat (behind_take t root k w reply).lines) r) (sym e) says
+
+-- one line
+pub one-line : {T E : Type 0} (r : Result T E) (a z : Option (List ℕ)) (l : List ℕ) → Says a z l r → Says a z (flat (l ∷ [])) r
+one-line r a z l says = subst (λ bytes. Says a z bytes r) (sym (append-nil l)) says
+
+-- a take was answered
+pub took : {V : Type 0} {stands : V → World BuiltIn → Type 0} {world world' : V} {root : List Stmt} {started : Bool} {ns read : List ℕ} (b : Between) (e : Logged) →
+    Stands stands world root started ns read b → stands world' (behind_of b) → e ≡ told (request.TakeFor watcher_number) (done b.world (request.TakeFor watcher_number)).1 →
+    Took stands world' root started ns read b e.reply
+took b e h stood is = record { world_stands = stood; answered = ap (λ (l : Logged). l.reply) is; shaped = h.shaped; last = h.last; kept = h.kept; read_is = h.read_is }
+
+-- what is said behind the answer that was given is what is said behind the plain world's
+pub took-after : {T E : Type 0} (r : Result T E) (a z : Option (List ℕ)) (t : Titles) (root : List Stmt) (b : Between) (e : Logged) (first : List ℕ) →
+    e ≡ told (request.TakeFor watcher_number) (done b.world (request.TakeFor watcher_number)).1 →
+    Says a z (first ++ flat (behind_take t root b.kept (behind_of b) e.reply).lines) r →
+    Says a z (first ++ flat (behind_take t root b.kept (behind_of b) (done b.world (request.TakeFor watcher_number)).1).lines) r
+took-after r a z t root b e first is says = subst (λ (l : Logged). Says a z (first ++ flat (behind_take t root b.kept (behind_of b) l.reply).lines) r) is says

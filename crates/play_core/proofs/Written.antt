@@ -1,0 +1,46 @@
+-- What was written, piece by piece.
+use Rattle.std.proofs.Common.{◌≡◌, ℕ, List, ◌++◌, sym, ◌∙◌, subst, append_assoc, Option, Ok, Err, OnOk, OnErr}
+use Rattle.std.specs.declared.result.Result.{Result}
+use Rattle.std.specs.Io.KnownBytes.{Appends}
+use Rattle.std.proofs.KnownBytes.{Appends-trans}
+use Rattle.rt_streams.specs.Streams.{AppendsPart}
+use Rattle.rt_streams.proofs.Parts.{part-behind, part-front}
+use Rattle.play_core.specs.Standing.{Says}
+
+-- some bytes were written, then a part of the next piece
+pub part_next : (a b c : Option (List ℕ)) (said piece more all : List ℕ) → said ++ (piece ++ more) ≡ all → Appends a b said → AppendsPart b c piece → AppendsPart a c all
+part_next a b c said piece more all e done part = subst (AppendsPart a c) e (part-behind a b c said (piece ++ more) done (part-front b c piece more part))
+
+-- some bytes were written, then the next piece
+pub record Next (a c : Option (List ℕ)) (said piece more all : List ℕ) : Type 0 where
+  pub split : (said ++ piece) ++ more ≡ all
+  pub wrote : Appends a c (said ++ piece)
+
+pub all_next : (a b c : Option (List ℕ)) (said piece more all : List ℕ) → said ++ (piece ++ more) ≡ all → Appends a b said → Appends b c piece → Next a c said piece more all
+all_next a b c said piece more all e done whole = record { split = append_assoc said piece more ∙ e; wrote = Appends-trans a b c said piece done whole }
+
+-- a piece was written, then what is said of the rest
+pub says_behind : {T E : Type 0} (r : Result T E) (a b c : Option (List ℕ)) (xs ys : List ℕ) → Appends a b xs → Says b c ys r → Says a c (xs ++ ys) r
+says_behind (Ok x) a b c xs ys done says = record { all = Appends-trans a b c xs ys done says.all; part = tt }
+says_behind (Err e) a b c xs ys done says = record { all = tt; part = part-behind a b c xs ys done says.part }
+
+-- a part of the front is a part of all
+pub says_front : {T U E F : Type 0} (e : E) (f : F) (a b : Option (List ℕ)) (xs ys : List ℕ) → Says {T = T} {E = E} a b xs (Err e) → Says {T = U} {E = F} a b (xs ++ ys) (Err f)
+says_front e f a b xs ys says = record { all = tt; part = part-front a b xs ys says.part }
+
+-- what holds anyway holds after Ok
+pub anyway : {T E P : Type 0} (r : Result T E) → P → OnOk r P
+anyway (Ok x) p = p
+anyway (Err e) p = tt
+
+-- the same bytes
+pub appends_same : (a b : Option (List ℕ)) (xs ys : List ℕ) → xs ≡ ys → Appends a b xs → Appends a b ys
+appends_same a b xs ys e h = subst (Appends a b) e h
+
+pub says_same : {T E : Type 0} (r : Result T E) (a b : Option (List ℕ)) (xs ys : List ℕ) → xs ≡ ys → Says a b xs r → Says a b ys r
+says_same r a b xs ys e h = subst (λ l. Says a b l r) e h
+
+-- what follows from two facts after Ok
+pub both_ok : {T E P Q R : Type 0} (r : Result T E) → (P → Q → R) → OnOk r P → OnOk r Q → OnOk r R
+both_ok (Ok x) f p q = f p q
+both_ok (Err e) f p q = tt

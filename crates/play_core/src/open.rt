@@ -1,0 +1,88 @@
+// The world in which a script begins.
+ghost use Rattle.std.specs.Prelude.{◌≡◌, ◌<◌, ◌≤◌, [], IfOk, OnOk, length};
+ghost use Rattle.snap_policy.specs.declared.policy.BuiltIn.{BuiltIn as built_in};
+ghost use Rattle.snap_policy.specs.declared.policy.BuiltIn.TheVariants as policy;
+ghost use Rattle.rt_values.specs.Values.{type_of};
+ghost use Rattle.snap_api.specs.World.{World, start, made};
+ghost use Rattle.script_lang.specs.Steps.{opening, with_states};
+ghost use Rattle.play_core.specs.Turns.{at_first};
+ghost use Rattle.play_core.specs.Standing.{Stands};
+
+use crate::frame::Composition;
+use lang_ast::State;
+use lang_checks::Checked;
+use rt_values::NoMemory;
+use snap_api::Versions;
+use snap_policy::BuiltIn;
+use std::alloc::Global;
+
+// Makes a state, with its initial value.
+fn make_state<V: Versions<P = BuiltIn>>(
+    alloc: Global,
+    state: &State,
+    world: &mut V,
+) -> Result<(), NoMemory>
+    requires { V.object_count world.old < 65536 }
+    ensures { (w : World built_in) → V.stands world.old w → OnOk result (V.stands world.new (made w (type_of state.now.initial) policy.Structural state.now.initial)) }
+{
+    let initial = state.initial.copy(alloc)?;
+    match world.make(alloc, state.initial.ty(), BuiltIn::Structural, initial) {
+        Ok(_) => Ok(()),
+        Err(refusal) => {
+            if refusal.is_no_memory() {
+                return Err(NoMemory);
+            }
+            unreachable!()
+        }
+    }
+}
+
+// Makes the program's states.
+fn make_states<V: Versions<P = BuiltIn>>(
+    alloc: Global,
+    states: &[State],
+    world: &mut V,
+) -> Result<(), NoMemory>
+    requires start { V.stands world.old (start 0) }
+    requires few { length states.now ≤ 256 }
+    ensures { OnOk result (V.stands world.new (with_states (start 0) states.now)) }
+{
+    let mut rest = states;
+    while let Some((state, more)) = rest.split_first() {
+        make_state(alloc, state, world)?;
+        rest = more;
+    }
+    Ok(())
+}
+
+// The states and the watcher.
+fn open_world<V: Versions<P = BuiltIn>>(
+    alloc: Global,
+    states: &[State],
+    world: &mut V,
+) -> Result<(), NoMemory>
+    requires start { V.stands world.old (start 0) }
+    requires few { length states.now ≤ 256 }
+    ensures { OnOk result (V.stands world.new (opening states.now)) }
+{
+    make_states(alloc, states, world)?;
+    match world.watch(alloc) {
+        Ok(_) => Ok(()),
+        Err(NoMemory) => Err(NoMemory),
+    }
+}
+
+/// Makes a program's states and the watcher of its frames in a new world, and a composition before its first
+/// frame.
+pub fn begin<V: Versions<P = BuiltIn>>(
+    alloc: Global,
+    program: &Checked,
+    world: &mut V,
+) -> Result<Composition, NoMemory>
+    requires start { V.stands world.old (start 0) }
+    requires few { length program.now.states.items ≤ 256 }
+    ensures { IfOk result (λ c. Stands V.stands world.new program.now.root.items c.started c.numbers.items c.reads (at_first program.now.states.items)) }
+{
+    open_world(alloc, program.states(), world)?;
+    Composition::new(alloc, program.root())
+}
