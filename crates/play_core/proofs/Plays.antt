@@ -1,8 +1,8 @@
 -- What a run writes, as the definitions say it.
-use Rattle.std.proofs.Common.{◌≡◌, ℕ, List, [], ◌++◌, sym, ap, ◌∙◌, subst, refl, Option, Some, None}
+use Rattle.std.proofs.Common.{◌≡◌, ℕ, List, [], ◌++◌, sym, ap, ◌∙◌, subst, refl, Option, Some, None, ◌⊎◌, inl, inr, ◌<◌, ◌≤◌, ◌≢◌, arith}
 use Rattle.std.specs.declared.result.Result.{Result}
 use Rattle.std.specs.Prelude.{IfSome}
-use Rattle.std.specs.Io.KnownBytes.{Appends}
+use Rattle.std.specs.Io.KnownBytes.{Appends, IsAtEnd}
 use Rattle.rt_streams.specs.Streams.{AppendsPart}
 use Rattle.rt_streams.proofs.Parts.{part-none}
 use Rattle.lang_ast.specs.declared.program.State.{State}
@@ -10,6 +10,9 @@ use Rattle.lang_ast.specs.declared.program.Stmt.{Stmt}
 use Rattle.lang_forms.specs.Forms.{Parts}
 use Rattle.script_lang.specs.declared.script.Step.{Step}
 use Rattle.script_lang.specs.Lines.{Titles, run_text}
+use Rattle.script_lang.specs.Scripts.{actor_of}
+use Rattle.play_core.specs.declared.top.Status.{Status}
+use Rattle.play_core.specs.declared.top.Status.TheVariants as status
 use Rattle.play_core.specs.Texts.{IsText, IsRead, IsNoText, WritesPart, output, bad_line}
 use Rattle.play_core.specs.Turns.{at_first, turns}
 use Rattle.play_core.specs.Standing.{Says, flat}
@@ -28,8 +31,8 @@ unfolding output
 output-is {root = root} {actor = actor} {steps = steps} h =
     ap (λ ss. run_text (record { states = ss; actor = actor }) root steps) h.states_are
     ∙ ap (λ l. run_text (record { states = h.parts.states; actor = l }) root steps) h.actor_is
-    ∙ ap (λ l. run_text (record { states = h.parts.states; actor = _ }) l steps) h.root_is
-    ∙ ap (λ l. run_text (record { states = h.parts.states; actor = _ }) h.parts.root l) h.steps_are
+    ∙ ap (λ l. run_text (record { states = h.parts.states; actor = actor_of h.parts.scripts }) l steps) h.root_is
+    ∙ ap (λ l. run_text (record { states = h.parts.states; actor = actor_of h.parts.scripts }) h.parts.root l) h.steps_are
 
 pub text-part : {bytes : List ℕ} {states : List State} {root : List Stmt} {actor : List ℕ} {steps : List Step} (h : IsRead bytes states root actor steps) (a z : Option (List ℕ)) →
     AppendsPart a z (run_text (record { states = states; actor = actor }) root steps) → WritesPart bytes a z
@@ -46,3 +49,35 @@ refused-part bytes a z none part = record { lines = λ p t. absurd (none p t); r
 pub nothing-part : (o a : Option (List ℕ)) → IfSome o (λ bytes. WritesPart bytes a a)
 nothing-part None a = tt
 nothing-part (Some bytes) a = record { lines = λ p t. part-none a (output p); refusal = λ n. part-none a bad_line }
+
+-- the one line of a status was written in part, or it is that status
+pub refused-answers : (r : Status) (bytes : List ℕ) (a z : Option (List ℕ)) → IsNoText bytes → (r ≡ status.BadInput) ⊎ (r ≡ status.WriteFault) → (r ≡ status.WriteFault → AppendsPart a z bad_line) →
+    (r ≡ status.WriteFault) ⊎ (r ≡ status.NoMemory) → WritesPart bytes a z
+refused-answers r bytes a z none answers part e = elim e [
+  | inl f ↦ refused-part bytes a z none (part f)
+  | inr f ↦ elim answers [ inl b ↦ absurd cc | inr w ↦ absurd cc ]
+]
+
+-- Every status has its cause. So a text of a program is done, but for want of memory and faults that were counted.
+pub text-answers : (r : Status) (left : Option (List ℕ)) {B C D E : Type 0} (P : List ℕ → Type 0) (taken limit : ℕ) (bytes : List ℕ) (p : Parts) → ((bs : List ℕ) → P bs → IsNoText bs) → left ≡ Some bytes → taken ≤ limit → IsText bytes p →
+    r ≢ status.Usage → (r ≡ status.BadInput → IfSome left P) → (r ≡ status.TooLong → (limit < taken) × B) → (r ≡ status.ReadFault → C × D) → (r ≡ status.WriteFault → E) →
+    (r ≡ status.Done) ⊎ ((r ≡ status.NoMemory) ⊎ (((r ≡ status.ReadFault) × C) ⊎ ((r ≡ status.WriteFault) × E)))
+text-answers status.Done left P taken limit bytes p out e few t usage bad long fault write = inl refl
+text-answers status.Usage left P taken limit bytes p out e few t usage bad long fault write = absurd (usage refl)
+text-answers status.BadInput left P taken limit bytes p out e few t usage bad long fault write = absurd (out bytes (subst (λ o. IfSome o P) e (bad refl)) p t)
+text-answers status.ReadFault left P taken limit bytes p out e few t usage bad long fault write = inr (inr (inl (refl, (fault refl).0)))
+text-answers status.WriteFault left P taken limit bytes p out e few t usage bad long fault write = inr (inr (inr (refl, write refl)))
+text-answers status.NoMemory left P taken limit bytes p out e few t usage bad long fault write = inr (inl refl)
+text-answers status.TooLong left P taken limit bytes p out e few t usage bad long fault write = absurd (let more = (long refl).0 in omega (arith, more, few))
+
+-- And another input is refused.
+pub other-answers : (r : Status) (left : Option (List ℕ)) {B C D E : Type 0} (P : List ℕ → Type 0) (taken limit : ℕ) (bytes : List ℕ) → ((bs : List ℕ) → P bs → (p : Parts) × IsText bs p) → left ≡ Some bytes → taken ≤ limit → IsNoText bytes →
+    r ≢ status.Usage → (r ≡ status.Done → IfSome left P) → (r ≡ status.TooLong → (limit < taken) × B) → (r ≡ status.ReadFault → C × D) → (r ≡ status.WriteFault → E) →
+    (r ≡ status.BadInput) ⊎ ((r ≡ status.NoMemory) ⊎ (((r ≡ status.ReadFault) × C) ⊎ ((r ≡ status.WriteFault) × E)))
+other-answers status.Done left P taken limit bytes out e few none usage done long fault write = let d = out bytes (subst (λ o. IfSome o P) e (done refl)) in absurd (none d.0 d.1)
+other-answers status.Usage left P taken limit bytes out e few none usage done long fault write = absurd (usage refl)
+other-answers status.BadInput left P taken limit bytes out e few none usage done long fault write = inl refl
+other-answers status.ReadFault left P taken limit bytes out e few none usage done long fault write = inr (inr (inl (refl, (fault refl).0)))
+other-answers status.WriteFault left P taken limit bytes out e few none usage done long fault write = inr (inr (inr (refl, write refl)))
+other-answers status.NoMemory left P taken limit bytes out e few none usage done long fault write = inr (inl refl)
+other-answers status.TooLong left P taken limit bytes out e few none usage done long fault write = absurd (let more = (long refl).0 in omega (arith, more, few))

@@ -15,5 +15,5 @@ mod steps;
 mod text;
 mod top;
 
-pub use top::Status;
+pub use top::{Status, play, play_alone};
 

@@ -21,6 +21,8 @@ use script_lang::Script;
 use snap_api::Versions;
 use snap_policy::BuiltIn;
 use std::alloc::Global;
+use std::sync::Wait;
+use std::thread::Threads;
 
 /// How a run of the program ended.
 #[derive(Clone, Copy, Debug, PartialEq, Eq)]
@@ -216,4 +218,49 @@ pub fn play_alone<V: Versions<P = BuiltIn>, S: Source, K: Sink>(
             Status::Usage,
         )
     }
+}
+
+/// Does what the words ask for, as `play_alone`, with whatever threads it takes; today it takes none, and the
+/// gate is not asked.
+pub fn play<
+    R: Threads + Wait + Sync,
+    V: Versions<P = BuiltIn>,
+    S: Source,
+    K: Sink,
+    G: Gate + Sync,
+>(
+    _rt: &R,
+    alloc: Global,
+    words: &Vec<String>,
+    world: &mut V,
+    source: &mut S,
+    sink: &mut K,
+    _gate: &G,
+) -> Status
+    requires { V.stands world.old (start 0) }
+    // Usage comes exactly where the words are not the one word `run`: its line is written, and the source stays as it was.
+    ensures usage { result ≡ Status.Usage → (is_run words.now.items ≡ false) × Appends (K.written sink.old) (K.written sink.new) usage_line }
+    ensures usage_told { is_run words.now.items ≡ false → ((result ≡ Status.Usage) ⊎ ((result ≡ Status.WriteFault) × AppendsPart (K.written sink.old) (K.written sink.new) usage_line)) × (source.new ≡ source.old) }
+    // Done: the input was read to its end and is a text, and the lines of the history that its steps make were written.
+    ensures done { result ≡ Status.Done → IfSome (S.left source.old) (λ bytes. IsAtEnd (S.left source.new) × ((p : Parts) × IsText bytes p × Appends (K.written sink.old) (K.written sink.new) (output p))) }
+    // BadInput: the input was read to its end and is none, and its line was written.
+    ensures bad_input { result ≡ Status.BadInput → IfSome (S.left source.old) (λ bytes. IsAtEnd (S.left source.new) × IsNoText bytes × Appends (K.written sink.old) (K.written sink.new) bad_line) }
+    // TooLong comes exactly where a byte more than the limit was taken: its line is written.
+    ensures too_long { result ≡ Status.TooLong → (input_limit < rise (S.taken source.old) (S.taken source.new)) × Appends (K.written sink.old) (K.written sink.new) long_line }
+    ensures long_told { is_run words.now.items ≡ true → input_limit < rise (S.taken source.old) (S.taken source.new) → (result ≡ Status.TooLong) ⊎ ((result ≡ Status.WriteFault) × AppendsPart (K.written sink.old) (K.written sink.new) long_line) }
+    // A fault comes only where it was counted; after a fault of the source nothing was written.
+    ensures read_fault { result ≡ Status.ReadFault → Rose (S.faults source.old) (S.faults source.new) × Keeps (K.written sink.old) (K.written sink.new) }
+    ensures write_fault { result ≡ Status.WriteFault → Rose (K.faults sink.old) (K.faults sink.new) }
+    // After a fault of the sink or want of memory a first part of the text was written.
+    ensures part { is_run words.now.items ≡ true → rise (S.taken source.old) (S.taken source.new) ≤ input_limit → (result ≡ Status.WriteFault) ⊎ (result ≡ Status.NoMemory) → IfSome (S.left source.old) (λ bytes. WritesPart bytes (K.written sink.old) (K.written sink.new)) }
+    ensures memory { result ≡ Status.NoMemory → is_run words.now.items ≡ true }
+    // Where nothing failed and no more than the limit was taken, a text is done and another input is refused, but for want of memory.
+    ensures complete { (bytes : List ℕ) (p : Parts) → is_run words.now.items ≡ true → S.left source.old ≡ Some bytes → rise (S.taken source.old) (S.taken source.new) ≤ input_limit → IsText bytes p →
+        (result ≡ Status.Done) ⊎ ((result ≡ Status.NoMemory) ⊎ (((result ≡ Status.ReadFault) × Rose (S.faults source.old) (S.faults source.new)) ⊎ ((result ≡ Status.WriteFault) × Rose (K.faults sink.old) (K.faults sink.new)))) }
+    ensures refused { (bytes : List ℕ) → is_run words.now.items ≡ true → S.left source.old ≡ Some bytes → rise (S.taken source.old) (S.taken source.new) ≤ input_limit → IsNoText bytes →
+        (result ≡ Status.BadInput) ⊎ ((result ≡ Status.NoMemory) ⊎ (((result ≡ Status.ReadFault) × Rose (S.faults source.old) (S.faults source.new)) ⊎ ((result ≡ Status.WriteFault) × Rose (K.faults sink.old) (K.faults sink.new)))) }
+    // Of the source at most one byte more than the limit is taken.
+    ensures at_most { is_run words.now.items ≡ true → rise (S.taken source.old) (S.taken source.new) ≤ input_limit + 1 }
+{
+    play_alone(alloc, words, world, source, sink)
 }
