@@ -14,32 +14,59 @@ pub use passes::{CheckStop, Checked, check};
 #[cfg(test)]
 mod tests {
     use super::*;
-    use lang_ast::{Program, State};
-    use rt_values::{Txt, Value};
+    use lang_ast::{Attribute, Attributes, Expr, Program, State, Stmt};
+    use rt_values::{ObjectNo, Txt, Value};
     use std::alloc::Global;
     use std::test::Fail;
 
-    fn two_states(alloc: Global, first: &[u8], second: &[u8]) -> Result<Program, Fail> {
-        let mut states = Vec::new(alloc);
-        states.push(State {
-            name: Txt::of(alloc, first)?,
+    fn state(alloc: Global, name: &[u8]) -> Result<State, Fail> {
+        Ok(State {
+            name: Txt::of(alloc, name)?,
             initial: Value::Int(0),
-        })?;
-        states.push(State {
-            name: Txt::of(alloc, second)?,
-            initial: Value::Int(0),
-        })?;
-        Ok(Program {
-            states,
-            root: Vec::new(alloc),
         })
     }
 
+    fn node(alloc: Global, number: ObjectNo) -> Result<Stmt, Fail> {
+        let mut attributes = Vec::new(alloc);
+        attributes.push(Attribute {
+            name: Txt::of(alloc, b"text")?,
+            value: Expr::Get {
+                name: Txt::of(alloc, b"a")?,
+                number,
+            },
+        })?;
+        Ok(Stmt::Node {
+            kind: Txt::of(alloc, b"Text")?,
+            attributes: Attributes::of(attributes),
+        })
+    }
+
+    // Two states of these names, and a node that shows the state of this number.
+    fn program(
+        alloc: Global,
+        first: &[u8],
+        second: &[u8],
+        number: ObjectNo,
+    ) -> Result<Program, Fail> {
+        let mut states = Vec::new(alloc);
+        states.push(state(alloc, first)?)?;
+        states.push(state(alloc, second)?)?;
+        let mut root = Vec::new(alloc);
+        root.push(node(alloc, number)?)?;
+        Ok(Program { states, root })
+    }
+
     #[test]
-    fn a_second_state_of_one_name_is_a_fault(rt: HostRuntime) -> Result<(), Fail> {
+    fn the_first_pass_goes_first(rt: HostRuntime) -> Result<(), Fail> {
         let alloc = rt.alloc();
-        assert!(rt; check(two_states(alloc, b"a", b"b")?).is_ok());
-        assert!(rt; check(two_states(alloc, b"a", b"a")?).err() == Some(CheckStop::Double));
+        let checked = check(program(alloc, b"a", b"b", 1)?)?;
+        assert_eq!(rt; (checked.states().len(), checked.root().len()), (2, 1));
+        let unknown = check(program(alloc, b"a", b"b", 2)?).err();
+        assert!(rt; unknown == Some(CheckStop::Unknown));
+        let double = check(program(alloc, b"a", b"a", 1)?).err();
+        assert!(rt; double == Some(CheckStop::Double));
+        let both = check(program(alloc, b"a", b"a", 2)?).err();
+        assert!(rt; both == Some(CheckStop::Double));
         Ok(())
     }
 }

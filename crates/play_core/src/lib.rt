@@ -17,3 +17,6 @@ mod top;
 
 pub use top::{Status, play, play_alone};
 
+
+#[cfg(test)]
+mod tests;

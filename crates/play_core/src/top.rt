@@ -161,6 +161,7 @@ fn run_input<V: Versions<P = BuiltIn>, S: Source, K: Sink>(
     ensures read_fault { result ≡ Status.ReadFault → Rose (S.faults source.old) (S.faults source.new) × Keeps (K.written sink.old) (K.written sink.new) }
     ensures write_fault { result ≡ Status.WriteFault → Rose (K.faults sink.old) (K.faults sink.new) }
     ensures at_most { rise (S.taken source.old) (S.taken source.new) ≤ input_limit + 1 }
+    ensures told { (bytes : List ℕ) → S.left source.old ≡ Some bytes → rise (S.taken source.old) (S.taken source.new) ≤ length bytes }
     ensures usage { result ≢ Status.Usage }
 {
     match read_all(alloc, source, INPUT_LIMIT) {
@@ -201,10 +202,10 @@ pub fn play_alone<V: Versions<P = BuiltIn>, S: Source, K: Sink>(
     // After a fault of the sink or want of memory a first part of the text was written.
     ensures part { is_run words.now.items ≡ true → rise (S.taken source.old) (S.taken source.new) ≤ input_limit → (result ≡ Status.WriteFault) ⊎ (result ≡ Status.NoMemory) → IfSome (S.left source.old) (λ bytes. WritesPart bytes (K.written sink.old) (K.written sink.new)) }
     ensures memory { result ≡ Status.NoMemory → is_run words.now.items ≡ true }
-    // Where nothing failed and no more than the limit was taken, a text is done and another input is refused, but for want of memory.
-    ensures complete { (bytes : List ℕ) (p : Parts) → is_run words.now.items ≡ true → S.left source.old ≡ Some bytes → rise (S.taken source.old) (S.taken source.new) ≤ input_limit → IsText bytes p →
+    // Where nothing failed, a text within the limit is done and another input within it is refused, but for want of memory.
+    ensures complete { (bytes : List ℕ) (p : Parts) → is_run words.now.items ≡ true → S.left source.old ≡ Some bytes → length bytes ≤ input_limit → IsText bytes p →
         (result ≡ Status.Done) ⊎ ((result ≡ Status.NoMemory) ⊎ (((result ≡ Status.ReadFault) × Rose (S.faults source.old) (S.faults source.new)) ⊎ ((result ≡ Status.WriteFault) × Rose (K.faults sink.old) (K.faults sink.new)))) }
-    ensures refused { (bytes : List ℕ) → is_run words.now.items ≡ true → S.left source.old ≡ Some bytes → rise (S.taken source.old) (S.taken source.new) ≤ input_limit → IsNoText bytes →
+    ensures refused { (bytes : List ℕ) → is_run words.now.items ≡ true → S.left source.old ≡ Some bytes → length bytes ≤ input_limit → IsNoText bytes →
         (result ≡ Status.BadInput) ⊎ ((result ≡ Status.NoMemory) ⊎ (((result ≡ Status.ReadFault) × Rose (S.faults source.old) (S.faults source.new)) ⊎ ((result ≡ Status.WriteFault) × Rose (K.faults sink.old) (K.faults sink.new)))) }
     // Of the source at most one byte more than the limit is taken.
     ensures at_most { is_run words.now.items ≡ true → rise (S.taken source.old) (S.taken source.new) ≤ input_limit + 1 }
@@ -254,10 +255,10 @@ pub fn play<
     // After a fault of the sink or want of memory a first part of the text was written.
     ensures part { is_run words.now.items ≡ true → rise (S.taken source.old) (S.taken source.new) ≤ input_limit → (result ≡ Status.WriteFault) ⊎ (result ≡ Status.NoMemory) → IfSome (S.left source.old) (λ bytes. WritesPart bytes (K.written sink.old) (K.written sink.new)) }
     ensures memory { result ≡ Status.NoMemory → is_run words.now.items ≡ true }
-    // Where nothing failed and no more than the limit was taken, a text is done and another input is refused, but for want of memory.
-    ensures complete { (bytes : List ℕ) (p : Parts) → is_run words.now.items ≡ true → S.left source.old ≡ Some bytes → rise (S.taken source.old) (S.taken source.new) ≤ input_limit → IsText bytes p →
+    // Where nothing failed, a text within the limit is done and another input within it is refused, but for want of memory.
+    ensures complete { (bytes : List ℕ) (p : Parts) → is_run words.now.items ≡ true → S.left source.old ≡ Some bytes → length bytes ≤ input_limit → IsText bytes p →
         (result ≡ Status.Done) ⊎ ((result ≡ Status.NoMemory) ⊎ (((result ≡ Status.ReadFault) × Rose (S.faults source.old) (S.faults source.new)) ⊎ ((result ≡ Status.WriteFault) × Rose (K.faults sink.old) (K.faults sink.new)))) }
-    ensures refused { (bytes : List ℕ) → is_run words.now.items ≡ true → S.left source.old ≡ Some bytes → rise (S.taken source.old) (S.taken source.new) ≤ input_limit → IsNoText bytes →
+    ensures refused { (bytes : List ℕ) → is_run words.now.items ≡ true → S.left source.old ≡ Some bytes → length bytes ≤ input_limit → IsNoText bytes →
         (result ≡ Status.BadInput) ⊎ ((result ≡ Status.NoMemory) ⊎ (((result ≡ Status.ReadFault) × Rose (S.faults source.old) (S.faults source.new)) ⊎ ((result ≡ Status.WriteFault) × Rose (K.faults sink.old) (K.faults sink.new)))) }
     // Of the source at most one byte more than the limit is taken.
     ensures at_most { is_run words.now.items ≡ true → rise (S.taken source.old) (S.taken source.new) ≤ input_limit + 1 }

@@ -1,5 +1,5 @@
 // A source of bytes, and the reading of all that it has.
-ghost use Rattle.std.specs.Prelude.{◌≡◌, ◌+◌, ◌<◌, ◌≤◌, ◌↔◌, ℕ, List, length, IfOk, OnErr};
+ghost use Rattle.std.specs.Prelude.{◌≡◌, ◌+◌, ◌<◌, ◌≤◌, ◌↔◌, ℕ, List, Some, length, IfOk, OnErr};
 ghost use Rattle.std.specs.Io.KnownBytes.{Keeps, Consumes, IsAtEnd};
 ghost use Rattle.std.specs.declared.option.Option.{Option};
 ghost use Rattle.rt_streams.specs.Streams.{Rose, HasCause, HandsOut, Counts, rise};
@@ -92,6 +92,7 @@ pub fn read_all<S: Source>(alloc: Global, source: &mut S, limit: u64) -> Result<
     ensures within { IfOk result (λ v. (length v.items ≤ limit) × (rise (S.taken source.old) (S.taken source.new) ≡ length v.items)) }
     ensures too_long { (result ≡ Err ReadStop.TooLong) ↔ (limit < rise (S.taken source.old) (S.taken source.new)) }
     ensures at_most { rise (S.taken source.old) (S.taken source.new) ≤ limit + 1 }
+    ensures told { (bytes : List ℕ) → S.left source.old ≡ Some bytes → rise (S.taken source.old) (S.taken source.new) ≤ length bytes }
     ensures fault { (result ≡ Err ReadStop.ReadFault) → Rose (S.faults source.old) (S.faults source.new) }
     ensures later { S.faults source.old ≤ S.faults source.new }
 {

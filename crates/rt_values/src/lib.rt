@@ -39,8 +39,14 @@ mod tests {
             stamp: 0,
         })?;
         let before = Some(before);
-        assert_eq!(rt; differing(alloc, &before, &now)?.numbers(), [1u64].as_slice());
-        assert_eq!(rt; differing(alloc, &None, &now)?.numbers(), [0u64, 1].as_slice());
+        assert_eq!(rt;
+            differing(alloc, &before, &now)?.numbers(),
+            [1u64].as_slice()
+        );
+        assert_eq!(rt;
+            differing(alloc, &None, &now)?.numbers(),
+            [0u64, 1].as_slice()
+        );
         let mut text = Vec::new(alloc);
         now.entries()[1].value.copy(alloc)?.put(&mut text)?;
         assert_eq!(rt; text.as_slice(), b"-7".as_slice());
