@@ -1,5 +1,5 @@
 -- One frame of a composition in the map of its snapshot.
-use Rattle.std.specs.Prelude.{ℕ, List, [], Option, Some, None}
+use Rattle.std.specs.Prelude.{List, [], Option, Some}
 use Rattle.std.specs.Option.{option_map}
 use Rattle.rt_values.specs.Maps.{Map, differ}
 use Rattle.rt_values.specs.Trail.{Trail}

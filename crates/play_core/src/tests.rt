@@ -5,7 +5,10 @@ use crate::{Status, play};
 use rt_streams::{MemSink, MemSource, OpenGate};
 use snap_plain::PlainWorld;
 use snap_policy::BuiltIn;
+use std::alloc::Global;
+use std::sync::Wait;
 use std::test::Fail;
+use std::thread::Threads;
 
 const COUNTER: &[u8] = b"(compose 1)
 (state count Int Structural 0)
@@ -27,8 +30,9 @@ const COUNTER_LINES: [&[u8]; 9] = [
 
 // The status of a run and what it wrote. The source hands out at most `piece` bytes a call, and fails at the
 // read with the number `read_fault`, from 1; the sink takes `most` bytes a call, and fails at `write_fault`.
-fn run(
-    rt: &HostRuntime,
+fn run<R: Threads + Wait + Sync>(
+    rt: &R,
+    alloc: Global,
     word: &str,
     input: Vec<u8>,
     piece: usize,
@@ -38,7 +42,6 @@ fn run(
 ) -> Result<(Status, Vec<u8>), Fail>
     requires { 0 < piece }
 {
-    let alloc = rt.alloc();
     let mut words = Vec::new(alloc);
     words.push(word.to_string(alloc)?)?;
     let mut world = PlainWorld::<BuiltIn>::new(alloc)?;
@@ -57,8 +60,8 @@ fn run(
 }
 
 // The first lines of a run.
-fn first_lines(rt: &HostRuntime, lines: &[&[u8]], count: usize) -> Result<Vec<u8>, Fail> {
-    let mut text = Vec::new(rt.alloc());
+fn first_lines(alloc: Global, lines: &[&[u8]], count: usize) -> Result<Vec<u8>, Fail> {
+    let mut text = Vec::new(alloc);
     for line in lines.iter().take(count) {
         text.extend_from_slice(line)?;
     }
@@ -68,12 +71,12 @@ fn first_lines(rt: &HostRuntime, lines: &[&[u8]], count: usize) -> Result<Vec<u8
 #[test]
 fn a_write_between_two_frames_shows_in_the_second(rt: HostRuntime) -> Result<(), Fail> {
     let alloc = rt.alloc();
-    let (status, written) = run(&rt, "run", COUNTER.to_vec(alloc)?, 4096, 0, 4096, 0)?;
+    let (status, written) = run(&rt, alloc, "run", COUNTER.to_vec(alloc)?, 4096, 0, 4096, 0)?;
     assert!(rt; status == Status::Done);
-    assert_eq!(rt; written, first_lines(&rt, &COUNTER_LINES, 9)?);
-    let (status, written) = run(&rt, "run", COUNTER.to_vec(alloc)?, 1, 0, 1, 0)?;
+    assert_eq!(rt; written, first_lines(alloc, &COUNTER_LINES, 9)?);
+    let (status, written) = run(&rt, alloc, "run", COUNTER.to_vec(alloc)?, 1, 0, 1, 0)?;
     assert!(rt; status == Status::Done);
-    assert_eq!(rt; written, first_lines(&rt, &COUNTER_LINES, 9)?);
+    assert_eq!(rt; written, first_lines(alloc, &COUNTER_LINES, 9)?);
     Ok(())
 }
 
@@ -82,9 +85,9 @@ fn a_failing_write_leaves_the_lines_before_it(rt: HostRuntime) -> Result<(), Fai
     let alloc = rt.alloc();
     for line in 0..9usize {
         let fault = line as u64 + 1;
-        let (status, written) = run(&rt, "run", COUNTER.to_vec(alloc)?, 4096, 0, 4096, fault)?;
+        let (status, written) = run(&rt, alloc, "run", COUNTER.to_vec(alloc)?, 4096, 0, 4096, fault)?;
         assert!(rt; status == Status::WriteFault);
-        assert_eq!(rt; written, first_lines(&rt, &COUNTER_LINES, line)?);
+        assert_eq!(rt; written, first_lines(alloc, &COUNTER_LINES, line)?);
     }
     Ok(())
 }
@@ -93,7 +96,7 @@ fn a_failing_write_leaves_the_lines_before_it(rt: HostRuntime) -> Result<(), Fai
 fn a_failing_read_writes_nothing(rt: HostRuntime) -> Result<(), Fail> {
     let alloc = rt.alloc();
     for fault in 1..9u64 {
-        let (status, written) = run(&rt, "run", COUNTER.to_vec(alloc)?, 20, fault, 4096, 0)?;
+        let (status, written) = run(&rt, alloc, "run", COUNTER.to_vec(alloc)?, 20, fault, 4096, 0)?;
         assert!(rt; status == Status::ReadFault);
         assert!(rt; written.is_empty());
     }
@@ -104,7 +107,7 @@ fn a_failing_read_writes_nothing(rt: HostRuntime) -> Result<(), Fail> {
 fn equal_writes_and_empty_programs_run_nothing(rt: HostRuntime) -> Result<(), Fail> {
     let alloc = rt.alloc();
     let empty = b"(compose 1) (fun root ()) (do main (frame) (frame))";
-    let (status, written) = run(&rt, "run", empty.to_vec(alloc)?, 4096, 0, 4096, 0)?;
+    let (status, written) = run(&rt, alloc, "run", empty.to_vec(alloc)?, 4096, 0, 4096, 0)?;
     assert!(rt; status == Status::Done);
     assert_eq!(rt; written.as_slice(), b"main: frame = @1 changed
 main: dispose @1 = disposed
@@ -114,7 +117,7 @@ main: dispose @2 = disposed
 report: ran 0, calculated 0, reads 0, groups 1, nodes 0
 ".as_slice());
     let equal = b"(compose 1) (state count Int Structural 0) (fun root () (node Text ((value (get count))))) (do main (frame) (write global count 0) (frame))";
-    let (status, written) = run(&rt, "run", equal.to_vec(alloc)?, 4096, 0, 4096, 0)?;
+    let (status, written) = run(&rt, alloc, "run", equal.to_vec(alloc)?, 4096, 0, 4096, 0)?;
     assert!(rt; status == Status::Done);
     assert_eq!(rt; written.as_slice(), b"main: frame = @1 changed count
 main: dispose @1 = disposed
@@ -130,20 +133,21 @@ report: ran 0, calculated 0, reads 0, groups 2, nodes 1
 }
 
 // A text filled with blanks to a length.
-fn filled(rt: &HostRuntime, text: &[u8], length: usize) -> Result<Vec<u8>, Fail> {
-    let mut bytes = text.to_vec(rt.alloc())?;
+fn filled(alloc: Global, text: &[u8], length: usize) -> Result<Vec<u8>, Fail> {
+    let mut bytes = text.to_vec(alloc)?;
     bytes.resize(length, b' ')?;
     Ok(bytes)
 }
 
 #[test]
 fn the_input_has_at_most_1048576_bytes(rt: HostRuntime) -> Result<(), Fail> {
-    let full = filled(&rt, COUNTER, 1048576)?;
-    let (status, written) = run(&rt, "run", full, 65536, 0, 4096, 0)?;
+    let alloc = rt.alloc();
+    let full = filled(alloc, COUNTER, 1048576)?;
+    let (status, written) = run(&rt, alloc, "run", full, 65536, 0, 4096, 0)?;
     assert!(rt; status == Status::Done);
-    assert_eq!(rt; written, first_lines(&rt, &COUNTER_LINES, 9)?);
-    let over = filled(&rt, COUNTER, 1048577)?;
-    let (status, written) = run(&rt, "run", over, 65536, 0, 4096, 0)?;
+    assert_eq!(rt; written, first_lines(alloc, &COUNTER_LINES, 9)?);
+    let over = filled(alloc, COUNTER, 1048577)?;
+    let (status, written) = run(&rt, alloc, "run", over, 65536, 0, 4096, 0)?;
     assert!(rt; status == Status::TooLong);
     assert_eq!(rt; written.as_slice(), b"too long\n".as_slice());
     Ok(())
@@ -153,12 +157,12 @@ fn the_input_has_at_most_1048576_bytes(rt: HostRuntime) -> Result<(), Fail> {
 fn other_words_and_other_texts_have_a_line_each(rt: HostRuntime) -> Result<(), Fail> {
     let alloc = rt.alloc();
     let usage = b"usage: compose_play run|threads [--json] [--ops] | check | gen NUMBER SIZE\n";
-    let (status, written) = run(&rt, "--help", COUNTER.to_vec(alloc)?, 4096, 1, 4096, 0)?;
+    let (status, written) = run(&rt, alloc, "--help", COUNTER.to_vec(alloc)?, 4096, 1, 4096, 0)?;
     assert!(rt; status == Status::Usage);
     assert_eq!(rt; written.as_slice(), usage.as_slice());
-    let (status, written) = run(&rt, "--help", COUNTER.to_vec(alloc)?, 4096, 0, 4096, 1)?;
+    let (status, written) = run(&rt, alloc, "--help", COUNTER.to_vec(alloc)?, 4096, 0, 4096, 1)?;
     assert!(rt; status == Status::WriteFault && written.is_empty());
-    let (status, written) = run(&rt, "run", Vec::new(alloc), 4096, 0, 4096, 0)?;
+    let (status, written) = run(&rt, alloc, "run", Vec::new(alloc), 4096, 0, 4096, 0)?;
     assert!(rt; status == Status::BadInput);
     assert_eq!(rt; written.as_slice(), b"bad input: form at 0\n".as_slice());
     Ok(())

@@ -153,8 +153,8 @@ fn run_input<V: Versions<P = BuiltIn>, S: Source, K: Sink>(
     sink: &mut K,
 ) -> Status
     requires { V.stands world.old (start 0) }
-    ensures done { result ≡ Status.Done → IfSome (S.left source.old) (λ bytes. IsAtEnd (S.left source.new) × ((p : Parts) × IsText bytes p × Appends (K.written sink.old) (K.written sink.new) (output p))) }
-    ensures bad_input { result ≡ Status.BadInput → IfSome (S.left source.old) (λ bytes. IsAtEnd (S.left source.new) × IsNoText bytes × Appends (K.written sink.old) (K.written sink.new) bad_line) }
+    ensures done { result ≡ Status.Done → IfSome (S.left source.old) (λ bytes. IsAtEnd (S.left source.new) × (length bytes ≤ input_limit) × ((p : Parts) × IsText bytes p × Appends (K.written sink.old) (K.written sink.new) (output p))) }
+    ensures bad_input { result ≡ Status.BadInput → IfSome (S.left source.old) (λ bytes. IsAtEnd (S.left source.new) × (length bytes ≤ input_limit) × IsNoText bytes × Appends (K.written sink.old) (K.written sink.new) bad_line) }
     ensures too_long { result ≡ Status.TooLong → (input_limit < rise (S.taken source.old) (S.taken source.new)) × Appends (K.written sink.old) (K.written sink.new) long_line }
     ensures long_told { input_limit < rise (S.taken source.old) (S.taken source.new) → (result ≡ Status.TooLong) ⊎ ((result ≡ Status.WriteFault) × AppendsPart (K.written sink.old) (K.written sink.new) long_line) }
     ensures part { rise (S.taken source.old) (S.taken source.new) ≤ input_limit → (result ≡ Status.WriteFault) ⊎ (result ≡ Status.NoMemory) → IfSome (S.left source.old) (λ bytes. WritesPart bytes (K.written sink.old) (K.written sink.new)) }
@@ -189,10 +189,10 @@ pub fn play_alone<V: Versions<P = BuiltIn>, S: Source, K: Sink>(
     // Usage comes exactly where the words are not the one word `run`: its line is written, and the source stays as it was.
     ensures usage { result ≡ Status.Usage → (is_run words.now.items ≡ false) × Appends (K.written sink.old) (K.written sink.new) usage_line }
     ensures usage_told { is_run words.now.items ≡ false → ((result ≡ Status.Usage) ⊎ ((result ≡ Status.WriteFault) × AppendsPart (K.written sink.old) (K.written sink.new) usage_line)) × (source.new ≡ source.old) }
-    // Done: the input was read to its end and is a text, and the lines of the history that its steps make were written.
-    ensures done { result ≡ Status.Done → IfSome (S.left source.old) (λ bytes. IsAtEnd (S.left source.new) × ((p : Parts) × IsText bytes p × Appends (K.written sink.old) (K.written sink.new) (output p))) }
-    // BadInput: the input was read to its end and is none, and its line was written.
-    ensures bad_input { result ≡ Status.BadInput → IfSome (S.left source.old) (λ bytes. IsAtEnd (S.left source.new) × IsNoText bytes × Appends (K.written sink.old) (K.written sink.new) bad_line) }
+    // Done: the input was read to its end, within the limit, and is a text, and the lines of the history that its steps make were written.
+    ensures done { result ≡ Status.Done → IfSome (S.left source.old) (λ bytes. IsAtEnd (S.left source.new) × (length bytes ≤ input_limit) × ((p : Parts) × IsText bytes p × Appends (K.written sink.old) (K.written sink.new) (output p))) }
+    // BadInput: the input was read to its end, within the limit, and is none, and its line was written.
+    ensures bad_input { result ≡ Status.BadInput → IfSome (S.left source.old) (λ bytes. IsAtEnd (S.left source.new) × (length bytes ≤ input_limit) × IsNoText bytes × Appends (K.written sink.old) (K.written sink.new) bad_line) }
     // TooLong comes exactly where a byte more than the limit was taken: its line is written.
     ensures too_long { result ≡ Status.TooLong → (input_limit < rise (S.taken source.old) (S.taken source.new)) × Appends (K.written sink.old) (K.written sink.new) long_line }
     ensures long_told { is_run words.now.items ≡ true → input_limit < rise (S.taken source.old) (S.taken source.new) → (result ≡ Status.TooLong) ⊎ ((result ≡ Status.WriteFault) × AppendsPart (K.written sink.old) (K.written sink.new) long_line) }
@@ -242,10 +242,10 @@ pub fn play<
     // Usage comes exactly where the words are not the one word `run`: its line is written, and the source stays as it was.
     ensures usage { result ≡ Status.Usage → (is_run words.now.items ≡ false) × Appends (K.written sink.old) (K.written sink.new) usage_line }
     ensures usage_told { is_run words.now.items ≡ false → ((result ≡ Status.Usage) ⊎ ((result ≡ Status.WriteFault) × AppendsPart (K.written sink.old) (K.written sink.new) usage_line)) × (source.new ≡ source.old) }
-    // Done: the input was read to its end and is a text, and the lines of the history that its steps make were written.
-    ensures done { result ≡ Status.Done → IfSome (S.left source.old) (λ bytes. IsAtEnd (S.left source.new) × ((p : Parts) × IsText bytes p × Appends (K.written sink.old) (K.written sink.new) (output p))) }
-    // BadInput: the input was read to its end and is none, and its line was written.
-    ensures bad_input { result ≡ Status.BadInput → IfSome (S.left source.old) (λ bytes. IsAtEnd (S.left source.new) × IsNoText bytes × Appends (K.written sink.old) (K.written sink.new) bad_line) }
+    // Done: the input was read to its end, within the limit, and is a text, and the lines of the history that its steps make were written.
+    ensures done { result ≡ Status.Done → IfSome (S.left source.old) (λ bytes. IsAtEnd (S.left source.new) × (length bytes ≤ input_limit) × ((p : Parts) × IsText bytes p × Appends (K.written sink.old) (K.written sink.new) (output p))) }
+    // BadInput: the input was read to its end, within the limit, and is none, and its line was written.
+    ensures bad_input { result ≡ Status.BadInput → IfSome (S.left source.old) (λ bytes. IsAtEnd (S.left source.new) × (length bytes ≤ input_limit) × IsNoText bytes × Appends (K.written sink.old) (K.written sink.new) bad_line) }
     // TooLong comes exactly where a byte more than the limit was taken: its line is written.
     ensures too_long { result ≡ Status.TooLong → (input_limit < rise (S.taken source.old) (S.taken source.new)) × Appends (K.written sink.old) (K.written sink.new) long_line }
     ensures long_told { is_run words.now.items ≡ true → input_limit < rise (S.taken source.old) (S.taken source.new) → (result ≡ Status.TooLong) ⊎ ((result ≡ Status.WriteFault) × AppendsPart (K.written sink.old) (K.written sink.new) long_line) }

@@ -1,7 +1,6 @@
 -- Laws of trails put one behind another.
 use Rattle.std.proofs.Common.{◌≡◌, ℕ, ◌+◌, List, [], ◌∷◌, ◌++◌, refl, ap, sym, ◌∙◌, append_assoc, arith}
-use Rattle.rt_values.specs.Trail.{Trail, End, Read, Group, What, joined, reads_then, asks, how_many, how_many_nodes, shown, values_in, is_node}
-use Rattle.std.proofs.Common.{if◌then◌else◌}
+use Rattle.rt_values.specs.Trail.{Trail, End, Read, Group, joined, reads_then, asks, how_many, how_many_nodes, shown, values_in}
 
 pub asks-joined : (s t : Trail) → asks (joined s t) ≡ asks s ++ asks t
 asks-joined End t = refl

@@ -3,7 +3,7 @@ use Rattle.std.specs.Prelude.{ℕ, ◌+◌, ◌-◌, ◌^◌, min, List, [], ◌
 use Rattle.std.specs.List.{filter, list_any}
 use Rattle.rt_values.specs.declared.value.Value.{Value}
 use Rattle.rt_values.specs.Values.{same_values}
-use Rattle.rt_values.specs.Maps.{Map, differ, contains}
+use Rattle.rt_values.specs.Maps.{Map, contains}
 use Rattle.rt_values.specs.Trail.{Trail, End, Read, Group, What, Call, Node, Key, Cell, is_call, is_node, asks, own, how_many, how_many_nodes}
 use Rattle.rt_values.specs.Paths.{Path, Sibling, sibling, step, Found, at_path}
 

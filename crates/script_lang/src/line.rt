@@ -81,11 +81,7 @@ fn type_word(ty: Ty) -> &'static [u8]
     }
 }
 
-fn add_request(
-    text: &mut Vec<u8>,
-    states: &[State],
-    request: &Request,
-) -> Result<(), NoMemory>
+fn add_request(text: &mut Vec<u8>, states: &[State], request: &Request) -> Result<(), NoMemory>
     ensures { OnOk result (text.new.items ≡ text.old.items ++ request_text states.now request.now) }
 {
     match request {
@@ -224,11 +220,7 @@ fn add_two(text: &mut Vec<u8>, first: &[u8], second: &[u8]) -> Result<(), NoMemo
 }
 
 #[tactic(auto, using(crate::proofs::Texts::joins))]
-fn add_conflict(
-    text: &mut Vec<u8>,
-    states: &[State],
-    object: ObjectNo,
-) -> Result<(), NoMemory>
+fn add_conflict(text: &mut Vec<u8>, states: &[State], object: ObjectNo) -> Result<(), NoMemory>
     ensures { OnOk result (text.new.items ≡ text.old.items ++ (codes "conflict " ++ state_name states.now object)) }
 {
     add(text, b"conflict ")?;

@@ -5,7 +5,7 @@ use crate::{
 use lang_ast::{Attribute, Expr, Program, State};
 use lang_checks::{Checked, check};
 use lang_forms::{DoForm, Rest, StepForm, Steps};
-use rt_values::{Kind, ObjectNo, Objects, Ty, Txt, Value};
+use rt_values::{Kind, ObjectNo, Objects, Txt, Ty, Value};
 use snap_api::{Logged, Refusal, Reply, Request};
 use std::alloc::Global;
 use std::test::Fail;
@@ -113,18 +113,27 @@ fn each_request_has_its_words(rt: HostRuntime) -> Result<(), Fail> {
             object: 0,
             value: Value::Int(8),
         };
-        assert_eq!(rt; line_of(alloc, write, Reply::Wrote { changed })?.as_slice(), want);
+        assert_eq!(rt;
+            line_of(alloc, write, Reply::Wrote { changed })?.as_slice(),
+            want
+        );
     }
     let apply = line_of(alloc, Request::Apply { name: 3 }, Reply::Applied)?;
     assert_eq!(rt; apply.as_slice(), b"a: apply @3 = applied\n".as_slice());
     let dispose = line_of(alloc, Request::Dispose { name: 4 }, Reply::Disposed)?;
-    assert_eq!(rt; dispose.as_slice(), b"a: dispose @4 = disposed\n".as_slice());
+    assert_eq!(rt;
+        dispose.as_slice(),
+        b"a: dispose @4 = disposed\n".as_slice()
+    );
     let mut changed = Objects::new(alloc);
     changed.push(0)?;
     changed.push(1)?;
     let frame = Request::TakeFor { watcher: 0 };
     let line = line_of(alloc, frame, Reply::TakenFor(5, changed))?;
-    assert_eq!(rt; line.as_slice(), b"a: frame = @5 changed count step\n".as_slice());
+    assert_eq!(rt;
+        line.as_slice(),
+        b"a: frame = @5 changed count step\n".as_slice()
+    );
     Ok(())
 }
 
@@ -133,11 +142,20 @@ fn each_refusal_has_its_words(rt: HostRuntime) -> Result<(), Fail> {
     let alloc = rt.alloc();
     for (refusal, want) in [
         (Refusal::Spent, b"a: apply @- = spent\n".as_slice()),
-        (Refusal::Closed { name: 2 }, b"a: apply @- = closed\n".as_slice()),
+        (
+            Refusal::Closed { name: 2 },
+            b"a: apply @- = closed\n".as_slice(),
+        ),
         (Refusal::Global, b"a: apply @- = global\n".as_slice()),
-        (Refusal::NotYours { owner: 0 }, b"a: apply @- = owned by a\n".as_slice()),
+        (
+            Refusal::NotYours { owner: 0 },
+            b"a: apply @- = owned by a\n".as_slice(),
+        ),
         (Refusal::ReadOnly, b"a: apply @- = read only\n".as_slice()),
-        (Refusal::ParentClosed, b"a: apply @- = parent closed\n".as_slice()),
+        (
+            Refusal::ParentClosed,
+            b"a: apply @- = parent closed\n".as_slice(),
+        ),
         (
             Refusal::WrongType { kept: Ty::Int },
             b"a: apply @- = wrong type Int\n".as_slice(),
@@ -183,7 +201,8 @@ fn frames_tell_their_report_and_tree(rt: HostRuntime) -> Result<(), Fail> {
     let rest = add_node(&mut text, 12, &kind, &attributes, &values)?;
     assert_eq!(rt; rest.len(), 1);
     add_refused(&mut text)?;
-    let want = b"report: ran 1, calculated 2, reads 3, groups 4, nodes 5\n#12 Box width=10 height=-20\nrefused: too many groups\n";
+    let want =
+        b"report: ran 1, calculated 2, reads 3, groups 4, nodes 5\n#12 Box width=10 height=-20\nrefused: too many groups\n";
     assert_eq!(rt; text.as_slice(), want.as_slice());
     Ok(())
 }

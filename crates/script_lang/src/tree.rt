@@ -76,9 +76,10 @@ fn add_attributes<'a>(
 {
     let mut left = attributes;
     let mut rest = values;
-    while let (Some((attribute, fewer)), Some((value, more))) =
-        (left.split_first(), rest.split_first())
-    {
+    while let (Some((attribute, fewer)), Some((value, more))) = (
+        left.split_first(),
+        rest.split_first(),
+    ) {
         add(text, b" ")?;
         add(text, attribute.name.bytes())?;
         add(text, b"=")?;

@@ -1,7 +1,7 @@
-use Rattle.std.proofs.Common.{◌≡◌, List, ℕ, subst, sym}
+use Rattle.std.proofs.Common.{◌≡◌, ◌≤◌, length, subst}
 use Rattle.std.specs.Io.KnownBytes.{IsAtEnd, Appends}
 use Rattle.std.proofs.KnownBytes.{Consumes-whole}
-use Rattle.play_core.specs.Texts.{IsNoText, bad_line}
+use Rattle.play_core.specs.Texts.{IsNoText, bad_line, input_limit}
 use Rattle.play_core.proofs.Plays.{nothing-part}
 use Rattle.play_core.proofs.top.run_input.Goals as goal
 
@@ -12,5 +12,5 @@ pub returns-in-Ok-clause-bad_input : goal.returns-in-Ok-clause-bad_input
 returns-in-Ok-clause-bad_input g c e =
     let bad = c.play_bytes.ensures.bad_input e in
     let none = subst IsNoText c.deref.ensures.value bad.0 in
-    Consumes-whole _ _ c.in-Ok.bytes.items (λ bytes. IsAtEnd (g.S.Source.left c.read_all.new.source) × IsNoText bytes × Appends (g.K.Sink.written c.args.sink.now) (g.K.Sink.written c.play_bytes.new.sink) bad_line)
-    c.in-Ok.ensures.bytes.0 c.in-Ok.ensures.bytes.1 (c.in-Ok.ensures.bytes.1, none, bad.1)
+    Consumes-whole _ _ c.in-Ok.bytes.items (λ bytes. IsAtEnd (g.S.Source.left c.read_all.new.source) × (length bytes ≤ input_limit) × IsNoText bytes × Appends (g.K.Sink.written c.args.sink.now) (g.K.Sink.written c.play_bytes.new.sink) bad_line)
+    c.in-Ok.ensures.bytes.0 c.in-Ok.ensures.bytes.1 (c.in-Ok.ensures.bytes.1, c.in-Ok.ensures.within.0, none, bad.1)
