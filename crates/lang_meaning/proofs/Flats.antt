@@ -1,8 +1,7 @@
 -- The forest of a program without inner statements.
-use Rattle.std.proofs.Common.{◌≡◌, ℕ, ◌+◌, List, [], ◌∷◌, ◌++◌, map, length, refl, ap, sym, ◌∙◌, append-nil, arith}
-use Rattle.rt_values.specs.declared.value.Value.{Value}
+use Rattle.std.proofs.Common.{◌≡◌, ℕ, ◌+◌, List, [], ◌∷◌, ◌++◌, map, length, refl, ap, ◌∙◌, append-nil, arith}
 use Rattle.rt_values.specs.Maps.{Map}
-use Rattle.rt_values.specs.Trail.{Trail, End, Read, Group, joined, reads_then, asks, how_many, shown, values_in}
+use Rattle.rt_values.specs.Trail.{asks, how_many, shown}
 use Rattle.rt_values.proofs.Trails.{asks-joined, asks-reads_then, shown-joined, shown-reads_then, how_many-joined, how_many-reads_then}
 use Rattle.lang_ast.specs.declared.program.Stmt.{Stmt}
 use Rattle.lang_ast.specs.declared.program.Stmt.TheVariants.{Node}

@@ -1,19 +1,17 @@
 -- Composing statements without inner ones: their trail, its numbers, its report and its tree.
-use Rattle.std.proofs.Common.{◌≡◌, ℕ, zero, suc, ◌+◌, ◌-◌, ◌<◌, ◌≤◌, ◌==◌, ◌^◌, List, [], ◌∷◌, ◌++◌, map, length, drop, get_or, Bool, true, false, not, ◌&&◌, ◌||◌, cond, Option, Some, None, refl, sym, ap, ◌∙◌, subst, append_assoc, append-nil, arith, inl, inr, min}
-use Rattle.std.specs.Prelude.{if◌then◌else◌}
+use Rattle.std.proofs.Common.{◌≡◌, ℕ, zero, suc, ◌+◌, ◌-◌, ◌<◌, ◌≤◌, ◌==◌, ◌^◌, List, [], ◌∷◌, ◌++◌, map, length, drop, get_or, Bool, true, false, ◌&&◌, cond, Option, Some, None, refl, sym, ap, ◌∙◌, append-nil, arith, inl, inr, min}
 use Rattle.std.specs.List.{filter}
 use Rattle.std.proofs.lemmas.Bool.Decides.{eqb_tells}
-use Rattle.rt_values.specs.declared.value.Value.{Value}
 use Rattle.rt_values.specs.Maps.{Map}
 use Rattle.rt_values.specs.Trail.{Trail, End, Read, Group, What, Call, Node, joined, reads_then, asks, own, how_many, how_many_nodes}
 use Rattle.rt_values.specs.Trail as trail
-use Rattle.rt_values.specs.Paths.{Path, Sibling, Step, Found, sibling, same_sibling, occurrence, step, among, inside_of, at_path, nth}
-use Rattle.rt_values.specs.Frames.{numbered, number_of, given, Caller, nobody, calls, cells, trace, call_runs, ran, is_calculated, calculated, reads, report, Report, meets, Kept}
+use Rattle.rt_values.specs.Paths.{Path, Sibling, Step, Found, sibling, occurrence, step, among, at_path}
+use Rattle.rt_values.specs.Frames.{numbered, given, Caller, nobody, calls, cells, trace, call_runs, ran, is_calculated, calculated, reads, report}
 use Rattle.rt_values.proofs.Trails.{asks-reads_then, how_many-reads_then, how_many_nodes-reads_then}
 use Rattle.lang_ast.specs.declared.program.Stmt.{Stmt}
 use Rattle.lang_ast.specs.declared.program.Stmt.TheVariants as stmt
 use Rattle.lang_ast.specs.Meaning.{eval_all, run_all, forest}
-use Rattle.lang_meaning.specs.Flat.{attributes_of, asked_by}
+use Rattle.lang_meaning.specs.Flat.{asked_by}
 use Rattle.play_core.specs.Placed.{placed, whole, up_from, head_of, tail_of}
 
 -- the trail that composing makes has no numbers yet
@@ -266,7 +264,7 @@ report-whole owed old m root b e =
     let first : length (ran owed old (whole m root [])) ≡ cond b 1 0 = ap (λ l. length (filter (call_runs owed old) l)) called ∙ one-runs b (call_runs owed old) root_call e in
     let second : length (calculated owed old (whole m root [])) ≡ 0 = ap (λ l. length (filter (is_calculated owed old) l)) celled in
     let third : length (reads owed old (whole m root [])) ≡ cond b (length (asked_by m root)) 0 =
-      ap (λ l. length (map (λ r. r.1) (filter (λ r. call_runs owed old r.0) l))) traced ∙ kept-all (call_runs owed old) root_call (asked_by m root) b e in
+    ap (λ l. length (map (λ r. r.1) (filter (λ r. call_runs owed old r.0) l))) traced ∙ kept-all (call_runs owed old) root_call (asked_by m root) b e in
     let fourth : how_many (whole m root []) ≡ length root + 1 = (let n = groups-placed m 1 root [] in omega (arith, n)) in
     let fifth : how_many_nodes (whole m root []) ≡ length root = (let n = nodes-placed m 1 root [] in omega (arith, n)) in
     rw (first, second, third, fourth, fifth) refl

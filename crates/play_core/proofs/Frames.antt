@@ -1,6 +1,5 @@
 -- A frame of statements without inner ones, from what is kept.
-use Rattle.std.proofs.Common.{◌≡◌, ℕ, zero, suc, ◌+◌, ◌-◌, ◌≤◌, ◌<◌, ◌^◌, List, [], ◌∷◌, ◌++◌, length, Bool, true, false, not, ◌||◌, ◌&&◌, cond, Option, Some, None, refl, sym, ap, ◌∙◌, subst, arith, min, nat_le, Ok, Err, OnOk}
-use Rattle.std.specs.Prelude.{if◌then◌else◌}
+use Rattle.std.proofs.Common.{◌≡◌, ℕ, zero, suc, ◌+◌, ◌-◌, ◌≤◌, ◌<◌, ◌^◌, List, [], ◌∷◌, ◌++◌, length, Bool, true, false, not, ◌||◌, cond, Option, Some, None, refl, sym, ap, ◌∙◌, subst, arith, min, Ok, Err, OnOk}
 use Rattle.std.specs.Option.{option_map}
 use Rattle.std.specs.declared.result.Result.{Result}
 use Rattle.script_lang.specs.declared.tree.Report as code
@@ -9,22 +8,22 @@ use Rattle.lang_meaning.specs.declared.scratch_walk.ScratchStop.TheVariants.{Too
 use Rattle.std.proofs.lemmas.Bool.{le-leb, lt-leb}
 use Rattle.rt_values.specs.declared.value.Value.{Value}
 use Rattle.rt_values.specs.Maps.{Map, differ}
-use Rattle.rt_values.specs.Trail.{Trail, End, asks, shown, how_many, own}
-use Rattle.rt_values.specs.Frames.{Composed, unseen, numbered, call_runs, report, meets, most_groups}
+use Rattle.rt_values.specs.Trail.{Trail, End, asks, shown, how_many}
+use Rattle.rt_values.specs.Frames.{Composed, numbered, call_runs, report, meets, most_groups}
 use Rattle.lang_ast.specs.declared.program.Attribute.{Attribute}
 use Rattle.lang_ast.specs.declared.program.Expr.{Expr}
 use Rattle.lang_ast.specs.declared.program.Expr.TheVariants.{Literal, Get}
 use Rattle.lang_ast.specs.declared.program.Stmt.{Stmt}
-use Rattle.lang_ast.specs.Meaning.{eval, eval_all, forest, scratch}
+use Rattle.lang_ast.specs.Meaning.{eval, eval_all, forest}
 use Rattle.rt_values.specs.Nodes.{nodes}
-use Rattle.lang_ast.specs.Frame.{Good, good_frame, frame}
-use Rattle.lang_meaning.specs.Flat.{attributes_of, asked_by, values_of}
+use Rattle.lang_ast.specs.Frame.{good_frame, frame}
+use Rattle.lang_meaning.specs.Flat.{attributes_of, asked_by}
 use Rattle.lang_meaning.proofs.Flats.{asks-forest, shown-forest, count-forest}
 use Rattle.snap_api.specs.World.{with_members}
 use Rattle.script_lang.specs.Lines.{frame_lines, kept_after, report_line, tree_lines}
-use Rattle.play_core.specs.Placed.{whole, up_from, numbers_after, listed, placed}
+use Rattle.play_core.specs.Placed.{whole, up_from, numbers_after, listed}
 use Rattle.play_core.specs.Reads.{expr_reads, attributes_reads, stmts_reads}
-use Rattle.play_core.specs.Standing.{IsKept, IsNumbered, IsComposed, IsOutcome, IsSmall, Says, flat}
+use Rattle.play_core.specs.Standing.{IsKept, IsComposed, IsOutcome, IsSmall, Says, flat}
 use Rattle.play_core.proofs.Forests.{forest-whole, whole-first, whole-kept, report-whole, root_call, own-placed}
 use Rattle.play_core.proofs.Trees.{lines-whole}
 use Rattle.play_core.proofs.Members.{meets-members}
@@ -68,7 +67,7 @@ framed root false [] k m h =
     let first = by-whole k m root End (ap (λ (c : Composed). c.trail) h.trail_is.0) ∙ whole-first k.next m root in
     let one : k.next ≡ 1 = h.next_is ∙ omega arith in
     let given : numbered k.trail [] [] k.next (forest root m) ≡ (whole m root (up_from 1 (length root)), 1 + length root) =
-      first ∙ ap (λ n. (whole m root (up_from n (length root)), n + length root)) one in
+    first ∙ ap (λ n. (whole m root (up_from n (length root)), n + length root)) one in
     record {
       trail = ap (λ (p : Trail × ℕ). p.0) given;
       next = ap (λ (p : Trail × ℕ). p.1) given ∙ omega (arith, length-up_from 1 (length root));
@@ -104,7 +103,7 @@ frame-kept root started ns read k m changed values asked h =
 pub frame-lines : (root : List Stmt) (started : Bool) (ns read : List ℕ) (k : Composed) (m : Map) (changed : List ℕ) (values : List Value) (asked : List ℕ) (b : Bool) →
     IsComposed root started ns read k m changed values asked → length asked < 2 ^ 64 → b ≡ not started || meets read changed →
     flat (frame_lines (frame root k m)) ≡ report_line (record { ran = cond b 1 0; calculated = 0; reads = cond b (length asked) 0; groups = length root + 1; nodes = length root })
-      ++ flat (listed (numbers_after started ns (length root)) root values)
+    ++ flat (listed (numbers_after started ns (length root)) root values)
 frame-lines root started ns read k m changed values asked b h short e =
     let f = framed root started ns k m h.kept in
     let owed = differ k.seen m in
@@ -114,7 +113,7 @@ frame-lines root started ns read k m changed values asked b h short e =
     let by_root : asked_by m root ≡ asked = sym (asks-forest m root) ∙ sym h.asked_are in
     let counted : min (cond b (length (asked_by m root)) 0) (2 ^ 64 - 1) ≡ cond b (length asked) 0 = ap (λ l. min (cond b (length l) 0) (2 ^ 64 - 1)) by_root ∙ least b (length asked) short in
     let tree : tree_lines 0 _ ≡ listed (numbers_after started ns (length root)) root values =
-      ap (λ t. tree_lines 0 (nodes t)) f.trail ∙ lines-whole m root (numbers_after started ns (length root)) f.count ∙ ap (listed (numbers_after started ns (length root)) root) (sym (shown-forest m root) ∙ sym h.values_are) in
+    ap (λ t. tree_lines 0 (nodes t)) f.trail ∙ lines-whole m root (numbers_after started ns (length root)) f.count ∙ ap (listed (numbers_after started ns (length root)) root) (sym (shown-forest m root) ∙ sym h.values_are) in
     ap (λ o. flat (frame_lines o)) (good-frame root k m h.few)
     ∙ ap (λ r. report_line r ++ flat (tree_lines 0 (nodes (good_frame k m (forest root m)).left.trail))) told
     ∙ ap (λ n. report_line (record { ran = cond b 1 0; calculated = 0; reads = n; groups = length root + 1; nodes = length root }) ++ flat (tree_lines 0 (nodes (good_frame k m (forest root m)).left.trail))) counted
@@ -135,11 +134,11 @@ frame-says r a z root root_now started ns ns_now read k m changed values values_
     let lines = frame-lines root started ns read k m changed values asked b h (subst (λ l. length l < 2 ^ 64) e4 short) runs in
     let numbers : ns_now ≡ numbers_after started ns (length root) = e2 ∙ ap (λ l. numbers_after started ns (length l)) e1 in
     let report : report_line (record { ran = told.ran; calculated = told.calculated; reads = told.reads; groups = told.groups; nodes = told.nodes }) ≡ report_line (record { ran = cond b 1 0; calculated = 0; reads = cond b (length asked) 0; groups = length root + 1; nodes = length root }) =
-      ap (λ (t : code.Report). report_line (record { ran = t.ran; calculated = t.calculated; reads = t.reads; groups = t.groups; nodes = t.nodes })) e5
-      ∙ ap (λ l. report_line (record { ran = cond b 1 0; calculated = 0; reads = cond b (length l) 0; groups = length root_now + 1; nodes = length root_now })) e4
-      ∙ ap (λ l. report_line (record { ran = cond b 1 0; calculated = 0; reads = cond b (length asked) 0; groups = length l + 1; nodes = length l })) e1 in
+    ap (λ (t : code.Report). report_line (record { ran = t.ran; calculated = t.calculated; reads = t.reads; groups = t.groups; nodes = t.nodes })) e5
+    ∙ ap (λ l. report_line (record { ran = cond b 1 0; calculated = 0; reads = cond b (length l) 0; groups = length root_now + 1; nodes = length root_now })) e4
+    ∙ ap (λ l. report_line (record { ran = cond b 1 0; calculated = 0; reads = cond b (length asked) 0; groups = length l + 1; nodes = length l })) e1 in
     let tree : listed ns_now root_now values_now ≡ listed (numbers_after started ns (length root)) root values =
-      ap (λ l. listed l root_now values_now) numbers ∙ ap (λ l. listed (numbers_after started ns (length root)) l values_now) e1 ∙ ap (listed (numbers_after started ns (length root)) root) e3 in
+    ap (λ l. listed l root_now values_now) numbers ∙ ap (λ l. listed (numbers_after started ns (length root)) l values_now) e1 ∙ ap (listed (numbers_after started ns (length root)) root) e3 in
     subst (λ bytes. Says a z bytes r) (ap (λ l. l ++ flat (listed ns_now root_now values_now)) report ∙ ap (λ t. report_line (record { ran = cond b 1 0; calculated = 0; reads = cond b (length asked) 0; groups = length root + 1; nodes = length root }) ++ flat t) tree ∙ sym lines) says
 
 -- a small program has a small forest, in every map

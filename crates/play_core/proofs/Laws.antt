@@ -1,23 +1,21 @@
 -- The lines of a history are those of the steps that made it, one after the other.
-use Rattle.std.proofs.Common.{◌≡◌, ℕ, ◌==◌, List, [], ◌∷◌, ◌++◌, Bool, true, false, not, ◌||◌, cond, refl, sym, ap, ◌∙◌, append_assoc, append-nil, inl, inr}
-use Rattle.std.specs.List.{filter, flat_map}
+use Rattle.std.proofs.Common.{◌≡◌, ℕ, ◌==◌, List, [], ◌∷◌, ◌++◌, Bool, true, false, not, cond, refl, sym, ap, ◌∙◌, append_assoc, append-nil, inl, inr}
+use Rattle.std.specs.List.{filter}
 use Rattle.std.proofs.lemmas.Grind.{flat_map-append}
 use Rattle.std.proofs.lemmas.Bool.Decides.{eqb_tells}
-use Rattle.rt_values.specs.Frames.{Composed, unseen}
 use Rattle.lang_ast.specs.declared.program.Stmt.{Stmt}
 use Rattle.lang_ast.specs.Frame.{frame}
-use Rattle.snap_policy.specs.declared.policy.BuiltIn.{BuiltIn}
 use Rattle.snap_policy.specs.Table.{table}
 use Rattle.snap_api.specs.declared.data.Reply.{Reply}
 use Rattle.snap_api.specs.declared.data.Reply.TheVariants as reply
 use Rattle.snap_api.specs.declared.data.Request.TheVariants as request
 use Rattle.snap_api.specs.declared.data.Logged.{Logged}
-use Rattle.snap_api.specs.World.{World, History, call, world_after, shot_of}
+use Rattle.snap_api.specs.World.{History, call, world_after, shot_of}
 use Rattle.script_lang.specs.declared.script.Step.{Step}
 use Rattle.script_lang.specs.declared.script.Step.TheVariants.{Write, Frame}
-use Rattle.script_lang.specs.Steps.{actor_number, watcher_number, closing, calls_of, sequential}
+use Rattle.script_lang.specs.Steps.{watcher_number, closing, calls_of, sequential}
 use Rattle.script_lang.specs.Lines.{Titles, Standing, entry_line, frame_lines, kept_after, lines, lines_at, next, standing_after, ends_frame, frame_at, name_in, frame_taken}
-use Rattle.play_core.specs.Turns.{Between, Turn, standing, behind_take, frame_turn, done, told, turn, turns}
+use Rattle.play_core.specs.Turns.{Between, Turn, standing, frame_turn, done, told, turn, turns}
 use Rattle.play_core.specs.Standing.{flat}
 
 -- the lines of the first step, then those of the others
@@ -52,7 +50,7 @@ module _ (t : Titles) (root : List Stmt) where
 
   made-frame : (b : Between) (r : Reply) →
       Made b (told (request.TakeFor watcher_number) r ∷ closing (done b.world (request.TakeFor watcher_number)).0 r) (frame_turn t root b.kept (done b.world (request.TakeFor watcher_number)).0 r)
-  made-frame b (reply.TakenFor n changed) = 
+  made-frame b (reply.TakenFor n changed) =
       let w = (done b.world (request.TakeFor watcher_number)).0 in
       let taken = entry_line t (told (request.TakeFor watcher_number) (reply.TakenFor n changed)) in
       let closed = entry_line t (told (request.Dispose n) (done w (request.Dispose n)).1) in

@@ -1,5 +1,5 @@
 -- The lines of nodes, one by one.
-use Rattle.std.proofs.Common.{◌≡◌, ℕ, suc, ◌+◌, List, [], ◌∷◌, ◌++◌, refl, sym, ap, ◌∙◌, length, drop, append_assoc, length-append}
+use Rattle.std.proofs.Common.{◌≡◌, ℕ, suc, ◌+◌, List, [], ◌∷◌, ◌++◌, sym, ap, ◌∙◌, length, drop, append_assoc, length-append}
 use Rattle.rt_values.specs.declared.value.Value.{Value}
 use Rattle.lang_ast.specs.declared.program.Stmt.{Stmt}
 use Rattle.lang_meaning.specs.Flat.{attributes_of}

@@ -24,6 +24,7 @@ any-member p x (y ∷ ys) e = elim (eqb_tells y x) [
     here true b c e = refl
     here false true c e = refl
     here false false c e = sym e
+
     later : (a b c : Bool) → b || c ≡ b → (a || b) || c ≡ a || b
     later true b c e = refl
     later false b c e = e

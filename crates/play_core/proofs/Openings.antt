@@ -1,8 +1,7 @@
 -- The world and the composition before the first step.
-use Rattle.std.proofs.Common.{◌≡◌, ℕ, ◌+◌, List, [], ◌∷◌, ◌++◌, Bool, true, false, Some, None, refl, sym, ap, ◌∙◌, subst, length, arith, IfOk, Ok, Err}
+use Rattle.std.proofs.Common.{◌≡◌, ℕ, ◌+◌, List, [], ◌∷◌, ◌++◌, Bool, false, None, refl, sym, ap, subst, length, IfOk, Ok, Err}
 use Rattle.std.specs.Prelude.{slice_index_or}
 use Rattle.std.specs.declared.result.Result.{Result}
-use Rattle.rt_values.specs.Maps.{Map}
 use Rattle.rt_values.specs.Frames.{unseen}
 use Rattle.lang_ast.specs.declared.program.State.{State}
 use Rattle.lang_ast.specs.declared.program.Stmt.{Stmt}
@@ -10,12 +9,12 @@ use Rattle.snap_policy.specs.declared.policy.BuiltIn.{BuiltIn}
 use Rattle.snap_policy.specs.declared.policy.BuiltIn.TheVariants.{Structural}
 use Rattle.rt_values.specs.Values.{type_of}
 use Rattle.snap_api.specs.Shaped.{IsShaped}
-use Rattle.snap_api.specs.World.{World, start, made, watched, with_members, last_of}
+use Rattle.snap_api.specs.World.{World, start, made, with_members, last_of}
 use Rattle.snap_api.proofs.Valid.{shaped_start, shaped_made, shaped_watched}
 use Rattle.script_lang.specs.Steps.{with_states, opening, watcher_number}
 use Rattle.play_core.specs.Reads.{stmts_reads}
 use Rattle.play_core.specs.Turns.{at_first}
-use Rattle.play_core.specs.Standing.{Stands, IsKept, IsNumbered}
+use Rattle.play_core.specs.Standing.{Stands, IsNumbered}
 
 -- making states makes no watcher
 pub lasts-states : (w : World BuiltIn) (ss : List State) → (with_states w ss).lasts ≡ w.lasts

@@ -1,8 +1,7 @@
 -- What a run writes, as the definitions say it.
-use Rattle.std.proofs.Common.{◌≡◌, ℕ, List, [], ◌++◌, sym, ap, ◌∙◌, subst, refl, Option, Some, None, ◌⊎◌, inl, inr, ◌<◌, ◌≤◌, ◌≢◌, arith}
+use Rattle.std.proofs.Common.{◌≡◌, ℕ, List, sym, ap, ◌∙◌, subst, refl, Option, Some, None, ◌⊎◌, inl, inr, ◌<◌, ◌≤◌, ◌≢◌, arith}
 use Rattle.std.specs.declared.result.Result.{Result}
 use Rattle.std.specs.Prelude.{IfSome}
-use Rattle.std.specs.Io.KnownBytes.{Appends, IsAtEnd}
 use Rattle.rt_streams.specs.Streams.{AppendsPart}
 use Rattle.rt_streams.proofs.Parts.{part-none}
 use Rattle.lang_ast.specs.declared.program.State.{State}

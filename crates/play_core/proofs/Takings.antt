@@ -1,5 +1,5 @@
 -- What stands around a frame's take and behind a write.
-use Rattle.std.proofs.Common.{◌≡◌, ℕ, ◌≤◌, List, [], ◌∷◌, ◌++◌, Bool, true, false, cond, Option, Some, None, refl, sym, ap, ◌∙◌, subst, append-nil, OnOk, not}
+use Rattle.std.proofs.Common.{◌≡◌, ℕ, List, [], ◌∷◌, ◌++◌, Bool, true, false, cond, Option, Some, None, refl, sym, ap, ◌∙◌, subst, append-nil, not}
 use Rattle.std.specs.Prelude.{slice_get, slice_index_or}
 use Rattle.std.specs.declared.result.Result.{Result}
 use Rattle.rt_values.specs.declared.value.Value.{Value}
@@ -24,8 +24,8 @@ use Rattle.snap_api.proofs.Takes.{TookFor, call-TakeFor, took_own, took_eyes, ca
 use Rattle.snap_api.proofs.Valid.{shaped_call}
 use Rattle.script_lang.specs.Lines.{Titles, entry_line, frame_lines, kept_after}
 use Rattle.script_lang.specs.Steps.{actor_number, watcher_number}
-use Rattle.play_core.specs.Turns.{Between, behind_take, done, told, turn}
-use Rattle.play_core.specs.Standing.{Stands, Took, InFrame, IsKept, IsSmall, Says, flat}
+use Rattle.play_core.specs.Turns.{Between, behind_take, done, told}
+use Rattle.play_core.specs.Standing.{Stands, Took, InFrame, IsKept, Says, flat}
 use Rattle.play_core.proofs.Frames.{seen-small}
 
 abbrev behind_of : Between → World BuiltIn

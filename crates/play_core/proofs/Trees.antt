@@ -1,19 +1,18 @@
 -- The tree lines of statements without inner ones.
-use Rattle.std.proofs.Common.{◌≡◌, ℕ, suc, ◌+◌, List, [], ◌∷◌, ◌++◌, map, length, drop, refl, sym, ap, ◌∙◌, append-nil, arith}
+use Rattle.std.proofs.Common.{◌≡◌, ℕ, ◌+◌, List, [], ◌∷◌, ◌++◌, map, length, drop, refl, sym, ap, ◌∙◌, arith}
 use Rattle.rt_values.specs.declared.value.Value.{Value}
 use Rattle.rt_values.specs.Maps.{Map}
-use Rattle.rt_values.specs.Trail.{Trail, End, Read, Group, What, Call, Node, reads_then, shown}
-use Rattle.rt_values.specs.Trail as trail
+use Rattle.rt_values.specs.Trail.{Trail, End, Group, Node, reads_then}
 use Rattle.rt_values.specs.Nodes.{Nodes, Branch, nodes, followed}
 use Rattle.rt_values.specs.Nodes as tree
 use Rattle.lang_ast.specs.declared.program.Attribute.{Attribute}
 use Rattle.lang_ast.specs.declared.program.Stmt.{Stmt}
 use Rattle.lang_ast.specs.declared.program.Stmt.TheVariants as stmt
 use Rattle.lang_ast.specs.Meaning.{eval, eval_all}
-use Rattle.lang_meaning.specs.Flat.{attributes_of, values_of}
+use Rattle.lang_meaning.specs.Flat.{values_of}
 use Rattle.script_lang.specs.Lines.{tree_lines, node_line}
 use Rattle.script_lang.specs.Paired.{paired}
-use Rattle.play_core.specs.Placed.{placed, whole, head_of, tail_of, listed, stmt_line}
+use Rattle.play_core.specs.Placed.{placed, whole, listed}
 
 nodes-reads_then : (xs : List ℕ) (t : Trail) → nodes (reads_then xs t) ≡ nodes t
 nodes-reads_then [] t = refl

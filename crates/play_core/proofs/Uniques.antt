@@ -1,9 +1,9 @@
 -- A text is that of one program with one script.
 use Rattle.std.proofs.Common.{◌≡◌, ◌≤◌, ℕ, List, [], Some, true, sym, ◌∙◌, subst, ap, length}
-use Rattle.sexp_text.specs.Forest.{Forest, nesting, unplaced}
+use Rattle.sexp_text.specs.Forest.{Forest, unplaced}
 use Rattle.sexp_text.specs.Grammar.{Spells}
 use Rattle.sexp_text.proofs.Complete.{spells_one}
-use Rattle.lang_forms.specs.Forms.{Parts, HasForms, text_forms}
+use Rattle.lang_forms.specs.Forms.{Parts, HasForms}
 use Rattle.lang_forms.specs.Reading.{parts_of}
 use Rattle.lang_forms.proofs.FormsAreRead.{forms_are_read}
 use Rattle.lang_checks.specs.Faults.{program_faults}
@@ -36,4 +36,4 @@ pub no_script : (bytes : List ℕ) (f : Forest) (q : Parts) → Spells bytes f �
 no_script bytes f q s h never p t =
     let same = forms_one f p q (text-forms bytes f p s t) h in
     never (subst (λ (r : Parts). is_one_actor r.scripts ≡ true) same t.one) (subst (λ (r : Parts). all_known (length r.states) r.scripts ≡ true) same t.known)
-      (subst (λ (r : Parts). length (all_steps r.scripts) ≤ most_steps) same t.few)
+    (subst (λ (r : Parts). length (all_steps r.scripts) ≤ most_steps) same t.few)

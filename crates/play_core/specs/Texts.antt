@@ -1,5 +1,5 @@
 -- What the program is asked for, which texts are programs with scripts, and what is written.
-use Rattle.std.specs.Prelude.{◌≡◌, ◌≤◌, ℕ, ◌++◌, ◌∷◌, List, [], length, Bool, true, false, codes, String, string_bytes}
+use Rattle.std.specs.Prelude.{◌≡◌, ◌≤◌, ℕ, ◌∷◌, List, [], length, Bool, true, false, codes, String, string_bytes}
 use Rattle.std.specs.Str.{bytes_eq}
 use Rattle.std.specs.declared.alloc.Global.{Global}
 use Rattle.sexp_text.specs.Forest.{Forest, nesting}

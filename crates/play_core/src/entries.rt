@@ -34,7 +34,10 @@ fn logged(request: Request, reply: Reply) -> Result<Logged, NoMemory>
 }
 
 // Takes a frame's snapshot.
-pub fn take_entry<V: Versions<P = BuiltIn>>(alloc: Global, world: &mut V) -> Result<Logged, NoMemory>
+pub fn take_entry<V: Versions<P = BuiltIn>>(
+    alloc: Global,
+    world: &mut V,
+) -> Result<Logged, NoMemory>
     ensures { IfOk result (λ e. (w : World built_in) → V.stands world.old w → (e ≡ told (request.TakeFor watcher_number) (done w (request.TakeFor watcher_number)).1) × V.stands world.new (done w (request.TakeFor watcher_number)).0) }
 {
     let reply = world.call(alloc, ACTOR, Request::TakeFor { watcher: WATCHER });

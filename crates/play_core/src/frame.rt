@@ -266,8 +266,10 @@ fn say_tree<K: Sink>(
     let mut left = numbers;
     let mut rest = root;
     let mut shown = values;
-    while let (Some((number, fewer)), Some((stmt, more))) = (left.split_first(), rest.split_first())
-    {
+    while let (Some((number, fewer)), Some((stmt, more))) = (
+        left.split_first(),
+        rest.split_first(),
+    ) {
         match say_node(*number, stmt, shown, text, sink) {
             Ok(behind) => {
                 shown = behind;

@@ -17,6 +17,5 @@ mod top;
 
 pub use top::{Status, play, play_alone};
 
-
 #[cfg(test)]
 mod tests;

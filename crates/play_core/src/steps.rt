@@ -166,16 +166,7 @@ pub fn run_steps<V: Versions<P = BuiltIn>, K: Sink>(
 {
     let mut rest = script.steps.as_slice();
     while let Some((step, more)) = rest.split_first() {
-        match run_step(
-            alloc,
-            program,
-            script,
-            world,
-            composition,
-            step,
-            room,
-            sink,
-        ) {
+        match run_step(alloc, program, script, world, composition, step, room, sink) {
             Ok(()) => rest = more,
             Err(stop) => return Err(stop),
         }

@@ -85,7 +85,16 @@ fn a_failing_write_leaves_the_lines_before_it(rt: HostRuntime) -> Result<(), Fai
     let alloc = rt.alloc();
     for line in 0..9usize {
         let fault = line as u64 + 1;
-        let (status, written) = run(&rt, alloc, "run", COUNTER.to_vec(alloc)?, 4096, 0, 4096, fault)?;
+        let (status, written) = run(
+            &rt,
+            alloc,
+            "run",
+            COUNTER.to_vec(alloc)?,
+            4096,
+            0,
+            4096,
+            fault,
+        )?;
         assert!(rt; status == Status::WriteFault);
         assert_eq!(rt; written, first_lines(alloc, &COUNTER_LINES, line)?);
     }
@@ -96,7 +105,16 @@ fn a_failing_write_leaves_the_lines_before_it(rt: HostRuntime) -> Result<(), Fai
 fn a_failing_read_writes_nothing(rt: HostRuntime) -> Result<(), Fail> {
     let alloc = rt.alloc();
     for fault in 1..9u64 {
-        let (status, written) = run(&rt, alloc, "run", COUNTER.to_vec(alloc)?, 20, fault, 4096, 0)?;
+        let (status, written) = run(
+            &rt,
+            alloc,
+            "run",
+            COUNTER.to_vec(alloc)?,
+            20,
+            fault,
+            4096,
+            0,
+        )?;
         assert!(rt; status == Status::ReadFault);
         assert!(rt; written.is_empty());
     }
@@ -109,17 +127,24 @@ fn equal_writes_and_empty_programs_run_nothing(rt: HostRuntime) -> Result<(), Fa
     let empty = b"(compose 1) (fun root ()) (do main (frame) (frame))";
     let (status, written) = run(&rt, alloc, "run", empty.to_vec(alloc)?, 4096, 0, 4096, 0)?;
     assert!(rt; status == Status::Done);
-    assert_eq!(rt; written.as_slice(), b"main: frame = @1 changed
+    assert_eq!(rt;
+        written.as_slice(),
+        b"main: frame = @1 changed
 main: dispose @1 = disposed
 report: ran 1, calculated 0, reads 0, groups 1, nodes 0
 main: frame = @2 changed
 main: dispose @2 = disposed
 report: ran 0, calculated 0, reads 0, groups 1, nodes 0
-".as_slice());
-    let equal = b"(compose 1) (state count Int Structural 0) (fun root () (node Text ((value (get count))))) (do main (frame) (write global count 0) (frame))";
+"
+            .as_slice()
+    );
+    let equal =
+        b"(compose 1) (state count Int Structural 0) (fun root () (node Text ((value (get count))))) (do main (frame) (write global count 0) (frame))";
     let (status, written) = run(&rt, alloc, "run", equal.to_vec(alloc)?, 4096, 0, 4096, 0)?;
     assert!(rt; status == Status::Done);
-    assert_eq!(rt; written.as_slice(), b"main: frame = @1 changed count
+    assert_eq!(rt;
+        written.as_slice(),
+        b"main: frame = @1 changed count
 main: dispose @1 = disposed
 report: ran 1, calculated 0, reads 1, groups 2, nodes 1
 #1 Text value=0
@@ -128,7 +153,9 @@ main: frame = @2 changed
 main: dispose @2 = disposed
 report: ran 0, calculated 0, reads 0, groups 2, nodes 1
 #1 Text value=0
-".as_slice());
+"
+            .as_slice()
+    );
     Ok(())
 }
 
@@ -157,10 +184,28 @@ fn the_input_has_at_most_1048576_bytes(rt: HostRuntime) -> Result<(), Fail> {
 fn other_words_and_other_texts_have_a_line_each(rt: HostRuntime) -> Result<(), Fail> {
     let alloc = rt.alloc();
     let usage = b"usage: compose_play run|threads [--json] [--ops] | check | gen NUMBER SIZE\n";
-    let (status, written) = run(&rt, alloc, "--help", COUNTER.to_vec(alloc)?, 4096, 1, 4096, 0)?;
+    let (status, written) = run(
+        &rt,
+        alloc,
+        "--help",
+        COUNTER.to_vec(alloc)?,
+        4096,
+        1,
+        4096,
+        0,
+    )?;
     assert!(rt; status == Status::Usage);
     assert_eq!(rt; written.as_slice(), usage.as_slice());
-    let (status, written) = run(&rt, alloc, "--help", COUNTER.to_vec(alloc)?, 4096, 0, 4096, 1)?;
+    let (status, written) = run(
+        &rt,
+        alloc,
+        "--help",
+        COUNTER.to_vec(alloc)?,
+        4096,
+        0,
+        4096,
+        1,
+    )?;
     assert!(rt; status == Status::WriteFault && written.is_empty());
     let (status, written) = run(&rt, alloc, "run", Vec::new(alloc), 4096, 0, 4096, 0)?;
     assert!(rt; status == Status::BadInput);

@@ -223,13 +223,7 @@ pub fn play_alone<V: Versions<P = BuiltIn>, S: Source, K: Sink>(
 
 /// Does what the words ask for, as `play_alone`, with whatever threads it takes; today it takes none, and the
 /// gate is not asked.
-pub fn play<
-    R: Threads + Wait + Sync,
-    V: Versions<P = BuiltIn>,
-    S: Source,
-    K: Sink,
-    G: Gate + Sync,
->(
+pub fn play<R: Threads + Wait + Sync, V: Versions<P = BuiltIn>, S: Source, K: Sink, G: Gate + Sync>(
     _rt: &R,
     alloc: Global,
     words: &Vec<String>,

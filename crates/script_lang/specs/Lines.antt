@@ -1,15 +1,14 @@
 -- The lines that are printed of a history: one for each call, and behind the dispose of a frame's snapshot what the frame tells.
-use Rattle.std.specs.Prelude.{ℕ, zero, suc, ◌+◌, ◌-◌, ◌*◌, ◌^◌, ◌==◌, not, List, [], ◌∷◌, ◌++◌, Bool, true, false, codes, Option, Some, None, if◌then◌else◌, slice_get}
+use Rattle.std.specs.Prelude.{ℕ, zero, suc, ◌+◌, ◌-◌, ◌^◌, ◌==◌, not, List, [], ◌∷◌, ◌++◌, Bool, true, false, codes, Option, Some, None, if◌then◌else◌, slice_get}
 use Rattle.std.specs.List.{flat_map, filter}
 use Rattle.std.specs.Option.{option_map_or}
 use Rattle.std.specs.Fmt.{decimal}
-use Rattle.rt_values.specs.declared.value.Value.{Value}
 use Rattle.rt_values.specs.declared.value.Ty.{Ty}
 use Rattle.rt_values.specs.declared.value.Ty.TheVariants as ty
 use Rattle.rt_values.specs.declared.names.Kind.{Kind}
 use Rattle.rt_values.specs.declared.names.Kind.TheVariants.{Mutable, Readonly}
 use Rattle.rt_values.specs.Values.{value_text}
-use Rattle.rt_values.specs.Maps.{Map, contains}
+use Rattle.rt_values.specs.Maps.{contains}
 use Rattle.rt_values.specs.Trail.{Attribute}
 use Rattle.rt_values.specs.Nodes.{Nodes, Branch, nodes}
 use Rattle.rt_values.specs.Nodes as tree

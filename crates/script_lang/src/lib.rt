@@ -4,7 +4,7 @@
 //! other; `specs/Lines.antt` says what is printed of such a history, frames with their reports and trees
 //! included. The two know nothing of each other, so each can be believed by itself. Scripts and lines are this
 //! project's own; they stand in place of test code over `Snapshot` and `Recomposer`.
-//! Promises: `script` resolves exactly the scripts without a fault, and each function that adds a line adds
+//! Promises: `script_of` resolves exactly the scripts without a fault, and each function that adds a line adds
 //! the bytes of its definition.
 #![tactic(auto)]
 

@@ -1,4 +1,4 @@
-use Rattle.std.proofs.Common.{rules, ◌≡◌, ◌++◌, ◌∷◌, ap, sym, ◌∙◌, List, ℕ}
+use Rattle.std.proofs.Common.{rules, ◌++◌, ap, sym, ◌∙◌}
 use Rattle.rt_values.specs.Views.{Grew}
 use Rattle.lang_ast.specs.Meaning.{eval as eval_of}
 use Rattle.lang_ast.specs.Meaning.{eval_all}

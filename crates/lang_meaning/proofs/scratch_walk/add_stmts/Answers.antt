@@ -1,4 +1,4 @@
-use Rattle.std.proofs.Common.{rules, ◌≡◌, ◌++◌, ap, sym, ◌∙◌}
+use Rattle.std.proofs.Common.{rules, ◌++◌, ap, sym, ◌∙◌}
 use Rattle.rt_values.specs.Views.{Grew}
 use Rattle.lang_ast.specs.Meaning.{eval_all}
 use Rattle.lang_meaning.specs.Flat.{asked_by, attributes_of}

@@ -1,4 +1,4 @@
-use Rattle.std.proofs.Common.{◌≡◌, true, sym, ap, refl, ◌∙◌, subst, length, cond, ◌+◌, ℕ}
+use Rattle.std.proofs.Common.{true, sym, ap, refl, ◌∙◌, subst, length, cond, ◌+◌, ℕ}
 use Rattle.lang_ast.specs.Frame.{frame}
 use Rattle.script_lang.specs.Lines.{kept_after}
 use Rattle.script_lang.specs.declared.tree.Report.{Report}

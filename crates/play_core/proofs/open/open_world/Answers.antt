@@ -1,4 +1,4 @@
-use Rattle.std.proofs.Common.{◌≡◌, length, ap, arith, List, Option}
+use Rattle.std.proofs.Common.{length, ap, arith, List, Option}
 use Rattle.rt_values.specs.Maps.{Map}
 use Rattle.snap_api.specs.World.{start}
 use Rattle.play_core.proofs.Openings.{lasts-states}

@@ -1,6 +1,5 @@
-use Rattle.std.proofs.Common.{◌≡◌, sym, subst, OnOk}
+use Rattle.std.proofs.Common.{sym, subst, OnOk}
 use Rattle.snap_api.specs.declared.data.Request.TheVariants as request
-use Rattle.snap_api.specs.declared.data.Reply.TheVariants as reply
 use Rattle.script_lang.specs.Steps.{watcher_number}
 use Rattle.play_core.specs.Turns.{done, behind_take}
 use Rattle.play_core.specs.Standing.{Took, Stands}
@@ -19,5 +18,5 @@ returns-in-TakenFor-clause-left g c b h =
     let f = in-frame took in
     let w = (done b.world (request.TakeFor watcher_number)).0 in
     subst (λ r. OnOk c.run_taken.result (Stands g.V.Versions.stands c.run_taken.new.world c.args.program.now.root.items c.run_taken.new.composition.started c.run_taken.new.composition.numbers.items c.run_taken.new.composition.reads
-      (behind_take (record { states = c.args.program.now.states.items; actor = c.args.script.now.actor }) c.args.program.now.root.items b.kept w r).left)) (sym c.in-TakenFor.is)
+    (behind_take (record { states = c.args.program.now.states.items; actor = c.args.script.now.actor }) c.args.program.now.root.items b.kept w r).left)) (sym c.in-TakenFor.is)
     (both_ok _ (λ kept stood. after-frame (record { states = c.args.program.now.states.items; actor = c.args.script.now.actor }) took kept stood c.run_taken.ensures.reads) (c.run_taken.ensures.kept b.kept w f) (c.run_taken.ensures.world b.kept w f))

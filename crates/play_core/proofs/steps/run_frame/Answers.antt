@@ -1,6 +1,5 @@
-use Rattle.std.proofs.Common.{◌≡◌, sym, ap, subst, ◌∙◌}
+use Rattle.std.proofs.Common.{ap}
 use Rattle.script_lang.specs.Lines.{entry_line}
-use Rattle.play_core.specs.Standing.{Took}
 use Rattle.play_core.proofs.Written.{says_behind, says_front, says_same, appends_same}
 use Rattle.play_core.proofs.Takings.{took, took-after}
 use Rattle.play_core.proofs.steps.run_frame.Goals as goal

@@ -1,5 +1,5 @@
-use Rattle.std.proofs.Common.{◌≡◌, ◌∷◌, ◌++◌, List, sym, ap, ◌∙◌, arith}
-use Rattle.play_core.specs.Turns.{turn, turns}
+use Rattle.std.proofs.Common.{◌++◌, sym, ap, ◌∙◌, arith}
+use Rattle.play_core.specs.Turns.{turn}
 use Rattle.script_lang.specs.Lines.{Titles}
 use Rattle.play_core.specs.Standing.{flat}
 use Rattle.play_core.proofs.Laws.{turns-next}

@@ -25,4 +25,4 @@ returns-clause-bad c e =
     let same : c.in-Err-script_for.end ≡ Bad = cc in
     let scripts = (parts c.in-Ok-parts_of.parts).scripts in
     no_script c.args.bytes.now (forest_view c.deref.result.now) (parts c.in-Ok-parts_of.parts) spelled c.in-Ok-parts_of.ensures.ok
-      (λ one known few. c.in-Err-script_for.ensures.bad (ap Err same) one (subst (λ n. all_known n scripts ≡ true) (ap (λ v. length v.items) (sym c.in-Ok-checked.ensures.same.0)) known) few)
+    (λ one known few. c.in-Err-script_for.ensures.bad (ap Err same) one (subst (λ n. all_known n scripts ≡ true) (ap (λ v. length v.items) (sym c.in-Ok-checked.ensures.same.0)) known) few)

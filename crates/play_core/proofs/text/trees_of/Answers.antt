@@ -1,4 +1,3 @@
-use Rattle.std.proofs.Common.{refl}
 use Rattle.play_core.proofs.text.trees_of.Goals as goal
 
 pub returns-in-Err-TooDeep-clause-bad : goal.returns-in-Err-TooDeep-clause-bad

@@ -1,4 +1,4 @@
-use Rattle.std.proofs.Common.{◌≡◌, ◌≤◌, length, subst}
+use Rattle.std.proofs.Common.{◌≤◌, length, subst}
 use Rattle.std.specs.Io.KnownBytes.{IsAtEnd, Appends}
 use Rattle.std.proofs.KnownBytes.{Consumes-whole}
 use Rattle.play_core.specs.Texts.{IsNoText, bad_line, input_limit}
