@@ -140,14 +140,14 @@ fn attribute_in(alloc: Global, states: &[State], trees: &[Tree]) -> Result<Attri
 fn attributes_in(alloc: Global, states: &[State], trees: &[Tree]) -> Result<Attributes, FormStop>
     ensures { Reads (λ a. a) result (attributes_of states.now (seen trees.now)) }
 {
-    let mut attributes = Vec::new(alloc);
     match trees.split_first() {
-        None => Ok(Attributes::of(attributes)),
+        None => Ok(Attributes::of(Vec::new(alloc))),
         Some((Tree::List(_, inner), rest)) => {
             let attribute = attribute_in(alloc, states, inner)?;
             if !is_over(rest) {
                 return Err(FormStop::Form);
             }
+            let mut attributes = Vec::with_capacity(alloc, 1)?;
             attributes.push(attribute)?;
             Ok(Attributes::of(attributes))
         }
