@@ -6,9 +6,9 @@
 pub trait Gate {
     /// Returns when the worker may make its next atomic step.
     ///
-    /// Each worker calls it before each of its atomic steps, a frame's reads among them. `actor` is
-    /// the worker's number, from 0 in the order of the script. `step` is the number of its atomic
-    /// step, from 0 for each actor, modulo 2^64.
+    /// A worker is to call it before each of its atomic steps, a frame's reads among them; there is no
+    /// worker yet. `actor` is the worker's number, from 0 in the order of the script. `step` is the
+    /// number of its atomic step, from 0 for each actor, modulo 2^64.
     fn pass(&self, actor: usize, step: u64);
 }
 

@@ -1,8 +1,9 @@
 //! Where the program reads its input and writes its lines, and how faults of both are told.
 //!
-//! The layer above reads its whole input by `read_all`, hands each line to a sink by `write_all`, and
-//! calls a `Gate` before each atomic step of a worker. No part of Compose stands here: its runtime
-//! reads and writes nothing, and this is this project's own edge to the outside.
+//! The layer above reads its whole input by `read_all` and hands each line to a sink by `write_all`. A
+//! `Gate` says when a worker in a thread may make its next step; no worker asks it yet. No part of
+//! Compose stands here: its runtime reads and writes nothing, and this is this project's own edge to
+//! the outside.
 //!
 //! Promised: the bytes that a source tells are those that `read_all` gives, to their end, and at most
 //! one byte past the limit is ever taken; the bytes that a sink tells are those given, and a first
