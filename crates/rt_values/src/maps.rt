@@ -162,7 +162,8 @@ impl Objects {
 
     /// Without the last number, if there is one.
     pub fn pop(&mut self)
-        ensures { (xs : List ℕ) (x : ℕ) → self.old ≡ xs ++ x ∷ [] → self.new ≡ xs }
+        ensures last { (xs : List ℕ) (x : ℕ) → self.old ≡ xs ++ x ∷ [] → self.new ≡ xs }
+        ensures none { self.old ≡ [] → self.new ≡ [] }
     {
         let _ = self.numbers.pop();
     }
