@@ -2,5 +2,6 @@ pub mod Settle
 pub mod World
 pub mod Calls
 pub mod Shaped
+pub mod Valid
 pub mod Eyes
 pub mod Keeps
