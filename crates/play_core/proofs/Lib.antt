@@ -8,4 +8,5 @@ pub mod Takings
 pub mod Laws
 pub mod Openings
 pub mod Uniques
+pub mod Refusals
 pub mod Plays

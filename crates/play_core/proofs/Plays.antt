@@ -12,7 +12,9 @@ use Rattle.script_lang.specs.Lines.{Titles, run_text}
 use Rattle.script_lang.specs.Scripts.{actor_of}
 use Rattle.play_core.specs.declared.top.Status.{Status}
 use Rattle.play_core.specs.declared.top.Status.TheVariants as status
-use Rattle.play_core.specs.Texts.{IsText, IsRead, IsNoText, WritesPart, output, bad_line}
+use Rattle.play_core.specs.Texts.{IsText, IsRead, IsNoText, output}
+use Rattle.play_core.specs.Faults.{IsFault, WritesPart, fault_line}
+use Rattle.play_core.specs.declared.fault.Fault.{Fault}
 use Rattle.play_core.specs.Turns.{at_first, turns}
 use Rattle.play_core.specs.Standing.{Says, flat}
 use Rattle.play_core.proofs.Laws.{lines-turns}
@@ -34,28 +36,23 @@ output-is {root = root} {actor = actor} {steps = steps} h =
     ∙ ap (λ l. run_text (record { states = h.parts.states; actor = actor_of h.parts.scripts }) h.parts.root l) h.steps_are
 
 pub text-part : {bytes : List ℕ} {states : List State} {root : List Stmt} {actor : List ℕ} {steps : List Step} (h : IsRead bytes states root actor steps) (a z : Option (List ℕ)) →
-    AppendsPart a z (run_text (record { states = states; actor = actor }) root steps) → WritesPart bytes a z
-text-part {bytes = bytes} h a z part = record {
+    ((fault : Fault) → IsFault bytes fault → ⊥) → AppendsPart a z (run_text (record { states = states; actor = actor }) root steps) → WritesPart bytes a z
+text-part {bytes = bytes} h a z good part = record {
   lines = λ p t. subst (AppendsPart a z) (output-is h ∙ ap output (text_one bytes h.parts p h.text t)) part;
-  refusal = λ none. absurd (none h.parts h.text);
+  refusal = λ fault f. absurd (good fault f);
 }
 
--- a refused text
-pub refused-part : (bytes : List ℕ) (a z : Option (List ℕ)) → IsNoText bytes → AppendsPart a z bad_line → WritesPart bytes a z
-refused-part bytes a z none part = record { lines = λ p t. absurd (none p t); refusal = λ n. part }
+-- a refused text, whose faults are one
+pub refused-part : (bytes : List ℕ) (fault : Fault) (a z : Option (List ℕ)) → IsNoText bytes → ((other : Fault) → IsFault bytes other → other ≡ fault) → AppendsPart a z (fault_line fault) → WritesPart bytes a z
+refused-part bytes fault a z none one part = record {
+  lines = λ p t. absurd (none p t);
+  refusal = λ other f. subst (λ g. AppendsPart a z (fault_line g)) (sym (one other f)) part;
+}
 
 -- nothing was written
 pub nothing-part : (o a : Option (List ℕ)) → IfSome o (λ bytes. WritesPart bytes a a)
 nothing-part None a = tt
-nothing-part (Some bytes) a = record { lines = λ p t. part-none a (output p); refusal = λ n. part-none a bad_line }
-
--- the one line of a status was written in part, or it is that status
-pub refused-answers : (r : Status) (bytes : List ℕ) (a z : Option (List ℕ)) → IsNoText bytes → (r ≡ status.BadInput) ⊎ (r ≡ status.WriteFault) → (r ≡ status.WriteFault → AppendsPart a z bad_line) →
-    (r ≡ status.WriteFault) ⊎ (r ≡ status.NoMemory) → WritesPart bytes a z
-refused-answers r bytes a z none answers part e = elim e [
-  | inl f ↦ refused-part bytes a z none (part f)
-  | inr f ↦ elim answers [ inl b ↦ absurd cc | inr w ↦ absurd cc ]
-]
+nothing-part (Some bytes) a = record { lines = λ p t. part-none a (output p); refusal = λ fault f. part-none a (fault_line fault) }
 
 -- Every status has its cause. So a text of a program is done, but for want of memory and faults that were counted.
 pub text-answers : (r : Status) (left : Option (List ℕ)) {B C D E : Type 0} (P : List ℕ → Type 0) (taken limit : ℕ) (bytes : List ℕ) (p : Parts) → ((bs : List ℕ) → P bs → IsNoText bs) → left ≡ Some bytes → taken ≤ limit → IsText bytes p →

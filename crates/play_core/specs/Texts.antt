@@ -11,8 +11,6 @@ use Rattle.script_lang.specs.Lines.{Titles, line, run_text}
 use Rattle.script_lang.specs.declared.script.Step.{Step}
 use Rattle.lang_ast.specs.declared.program.State.{State}
 use Rattle.lang_ast.specs.declared.program.Stmt.{Stmt}
-use Rattle.rt_streams.specs.Streams.{AppendsPart}
-use Rattle.std.specs.declared.option.Option.{Option}
 
 -- the one word `run`
 abbrev pub is_run : List (String Global) → Bool
@@ -42,9 +40,6 @@ output p = run_text (titles p) p.root (all_steps p.scripts)
 abbrev pub usage_line : List ℕ
 usage_line = line (codes "usage: compose_play run|threads [--json] [--ops] | check | gen NUMBER SIZE")
 
-abbrev pub bad_line : List ℕ
-bad_line = line (codes "bad input: form at 0")
-
 abbrev pub long_line : List ℕ
 long_line = line (codes "too long")
 
@@ -61,11 +56,6 @@ pub record IsRead (bytes : List ℕ) (states : List State) (root : List Stmt) (a
 -- The bytes are no text of a program with a script.
 abbrev pub IsNoText : List ℕ → Type 0
 IsNoText bytes = (p : Parts) → IsText bytes p → ⊥
-
--- A first part of what the bytes make a run write was written: of the program's lines, or of the one line that refuses them.
-pub record WritesPart (bytes : List ℕ) (before now : Option (List ℕ)) : Type 0 where
-  pub lines : (p : Parts) → IsText bytes p → AppendsPart before now (output p)
-  pub refusal : IsNoText bytes → AppendsPart before now bad_line
 
 -- a longer input is refused
 abbrev pub input_limit : ℕ

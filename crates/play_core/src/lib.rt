@@ -8,6 +8,7 @@
 #![tactic(auto)]
 
 mod entries;
+mod fault;
 mod frame;
 mod open;
 mod say;

@@ -207,8 +207,31 @@ fn other_words_and_other_texts_have_a_line_each(rt: HostRuntime) -> Result<(), F
         1,
     )?;
     assert!(rt; status == Status::WriteFault && written.is_empty());
-    let (status, written) = run(&rt, alloc, "run", Vec::new(alloc), 4096, 0, 4096, 0)?;
-    assert!(rt; status == Status::BadInput);
-    assert_eq!(rt; written.as_slice(), b"bad input: form at 0\n".as_slice());
+    Ok(())
+}
+
+// Inputs that are refused, and the line of each.
+const FAULTS: [(&[u8], &[u8]); 7] = [
+    (b"", b"bad input: form at 0\n"),
+    (b"(compose 2)", b"bad input: form at 0\n"),
+    (b"(compose 1) \"ab", b"bad input: text at 15\n"),
+    (b"(compose 1) #", b"bad input: text at 12\n"),
+    (b"\xff", b"bad input: utf8 at 0\n"),
+    (b"(compose 1) ; \xe2\x82", b"bad input: utf8 at 14\n"),
+    (
+        b"(((((((((((((((((((((((((((((((((((((((((((((((((((((((((((((((((((((((((((((((((\
+          ((((((((((((((((((((#",
+        b"bad input: deep at 100\n",
+    ),
+];
+
+#[test]
+fn a_refused_input_has_the_line_of_its_fault(rt: HostRuntime) -> Result<(), Fail> {
+    let alloc = rt.alloc();
+    for (input, line) in FAULTS {
+        let (status, written) = run(&rt, alloc, "run", input.to_vec(alloc)?, 4096, 0, 4096, 0)?;
+        assert!(rt; status == Status::BadInput);
+        assert_eq!(rt; written.as_slice(), line);
+    }
     Ok(())
 }

@@ -4,11 +4,14 @@ ghost use Rattle.std.specs.Io.KnownBytes.{Appends, Keeps, IsAtEnd};
 ghost use Rattle.rt_streams.specs.Streams.{Rose, AppendsPart, rise};
 ghost use Rattle.lang_forms.specs.Forms.{Parts};
 ghost use Rattle.snap_api.specs.World.{start};
-ghost use Rattle.play_core.specs.Texts.{is_run, IsText, IsRead, IsNoText, WritesPart, output, usage_line, bad_line, long_line, input_limit};
+ghost use Rattle.play_core.specs.Texts.{is_run, IsText, IsRead, IsNoText, output, usage_line, long_line, input_limit};
+ghost use Rattle.play_core.specs.Faults.{IsFault, WritesPart, fault_line};
+ghost use Rattle.play_core.specs.declared.fault.Fault.{Fault as fault_data};
 ghost use Rattle.play_core.specs.Turns.{at_first};
 ghost use Rattle.play_core.specs.Standing.{Says};
 ghost use Rattle.script_lang.specs.Lines.{run_text};
 
+use crate::fault::Fault;
 use crate::frame::Room;
 use crate::open::begin;
 use crate::say::Stop;
@@ -101,6 +104,20 @@ fn run_script<V: Versions<P = BuiltIn>, K: Sink>(
     )
 }
 
+// The one line of a fault.
+fn refuse<K: Sink>(alloc: Global, fault: Fault, sink: &mut K) -> Status
+    ensures answers { (result ≡ Status.BadInput) ⊎ ((result ≡ Status.WriteFault) ⊎ (result ≡ Status.NoMemory)) }
+    ensures all { result ≡ Status.BadInput → Appends (K.written sink.old) (K.written sink.new) (fault_line fault) }
+    ensures part { (result ≡ Status.WriteFault) ⊎ (result ≡ Status.NoMemory) → AppendsPart (K.written sink.old) (K.written sink.new) (fault_line fault) }
+    ensures write_fault { result ≡ Status.WriteFault → Rose (K.faults sink.old) (K.faults sink.new) }
+{
+    let mut line = Vec::new(alloc);
+    let Ok(()) = fault.put(&mut line) else {
+        return Status::NoMemory;
+    };
+    say_status(sink, &line, Status::BadInput)
+}
+
 // Runs a text.
 fn play_bytes<V: Versions<P = BuiltIn>, K: Sink>(
     alloc: Global,
@@ -110,14 +127,14 @@ fn play_bytes<V: Versions<P = BuiltIn>, K: Sink>(
 ) -> Status
     requires { V.stands world.old (start 0) }
     ensures done { result ≡ Status.Done → (p : Parts) × IsText bytes.now p × Appends (K.written sink.old) (K.written sink.new) (output p) }
-    ensures bad_input { result ≡ Status.BadInput → IsNoText bytes.now × Appends (K.written sink.old) (K.written sink.new) bad_line }
+    ensures bad_input { result ≡ Status.BadInput → IsNoText bytes.now × ((fault : fault_data) × IsFault bytes.now fault × Appends (K.written sink.old) (K.written sink.new) (fault_line fault)) }
     ensures part { (result ≡ Status.WriteFault) ⊎ (result ≡ Status.NoMemory) → WritesPart bytes.now (K.written sink.old) (K.written sink.new) }
     ensures write_fault { result ≡ Status.WriteFault → Rose (K.faults sink.old) (K.faults sink.new) }
     ensures others { (result ≢ Status.Usage) × (result ≢ Status.ReadFault) × (result ≢ Status.TooLong) }
 {
     match read_text(alloc, bytes) {
         Ok((program, script)) => play_text(alloc, world, &program, &script, sink, bytes),
-        Err(TextEnd::Bad) => say_status(sink, b"bad input: form at 0\n", Status::BadInput),
+        Err(TextEnd::Bad(fault)) => refuse(alloc, fault, sink),
         Err(TextEnd::NoMemory) => Status::NoMemory,
     }
 }
@@ -133,6 +150,7 @@ fn play_text<V: Versions<P = BuiltIn>, K: Sink>(
 ) -> Status
     requires start { V.stands world.old (start 0) }
     requires read { IsRead bytes.now program.now.states.items program.now.root.items script.now.actor script.now.steps.items }
+    requires good { (fault : fault_data) → IsFault bytes.now fault → ⊥ }
     ensures done { result ≡ Status.Done → (p : Parts) × IsText bytes.now p × Appends (K.written sink.old) (K.written sink.new) (output p) }
     ensures part { (result ≡ Status.WriteFault) ⊎ (result ≡ Status.NoMemory) → WritesPart bytes.now (K.written sink.old) (K.written sink.new) }
     ensures write_fault { result ≡ Status.WriteFault → Rose (K.faults sink.old) (K.faults sink.new) }
@@ -154,7 +172,7 @@ fn run_input<V: Versions<P = BuiltIn>, S: Source, K: Sink>(
 ) -> Status
     requires { V.stands world.old (start 0) }
     ensures done { result ≡ Status.Done → IfSome (S.left source.old) (λ bytes. IsAtEnd (S.left source.new) × (length bytes ≤ input_limit) × ((p : Parts) × IsText bytes p × Appends (K.written sink.old) (K.written sink.new) (output p))) }
-    ensures bad_input { result ≡ Status.BadInput → IfSome (S.left source.old) (λ bytes. IsAtEnd (S.left source.new) × (length bytes ≤ input_limit) × IsNoText bytes × Appends (K.written sink.old) (K.written sink.new) bad_line) }
+    ensures bad_input { result ≡ Status.BadInput → IfSome (S.left source.old) (λ bytes. IsAtEnd (S.left source.new) × (length bytes ≤ input_limit) × IsNoText bytes × ((fault : fault_data) × IsFault bytes fault × Appends (K.written sink.old) (K.written sink.new) (fault_line fault))) }
     ensures too_long { result ≡ Status.TooLong → (input_limit < rise (S.taken source.old) (S.taken source.new)) × Appends (K.written sink.old) (K.written sink.new) long_line }
     ensures long_told { input_limit < rise (S.taken source.old) (S.taken source.new) → (result ≡ Status.TooLong) ⊎ ((result ≡ Status.WriteFault) × AppendsPart (K.written sink.old) (K.written sink.new) long_line) }
     ensures part { rise (S.taken source.old) (S.taken source.new) ≤ input_limit → (result ≡ Status.WriteFault) ⊎ (result ≡ Status.NoMemory) → IfSome (S.left source.old) (λ bytes. WritesPart bytes (K.written sink.old) (K.written sink.new)) }
@@ -191,8 +209,8 @@ pub fn play_alone<V: Versions<P = BuiltIn>, S: Source, K: Sink>(
     ensures usage_told { is_run words.now.items ≡ false → ((result ≡ Status.Usage) ⊎ ((result ≡ Status.WriteFault) × AppendsPart (K.written sink.old) (K.written sink.new) usage_line)) × (source.new ≡ source.old) }
     // Done: the input was read to its end, within the limit, and is a text, and the lines of the history that its steps make were written.
     ensures done { result ≡ Status.Done → IfSome (S.left source.old) (λ bytes. IsAtEnd (S.left source.new) × (length bytes ≤ input_limit) × ((p : Parts) × IsText bytes p × Appends (K.written sink.old) (K.written sink.new) (output p))) }
-    // BadInput: the input was read to its end, within the limit, and is none, and its line was written.
-    ensures bad_input { result ≡ Status.BadInput → IfSome (S.left source.old) (λ bytes. IsAtEnd (S.left source.new) × (length bytes ≤ input_limit) × IsNoText bytes × Appends (K.written sink.old) (K.written sink.new) bad_line) }
+    // BadInput: the input was read to its end, within the limit, and is none, and the line of its fault was written.
+    ensures bad_input { result ≡ Status.BadInput → IfSome (S.left source.old) (λ bytes. IsAtEnd (S.left source.new) × (length bytes ≤ input_limit) × IsNoText bytes × ((fault : fault_data) × IsFault bytes fault × Appends (K.written sink.old) (K.written sink.new) (fault_line fault))) }
     // TooLong comes exactly where a byte more than the limit was taken: its line is written.
     ensures too_long { result ≡ Status.TooLong → (input_limit < rise (S.taken source.old) (S.taken source.new)) × Appends (K.written sink.old) (K.written sink.new) long_line }
     ensures long_told { is_run words.now.items ≡ true → input_limit < rise (S.taken source.old) (S.taken source.new) → (result ≡ Status.TooLong) ⊎ ((result ≡ Status.WriteFault) × AppendsPart (K.written sink.old) (K.written sink.new) long_line) }
@@ -238,8 +256,8 @@ pub fn play<R: Threads + Wait + Sync, V: Versions<P = BuiltIn>, S: Source, K: Si
     ensures usage_told { is_run words.now.items ≡ false → ((result ≡ Status.Usage) ⊎ ((result ≡ Status.WriteFault) × AppendsPart (K.written sink.old) (K.written sink.new) usage_line)) × (source.new ≡ source.old) }
     // Done: the input was read to its end, within the limit, and is a text, and the lines of the history that its steps make were written.
     ensures done { result ≡ Status.Done → IfSome (S.left source.old) (λ bytes. IsAtEnd (S.left source.new) × (length bytes ≤ input_limit) × ((p : Parts) × IsText bytes p × Appends (K.written sink.old) (K.written sink.new) (output p))) }
-    // BadInput: the input was read to its end, within the limit, and is none, and its line was written.
-    ensures bad_input { result ≡ Status.BadInput → IfSome (S.left source.old) (λ bytes. IsAtEnd (S.left source.new) × (length bytes ≤ input_limit) × IsNoText bytes × Appends (K.written sink.old) (K.written sink.new) bad_line) }
+    // BadInput: the input was read to its end, within the limit, and is none, and the line of its fault was written.
+    ensures bad_input { result ≡ Status.BadInput → IfSome (S.left source.old) (λ bytes. IsAtEnd (S.left source.new) × (length bytes ≤ input_limit) × IsNoText bytes × ((fault : fault_data) × IsFault bytes fault × Appends (K.written sink.old) (K.written sink.new) (fault_line fault))) }
     // TooLong comes exactly where a byte more than the limit was taken: its line is written.
     ensures too_long { result ≡ Status.TooLong → (input_limit < rise (S.taken source.old) (S.taken source.new)) × Appends (K.written sink.old) (K.written sink.new) long_line }
     ensures long_told { is_run words.now.items ≡ true → input_limit < rise (S.taken source.old) (S.taken source.new) → (result ≡ Status.TooLong) ⊎ ((result ≡ Status.WriteFault) × AppendsPart (K.written sink.old) (K.written sink.new) long_line) }
