@@ -1,1 +1,3 @@
+pub mod Equal
+pub mod Printed
 pub mod Trails

@@ -8,17 +8,21 @@
 //! `differing` is exactly the objects whose stamps differ.
 #![tactic(auto)]
 
+mod list;
 mod maps;
 mod names;
 mod text;
 mod value;
 mod view;
+mod word;
 
+pub use list::IntList;
 pub use maps::{Entry, Map, Objects, differing};
 pub use names::{Caller, Kind, Name, NoMemory, ObjectNo, WatcherNo};
 pub use text::Txt;
 pub use value::{Ty, Value};
 pub use view::View;
+pub use word::Word;
 
 #[cfg(test)]
 mod tests {
@@ -54,7 +58,7 @@ mod tests {
         objects.put(3)?;
         objects.put(3)?;
         assert_eq!(rt; objects.copy(alloc)?.numbers(), [3u64].as_slice());
-        let name = Txt::of(alloc, b"count")?;
+        let name = Word::of(alloc, b"count")?;
         assert_eq!(rt; name.copy(alloc)?.bytes(), b"count".as_slice());
         Ok(())
     }
