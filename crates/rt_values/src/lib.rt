@@ -11,6 +11,8 @@
 mod list;
 mod maps;
 mod names;
+mod operands;
+pub mod operators;
 mod text;
 mod value;
 mod view;

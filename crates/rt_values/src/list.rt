@@ -1,6 +1,8 @@
 // Lists of numbers: values of the type Ints.
-ghost use Rattle.std.specs.Prelude.{◌≡◌, ◌≤◌, Bool, List, [], ℕ, ℤ, length, IfOk};
+ghost use Rattle.std.specs.Prelude.{◌≡◌, ◌≤◌, Bool, List, [], ℕ, ℤ, length, IfOk, OnOk, OnErr};
+ghost use Rattle.rt_values.specs.Limits.{most_items};
 ghost use Rattle.rt_values.specs.Values.{same_items};
+ghost use Rattle.rt_values.specs.Operators.{range, pushed, concatenated, item_at};
 
 use crate::NoMemory;
 use std::alloc::Global;
@@ -14,12 +16,13 @@ pub struct IntList {
 
 impl Model for IntList {
     ghost use Rattle.std.specs.Prelude.{List, ℤ, ◌≤◌, length};
+    ghost use Rattle.rt_values.specs.Limits.{most_items};
 
     ghost Value = { List ℤ };
 
     ghost view = { λ l. l.items.items };
 
-    ghost invariant = { λ l. length l.items.items ≤ 4096 };
+    ghost invariant = { λ l. length l.items.items ≤ most_items };
 }
 
 impl IntList {
@@ -37,7 +40,7 @@ impl IntList {
 
     /// The list of these items.
     pub fn of(alloc: Global, items: &[i64]) -> Result<Self, NoMemory>
-        requires { length items.now ≤ 4096 }
+        requires { length items.now ≤ most_items }
         ensures { IfOk result (λ l. l ≡ items.now) }
     {
         Ok(IntList {
@@ -45,12 +48,67 @@ impl IntList {
         })
     }
 
+    /// The numbers `first`, `first + 1`, .. below `end`, the first `IntList::MOST_ITEMS` of them; none where `first` is
+    /// not below `end`.
+    pub fn range(alloc: Global, first: i64, end: i64) -> Result<Self, NoMemory>
+        ensures { IfOk result (λ l. l ≡ range first end) }
+    {
+        let mut items = Vec::new(alloc);
+        let mut next = first;
+        while next < end && items.len() < IntList::MOST_ITEMS {
+            items.push(next)?;
+            next += 1;
+        }
+        Ok(IntList { items })
+    }
+
     /// Its items, at most `IntList::MOST_ITEMS` of them.
     pub fn items(&self) -> &[i64]
         ensures items { result.now ≡ self.now }
-        ensures fits { length self.now ≤ 4096 }
+        ensures fits { length self.now ≤ most_items }
     {
         &self.items
+    }
+
+    /// How many items it has.
+    pub fn len(&self) -> usize
+        ensures { result ≡ length self.now }
+    {
+        self.items.len()
+    }
+
+    /// The item at a place from 0; 0 where there is none.
+    pub fn at(&self, place: i64) -> i64
+        ensures { result ≡ item_at self.now place }
+    {
+        if place < 0 {
+            return 0;
+        }
+        self.items.get(place as usize).copied().unwrap_or(0)
+    }
+
+    /// One item more, at the end. A list of `IntList::MOST_ITEMS` items stays as it is, and so does any list where
+    /// memory runs out.
+    pub fn push(&mut self, item: i64) -> Result<(), NoMemory>
+        ensures ok { OnOk result (self.new ≡ pushed self.old item) }
+        ensures err { OnErr result (self.new ≡ self.old) }
+    {
+        if self.items.len() < IntList::MOST_ITEMS {
+            self.items.push(item)?;
+        }
+        Ok(())
+    }
+
+    /// The items of another list at the end, as many as `IntList::MOST_ITEMS` leaves room for. Where memory runs out the
+    /// list stays as it is.
+    pub fn concat(&mut self, other: &IntList) -> Result<(), NoMemory>
+        ensures ok { OnOk result (self.new ≡ concatenated self.old other.now) }
+        ensures err { OnErr result (self.new ≡ self.old) }
+    {
+        let room = IntList::MOST_ITEMS - self.items.len();
+        let more = other.items();
+        self.items.extend_from_slice(&more[..room.min(more.len())])?;
+        Ok(())
     }
 
     /// Another list that is the same.

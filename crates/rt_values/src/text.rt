@@ -1,8 +1,13 @@
 // Texts: values of the type Text.
-ghost use Rattle.std.specs.Prelude.{◌≡◌, ◌≤◌, Bool, List, ℕ, length, IfOk, IsUtf8};
+ghost use Rattle.std.specs.Prelude.{◌≡◌, ◌≤◌, Bool, List, ℕ, length, [], IfOk, IsUtf8};
 ghost use Rattle.std.specs.Str.{bytes_eq};
+ghost use Rattle.std.specs.Fmt.{signed_decimal};
+ghost use Rattle.rt_values.specs.Limits.{most_bytes};
+ghost use Rattle.rt_values.specs.Values.{truth_text};
+ghost use Rattle.rt_values.specs.Operators.{front, joined_text};
 
 use crate::NoMemory;
+use itoa::Buffer;
 use std::alloc::Global;
 use std::marker::Model;
 
@@ -14,12 +19,13 @@ pub struct Txt {
 
 impl Model for Txt {
     ghost use Rattle.std.specs.Prelude.{List, ℕ, ◌≤◌, length, string_bytes};
+    ghost use Rattle.rt_values.specs.Limits.{most_bytes};
 
     ghost Value = { List ℕ };
 
     ghost view = { λ t. string_bytes t.text };
 
-    ghost invariant = { λ t. length (string_bytes t.text) ≤ 4096 };
+    ghost invariant = { λ t. length (string_bytes t.text) ≤ most_bytes };
 }
 
 impl Txt {
@@ -28,12 +34,59 @@ impl Txt {
 
     /// The text with these characters.
     pub fn from_str(alloc: Global, text: &str) -> Result<Self, NoMemory>
-        requires { length text.now ≤ 4096 }
+        requires { length text.now ≤ most_bytes }
         ensures { IfOk result (λ t. t ≡ text.now) }
     {
         Ok(Txt {
             text: String::from_str(alloc, text)?,
         })
+    }
+
+    /// The text with these bytes.
+    pub fn of(alloc: Global, bytes: &[u8]) -> Result<Self, NoMemory>
+        requires utf8 { IsUtf8 bytes.now }
+        requires fits { length bytes.now ≤ most_bytes }
+        ensures { IfOk result (λ t. t ≡ bytes.now) }
+    {
+        match std::str::from_utf8(bytes) {
+            Ok(text) => Txt::from_str(alloc, text),
+            Err(_) => unreachable!(),
+        }
+    }
+
+    /// The text of no character. It takes no memory.
+    pub fn new(alloc: Global) -> Self
+        ensures { result ≡ [] }
+    {
+        Txt {
+            text: String::new(alloc),
+        }
+    }
+
+    /// A number by its decimals.
+    pub fn of_number(alloc: Global, number: i64) -> Result<Self, NoMemory>
+        ensures { IfOk result (λ t. t ≡ signed_decimal number) }
+    {
+        Txt::from_str(alloc, Buffer::new().format(number))
+    }
+
+    /// `true` or `false`.
+    pub fn of_truth(alloc: Global, truth: bool) -> Result<Self, NoMemory>
+        ensures { IfOk result (λ t. t ≡ truth_text truth) }
+    {
+        Txt::from_str(alloc, if truth { "true" } else { "false" })
+    }
+
+    /// One text and then the other, cut to the longest front of whole characters that has at most
+    /// `Txt::MOST_BYTES` bytes.
+    pub fn join(alloc: Global, first: &Txt, second: &Txt) -> Result<Self, NoMemory>
+        ensures { IfOk result (λ t. t ≡ joined_text first.now second.now) }
+    {
+        let first = first.text.as_str();
+        let more = front(second.as_str(), Txt::MOST_BYTES - first.len());
+        let mut text = String::from_str(alloc, first)?;
+        text.push_str(more)?;
+        Ok(Txt { text })
     }
 
     /// Its characters.
@@ -47,7 +100,7 @@ impl Txt {
     pub fn bytes(&self) -> &[u8]
         ensures bytes { result.now ≡ self.now }
         ensures utf8 { IsUtf8 self.now }
-        ensures fits { length self.now ≤ 4096 }
+        ensures fits { length self.now ≤ most_bytes }
     {
         self.text.as_str().as_bytes()
     }
@@ -67,4 +120,12 @@ impl Txt {
     {
         self.text.as_str() == other.text.as_str()
     }
+}
+
+// The longest front of whole characters that has at most `room` bytes.
+fn front(text: &str, room: usize) -> &str
+    ensures { result.now ≡ front room text.now }
+{
+    let (front, _) = text.split_at(text.floor_char_boundary(room));
+    front
 }
