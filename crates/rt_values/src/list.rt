@@ -99,16 +99,23 @@ impl IntList {
         Ok(())
     }
 
-    /// The items of another list at the end, as many as `IntList::MOST_ITEMS` leaves room for. Where memory runs out the
-    /// list stays as it is.
+    /// Items at the end, as many as `IntList::MOST_ITEMS` leaves room for. Where memory runs out the list stays as it
+    /// is.
+    pub fn extend(&mut self, more: &[i64]) -> Result<(), NoMemory>
+        ensures ok { OnOk result (self.new ≡ concatenated self.old more.now) }
+        ensures err { OnErr result (self.new ≡ self.old) }
+    {
+        let room = IntList::MOST_ITEMS - self.items.len();
+        self.items.extend_from_slice(&more[..room.min(more.len())])?;
+        Ok(())
+    }
+
+    /// The items of another list at the end, as `extend` adds them.
     pub fn concat(&mut self, other: &IntList) -> Result<(), NoMemory>
         ensures ok { OnOk result (self.new ≡ concatenated self.old other.now) }
         ensures err { OnErr result (self.new ≡ self.old) }
     {
-        let room = IntList::MOST_ITEMS - self.items.len();
-        let more = other.items();
-        self.items.extend_from_slice(&more[..room.min(more.len())])?;
-        Ok(())
+        self.extend(other.items())
     }
 
     /// Another list that is the same.
