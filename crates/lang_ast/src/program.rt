@@ -2,14 +2,14 @@
 ghost use Rattle.std.specs.Prelude.{◌≡◌, List};
 ghost use Rattle.lang_ast.specs.declared.program.Attribute.{Attribute as attribute_data};
 
-use rt_values::{ObjectNo, Txt, Value};
+use rt_values::{ObjectNo, Value, Word};
 use std::marker::Model;
 
 /// A state object that the program declares (`mutableStateOf`), with its first value, which gives its type.
 /// The states of a program are objects 0, 1, .. in the order in which they stand.
 #[derive(Drop)]
 pub struct State {
-    pub name: Txt,
+    pub name: Word,
     pub initial: Value,
 }
 
@@ -20,13 +20,13 @@ pub enum Expr {
     Literal(Value),
     /// The value of a state, which is one read of it. Its number is the state's, or how many states there are
     /// where none has this name.
-    Get { name: Txt, number: ObjectNo },
+    Get { name: Word, number: ObjectNo },
 }
 
 /// A named value of a node.
 #[derive(Drop)]
 pub struct Attribute {
-    pub name: Txt,
+    pub name: Word,
     pub value: Expr,
 }
 
@@ -66,7 +66,7 @@ impl Attributes {
 #[derive(Drop)]
 pub enum Stmt {
     /// A node of this kind with these attributes (`ComposeNode`).
-    Node { kind: Txt, attributes: Attributes },
+    Node { kind: Word, attributes: Attributes },
 }
 
 /// A program: its states, and the statements of its one composable `root`.

@@ -15,13 +15,13 @@ pub use passes::{CheckStop, Checked, check};
 mod tests {
     use super::*;
     use lang_ast::{Attribute, Attributes, Expr, Program, State, Stmt};
-    use rt_values::{ObjectNo, Txt, Value};
+    use rt_values::{ObjectNo, Value, Word};
     use std::alloc::Global;
     use std::test::Fail;
 
     fn state(alloc: Global, name: &[u8]) -> Result<State, Fail> {
         Ok(State {
-            name: Txt::of(alloc, name)?,
+            name: Word::of(alloc, name)?,
             initial: Value::Int(0),
         })
     }
@@ -29,14 +29,14 @@ mod tests {
     fn node(alloc: Global, number: ObjectNo) -> Result<Stmt, Fail> {
         let mut attributes = Vec::new(alloc);
         attributes.push(Attribute {
-            name: Txt::of(alloc, b"text")?,
+            name: Word::of(alloc, b"text")?,
             value: Expr::Get {
-                name: Txt::of(alloc, b"a")?,
+                name: Word::of(alloc, b"a")?,
                 number,
             },
         })?;
         Ok(Stmt::Node {
-            kind: Txt::of(alloc, b"Text")?,
+            kind: Word::of(alloc, b"Text")?,
             attributes: Attributes::of(attributes),
         })
     }

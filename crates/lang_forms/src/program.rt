@@ -9,7 +9,7 @@ ghost use Rattle.lang_forms.specs.Reading.{seen, Reads, state_of, states_of, get
 use crate::FormStop;
 use crate::items::{integer_in, is_over, list_in, name_in, word_in};
 use lang_ast::{Attribute, Attributes, Expr, State, Stmt};
-use rt_values::{ObjectNo, Txt, Value};
+use rt_values::{ObjectNo, Value, Word};
 use sexp_text::Tree;
 use std::alloc::Global;
 
@@ -32,7 +32,7 @@ fn state_in(alloc: Global, trees: &[Tree]) -> Result<State, FormStop>
         return Err(FormStop::Form);
     }
     Ok(State {
-        name: Txt::of(alloc, name)?,
+        name: Word::of(alloc, name)?,
         initial: Value::Int(initial),
     })
 }
@@ -90,7 +90,7 @@ fn get_in(alloc: Global, states: &[State], trees: &[Tree]) -> Result<Expr, FormS
     }
     let number = number_in(states, name);
     Ok(Expr::Get {
-        name: Txt::of(alloc, name)?,
+        name: Word::of(alloc, name)?,
         number,
     })
 }
@@ -130,7 +130,7 @@ fn attribute_in(alloc: Global, states: &[State], trees: &[Tree]) -> Result<Attri
         return Err(FormStop::Form);
     }
     Ok(Attribute {
-        name: Txt::of(alloc, name)?,
+        name: Word::of(alloc, name)?,
         value,
     })
 }
@@ -174,7 +174,7 @@ fn stmt_in(alloc: Global, states: &[State], trees: &[Tree]) -> Result<Stmt, Form
         return Err(FormStop::Form);
     }
     Ok(Stmt::Node {
-        kind: Txt::of(alloc, kind)?,
+        kind: Word::of(alloc, kind)?,
         attributes,
     })
 }

@@ -1,7 +1,7 @@
 // A script as it was read.
 ghost use Rattle.std.specs.Prelude.{◌≡◌};
 
-use rt_values::{ObjectNo, Txt, Value};
+use rt_values::{ObjectNo, Value, Word};
 use std::marker::Model;
 
 /// A step of a script as it was read. This project's own rule: scripts stand in place of test code.
@@ -10,7 +10,7 @@ pub enum StepForm {
     /// A write to a state object outside any snapshot.
     Write {
         /// The state's name.
-        state: Txt,
+        state: Word,
         /// The number of the first state of that name, or how many states there are where none has it.
         number: ObjectNo,
         /// The value to be written.
@@ -55,7 +55,7 @@ impl Steps {
 #[derive(Drop)]
 pub struct DoForm {
     /// The actor's name.
-    pub actor: Txt,
+    pub actor: Word,
     /// What it does.
     pub steps: Steps,
 }

@@ -7,7 +7,7 @@ use crate::items::{integer_in, is_over, name_in, word_in};
 use crate::program::number_in;
 use crate::rest::{DoForm, StepForm, Steps};
 use lang_ast::State;
-use rt_values::{Txt, Value};
+use rt_values::{Value, Word};
 use sexp_text::Tree;
 use std::alloc::Global;
 
@@ -31,7 +31,7 @@ fn write_in(alloc: Global, states: &[State], trees: &[Tree]) -> Result<StepForm,
     }
     let number = number_in(states, name);
     Ok(StepForm::Write {
-        state: Txt::of(alloc, name)?,
+        state: Word::of(alloc, name)?,
         number,
         value: Value::Int(value),
     })
@@ -84,7 +84,7 @@ fn script_in(alloc: Global, states: &[State], trees: &[Tree]) -> Result<DoForm, 
     };
     let steps = steps_in(alloc, states, rest)?;
     Ok(DoForm {
-        actor: Txt::of(alloc, actor)?,
+        actor: Word::of(alloc, actor)?,
         steps: Steps::of(steps),
     })
 }

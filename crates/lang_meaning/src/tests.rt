@@ -2,7 +2,7 @@
 use crate::{eval, scratch};
 use lang_ast::{Attribute, Attributes, Expr, Program, State, Stmt};
 use lang_checks::check;
-use rt_values::{Entry, Map, NoMemory, ObjectNo, Objects, Txt, Value, View};
+use rt_values::{Entry, Map, NoMemory, ObjectNo, Objects, Value, View, Word};
 use std::alloc::Global;
 use std::test::Fail;
 
@@ -52,28 +52,28 @@ fn view_of(alloc: Global, numbers: &[i64]) -> Result<Shown, Fail> {
 
 fn get(alloc: Global, number: ObjectNo) -> Result<Expr, Fail> {
     Ok(Expr::Get {
-        name: Txt::of(alloc, b"state")?,
+        name: Word::of(alloc, b"state")?,
         number,
     })
 }
 
 fn attribute(alloc: Global, value: Expr) -> Result<Attribute, Fail> {
     Ok(Attribute {
-        name: Txt::of(alloc, b"attribute")?,
+        name: Word::of(alloc, b"attribute")?,
         value,
     })
 }
 
 fn node(alloc: Global, attributes: Vec<Attribute>) -> Result<Stmt, Fail> {
     Ok(Stmt::Node {
-        kind: Txt::of(alloc, b"Text")?,
+        kind: Word::of(alloc, b"Text")?,
         attributes: Attributes::of(attributes),
     })
 }
 
 fn state(alloc: Global, name: &[u8]) -> Result<State, Fail> {
     Ok(State {
-        name: Txt::of(alloc, name)?,
+        name: Word::of(alloc, name)?,
         initial: Value::Int(0),
     })
 }

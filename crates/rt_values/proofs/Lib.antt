@@ -1,1 +1,6 @@
+pub mod Equal
+pub mod Fronts
+pub mod Lists
+pub mod Printed
+pub mod Quotients
 pub mod Trails

@@ -1,4 +1,6 @@
+pub mod Limits
 pub mod Values
+pub mod Operators
 pub mod Maps
 pub mod Views
 pub mod Trail

@@ -1,6 +1,8 @@
 -- Types and values: equality, types and printed forms.
-use Rattle.std.specs.Prelude.{ℕ, Bool, true, List, pos}
+use Rattle.std.specs.Prelude.{ℕ, ℤ, Bool, true, false, List, [], ◌∷◌, ◌++◌, ◌==◌, pos, codes, if◌then◌else◌}
+use Rattle.std.specs.Bool.{beq}
 use Rattle.std.specs.Ordering.{int_eq}
+use Rattle.std.specs.Str.{bytes_eq}
 use Rattle.std.specs.Fmt.{signed_decimal}
 use Rattle.std.specs.Cmp.Lexicographic.{pointwise}
 use Rattle.rt_values.specs.declared.value.Value.{Value}
@@ -11,24 +13,68 @@ use Rattle.rt_values.specs.declared.value.Ty.TheVariants as ty
 -- the type of a value
 abbrev pub type_of : Value → Ty
 type_of (value.Int z) = ty.Int
+type_of (value.Bool b) = ty.Bool
+type_of (value.Text t) = ty.Text
+type_of (value.Ints l) = ty.Ints
 
 abbrev pub same_type : Ty → Ty → Bool
 same_type ty.Int ty.Int = true
+same_type ty.Bool ty.Bool = true
+same_type ty.Text ty.Text = true
+same_type ty.Ints ty.Ints = true
+same_type ty.Int _ = false
+same_type ty.Bool _ = false
+same_type ty.Text _ = false
+same_type ty.Ints _ = false
 
--- equal values
+abbrev pub same_items : List ℤ → List ℤ → Bool
+same_items = pointwise int_eq
+
+-- equal values: of one type, and with equal contents
 abbrev pub same_value : Value → Value → Bool
 same_value (value.Int a) (value.Int b) = int_eq a b
+same_value (value.Bool a) (value.Bool b) = beq a b
+same_value (value.Text a) (value.Text b) = bytes_eq a b
+same_value (value.Ints a) (value.Ints b) = same_items a b
+same_value (value.Int a) _ = false
+same_value (value.Bool a) _ = false
+same_value (value.Text a) _ = false
+same_value (value.Ints a) _ = false
 
 abbrev pub same_values : List Value → List Value → Bool
 same_values = pointwise same_value
 
--- a value as a literal is written: an Int by its decimals
+-- a truth value as a literal is written
+abbrev pub truth_text : Bool → List ℕ
+truth_text true = codes "true"
+truth_text false = codes "false"
+
+-- a byte of a string: a quote, a backslash and LF are escaped, and no other
+abbrev pub escape : ℕ → List ℕ
+escape b = if b == 34 then 92 ∷ 34 ∷ [] else if b == 92 then 92 ∷ 92 ∷ [] else if b == 10 then 92 ∷ 110 ∷ [] else b ∷ []
+
+abbrev pub escaped : List ℕ → List ℕ
+escaped [] = []
+escaped (b ∷ bs) = escape b ++ escaped bs
+
+-- a blank before each number, by its decimals
+abbrev pub items_text : List ℤ → List ℕ
+items_text [] = []
+items_text (z ∷ zs) = 32 ∷ signed_decimal z ++ items_text zs
+
+-- A value as a literal is written: an Int by its decimals, a Bool as true or false, a Text in quotes, an Ints as (ints 1 2).
 abbrev pub value_text : Value → List ℕ
 value_text (value.Int z) = signed_decimal z
+value_text (value.Bool b) = truth_text b
+value_text (value.Text t) = 34 ∷ escaped t ++ 34 ∷ []
+value_text (value.Ints l) = codes "(ints" ++ items_text l ++ 41 ∷ []
 
 -- whether a copy takes no memory
 abbrev pub is_flat : Value → Bool
 is_flat (value.Int z) = true
+is_flat (value.Bool b) = true
+is_flat (value.Text t) = false
+is_flat (value.Ints l) = false
 
 -- what a state that is not there is read as
 abbrev pub no_value : Value

@@ -1,55 +1,131 @@
-// Texts that contracts see as lists of bytes.
-ghost use Rattle.std.specs.Prelude.{◌≡◌, Bool, List, ℕ, IfOk};
+// Texts: values of the type Text.
+ghost use Rattle.std.specs.Prelude.{◌≡◌, ◌≤◌, Bool, List, ℕ, length, [], IfOk, IsUtf8};
 ghost use Rattle.std.specs.Str.{bytes_eq};
+ghost use Rattle.std.specs.Fmt.{signed_decimal};
+ghost use Rattle.rt_values.specs.Limits.{most_bytes};
+ghost use Rattle.rt_values.specs.Values.{truth_text};
+ghost use Rattle.rt_values.specs.Operators.{front, joined_text};
 
 use crate::NoMemory;
+use itoa::Buffer;
 use std::alloc::Global;
 use std::marker::Model;
 
-/// A text, by its bytes. Names of programs are texts.
+/// A text of at most `Txt::MOST_BYTES` bytes of UTF-8.
 #[derive(Drop)]
 pub struct Txt {
-    bytes: Vec<u8>,
+    text: String,
 }
 
 impl Model for Txt {
-    ghost use Rattle.std.specs.Prelude.{List, ℕ};
+    ghost use Rattle.std.specs.Prelude.{List, ℕ, ◌≤◌, length, string_bytes};
+    ghost use Rattle.rt_values.specs.Limits.{most_bytes};
 
     ghost Value = { List ℕ };
 
-    ghost view = { λ t. t.bytes.items };
+    ghost view = { λ t. string_bytes t.text };
+
+    ghost invariant = { λ t. length (string_bytes t.text) ≤ most_bytes };
 }
 
 impl Txt {
-    /// The text with these bytes.
-    pub fn of(alloc: Global, bytes: &[u8]) -> Result<Self, NoMemory>
-        ensures { IfOk result (λ t. t ≡ bytes.now) }
+    /// The most bytes that a text has; this project's own rule.
+    pub const MOST_BYTES: usize = 4096;
+
+    /// The text with these characters.
+    pub fn from_str(alloc: Global, text: &str) -> Result<Self, NoMemory>
+        requires { length text.now ≤ most_bytes }
+        ensures { IfOk result (λ t. t ≡ text.now) }
     {
         Ok(Txt {
-            bytes: bytes.to_vec(alloc)?,
+            text: String::from_str(alloc, text)?,
         })
     }
 
-    /// Its bytes.
-    pub fn bytes(&self) -> &[u8]
-        ensures { result.now ≡ self.now }
+    /// The text with these bytes.
+    pub fn of(alloc: Global, bytes: &[u8]) -> Result<Self, NoMemory>
+        requires utf8 { IsUtf8 bytes.now }
+        requires fits { length bytes.now ≤ most_bytes }
+        ensures { IfOk result (λ t. t ≡ bytes.now) }
     {
-        &self.bytes
+        match std::str::from_utf8(bytes) {
+            Ok(text) => Txt::from_str(alloc, text),
+            Err(_) => unreachable!(),
+        }
     }
 
-    /// Another text with the same bytes.
+    /// The text of no character. It takes no memory.
+    pub fn new(alloc: Global) -> Self
+        ensures { result ≡ [] }
+    {
+        Txt {
+            text: String::new(alloc),
+        }
+    }
+
+    /// A number by its decimals.
+    pub fn of_number(alloc: Global, number: i64) -> Result<Self, NoMemory>
+        ensures { IfOk result (λ t. t ≡ signed_decimal number) }
+    {
+        Txt::from_str(alloc, Buffer::new().format(number))
+    }
+
+    /// `true` or `false`.
+    pub fn of_truth(alloc: Global, truth: bool) -> Result<Self, NoMemory>
+        ensures { IfOk result (λ t. t ≡ truth_text truth) }
+    {
+        Txt::from_str(alloc, if truth { "true" } else { "false" })
+    }
+
+    /// One text and then the other, cut to the longest front of whole characters that has at most
+    /// `Txt::MOST_BYTES` bytes.
+    pub fn join(alloc: Global, first: &Txt, second: &Txt) -> Result<Self, NoMemory>
+        ensures { IfOk result (λ t. t ≡ joined_text first.now second.now) }
+    {
+        let first = first.text.as_str();
+        let more = front(second.as_str(), Txt::MOST_BYTES - first.len());
+        let mut text = String::from_str(alloc, first)?;
+        text.push_str(more)?;
+        Ok(Txt { text })
+    }
+
+    /// Its characters.
+    pub fn as_str(&self) -> &str
+        ensures { result.now ≡ self.now }
+    {
+        self.text.as_str()
+    }
+
+    /// Its bytes: UTF-8, and at most `Txt::MOST_BYTES` of them.
+    pub fn bytes(&self) -> &[u8]
+        ensures bytes { result.now ≡ self.now }
+        ensures utf8 { IsUtf8 self.now }
+        ensures fits { length self.now ≤ most_bytes }
+    {
+        self.text.as_str().as_bytes()
+    }
+
+    /// Another text that is the same.
     pub fn copy(&self, alloc: Global) -> Result<Self, NoMemory>
         ensures { IfOk result (λ t. t ≡ self.now) }
     {
         Ok(Txt {
-            bytes: self.bytes.to_vec(alloc)?,
+            text: String::from_str(alloc, self.text.as_str())?,
         })
     }
 
-    /// Whether its bytes are these.
-    pub fn is(&self, bytes: &[u8]) -> bool
-        ensures { result ≡ bytes_eq self.now bytes.now }
+    /// Whether both have the same characters.
+    pub fn same(&self, other: &Txt) -> bool
+        ensures { result ≡ bytes_eq self.now other.now }
     {
-        self.bytes.as_slice() == bytes
+        self.text.as_str() == other.text.as_str()
     }
+}
+
+// The longest front of whole characters that has at most `room` bytes.
+fn front(text: &str, room: usize) -> &str
+    ensures { result.now ≡ front room text.now }
+{
+    let (front, _) = text.split_at(text.floor_char_boundary(room));
+    front
 }

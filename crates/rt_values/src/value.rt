@@ -1,8 +1,9 @@
 // Values of states and expressions, and their types.
-ghost use Rattle.std.specs.Prelude.{◌≡◌, ◌++◌, List, ℕ, true, IfOk, OnOk, OnErr};
-ghost use Rattle.rt_values.specs.Values.{type_of, same_type, same_value, value_text, is_flat};
+ghost use Rattle.std.specs.Prelude.{◌≡◌, ◌++◌, ◌∷◌, [], ◌↔◌, List, ℕ, codes, true, IfOk, OnOk, OnErr};
+ghost use Rattle.std.specs.Fmt.{signed_decimal};
+ghost use Rattle.rt_values.specs.Values.{type_of, same_type, same_value, value_text, truth_text, escape, escaped, items_text, is_flat};
 
-use crate::NoMemory;
+use crate::{IntList, NoMemory, Txt};
 use itoa::Buffer;
 use std::alloc::Global;
 
@@ -11,6 +12,12 @@ use std::alloc::Global;
 pub enum Ty {
     /// Whole numbers of 64 bits with a sign.
     Int,
+    /// Truth values.
+    Bool,
+    /// Texts of at most `Txt::MOST_BYTES` bytes of UTF-8.
+    Text,
+    /// Lists of at most `IntList::MOST_ITEMS` whole numbers.
+    Ints,
 }
 
 impl Ty {
@@ -18,8 +25,11 @@ impl Ty {
     pub fn same(self, other: Ty) -> bool
         ensures { result ≡ same_type self other }
     {
-        match (self, other) {
-            (Ty::Int, Ty::Int) => true,
+        match self {
+            Ty::Int => matches!(other, Ty::Int),
+            Ty::Bool => matches!(other, Ty::Bool),
+            Ty::Text => matches!(other, Ty::Text),
+            Ty::Ints => matches!(other, Ty::Ints),
         }
     }
 }
@@ -28,6 +38,9 @@ impl Ty {
 #[derive(Drop)]
 pub enum Value {
     Int(i64),
+    Bool(bool),
+    Text(Txt),
+    Ints(IntList),
 }
 
 impl Value {
@@ -37,25 +50,36 @@ impl Value {
     {
         match self {
             Value::Int(_) => Ty::Int,
+            Value::Bool(_) => Ty::Bool,
+            Value::Text(_) => Ty::Text,
+            Value::Ints(_) => Ty::Ints,
         }
     }
 
-    /// Another value that is the same. The copy of a number takes no memory.
-    pub fn copy(&self, _alloc: Global) -> Result<Value, NoMemory>
+    /// Another value that is the same. The copy of a number or a truth value takes no memory.
+    pub fn copy(&self, alloc: Global) -> Result<Value, NoMemory>
         ensures same { IfOk result (λ v. v ≡ self.now) }
         ensures flat { is_flat self.now ≡ true → OnErr result ⊥ }
     {
         match self {
             Value::Int(number) => Ok(Value::Int(*number)),
+            Value::Bool(truth) => Ok(Value::Bool(*truth)),
+            Value::Text(text) => Ok(Value::Text(text.copy(alloc)?)),
+            Value::Ints(list) => Ok(Value::Ints(list.copy(alloc)?)),
         }
     }
 
     /// Whether both are equal, as `structuralEqualityPolicy` asks.
     pub fn same(&self, other: &Value) -> bool
-        ensures { result ≡ same_value self.now other.now }
+        ensures value { result ≡ same_value self.now other.now }
+        ensures equal { (result ≡ true) ↔ (self.now ≡ other.now) }
     {
         match (self, other) {
             (Value::Int(a), Value::Int(b)) => *a == *b,
+            (Value::Bool(a), Value::Bool(b)) => *a == *b,
+            (Value::Text(a), Value::Text(b)) => a.same(b),
+            (Value::Ints(a), Value::Ints(b)) => a.same(b),
+            _ => false,
         }
     }
 
@@ -64,11 +88,76 @@ impl Value {
         ensures { OnOk result (text.new.items ≡ text.old.items ++ value_text self.now) }
     {
         match self {
-            Value::Int(number) => {
-                let mut digits = Buffer::new();
-                text.extend_from_slice(digits.format(*number).as_bytes())?;
-                Ok(())
-            }
+            Value::Int(number) => put_number(text, *number),
+            Value::Bool(truth) => put_truth(text, *truth),
+            Value::Text(chars) => put_string(text, chars),
+            Value::Ints(list) => put_list(text, list),
         }
     }
+}
+
+// The decimals of a number.
+fn put_number(text: &mut Vec<u8>, number: i64) -> Result<(), NoMemory>
+    ensures { OnOk result (text.new.items ≡ text.old.items ++ signed_decimal number) }
+{
+    let mut digits = Buffer::new();
+    text.extend_from_slice(digits.format(number).as_bytes())?;
+    Ok(())
+}
+
+// `true` or `false`.
+fn put_truth(text: &mut Vec<u8>, truth: bool) -> Result<(), NoMemory>
+    ensures { OnOk result (text.new.items ≡ text.old.items ++ truth_text truth) }
+{
+    let word: &[u8] = if truth { b"true" } else { b"false" };
+    text.extend_from_slice(word)?;
+    Ok(())
+}
+
+// A byte of a string, escaped where it needs to be.
+fn put_char(text: &mut Vec<u8>, c: u8) -> Result<(), NoMemory>
+    ensures { OnOk result (text.new.items ≡ text.old.items ++ escape c) }
+{
+    match c {
+        b'"' => text.extend_from_slice(b"\\\"")?,
+        b'\\' => text.extend_from_slice(b"\\\\")?,
+        b'\n' => text.extend_from_slice(b"\\n")?,
+        _ => text.push(c)?,
+    }
+    Ok(())
+}
+
+// A string in its quotes.
+#[tactic(auto, using(crate::proofs::Printed::strings))]
+fn put_string(text: &mut Vec<u8>, chars: &Txt) -> Result<(), NoMemory>
+    ensures { OnOk result (text.new.items ≡ text.old.items ++ 34 ∷ escaped chars.now ++ 34 ∷ []) }
+{
+    text.push(b'"')?;
+    for c in chars.bytes() {
+        put_char(text, *c)?;
+    }
+    text.push(b'"')?;
+    Ok(())
+}
+
+// The numbers of a list, each with a blank before it.
+#[tactic(auto, using(crate::proofs::Printed::lists))]
+fn put_items(text: &mut Vec<u8>, items: &[i64]) -> Result<(), NoMemory>
+    ensures { OnOk result (text.new.items ≡ text.old.items ++ items_text items.now) }
+{
+    for item in items {
+        text.push(b' ')?;
+        put_number(text, *item)?;
+    }
+    Ok(())
+}
+
+// A list as the form that makes it.
+fn put_list(text: &mut Vec<u8>, list: &IntList) -> Result<(), NoMemory>
+    ensures { OnOk result (text.new.items ≡ text.old.items ++ (codes "(ints" ++ items_text list.now ++ 41 ∷ [])) }
+{
+    text.extend_from_slice(b"(ints")?;
+    put_items(text, list.items())?;
+    text.push(b')')?;
+    Ok(())
 }

@@ -8,7 +8,7 @@ ghost use Rattle.script_lang.specs.Scripts.{is_known, all_known, actor_of, is_on
 use lang_ast::State;
 use lang_checks::Checked;
 use lang_forms::{DoForm, Rest, StepForm};
-use rt_values::{NoMemory, ObjectNo, Txt, Value};
+use rt_values::{NoMemory, ObjectNo, Value, Word};
 use std::alloc::Global;
 
 /// A step of an actor.
@@ -23,7 +23,7 @@ pub enum Step {
 /// What the one actor does. Where there is no actor there are no steps, and the name is empty.
 #[derive(Drop)]
 pub struct Script {
-    pub actor: Txt,
+    pub actor: Word,
     pub steps: Vec<Step>,
 }
 
@@ -96,11 +96,11 @@ fn are_known(states: &[State], forms: &[DoForm]) -> bool
         .all(|form| are_known_steps(states, form.steps.items()))
 }
 
-fn first_actor(alloc: Global, forms: &[DoForm]) -> Result<Txt, NoMemory>
+fn first_actor(alloc: Global, forms: &[DoForm]) -> Result<Word, NoMemory>
     ensures { IfOk result (λ a. a ≡ actor_of forms.now) }
 {
     match forms.split_first() {
-        None => Txt::of(alloc, &[]),
+        None => Word::of(alloc, &[]),
         Some((first, _)) => first.actor.copy(alloc),
     }
 }

@@ -5,14 +5,14 @@ use crate::{
 use lang_ast::{Attribute, Expr, Program, State};
 use lang_checks::{Checked, check};
 use lang_forms::{DoForm, Rest, StepForm, Steps};
-use rt_values::{Kind, ObjectNo, Objects, Txt, Ty, Value};
+use rt_values::{Kind, ObjectNo, Objects, Ty, Value, Word};
 use snap_api::{Logged, Refusal, Reply, Request};
 use std::alloc::Global;
 use std::test::Fail;
 
 fn state(alloc: Global, name: &[u8]) -> Result<State, Fail> {
     Ok(State {
-        name: Txt::of(alloc, name)?,
+        name: Word::of(alloc, name)?,
         initial: Value::Int(0),
     })
 }
@@ -32,13 +32,13 @@ fn program(alloc: Global) -> Result<Checked, Fail> {
 fn form(alloc: Global, actor: &[u8], number: ObjectNo) -> Result<DoForm, Fail> {
     let mut steps = Vec::new(alloc);
     steps.push(StepForm::Write {
-        state: Txt::of(alloc, b"state")?,
+        state: Word::of(alloc, b"state")?,
         number,
         value: Value::Int(1),
     })?;
     steps.push(StepForm::Frame)?;
     Ok(DoForm {
-        actor: Txt::of(alloc, actor)?,
+        actor: Word::of(alloc, actor)?,
         steps: Steps::of(steps),
     })
 }
@@ -77,7 +77,7 @@ fn scripts_are_resolved(rt: HostRuntime) -> Result<(), Fail> {
 fn line_of(alloc: Global, request: Request, reply: Reply) -> Result<Vec<u8>, Fail> {
     let program = program(alloc)?;
     let script = Script {
-        actor: Txt::of(alloc, b"a")?,
+        actor: Word::of(alloc, b"a")?,
         steps: Vec::new(alloc),
     };
     let mut text = Vec::new(alloc);
@@ -176,7 +176,7 @@ fn each_refusal_has_its_words(rt: HostRuntime) -> Result<(), Fail> {
 
 fn attribute(alloc: Global, name: &[u8]) -> Result<Attribute, Fail> {
     Ok(Attribute {
-        name: Txt::of(alloc, name)?,
+        name: Word::of(alloc, name)?,
         value: Expr::Literal(Value::Int(0)),
     })
 }
@@ -197,7 +197,7 @@ fn frames_tell_their_report_and_tree(rt: HostRuntime) -> Result<(), Fail> {
     attributes.push(attribute(alloc, b"width")?)?;
     attributes.push(attribute(alloc, b"height")?)?;
     let values = [Value::Int(10), Value::Int(-20), Value::Int(30)];
-    let kind = Txt::of(alloc, b"Box")?;
+    let kind = Word::of(alloc, b"Box")?;
     let rest = add_node(&mut text, 12, &kind, &attributes, &values)?;
     assert_eq!(rt; rest.len(), 1);
     add_refused(&mut text)?;

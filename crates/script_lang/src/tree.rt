@@ -7,7 +7,7 @@ ghost use Rattle.script_lang.specs.Paired.{paired};
 
 use crate::line::{add, add_number};
 use lang_ast::Attribute;
-use rt_values::{NoMemory, Txt, Value};
+use rt_values::{NoMemory, Value, Word};
 
 /// What a frame tells of itself: how many calls ran, how many remembered values were calculated, how many
 /// reads those calls made, and how many groups and nodes the composition has.
@@ -96,7 +96,7 @@ fn add_attributes<'a>(
 pub fn add_node<'a>(
     text: &mut Vec<u8>,
     number: u64,
-    kind: &Txt,
+    kind: &Word,
     attributes: &[Attribute],
     values: &'a [Value],
 ) -> Result<&'a [Value], NoMemory>

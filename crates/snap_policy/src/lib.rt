@@ -7,28 +7,10 @@
 //! was merged from.
 #![tactic(auto)]
 
+mod merges;
 mod policy;
 
 pub use policy::{BuiltIn, Policy};
 
 #[cfg(test)]
-mod tests {
-    use super::*;
-    use rt_values::{Ty, Value};
-    use std::test::Fail;
-
-    #[test]
-    fn structural_merges_nothing(rt: HostRuntime) -> Result<(), Fail> {
-        let policy = BuiltIn::Structural;
-        let (one, two) = (Value::Int(1), Value::Int(2));
-        assert!(rt;
-            policy.fits(Ty::Int) && policy.equivalent(&one, &one) && !policy.equivalent(&one, &two)
-        );
-        assert!(rt;
-            policy
-                .merge(rt.alloc(), &one, &two, &Value::Int(3))?
-                .is_none()
-        );
-        Ok(())
-    }
-}
+mod tests;

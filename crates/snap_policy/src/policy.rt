@@ -5,6 +5,7 @@ ghost use Rattle.rt_values.specs.declared.value.Ty.{Ty as ty_data};
 ghost use Rattle.rt_values.specs.Values.{type_of};
 ghost use Rattle.snap_policy.specs.Rules.{Rules};
 
+use crate::merges::{merge_counters, merge_largest, merge_lists};
 use rt_values::{NoMemory, Ty, Value};
 use std::alloc::Global;
 
@@ -42,6 +43,16 @@ pub trait Policy: Drop {
 pub enum BuiltIn {
     /// `structuralEqualityPolicy`: it fits all types, equal values are equivalent, and it merges nothing.
     Structural,
+    /// `neverEqualPolicy`: it fits all types, no values are equivalent, and it merges nothing.
+    Never,
+    /// It fits Int, and adds the changes up, wrapping in 64 bits: `current + (applied - previous)`. It is the
+    /// policy of a counter that the documentation of `SnapshotMutationPolicy` shows.
+    Counter,
+    /// It fits Int, and merges two numbers into the greater one; this project's own rule.
+    Largest,
+    /// It fits Ints, and merges two lists that both begin with the previous one: the current list, followed by the
+    /// items that the applied one added. Lists that would be too long together conflict; this project's own rule.
+    Append,
 }
 
 impl Policy for BuiltIn {
@@ -53,25 +64,33 @@ impl Policy for BuiltIn {
 
     fn equivalent(&self, a: &Value, b: &Value) -> bool {
         match self {
-            BuiltIn::Structural => a.same(b),
+            BuiltIn::Never => false,
+            BuiltIn::Structural | BuiltIn::Counter | BuiltIn::Largest | BuiltIn::Append => {
+                a.same(b)
+            }
         }
     }
 
     fn merge(
         &self,
-        _alloc: Global,
-        _previous: &Value,
-        _current: &Value,
-        _applied: &Value,
+        alloc: Global,
+        previous: &Value,
+        current: &Value,
+        applied: &Value,
     ) -> Result<Option<Value>, NoMemory> {
         match self {
-            BuiltIn::Structural => Ok(None),
+            BuiltIn::Structural | BuiltIn::Never => Ok(None),
+            BuiltIn::Counter => Ok(merge_counters(previous, current, applied)),
+            BuiltIn::Largest => Ok(merge_largest(current, applied)),
+            BuiltIn::Append => merge_lists(alloc, previous, current, applied),
         }
     }
 
-    fn fits(&self, _ty: Ty) -> bool {
+    fn fits(&self, ty: Ty) -> bool {
         match self {
-            BuiltIn::Structural => true,
+            BuiltIn::Structural | BuiltIn::Never => true,
+            BuiltIn::Counter | BuiltIn::Largest => matches!(ty, Ty::Int),
+            BuiltIn::Append => matches!(ty, Ty::Ints),
         }
     }
 }
