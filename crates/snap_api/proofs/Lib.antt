@@ -6,3 +6,6 @@ pub mod ValidMoves
 pub mod ValidMade
 pub mod ValidSettle
 pub mod ValidCalls
+pub mod LawsCases
+pub mod LawsRefusals
+pub mod LawsNames

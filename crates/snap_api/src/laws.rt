@@ -1,5 +1,5 @@
 // What holds of every plain world, in the words of snapshots.
-ghost use Rattle.snap_api.specs.Laws.{StartsValid, MakesStayValid, WatchesStayValid, CallsStayValid, ViewsRise};
+ghost use Rattle.snap_api.specs.Laws.{StartsValid, MakesStayValid, WatchesStayValid, CallsStayValid, ViewsRise, RefusalsChangeNothing, ClosedStaysClosed, NamesAreNew};
 
 use snap_policy::Policy;
 
@@ -12,4 +12,22 @@ pub fn worlds_stay_valid<P: Policy>()
     ensures watched { WatchesStayValid P.rules }
     ensures call { CallsStayValid P.rules }
     ensures rises { ViewsRise P.rules }
+{}
+
+/// A call that is refused leaves the world as it was: no snapshot, no entry and no stamp is another, and the clock
+/// stands. (`Snapshot.apply` of the original leaves a snapshot open too where it fails.)
+pub fn a_refusal_changes_nothing<P: Policy>()
+    ensures { RefusalsChangeNothing P.rules }
+{}
+
+/// An applied or disposed snapshot never opens again: whatever is called, it keeps its status, its base, its view
+/// and what it wrote.
+pub fn closed_stays_closed<P: Policy>()
+    ensures { ClosedStaysClosed P.rules }
+{}
+
+/// A name is never handed out twice. Names are given in the order of the takes: each is the number of snapshots
+/// that were taken before it, and every later one is greater, whatever is called in between.
+pub fn names_are_new<P: Policy>()
+    ensures { NamesAreNew P.rules }
 {}
