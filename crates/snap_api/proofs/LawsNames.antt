@@ -16,7 +16,7 @@ module _ {P : Type 0} (rules : Rules P) where
   apart : (w : World P) (name other : ℕ) → is_closed w name ≡ true → is_closed w other ≡ false → name ≢ other
   apart w name other shut live same = let shut_too : is_closed w other ≡ true = ap (λ (n : ℕ). is_closed w n) (sym same) ∙ shut in absurd cc
 
-  pushed : (w : World P) (name : ℕ) (s : Shot) → name < length w.shots → slice_index_or (w.shots ++ s ∷ []) name absent ≡ shot_of w name
+  pub pushed : (w : World P) (name : ℕ) (s : Shot) → name < length w.shots → slice_index_or (w.shots ++ s ∷ []) name absent ≡ shot_of w name
   pushed w name s there = get_or-append w.shots (s ∷ []) absent name there
 
   stays_after : (w : World P) (caller : ℕ) (q : Request) (out : World P × Reply) → Did rules w caller q out → (name : ℕ) → name < length w.shots → is_closed w name ≡ true → shot_of out.0 name ≡ shot_of w name
@@ -33,7 +33,7 @@ module _ {P : Type 0} (rules : Rules P) where
   stays_after w caller q out (gone n) name there shut = refl
   stays_after w caller q out (closed n live) name there shut = get_or-set_other w.shots n name _ absent (apart w name n shut live)
 
-  grows_by : (w : World P) (caller : ℕ) (q : Request) (out : World P × Reply) → Did rules w caller q out → length w.shots ≤ length out.0.shots
+  pub grows_by : (w : World P) (caller : ℕ) (q : Request) (out : World P × Reply) → Did rules w caller q out → length w.shots ≤ length out.0.shots
   grows_by w caller q out (refused request r) = omega arith
   grows_by w caller q out (took parent kind live) = omega (arith, length-append w.shots (child_of caller parent kind (shot_of w parent) ∷ []))
   grows_by w caller q out (took_for watcher) = omega (arith, length-append w.shots (child_of caller 0 Readonly (shot_of w 0) ∷ []))
@@ -44,7 +44,7 @@ module _ {P : Type 0} (rules : Rules P) where
   grows_by w caller q out (gone n) = omega arith
   grows_by w caller q out (closed n live) = omega (arith, length-set {A = Shot})
 
-  named_by : (w : World P) (caller : ℕ) (q : Request) (out : World P × Reply) → Did rules w caller q out → (name : ℕ) → handed out.1 ≡ Some name → (name ≡ length w.shots) × (name < length out.0.shots)
+  pub named_by : (w : World P) (caller : ℕ) (q : Request) (out : World P × Reply) → Did rules w caller q out → (name : ℕ) → handed out.1 ≡ Some name → (name ≡ length w.shots) × (name < length out.0.shots)
   named_by w caller q out (refused request r) name e = absurd cc
   named_by w caller q out (took parent kind live) name e =
       let is : length w.shots ≡ name = cc in (sym is, omega (arith, is, length-append w.shots (child_of caller parent kind (shot_of w parent) ∷ [])))

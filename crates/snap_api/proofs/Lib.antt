@@ -9,3 +9,4 @@ pub mod ValidCalls
 pub mod LawsCases
 pub mod LawsRefusals
 pub mod LawsNames
+pub mod LawsViews

@@ -1,20 +1,33 @@
 -- What holds of every plain world, in the words of snapshots.
-use Rattle.std.specs.Prelude.{◌≡◌, ℕ, ◌<◌, ◌≤◌, length, Option, Some, None, true}
+use Rattle.std.specs.Prelude.{◌≡◌, ℕ, ◌+◌, ◌==◌, ◌<◌, ◌≤◌, [], ◌∷◌, length, slice_set, Option, Some, None, true, if◌then◌else◌}
 use Rattle.rt_values.specs.declared.value.Ty.{Ty}
 use Rattle.rt_values.specs.declared.value.Value.{Value}
+use Rattle.rt_values.specs.Maps.{Map, value_at}
 use Rattle.snap_policy.specs.Rules.{Rules}
+use Rattle.snap_api.specs.Settle.{Settled, settled, conflict, settle_from}
 use Rattle.snap_api.specs.Valid.{IsValid, Rises}
 use Rattle.snap_api.specs.World.{World, start, made, make_refusal, watched, call, world_after, History, shot_of, is_closed, clock_limit}
 use Rattle.snap_api.specs.declared.data.Refusal.{Refusal}
 use Rattle.snap_api.specs.declared.data.Reply.{Reply}
 use Rattle.snap_api.specs.declared.data.Reply.TheVariants as reply
 use Rattle.snap_api.specs.declared.data.Request.{Request}
+use Rattle.snap_api.specs.declared.data.Request.TheVariants as request
 
 -- the name that a reply hands out
 abbrev pub handed : Reply → Option ℕ
 handed (reply.Taken name) = Some name
 handed (reply.TakenFor name changed) = Some name
 handed _ = None
+
+-- what the snapshot was taken from that a request takes
+abbrev pub taken_from : Request → ℕ
+taken_from (request.Take parent kind) = parent
+taken_from _ = 0
+
+-- what was settled, in place of what was shown
+abbrev pub brought : Map → Settled → Map
+brought m (settled now changed) = now
+brought m (conflict x) = m
 
 module _ {P : Type 0} (rules : Rules P) where
   -- a world without objects is valid
@@ -50,3 +63,26 @@ module _ {P : Type 0} (rules : Rules P) where
   abbrev pub NamesAreNew : Type 0
   NamesAreNew = (w : World P) (caller : ℕ) (request : Request) (name : ℕ) → handed (call rules w caller request).1 ≡ Some name →
       (name ≡ length w.shots) × ((calls : History) (other : ℕ) (asked : Request) (later : ℕ) → handed (call rules (world_after rules (call rules w caller request).0 calls) other asked).1 ≡ Some later → name < later)
+
+  -- what a snapshot that shows m shows after a call: after a write in it that changed an object, that entry; after the apply of a child, what was settled from m; else m
+  abbrev pub shown_after : World P → ℕ → Map → Request → Reply → Map
+  shown_after w name m (request.Write written x value) (reply.Wrote true) = if written == name then slice_set m x (record { value = value; stamp = w.clock + 1 }) else m
+  shown_after w name m (request.Apply child) reply.Applied =
+      let s = shot_of w child in
+      if s.parent == name then brought m (settle_from rules (w.clock + 1) s.wrote 0 w.objects s.base m s.view) else m
+  shown_after w name m _ _ = m
+
+  -- and after calls
+  abbrev pub told : World P → ℕ → Map → History → Map
+  told w name m [] = m
+  told w name m (e ∷ es) = told (call rules w e.caller e.request).0 name (shown_after w name m e.request (call rules w e.caller e.request).1) es
+
+  -- a snapshot shows what it showed, changed by the writes in it and the applies of its children alone
+  abbrev pub ViewsAreIsolated : Type 0
+  ViewsAreIsolated = (w : World P) (calls : History) (name : ℕ) → name < length w.shots → (shot_of (world_after rules w calls) name).view ≡ told w name (shot_of w name).view calls
+
+  -- what a read answers in a snapshot is told from what its parent showed when it was taken
+  abbrev pub ReadsAreIsolated : Type 0
+  ReadsAreIsolated = (w : World P) (caller : ℕ) (take : Request) (name : ℕ) → handed (call rules w caller take).1 ≡ Some name →
+      (calls : History) (reader x : ℕ) (value : Value) → (call rules (world_after rules (call rules w caller take).0 calls) reader (request.Read name x)).1 ≡ reply.Got value →
+      value ≡ value_at (told (call rules w caller take).0 name (shot_of w (taken_from take)).view calls) x

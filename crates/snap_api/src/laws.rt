@@ -1,5 +1,5 @@
 // What holds of every plain world, in the words of snapshots.
-ghost use Rattle.snap_api.specs.Laws.{StartsValid, MakesStayValid, WatchesStayValid, CallsStayValid, ViewsRise, RefusalsChangeNothing, ClosedStaysClosed, NamesAreNew};
+ghost use Rattle.snap_api.specs.Laws.{StartsValid, MakesStayValid, WatchesStayValid, CallsStayValid, ViewsRise, RefusalsChangeNothing, ClosedStaysClosed, NamesAreNew, ViewsAreIsolated, ReadsAreIsolated};
 
 use snap_policy::Policy;
 
@@ -30,4 +30,12 @@ pub fn closed_stays_closed<P: Policy>()
 /// that were taken before it, and every later one is greater, whatever is called in between.
 pub fn names_are_new<P: Policy>()
     ensures { NamesAreNew P.rules }
+{}
+
+/// Snapshots are isolated. What a snapshot shows of an object is what was last written in it, or was brought into
+/// it by the apply of a child, or else what its parent showed when it was taken; nothing that is done in any other
+/// snapshot changes it, its parent's later changes included. A read answers just that.
+pub fn isolation<P: Policy>()
+    ensures views { ViewsAreIsolated P.rules }
+    ensures reads { ReadsAreIsolated P.rules }
 {}
