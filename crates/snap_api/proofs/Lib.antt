@@ -10,3 +10,5 @@ pub mod LawsCases
 pub mod LawsRefusals
 pub mod LawsNames
 pub mod LawsViews
+pub mod LawsApplies
+pub mod LawsFirst

@@ -1,17 +1,19 @@
 -- What holds of every plain world, in the words of snapshots.
-use Rattle.std.specs.Prelude.{◌≡◌, ℕ, ◌+◌, ◌==◌, ◌<◌, ◌≤◌, [], ◌∷◌, length, slice_set, Option, Some, None, true, if◌then◌else◌}
+use Rattle.std.specs.Prelude.{◌≡◌, ◌≢◌, ℕ, ◌+◌, ◌==◌, ◌<◌, ◌≤◌, [], ◌∷◌, length, slice_get, slice_set, Option, Some, None, true, false, if◌then◌else◌}
 use Rattle.rt_values.specs.declared.value.Ty.{Ty}
 use Rattle.rt_values.specs.declared.value.Value.{Value}
-use Rattle.rt_values.specs.Maps.{Map, value_at}
+use Rattle.rt_values.specs.Maps.{Map, entry_at, value_at, contains}
 use Rattle.snap_policy.specs.Rules.{Rules}
 use Rattle.snap_api.specs.Settle.{Settled, settled, conflict, settle_from}
 use Rattle.snap_api.specs.Valid.{IsValid, Rises}
 use Rattle.snap_api.specs.World.{World, start, made, make_refusal, watched, call, world_after, History, shot_of, is_closed, clock_limit}
+use Rattle.snap_api.specs.declared.data.Object.{Object}
 use Rattle.snap_api.specs.declared.data.Refusal.{Refusal}
 use Rattle.snap_api.specs.declared.data.Reply.{Reply}
 use Rattle.snap_api.specs.declared.data.Reply.TheVariants as reply
 use Rattle.snap_api.specs.declared.data.Request.{Request}
 use Rattle.snap_api.specs.declared.data.Request.TheVariants as request
+use Rattle.snap_api.specs.declared.data.Shot.{Shot}
 
 -- the name that a reply hands out
 abbrev pub handed : Reply → Option ℕ
@@ -28,6 +30,12 @@ taken_from _ = 0
 abbrev pub brought : Map → Settled → Map
 brought m (settled now changed) = now
 brought m (conflict x) = m
+
+-- a snapshot changed an object, to a value that does not count as its parent's and that the policy merges with nothing
+pub record Clashes {P : Type 0} (rules : Rules P) (policy : P) (x : ℕ) (own parent : Shot) : Type 0 where
+  pub changed : contains x own.wrote ≡ true
+  pub unlike : rules.equiv policy (value_at parent.view x) (value_at own.view x) ≡ false
+  pub unmerged : rules.merge policy (value_at own.base x) (value_at parent.view x) (value_at own.view x) ≡ None
 
 module _ {P : Type 0} (rules : Rules P) where
   -- a world without objects is valid
@@ -86,3 +94,15 @@ module _ {P : Type 0} (rules : Rules P) where
   ReadsAreIsolated = (w : World P) (caller : ℕ) (take : Request) (name : ℕ) → handed (call rules w caller take).1 ≡ Some name →
       (calls : History) (reader x : ℕ) (value : Value) → (call rules (world_after rules (call rules w caller take).0 calls) reader (request.Read name x)).1 ≡ reply.Got value →
       value ≡ value_at (told (call rules w caller take).0 name (shot_of w (taken_from take)).view calls) x
+
+  -- once the apply of one snapshot changed an object in its parent, no snapshot that was taken from that parent before is applied with
+  -- a change that clashes, as long as the parent still has that entry
+  abbrev pub FirstCommitterWins : Type 0
+  FirstCommitterWins = (w : World P) (caller first second x : ℕ) (o : Object P) (calls : History) (later : ℕ) →
+      let parent = (shot_of w first).parent in
+      let after = (call rules w caller (request.Apply first)).0 in
+      let now = world_after rules after calls in
+      IsValid rules w → second < length w.shots → (shot_of w second).parent ≡ parent → slice_get w.objects x ≡ Some o →
+      (call rules w caller (request.Apply first)).1 ≡ reply.Applied → entry_at (shot_of after parent).view x ≢ entry_at (shot_of w parent).view x →
+      entry_at (shot_of now parent).view x ≡ entry_at (shot_of after parent).view x → Clashes rules o.policy x (shot_of now second) (shot_of now parent) →
+      (call rules now later (request.Apply second)).1 ≢ reply.Applied

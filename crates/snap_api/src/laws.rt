@@ -1,5 +1,5 @@
 // What holds of every plain world, in the words of snapshots.
-ghost use Rattle.snap_api.specs.Laws.{StartsValid, MakesStayValid, WatchesStayValid, CallsStayValid, ViewsRise, RefusalsChangeNothing, ClosedStaysClosed, NamesAreNew, ViewsAreIsolated, ReadsAreIsolated};
+ghost use Rattle.snap_api.specs.Laws.{StartsValid, MakesStayValid, WatchesStayValid, CallsStayValid, ViewsRise, RefusalsChangeNothing, ClosedStaysClosed, NamesAreNew, ViewsAreIsolated, ReadsAreIsolated, FirstCommitterWins};
 
 use snap_policy::Policy;
 
@@ -38,4 +38,11 @@ pub fn names_are_new<P: Policy>()
 pub fn isolation<P: Policy>()
     ensures views { ViewsAreIsolated P.rules }
     ensures reads { ReadsAreIsolated P.rules }
+{}
+
+/// The first committer wins. Of two snapshots that were taken from one parent and changed one object, the second
+/// cannot be applied while the parent keeps what the first brought, whatever is done in between: its apply is
+/// refused, unless the two values count as equal or the policy merges them.
+pub fn first_committer_wins<P: Policy>()
+    ensures { FirstCommitterWins P.rules }
 {}
