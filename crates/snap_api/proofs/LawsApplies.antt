@@ -1,5 +1,5 @@
 -- What an answered apply leaves of each object, and what calls leave of each snapshot.
-use Rattle.std.proofs.Common.{◌≡◌, ◌≢◌, ℕ, ◌+◌, ◌<◌, List, [], ◌∷◌, length, refl, sym, ap, ◌∙◌, subst, Some, Bool, true, arith, cond, length-set}
+use Rattle.std.proofs.Common.{◌≡◌, ℕ, ◌+◌, ◌<◌, List, [], ◌∷◌, length, refl, sym, ap, ◌∙◌, subst, Some, arith, cond, length-set}
 use Rattle.std.proofs.lemmas.Bool.Decides.{Decides-eqb}
 use Rattle.std.specs.Prelude.{slice_get}
 use Rattle.rt_values.specs.Maps.{Map, entry_at, contains}
@@ -11,10 +11,10 @@ use Rattle.snap_api.proofs.Valid.{open_within}
 use Rattle.snap_api.proofs.ValidCalls.{valid_call}
 use Rattle.snap_api.proofs.ValidSettle.{Right, IsRight, right_settle, Tells, Outcome, outcome}
 use Rattle.snap_api.proofs.ValidSteps.{each_shot-set}
-use Rattle.snap_api.specs.Settle.{Settled, settled, settle}
+use Rattle.snap_api.specs.Settle.{settle}
 use Rattle.snap_api.specs.Shaped.{IsShaped}
 use Rattle.snap_api.specs.Valid.{IsValid, KeepsTypes}
-use Rattle.snap_api.specs.World.{World, History, shot_of, applied, with_shot, with_settled, with_status, with_entry, call, world_after, is_closed, settled_of}
+use Rattle.snap_api.specs.World.{World, History, shot_of, applied, with_shot, with_settled, with_status, with_entry, call, world_after}
 use Rattle.snap_api.specs.declared.data.Object.{Object}
 use Rattle.snap_api.specs.declared.data.Reply.{Reply}
 use Rattle.snap_api.specs.declared.data.Reply.TheVariants as reply
@@ -94,7 +94,7 @@ module _ {P : Type 0} (rules : Rules P) where
     pub there : name < length w.shots
     pub above : (shot_of w name).parent < length w.shots
 
-  joined_by : (w : World P) → IsShaped w → (caller : ℕ) (q : Request) (out : World P × Reply) → Did rules w caller q out → (name : ℕ) → q ≡ request.Apply name → out.1 ≡ reply.Applied → Joined w name out.0
+  pub joined_by : (w : World P) → IsShaped w → (caller : ℕ) (q : Request) (out : World P × Reply) → Did rules w caller q out → (name : ℕ) → q ≡ request.Apply name → out.1 ≡ reply.Applied → Joined w name out.0
   joined_by w v caller q out (refused request r) name asked e = absurd cc
   joined_by w v caller q out (took parent kind live) name asked e = absurd cc
   joined_by w v caller q out (took_for watcher) name asked e = absurd cc
@@ -109,7 +109,7 @@ module _ {P : Type 0} (rules : Rules P) where
       let settles = right_settle rules (w.clock + 1) s.wrote 0 w.objects s.base (shot_of w s.parent).view s.view (v.full n there).0 (v.full s.parent above).1 (v.full n there).1 in
       let right : Right rules (w.clock + 1) s.wrote 0 w.objects s.base (shot_of w s.parent).view s.view m changed = subst (IsRight rules (w.clock + 1) s.wrote 0 w.objects s.base (shot_of w s.parent).view s.view) is settles in
       let parent_shows : (shot_of (applied w n m changed) s.parent).view ≡ m =
-          view-applied w n m changed there above s.parent ∙ ap (λ t. cond t m (shot_of w s.parent).view) ((Decides-eqb s.parent s.parent).1 refl) in
+      view-applied w n m changed there above s.parent ∙ ap (λ t. cond t m (shot_of w s.parent).view) ((Decides-eqb s.parent s.parent).1 refl) in
       subst (λ (k : ℕ). Joined w k (applied w n m changed)) same (record { m = m; changed = changed; right = right; shown = parent_shows; there = there; above = above })
   joined_by w v caller q out (gone n) name asked e = absurd cc
   joined_by w v caller q out (closed n live) name asked e = absurd cc

@@ -1,5 +1,5 @@
 -- What a call did, case by case: the refusals in one case, each effect in one more.
-use Rattle.std.proofs.Common.{◌≡◌, ℕ, ◌+◌, ◌==◌, nat_lt, List, length, refl, sym, ap, ◌∙◌, subst, Option, Some, None, Bool, true, false, not, ◌&&◌, cond}
+use Rattle.std.proofs.Common.{◌≡◌, ℕ, ◌==◌, nat_lt, List, length, refl, Option, Some, None, Bool, true, false, not, ◌&&◌, cond}
 use Rattle.std.specs.Prelude.{slice_get}
 use Rattle.rt_values.specs.Maps.{Map, value_at, differ}
 use Rattle.rt_values.specs.Values.{type_of, same_type}

@@ -1,5 +1,5 @@
 -- The first committer wins.
-use Rattle.std.proofs.Common.{◌≡◌, ◌≢◌, ℕ, ◌+◌, ◌==◌, ◌<◌, ◌≤◌, List, ◌∷◌, length, refl, sym, ap, ◌∙◌, subst, Option, Some, None, Bool, true, false, cond, arith, inl, inr}
+use Rattle.std.proofs.Common.{◌≡◌, ◌≢◌, ℕ, ◌+◌, ◌==◌, ◌<◌, ◌≤◌, List, ◌∷◌, length, ap, ◌∙◌, subst, Option, Some, None, Bool, true, false, cond, arith, inl, inr}
 use Rattle.std.proofs.lemmas.Bool.Decides.{eqb_tells}
 use Rattle.std.proofs.lemmas.Option.{slice_get_within}
 use Rattle.std.specs.Prelude.{slice_get}
@@ -7,16 +7,13 @@ use Rattle.rt_values.specs.Maps.{Map, entry_at, contains}
 use Rattle.rt_values.specs.declared.maps.Entry.{Entry}
 use Rattle.rt_values.specs.declared.value.Value.{Value}
 use Rattle.snap_policy.specs.Rules.{Rules}
-use Rattle.snap_api.proofs.LawsApplies.{Joined, joined_call, told_there, outcome_there, SameRoots, roots_after, objects_after, objects_call, valid_after}
-use Rattle.snap_api.proofs.LawsCases.{did}
-use Rattle.snap_api.proofs.LawsNames.{grows_by}
-use Rattle.snap_api.proofs.ValidCalls.{valid_call}
+use Rattle.snap_api.proofs.LawsApplies.{Joined, joined_call, told_there, outcome_there, SameRoots, roots_after, objects_after, valid_after}
 use Rattle.snap_api.proofs.ValidMoves.{stamp_in_time}
-use Rattle.snap_api.proofs.ValidSettle.{Tells, Outcome, stays, comes, merges}
-use Rattle.snap_api.specs.Laws.{FirstCommitterWins, Clashes}
-use Rattle.snap_api.specs.Settle.{Verdict, takes, keeps, merged, settle}
-use Rattle.snap_api.specs.Valid.{Place, View, IsValid, KeepsTypes}
-use Rattle.snap_api.specs.World.{World, History, shot_of, call, world_after}
+use Rattle.snap_api.proofs.ValidSettle.{Tells, stays, comes, merges}
+use Rattle.snap_api.specs.Laws.{FirstCommitterWins}
+use Rattle.snap_api.specs.Settle.{takes, keeps, merged, settle}
+use Rattle.snap_api.specs.Valid.{View, IsValid, KeepsTypes}
+use Rattle.snap_api.specs.World.{World, shot_of, call, world_after}
 use Rattle.snap_api.specs.declared.data.Logged.{Logged}
 use Rattle.snap_api.specs.declared.data.Object.{Object}
 use Rattle.snap_api.specs.declared.data.Reply.TheVariants as reply
@@ -29,6 +26,7 @@ untold : {P : Type 0} (rules : Rules P) (p : P) (b c a e : Entry) (now : ℕ) (c
 untold rules p b c a e now changed later unlike unmerged told = clash (b.stamp == c.stamp) (rules.equiv p c.value a.value) (rules.merge p b.value c.value a.value) unequal unlike unmerged told where
   unequal : (b.stamp == c.stamp) ≡ false
   unequal = elim (eqb_tells b.stamp c.stamp) [ inl h ↦ absurd (omega (arith, h.1, later)) | inr h ↦ h.0 ]
+
   clash : (same like : Bool) (m : Option Value) → same ≡ false → like ≡ false → m ≡ None → Tells true (cond same (takes a) (cond like keeps (merged m now))) c e changed → ⊥
   clash true like m f g h told = absurd cc
   clash false true m f g h told = absurd cc
@@ -60,7 +58,7 @@ module _ {P : Type 0} (rules : Rules P) (keeps_types : KeepsTypes rules) where
       let inside : x < length (shot_of w second).base = omega (arith, slice_get_within w.objects x o known, (v.shaped.full second taken).0) in
       let base : (entry_at (shot_of now second).base x).stamp ≡ (entry_at (shot_of w second).base x).stamp = ap (λ (m : Map). (entry_at m x).stamp) roots.base in
       let below : (entry_at (shot_of w second).base x).stamp ≤ (entry_at (shot_of w parent).view x).stamp =
-          subst (λ (n : ℕ). (entry_at (shot_of w second).base x).stamp ≤ (entry_at (shot_of w n).view x).stamp) siblings ((v.above second).stamps x inside) in
+      subst (λ (n : ℕ). (entry_at (shot_of w second).base x).stamp ≤ (entry_at (shot_of w n).view x).stamp) siblings ((v.above second).stamps x inside) in
       let rose = later_stamp w after first x o v (joined_call rules w v.shaped caller first answered) known another in
       let still : (entry_at (shot_of now parent).view x).stamp ≡ (entry_at (shot_of after parent).view x).stamp = ap (λ (e : Entry). e.stamp) unchanged in
       let s = shot_of now second in
@@ -69,8 +67,8 @@ module _ {P : Type 0} (rules : Rules P) (keeps_types : KeepsTypes rules) where
       let stamps : (entry_at s.base x).stamp < (entry_at moved.view x).stamp = omega (arith, base, below, rose, still, ap (λ (t : Shot). (entry_at t.view x).stamp) is_parent) in
       let unlike : rules.equiv o.policy (entry_at moved.view x).value (entry_at s.view x).value ≡ false = ap (λ (t : Shot). rules.equiv o.policy (entry_at t.view x).value (entry_at s.view x).value) is_parent ∙ clash.unlike in
       let unmerged : rules.merge o.policy (entry_at s.base x).value (entry_at moved.view x).value (entry_at s.view x).value ≡ None =
-          ap (λ (t : Shot). rules.merge o.policy (entry_at s.base x).value (entry_at t.view x).value (entry_at s.view x).value) is_parent ∙ clash.unmerged in
+      ap (λ (t : Shot). rules.merge o.policy (entry_at s.base x).value (entry_at t.view x).value (entry_at s.view x).value) is_parent ∙ clash.unmerged in
       let left : Entry = entry_at (shot_of (call rules now later (request.Apply second)).0 s.parent).view x in
       let written : Tells true (settle rules o.policy (entry_at s.base x) (entry_at moved.view x) (entry_at s.view x) (now.clock + 1)) (entry_at moved.view x) left (contains x j.changed) =
-          subst (λ t. Tells t (settle rules o.policy (entry_at s.base x) (entry_at moved.view x) (entry_at s.view x) (now.clock + 1)) (entry_at moved.view x) left (contains x j.changed)) clash.changed (told_there rules j x o known_now) in
+      subst (λ t. Tells t (settle rules o.policy (entry_at s.base x) (entry_at moved.view x) (entry_at s.view x) (now.clock + 1)) (entry_at moved.view x) left (contains x j.changed)) clash.changed (told_there rules j x o known_now) in
       untold rules o.policy (entry_at s.base x) (entry_at moved.view x) (entry_at s.view x) left (now.clock + 1) (contains x j.changed) stamps unlike unmerged written

@@ -1,5 +1,5 @@
 -- A closed snapshot stays as it is, and names are new.
-use Rattle.std.proofs.Common.{◌≡◌, ◌≢◌, ℕ, ◌+◌, ◌<◌, ◌≤◌, List, [], ◌∷◌, ◌++◌, length, refl, sym, ap, ◌∙◌, subst, Some, None, Bool, true, false, not, arith, inl, inr, length-append, length-set, get_or-set_other}
+use Rattle.std.proofs.Common.{◌≡◌, ◌≢◌, ℕ, ◌<◌, ◌≤◌, [], ◌∷◌, ◌++◌, length, refl, sym, ap, ◌∙◌, Some, true, false, not, arith, length-append, length-set, get_or-set_other}
 use Rattle.std.proofs.Math.ListN.{get_or-append}
 use Rattle.std.specs.Prelude.{slice_index_or}
 use Rattle.rt_values.specs.declared.names.Kind.TheVariants.{Readonly}
@@ -74,7 +74,9 @@ module _ {P : Type 0} (rules : Rules P) where
   pub names_are_new : NamesAreNew rules
   names_are_new w caller request name e =
       let first = named_by w caller request _ (did rules w caller request) name e in
-      let next = (call rules w caller request).0 in
-      (first.0, λ h other asked later f.
-          let after = world_after rules next h in
-          omega (arith, first.1, count_grows next h, (named_by after other asked _ (did rules after other asked) later f).0))
+      let next = (call rules w caller request).0 in (
+        first.0,
+        λ h other asked later f.
+            let after = world_after rules next h in
+            omega (arith, first.1, count_grows next h, (named_by after other asked _ (did rules after other asked) later f).0),
+      )

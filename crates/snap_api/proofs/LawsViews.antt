@@ -1,5 +1,5 @@
 -- What a snapshot shows changes by its own writes and the applies of its children alone.
-use Rattle.std.proofs.Common.{◌≡◌, ◌≢◌, ℕ, ◌+◌, ◌==◌, ◌<◌, List, [], ◌∷◌, ◌++◌, length, refl, sym, ap, ◌∙◌, subst, Some, Bool, true, false, cond, arith, inl, inr, length-set}
+use Rattle.std.proofs.Common.{◌≡◌, ◌≢◌, ℕ, ◌+◌, ◌==◌, ◌<◌, List, [], ◌∷◌, ◌++◌, length, refl, sym, ap, ◌∙◌, Some, true, false, cond, arith, inl, inr, length-set}
 use Rattle.std.proofs.Math.Seq.{get_or-append_seam}
 use Rattle.std.proofs.lemmas.Bool.Decides.{eqb_tells, Decides-eqb}
 use Rattle.std.specs.Prelude.{slice_index_or, slice_set}
@@ -13,8 +13,8 @@ use Rattle.snap_api.proofs.LawsNames.{grows_by, pushed, named_by}
 use Rattle.snap_api.proofs.Valid.{open_within}
 use Rattle.snap_api.proofs.ValidSteps.{each_shot-set}
 use Rattle.snap_api.specs.Laws.{ViewsAreIsolated, ReadsAreIsolated, shown_after, told, brought, handed, taken_from}
-use Rattle.snap_api.specs.Settle.{Settled, settled, settle_from}
-use Rattle.snap_api.specs.World.{World, History, absent, shot_of, child_of, written, applied, with_shot, with_settled, with_status, with_entry, call, world_after, is_closed}
+use Rattle.snap_api.specs.Settle.{Settled, settle_from}
+use Rattle.snap_api.specs.World.{World, absent, shot_of, child_of, written, applied, with_shot, with_settled, with_status, with_entry, call, world_after}
 use Rattle.snap_api.specs.declared.data.Refusal.{Refusal}
 use Rattle.snap_api.specs.declared.data.Reply.{Reply}
 use Rattle.snap_api.specs.declared.data.Reply.TheVariants as reply
@@ -50,11 +50,11 @@ module _ {P : Type 0} (w : World P) where
       let into = with_shot w parent (with_settled (shot_of w parent) m changed) in
       let still : n < length into.shots = omega (arith, there, length-set {A = Shot}) in
       let last : (shot_of (applied w n m changed) k).view ≡ (shot_of into k).view =
-          each_shot-set into.shots n (with_status (shot_of into n) Applied) (λ i s. s.view ≡ (shot_of into i).view) still refl (λ i other. refl) k in
+      each_shot-set into.shots n (with_status (shot_of into n) Applied) (λ i s. s.view ≡ (shot_of into i).view) still refl (λ i other. refl) k in
       let first : (shot_of into k).view ≡ cond (parent == k) m (shot_of w k).view =
-          each_shot-set w.shots parent (with_settled (shot_of w parent) m changed) (λ i s. s.view ≡ cond (parent == i) m (shot_of w i).view) above
-          (ap (λ t. cond t m (shot_of w parent).view) (sym (equal parent)))
-          (λ i other. ap (λ t. cond t m (shot_of w i).view) (sym (unequal parent i other))) k in
+      each_shot-set w.shots parent (with_settled (shot_of w parent) m changed) (λ i s. s.view ≡ cond (parent == i) m (shot_of w i).view) above
+      (ap (λ t. cond t m (shot_of w parent).view) (sym (equal parent)))
+      (λ i other. ap (λ t. cond t m (shot_of w i).view) (sym (unequal parent i other))) k in
       last ∙ first
 
 module _ {P : Type 0} (rules : Rules P) where
@@ -81,7 +81,7 @@ module _ {P : Type 0} (rules : Rules P) where
       view-applied w n m changed (open_within w n live) (open_within w s.parent parent_live) name ∙ elim (eqb_tells s.parent name) [
         | inl e ↦
             let same : given ≡ m =
-                ap (λ (k : ℕ). brought view (settle_from rules (w.clock + 1) s.wrote 0 w.objects s.base (shot_of w k).view s.view)) (sym e.1) ∙ ap (λ (t : Settled). brought view t) is in
+            ap (λ (k : ℕ). brought view (settle_from rules (w.clock + 1) s.wrote 0 w.objects s.base (shot_of w k).view s.view)) (sym e.1) ∙ ap (λ (t : Settled). brought view t) is in
             ap (λ (k : Map). cond (s.parent == name) k view) (sym same)
         | inr e ↦ ap (λ t. cond t m view) e.0 ∙ sym (ap (λ t. cond t given view) e.0)
       ]
@@ -137,5 +137,5 @@ module _ {P : Type 0} (rules : Rules P) where
       let after = world_after rules next calls in
       let there : name < length next.shots = (named_by rules w caller take _ step name e).1 in
       let shown : (shot_of after name).view ≡ told rules next name (shot_of w (taken_from take)).view calls =
-          views_are_isolated next calls name there ∙ ap (λ (m : Map). told rules next name m calls) (view_taken w caller take _ step name e) in
+      views_are_isolated next calls name there ∙ ap (λ (m : Map). told rules next name m calls) (view_taken w caller take _ step name e) in
       value_read after reader name x _ _ (did rules after reader (request.Read name x)) refl value f ∙ ap (λ (m : Map). value_at m x) shown

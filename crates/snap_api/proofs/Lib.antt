@@ -12,3 +12,4 @@ pub mod LawsNames
 pub mod LawsViews
 pub mod LawsApplies
 pub mod LawsFirst
+pub mod LawsSums

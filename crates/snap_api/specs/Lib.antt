@@ -6,3 +6,4 @@ pub mod Valid
 pub mod Eyes
 pub mod Keeps
 pub mod Laws
+pub mod LawsSums

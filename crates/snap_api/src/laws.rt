@@ -1,5 +1,6 @@
 // What holds of every plain world, in the words of snapshots.
 ghost use Rattle.snap_api.specs.Laws.{StartsValid, MakesStayValid, WatchesStayValid, CallsStayValid, ViewsRise, RefusalsChangeNothing, ClosedStaysClosed, NamesAreNew, ViewsAreIsolated, ReadsAreIsolated, FirstCommitterWins};
+ghost use Rattle.snap_api.specs.LawsSums.{AppliesAdd, AppliesAddUp};
 
 use snap_policy::Policy;
 
@@ -45,4 +46,17 @@ pub fn isolation<P: Policy>()
 /// refused, unless the two values count as equal or the policy merges them.
 pub fn first_committer_wins<P: Policy>()
     ensures { FirstCommitterWins P.rules }
+{}
+
+/// No update is lost under a policy that merges by adding, as a counter's does. Each apply that succeeds adds to
+/// the parent what the child itself added since it was taken, wrapping at 64 bits; and so, whatever else is done,
+/// the parent ends with what it showed and the sum of what all its children brought, as long as nobody writes the
+/// object in the parent itself.
+///
+/// One case is excepted: where the parent was changed since the child was taken and shows a value that counts as
+/// the child's. Then the parent's entry stands, as after any apply of an equal value: two children that both go
+/// from 10 to 11 leave 11.
+pub fn no_lost_update<P: Policy>()
+    ensures one { AppliesAdd P.rules }
+    ensures all { AppliesAddUp P.rules }
 {}
