@@ -10,7 +10,6 @@ use Rattle.rt_values.specs.Maps.{Map, entry_at, no_entry}
 use Rattle.rt_values.specs.Values.{type_of, same_type}
 use Rattle.rt_values.specs.declared.maps.Entry.{Entry}
 use Rattle.rt_values.specs.declared.value.Ty.{Ty}
-use Rattle.rt_values.specs.declared.value.Ty.TheVariants as ty
 use Rattle.rt_values.specs.declared.value.Value.{Value}
 use Rattle.snap_policy.specs.Rules.{Rules}
 use Rattle.snap_api.proofs.Valid.{shaped_start, shaped_made}
@@ -43,8 +42,9 @@ pub record Makeable {P : Type 0} (rules : Rules P) (ty : Ty) (policy : P) (value
   pub typed : type_of value ≡ ty
   pub fits : rules.fits policy ty ≡ true
 
+-- the test of equal types tells that they are equal
 pub same_type_tells : (a b : Ty) → same_type a b ≡ true → a ≡ b
-same_type_tells ty.Int ty.Int e = refl
+same_type_tells a b e = grind arith
 
 makeable_of : {P : Type 0} (rules : Rules P) (ty : Ty) (policy : P) (value : Value) (same fits : Bool) → same_type (type_of value) ty ≡ same → rules.fits policy ty ≡ fits →
     (if not same then Some (refusal.WrongType ty) else if not fits then Some refusal.BadPolicy else None) ≡ None → Makeable rules ty policy value
