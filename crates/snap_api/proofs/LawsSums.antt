@@ -17,7 +17,7 @@ use Rattle.snap_api.proofs.LawsViews.{view_after, view-applied}
 use Rattle.snap_api.proofs.Valid.{open_within}
 use Rattle.snap_api.proofs.ValidCalls.{valid_call}
 use Rattle.snap_api.proofs.ValidSettle.{Tells}
-use Rattle.snap_api.specs.LawsSums.{Counts, added_in, meets, AppliesAdd, is_quiet, brings, sum_brought, AppliesAddUp}
+use Rattle.snap_api.specs.LawsSums.{Counts, added_in, meets, AppliesAdd, MeetingsStand, is_quiet, brings, sum_brought, AppliesAddUp}
 use Rattle.snap_api.specs.Settle.{takes, keeps, merged}
 use Rattle.snap_api.specs.Valid.{Base, View, IsValid, KeepsTypes}
 use Rattle.snap_api.specs.World.{World, shot_of, call}
@@ -57,7 +57,24 @@ module _ {P : Type 0} (rules : Rules P) (p : P) (number : Value → ℤ) (counts
   adds_of true false false (Some v) unwritten alike apart is told = ap (λ (f : Entry). int_wrap w64 (number f.value)) told.0 ∙ counts.adds b.value c.value a.value v is
   adds_of true false false None unwritten alike apart is told = absurd told
 
+-- where the parent's value counts as the snapshot's and is of another change, its entry is left
+met_of : (a c e : Entry) (now : ℕ) (changed written same like : Bool) (m : Option Value) → (not same && like) ≡ true → Tells written (cond same (takes a) (cond like keeps (merged m now))) c e changed → e ≡ c
+met_of a c e now changed false same like m met told = told.0
+met_of a c e now changed true true like m met told = absurd cc
+met_of a c e now changed true false true m met told = told.0
+met_of a c e now changed true false false m met told = absurd cc
+
 module _ {P : Type 0} (rules : Rules P) where
+  pub meetings_stand : MeetingsStand rules
+  meetings_stand w caller name x o v known answered met =
+      let j : Joined rules w name (call rules w caller (request.Apply name)).0 = joined_call rules w v.shaped caller name answered in
+      let s = shot_of w name in
+      let b : Entry = entry_at s.base x in
+      let c : Entry = entry_at (shot_of w s.parent).view x in
+      let a : Entry = entry_at s.view x in
+      let left : Entry = entry_at (shot_of (call rules w caller (request.Apply name)).0 s.parent).view x in
+      met_of a c left (w.clock + 1) (contains x j.changed) (contains x s.wrote) (b.stamp == c.stamp) (rules.equiv o.policy c.value a.value) (rules.merge o.policy b.value c.value a.value) met (told_there rules j x o known)
+
   adds_joined : {w after : World P} {name : ℕ} (number : Value → ℤ) → IsValid rules w → Joined rules w name after → (x : ℕ) (o : Object P) → slice_get w.objects x ≡ Some o → Counts rules o.policy number →
       meets rules o.policy x (shot_of w name) (shot_of w (shot_of w name).parent) ≡ false →
       int_wrap w64 (number (value_at (shot_of after (shot_of w name).parent).view x)) ≡ int_wrap w64 (number (value_at (shot_of w (shot_of w name).parent).view x) +ℤ added_in number (shot_of w name) x)

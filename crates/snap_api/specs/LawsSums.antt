@@ -27,7 +27,7 @@ module _ {P : Type 0} (rules : Rules P) where
   abbrev pub meets : P → ℕ → Shot → Shot → Bool
   meets policy x own parent = not ((entry_at own.base x).stamp == (entry_at parent.view x).stamp) && rules.equiv policy (value_at parent.view x) (value_at own.view x)
 
-  -- an apply adds what the snapshot added, unless the two values meet
+  -- an answered apply adds what the snapshot added, unless the two values meet
   abbrev pub AppliesAdd : Type 0
   AppliesAdd = (w : World P) (caller name x : ℕ) (o : Object P) (number : Value → ℤ) →
       let parent = (shot_of w name).parent in
@@ -35,6 +35,14 @@ module _ {P : Type 0} (rules : Rules P) where
       IsValid rules w → slice_get w.objects x ≡ Some o → Counts rules o.policy number →
       (call rules w caller (request.Apply name)).1 ≡ reply.Applied → meets o.policy x (shot_of w name) (shot_of w parent) ≡ false →
       int_wrap w64 (number (value_at (shot_of after parent).view x)) ≡ int_wrap w64 (number (value_at (shot_of w parent).view x) +ℤ added_in number (shot_of w name) x)
+
+  -- where they meet the parent's entry stands
+  abbrev pub MeetingsStand : Type 0
+  MeetingsStand = (w : World P) (caller name x : ℕ) (o : Object P) →
+      let parent = (shot_of w name).parent in
+      let after = (call rules w caller (request.Apply name)).0 in
+      IsValid rules w → slice_get w.objects x ≡ Some o → (call rules w caller (request.Apply name)).1 ≡ reply.Applied → meets o.policy x (shot_of w name) (shot_of w parent) ≡ true →
+      entry_at (shot_of after parent).view x ≡ entry_at (shot_of w parent).view x
 
   -- the call does not write object x in the parent itself, and applies no child to it whose value meets the parent's
   abbrev pub is_quiet : World P → ℕ → ℕ → P → Request → Bool

@@ -1,6 +1,6 @@
 // What holds of every plain world, in the words of snapshots.
 ghost use Rattle.snap_api.specs.Laws.{StartsValid, MakesStayValid, WatchesStayValid, CallsStayValid, ViewsRise, RefusalsChangeNothing, ClosedStaysClosed, NamesAreNew, ViewsAreIsolated, ReadsAreIsolated, FirstCommitterWins};
-ghost use Rattle.snap_api.specs.LawsSums.{AppliesAdd, AppliesAddUp};
+ghost use Rattle.snap_api.specs.LawsSums.{AppliesAdd, MeetingsStand, AppliesAddUp};
 
 use snap_policy::Policy;
 
@@ -15,20 +15,20 @@ pub fn worlds_stay_valid<P: Policy>()
     ensures rises { ViewsRise P.rules }
 {}
 
-/// A call that is refused leaves the world as it was: no snapshot, no entry and no stamp is another, and the clock
-/// stands. (`Snapshot.apply` of the original leaves a snapshot open too where it fails.)
+/// A call that is refused leaves the world as it was: every snapshot, every entry with its stamp, the last map of
+/// every watcher and the clock. So a snapshot whose apply fails is still open, as in the original.
 pub fn a_refusal_changes_nothing<P: Policy>()
     ensures { RefusalsChangeNothing P.rules }
 {}
 
-/// An applied or disposed snapshot never opens again: whatever is called, it keeps its status, its base, its view
-/// and what it wrote.
+/// A snapshot that was applied or disposed never opens again: whatever is called, it keeps its status, its base,
+/// its view and what it wrote.
 pub fn closed_stays_closed<P: Policy>()
     ensures { ClosedStaysClosed P.rules }
 {}
 
-/// A name is never handed out twice. Names are given in the order of the takes: each is the number of snapshots
-/// that were taken before it, and every later one is greater, whatever is called in between.
+/// A name is never handed out twice. Each is the number of snapshots that there were before it, global included,
+/// and every later one is greater, whatever is called in between.
 pub fn names_are_new<P: Policy>()
     ensures { NamesAreNew P.rules }
 {}
@@ -41,22 +41,23 @@ pub fn isolation<P: Policy>()
     ensures reads { ReadsAreIsolated P.rules }
 {}
 
-/// The first committer wins. Of two snapshots that were taken from one parent and changed one object, the second
-/// cannot be applied while the parent keeps what the first brought, whatever is done in between: its apply is
-/// refused, unless the two values count as equal or the policy merges them.
+/// The first committer wins. Once the apply of one snapshot changed an object in its parent, a second snapshot
+/// that was taken from that parent before, and changed the object too, is not applied while the parent keeps that
+/// change, whatever is done in between; unless the two values count as equal or the policy merges them.
 pub fn first_committer_wins<P: Policy>()
     ensures { FirstCommitterWins P.rules }
 {}
 
-/// No update is lost under a policy that merges by adding, as a counter's does. Each apply that succeeds adds to
-/// the parent what the child itself added since it was taken, wrapping at 64 bits; and so, whatever else is done,
+/// No update is lost under a policy that merges by adding, as a counter's does. Each apply that is answered adds
+/// to the parent what the child itself added since it was taken, wrapping at 64 bits. So, whatever else is done,
 /// the parent ends with what it showed and the sum of what all its children brought, as long as nobody writes the
 /// object in the parent itself.
 ///
-/// One case is excepted: where the parent was changed since the child was taken and shows a value that counts as
-/// the child's. Then the parent's entry stands, as after any apply of an equal value: two children that both go
-/// from 10 to 11 leave 11.
+/// One case is excepted: the parent was changed since the child was taken, and already shows a value that counts
+/// as the child's. An apply of an equal value changes nothing, and so the parent's entry stands: two children that
+/// both go from 10 to 11 leave 11.
 pub fn no_lost_update<P: Policy>()
     ensures one { AppliesAdd P.rules }
+    ensures met { MeetingsStand P.rules }
     ensures all { AppliesAddUp P.rules }
 {}
