@@ -1,3 +1,15 @@
 pub mod ReadLemmas
 pub mod Takes
 pub mod Valid
+pub mod ValidSteps
+pub mod ValidMoves
+pub mod ValidMade
+pub mod ValidSettle
+pub mod ValidCalls
+pub mod LawsCases
+pub mod LawsRefusals
+pub mod LawsNames
+pub mod LawsViews
+pub mod LawsApplies
+pub mod LawsFirst
+pub mod LawsSums

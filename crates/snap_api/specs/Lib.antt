@@ -5,3 +5,5 @@ pub mod Shaped
 pub mod Valid
 pub mod Eyes
 pub mod Keeps
+pub mod Laws
+pub mod LawsSums

@@ -10,6 +10,7 @@
 
 mod data;
 mod desk;
+pub mod laws;
 #[cfg(test)]
 mod tests;
 mod versions;
