@@ -113,12 +113,14 @@ impl<P: Policy> PlainWorld<P> {
 }
 
 impl<P: Policy> Versions for PlainWorld<P> {
-    ghost use Rattle.std.specs.Prelude.{◌≡◌, length};
+    ghost use Rattle.std.specs.Prelude.{◌≡◌, None, length};
     ghost use Rattle.snap_plain.specs.Plain.{world_of, counts_of};
 
     type P = P;
 
     ghost stands = { λ s w. w ≡ world_of s };
+
+    ghost log = { λ s. None };
 
     ghost object_count = { λ s. length s.objects.items };
 

@@ -7,7 +7,7 @@ use Rattle.snap_api.specs.declared.data.Request.TheVariants.{TakeFor, Dispose}
 
 pub returns-in-Ok-clause-value : goal.returns-in-Ok-clause-value
 returns-in-Ok-clause-value g c w h v =
-    let told = c.in_ok-name.ensures w h in
+    let told = c.in_ok-name.ensures.call w h in
     let took = call-TakeFor g.V.P.Policy.rules w c.args.caller c.args.watcher c.in_ok-name.name c.in_ok-name._changed told.0 in
     let eyes = took_eyes took (g.V.Versions.stands c.take_for.new.self) v told.1 in
     search rules
@@ -15,7 +15,7 @@ returns-in-Ok-clause-value g c w h v =
 pub returns-in-Ok-clause-world : goal.returns-in-Ok-clause-world
 returns-in-Ok-clause-world g c w h v =
     let the_rules = g.V.P.Policy.rules in
-    let told = c.in_ok-name.ensures w h in
+    let told = c.in_ok-name.ensures.call w h in
     let took = call-TakeFor the_rules w c.args.caller c.args.watcher c.in_ok-name.name c.in_ok-name._changed told.0 in
     let open_world : World _ = (call the_rules w c.args.caller (TakeFor c.args.watcher)).0 in
     let gone = c.in-Ok.ensures.call open_world (search rules) in

@@ -10,7 +10,7 @@ returns-in_default-clause-part g c = record { rest = c.args.x ∷ []; is = refl 
 pub returns-else-is_no_memory : goal.returns-else-is_no_memory
 returns-else-is_no_memory g c =
     let other : is_no_memory (Refused c.in-Err.refusal) ≡ false = sym c.is_no_memory.ensures ∙ c.if-is_no_memory.false in
-    let stands = stands_refused g.V.P.Policy.rules (g.V.Versions.stands c.args.self.now.world.now) (g.V.Versions.stands c.read.new.self) c.args.self.now.caller c.in-Some.name c.args.x c.in-Err.refusal other c.in-Err.ensures in
+    let stands = stands_refused g.V.P.Policy.rules (g.V.Versions.stands c.args.self.now.world.now) (g.V.Versions.stands c.read.new.self) c.args.self.now.caller c.in-Some.name c.args.x c.in-Err.refusal other c.in-Err.ensures.call in
     record {
       value = λ m h. tt;
       same = λ m h. record { world = h.world; stands_for = stands h.world h.stands_for; opens = h.opens; shows = h.shows; full = h.full };
