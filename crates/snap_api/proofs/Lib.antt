@@ -1,3 +1,4 @@
 pub mod ReadLemmas
+pub mod InTurn
 pub mod Takes
 pub mod Valid

@@ -10,10 +10,12 @@
 
 mod data;
 mod desk;
+mod runs;
 #[cfg(test)]
 mod tests;
 mod versions;
 
 pub use data::{CLOCK_LIMIT, Logged, Object, Refusal, Reply, Request, Shot, Status};
 pub use desk::OwnDesk;
+pub use runs::run_calls;
 pub use versions::Versions;
