@@ -6,3 +6,4 @@ pub mod Shaped
 pub mod Valid
 pub mod Eyes
 pub mod Keeps
+pub mod Recorded

@@ -10,6 +10,7 @@
 
 mod data;
 mod desk;
+mod log;
 mod runs;
 #[cfg(test)]
 mod tests;
@@ -17,5 +18,6 @@ mod versions;
 
 pub use data::{CLOCK_LIMIT, Logged, Object, Refusal, Reply, Request, Shot, Status};
 pub use desk::OwnDesk;
+pub use log::LogWorld;
 pub use runs::run_calls;
 pub use versions::Versions;
