@@ -1,5 +1,5 @@
 -- Lists of calls, one more at the end.
-use Rattle.std.proofs.Common.{◌≡◌, ℕ, ◌+◌, ◌<◌, List, [], ◌∷◌, ◌++◌, refl, ap, sym, subst, ◌∙◌, take, length, get_or, Bool, true, false}
+use Rattle.std.proofs.Common.{◌≡◌, ℕ, ◌+◌, ◌<◌, List, [], ◌∷◌, ◌++◌, refl, ap, sym, subst, ◌∙◌, take, length, get_or, false}
 use Rattle.std.proofs.lemmas.List.{take_more}
 use Rattle.snap_policy.specs.Rules.{Rules}
 use Rattle.snap_api.specs.Calls.{Does, Calls, is_no_memory}
@@ -36,8 +36,7 @@ one_more d rules before after w items cs i q r all within same stands answered d
     let e : take (i + 1) cs ≡ take i cs ++ x ∷ [] = take_more cs i d within ∙ ap (λ xs. take i cs ++ get_or xs i d ∷ []) (sym all) in
     let v = world_of_calls rules w (take i cs) in
     let one : (r ≡ (call rules v x.0 x.1).1) × after (call rules v x.0 x.1).0 =
-        subst (λ k. (r ≡ (call rules v x.0 k).1) × after (call rules v x.0 k).0) same (does_call before after (λ u. call rules u x.0 q) r answered does v stands) in
-    (
+    subst (λ k. (r ≡ (call rules v x.0 k).1) × after (call rules v x.0 k).0) same (does_call before after (λ u. call rules u x.0 q) r answered does v stands) in (
       subst after (sym (ap (world_of_calls rules w) e ∙ world-snoc rules w (take i cs) x)) one.1,
       ap (replies_to rules w) e ∙ replies-snoc rules w (take i cs) x ∙ ap (λ k. replies_to rules w (take i cs) ++ k ∷ []) (sym one.0),
     )

@@ -10,20 +10,19 @@ use Rattle.std.specs.Option.{unwrap_or}
 use Rattle.std.specs.Prelude.{slice_get, slice_index_or, slice_set, remove}
 use Rattle.rt_values.specs.Maps.{Map, contains, differs, differ_from, differ, value_at}
 use Rattle.rt_values.specs.declared.maps.Entry.{Entry}
-use Rattle.rt_values.specs.declared.names.Kind.{Kind}
 use Rattle.rt_values.specs.declared.names.Kind.TheVariants.{Readonly}
 use Rattle.rt_values.specs.declared.value.Ty.{Ty}
 use Rattle.rt_values.specs.declared.value.Value.{Value}
 use Rattle.rt_values.specs.Values.{type_of, same_type}
 use Rattle.snap_policy.specs.Rules.{Rules}
-use Rattle.snap_api.proofs.InTurn.{does_call}
-use Rattle.snap_api.proofs.Takes.{TookFor, call-TakeFor}
-use Rattle.snap_api.proofs.Valid.{shaped_call, shaped_made, shaped_watched, open_within}
-use Rattle.snap_api.specs.Calls.{Does, Calls, Makes, IsOwn, is_no_memory}
-use Rattle.snap_api.specs.Recorded.{Recorded, AreAmong}
+use Rattle.snap_api.proofs.ReadLemmas.{call-read}
+use Rattle.snap_api.proofs.Takes.{call-TakeFor}
+use Rattle.snap_api.proofs.Valid.{shaped_call, shaped_made}
+use Rattle.snap_api.specs.Calls.{Calls, Makes}
+use Rattle.snap_api.specs.Recorded.{Recorded}
 use Rattle.snap_api.specs.Settle.{Settled, settled, conflict}
 use Rattle.snap_api.specs.Shaped.{IsShaped}
-use Rattle.snap_api.specs.World.{World, absent, unless, made, made_in, watched, taken, taken_for, child_of, with_shot, with_status, with_entry, with_settled, written, applied, shot_of, last_of, call, is_closed, is_foreign, is_spent, is_mutable, is_live, settled_of, write_to, apply_to}
+use Rattle.snap_api.specs.World.{World, absent, made, made_in, taken, taken_for, child_of, with_shot, with_status, with_entry, with_settled, shot_of, last_of, call, is_closed, is_foreign, is_spent, is_mutable, is_live, settled_of, write_to, apply_to}
 use Rattle.snap_api.specs.declared.data.Object.{Object}
 use Rattle.snap_api.specs.declared.data.Refusal.{Refusal}
 use Rattle.snap_api.specs.declared.data.Refusal.TheVariants as refusal
@@ -65,14 +64,14 @@ module _ {P : Type 0} (w : World P) (n : ℕ) where
   opens-push : (after : World P) (s : Shot) (r : Reply) → after.shots ≡ w.shots ++ s ∷ [] → (n ≡ length w.shots → Takes n r) → is_closed after n ≡ false → (is_closed w n ≡ false) ⊎ Takes n r
   opens-push after s r more takes h = elim (cases_lt n (length w.shots)) [
     | inl within ↦
-      let same : shot_of after n ≡ shot_of w n = ap (λ (l : List Shot). slice_index_or l n absent) more ∙ get_or-append w.shots (s ∷ []) absent n within in
-      inl (sym (ap (λ (t : Shot). not (is_live t.status)) same) ∙ h)
+        let same : shot_of after n ≡ shot_of w n = ap (λ (l : List Shot). slice_index_or l n absent) more ∙ get_or-append w.shots (s ∷ []) absent n within in
+        inl (sym (ap (λ (t : Shot). not (is_live t.status)) same) ∙ h)
     | inr past ↦ elim (eqb_tells n (length w.shots)) [
       | inl e ↦ inr (takes e.1)
       | inr e ↦
-        let gone : shot_of after n ≡ absent = ap (λ (l : List Shot). slice_index_or l n absent) more ∙ get_or_past (w.shots ++ s ∷ []) n absent (omega (arith, past, e.1, length-append w.shots (s ∷ []))) in
-        let closed : is_closed after n ≡ true = ap (λ (t : Shot). not (is_live t.status)) gone in
-        absurd cc
+          let gone : shot_of after n ≡ absent = ap (λ (l : List Shot). slice_index_or l n absent) more ∙ get_or_past (w.shots ++ s ∷ []) n absent (omega (arith, past, e.1, length-append w.shots (s ∷ []))) in
+          let closed : is_closed after n ≡ true = ap (λ (t : Shot). not (is_live t.status)) gone in
+          absurd cc
     ]
   ]
 
@@ -81,13 +80,13 @@ module _ {P : Type 0} (w : World P) (n : ℕ) where
   closed-shot name s was h = elim (eqb_tells n name) [
     | inl e ↦ elim (cases_lt name (length w.shots)) [
       | inl within ↦
-        let same : shot_of (with_shot w name s) n ≡ s = ap (λ i. slice_index_or (slice_set w.shots name s) i absent) e.1 ∙ get_or-set_same w.shots name s absent within in
-        let live : not (is_live s.status) ≡ false = sym (ap (λ (t : Shot). not (is_live t.status)) same) ∙ h in
-        ap (λ i. is_closed w i) e.1 ∙ was (live_of (is_live s.status) live)
+          let same : shot_of (with_shot w name s) n ≡ s = ap (λ i. slice_index_or (slice_set w.shots name s) i absent) e.1 ∙ get_or-set_same w.shots name s absent within in
+          let live : not (is_live s.status) ≡ false = sym (ap (λ (t : Shot). not (is_live t.status)) same) ∙ h in
+          ap (λ i. is_closed w i) e.1 ∙ was (live_of (is_live s.status) live)
       | inr past ↦
-        let gone : shot_of (with_shot w name s) n ≡ absent = get_or_past (slice_set w.shots name s) n absent (omega (arith, past, e.1, length-set {A = Shot})) in
-        let closed : is_closed (with_shot w name s) n ≡ true = ap (λ (t : Shot). not (is_live t.status)) gone in
-        absurd cc
+          let gone : shot_of (with_shot w name s) n ≡ absent = get_or_past (slice_set w.shots name s) n absent (omega (arith, past, e.1, length-set {A = Shot})) in
+          let closed : is_closed (with_shot w name s) n ≡ true = ap (λ (t : Shot). not (is_live t.status)) gone in
+          absurd cc
     ]
     | inr e ↦ sym (ap (λ (t : Shot). not (is_live t.status)) (get_or-set_other w.shots name n s absent e.1)) ∙ h
   ]
@@ -191,6 +190,22 @@ differ_from-short before x (e ∷ now) =
     let later = differ_from-short before (x + 1) now in
     elim (differs (slice_get before x) e) as (λ b. length (cond b (x ∷ differ_from before (x + 1) now) (differ_from before (x + 1) now)) ≤ suc (length now)) [ true ↦ omega arith | false ↦ omega arith ]
 
+closed_live : {P : Type 0} (rules : Rules P) (w : World P) (caller name n : ℕ) → n ≡ name → reply.Disposed ≡ (call rules w caller (request.Dispose name)).1 → is_closed (call rules w caller (request.Dispose name)).0 n ≡ false → ⊥
+closed_live rules w caller name n same told live =
+    let closed = call-closes rules w caller name told in
+    let here = sym live ∙ ap (λ i. is_closed (call rules w caller (request.Dispose name)).0 i) same ∙ closed in
+    absurd cc
+
+-- a make leaves which snapshots are live
+closed-made : {P : Type 0} (w : World P) (n : ℕ) (e : Entry) → not (is_live (slice_index_or (map (made_in e) w.shots) n absent).status) ≡ false → is_closed w n ≡ false
+closed-made w n e live = elim (cases_lt n (length w.shots)) [
+  | inl within ↦ sym (ap (λ (t : Shot). not (is_live t.status)) (get_or-map (made_in e) w.shots n absent absent within)) ∙ live
+  | inr past ↦
+      let gone = get_or_past (map (made_in e) w.shots) n absent (omega (arith, past, length-map {A = Shot} {B = Shot})) in
+      let closed : not (is_live (slice_index_or (map (made_in e) w.shots) n absent).status) ≡ true = ap (λ (t : Shot). not (is_live t.status)) gone in
+      absurd cc
+]
+
 module _ {P : Type 0} (rules : Rules P) (before after : World P → Type 0) (caller : ℕ) (taken : List ℕ) where
   pub recorded_same : (w : World P) → after w → Recorded before taken w → Recorded after taken w
   recorded_same w h r = record { stands_for = h; shaped = r.shaped; among = r.among }
@@ -198,14 +213,17 @@ module _ {P : Type 0} (rules : Rules P) (before after : World P → Type 0) (cal
   -- after a call that was answered every live snapshot is still among those taken
   pub recorded_call : (later : List ℕ) (q : Request) (r : Reply) (w : World P) → ((n : ℕ) → is_closed (call rules w caller q).0 n ≡ false → contains n taken ≡ true → contains n later ≡ true) → ((n : ℕ) → Takes n r → contains n later ≡ true) →
       (r ≡ (call rules w caller q).1) × after (call rules w caller q).0 → Recorded before taken w → (r ≡ (call rules w caller q).1) × Recorded after later (call rules w caller q).0
-  recorded_call later q r w stay new told h = (told.0, record {
-    stands_for = told.1;
-    shaped = shaped_call rules w caller h.shaped q;
-    among = λ n inner live. elim ((step_call rules w caller n q).opens live) [
-      | inl was ↦ stay n live (h.among n inner was)
-      | inr took ↦ new n (subst (Takes n) (sym told.0) took)
-    ];
-  })
+  recorded_call later q r w stay new told h = (
+    told.0,
+    record {
+      stands_for = told.1;
+      shaped = shaped_call rules w caller h.shaped q;
+      among = λ n inner live. elim ((step_call rules w caller n q).opens live) [
+        | inl was ↦ stay n live (h.among n inner was)
+        | inr took ↦ new n (subst (Takes n) (sym told.0) took)
+      ];
+    },
+  )
 
   -- a call that was refused leaves all worlds
   pub refused_stands : (q : Request) (e : Refusal) → Calls rules before after caller q (reply.Refused e) → (w : World P) → before w → after w
@@ -215,3 +233,48 @@ module _ {P : Type 0} (rules : Rules P) (before after : World P → Type 0) (cal
   pub calls_refused : (q : Request) (e : Refusal) → Calls rules before after caller q (reply.Refused e) → Calls rules (Recorded before taken) (Recorded after taken) caller q (reply.Refused e)
   calls_refused q refusal.NoMemory does = λ w h. recorded_same w (does w h.stands_for) h
   calls_refused q e does = λ w h. recorded_call taken q (reply.Refused e) w (λ n live is. is) (λ n no. absurd no) (does w h.stands_for) h
+
+  -- the same where the names lie in other memory
+  pub refused_later : (later : List ℕ) (q : Request) (e : Refusal) → later ≡ taken → Calls rules before after caller q (reply.Refused e) → Calls rules (Recorded before taken) (Recorded after later) caller q (reply.Refused e)
+  refused_later later q e same does = subst (λ l. Calls rules (Recorded before taken) (Recorded after l) caller q (reply.Refused e)) (sym same) (calls_refused q e does)
+
+  -- a call that took a snapshot, which is then among those taken
+  pub recorded_taken : (later : List ℕ) (name : ℕ) (q : Request) (r : Reply) (w : World P) → later ≡ taken ++ name ∷ [] → ((n : ℕ) → Takes n r → n ≡ name) →
+      (r ≡ (call rules w caller q).1) × after (call rules w caller q).0 → Recorded before taken w → (r ≡ (call rules w caller q).1) × Recorded after later (call rules w caller q).0
+  recorded_taken later name q r w more named told h = recorded_call later q r w
+      (λ n live is. ap (contains n) more ∙ contains-push n name taken is)
+      (λ n took. ap (contains n) more ∙ ap (λ i. contains n (taken ++ i ∷ [])) (sym (named n took)) ∙ contains-pushed n taken) told h
+
+  -- a read leaves all worlds
+  pub read_stands : (name x : ℕ) (v : Value) → Calls rules before after caller (request.Read name x) (reply.Got v) → (w : World P) → before w → after w
+  read_stands name x v does w h = subst after (call-read rules w caller name x) (does w h).1
+
+  -- no more objects changed than there are
+  pub taken_for-short : (watcher name room : ℕ) (changed : List ℕ) (w : World P) → IsShaped w → reply.TakenFor name changed ≡ (call rules w caller (request.TakeFor watcher)).1 → room ≡ length w.objects → room < length changed → ⊥
+  taken_for-short watcher name room changed w shaped told is less =
+      let took = call-TakeFor rules w caller watcher name changed told in
+      let short = differ_from-short (unwrap_or (last_of w watcher) []) 0 (shot_of w 0).view in
+      let listed : length changed ≡ length (differ (last_of w watcher) (shot_of w 0).view) = ap (λ (l : List ℕ). length l) took.listed in
+      omega (arith, short, listed, is, less, (shaped.full 0 shaped.some).1)
+
+  -- a snapshot that was disposed need not be among them any more
+  pub recorded_disposed : (later : List ℕ) (name place : ℕ) (w : World P) → later ≡ remove taken place → slice_index_or taken place 0 ≡ name →
+      (reply.Disposed ≡ (call rules w caller (request.Dispose name)).1) × after (call rules w caller (request.Dispose name)).0 → Recorded before taken w →
+      (reply.Disposed ≡ (call rules w caller (request.Dispose name)).1) × Recorded after later (call rules w caller (request.Dispose name)).0
+  recorded_disposed later name place w less is told h = recorded_call later (request.Dispose name) reply.Disposed w
+      (λ n live among. ap (contains n) less ∙ contains-remove n taken place (λ same. closed_live rules w caller name n (sym same ∙ is) told.0 live) among)
+      (λ n no. absurd no) told h
+
+module _ {P : Type 0} (before after : World P → Type 0) (taken : List ℕ) where
+  -- with one object more
+  recorded_made : (w : World P) (ty : Ty) (policy : P) (value : Value) → after (made w ty policy value) → Recorded before taken w → Recorded after taken (made w ty policy value)
+  recorded_made w ty policy value h r = record {
+    stands_for = h;
+    shaped = shaped_made w ty policy value r.shaped;
+    among = λ n inner live. r.among n inner (closed-made w n (record { value = value; stamp = 0 }) live);
+  }
+
+  pub makes_recorded : (rules : Rules P) (ty : Ty) (policy : P) (value : Value) (r : Result ℕ Refusal) → Makes rules before after ty policy value r → Makes rules (Recorded before taken) (Recorded after taken) ty policy value r
+  makes_recorded rules ty policy value (Ok x) m = (m.0, λ w h. ((m.1 w h.stands_for).0, recorded_made w ty policy value (m.1 w h.stands_for).1 h))
+  makes_recorded rules ty policy value (Err refusal.NoMemory) m = λ w h. record { stands_for = m w h.stands_for; shaped = h.shaped; among = h.among }
+  makes_recorded rules ty policy value (Err e) m = (m.0, λ w h. record { stands_for = m.1 w h.stands_for; shaped = h.shaped; among = h.among })

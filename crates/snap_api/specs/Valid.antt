@@ -1,5 +1,5 @@
 -- What holds of every plain world that makes, watches and calls reach, beside its shape.
-use Rattle.std.specs.Prelude.{◌≡◌, ℕ, ◌≤◌, ◌<◌, List, [], length, slice_get, Some, Bool, true, false}
+use Rattle.std.specs.Prelude.{◌≡◌, ℕ, ◌≤◌, ◌<◌, List, [], length, slice_get, Some, true, false}
 use Rattle.std.specs.Option.{unwrap_or}
 use Rattle.rt_values.specs.Maps.{Map, entry_at, contains}
 use Rattle.rt_values.specs.Values.{type_of}

@@ -199,7 +199,12 @@ impl<V: Versions + Drop> Versions for LogWorld<V> {
                     return Err(Refusal::NoMemory); // no more objects changed than there are
                 };
                 put_name(&mut self.taken, name);
-                note(&mut self.entries, caller, request, Reply::TakenFor(name, told));
+                note(
+                    &mut self.entries,
+                    caller,
+                    request,
+                    Reply::TakenFor(name, told),
+                );
                 Ok((name, changed))
             }
             Err(refusal) => {

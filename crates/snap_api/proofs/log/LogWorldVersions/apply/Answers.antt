@@ -1,4 +1,3 @@
-use Rattle.std.proofs.Common.{refl}
 use Rattle.snap_api.proofs.Recording.{calls_refused, recorded_call}
 use Rattle.snap_api.proofs.log.LogWorldVersions.apply.Goals as goal
 use Rattle.snap_api.specs.declared.data.Reply.TheVariants.{Applied}
