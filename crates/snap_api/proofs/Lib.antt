@@ -3,3 +3,8 @@ pub mod InTurn
 pub mod Recording
 pub mod Takes
 pub mod Valid
+pub mod ValidSteps
+pub mod ValidMoves
+pub mod ValidMade
+pub mod ValidSettle
+pub mod ValidCalls

@@ -7,3 +7,4 @@ pub mod Valid
 pub mod Eyes
 pub mod Keeps
 pub mod Recorded
+pub mod Laws

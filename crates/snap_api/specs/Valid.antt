@@ -1,6 +1,8 @@
 -- What holds of every plain world that makes, watches and calls reach, beside its shape.
 use Rattle.std.specs.Prelude.{◌≡◌, ℕ, ◌≤◌, ◌<◌, List, [], length, slice_get, Some, true, false}
 use Rattle.std.specs.Option.{unwrap_or}
+use Rattle.rt_values.specs.declared.value.Ty.{Ty}
+use Rattle.rt_values.specs.declared.value.Value.{Value}
 use Rattle.rt_values.specs.Maps.{Map, entry_at, contains}
 use Rattle.rt_values.specs.Values.{type_of}
 use Rattle.snap_policy.specs.Rules.{Rules}
@@ -28,7 +30,7 @@ pub record MovedOn (before now : Map) : Type 0 where
 
 -- an object that the snapshot wrote has a later stamp in its view than in its base; any other has its base's entry
 pub record Wrote (base view : Map) (wrote : List ℕ) : Type 0 where
-  pub changed : (x : ℕ) → x < length base → contains x wrote ≡ true → (entry_at base x).stamp < (entry_at view x).stamp
+  pub changed : (x : ℕ) → contains x wrote ≡ true → (entry_at base x).stamp < (entry_at view x).stamp
   pub unchanged : (x : ℕ) → contains x wrote ≡ false → entry_at view x ≡ entry_at base x
 
 pub record IsValid {P : Type 0} (rules : Rules P) (w : World P) : Type 0 where
@@ -53,6 +55,11 @@ pub record IsValid {P : Type 0} (rules : Rules P) (w : World P) : Type 0 where
   -- a parent was taken, and that of an open mutable snapshot is mutable
   pub parents : (name : ℕ) → (shot_of w name).parent < length w.shots
   pub tree : (name : ℕ) → is_closed w name ≡ false → is_mutable (shot_of w name).kind ≡ true → is_mutable (shot_of w (shot_of w name).parent).kind ≡ true
+
+-- of three values of one type that a policy fits, a merged value has that type too
+abbrev pub KeepsTypes : {P : Type 0} → Rules P → Type 0
+KeepsTypes {P} rules = (p : P) (t : Ty) (previous current applied merged : Value) → rules.fits p t ≡ true →
+    type_of previous ≡ t → type_of current ≡ t → type_of applied ≡ t → rules.merge p previous current applied ≡ Some merged → type_of merged ≡ t
 
 -- no stamp in the view of a snapshot ever gets less
 abbrev pub Rises : {P : Type 0} → World P → World P → Type 0

@@ -10,6 +10,7 @@
 
 mod data;
 mod desk;
+pub mod laws;
 mod log;
 mod runs;
 #[cfg(test)]
