@@ -5,6 +5,7 @@ pub mod InTurn
 pub mod Shaped
 pub mod Valid
 pub mod Eyes
+pub mod Desks
 pub mod Keeps
 pub mod Recorded
 pub mod Laws
