@@ -126,6 +126,13 @@ impl Objects {
         }
     }
 
+    /// These numbers, in the memory that they lie in.
+    pub fn of(numbers: Vec<ObjectNo>) -> Self
+        ensures { result ≡ numbers.items }
+    {
+        Objects { numbers }
+    }
+
     /// The numbers, in order.
     pub fn numbers(&self) -> &[ObjectNo]
         ensures { result.now ≡ self.now }

@@ -1,5 +1,8 @@
 pub mod ReadLemmas
+pub mod InTurn
+pub mod Recording
 pub mod Takes
+pub mod DeskTakes
 pub mod Valid
 pub mod ValidSteps
 pub mod ValidMoves

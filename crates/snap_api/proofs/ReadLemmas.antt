@@ -1,8 +1,10 @@
 -- A read leaves the plain world, refused or not.
-use Rattle.std.proofs.Common.{◌≡◌, ℕ, List, [], ◌∷◌, refl, Bool, true, false, not, nat_lt, length, subst}
+use Rattle.std.proofs.Common.{◌≡◌, ℕ, List, [], ◌∷◌, ◌++◌, Option, Some, None, refl, Bool, true, false, not, nat_lt, length, subst, sym}
 use Rattle.snap_policy.specs.Rules.{Rules}
-use Rattle.snap_api.specs.Calls.{Does, Calls, is_no_memory}
+use Rattle.snap_api.specs.Calls.{Does, Calls, Logs, is_no_memory}
+use Rattle.snap_api.specs.Keeps.{Told, TellsOf, tells_none}
 use Rattle.snap_api.specs.World.{World, call, unless, is_closed, is_foreign, shot_of}
+use Rattle.snap_api.specs.declared.data.Logged.{Logged}
 use Rattle.snap_api.specs.declared.data.Refusal.{Refusal}
 use Rattle.snap_api.specs.declared.data.Refusal.TheVariants as refusal
 use Rattle.snap_api.specs.declared.data.Reply.{Reply}
@@ -27,3 +29,25 @@ pub stands_refused : {P : Type 0} (rules : Rules P) (before after : World P → 
     Calls rules before after caller (Read name x) (Refused r) → (w : World P) → before w → after w
 stands_refused rules before after caller name x r other does w h =
     subst after (call-read rules w caller name x) (does_refused before after (λ v. call rules v caller (Read name x)) r other does w h)
+
+one_read : (h : List Logged) (new : Option (List Logged)) (caller name x : ℕ) (r : Refusal) → new ≡ Some (h ++ record { caller = caller; request = Read name x; reply = Refused r } ∷ []) → Told h new caller name (x ∷ [])
+one_read h new caller name x r is = record { more = record { caller = caller; request = Read name x; reply = Refused r } ∷ []; log_is = is; reads = refl }
+
+-- and it stands in the log
+pub tells_refused : (old new : Option (List Logged)) (caller name x : ℕ) (r : Refusal) → is_no_memory (Refused r) ≡ false → Logs old new caller (Read name x) (Refused r) → TellsOf old new caller (Some name) (x ∷ [])
+tells_refused None new caller name x r other told = told
+tells_refused (Some h) new caller name x refusal.NoMemory other told = absurd cc
+tells_refused (Some h) new caller name x r other told = one_read h new caller name x r told
+
+-- want of memory leaves the worlds and the log
+pub does_no_memory : {W : Type 0} (before after : W → Type 0) (step : W → W × Reply) (r : Refusal) → is_no_memory (Refused r) ≡ true → Does before after step (Refused r) → (w : W) → before w → after w
+does_no_memory before after step refusal.NoMemory is does = does
+does_no_memory before after step r is does = absurd cc
+
+log_no_memory : (old new : Option (List Logged)) (caller name x : ℕ) (r : Refusal) → is_no_memory (Refused r) ≡ true → Logs old new caller (Read name x) (Refused r) → new ≡ old
+log_no_memory None new caller name x r is told = told
+log_no_memory (Some h) new caller name x refusal.NoMemory is told = told
+log_no_memory (Some h) new caller name x r is told = absurd cc
+
+pub tells_no_memory : (old new : Option (List Logged)) (caller name x : ℕ) (r : Refusal) → is_no_memory (Refused r) ≡ true → Logs old new caller (Read name x) (Refused r) → TellsOf old new caller (Some name) []
+tells_no_memory old new caller name x r is told = subst (λ l. TellsOf old l caller (Some name) []) (sym (log_no_memory old new caller name x r is told)) (tells_none old caller (Some name))

@@ -14,6 +14,7 @@ use Rattle.snap_api.proofs.Valid.{open_within}
 use Rattle.snap_api.specs.Calls.{IsOwn}
 use Rattle.snap_api.specs.Eyes.{Eyes, IsOpen}
 use Rattle.snap_api.specs.Shaped.{IsShaped}
+use Rattle.snap_api.specs.Valid.{IsValid}
 use Rattle.snap_api.specs.World.{World, absent, shot_of, last_of, child_of, taken_for, with_shot, with_status, unless, call, is_closed, is_foreign, is_spent, is_live}
 use Rattle.snap_api.specs.declared.data.Object.{Object}
 use Rattle.snap_api.specs.declared.data.Refusal.{Refusal}
@@ -112,10 +113,11 @@ module _ {P : Type 0} {w after : World P} {caller watcher name : ℕ} {changed :
   }
 
   -- what it shows is what was global
-  pub took_eyes : (stands : World P → Type 0) → IsShaped w → stands after → Eyes stands caller (Some name) (shot_of w 0).view
-  took_eyes stands v h = record {
+  pub took_eyes : (rules : Rules P) (stands : World P → Type 0) → IsShaped w → IsValid rules after → stands after → Eyes rules stands caller (Some name) (shot_of w 0).view
+  took_eyes rules stands v valid h = record {
     world = after;
     stands_for = h;
+    valid = valid;
     opens = took_opens;
     shows = sym (ap (λ (s : Shot). s.view) t.shot);
     full = (v.full 0 v.some).1 ∙ sym (ap (λ (os : List (Object P)). length os) t.objects);

@@ -1,9 +1,10 @@
 -- What each call of `Versions` promises, for every plain world that the value stands for.
-use Rattle.std.specs.Prelude.{◌≡◌, ℕ, ◌==◌, Bool, true, false, Some, None, List, length, Result, Ok, Err}
+use Rattle.std.specs.Prelude.{◌≡◌, ℕ, ◌==◌, Bool, true, false, Option, Some, None, List, [], ◌∷◌, ◌++◌, length, Result, Ok, Err}
 use Rattle.rt_values.specs.declared.value.Ty.{Ty}
 use Rattle.rt_values.specs.declared.value.Value.{Value}
 use Rattle.snap_policy.specs.Rules.{Rules}
 use Rattle.snap_api.specs.World.{World, call, make_refusal, made, is_closed, is_foreign}
+use Rattle.snap_api.specs.declared.data.Logged.{Logged}
 use Rattle.snap_api.specs.declared.data.Refusal.{Refusal}
 use Rattle.snap_api.specs.declared.data.Refusal.TheVariants.{NoMemory}
 use Rattle.snap_api.specs.declared.data.Reply.{Reply}
@@ -23,6 +24,12 @@ Does {W} before after step r = (w : W) → before w → (r ≡ (step w).1) × af
 -- so for a call of a caller
 abbrev pub Calls : {P : Type 0} → Rules P → (World P → Type 0) → (World P → Type 0) → ℕ → Request → Reply → Type 0
 Calls rules before after caller request r = Does before after (λ w. call rules w caller request) r
+
+-- a log, where one is told, has the call with its reply at its end; after want of memory it is as before
+abbrev pub Logs : Option (List Logged) → Option (List Logged) → ℕ → Request → Reply → Type 0
+Logs None after caller request r = after ≡ None
+Logs (Some h) after caller request (reply.Refused NoMemory) = after ≡ Some h
+Logs (Some h) after caller request r = after ≡ Some (h ++ record { caller = caller; request = request; reply = r } ∷ [])
 
 -- the reply that a take gives, and so on for the other calls
 abbrev pub taken_reply : Result ℕ Refusal → Reply

@@ -1,9 +1,12 @@
 pub mod Settle
 pub mod World
 pub mod Calls
+pub mod InTurn
 pub mod Shaped
 pub mod Valid
 pub mod Eyes
+pub mod Desks
 pub mod Keeps
+pub mod Recorded
 pub mod Laws
 pub mod LawsSums

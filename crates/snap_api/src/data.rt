@@ -1,5 +1,9 @@
 // State objects, snapshots, requests and replies.
+ghost use Rattle.std.specs.Prelude.{◌≡◌, IfOk};
+ghost use Rattle.snap_api.specs.Calls.{is_no_memory};
+
 use rt_values::{Caller, Kind, Map, Name, NoMemory, ObjectNo, Objects, Ty, Value, WatcherNo};
+use std::alloc::Global;
 
 /// The last value of a world's clock: at it no snapshot is taken, written or applied any more.
 pub const CLOCK_LIMIT: u64 = 1152921504606846976;
@@ -76,9 +80,6 @@ impl From<NoMemory> for Refusal {
 }
 
 impl Refusal {
-    ghost use Rattle.std.specs.Prelude.{◌≡◌};
-    ghost use Rattle.snap_api.specs.Calls.{is_no_memory};
-
     /// Whether it is want of memory.
     pub fn is_no_memory(self) -> bool
         ensures { result ≡ is_no_memory (Reply.Refused self) }
@@ -120,6 +121,36 @@ pub enum Request {
     },
 }
 
+impl Request {
+    /// Another request that is the same.
+    pub fn copy(&self, alloc: Global) -> Result<Request, NoMemory>
+        ensures { IfOk result (λ r. r ≡ self.now) }
+    {
+        match self {
+            Request::Take { parent, kind } => Ok(Request::Take {
+                parent: *parent,
+                kind: *kind,
+            }),
+            Request::TakeFor { watcher } => Ok(Request::TakeFor { watcher: *watcher }),
+            Request::Read { name, object } => Ok(Request::Read {
+                name: *name,
+                object: *object,
+            }),
+            Request::Write {
+                name,
+                object,
+                value,
+            } => Ok(Request::Write {
+                name: *name,
+                object: *object,
+                value: value.copy(alloc)?,
+            }),
+            Request::Apply { name } => Ok(Request::Apply { name: *name }),
+            Request::Dispose { name } => Ok(Request::Dispose { name: *name }),
+        }
+    }
+}
+
 /// What a call answers.
 #[derive(Drop)]
 pub enum Reply {
@@ -135,6 +166,15 @@ pub enum Reply {
     Disposed,
     /// Why the call was refused; nothing changed.
     Refused(Refusal),
+}
+
+impl Reply {
+    /// Whether it is want of memory.
+    pub fn is_no_memory(&self) -> bool
+        ensures { result ≡ is_no_memory self.now }
+    {
+        matches!(self, Reply::Refused(Refusal::NoMemory))
+    }
 }
 
 /// A call that was made, and its reply.

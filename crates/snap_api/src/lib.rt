@@ -11,10 +11,16 @@
 mod data;
 mod desk;
 pub mod laws;
+mod log;
+mod own_desk;
+mod runs;
 #[cfg(test)]
 mod tests;
 mod versions;
 
 pub use data::{CLOCK_LIMIT, Logged, Object, Refusal, Reply, Request, Shot, Status};
-pub use desk::OwnDesk;
+pub use desk::Desk;
+pub use log::LogWorld;
+pub use own_desk::OwnDesk;
+pub use runs::run_calls;
 pub use versions::Versions;

@@ -1,7 +1,7 @@
 // A desk over a lent world.
 ghost use Rattle.std.specs.Prelude.{◌≡◌, ◌++◌, ◌∷◌, [], IfOk, OnOk};
 ghost use Rattle.rt_values.specs.Maps.{value_at};
-ghost use Rattle.snap_api.specs.Shaped.{IsShaped};
+ghost use Rattle.snap_api.specs.Valid.{IsValid};
 ghost use Rattle.snap_api.specs.World.{World, shot_of};
 
 use crate::{OwnDesk, Refusal, Versions};
@@ -17,8 +17,8 @@ fn glimpse<V: Versions>(
     asked: &mut Objects,
     x: ObjectNo,
 ) -> Result<Value, Refusal>
-    ensures value { (w : World V.P) → V.stands world.old w → IsShaped w → IfOk result (λ v. v ≡ value_at (shot_of w 0).view x) }
-    ensures world { (w : World V.P) → V.stands world.old w → IsShaped w → OnOk result ((after : World V.P) × V.stands world.new after × IsShaped after × (shot_of after 0 ≡ shot_of w 0)) }
+    ensures value { (w : World V.P) → V.stands world.old w → IsValid V.P.rules w → IfOk result (λ v. v ≡ value_at (shot_of w 0).view x) }
+    ensures world { (w : World V.P) → V.stands world.old w → IsValid V.P.rules w → OnOk result ((after : World V.P) × V.stands world.new after × IsValid V.P.rules after × (shot_of after 0 ≡ shot_of w 0)) }
     ensures asks { OnOk result (asked.new ≡ asked.old ++ x ∷ []) }
 {
     let (name, _changed) = world.take_for(alloc, caller, watcher)?;

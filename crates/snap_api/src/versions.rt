@@ -1,7 +1,8 @@
 // The calls on a world of snapshots.
-ghost use Rattle.std.specs.Prelude.{◌≡◌, ◌<◌, ℕ, IfOk, IsOk, OnErr, length};
+ghost use Rattle.std.specs.Prelude.{◌≡◌, ◌<◌, ℕ, List, Option, IfOk, IsOk, OnErr, length};
 ghost use Rattle.snap_api.specs.World.{World, watched};
-ghost use Rattle.snap_api.specs.Calls.{Calls, Makes, IsOwn, taken_reply, taken_for_reply, read_reply, write_reply, apply_reply, dispose_reply};
+ghost use Rattle.snap_api.specs.Calls.{Calls, Logs, Makes, IsOwn, taken_reply, taken_for_reply, read_reply, write_reply, apply_reply, dispose_reply};
+ghost use Rattle.snap_api.specs.declared.data.Logged.{Logged};
 
 use crate::{Refusal, Reply, Request};
 use rt_values::{Caller, Kind, Name, NoMemory, ObjectNo, Objects, Ty, Value, WatcherNo};
@@ -10,13 +11,17 @@ use std::alloc::Global;
 
 /// A world of state objects and snapshots. Each call answers what every plain world answers that the value
 /// stands for, refusals in the order of that plain world's tests; after want of memory the value stands for the
-/// same plain worlds as before.
+/// same plain worlds as before. A value may tell its log, all calls so far with their replies; a call that is
+/// refused for memory does not stand in it.
 pub trait Versions {
     /// The policies of its objects.
     type P: Policy;
 
     // The plain worlds that the value stands for.
     ghost stands: { Self → World Self.P → Type 0 };
+
+    // The calls so far, each with its reply, where the value tells them.
+    ghost log: { Self → Option (List Logged) };
 
     // How many objects there are.
     ghost object_count: { Self → ℕ };
@@ -44,14 +49,16 @@ pub trait Versions {
         value: Value,
     ) -> Result<ObjectNo, Refusal>
         requires { object_count self.old < 65536 }
-        ensures { Makes Self.P.rules (stands self.old) (stands self.new) ty policy value result };
+        ensures made { Makes Self.P.rules (stands self.old) (stands self.new) ty policy value result }
+        ensures log { log self.new ≡ log self.old };
 
     /// A new watcher, who was given no map yet; this project's own rule, as a recomposer that registers its
     /// apply observer.
     fn watch(&mut self, alloc: Global) -> Result<WatcherNo, NoMemory>
         requires { watcher_count self.old < 65536 }
         ensures ok { IfOk result (λ n. (w : World Self.P) → stands self.old w → (n ≡ length w.lasts) × stands self.new (watched w)) }
-        ensures err { OnErr result ((w : World Self.P) → stands self.old w → stands self.new w) };
+        ensures err { OnErr result ((w : World Self.P) → stands self.old w → stands self.new w) }
+        ensures log { log self.new ≡ log self.old };
 
     /// A child of a live snapshot, owned by the caller (`Snapshot.takeNestedMutableSnapshot`,
     /// `takeNestedSnapshot`).
@@ -62,7 +69,8 @@ pub trait Versions {
         parent: Name,
         kind: Kind,
     ) -> Result<Name, Refusal>
-        ensures { Calls Self.P.rules (stands self.old) (stands self.new) caller (Request.Take parent kind) (taken_reply result) };
+        ensures call { Calls Self.P.rules (stands self.old) (stands self.new) caller (Request.Take parent kind) (taken_reply result) }
+        ensures log { Logs (log self.old) (log self.new) caller (Request.Take parent kind) (taken_reply result) };
 
     /// A readonly snapshot of global, with the objects that changed since the watcher asked last, by rising
     /// number (`Snapshot.takeSnapshot`, with what apply observers were told). That it is one step is this
@@ -73,7 +81,8 @@ pub trait Versions {
         caller: Caller,
         watcher: WatcherNo,
     ) -> Result<(Name, Objects), Refusal>
-        ensures { Calls Self.P.rules (stands self.old) (stands self.new) caller (Request.TakeFor watcher) (taken_for_reply result) };
+        ensures call { Calls Self.P.rules (stands self.old) (stands self.new) caller (Request.TakeFor watcher) (taken_for_reply result) }
+        ensures log { Logs (log self.old) (log self.new) caller (Request.TakeFor watcher) (taken_for_reply result) };
 
     /// An object's value in a snapshot of the caller or in global (`StateObject`'s readable record).
     fn read(
@@ -83,7 +92,8 @@ pub trait Versions {
         name: Name,
         object: ObjectNo,
     ) -> Result<Value, Refusal>
-        ensures { Calls Self.P.rules (stands self.old) (stands self.new) caller (Request.Read name object) (read_reply result) };
+        ensures call { Calls Self.P.rules (stands self.old) (stands self.new) caller (Request.Read name object) (read_reply result) }
+        ensures log { Logs (log self.old) (log self.new) caller (Request.Read name object) (read_reply result) };
 
     /// Gives an object a value in a snapshot of the caller or in global, and tells whether that changed
     /// anything: a value that its policy holds equivalent does not (`overwritable`).
@@ -95,22 +105,26 @@ pub trait Versions {
         object: ObjectNo,
         value: Value,
     ) -> Result<bool, Refusal>
-        ensures { Calls Self.P.rules (stands self.old) (stands self.new) caller (Request.Write name object value) (write_reply result) };
+        ensures call { Calls Self.P.rules (stands self.old) (stands self.new) caller (Request.Write name object value) (write_reply result) }
+        ensures log { Logs (log self.old) (log self.new) caller (Request.Write name object value) (write_reply result) };
 
     /// Makes a snapshot's changes its parent's, or tells the least object that both changed and whose changes
     /// are not merged (`MutableSnapshot.apply`).
     fn apply(&mut self, alloc: Global, caller: Caller, name: Name) -> Result<(), Refusal>
-        ensures { Calls Self.P.rules (stands self.old) (stands self.new) caller (Request.Apply name) (apply_reply result) };
+        ensures call { Calls Self.P.rules (stands self.old) (stands self.new) caller (Request.Apply name) (apply_reply result) }
+        ensures log { Logs (log self.old) (log self.new) caller (Request.Apply name) (apply_reply result) };
 
     /// Closes a snapshot; its changes are lost unless they were applied (`Snapshot.dispose`). One that is
     /// closed already stays as it is. The caller's own live snapshot is closed without memory.
     fn dispose(&mut self, caller: Caller, name: Name) -> Result<(), Refusal>
         ensures call { Calls Self.P.rules (stands self.old) (stands self.new) caller (Request.Dispose name) (dispose_reply result) }
+        ensures log { Logs (log self.old) (log self.new) caller (Request.Dispose name) (dispose_reply result) }
         ensures own { (w : World Self.P) → stands self.old w → IsOwn w caller name → IsOk result };
 
     /// One of the six calls above.
     fn call(&mut self, alloc: Global, caller: Caller, request: Request) -> Reply
-        ensures { Calls Self.P.rules (stands self.old) (stands self.new) caller request result }
+        ensures call { Calls Self.P.rules (stands self.old) (stands self.new) caller request result }
+        ensures log { Logs (log self.old) (log self.new) caller request result }
     {
         match request {
             Request::Take { parent, kind } => match self.take(alloc, caller, parent, kind) {

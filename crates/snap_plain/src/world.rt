@@ -1,6 +1,6 @@
 // The plain world and the calls on it.
 ghost use Rattle.std.specs.Prelude.{◌≡◌, ◌≢◌, ℕ, ◌≤◌, ◌<◌, ◌^◌, true, false, IfOk, length};
-ghost use Rattle.snap_api.specs.Calls.{Calls, read_reply};
+ghost use Rattle.snap_api.specs.Calls.{Calls, Logs, read_reply};
 ghost use Rattle.snap_api.specs.Shaped.{AreShaped};
 ghost use Rattle.snap_api.specs.World.{World, start, shot_of, is_spent, is_closed, is_foreign, is_mutable};
 ghost use Rattle.rt_values.specs.Maps.{value_at};
@@ -113,12 +113,14 @@ impl<P: Policy> PlainWorld<P> {
 }
 
 impl<P: Policy> Versions for PlainWorld<P> {
-    ghost use Rattle.std.specs.Prelude.{◌≡◌, length};
+    ghost use Rattle.std.specs.Prelude.{◌≡◌, None, length};
     ghost use Rattle.snap_plain.specs.Plain.{world_of, counts_of};
 
     type P = P;
 
     ghost stands = { λ s w. w ≡ world_of s };
+
+    ghost log = { λ s. None };
 
     ghost object_count = { λ s. length s.objects.items };
 
@@ -214,6 +216,7 @@ impl<P: Policy> Versions for PlainWorld<P> {
         object: ObjectNo,
     ) -> Result<Value, Refusal>
         ensures call { Calls P.rules (⟦<PlainWorld<P> as Versions>⟧.stands self.old) (⟦<PlainWorld<P> as Versions>⟧.stands self.new) caller (Request.Read name object) (read_reply result) }
+        ensures log { Logs (⟦<PlainWorld<P> as Versions>⟧.log self.old) (⟦<PlainWorld<P> as Versions>⟧.log self.new) caller (Request.Read name object) (read_reply result) }
         ensures flat { (w : World P) → ⟦<PlainWorld<P> as Versions>⟧.stands self.old w → is_flat (value_at (shot_of w name).view object) ≡ true → result ≢ Err Refusal.NoMemory }
     {
         if self.is_closed(name) {
