@@ -1,10 +1,10 @@
 -- What has the forms of something is read as it.
-use Rattle.std.proofs.Common.{◌≡◌, ℕ, List, [], ◌∷◌, length, nat_le, Some, ℤ, true, refl, codes, arith}
+use Rattle.std.proofs.Common.{◌≡◌, ℕ, List, [], ◌∷◌, length, nat_le, Some, ℤ, true, true≢false, sym, refl, codes, arith}
 use Rattle.std.specs.Fmt.{signed_decimal}
 use Rattle.std.proofs.lemmas.Bool.{and_parts, eqb-true, leb-true}
 use Rattle.sexp_text.specs.Forest.{Forest, empty}
 use Rattle.rt_values.specs.declared.value.Value.{Value}
-use Rattle.rt_values.specs.declared.value.Value.TheVariants.{Int}
+use Rattle.rt_values.specs.declared.value.Value.TheVariants as value
 use Rattle.lang_ast.specs.declared.program.State.{State}
 use Rattle.lang_ast.specs.declared.program.Attribute.{Attribute}
 use Rattle.lang_ast.specs.declared.program.Expr.{Expr}
@@ -34,7 +34,10 @@ integer_there z f h = rw (int-decimal z h)
 state_there : (name : List ℕ) (v : Value) → is_name name ≡ true → literal_fits v ≡ true
     → state_of (word name (word (codes "Int") (word (codes "Structural") (literal v empty)))) ≡ Some (record { name = name; initial = v })
 unfolding state_of word_of
-state_there name (Int z) h k = rw (name_there name _ h, integer_there z empty k)
+state_there name (value.Int z) h k = rw (name_there name _ h, integer_there z empty k)
+state_there name (value.Bool b) h k = absurd (true≢false (sym k))
+state_there name (value.Text t) h k = absurd (true≢false (sym k))
+state_there name (value.Ints l) h k = absurd (true≢false (sym k))
 
 states_there : (ss : List State) (f : Forest) → states_fit ss ≡ true → states_of f ≡ Some ([], f) → states_of (states_forms ss f) ≡ Some (ss, f)
 unfolding states_of word_of
@@ -50,7 +53,10 @@ get_there states name h = rw (name_there name empty h)
 
 expr_there : (states : List State) (e : Expr) (f : Forest) → expr_fits states e ≡ true → expr_of states (expr_form e f) ≡ Some (e, f)
 unfolding expr_of
-expr_there states (Literal (Int z)) f h = rw (int-decimal z h)
+expr_there states (Literal (value.Int z)) f h = rw (int-decimal z h)
+expr_there states (Literal (value.Bool b)) f h = absurd (true≢false (sym h))
+expr_there states (Literal (value.Text t)) f h = absurd (true≢false (sym h))
+expr_there states (Literal (value.Ints l)) f h = absurd (true≢false (sym h))
 expr_there states (Get name number) f h =
     let p = and_parts (is_name name) _ h in
     rw (get_there states name p.0, eqb-true number (number_of states name) p.1)
@@ -87,7 +93,10 @@ stmts_there states (Node kind all ∷ more) h =
 write_there : (states : List State) (name : List ℕ) (v : Value) → is_name name ≡ true → literal_fits v ≡ true
     → step_of states (word (codes "write") (word (codes "global") (word name (literal v empty)))) ≡ Some (Write name (number_of states name) v)
 unfolding step_of write_of word_of
-write_there states name (Int z) h k = rw (name_there name _ h, integer_there z empty k)
+write_there states name (value.Int z) h k = rw (name_there name _ h, integer_there z empty k)
+write_there states name (value.Bool b) h k = absurd (true≢false (sym k))
+write_there states name (value.Text t) h k = absurd (true≢false (sym k))
+write_there states name (value.Ints l) h k = absurd (true≢false (sym k))
 
 frame_there : (states : List State) → step_of states (word (codes "frame") empty) ≡ Some Frame
 unfolding step_of word_of

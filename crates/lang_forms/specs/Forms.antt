@@ -1,12 +1,12 @@
 -- The forms of programs and scripts: which trees stand for them. Places are not told: they are 0.
-use Rattle.std.specs.Prelude.{◌≡◌, ℕ, ◌&&◌, ◌==◌, nat_le, List, [], ◌∷◌, length, Bool, true, codes}
+use Rattle.std.specs.Prelude.{◌≡◌, ℕ, ◌&&◌, ◌==◌, nat_le, List, [], ◌∷◌, length, Bool, true, false, codes}
 use Rattle.std.specs.List.{position}
 use Rattle.std.specs.Option.{unwrap_or}
 use Rattle.std.specs.Fmt.{signed_decimal}
 use Rattle.std.specs.Str.{bytes_eq}
 use Rattle.sexp_text.specs.Forest.{Forest, empty, atom, list, unplaced}
 use Rattle.rt_values.specs.declared.value.Value.{Value}
-use Rattle.rt_values.specs.declared.value.Value.TheVariants.{Int}
+use Rattle.rt_values.specs.declared.value.Value.TheVariants as value
 use Rattle.lang_ast.specs.declared.program.State.{State}
 use Rattle.lang_ast.specs.declared.program.Attribute.{Attribute}
 use Rattle.lang_ast.specs.declared.program.Expr.{Expr}
@@ -28,9 +28,12 @@ word a f = atom 0 a f
 abbrev pub form : Forest → Forest → Forest
 form inner f = list 0 inner f
 
--- a literal: a number by its decimals
+-- a literal: a number by its decimals; values of other types have no form yet
 abbrev pub literal : Value → Forest → Forest
-literal (Int z) f = word (signed_decimal z) f
+literal (value.Int z) f = word (signed_decimal z) f
+literal (value.Bool b) f = f
+literal (value.Text t) f = f
+literal (value.Ints l) f = f
 
 -- (state NAME Int Structural INT)
 abbrev pub state_form : State → Forest → Forest
@@ -87,9 +90,12 @@ number_of states name = unwrap_or (position (λ s. bytes_eq s.name name) states)
 
 -- Whether names are names, numbers fit in 64 bits, and numbers of states are those of their names.
 
--- a literal of 64 bits with a sign
+-- a literal of 64 bits with a sign; a value of another type is none
 abbrev pub literal_fits : Value → Bool
-literal_fits (Int z) = fits z
+literal_fits (value.Int z) = fits z
+literal_fits (value.Bool b) = false
+literal_fits (value.Text t) = false
+literal_fits (value.Ints l) = false
 
 -- each state has a name, and a first value that fits
 abbrev pub states_fit : List State → Bool

@@ -59,6 +59,9 @@ kind_text Readonly = codes "readonly"
 
 abbrev pub type_text : Ty → List ℕ
 type_text ty.Int = codes "Int"
+type_text ty.Bool = codes "Bool"
+type_text ty.Text = codes "Text"
+type_text ty.Ints = codes "Ints"
 
 abbrev pub request_text : List State → Request → List ℕ
 request_text states (request.Take parent kind) = codes "take " ++ kind_text kind ++ 32 ∷ snapshot parent

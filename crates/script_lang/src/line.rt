@@ -78,6 +78,9 @@ fn type_word(ty: Ty) -> &'static [u8]
 {
     match ty {
         Ty::Int => b"Int",
+        Ty::Bool => b"Bool",
+        Ty::Text => b"Text",
+        Ty::Ints => b"Ints",
     }
 }
 
