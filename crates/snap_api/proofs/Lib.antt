@@ -16,3 +16,4 @@ pub mod LawsViews
 pub mod LawsApplies
 pub mod LawsFirst
 pub mod LawsSums
+pub mod LawsCounters

@@ -1,8 +1,10 @@
 // What holds of every plain world, in the words of snapshots.
 ghost use Rattle.snap_api.specs.Laws.{StartsValid, MakesStayValid, WatchesStayValid, CallsStayValid, ViewsRise, RefusalsChangeNothing, ClosedStaysClosed, NamesAreNew, ViewsAreIsolated, ReadsAreIsolated, FirstCommitterWins};
-ghost use Rattle.snap_api.specs.LawsSums.{AppliesAdd, MeetingsStand, AppliesAddUp};
+ghost use Rattle.rt_values.specs.Operators.{number_of};
+ghost use Rattle.snap_policy.specs.Table.{table};
+ghost use Rattle.snap_api.specs.LawsSums.{Counts, AppliesAdd, MeetingsStand, AppliesAddUp};
 
-use snap_policy::Policy;
+use snap_policy::{BuiltIn, Policy};
 
 /// In every world that makes, watches and calls lead to from a start, no stamp is above the clock, a value is of
 /// its object's type, entries of one object with equal stamps are equal, a snapshot's view is later than its base
@@ -60,4 +62,9 @@ pub fn no_lost_update<P: Policy>()
     ensures one { AppliesAdd P.rules }
     ensures met { MeetingsStand P.rules }
     ensures all { AppliesAddUp P.rules }
+{}
+
+/// The policy `Counter` merges by adding. So of the numbers of a counter no update is lost.
+pub fn counters_add()
+    ensures { Counts table BuiltIn.Counter number_of }
 {}

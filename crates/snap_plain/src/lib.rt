@@ -14,6 +14,9 @@ mod world;
 pub use world::PlainWorld;
 
 #[cfg(test)]
+mod rows;
+
+#[cfg(test)]
 mod tests {
     use super::*;
     use rt_values::{Kind, Objects, Ty, Value, View};
