@@ -4,12 +4,12 @@ use self::Answer::{Applied, Changed, Disposed, Got, Refused, Same, Taken, TakenF
 use self::Call::{Apply, Dispose, Read, Take, Write};
 use self::Literal::{Bool, Int, Ints};
 use crate::PlainWorld;
+use rt_values::Kind::{Mutable, Readonly};
 use rt_values::{IntList, Kind, Name, ObjectNo, Ty, Value};
 use snap_api::{CLOCK_LIMIT, Refusal, Reply, Request, Versions, run_calls};
 use snap_policy::BuiltIn;
 use std::alloc::Global;
 use std::process::Abort;
-use rt_values::Kind::{Mutable, Readonly};
 use std::test::Fail;
 
 // A value as a table writes it.
@@ -117,10 +117,12 @@ struct Row {
     calls: &'static [(u64, Call, Answer)],
 }
 
-
 const ONE: State = (Ty::Int, BuiltIn::Structural, Int(1));
+
 const ZERO: State = (Ty::Int, BuiltIn::Structural, Int(0));
+
 const TEN: State = (Ty::Int, BuiltIn::Counter, Int(10));
+
 const ROWS: [Row; 17] = [
     Row {
         what: "a snapshot keeps what it was taken with, and conflicts with a later change",
@@ -325,8 +327,18 @@ const ROWS: [Row; 17] = [
             (0, Apply(0), Refused(Refusal::Global)),
             (1, Dispose(1), Refused(Refusal::NotYours { owner: 0 })),
             (0, Read(1, 0), Got(Int(0))),
-            (0, Write(18446744073709551615, 0, Int(1)), Refused(Refusal::Closed { name: 18446744073709551615 })),
-            (0, Write(0, 0, Bool(true)), Refused(Refusal::WrongType { kept: Ty::Int })),
+            (
+                0,
+                Write(18446744073709551615, 0, Int(1)),
+                Refused(Refusal::Closed {
+                    name: 18446744073709551615,
+                }),
+            ),
+            (
+                0,
+                Write(0, 0, Bool(true)),
+                Refused(Refusal::WrongType { kept: Ty::Int }),
+            ),
             (0, Read(1, 1), Refused(Refusal::UnknownObject)),
             (0, Write(1, 1, Bool(true)), Refused(Refusal::UnknownObject)),
             (0, Write(1, 0, Bool(true)), Refused(Refusal::ReadOnly)),
