@@ -62,8 +62,12 @@ takes rules keeps_types before after caller watcher name changed types l does h 
       map = view;
       shown = took_eyes t rules after h.valid.shaped valid told.1;
       is_last = record {
-        world = (call rules w caller (request.TakeFor watcher)).0; stands_for = told.1; valid = valid;
-        known = omega (arith, t.watchers, h.known); is = t.last; types_are = ap (λ (os : List (Object _)). map (λ o. o.ty) os) t.objects ∙ h.types_are;
+        world = (call rules w caller (request.TakeFor watcher)).0;
+        stands_for = told.1;
+        valid = valid;
+        known = omega (arith, t.watchers, h.known);
+        is = t.last;
+        types_are = ap (λ (os : List (Object _)). map (λ o. o.ty) os) t.objects ∙ h.types_are;
       };
       changed_is = t.listed ∙ ap (λ o. differ o view) h.is;
       follows = subst (λ o. FollowsLast o view) h.is (follows_last h.valid watcher);

@@ -3,6 +3,7 @@ pub mod InTurn
 pub mod Recording
 pub mod Takes
 pub mod DeskTakes
+pub mod Framing
 pub mod Valid
 pub mod ValidSteps
 pub mod ValidMoves

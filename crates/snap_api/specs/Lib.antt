@@ -7,6 +7,7 @@ pub mod Valid
 pub mod Eyes
 pub mod Desks
 pub mod Keeps
+pub mod Frames
 pub mod Recorded
 pub mod Laws
 pub mod LawsSums

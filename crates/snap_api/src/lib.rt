@@ -13,6 +13,8 @@ mod desk;
 pub mod laws;
 mod log;
 mod own_desk;
+#[cfg(test)]
+mod reader;
 mod runs;
 #[cfg(test)]
 mod tests;

@@ -20,7 +20,13 @@ returns-then-is_no_memory g c =
       asks = tt;
       part = record { rest = c.args.x ∷ []; is = ap (λ l. l ++ c.args.x ∷ []) popped };
       keeps = record {
-        same_world = refl; same_list = refl; stands = stands; same_caller = refl; same_name = refl; more = []; asks = popped ∙ sym (append-nil _);
+        same_world = refl;
+        same_list = refl;
+        stands = stands;
+        same_caller = refl;
+        same_name = refl;
+        more = [];
+        asks = popped ∙ sym (append-nil _);
         tells = subst (λ (o : Option ℕ). TellsOf (g.V.Versions.log c.args.self.now.world.now) (g.V.Versions.log c.read.new.self) c.args.self.now.caller o []) (sym c.in-Some.is) tells;
       };
     }
@@ -36,7 +42,13 @@ returns-else-is_no_memory g c =
       asks = tt;
       part = record { rest = []; is = append-nil _ ∙ c.in-Ok.ensures.ok };
       keeps = record {
-        same_world = refl; same_list = refl; stands = stands; same_caller = refl; same_name = refl; more = c.args.x ∷ []; asks = c.in-Ok.ensures.ok;
+        same_world = refl;
+        same_list = refl;
+        stands = stands;
+        same_caller = refl;
+        same_name = refl;
+        more = c.args.x ∷ [];
+        asks = c.in-Ok.ensures.ok;
         tells = subst (λ (o : Option ℕ). TellsOf (g.V.Versions.log c.args.self.now.world.now) (g.V.Versions.log c.read.new.self) c.args.self.now.caller o (c.args.x ∷ [])) (sym c.in-Some.is) tells;
       };
     }
