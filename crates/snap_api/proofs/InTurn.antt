@@ -28,15 +28,15 @@ does_call before after step (reply.Refused r) other does = does
 does_call before after step r other does = does
 
 -- one call more, made in a world that stands
-pub one_more : {P : Type 0} (d : ℕ × Request) (rules : Rules P) (before after : World P → Type 0) (w : World P) (items cs : List (ℕ × Request)) (i : ℕ) (q : Request) (r : Reply) →
-    items ≡ cs → i < length cs → q ≡ (get_or items i d).1 → before (world_of_calls rules w (take i cs)) → is_no_memory r ≡ false → Calls rules before after (get_or items i d).0 q r →
+pub one_more : {P : Type 0} (d : ℕ × Request) (rules : Rules P) (before after : World P → Type 0) (w : World P) (items cs : List (ℕ × Request)) (i caller : ℕ) (q : Request) (r : Reply) →
+    items ≡ cs → i < length cs → caller ≡ (get_or items i d).0 → q ≡ (get_or items i d).1 → before (world_of_calls rules w (take i cs)) → is_no_memory r ≡ false → Calls rules before after caller q r →
     after (world_of_calls rules w (take (i + 1) cs)) × (replies_to rules w (take (i + 1) cs) ≡ replies_to rules w (take i cs) ++ r ∷ [])
-one_more d rules before after w items cs i q r all within same stands answered does =
+one_more d rules before after w items cs i caller q r all within named same stands answered does =
     let x = get_or items i d in
     let e : take (i + 1) cs ≡ take i cs ++ x ∷ [] = take_more cs i d within ∙ ap (λ xs. take i cs ++ get_or xs i d ∷ []) (sym all) in
     let v = world_of_calls rules w (take i cs) in
     let one : (r ≡ (call rules v x.0 x.1).1) × after (call rules v x.0 x.1).0 =
-    subst (λ k. (r ≡ (call rules v x.0 k).1) × after (call rules v x.0 k).0) same (does_call before after (λ u. call rules u x.0 q) r answered does v stands) in (
+    subst (λ k. (r ≡ (call rules v x.0 k).1) × after (call rules v x.0 k).0) same (does_call before after (λ u. call rules u x.0 q) r answered (subst (λ n. Calls rules before after n q r) named does) v stands) in (
       subst after (sym (ap (world_of_calls rules w) e ∙ world-snoc rules w (take i cs) x)) one.1,
       ap (replies_to rules w) e ∙ replies-snoc rules w (take i cs) x ∙ ap (λ k. replies_to rules w (take i cs) ++ k ∷ []) (sym one.0),
     )

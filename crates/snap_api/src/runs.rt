@@ -20,11 +20,11 @@ pub fn run_calls<V: Versions>(
     ensures before { OnErr result ((n : ℕ) × ((w : World V.P) → V.stands world.old w → V.stands world.new (world_of_calls V.P.rules w (take n calls.now.items)))) }
 {
     let mut replies = Vec::new(alloc);
-    for (caller, request) in calls {
-        let Ok(request) = request.copy(alloc) else {
+    for call in calls {
+        let Ok(request) = call.1.copy(alloc) else {
             return Err(NoMemory);
         };
-        let reply = world.call(alloc, *caller, request);
+        let reply = world.call(alloc, call.0, request);
         if reply.is_no_memory() {
             return Err(NoMemory);
         }
