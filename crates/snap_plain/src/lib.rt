@@ -84,7 +84,7 @@ mod tests {
         let calls = vec![in alloc;
             (7, take),
             (8, Request::Apply { name: 1 }),
-            (7, Request::Dispose { name: 1 })
+            (7, Request::Dispose { name: 1 }),
         ]?;
         let replies = run_calls(alloc, &mut world, &calls)?;
         assert_eq!(rt; replies.len(), 3);
@@ -120,8 +120,21 @@ mod tests {
         assert_eq!(rt; entries.len(), 8);
         assert!(rt; matches!(entries[1].request, Request::Read { name: 1, object: 0 }));
         assert!(rt; matches!(entries[2].reply, Reply::Disposed));
-        assert!(rt; matches!(entries[3].reply, Reply::Refused(Refusal::Closed { name: 1 })));
-        assert!(rt; matches!(entries[5].request, Request::Write { value: Value::Int(2), .. }));
+        assert!(rt;
+            matches!(
+                entries[3].reply,
+                Reply::Refused(Refusal::Closed { name: 1 })
+            )
+        );
+        assert!(rt;
+            matches!(
+                entries[5].request,
+                Request::Write {
+                    value: Value::Int(2),
+                    ..
+                }
+            )
+        );
         assert!(rt; matches!(entries[7].reply, Reply::Disposed));
         Ok(())
     }
