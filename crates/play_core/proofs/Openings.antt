@@ -1,5 +1,5 @@
 -- The world and the composition before the first step.
-use Rattle.std.proofs.Common.{◌≡◌, ℕ, ◌+◌, List, [], ◌∷◌, ◌++◌, Bool, false, None, refl, sym, ap, subst, length, IfOk, Ok, Err}
+use Rattle.std.proofs.Common.{◌≡◌, ℕ, ◌+◌, List, [], ◌∷◌, ◌++◌, Bool, true, false, Some, None, cond, not, arith, refl, sym, ap, subst, length, IfOk, Ok, Err}
 use Rattle.std.specs.Prelude.{slice_index_or}
 use Rattle.std.specs.declared.result.Result.{Result}
 use Rattle.rt_values.specs.Frames.{unseen}
@@ -7,10 +7,16 @@ use Rattle.lang_ast.specs.declared.program.State.{State}
 use Rattle.lang_ast.specs.declared.program.Stmt.{Stmt}
 use Rattle.snap_policy.specs.declared.policy.BuiltIn.{BuiltIn}
 use Rattle.snap_policy.specs.declared.policy.BuiltIn.TheVariants.{Structural}
-use Rattle.rt_values.specs.Values.{type_of}
-use Rattle.snap_api.specs.Shaped.{IsShaped}
-use Rattle.snap_api.specs.World.{World, start, made, with_members, last_of}
-use Rattle.snap_api.proofs.Valid.{shaped_start, shaped_made, shaped_watched}
+use Rattle.rt_values.specs.Values.{type_of, same_type}
+use Rattle.rt_values.specs.declared.value.Ty.{Ty}
+use Rattle.rt_values.specs.declared.value.Ty.TheVariants as ty
+use Rattle.rt_values.specs.declared.value.Value.{Value}
+use Rattle.snap_policy.specs.Table.{table}
+use Rattle.snap_api.specs.Valid.{IsValid}
+use Rattle.snap_api.specs.World.{World, start, made, make_refusal, with_members, last_of}
+use Rattle.snap_api.specs.declared.data.Refusal.TheVariants as refusal
+use Rattle.snap_api.proofs.ValidMade.{valid_start, valid_made, makeable}
+use Rattle.snap_api.proofs.ValidMoves.{valid_watched}
 use Rattle.script_lang.specs.Steps.{with_states, opening, watcher_number}
 use Rattle.play_core.specs.Reads.{stmts_reads}
 use Rattle.play_core.specs.Turns.{at_first}
@@ -21,9 +27,16 @@ pub lasts-states : (w : World BuiltIn) (ss : List State) → (with_states w ss).
 lasts-states w [] = refl
 lasts-states w (s ∷ more) = lasts-states (made w (type_of s.initial) Structural s.initial) more
 
-shaped-states : (w : World BuiltIn) (ss : List State) → IsShaped w → IsShaped (with_states w ss)
-shaped-states w [] h = h
-shaped-states w (s ∷ more) h = shaped-states (made w (type_of s.initial) Structural s.initial) more (shaped_made w (type_of s.initial) Structural s.initial h)
+same-itself : (t : Ty) → same_type t t ≡ true
+same-itself ty.Int = refl
+
+-- a state's value is of its own type, which each policy fits
+makes-states : (v : Value) → make_refusal table (type_of v) Structural v ≡ None
+makes-states v = ap (λ b. cond (not b) (Some (refusal.WrongType (type_of v))) None) (same-itself (type_of v))
+
+valid-states : (w : World BuiltIn) (ss : List State) → IsValid table w → IsValid table (with_states w ss)
+valid-states w [] h = h
+valid-states w (s ∷ more) h = valid-states (made w (type_of s.initial) Structural s.initial) more (valid_made h (type_of s.initial) Structural s.initial (makeable table (type_of s.initial) Structural s.initial (makes-states s.initial)))
 
 -- the watcher was given no map yet
 last-opening : (ss : List State) → last_of (opening ss) watcher_number ≡ None
@@ -33,7 +46,7 @@ pub first-stands : {V : Type 0} {stands : V → World BuiltIn → Type 0} {world
     states_now ≡ states → stands world (opening states_now) → started ≡ false → ns ≡ [] → read ≡ with_members (stmts_reads root) [] → Stands stands world root started ns read (at_first states)
 first-stands {stands = stands} {world = world} {root = root} states states_now started ns read same stood fresh none reads = record {
   world_stands = subst (λ ss. stands world (opening ss)) same stood;
-  shaped = shaped_watched (with_states (start 0) states) (shaped-states (start 0) states (shaped_start 0));
+  valid = valid_watched (valid-states (start 0) states (valid_start table 0 (omega arith)));
   last = λ small. last-opening states;
   kept = record {
     next_is = ap (λ (l : List ℕ). length l + 1) (sym none);

@@ -9,7 +9,7 @@ use Rattle.rt_values.specs.Frames.{Composed}
 use Rattle.lang_ast.specs.declared.program.Stmt.{Stmt}
 use Rattle.lang_ast.specs.Frame.{frame}
 use Rattle.snap_policy.specs.declared.policy.BuiltIn.{BuiltIn}
-use Rattle.snap_policy.specs.Table.{table}
+use Rattle.snap_policy.specs.Table.{table, table_merge_keeps_type}
 use Rattle.snap_api.specs.declared.data.Object.{Object}
 use Rattle.snap_api.specs.declared.data.Logged.{Logged}
 use Rattle.snap_api.specs.declared.data.Refusal.{Refusal}
@@ -21,7 +21,7 @@ use Rattle.snap_api.specs.declared.data.Shot.{Shot}
 use Rattle.snap_api.specs.Eyes.{Eyes}
 use Rattle.snap_api.specs.World.{World, shot_of, last_of, unless, is_spent, is_closed, is_foreign, is_mutable, write_to, written}
 use Rattle.snap_api.proofs.Takes.{TookFor, call-TakeFor, took_own, took_eyes, call-Dispose}
-use Rattle.snap_api.proofs.Valid.{shaped_call}
+use Rattle.snap_api.proofs.ValidCalls.{valid_call}
 use Rattle.script_lang.specs.Lines.{Titles, entry_line, frame_lines, kept_after}
 use Rattle.script_lang.specs.Steps.{actor_number, watcher_number}
 use Rattle.play_core.specs.Turns.{Between, behind_take, done, told}
@@ -44,9 +44,9 @@ module _ {V : Type 0} {stands : V → World BuiltIn → Type 0} {world : V} {roo
       let t = took-for h in
       record {
         world_stands = h.world_stands;
-        shaped = shaped_call table b.world actor_number h.shaped (request.TakeFor watcher_number);
-        own = took_own t h.shaped;
-        eyes = subst (Eyes (stands world) actor_number (Some name)) (sym (view-is h)) (took_eyes t (stands world) h.shaped h.world_stands);
+        valid = valid_call h.valid table_merge_keeps_type actor_number (request.TakeFor watcher_number);
+        own = took_own t h.valid.shaped;
+        eyes = subst (Eyes table (stands world) actor_number (Some name)) (sym (view-is h)) (took_eyes t table (stands world) h.valid.shaped (valid_call h.valid table_merge_keeps_type actor_number (request.TakeFor watcher_number)) h.world_stands);
         listed = λ small. t.listed ∙ ap (λ o. differ o (shot_of b.world 0).view) (h.last small) ∙ ap (differ b.kept.seen) (sym (view-is h));
         last = t.last ∙ ap Some (sym (view-is h));
         kept = h.kept;
@@ -61,7 +61,7 @@ module _ {V : Type 0} {stands : V → World BuiltIn → Type 0} {world : V} {roo
       let f = in-frame h in
       record {
         world_stands = stood;
-        shaped = shaped_call table (behind_of b) actor_number f.shaped (request.Dispose name);
+        valid = valid_call f.valid table_merge_keeps_type actor_number (request.Dispose name);
         last = λ small. ap (λ (p : World BuiltIn × Reply). last_of p.0 watcher_number) (call-Dispose table (behind_of b) actor_number name f.own) ∙ f.last ∙ sym (seen-small root b.kept (shot_of (behind_of b) name).view small);
         kept = kept;
         read_is = same ∙ h.read_is;
@@ -94,7 +94,7 @@ pub after-write : {V : Type 0} {stands : V → World BuiltIn → Type 0} {world 
     Stands stands world' root started ns read (record { world = (done b.world (request.Write 0 x v)).0; kept = b.kept })
 after-write b x v h stood = record {
   world_stands = stood;
-  shaped = shaped_call table b.world actor_number h.shaped (request.Write 0 x v);
+  valid = valid_call h.valid table_merge_keeps_type actor_number (request.Write 0 x v);
   last = λ small. ap (λ (ls : List (Option Map)). slice_index_or ls watcher_number None) (lasts-write b.world 0 x v) ∙ h.last small;
   kept = h.kept;
   read_is = h.read_is;
@@ -115,7 +115,7 @@ one-line r a z l says = subst (λ bytes. Says a z bytes r) (sym (append-nil l)) 
 pub took : {V : Type 0} {stands : V → World BuiltIn → Type 0} {world world' : V} {root : List Stmt} {started : Bool} {ns read : List ℕ} (b : Between) (e : Logged) →
     Stands stands world root started ns read b → stands world' (behind_of b) → e ≡ told (request.TakeFor watcher_number) (done b.world (request.TakeFor watcher_number)).1 →
     Took stands world' root started ns read b e.reply
-took b e h stood is = record { world_stands = stood; answered = ap (λ (l : Logged). l.reply) is; shaped = h.shaped; last = h.last; kept = h.kept; read_is = h.read_is }
+took b e h stood is = record { world_stands = stood; answered = ap (λ (l : Logged). l.reply) is; valid = h.valid; last = h.last; kept = h.kept; read_is = h.read_is }
 
 -- what is said behind the answer that was given is what is said behind the plain world's
 pub took-after : {T E : Type 0} (r : Result T E) (a z : Option (List ℕ)) (t : Titles) (root : List Stmt) (b : Between) (e : Logged) (first : List ℕ) →

@@ -10,9 +10,10 @@ use Rattle.rt_values.specs.Frames.{Composed, unseen, most_groups}
 use Rattle.lang_ast.specs.Meaning.{forest}
 use Rattle.play_core.specs.Reads.{stmts_reads}
 use Rattle.lang_ast.specs.declared.program.Stmt.{Stmt}
+use Rattle.snap_policy.specs.Table.{table}
 use Rattle.snap_policy.specs.declared.policy.BuiltIn.{BuiltIn}
 use Rattle.snap_api.specs.World.{World, last_of, shot_of, with_members}
-use Rattle.snap_api.specs.Shaped.{IsShaped}
+use Rattle.snap_api.specs.Valid.{IsValid}
 use Rattle.snap_api.specs.Eyes.{Eyes}
 use Rattle.snap_api.specs.Calls.{IsOwn}
 use Rattle.script_lang.specs.Steps.{actor_number, watcher_number}
@@ -39,10 +40,10 @@ pub record IsKept (root : List Stmt) (started : Bool) (ns : List ℕ) (k : Compo
 abbrev pub IsSmall : List Stmt → Type 0
 IsSmall root = length root + 1 ≤ most_groups
 
--- between two steps: the world stands for the plain one, which is shaped and, where no frame is refused, was seen last as in what is kept; root reads the objects `read`
+-- between two steps: the world stands for the plain one, which is valid and, where no frame is refused, was seen last as in what is kept; root reads the objects `read`
 pub record Stands {V : Type 0} (stands : V → World BuiltIn → Type 0) (world : V) (root : List Stmt) (started : Bool) (ns read : List ℕ) (b : Between) : Type 0 where
   pub world_stands : stands world b.world
-  pub shaped : IsShaped b.world
+  pub valid : IsValid table b.world
   pub last : IsSmall root → last_of b.world watcher_number ≡ b.kept.seen
   pub kept : IsKept root started ns b.kept
   pub read_is : read ≡ with_members (stmts_reads root) []
@@ -51,7 +52,7 @@ pub record Stands {V : Type 0} (stands : V → World BuiltIn → Type 0) (world 
 pub record Took {V : Type 0} (stands : V → World BuiltIn → Type 0) (world : V) (root : List Stmt) (started : Bool) (ns read : List ℕ) (b : Between) (answer : Reply) : Type 0 where
   pub world_stands : stands world (done b.world (request.TakeFor watcher_number)).0
   pub answered : answer ≡ (done b.world (request.TakeFor watcher_number)).1
-  pub shaped : IsShaped b.world
+  pub valid : IsValid table b.world
   pub last : IsSmall root → last_of b.world watcher_number ≡ b.kept.seen
   pub kept : IsKept root started ns b.kept
   pub read_is : read ≡ with_members (stmts_reads root) []
@@ -59,9 +60,9 @@ pub record Took {V : Type 0} (stands : V → World BuiltIn → Type 0) (world : 
 -- inside a frame: its snapshot was taken in w, and these objects changed since what is kept
 pub record InFrame {V : Type 0} (stands : V → World BuiltIn → Type 0) (world : V) (root : List Stmt) (started : Bool) (ns read : List ℕ) (k : Composed) (w : World BuiltIn) (name : ℕ) (changed : List ℕ) : Type 0 where
   pub world_stands : stands world w
-  pub shaped : IsShaped w
+  pub valid : IsValid table w
   pub own : IsOwn w actor_number name
-  pub eyes : Eyes (stands world) actor_number (Some name) (shot_of w name).view
+  pub eyes : Eyes table (stands world) actor_number (Some name) (shot_of w name).view
   pub listed : IsSmall root → changed ≡ differ k.seen (shot_of w name).view
   pub last : last_of w watcher_number ≡ Some (shot_of w name).view
   pub kept : IsKept root started ns k

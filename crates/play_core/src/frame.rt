@@ -161,8 +161,8 @@ fn compose<V: Versions<P = BuiltIn>>(
     asked: &mut Objects,
 ) -> Result<(), ScratchStop>
     ensures same { (w : World built_in) → V.stands world.old w → V.stands world.new w }
-    ensures values { (m : Map) → Eyes (V.stands world.old) actor_number (Some name) m → OnOk result (values.new.items ≡ shown (forest program.now.root.items m)) }
-    ensures asked { (m : Map) → Eyes (V.stands world.old) actor_number (Some name) m → OnOk result (asked.new ≡ asks (forest program.now.root.items m)) }
+    ensures values { (m : Map) → Eyes V.P.rules (V.stands world.old) actor_number (Some name) m → OnOk result (values.new.items ≡ shown (forest program.now.root.items m)) }
+    ensures asked { (m : Map) → Eyes V.P.rules (V.stands world.old) actor_number (Some name) m → OnOk result (asked.new ≡ asks (forest program.now.root.items m)) }
     ensures fits { OnOk result ((m : Map) → how_many (forest program.now.root.items m) ≤ most_groups) }
     ensures many { result ≡ Err ScratchStop.TooManyGroups → (m : Map) → most_groups < how_many (forest program.now.root.items m) }
 {
