@@ -1,5 +1,5 @@
 -- What a desk shows once it took a snapshot for a watcher, and when its take is refused.
-use Rattle.std.proofs.Common.{◌≡◌, ℕ, ◌+◌, ◌==◌, ◌<◌, ◌≤◌, nat_lt, List, [], ◌∷◌, length, map, refl, sym, ap, ◌∙◌, subst, Option, Some, None, Result, Ok, Err, Bool, true, false, not, ◌&&◌, cond, arith, inl, inr}
+use Rattle.std.proofs.Common.{◌≡◌, ℕ, ◌==◌, ◌<◌, nat_lt, List, [], ◌∷◌, length, map, refl, sym, ap, ◌∙◌, subst, Option, Some, None, Result, Ok, Err, Bool, true, false, not, ◌&&◌, cond, arith, inl, inr}
 use Rattle.std.proofs.lemmas.Bool.Decides.{eqb_tells}
 use Rattle.std.proofs.lemmas.List.{length-map}
 use Rattle.std.proofs.lemmas.Option.{slice_get-map, slice_get_within}
@@ -9,10 +9,10 @@ use Rattle.rt_values.specs.Maps.{Map, differ, entry_at, value_at}
 use Rattle.rt_values.specs.Values.{type_of}
 use Rattle.rt_values.specs.declared.value.Ty.{Ty}
 use Rattle.snap_policy.specs.Rules.{Rules}
-use Rattle.snap_api.proofs.Takes.{TookFor, call-TakeFor, took_eyes}
+use Rattle.snap_api.proofs.Takes.{call-TakeFor, took_eyes}
 use Rattle.snap_api.proofs.ValidCalls.{valid_call}
 use Rattle.snap_api.specs.Calls.{Calls, taken_for_reply}
-use Rattle.snap_api.specs.Desks.{Follows, FollowsLast, AreOf, Lasts, Clocks, Taken, SpentAtEnd, types_of}
+use Rattle.snap_api.specs.Desks.{FollowsLast, AreOf, Lasts, Clocks, Taken, SpentAtEnd, types_of}
 use Rattle.snap_api.specs.Eyes.{Eyes}
 use Rattle.snap_api.specs.Valid.{IsValid, KeepsTypes, MovedOn, View, Last}
 use Rattle.snap_api.specs.World.{World, call, unless, shot_of, last_of, is_spent, is_closed, is_foreign, taken_for, with_shot, with_status, clock_limit}

@@ -7,7 +7,7 @@ use Rattle.snap_api.proofs.Takes.{call-TakeFor}
 use Rattle.snap_api.specs.Calls.{Calls, Logs, dispose_reply}
 use Rattle.snap_api.specs.Desks.{Lasts, types_of}
 use Rattle.snap_api.specs.Frames.{Ends, Frames, world_of_frame}
-use Rattle.snap_api.specs.Keeps.{Asked, Tells, TellsOf, Told}
+use Rattle.snap_api.specs.Keeps.{Asked, Tells, TellsOf}
 use Rattle.snap_api.specs.Valid.{IsValid}
 use Rattle.snap_api.specs.World.{World, call, last_of}
 use Rattle.snap_api.specs.declared.data.Logged.{Logged}

@@ -4,7 +4,7 @@ use Rattle.rt_values.specs.Maps.{Map, differ, value_at}
 use Rattle.rt_values.specs.declared.value.Ty.{Ty}
 use Rattle.rt_values.specs.declared.value.Value.{Value}
 use Rattle.snap_policy.specs.Rules.{Rules}
-use Rattle.snap_api.specs.Desks.{Follows, Lasts, types_of}
+use Rattle.snap_api.specs.Desks.{Follows, Lasts}
 use Rattle.snap_api.specs.Keeps.{call_of, reads_of}
 use Rattle.snap_api.specs.World.{World, call}
 use Rattle.snap_api.specs.declared.data.Logged.{Logged}

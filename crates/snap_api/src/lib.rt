@@ -1,11 +1,13 @@
-//! Worlds of snapshots: their calls, what each call answers, and a view of one snapshot over a lent world.
+//! Worlds of snapshots: their calls, what each call answers, and desks, which show one snapshot of a world.
 //!
 //! It is `Snapshot` of `androidx.compose.runtime.snapshots`: take a snapshot, read and write state objects in
-//! it, apply it to its parent or dispose it. `Versions` is what a composition and a script stand on, `OwnDesk`
-//! is what a composition reads through.
+//! it, apply it to its parent or dispose it. `Versions` is what a script stands on, `Desk` what a composition
+//! stands on; `OwnDesk` is a desk over a lent world. `LogWorld` keeps a log of the calls on any world, and
+//! `run_calls` makes a list of them.
 //! Promises: a world answers each call as the plain world of `specs/World.antt` does, which copies whole maps
 //! and keeps every snapshot; the refusals of a call come in one order; want of memory leaves the world as it
-//! was.
+//! was. Whoever lends a world to a desk knows the world again when the desk is gone, and its log where it tells
+//! one.
 #![tactic(auto)]
 
 mod data;
