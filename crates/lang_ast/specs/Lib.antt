@@ -1,2 +1,9 @@
 pub mod Meaning
 pub mod Frame
+pub mod Terms
+pub mod SyntaxView
+pub mod Places
+pub mod Readings
+pub mod Evaluation
+pub mod Composing
+pub mod SmallPrograms

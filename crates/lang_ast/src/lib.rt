@@ -1,11 +1,25 @@
-//! Programs of composables as plain data, and what they mean: `specs/Meaning.antt` says what an expression's
-//! value is and which groups composing from scratch makes, `specs/Frame.antt` what one frame leaves and tells.
+//! Programs of composables as plain data, and what they mean.
 //!
 //! The reader of programs makes these types, the checks look them through, and composing walks them. They
 //! stand in place of the Kotlin functions that the Compose compiler plugin rewrites; the language is this
-//! project's own. Promises nothing by itself: it has no function but the plain moves in and out of lists.
+//! project's own.
+//!
+//! Two languages stand side by side. The whole one has expressions, statements and functions; contracts see
+//! them without pointers (`specs/Terms.antt`). `specs/Evaluation.antt` says what an expression's value is, and
+//! `specs/Composing.antt` which reads and groups composing from scratch makes, in order; both are computed on
+//! four small programs in `specs/SmallPrograms.antt`. The small one, nodes with literals and reads, is what the
+//! command runs today: `specs/Meaning.antt` says what it means, `specs/Frame.antt` what one frame leaves and tells.
+//! Promises: places and sites are those that the parts were made with, and the definitions give the small
+//! programs' groups and reports.
 #![tactic(auto)]
 
+mod binding;
+mod examples;
+mod place;
 mod program;
+mod syntax;
 
+pub use binding::Binding;
+pub use examples::the_examples_hold;
 pub use program::{Attribute, Attributes, Expr, Program, State, Stmt};
+pub use syntax::{Expression, Function, Name, Named, Operator, Parameter, Statement};

@@ -1,2 +1,5 @@
+pub mod Agreeing
 pub mod Flats
 pub mod Grows
+pub mod Meanings
+pub mod Skips

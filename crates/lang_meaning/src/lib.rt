@@ -1,13 +1,19 @@
-//! Expressions evaluated and programs composed from scratch, read through a `View`.
+//! Expressions evaluated and programs composed from scratch, read through a `View`, and what holds of every
+//! composition.
 //!
 //! A frame composes its program by `scratch` in the map of its snapshot. It is what the body of a composable
 //! does between `startRestartGroup` and `endRestartGroup` when nothing is skipped.
 //! Promises: the values are those of `lang_ast`'s definition of meaning in the map that the view shows, and
-//! the view was asked for exactly the objects that the definition reads, in order.
+//! the view was asked for exactly the objects that the definition reads, in order. The laws say that a call need
+//! not run again where its arguments and the values of its own reads are the same.
 #![tactic(auto)]
 
+mod laws;
 mod scratch_walk;
 
+pub use laws::{
+    calls_reach_earlier_functions, evaluation_agrees, own_parts_agree, skipping_is_right,
+};
 pub use scratch_walk::{ScratchStop, eval, scratch};
 
 #[cfg(test)]

@@ -1,0 +1,134 @@
+-- To look a group up by its path is to go down beside it.
+use Rattle.std.proofs.Common.{ℕ, suc, ◌+◌, List, [], ◌∷◌, ◌++◌, ◌≡◌, refl, ap, ◌∙◌, sym, map, length, length-append, Bool, true, false, ◌&&◌, Option, Some, None, if◌then◌else◌}
+use Rattle.std.specs.List.{filter}
+use Rattle.std.proofs.lemmas.List.Elements.{filter-append}
+use Rattle.rt_values.specs.Trail.{Trail, End, Read, Group, What, Call, Node, Key, Cell}
+use Rattle.rt_values.specs.Paths.{Path, Step, Sibling, sibling, step, occurrence, among, inside_of, at_path}
+use Rattle.rt_values.specs.Frames.{Caller, Kept, nobody, innermost, calls, cells, trace, runs_after, call_runs, other_keys, is_calculated}
+use Rattle.recompose_walk.specs.Work.{Work, also, with_call, with_cell, with_read, runs_in, at_group, work, PathsAndPlacesAgree}
+use Rattle.recompose_walk.proofs.Works.{parts, same_parts, with_call-also, with_cell-also}
+
+-- what stands inside the group at a path, and at the empty path the whole
+abbrev inside_at : Path → Trail → Trail
+inside_at [] t = t
+inside_at (s ∷ path) t = inside_at path (inside_of (among s.of s.occurrence t))
+
+at_path-append : (path : Path) (s : Step) (t : Trail) → at_path (path ++ s ∷ []) t ≡ among s.of s.occurrence (inside_at path t)
+at_path-append [] s t = refl
+at_path-append (r ∷ []) s t = refl
+at_path-append (r ∷ (q ∷ path)) s t = at_path-append (q ∷ path) s (inside_of (among r.of r.occurrence t))
+
+inside_at-append : (path : Path) (s : Step) (t : Trail) → inside_at (path ++ s ∷ []) t ≡ inside_of (among s.of s.occurrence (inside_at path t))
+inside_at-append [] s t = refl
+inside_at-append (r ∷ path) s t = inside_at-append path s (inside_of (among r.of r.occurrence t))
+
+-- Lists of which some members are counted or taken.
+
+count-append : {X : Type 0} (p : X → Bool) (xs ys : List X) → length (filter p (xs ++ ys)) ≡ length (filter p xs) + length (filter p ys)
+count-append p xs ys = ap length (filter-append p xs ys) ∙ length-append (filter p xs) (filter p ys)
+
+abbrev taken : List ℕ → Trail → List (Caller × ℕ) → List ℕ
+taken owed old rs = map (λ r. r.1) (filter (λ r. call_runs owed old r.0) rs)
+
+map-append : {X Y : Type 0} (f : X → Y) (xs ys : List X) → map f (xs ++ ys) ≡ map f xs ++ map f ys
+map-append f [] ys = refl
+map-append f (x ∷ xs) ys = ap (λ l. f x ∷ l) (map-append f xs ys)
+
+taken-append : (owed : List ℕ) (old : Trail) (rs ss : List (Caller × ℕ)) → taken owed old (rs ++ ss) ≡ taken owed old rs ++ taken owed old ss
+taken-append owed old rs ss =
+    ap (λ l. map (λ (r : Caller × ℕ). r.1) l) (filter-append (λ (r : Caller × ℕ). call_runs owed old r.0) rs ss)
+    ∙ map-append (λ (r : Caller × ℕ). r.1) (filter (λ (r : Caller × ℕ). call_runs owed old r.0) rs) (filter (λ (r : Caller × ℕ). call_runs owed old r.0) ss)
+
+-- the work of a trail by paths
+abbrev told : List ℕ → Trail → Caller → Path → List Sibling → Trail → Work
+told owed old caller here seen t =
+    parts (length (filter (call_runs owed old) (calls here seen t))) (length (filter (is_calculated owed old) (cells caller here seen t))) (taken owed old (trace caller here seen t))
+
+-- the work at a group by its path, before the work inside it
+abbrev at_place : List ℕ → Trail → Caller → Path → What → Work → Work
+at_place owed old caller path (Call f vs) w = with_call (call_runs owed old (record { path = path; what = Call f vs })) w
+at_place owed old caller path (Node kind attributes) w = w
+at_place owed old caller path (Key v) w = w
+at_place owed old caller path (Cell ks v) w = with_cell (call_runs owed old caller && other_keys (at_path path old) ks) w
+
+told-read : (b : Bool) (ran calculated : ℕ) (r : Caller × ℕ) (rs : List (Caller × ℕ)) →
+    parts ran calculated (map (λ r. r.1) (if b then r ∷ rs else rs)) ≡ with_read b r.1 (parts ran calculated (map (λ r. r.1) rs))
+told-read true ran calculated r rs = refl
+told-read false ran calculated r rs = refl
+
+told-call : (b : Bool) (c : Caller) (cs : List Caller) (calculated : ℕ) (reads : List ℕ) → parts (length (if b then c ∷ cs else cs)) calculated reads ≡ with_call b (parts (length cs) calculated reads)
+told-call true c cs calculated reads = refl
+told-call false c cs calculated reads = refl
+
+told-cell : (b : Bool) (ran : ℕ) (k : Kept) (ks : List Kept) (reads : List ℕ) → parts ran (length (if b then k ∷ ks else ks)) reads ≡ with_cell b (parts ran (length ks) reads)
+told-cell true ran k ks reads = refl
+told-cell false ran k ks reads = refl
+
+told-append : (owed : List ℕ) (old : Trail) (as_ bs : List Caller) (cs ds : List Kept) (rs ss : List (Caller × ℕ)) →
+    parts (length (filter (call_runs owed old) (as_ ++ bs))) (length (filter (is_calculated owed old) (cs ++ ds))) (taken owed old (rs ++ ss))
+    ≡ also (parts (length (filter (call_runs owed old) as_)) (length (filter (is_calculated owed old) cs)) (taken owed old rs)) (parts (length (filter (call_runs owed old) bs)) (length (filter (is_calculated owed old) ds)) (taken owed old ss))
+told-append owed old as_ bs cs ds rs ss =
+    same_parts _ _ _ _ _ _ (count-append (call_runs owed old) as_ bs) (count-append (is_calculated owed old) cs ds) (taken-append owed old rs ss)
+
+told-group : (owed : List ℕ) (old : Trail) (caller : Caller) (here : Path) (seen : List Sibling) (site n : ℕ) (what : What) (inside rest : Trail) →
+    told owed old caller here seen (Group site n what inside rest)
+    ≡ also (at_place owed old caller (here ++ step site what seen ∷ []) what (told owed old (innermost caller (here ++ step site what seen ∷ []) what) (here ++ step site what seen ∷ []) [] inside)) (told owed old caller here (sibling site what ∷ seen) rest)
+told-group owed old caller here seen site n (Call f vs) inside rest =
+    let path = here ++ step site (Call f vs) seen ∷ [] in
+    let me : Caller = record { path = path; what = Call f vs } in
+    told-call (call_runs owed old me) me (filter (call_runs owed old) (calls path [] inside ++ calls here (sibling site (Call f vs) ∷ seen) rest)) _ _
+    ∙ ap (λ w. with_call (call_runs owed old me) w) (told-append owed old (calls path [] inside) (calls here (sibling site (Call f vs) ∷ seen) rest) (cells me path [] inside) (cells caller here (sibling site (Call f vs) ∷ seen) rest) (trace me path [] inside) (trace caller here (sibling site (Call f vs) ∷ seen) rest))
+    ∙ with_call-also (call_runs owed old me) (told owed old me path [] inside) (told owed old caller here (sibling site (Call f vs) ∷ seen) rest)
+told-group owed old caller here seen site n (Node kind attributes) inside rest =
+    let path = here ++ step site (Node kind attributes) seen ∷ [] in
+    told-append owed old (calls path [] inside) (calls here (sibling site (Node kind attributes) ∷ seen) rest) (cells caller path [] inside) (cells caller here (sibling site (Node kind attributes) ∷ seen) rest) (trace caller path [] inside) (trace caller here (sibling site (Node kind attributes) ∷ seen) rest)
+told-group owed old caller here seen site n (Key v) inside rest =
+    let path = here ++ step site (Key v) seen ∷ [] in
+    told-append owed old (calls path [] inside) (calls here (sibling site (Key v) ∷ seen) rest) (cells caller path [] inside) (cells caller here (sibling site (Key v) ∷ seen) rest) (trace caller path [] inside) (trace caller here (sibling site (Key v) ∷ seen) rest)
+told-group owed old caller here seen site n (Cell ks v) inside rest =
+    let path = here ++ step site (Cell ks v) seen ∷ [] in
+    let cell : Kept = record { caller = caller; path = path; keys = ks } in
+    told-cell (is_calculated owed old cell) _ cell (filter (is_calculated owed old) (cells caller path [] inside ++ cells caller here (sibling site (Cell ks v) ∷ seen) rest)) _
+    ∙ ap (λ w. with_cell (is_calculated owed old cell) w) (told-append owed old (calls path [] inside) (calls here (sibling site (Cell ks v) ∷ seen) rest) (cells caller path [] inside) (cells caller here (sibling site (Cell ks v) ∷ seen) rest) (trace caller path [] inside) (trace caller here (sibling site (Cell ks v) ∷ seen) rest))
+    ∙ with_cell-also (is_calculated owed old cell) (told owed old caller path [] inside) (told owed old caller here (sibling site (Cell ks v) ∷ seen) rest)
+
+go_on : (owed : List ℕ) (old : Trail) (caller : Caller) (here : Path) (s : Step) (what : What) (running : Bool) (beside : Trail) → beside ≡ inside_at here old → running ≡ call_runs owed old caller →
+    runs_in owed running (among s.of s.occurrence beside) what ≡ call_runs owed old (innermost caller (here ++ s ∷ []) what)
+go_on owed old caller here s (Call f vs) running beside e r =
+    ap (λ g. runs_after owed g (Call f vs)) (ap (λ t. among s.of s.occurrence t) e ∙ sym (at_path-append here s old))
+go_on owed old caller here s (Node kind attributes) running beside e r = r
+go_on owed old caller here s (Key v) running beside e r = r
+go_on owed old caller here s (Cell ks v) running beside e r = r
+
+same_place : (owed : List ℕ) (old : Trail) (caller : Caller) (here : Path) (s : Step) (what : What) (running : Bool) (beside : Trail) (w : Work) → beside ≡ inside_at here old → running ≡ call_runs owed old caller →
+    at_place owed old caller (here ++ s ∷ []) what w ≡ at_group (runs_in owed running (among s.of s.occurrence beside) what) (among s.of s.occurrence beside) what w
+same_place owed old caller here s (Call f vs) running beside w e r = ap (λ b. with_call b w) (sym (go_on owed old caller here s (Call f vs) running beside e r))
+same_place owed old caller here s (Node kind attributes) running beside w e r = refl
+same_place owed old caller here s (Key v) running beside w e r = refl
+same_place owed old caller here s (Cell ks v) running beside w e r =
+    ap (λ b. with_cell (b && other_keys (at_path (here ++ s ∷ []) old) ks) w) (sym r)
+    ∙ ap (λ g. with_cell (running && other_keys g ks) w) (at_path-append here s old ∙ ap (λ t. among s.of s.occurrence t) (sym e))
+
+along : (owed : List ℕ) (old : Trail) (caller : Caller) (here : Path) (seen : List Sibling) (running : Bool) (beside t : Trail) → beside ≡ inside_at here old → running ≡ call_runs owed old caller →
+    told owed old caller here seen t ≡ work owed beside seen running t
+along owed old caller here seen running beside End e r = refl
+along owed old caller here seen running beside (Read x rest) e r =
+    told-read (call_runs owed old caller) _ _ (caller, x) (filter (λ r. call_runs owed old r.0) (trace caller here seen rest))
+    ∙ ap (λ b. with_read b x (told owed old caller here seen rest)) (sym r)
+    ∙ ap (λ w. with_read running x w) (along owed old caller here seen running beside rest e r)
+along owed old caller here seen running beside (Group site n what inside rest) e r =
+    let path = here ++ step site what seen ∷ [] in
+    let found = among (sibling site what) (occurrence (sibling site what) seen) beside in
+    told-group owed old caller here seen site n what inside rest
+    ∙ ap (λ w. also (at_place owed old caller (here ++ step site what seen ∷ []) what w) (told owed old caller here (sibling site what ∷ seen) rest))
+    (along owed old (innermost caller (here ++ step site what seen ∷ []) what) (here ++ step site what seen ∷ []) [] (runs_in owed running (among (sibling site what) (occurrence (sibling site what) seen) beside) what)
+    (inside_of (among (sibling site what) (occurrence (sibling site what) seen) beside)) inside
+    (ap (λ t. inside_of (among (sibling site what) (occurrence (sibling site what) seen) t)) e ∙ sym (inside_at-append here (step site what seen) old))
+    (go_on owed old caller here (step site what seen) what running beside e r))
+    ∙ ap (λ w. also w (told owed old caller here (sibling site what ∷ seen) rest)) (same_place owed old caller here (step site what seen) what running beside _ e r)
+    ∙ ap (λ w. also (at_group (runs_in owed running (among (sibling site what) (occurrence (sibling site what) seen) beside) what) (among (sibling site what) (occurrence (sibling site what) seen) beside) what
+    (work owed (inside_of (among (sibling site what) (occurrence (sibling site what) seen) beside)) [] (runs_in owed running (among (sibling site what) (occurrence (sibling site what) seen) beside) what) inside)) w)
+    (along owed old caller here (sibling site what ∷ seen) running beside rest e r)
+
+pub paths_and_places_agree : PathsAndPlacesAgree
+paths_and_places_agree owed old new = along owed old nobody [] [] true old new refl refl

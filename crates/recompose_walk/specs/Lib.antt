@@ -1,0 +1,3 @@
+pub mod Work
+pub mod Refreshing
+pub mod Walking

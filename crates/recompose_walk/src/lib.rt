@@ -1,0 +1,16 @@
+//! What the incremental step rests on, told of the definitions: going once over the groups of the last frame
+//! gives the groups of the new one, and does exactly the work that the new frame owes.
+//!
+//! It is what `Recomposer` and `Composer` do together: restart scopes whose reads changed run again
+//! (`recompose`), and everything else is skipped (`skipToGroupEnd`), calls inside a skipped one included where
+//! they are owed. The composer follows these definitions with its code.
+//! Promises: each law is the promise of a function that does nothing. `specs/Refreshing.antt` says what going over
+//! the old groups makes, `specs/Work.antt` what work a frame owes, told beside the old groups, and
+//! `specs/Walking.antt` what work going over them does.
+#![tactic(auto)]
+
+mod laws;
+
+pub use laws::{
+    paths_and_places_agree, refreshing_is_scratch, walk_does_the_frame, work_goes_in_order,
+};
