@@ -29,6 +29,9 @@ lasts-states w (s ∷ more) = lasts-states (made w (type_of s.initial) Structura
 
 same-itself : (t : Ty) → same_type t t ≡ true
 same-itself ty.Int = refl
+same-itself ty.Bool = refl
+same-itself ty.Text = refl
+same-itself ty.Ints = refl
 
 -- a state's value is of its own type, which each policy fits
 makes-states : (v : Value) → make_refusal table (type_of v) Structural v ≡ None
