@@ -7,6 +7,7 @@ ghost use Rattle.rt_values.specs.Frames.{Composed, meets, most_groups};
 ghost use Rattle.lang_ast.specs.Meaning.{forest};
 ghost use Rattle.lang_ast.specs.Frame.{frame};
 ghost use Rattle.lang_meaning.specs.Flat.{attributes_of};
+ghost use Rattle.snap_policy.specs.Table.{table};
 ghost use Rattle.snap_policy.specs.declared.policy.BuiltIn.{BuiltIn as built_in};
 ghost use Rattle.snap_api.specs.World.{World, shot_of, with_members};
 ghost use Rattle.snap_api.specs.Eyes.{Eyes};
@@ -161,8 +162,8 @@ fn compose<V: Versions<P = BuiltIn>>(
     asked: &mut Objects,
 ) -> Result<(), ScratchStop>
     ensures same { (w : World built_in) → V.stands world.old w → V.stands world.new w }
-    ensures values { (m : Map) → Eyes V.P.rules (V.stands world.old) actor_number (Some name) m → OnOk result (values.new.items ≡ shown (forest program.now.root.items m)) }
-    ensures asked { (m : Map) → Eyes V.P.rules (V.stands world.old) actor_number (Some name) m → OnOk result (asked.new ≡ asks (forest program.now.root.items m)) }
+    ensures values { (m : Map) → Eyes table (V.stands world.old) actor_number (Some name) m → OnOk result (values.new.items ≡ shown (forest program.now.root.items m)) }
+    ensures asked { (m : Map) → Eyes table (V.stands world.old) actor_number (Some name) m → OnOk result (asked.new ≡ asks (forest program.now.root.items m)) }
     ensures fits { OnOk result ((m : Map) → how_many (forest program.now.root.items m) ≤ most_groups) }
     ensures many { result ≡ Err ScratchStop.TooManyGroups → (m : Map) → most_groups < how_many (forest program.now.root.items m) }
 {
