@@ -1,4 +1,5 @@
 use Rattle.std.proofs.Common.{ap}
+use Rattle.rt_streams.proofs.Parts.{part-none}
 use Rattle.snap_api.specs.World.{shot_of}
 use Rattle.play_core.proofs.Frames.{is-outcome}
 use Rattle.play_core.proofs.Written.{says_behind, says_front, says_same, appends_same}
@@ -24,3 +25,6 @@ pub returns-in-Ok-outcome-clause-says : goal.returns-in-Ok-outcome-clause-says
 returns-in-Ok-outcome-clause-says g c k w h =
     let told = c.in-Ok.ensures w (c.compose-composed.ensures.same w h.world_stands) in
     says_front _ _ _ _ _ _ (says_same _ _ _ _ _ (ap (entry_line _) told.0) c.in-Err-say_entry.ensures.says)
+
+pub returns-clause-says : goal.returns-clause-says
+returns-clause-says g c k w h = record { all = tt; part = part-none _ _ }
