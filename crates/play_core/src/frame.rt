@@ -277,7 +277,7 @@ fn say_tree<K: Sink>(
                 left = fewer;
                 rest = more;
             }
-            Err(stop) => return Err(stop),
+            Err(stop) => Err(stop),
         }
     }
     Ok(())
@@ -410,6 +410,6 @@ pub fn run_taken<V: Versions<P = BuiltIn>, K: Sink>(
             Ok(()) => say_frame(composed, program, composition, changed, room, sink),
             Err(stop) => Err(stop),
         },
-        Err(stop) => return Err(stop),
+        Err(stop) => Err(stop),
     }
 }

@@ -26,5 +26,5 @@ returns-in-Ok-outcome-clause-says g c k w h =
     let told = c.in-Ok.ensures w (c.compose-composed.ensures.same w h.world_stands) in
     says_front _ _ _ _ _ _ (says_same _ _ _ _ _ (ap (entry_line _) told.0) c.in-Err-say_entry.ensures.says)
 
-pub returns-in-Err-clause-says : goal.returns-in-Err-clause-says
-returns-in-Err-clause-says g c k w h = record { all = tt; part = part-none _ _ }
+pub returns-clause-says : goal.returns-clause-says
+returns-clause-says g c k w h = record { all = tt; part = part-none _ _ }
