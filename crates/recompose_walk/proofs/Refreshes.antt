@@ -43,7 +43,7 @@ filled-own fs (Group site n (trail.Key v) inside rest) =
 filled-own fs (Group site n (trail.Cell ks v) inside rest) =
     ap (λ t. Group site n (trail.Cell ks v) t (filled fs (own rest))) (filled-own fs inside) ∙ ap (λ t. Group site n (trail.Cell ks v) (filled fs inside) t) (filled-own fs rest)
 
-or_false : (a b : Bool) → (a || b) ≡ false → (a ≡ false) × (b ≡ false)
+pub or_false : (a b : Bool) → (a || b) ≡ false → (a ≡ false) × (b ≡ false)
 or_false true b e = (e, cc)
 or_false false b e = (refl, e)
 
@@ -51,7 +51,7 @@ agree_from : (m m' : Map) (owed : List ℕ) (xs : List ℕ) → SameBut owed m m
 agree_from m m' owed [] same e = tt
 agree_from m m' owed (x ∷ xs) same e = let p = or_false (contains x owed) (meets xs owed) e in (same x p.0, agree_from m m' owed xs same p.1)
 
-split_at : (a b : ℕ) → (a < b) ⊎ (b ≤ a)
+pub split_at : (a b : ℕ) → (a < b) ⊎ (b ≤ a)
 split_at a zero = inr (omega arith)
 split_at zero (suc b) = inl (omega arith)
 split_at (suc a) (suc b) = elim (split_at a b) [ inl h ↦ inl (omega arith) | inr h ↦ inr (omega arith) ]
