@@ -1,6 +1,6 @@
 -- To number a group by its path is to number it beside the old ones.
 use Rattle.std.proofs.Common.{ℕ, List, [], ◌∷◌, ◌++◌, ◌≡◌, refl, ap, ◌∙◌, sym}
-use Rattle.rt_values.specs.Trail.{Trail, End, Read, Group, What}
+use Rattle.rt_values.specs.Trail.{Trail, End, Read, Group}
 use Rattle.rt_values.specs.Paths.{Path, Sibling, sibling, step, occurrence, among, inside_of, at_path}
 use Rattle.rt_values.specs.Frames.{number_of, numbered}
 use Rattle.recompose_walk.specs.Numbering.{numbered_beside, NumbersAreToldBeside}

@@ -1,10 +1,10 @@
 -- The objects whose stamps differ are all that changed.
-use Rattle.std.proofs.Common.{ℕ, zero, suc, ◌+◌, ◌<◌, ◌≤◌, ◌==◌, List, [], ◌∷◌, ◌≡◌, ◌⊎◌, inl, inr, refl, ap, ◌∙◌, sym, length, eq-eqb, Bool, true, false, not, ◌||◌, if◌then◌else◌, Option, Some, None, slice_get, arith}
+use Rattle.std.proofs.Common.{ℕ, zero, suc, ◌+◌, ◌<◌, ◌==◌, List, [], ◌∷◌, ◌≡◌, inl, inr, refl, ap, ◌∙◌, sym, length, eq-eqb, Bool, true, false, not, if◌then◌else◌, Option, Some, None, slice_get, arith}
 use Rattle.std.proofs.lemmas.Bool.{eqb-true}
 use Rattle.std.proofs.lemmas.List.{get_or_past}
 use Rattle.std.proofs.lemmas.Option.{get_or_from_slice_get, slice_get_within}
 use Rattle.rt_values.specs.declared.maps.Entry.{Entry}
-use Rattle.rt_values.specs.Maps.{Map, no_entry, entry_at, value_at, differs, differ_from, contains}
+use Rattle.rt_values.specs.Maps.{Map, no_entry, entry_at, differs, differ_from, contains}
 use Rattle.recompose_walk.specs.Refreshing.{OwedIsWhatChanged}
 use Rattle.recompose_walk.proofs.Refreshes.{or_false, split_at}
 

@@ -1,5 +1,5 @@
 -- Going over the old groups once gives the new ones.
-use Rattle.std.proofs.Common.{ℕ, zero, suc, ◌+◌, ◌<◌, ◌≤◌, ℤ, List, [], ◌∷◌, ◌++◌, ◌≡◌, ◌⊎◌, inl, inr, refl, ap, ◌∙◌, sym, subst, map, Bool, true, false, ◌||◌, if◌then◌else◌, take, length, get_or, arith, length-take-le}
+use Rattle.std.proofs.Common.{ℕ, zero, suc, ◌<◌, ◌≤◌, ℤ, List, [], ◌∷◌, ◌++◌, ◌≡◌, ◌⊎◌, inl, inr, refl, ap, ◌∙◌, sym, subst, Bool, true, false, ◌||◌, if◌then◌else◌, take, length, get_or, arith, length-take-le}
 use Rattle.rt_values.specs.declared.value.Value.{Value}
 use Rattle.rt_values.specs.declared.value.Value.TheVariants as value
 use Rattle.rt_values.specs.Operators.{is_true, items_of}
@@ -14,7 +14,7 @@ use Rattle.lang_ast.specs.Composing.{Meaning, after, turns, bind, run, run_all, 
 use Rattle.lang_meaning.specs.Skipping.{Agree, filled}
 use Rattle.lang_meaning.proofs.Skips.{skipping_is_right}
 use Rattle.lang_meaning.proofs.Meanings.{meaning_found, meaning_none}
-use Rattle.recompose_walk.specs.Refreshing.{is_owed, inside_refreshed, refreshed, SameBut, RefreshingIsScratch}
+use Rattle.recompose_walk.specs.Refreshing.{is_owed, refreshed, SameBut, RefreshingIsScratch}
 
 abbrev MadeInside : Map → List Func → What → Trail → (List Func → Type 0) → Type 0
 MadeInside m functions (trail.Call f vs) inside made = (inside ≡ meaning_at (meanings m functions) f vs) × made (take f functions)

@@ -1,5 +1,5 @@
 -- The new groups from the old ones, by going over them once.
-use Rattle.std.specs.Prelude.{ℕ, ◌<◌, ◌≤◌, List, [], ◌≡◌, length, Bool, false, Some, take, if◌then◌else◌}
+use Rattle.std.specs.Prelude.{ℕ, ◌<◌, ◌≤◌, List, ◌≡◌, length, Bool, false, Some, take, if◌then◌else◌}
 use Rattle.rt_values.specs.Maps.{Map, entry_at, value_at, contains, differ}
 use Rattle.rt_values.specs.Trail.{Trail, End, Read, Group, What, Call, Node, Key, Cell, asks, own}
 use Rattle.rt_values.specs.Frames.{meets}
