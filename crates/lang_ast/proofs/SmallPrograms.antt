@@ -4,7 +4,7 @@ use Rattle.std.specs.Int.{int_wrap, w64}
 use Rattle.std.proofs.lemmas.Int.{int_wrap_fits}
 use Rattle.rt_values.specs.Operators.{numbers_from}
 use Rattle.lang_ast.specs.Composing.{after, turns}
-use Rattle.lang_ast.specs.SmallPrograms.{RowsUnderKeys, CallsRunAlone, CellsAreKept, cells_trail, LoopsReadEachTurn, ExamplesHold}
+use Rattle.lang_ast.specs.SmallPrograms.{RowsUnderKeys, CallsRunAlone, CellsAreKept, cells_trail, LoopsReadEachTurn, PicksReadOneOperand, ExamplesHold}
 
 rows : RowsUnderKeys
 unfolding after turns
@@ -28,5 +28,8 @@ loops : LoopsReadEachTurn
 unfolding after turns numbers_from
 loops = (refl, refl, refl, refl)
 
+picks : PicksReadOneOperand
+picks = (refl, refl)
+
 pub examples : ExamplesHold
-examples = (rows, calls, cells, loops)
+examples = (rows, calls, cells, loops, picks)

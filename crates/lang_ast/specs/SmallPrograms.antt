@@ -12,6 +12,8 @@ use Rattle.lang_ast.specs.declared.syntax.Operator.{Operator}
 use Rattle.lang_ast.specs.declared.syntax.Operator.TheVariants as operator
 use Rattle.lang_ast.specs.declared.syntax.Parameter.{Parameter}
 use Rattle.lang_ast.specs.Terms.{Expr, Literal, Variable, Get, Apply, none, Named, Stmt, Node, Call, Key, For, Remember, done, Func, exprs, stmts}
+use Rattle.lang_ast.specs.Readings.{Reading}
+use Rattle.lang_ast.specs.Evaluation.{eval}
 use Rattle.lang_ast.specs.Composing.{forest}
 
 -- Places are left out: each is 0.
@@ -136,6 +138,16 @@ LoopsReadEachTurn =
     (looped 1 5 ≡ loops_trail 0 0) × (asks (looped 1 5) ≡ 1 ∷ 0 ∷ 0 ∷ []) × (report (0 ∷ 1 ∷ []) End (looped 1 5) ≡ told 2 0 3 4 2)
     × (numbered End [] [] 1 (looped 1 5) ≡ (loops_trail 1 2, 3))
 
--- the definitions of composing and of frames give what is told here of each program
+-- A choice between two states by a third one.
+
+abbrev picked : ℕ → Reading Value
+picked a = eval (values (value.Int (pos a) ∷ value.Int (pos 5) ∷ value.Int (pos 7) ∷ [])) (applied operator.Pick (applied operator.Equal (state 0 ∷ number 1 ∷ []) ∷ state 1 ∷ state 2 ∷ [])) []
+
+-- A pick reads the operand that it takes, and not the other.
+abbrev pub PicksReadOneOperand : Type 0
+PicksReadOneOperand =
+    (picked 1 ≡ record { value = value.Int (pos 5); reads = 0 ∷ 1 ∷ [] }) × (picked 2 ≡ record { value = value.Int (pos 7); reads = 0 ∷ 2 ∷ [] })
+
+-- the definitions of evaluation, of composing and of frames give what is told here of each program
 abbrev pub ExamplesHold : Type 0
-ExamplesHold = RowsUnderKeys × CallsRunAlone × CellsAreKept × LoopsReadEachTurn
+ExamplesHold = RowsUnderKeys × CallsRunAlone × CellsAreKept × LoopsReadEachTurn × PicksReadOneOperand

@@ -7,7 +7,7 @@
 //! Two languages stand side by side. The whole one has expressions, statements and functions; contracts see
 //! them without pointers (`specs/Terms.antt`). `specs/Evaluation.antt` says what an expression's value is, and
 //! `specs/Composing.antt` which reads and groups composing from scratch makes, in order; both are computed on
-//! four small programs in `specs/SmallPrograms.antt`. The small one, nodes with literals and reads, is what the
+//! small programs in `specs/SmallPrograms.antt`. The small one, nodes with literals and reads, is what the
 //! command runs today: `specs/Meaning.antt` says what it means, `specs/Frame.antt` what one frame leaves and tells.
 //! Promises: places and sites are those that the parts were made with, and the definitions give the small
 //! programs' groups and reports.

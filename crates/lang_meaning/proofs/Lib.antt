@@ -1,4 +1,5 @@
 pub mod Agreeing
+pub mod Calculations
 pub mod Flats
 pub mod Grows
 pub mod Meanings

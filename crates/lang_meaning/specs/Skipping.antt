@@ -1,9 +1,9 @@
 -- Which calls need not run again, and what stands in their place.
-use Rattle.std.specs.Prelude.{ℕ, ◌<◌, ◌≤◌, List, [], ◌∷◌, ◌≡◌, length, take, get_or}
+use Rattle.std.specs.Prelude.{ℕ, ◌<◌, ◌≤◌, List, [], ◌∷◌, ◌≡◌, length, take, get_or, Bool, true, false, ◌||◌}
 use Rattle.rt_values.specs.declared.value.Value.{Value}
 use Rattle.rt_values.specs.Maps.{Map, value_at}
 use Rattle.rt_values.specs.Trail.{Trail, End, Read, Group, What, Call, Node, Key, Cell, asks, own}
-use Rattle.lang_ast.specs.Terms.{Expr, Stmts, Func}
+use Rattle.lang_ast.specs.Terms.{Expr, Literal, Variable, Get, Apply, Exprs, none, more, Stmts, Func}
 use Rattle.lang_ast.specs.Evaluation.{Env, eval}
 use Rattle.lang_ast.specs.Composing.{Meaning, meaning, meaning_at, meanings, run_all}
 
@@ -44,3 +44,20 @@ abbrev pub CallsReachEarlierFunctions : Type 0
 CallsReachEarlierFunctions = (m : Map) (functions : List Func) (j : ℕ) (args : List Value) (d : Func) →
     (j < length functions → meaning_at (meanings m functions) j args ≡ meaning m (meanings m (take j functions)) (get_or functions j d) args)
     × (length functions ≤ j → meaning_at (meanings m functions) j args ≡ End)
+
+abbrev mutual
+  -- whether a state object is read anywhere in an expression
+  pub has_get : Expr → Bool
+  has_get (Literal at v) = false
+  has_get (Variable name) = false
+  has_get (Get at name number) = true
+  has_get (Apply at op es) = have_get es
+
+  -- whether one is read in any of them
+  pub have_get : Exprs → Bool
+  have_get none = false
+  have_get (more e es) = has_get e || have_get es
+
+-- A calculation without a get reads nothing and has one value in all maps, so a cell whose keys are equal may keep its value.
+abbrev pub CellsMayBeKept : Type 0
+CellsMayBeKept = (e : Expr) → has_get e ≡ false → (m m' : Map) (env : Env) → ((eval m e env).reads ≡ []) × (eval m e env ≡ eval m' e env)

@@ -1,6 +1,6 @@
 // What holds of every composition, told of the definitions. Each law is the promise of a function that does
 // nothing.
-ghost use Rattle.lang_meaning.specs.Skipping.{CallsReachEarlierFunctions, EvaluationAgrees, OwnPartsAgree, SkippingIsRight};
+ghost use Rattle.lang_meaning.specs.Skipping.{CallsReachEarlierFunctions, CellsMayBeKept, EvaluationAgrees, OwnPartsAgree, SkippingIsRight};
 
 /// An expression has the same value, and reads the same state objects, in every two snapshots in which the
 /// objects that it reads have equal values.
@@ -26,4 +26,10 @@ pub fn skipping_is_right()
 /// composable calls itself, neither directly nor through others; this project's own rule.
 pub fn calls_reach_earlier_functions()
     ensures { CallsReachEarlierFunctions }
+{}
+
+/// A calculation in which no state object is read has one value for one list of keys, whatever the snapshot. So
+/// a cell may keep its value where its keys are equal (`remember`).
+pub fn cells_may_be_kept()
+    ensures { CellsMayBeKept }
 {}

@@ -12,7 +12,8 @@ mod laws;
 mod scratch_walk;
 
 pub use laws::{
-    calls_reach_earlier_functions, evaluation_agrees, own_parts_agree, skipping_is_right,
+    calls_reach_earlier_functions, cells_may_be_kept, evaluation_agrees, own_parts_agree,
+    skipping_is_right,
 };
 pub use scratch_walk::{ScratchStop, eval, scratch};
 

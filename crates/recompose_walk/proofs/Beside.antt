@@ -1,5 +1,5 @@
 -- To look a group up by its path is to go down beside it.
-use Rattle.std.proofs.Common.{ℕ, suc, ◌+◌, List, [], ◌∷◌, ◌++◌, ◌≡◌, refl, ap, ◌∙◌, sym, map, length, length-append, Bool, true, false, ◌&&◌, Option, Some, None, if◌then◌else◌}
+use Rattle.std.proofs.Common.{ℕ, ◌+◌, List, [], ◌∷◌, ◌++◌, ◌≡◌, refl, ap, ◌∙◌, sym, map, length, length-append, Bool, true, false, ◌&&◌, if◌then◌else◌}
 use Rattle.std.specs.List.{filter}
 use Rattle.std.proofs.lemmas.List.Elements.{filter-append}
 use Rattle.rt_values.specs.Trail.{Trail, End, Read, Group, What, Call, Node, Key, Cell}
@@ -9,16 +9,16 @@ use Rattle.recompose_walk.specs.Work.{Work, also, with_call, with_cell, with_rea
 use Rattle.recompose_walk.proofs.Works.{parts, same_parts, with_call-also, with_cell-also}
 
 -- what stands inside the group at a path, and at the empty path the whole
-abbrev inside_at : Path → Trail → Trail
+abbrev pub inside_at : Path → Trail → Trail
 inside_at [] t = t
 inside_at (s ∷ path) t = inside_at path (inside_of (among s.of s.occurrence t))
 
-at_path-append : (path : Path) (s : Step) (t : Trail) → at_path (path ++ s ∷ []) t ≡ among s.of s.occurrence (inside_at path t)
+pub at_path-append : (path : Path) (s : Step) (t : Trail) → at_path (path ++ s ∷ []) t ≡ among s.of s.occurrence (inside_at path t)
 at_path-append [] s t = refl
 at_path-append (r ∷ []) s t = refl
 at_path-append (r ∷ (q ∷ path)) s t = at_path-append (q ∷ path) s (inside_of (among r.of r.occurrence t))
 
-inside_at-append : (path : Path) (s : Step) (t : Trail) → inside_at (path ++ s ∷ []) t ≡ inside_of (among s.of s.occurrence (inside_at path t))
+pub inside_at-append : (path : Path) (s : Step) (t : Trail) → inside_at (path ++ s ∷ []) t ≡ inside_of (among s.of s.occurrence (inside_at path t))
 inside_at-append [] s t = refl
 inside_at-append (r ∷ path) s t = inside_at-append path s (inside_of (among r.of r.occurrence t))
 
@@ -117,8 +117,6 @@ along owed old caller here seen running beside (Read x rest) e r =
     ∙ ap (λ b. with_read b x (told owed old caller here seen rest)) (sym r)
     ∙ ap (λ w. with_read running x w) (along owed old caller here seen running beside rest e r)
 along owed old caller here seen running beside (Group site n what inside rest) e r =
-    let path = here ++ step site what seen ∷ [] in
-    let found = among (sibling site what) (occurrence (sibling site what) seen) beside in
     told-group owed old caller here seen site n what inside rest
     ∙ ap (λ w. also (at_place owed old caller (here ++ step site what seen ∷ []) what w) (told owed old caller here (sibling site what ∷ seen) rest))
     (along owed old (innermost caller (here ++ step site what seen ∷ []) what) (here ++ step site what seen ∷ []) [] (runs_in owed running (among (sibling site what) (occurrence (sibling site what) seen) beside) what)

@@ -1,6 +1,10 @@
 pub mod Refreshes
+pub mod Owed
 pub mod Works
 pub mod Orders
 pub mod Beside
 pub mod Selves
 pub mod Walks
+pub mod Plain
+pub mod Numbers
+pub mod Renewals

@@ -1,5 +1,5 @@
 -- Going over the old groups once gives the new ones.
-use Rattle.std.proofs.Common.{ℕ, zero, suc, ◌+◌, ◌<◌, ◌≤◌, ℤ, List, [], ◌∷◌, ◌++◌, ◌≡◌, ◌⊎◌, inl, inr, refl, ap, ◌∙◌, sym, subst, map, Bool, true, false, ◌||◌, if◌then◌else◌, take, length, get_or, arith, length-take-le}
+use Rattle.std.proofs.Common.{ℕ, zero, suc, ◌<◌, ◌≤◌, ℤ, List, [], ◌∷◌, ◌++◌, ◌≡◌, ◌⊎◌, inl, inr, refl, ap, ◌∙◌, sym, subst, Bool, true, false, ◌||◌, if◌then◌else◌, take, length, get_or, arith, length-take-le}
 use Rattle.rt_values.specs.declared.value.Value.{Value}
 use Rattle.rt_values.specs.declared.value.Value.TheVariants as value
 use Rattle.rt_values.specs.Operators.{is_true, items_of}
@@ -14,7 +14,7 @@ use Rattle.lang_ast.specs.Composing.{Meaning, after, turns, bind, run, run_all, 
 use Rattle.lang_meaning.specs.Skipping.{Agree, filled}
 use Rattle.lang_meaning.proofs.Skips.{skipping_is_right}
 use Rattle.lang_meaning.proofs.Meanings.{meaning_found, meaning_none}
-use Rattle.recompose_walk.specs.Refreshing.{is_owed, inside_refreshed, refreshed, SameBut, RefreshingIsScratch}
+use Rattle.recompose_walk.specs.Refreshing.{is_owed, refreshed, SameBut, RefreshingIsScratch}
 
 abbrev MadeInside : Map → List Func → What → Trail → (List Func → Type 0) → Type 0
 MadeInside m functions (trail.Call f vs) inside made = (inside ≡ meaning_at (meanings m functions) f vs) × made (take f functions)
@@ -43,7 +43,7 @@ filled-own fs (Group site n (trail.Key v) inside rest) =
 filled-own fs (Group site n (trail.Cell ks v) inside rest) =
     ap (λ t. Group site n (trail.Cell ks v) t (filled fs (own rest))) (filled-own fs inside) ∙ ap (λ t. Group site n (trail.Cell ks v) (filled fs inside) t) (filled-own fs rest)
 
-or_false : (a b : Bool) → (a || b) ≡ false → (a ≡ false) × (b ≡ false)
+pub or_false : (a b : Bool) → (a || b) ≡ false → (a ≡ false) × (b ≡ false)
 or_false true b e = (e, cc)
 or_false false b e = (refl, e)
 
@@ -51,7 +51,7 @@ agree_from : (m m' : Map) (owed : List ℕ) (xs : List ℕ) → SameBut owed m m
 agree_from m m' owed [] same e = tt
 agree_from m m' owed (x ∷ xs) same e = let p = or_false (contains x owed) (meets xs owed) e in (same x p.0, agree_from m m' owed xs same p.1)
 
-split_at : (a b : ℕ) → (a < b) ⊎ (b ≤ a)
+pub split_at : (a b : ℕ) → (a < b) ⊎ (b ≤ a)
 split_at a zero = inr (omega arith)
 split_at zero (suc b) = inl (omega arith)
 split_at (suc a) (suc b) = elim (split_at a b) [ inl h ↦ inl (omega arith) | inr h ↦ inr (omega arith) ]

@@ -1,5 +1,5 @@
 -- A group is found among its own siblings.
-use Rattle.std.proofs.Common.{ℕ, zero, suc, ◌+◌, ◌==◌, List, [], ◌∷◌, ◌≡◌, refl, ap, ◌∙◌, eq-eqb, Bool, true, false, Option, Some, None, if◌then◌else◌, arith}
+use Rattle.std.proofs.Common.{ℕ, suc, ◌+◌, ◌==◌, List, [], ◌∷◌, ◌≡◌, refl, ap, ◌∙◌, eq-eqb, Bool, true, false, Option, Some, None, if◌then◌else◌, arith}
 use Rattle.std.specs.Bool.{Decides}
 use Rattle.std.specs.Option.{option_eq}
 use Rattle.std.proofs.lemmas.Bool.Decides.{not_from_Decides}

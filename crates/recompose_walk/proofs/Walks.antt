@@ -36,7 +36,7 @@ group_walk m owed functions n (Node kind attributes) inside h = h functions
 group_walk m owed functions n (Key v) inside h = h functions
 group_walk m owed functions n (Cell ks v) inside h = h functions
 
-walk_is : (m : Map) (owed : List ℕ) (t before whole : Trail) (seen : List Sibling) (functions : List Func) → whole ≡ joined before t → seen ≡ siblings before [] →
+pub walk_is : (m : Map) (owed : List ℕ) (t before whole : Trail) (seen : List Sibling) (functions : List Func) → whole ≡ joined before t → seen ≡ siblings before [] →
     walked m owed t functions ≡ work owed whole seen false (refreshed m owed t functions)
 walk_is m owed End before whole seen functions e f = refl
 walk_is m owed (Read x rest) before whole seen functions e f =

@@ -1,5 +1,5 @@
 -- Laws of work put together.
-use Rattle.std.proofs.Common.{ℕ, suc, ◌+◌, List, [], ◌∷◌, ◌++◌, ◌≡◌, refl, ap, ◌∙◌, append_assoc, Bool, true, false, if◌then◌else◌, arith}
+use Rattle.std.proofs.Common.{ℕ, suc, ◌+◌, List, ◌≡◌, refl, ap, ◌∙◌, append_assoc, Bool, true, false, arith}
 use Rattle.recompose_walk.specs.Work.{Work, nothing, also, with_call, with_cell, with_read}
 
 -- work by its parts

@@ -1,3 +1,4 @@
 pub mod Work
 pub mod Refreshing
 pub mod Walking
+pub mod Numbering

@@ -1,6 +1,6 @@
 -- The new groups from the old ones, by going over them once.
-use Rattle.std.specs.Prelude.{ℕ, List, [], ◌≡◌, Bool, false, take, if◌then◌else◌}
-use Rattle.rt_values.specs.Maps.{Map, value_at, contains}
+use Rattle.std.specs.Prelude.{ℕ, ◌<◌, ◌≤◌, List, ◌≡◌, length, Bool, false, Some, take, if◌then◌else◌}
+use Rattle.rt_values.specs.Maps.{Map, entry_at, value_at, contains, differ}
 use Rattle.rt_values.specs.Trail.{Trail, End, Read, Group, What, Call, Node, Key, Cell, asks, own}
 use Rattle.rt_values.specs.Frames.{meets}
 use Rattle.lang_ast.specs.Terms.{Func}
@@ -27,6 +27,14 @@ refreshed m owed (Group site n what inside rest) functions =
 -- the objects that are not owed have equal values
 abbrev pub SameBut : List ℕ → Map → Map → Type 0
 SameBut owed m m' = (x : ℕ) → contains x owed ≡ false → value_at m x ≡ value_at m' x
+
+-- an object of the first map that has an equal stamp in the second has an equal value there
+abbrev pub StampsTell : Map → Map → Type 0
+StampsTell m m' = (x : ℕ) → x < length m → (entry_at m x).stamp ≡ (entry_at m' x).stamp → value_at m x ≡ value_at m' x
+
+-- Between two maps of one world the objects whose stamps differ are all that changed.
+abbrev pub OwedIsWhatChanged : Type 0
+OwedIsWhatChanged = (m m' : Map) → length m ≤ length m' → StampsTell m m' → SameBut (differ (Some m) m') m m'
 
 -- Going once over the forest of one map gives the forest of another, where all that changed is owed.
 abbrev pub RefreshingIsScratch : Type 0

@@ -1,6 +1,5 @@
 -- What work a frame owes, told group by group beside the old ones.
-use Rattle.std.specs.Prelude.{ℕ, suc, ◌+◌, List, [], ◌∷◌, ◌++◌, ◌≡◌, length, Bool, true, false, ◌&&◌, if◌then◌else◌, Option}
-use Rattle.rt_values.specs.declared.value.Value.{Value}
+use Rattle.std.specs.Prelude.{ℕ, suc, ◌+◌, List, [], ◌∷◌, ◌++◌, ◌≡◌, length, Bool, true, false, ◌&&◌, Option}
 use Rattle.rt_values.specs.Trail.{Trail, End, Read, Group, What, Call, Node, Key, Cell, joined}
 use Rattle.rt_values.specs.Paths.{Sibling, sibling, occurrence, Found, among, inside_of}
 use Rattle.rt_values.specs.Frames.{runs_after, other_keys, ran, calculated, reads}

@@ -1,7 +1,14 @@
 // What holds of every composition that is made from an earlier one.
-ghost use Rattle.recompose_walk.specs.Refreshing.{RefreshingIsScratch};
+ghost use Rattle.recompose_walk.specs.Numbering.{ComposingAgainIsTheFrame, KeptTrailIsTheForest, NumbersAreToldBeside};
+ghost use Rattle.recompose_walk.specs.Refreshing.{OwedIsWhatChanged, RefreshingIsScratch};
 ghost use Rattle.recompose_walk.specs.Walking.{WalkDoesTheFrame};
 ghost use Rattle.recompose_walk.specs.Work.{PathsAndPlacesAgree, WorkGoesInOrder};
+
+/// The state objects whose stamps differ between two snapshots are all whose values may differ, where equal stamps
+/// of one object carry equal values. Stamps stand in the place of the original's comparison of state records.
+pub fn owed_is_what_changed()
+    ensures { OwedIsWhatChanged }
+{}
 
 /// Going once over the groups of the last frame, where calls whose own reads meet the owed objects are composed
 /// anew and all else is kept, gives exactly what composing from scratch gives.
@@ -26,4 +33,21 @@ pub fn paths_and_places_agree()
 /// that were seen.
 pub fn work_goes_in_order()
     ensures { WorkGoesInOrder }
+{}
+
+/// A node keeps its number where its path was in the old tree. Matching each group with a sibling of the old ones
+/// gives the same numbers.
+pub fn numbers_are_told_beside()
+    ensures { NumbersAreToldBeside }
+{}
+
+/// The groups that are kept after a frame are those of composing from scratch, with the numbers of its nodes.
+pub fn kept_trail_is_the_forest()
+    ensures { KeptTrailIsTheForest }
+{}
+
+/// Going once over the groups that the last frame kept, numbers included, gives the groups that the new frame
+/// keeps, and runs, calculates and reads exactly what its report tells (`recompose`).
+pub fn composing_again_is_the_frame()
+    ensures { ComposingAgainIsTheFrame }
 {}
