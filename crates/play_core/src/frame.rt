@@ -277,7 +277,7 @@ fn say_tree<K: Sink>(
                 left = fewer;
                 rest = more;
             }
-            Err(stop) => Err(stop),
+            Err(stop) => return Err(stop),
         }
     }
     Ok(())
