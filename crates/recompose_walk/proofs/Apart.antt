@@ -1,12 +1,12 @@
 -- Each old group is matched at most once, so numbers stay distinct.
-use Rattle.std.proofs.Common.{ℕ, zero, suc, ◌+◌, ◌<◌, ◌≤◌, ◌==◌, ◌≡◌, ◌⊎◌, inl, inr, List, [], ◌∷◌, refl, ap, ◌∙◌, sym, subst, Bool, true, false, ◌&&◌, nat_lt, if◌then◌else◌, Option, Some, None, eq-eqb, arith}
+use Rattle.std.proofs.Common.{ℕ, zero, suc, ◌+◌, ◌<◌, ◌≤◌, ◌==◌, ◌≡◌, ◌⊎◌, inl, inr, List, [], ◌∷◌, refl, ap, ◌∙◌, sym, subst, Bool, true, false, ◌&&◌, nat_lt, if◌then◌else◌, Option, Some, None, arith}
 use Rattle.std.specs.Option.{option_eq}
 use Rattle.std.proofs.lemmas.Bool.{eqb-true, le-ltb, lt-ltb}
 use Rattle.rt_values.specs.declared.value.Value.{Value}
 use Rattle.rt_values.specs.Values.{same_value}
 use Rattle.rt_values.specs.Trail.{Trail, End, Read, Group, What, Call, Node, Key, Cell, is_node}
 use Rattle.rt_values.specs.Paths.{Sibling, sibling, same_sibling, occurrence, Found, nth, among, inside_of}
-use Rattle.rt_values.specs.Frames.{number_of, numbered}
+use Rattle.rt_values.specs.Frames.{number_of}
 use Rattle.rt_values.proofs.Equal.{told_equal}
 use Rattle.recompose_walk.specs.Numbering.{numbered_beside}
 use Rattle.recompose_walk.specs.Distinct.{has_number, how_often, AreDistinct, NodesAt, NumbersStayDistinct}

@@ -1,5 +1,5 @@
 -- The nodes of a program stand at the sites of its node statements.
-use Rattle.std.proofs.Common.{ℕ, zero, suc, ℤ, List, [], ◌∷◌, ◌++◌, ◌≡◌, map, Bool, true, false, if◌then◌else◌}
+use Rattle.std.proofs.Common.{ℕ, zero, suc, ℤ, List, [], ◌∷◌, ◌++◌, Bool, true, false, if◌then◌else◌}
 use Rattle.rt_values.specs.declared.value.Value.{Value}
 use Rattle.rt_values.specs.declared.value.Value.TheVariants as value
 use Rattle.rt_values.specs.Operators.{is_true, items_of}
@@ -8,7 +8,7 @@ use Rattle.rt_values.specs.Trail.{Trail, End, Read, Group, joined, reads_then}
 use Rattle.lang_ast.specs.Terms.{Stmt, Node, Call, Key, If, For, Let, Remember, Stmts, done, next, Func}
 use Rattle.lang_ast.specs.Readings.{Reading}
 use Rattle.lang_ast.specs.Evaluation.{Env, bound, eval, eval_all, eval_named}
-use Rattle.lang_ast.specs.Composing.{Meaning, after, turns, bind, run, run_all, meaning, meaning_at, meanings_from, meanings, forest}
+use Rattle.lang_ast.specs.Composing.{Meaning, after, turns, bind, run, run_all, meaning, meaning_at, meanings_from}
 use Rattle.recompose_walk.specs.Distinct.{NodesAt, SiteTells, SitesTell, FunctionsTell, NodesStandAtTheirSites}
 
 reads_at : (at_site : ℕ → Bool) (xs : List ℕ) (t : Trail) → NodesAt at_site t → NodesAt at_site (reads_then xs t)
