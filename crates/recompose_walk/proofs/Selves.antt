@@ -29,7 +29,7 @@ key_itself (Some v) = value_itself v
 number_itself : (n : ℕ) → (n == n) ≡ true
 number_itself n = eq-eqb n n refl
 
-sibling_itself : (s : Sibling) → same_sibling s s ≡ true
+pub sibling_itself : (s : Sibling) → same_sibling s s ≡ true
 sibling_itself s = rw (number_itself s.site) (key_itself s.key)
 
 pub call_itself : (f : ℕ) (vs : List Value) → same_call (Call f vs) (Call f vs) ≡ true

@@ -2,3 +2,4 @@ pub mod Work
 pub mod Refreshing
 pub mod Walking
 pub mod Numbering
+pub mod Distinct

@@ -1,4 +1,5 @@
 // What holds of every composition that is made from an earlier one.
+ghost use Rattle.recompose_walk.specs.Distinct.{NodesStandAtTheirSites, NumbersStayDistinct};
 ghost use Rattle.recompose_walk.specs.Numbering.{ComposingAgainIsTheFrame, KeptTrailIsTheForest, NumbersAreToldBeside};
 ghost use Rattle.recompose_walk.specs.Refreshing.{OwedIsWhatChanged, RefreshingIsScratch};
 ghost use Rattle.recompose_walk.specs.Walking.{WalkDoesTheFrame};
@@ -50,4 +51,16 @@ pub fn kept_trail_is_the_forest()
 /// keeps, and runs, calculates and reads exactly what its report tells (`recompose`).
 pub fn composing_again_is_the_frame()
     ensures { ComposingAgainIsTheFrame }
+{}
+
+/// No two nodes of one tree ever have one number, and numbers are not used again: where it was so before a frame,
+/// it is so after it. Nodes have to stand at the sites of node statements, as those of one program do.
+pub fn numbers_stay_distinct()
+    ensures { NumbersStayDistinct }
+{}
+
+/// The nodes that a program makes stand at the sites of its node statements, and its other groups at other sites,
+/// where no two statements of different kinds have one site.
+pub fn nodes_stand_at_their_sites()
+    ensures { NodesStandAtTheirSites }
 {}

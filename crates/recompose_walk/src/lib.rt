@@ -6,13 +6,14 @@
 //! they are owed. The composer follows these definitions with its code.
 //! Promises: each law is the promise of a function that does nothing. `specs/Refreshing.antt` says what going over
 //! the old groups makes, `specs/Work.antt` what work a frame owes, told beside the old groups, and
-//! `specs/Walking.antt` what work going over them does. `specs/Numbering.antt` adds the numbers of nodes.
+//! `specs/Walking.antt` what work going over them does. `specs/Numbering.antt` adds the numbers of nodes, and
+//! `specs/Distinct.antt` that no two nodes have one.
 #![tactic(auto)]
 
 mod laws;
 
 pub use laws::{
-    composing_again_is_the_frame, kept_trail_is_the_forest, numbers_are_told_beside,
-    owed_is_what_changed, paths_and_places_agree, refreshing_is_scratch, walk_does_the_frame,
-    work_goes_in_order,
+    composing_again_is_the_frame, kept_trail_is_the_forest, nodes_stand_at_their_sites,
+    numbers_are_told_beside, numbers_stay_distinct, owed_is_what_changed, paths_and_places_agree,
+    refreshing_is_scratch, walk_does_the_frame, work_goes_in_order,
 };
