@@ -2,13 +2,16 @@
 
 use super::*;
 use std::alloc::Global;
+use std::process::Abort;
 use std::test::Fail;
 
 // What a text is: the places of its trees, each before those in it, and the trees as they are printed; or why it is none.
 type Verdict = Result<(&'static [usize], &'static [u8]), TextStop>;
 
-const TEXTS: [(&[u8], Verdict); 83] = [
-    // Nothing, blanks and comments.
+type Row = (&'static [u8], Verdict);
+
+// Nothing, blanks and comments.
+const GAPS: [Row; 7] = [
     (b"", Ok((&[], b""))),
     (b" \t\r\n", Ok((&[], b""))),
     (b";a\n", Ok((&[], b""))),
@@ -16,7 +19,10 @@ const TEXTS: [(&[u8], Verdict); 83] = [
     (b";\xc3\xa9 \x01\"(\n", Ok((&[], b""))),
     (b"a;c\nb", Ok((&[0, 4], b"a\nb\n"))),
     (b"(;c\na)", Ok((&[0, 4], b"(a)\n"))),
-    // Atoms, side by side with other tokens.
+];
+
+// Atoms, side by side with other tokens.
+const ATOMS: [Row; 9] = [
     (b"+-*/%<>=!?_", Ok((&[0], b"+-*/%<>=!?_\n"))),
     (b"AZaz09", Ok((&[0], b"AZaz09\n"))),
     (b"a b\tc", Ok((&[0, 2, 4], b"a\nb\nc\n"))),
@@ -26,7 +32,10 @@ const TEXTS: [(&[u8], Verdict); 83] = [
     (b"\"s\"\"t\"", Ok((&[0, 3], b"\"s\"\n\"t\"\n"))),
     (b"( a ( b ) )", Ok((&[0, 2, 4, 6], b"(a (b))\n"))),
     (b"()", Ok((&[0], b"()\n"))),
-    // Strings, with each escape and a character of each length.
+];
+
+// Strings, with each escape and a character of each length.
+const STRINGS: [Row; 7] = [
     (b"\"\"", Ok((&[0], b"\"\"\n"))),
     (b"\"\\\"\"", Ok((&[0], b"\"\\\"\"\n"))),
     (b"\"\\\\\"", Ok((&[0], b"\"\\\\\"\n"))),
@@ -40,7 +49,10 @@ const TEXTS: [(&[u8], Verdict); 83] = [
         b"\"\xc3\xa9\xe2\x82\xac\xf0\x9f\x98\x80\" b ; \xc3\xbc",
         Ok((&[0, 12], b"\"\xc3\xa9\xe2\x82\xac\xf0\x9f\x98\x80\"\nb\n")),
     ),
-    // Lists that end too soon or that nothing opened.
+];
+
+// Lists that end too soon or that nothing opened.
+const LISTS: [Row; 8] = [
     (b"(", Err(TextStop::Bad { at: 1 })),
     (b"(a", Err(TextStop::Bad { at: 2 })),
     (b"((a)", Err(TextStop::Bad { at: 4 })),
@@ -49,7 +61,10 @@ const TEXTS: [(&[u8], Verdict); 83] = [
     (b")", Err(TextStop::Bad { at: 0 })),
     (b"a)", Err(TextStop::Bad { at: 1 })),
     (b"())", Err(TextStop::Bad { at: 2 })),
-    // Strings that do not end, a backslash before a wrong byte.
+];
+
+// Strings that do not end, a backslash before a wrong byte.
+const QUOTES: [Row; 8] = [
     (b"\"", Err(TextStop::Bad { at: 1 })),
     (b"\"a", Err(TextStop::Bad { at: 2 })),
     (b"\"\\", Err(TextStop::Bad { at: 2 })),
@@ -58,7 +73,10 @@ const TEXTS: [(&[u8], Verdict); 83] = [
     (b"\"\\N\"", Err(TextStop::Bad { at: 2 })),
     (b"\"\\ \"", Err(TextStop::Bad { at: 2 })),
     (b"\"\\\xc3\xa9\"", Err(TextStop::Bad { at: 2 })),
-    // Control bytes inside and outside strings.
+];
+
+// Control bytes inside and outside strings.
+const CONTROLS: [Row; 9] = [
     (b"\"\n\"", Err(TextStop::Bad { at: 1 })),
     (b"\"\t\"", Err(TextStop::Bad { at: 1 })),
     (b"\"\r\"", Err(TextStop::Bad { at: 1 })),
@@ -68,7 +86,10 @@ const TEXTS: [(&[u8], Verdict); 83] = [
     (b"a\x0bb", Err(TextStop::Bad { at: 1 })),
     (b"\x7f", Err(TextStop::Bad { at: 0 })),
     (b"\"\\\n\"", Err(TextStop::Bad { at: 2 })),
-    // Bytes that no token has, and those from 80 up.
+];
+
+// Bytes that no token has, and those from 80 up.
+const OTHERS: [Row; 9] = [
     (b"#", Err(TextStop::Bad { at: 0 })),
     (b"a #", Err(TextStop::Bad { at: 2 })),
     (b"{}", Err(TextStop::Bad { at: 0 })),
@@ -78,7 +99,10 @@ const TEXTS: [(&[u8], Verdict); 83] = [
     (b"\xc3\xa9", Err(TextStop::Bad { at: 0 })),
     (b"a\xc3\xa9", Err(TextStop::Bad { at: 1 })),
     (b"(\xe2\x82\xac)", Err(TextStop::Bad { at: 1 })),
-    // No UTF-8: FF at each position of a character, and characters cut short.
+];
+
+// No UTF-8: FF at each position of a character, and characters cut short.
+const NOT_UTF8: [Row; 19] = [
     (b"\xff", Err(TextStop::NotUtf8 { at: 0 })),
     (b"\xc3\xff", Err(TextStop::NotUtf8 { at: 0 })),
     (b"\xff\xa9", Err(TextStop::NotUtf8 { at: 0 })),
@@ -98,55 +122,16 @@ const TEXTS: [(&[u8], Verdict); 83] = [
     (b"(\xf0\x9f\x98", Err(TextStop::NotUtf8 { at: 1 })),
     (b"\"\xed\xa0\x80\"", Err(TextStop::NotUtf8 { at: 1 })),
     (b"\xc0\x80", Err(TextStop::NotUtf8 { at: 0 })),
-    // 100 and 101 lists within lists.
-    (
-        b"((((((((((((((((((((((((((((((((((((((((((((((((((((((((((((((((((((((((((((((((\
-          (((((((((((((((((((())))))))))))))))))))))))))))))))))))))))))))))))))))))))))))\
-          ))))))))))))))))))))))))))))))))))))))))",
-        Ok((
-            &[
-                0, 1, 2, 3, 4, 5, 6, 7, 8, 9, 10, 11, 12, 13, 14, 15, 16, 17, 18, 19, 20, 21, 22,
-                23, 24, 25, 26, 27, 28, 29, 30, 31, 32, 33, 34, 35, 36, 37, 38, 39, 40, 41, 42, 43,
-                44, 45, 46, 47, 48, 49, 50, 51, 52, 53, 54, 55, 56, 57, 58, 59, 60, 61, 62, 63, 64,
-                65, 66, 67, 68, 69, 70, 71, 72, 73, 74, 75, 76, 77, 78, 79, 80, 81, 82, 83, 84, 85,
-                86, 87, 88, 89, 90, 91, 92, 93, 94, 95, 96, 97, 98, 99,
-            ],
-            b"((((((((((((((((((((((((((((((((((((((((((((((((((((((((((((((((((((((((((((((((\
-          (((((((((((((((((((())))))))))))))))))))))))))))))))))))))))))))))))))))))))))))\
-          ))))))))))))))))))))))))))))))))))))))))\n",
-        )),
-    ),
-    (
-        b"((((((((((((((((((((((((((((((((((((((((((((((((((((((((((((((((((((((((((((((((\
-          ((((((((((((((((((((",
-        Err(TextStop::Bad { at: 100 }),
-    ),
-    (
-        b"((((((((((((((((((((((((((((((((((((((((((((((((((((((((((((((((((((((((((((((((\
-          (((((((((((((((((((((",
-        Err(TextStop::TooDeep { at: 100 }),
-    ),
-    (
-        b"((((((((((((((((((((((((((((((((((((((((((((((((((((((((((((((((((((((((((((((((\
-          (((((((((((((((((((((#",
-        Err(TextStop::TooDeep { at: 100 }),
-    ),
-    (
-        b"#(((((((((((((((((((((((((((((((((((((((((((((((((((((((((((((((((((((((((((((((\
-          ((((((((((((((((((((((",
-        Err(TextStop::Bad { at: 0 }),
-    ),
-    (
-        b"() ; (\n((((((((((((((((((((((((((((((((((((((((((((((((((((((((((((((((((((((((\
-          ((((((((((((((((((((((((((((()))))))))))))))))))))))))))))))))))))))))))))))))))\
-          ))))))))))))))))))))))))))))))))))))))))))))))))))",
-        Err(TextStop::TooDeep { at: 107 }),
-    ),
-    (
-        b"((((((((((((((((((((((((((((((((((((((((((((((((((((((((((((((((((((((((((((((((\
-          ((((((((((((((((((((#(",
-        Err(TextStop::Bad { at: 100 }),
-    ),
+];
+
+// Parentheses that open lists, between two pieces of text, and why that is no text.
+const NESTED: [(&[u8], usize, &[u8], TextStop); 6] = [
+    (b"", 100, b"", TextStop::Bad { at: 100 }),
+    (b"", 101, b"", TextStop::TooDeep { at: 100 }),
+    (b"", 101, b"#", TextStop::TooDeep { at: 100 }),
+    (b"#", 101, b"", TextStop::Bad { at: 0 }),
+    (b"", 100, b"#(", TextStop::Bad { at: 100 }),
+    (b"() ; (\n", 101, b"", TextStop::TooDeep { at: 107 }),
 ];
 
 // The places of trees, each before those in it.
@@ -163,24 +148,106 @@ fn add_places(places: &mut Vec<usize>, trees: &[Tree]) -> Result<(), Fail> {
     Ok(())
 }
 
-#[test]
-fn each_text_is_read_or_refused_at_its_place(rt: HostRuntime) -> Result<(), Fail> {
-    for (text, verdict) in TEXTS {
-        match (read(rt.alloc(), text), verdict) {
-            (Ok(trees), Ok((places, printed))) => {
-                let mut found = Vec::new(rt.alloc());
-                add_places(&mut found, &trees)?;
-                assert_eq!(rt; found.as_slice(), places, "at {text:?}");
-                assert_eq!(rt;
-                    print(rt.alloc(), &trees)?.as_slice(),
-                    printed,
-                    "at {text:?}"
-                );
-            }
-            (Err(stop), Err(expected)) => assert_eq!(rt; stop, expected, "at {text:?}"),
-            (Ok(_), Err(_)) => assert!(rt; false, "{text:?} is read"),
-            (Err(_), Ok(_)) => assert!(rt; false, "{text:?} is refused"),
+fn try_row<A: Abort>(rt: &A, alloc: Global, text: &[u8], verdict: Verdict) -> Result<(), Fail> {
+    match (read(alloc, text), verdict) {
+        (Ok(trees), Ok((places, printed))) => {
+            let mut found = Vec::new(alloc);
+            add_places(&mut found, &trees)?;
+            assert_eq!(rt; found.as_slice(), places, "at {text:?}");
+            assert_eq!(rt; print(alloc, &trees)?.as_slice(), printed, "at {text:?}");
         }
+        (Err(stop), Err(expected)) => assert_eq!(rt; stop, expected, "at {text:?}"),
+        (Ok(_), Err(_)) => assert!(rt; false, "{text:?} is read"),
+        (Err(_), Ok(_)) => assert!(rt; false, "{text:?} is refused"),
     }
     Ok(())
+}
+
+fn try_rows<A: Abort>(rt: &A, alloc: Global, rows: &[Row]) -> Result<(), Fail> {
+    for (text, verdict) in rows {
+        try_row(rt, alloc, text, *verdict)?;
+    }
+    Ok(())
+}
+
+fn try_gaps<A: Abort>(rt: &A, alloc: Global) -> Result<(), Fail> {
+    try_rows(rt, alloc, &GAPS)
+}
+
+fn try_atoms<A: Abort>(rt: &A, alloc: Global) -> Result<(), Fail> {
+    try_rows(rt, alloc, &ATOMS)
+}
+
+fn try_strings<A: Abort>(rt: &A, alloc: Global) -> Result<(), Fail> {
+    try_rows(rt, alloc, &STRINGS)
+}
+
+fn try_lists<A: Abort>(rt: &A, alloc: Global) -> Result<(), Fail> {
+    try_rows(rt, alloc, &LISTS)
+}
+
+fn try_quotes<A: Abort>(rt: &A, alloc: Global) -> Result<(), Fail> {
+    try_rows(rt, alloc, &QUOTES)
+}
+
+fn try_controls<A: Abort>(rt: &A, alloc: Global) -> Result<(), Fail> {
+    try_rows(rt, alloc, &CONTROLS)
+}
+
+fn try_others<A: Abort>(rt: &A, alloc: Global) -> Result<(), Fail> {
+    try_rows(rt, alloc, &OTHERS)
+}
+
+fn try_not_utf8<A: Abort>(rt: &A, alloc: Global) -> Result<(), Fail> {
+    try_rows(rt, alloc, &NOT_UTF8)
+}
+
+// So many parentheses that open lists, between two pieces of text.
+fn nested(alloc: Global, before: &[u8], lists: usize, behind: &[u8]) -> Result<Vec<u8>, Fail> {
+    let mut text = Vec::from_slice(alloc, before)?;
+    for _ in 0..lists {
+        text.push(b'(')?;
+    }
+    text.extend_from_slice(behind)?;
+    Ok(text)
+}
+
+// A list within 99 others, each at its place.
+fn try_deepest<A: Abort>(rt: &A, alloc: Global) -> Result<(), Fail> {
+    let mut text = nested(alloc, b"", 100, b"")?;
+    let mut places: Vec<usize> = Vec::new(alloc);
+    for at in 0..100 {
+        text.push(b')')?;
+        places.push(at)?;
+    }
+    let trees = read(alloc, &text)?;
+    let mut found = Vec::new(alloc);
+    add_places(&mut found, &trees)?;
+    assert!(rt; found == places);
+    text.push(b'\n')?;
+    assert!(rt; print(alloc, &trees)? == text);
+    Ok(())
+}
+
+fn try_nested<A: Abort>(rt: &A, alloc: Global) -> Result<(), Fail> {
+    for (before, lists, behind, stop) in NESTED {
+        let text = nested(alloc, before, lists, behind)?;
+        assert_eq!(rt; read(alloc, &text).err(), Some(stop), "at {stop:?}");
+    }
+    Ok(())
+}
+
+#[test]
+fn each_text_is_read_or_refused_at_its_place(rt: HostRuntime) -> Result<(), Fail> {
+    let alloc = rt.alloc();
+    try_gaps(&rt, alloc)?;
+    try_atoms(&rt, alloc)?;
+    try_strings(&rt, alloc)?;
+    try_lists(&rt, alloc)?;
+    try_quotes(&rt, alloc)?;
+    try_controls(&rt, alloc)?;
+    try_others(&rt, alloc)?;
+    try_not_utf8(&rt, alloc)?;
+    try_deepest(&rt, alloc)?;
+    try_nested(&rt, alloc)
 }
