@@ -95,7 +95,7 @@ fn number_written(rest: &Rest) -> Option<(u64, i64)> {
             value: Value::Int(value),
             ..
         } => Some((*number, *value)),
-        StepForm::Frame => None,
+        _ => None,
     }
 }
 
