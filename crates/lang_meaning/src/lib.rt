@@ -8,12 +8,19 @@
 //! not run again where its arguments and the values of its own reads are the same.
 #![tactic(auto)]
 
+mod applying;
+mod arguments;
+mod evaluation;
 mod laws;
+mod scope;
 mod scratch_walk;
 
+pub use arguments::{bind, evaluate_all, evaluate_attributes, evaluate_keys};
+pub use evaluation::evaluate;
 pub use laws::{
     calls_reach_earlier_functions, evaluation_agrees, own_parts_agree, skipping_is_right,
 };
+pub use scope::Scope;
 pub use scratch_walk::{ScratchStop, eval, scratch};
 
 #[cfg(test)]
