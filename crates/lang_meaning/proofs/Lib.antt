@@ -1,7 +1,10 @@
 pub mod Agreeing
+pub mod Arms
 pub mod Flats
 pub mod Grows
 pub mod Lookups
 pub mod Meanings
 pub mod Operands
+pub mod Sizes
 pub mod Skips
+pub mod Ways

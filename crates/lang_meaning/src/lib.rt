@@ -10,12 +10,14 @@
 
 mod applying;
 mod arguments;
+mod composition;
 mod evaluation;
 mod laws;
 mod scope;
 mod scratch_walk;
 
 pub use arguments::{bind, evaluate_all, evaluate_attributes, evaluate_keys};
+pub use composition::compose;
 pub use evaluation::evaluate;
 pub use laws::{
     calls_reach_earlier_functions, evaluation_agrees, own_parts_agree, skipping_is_right,
@@ -25,3 +27,5 @@ pub use scratch_walk::{ScratchStop, eval, scratch};
 
 #[cfg(test)]
 mod tests;
+#[cfg(test)]
+mod tests_composing;

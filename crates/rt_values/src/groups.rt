@@ -179,7 +179,8 @@ impl Groups {
     #[tactic(auto, using(crate::proofs::Seams::set_seam, crate::proofs::Seams::got_seam))]
     pub fn set_reads(&mut self, place: usize, reads: Objects)
         requires { place < length self.old }
-        ensures { (before after : List group_data) (g : group_data) → length before ≡ place → self.old ≡ before ++ (g ∷ after) → self.new ≡ before ++ (entry g.depth g.site g.number g.what reads ∷ after) }
+        ensures len { length self.new ≡ length self.old }
+        ensures reads { (before after : List group_data) (g : group_data) → length before ≡ place → self.old ≡ before ++ (g ∷ after) → self.new ≡ before ++ (entry g.depth g.site g.number g.what reads ∷ after) }
     {
         self.items[place].reads = reads;
     }
