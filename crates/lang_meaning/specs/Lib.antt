@@ -1,2 +1,4 @@
 pub mod Flat
+pub mod Operands
+pub mod Ran
 pub mod Skipping

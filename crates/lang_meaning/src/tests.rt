@@ -8,9 +8,9 @@ use std::test::Fail;
 
 // A map, and what was asked for in it.
 #[derive(Drop)]
-struct Shown {
-    map: Map,
-    asked: Objects,
+pub(crate) struct Shown {
+    pub(crate) map: Map,
+    pub(crate) asked: Objects,
 }
 
 #[tactic(auto, using(crate::proofs::Grows::grew_none))]
@@ -36,7 +36,7 @@ impl View for Shown {
     }
 }
 
-fn view_of(alloc: Global, numbers: &[i64]) -> Result<Shown, Fail> {
+pub(crate) fn view_of(alloc: Global, numbers: &[i64]) -> Result<Shown, Fail> {
     let mut map = Map::new(alloc);
     for number in numbers {
         map.push(Entry {

@@ -4,6 +4,7 @@ pub mod Operators
 pub mod Maps
 pub mod Views
 pub mod Trail
+pub mod Flat
 pub mod Paths
 pub mod Frames
 pub mod Nodes

@@ -11,6 +11,7 @@
 //! those of `specs/Operators.antt`, and `differing` is exactly the objects whose stamps differ.
 #![tactic(auto)]
 
+mod groups;
 mod list;
 mod maps;
 mod names;
@@ -21,6 +22,7 @@ mod value;
 mod view;
 mod word;
 
+pub use groups::{Attribute, Attributes, Group, Groups, Values, What};
 pub use list::IntList;
 pub use maps::{Entry, Map, Objects, differing};
 pub use names::{Caller, Kind, Name, NoMemory, ObjectNo, WatcherNo};
