@@ -230,32 +230,6 @@ fn groups_stand_in_order_with_their_depths(rt: HostRuntime) -> Result<(), Fail> 
 }
 
 #[test]
-fn reads_are_charged_to_the_innermost_call(rt: HostRuntime) -> Result<(), Fail> {
-    let alloc = rt.alloc();
-    let mut view = view_of(alloc, &[2, 7, 9])?;
-    let groups = compose(alloc, &program(alloc)?, 1, &mut view)?;
-    assert_eq!(rt; view.asked.numbers(), [0u64, 1, 0, 1, 0, 0, 1].as_slice());
-    assert_eq!(rt;
-        groups.items()[0].reads.numbers(),
-        [0u64, 0, 0, 0, 1].as_slice()
-    );
-    assert_eq!(rt; groups.items()[2].reads.numbers(), [1u64].as_slice());
-    assert_eq!(rt; groups.items()[3].reads.numbers().len(), 0usize);
-    assert_eq!(rt; groups.items()[5].reads.numbers(), [1u64].as_slice());
-    Ok(())
-}
-
-#[test]
-fn the_other_operand_is_picked(rt: HostRuntime) -> Result<(), Fail> {
-    let alloc = rt.alloc();
-    let mut view = view_of(alloc, &[6, 7, 9])?;
-    let groups = compose(alloc, &program(alloc)?, 1, &mut view)?;
-    assert_eq!(rt; shown(&groups.items()[9]), 9i64);
-    assert_eq!(rt; view.asked.numbers(), [0u64, 1, 0, 1, 0, 0, 2].as_slice());
-    Ok(())
-}
-
-#[test]
 fn a_call_of_its_own_function_makes_nothing(rt: HostRuntime) -> Result<(), Fail> {
     let alloc = rt.alloc();
     let call = Statement::Call {
