@@ -4,8 +4,9 @@ use Rattle.std.specs.Option.{option_map}
 use Rattle.rt_values.specs.Maps.{Map, differ}
 use Rattle.rt_values.specs.Trail.{Trail}
 use Rattle.rt_values.specs.Frames.{Composed, Report, numbered, report}
-use Rattle.lang_ast.specs.declared.program.Stmt.{Stmt}
-use Rattle.lang_ast.specs.Meaning.{scratch}
+use Rattle.lang_ast.specs.Terms.{Func}
+use Rattle.lang_ast.specs.Programs.{root_number}
+use Rattle.lang_ast.specs.Composing.{scratch}
 
 -- what a good frame leaves, and what it tells of itself
 pub record Good : Type 0 where
@@ -22,5 +23,5 @@ good_frame k m new =
     }
 
 -- none where the forest has too many groups, and then what was kept stays
-abbrev pub frame : List Stmt → Composed → Map → Option Good
-frame root k m = option_map (good_frame k m) (scratch root m)
+abbrev pub frame : List Func → Composed → Map → Option Good
+frame functions k m = option_map (good_frame k m) (scratch functions (root_number functions) m)

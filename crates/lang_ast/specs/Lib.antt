@@ -1,4 +1,4 @@
-pub mod Meaning
+pub mod Programs
 pub mod Frame
 pub mod Terms
 pub mod SyntaxView

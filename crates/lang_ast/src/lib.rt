@@ -4,13 +4,12 @@
 //! stand in place of the Kotlin functions that the Compose compiler plugin rewrites; the language is this
 //! project's own.
 //!
-//! Two languages stand side by side. The whole one has expressions, statements and functions; contracts see
-//! them without pointers (`specs/Terms.antt`). `specs/Evaluation.antt` says what an expression's value is, and
-//! `specs/Composing.antt` which reads and groups composing from scratch makes, in order; both are computed on
-//! small programs in `specs/SmallPrograms.antt`. The small one, nodes with literals and reads, is what the
-//! command runs today: `specs/Meaning.antt` says what it means, `specs/Frame.antt` what one frame leaves and tells.
+//! Contracts see expressions, statements and functions without pointers (`specs/Terms.antt`).
+//! `specs/Evaluation.antt` says what an expression's value is, and `specs/Composing.antt` which reads and groups
+//! composing from scratch makes, in order; both are computed on small programs in `specs/SmallPrograms.antt`.
+//! `specs/Frame.antt` says what one frame leaves and tells.
 //! Promises: places and sites are those that the parts were made with, and the definitions give the small
-//! programs' groups and reports.
+//! programs' groups and reports; the root is the first function of that name.
 #![tactic(auto)]
 
 mod binding;
@@ -21,5 +20,5 @@ mod syntax;
 
 pub use binding::Binding;
 pub use examples::the_examples_hold;
-pub use program::{Attribute, Attributes, Expr, Program, State, Stmt};
+pub use program::{Program, State, root_number};
 pub use syntax::{Expression, Function, Name, Named, Operator, Parameter, Statement};

@@ -18,7 +18,7 @@ use Rattle.lang_ast.specs.declared.syntax.Expression.{Expression}
 use Rattle.lang_ast.specs.declared.syntax.Statement.{Statement, Node as NodeOf, Call as CallOf, Key as KeyOf, If as IfOf, For as ForOf, Let as LetOf, Remember as RememberOf}
 use Rattle.lang_ast.proofs.Views.{view-Node, view-Call, view-Key, view-If, view-For, view-Let, view-Remember}
 use Rattle.lang_meaning.specs.Ran.{Ran, made_by, made_by_all, called}
-use Rattle.lang_meaning.specs.declared.scratch_walk.ScratchStop.{ScratchStop}
+use Rattle.lang_meaning.specs.declared.composition.ScratchStop.{ScratchStop}
 use Rattle.lang_meaning.proofs.Ways.{how_many-flat}
 use Rattle.lang_meaning.proofs.Meanings.{meaning_found, meaning_none}
 

@@ -1,7 +1,6 @@
 pub mod Agreeing
 pub mod Calculations
 pub mod Arms
-pub mod Flats
 pub mod Grows
 pub mod Lookups
 pub mod Meanings

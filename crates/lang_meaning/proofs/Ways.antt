@@ -12,8 +12,8 @@ use Rattle.rt_values.proofs.Trails.{asks-joined, asks-reads_then}
 use Rattle.lang_ast.specs.Readings.{Reading}
 use Rattle.lang_ast.specs.Composing.{after, turns}
 use Rattle.lang_meaning.specs.Ran.{Ran, Going}
-use Rattle.lang_meaning.specs.declared.scratch_walk.ScratchStop.{ScratchStop}
-use Rattle.lang_meaning.specs.declared.scratch_walk.ScratchStop.TheVariants.{TooManyGroups, NoMemory}
+use Rattle.lang_meaning.specs.declared.composition.ScratchStop.{ScratchStop}
+use Rattle.lang_meaning.specs.declared.composition.ScratchStop.TheVariants.{TooManyGroups, NoMemory}
 use Rattle.lang_meaning.proofs.Grows.{grew_front, grew_behind, grew_left, grew_all}
 
 -- The groups and the own reads of trails put one behind another.

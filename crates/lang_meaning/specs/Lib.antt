@@ -1,4 +1,3 @@
-pub mod Flat
 pub mod Operands
 pub mod Ran
 pub mod Skipping

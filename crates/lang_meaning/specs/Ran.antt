@@ -14,8 +14,8 @@ use Rattle.lang_ast.specs.Terms.{Stmt, Stmts}
 use Rattle.lang_ast.specs.SyntaxView.{functions_view}
 use Rattle.lang_ast.specs.Evaluation.{Env, bound}
 use Rattle.lang_ast.specs.Composing.{group, meaning_at, meanings, run, run_all, turns}
-use Rattle.lang_meaning.specs.declared.scratch_walk.ScratchStop.{ScratchStop}
-use Rattle.lang_meaning.specs.declared.scratch_walk.ScratchStop.TheVariants.{TooManyGroups}
+use Rattle.lang_meaning.specs.declared.composition.ScratchStop.{ScratchStop}
+use Rattle.lang_meaning.specs.declared.composition.ScratchStop.TheVariants.{TooManyGroups}
 
 -- What composing a trail leaves of the groups, of what was asked for and of the reads of the call around it, each before and after:
 -- all that the trail has where it went well; else a first part of the reads, and too many groups where it says so.

@@ -14,17 +14,24 @@ ghost use Rattle.lang_meaning.specs.Ran.{Ran, made_by, made_by_all, called, turn
 use crate::arguments::{bind, evaluate_all, evaluate_attributes, evaluate_keys};
 use crate::evaluation::evaluate;
 use crate::scope::Scope;
-use crate::scratch_walk::ScratchStop;
 use lang_ast::{Expression, Function, Name, Named, Statement};
 use rt_values::{Group, Groups, NoMemory, Objects, Value, Values, View, What};
 use std::alloc::Global;
+
+/// Why a program was not composed.
+#[derive(Clone, Copy, Debug, PartialEq, Eq)]
+pub enum ScratchStop {
+    /// The forest has more than 1,000,000 groups.
+    TooManyGroups,
+    NoMemory,
+}
 
 // More groups are refused.
 const MOST_GROUPS: usize = 1000000;
 
 impl From<NoMemory> for ScratchStop {
     ghost use Rattle.std.specs.Prelude.{◌≡◌};
-    ghost use Rattle.lang_meaning.specs.declared.scratch_walk.ScratchStop.TheVariants.{NoMemory as no_memory};
+    ghost use Rattle.lang_meaning.specs.declared.composition.ScratchStop.TheVariants.{NoMemory as no_memory};
 
     ghost from_gives = { λ _ e. e ≡ no_memory };
 

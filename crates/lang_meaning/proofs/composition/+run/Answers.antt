@@ -16,7 +16,7 @@ use Rattle.lang_ast.specs.Evaluation.{bound, eval, eval_all, eval_named}
 use Rattle.lang_ast.specs.Composing.{bind}
 use Rattle.lang_ast.specs.SyntaxView.{expr_view, exprs_view, nameds_view, stmt_view, stmts_view}
 use Rattle.lang_meaning.specs.Ran.{Ran, made_by, made_by_all, called, turned}
-use Rattle.lang_meaning.specs.declared.scratch_walk.ScratchStop.TheVariants.{NoMemory}
+use Rattle.lang_meaning.specs.declared.composition.ScratchStop.TheVariants.{NoMemory}
 use Rattle.lang_meaning.proofs.Grows.{grew_none, grew_all}
 use Rattle.lang_meaning.proofs.Sizes.{size_at, falls_at}
 use Rattle.lang_meaning.proofs.Arms.{all_at, all_end, node_ran, call_ran, key_ran, choice_ran, loop_ran, binding_ran, remember_ran, call_body, call_none, inside_call}

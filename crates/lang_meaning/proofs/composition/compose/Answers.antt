@@ -1,8 +1,8 @@
 use Rattle.std.proofs.Common.{rules, ◌≡◌, [], ap, Err}
 use Rattle.lang_ast.specs.SyntaxView.{functions_view}
 use Rattle.lang_ast.specs.Composing.{forest}
-use Rattle.lang_meaning.specs.declared.scratch_walk.ScratchStop.{ScratchStop}
-use Rattle.lang_meaning.specs.declared.scratch_walk.ScratchStop.TheVariants.{TooManyGroups}
+use Rattle.lang_meaning.specs.declared.composition.ScratchStop.{ScratchStop}
+use Rattle.lang_meaning.specs.declared.composition.ScratchStop.TheVariants.{TooManyGroups}
 use Rattle.lang_meaning.proofs.Arms.{forest_ran, few, many}
 use Rattle.lang_meaning.proofs.composition.compose.Goals as goal
 
