@@ -3,7 +3,8 @@ use Rattle.std.specs.Prelude.{List, [], Option, Some}
 use Rattle.std.specs.Option.{option_map}
 use Rattle.rt_values.specs.Maps.{Map, differ}
 use Rattle.rt_values.specs.Trail.{Trail}
-use Rattle.rt_values.specs.Frames.{Composed, Report, numbered, report}
+use Rattle.rt_values.specs.declared.report.Report.{Report}
+use Rattle.rt_values.specs.Frames.{Composed, numbered, report}
 use Rattle.lang_ast.specs.Terms.{Func}
 use Rattle.lang_ast.specs.Programs.{root_number}
 use Rattle.lang_ast.specs.Composing.{scratch}

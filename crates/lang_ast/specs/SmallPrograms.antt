@@ -6,7 +6,8 @@ use Rattle.rt_values.specs.declared.value.Ty.TheVariants as ty
 use Rattle.rt_values.specs.Maps.{Map}
 use Rattle.rt_values.specs.Trail.{Trail, End, Read, Group, Attribute, asks}
 use Rattle.rt_values.specs.Trail as trail
-use Rattle.rt_values.specs.Frames.{Report, numbered, report}
+use Rattle.rt_values.specs.declared.report.Report.{Report}
+use Rattle.rt_values.specs.Frames.{numbered, report}
 use Rattle.lang_ast.specs.declared.syntax.Name.{Name}
 use Rattle.lang_ast.specs.declared.syntax.Operator.{Operator}
 use Rattle.lang_ast.specs.declared.syntax.Operator.TheVariants as operator

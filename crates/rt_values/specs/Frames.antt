@@ -2,6 +2,7 @@
 use Rattle.std.specs.Prelude.{ℕ, ◌+◌, ◌-◌, ◌^◌, min, List, [], ◌∷◌, ◌++◌, map, length, Bool, true, false, not, ◌&&◌, ◌||◌, ◌==◌, Option, Some, None, if◌then◌else◌}
 use Rattle.std.specs.List.{filter, list_any}
 use Rattle.rt_values.specs.declared.value.Value.{Value}
+use Rattle.rt_values.specs.declared.report.Report.{Report}
 use Rattle.rt_values.specs.Values.{same_values}
 use Rattle.rt_values.specs.Maps.{Map, contains}
 use Rattle.rt_values.specs.Trail.{Trail, End, Read, Group, What, Call, Node, Key, Cell, is_call, is_node, asks, own, how_many, how_many_nodes}
@@ -115,13 +116,6 @@ abbrev pub reads : List ℕ → Trail → Trail → List ℕ
 reads owed old new = map (λ r. r.1) (filter (λ r. call_runs owed old r.0) (trace nobody [] [] new))
 
 -- what a frame tells of itself
-pub record Report : Type 0 where
-  pub ran : ℕ
-  pub calculated : ℕ
-  pub reads : ℕ
-  pub groups : ℕ
-  pub nodes : ℕ
-
 abbrev pub report : List ℕ → Trail → Trail → Report
 report owed old new = record {
   ran = length (ran owed old new);

@@ -184,4 +184,14 @@ impl Groups {
     {
         self.items[place].reads = reads;
     }
+
+    /// Another number for the group at a place.
+    #[tactic(auto, using(crate::proofs::Seams::set_seam, crate::proofs::Seams::got_seam))]
+    pub fn set_number(&mut self, place: usize, number: u64)
+        requires { place < length self.old }
+        ensures len { length self.new ≡ length self.old }
+        ensures number { (before after : List group_data) (g : group_data) → length before ≡ place → self.old ≡ before ++ (g ∷ after) → self.new ≡ before ++ (entry g.depth g.site number g.what g.reads ∷ after) }
+    {
+        self.items[place].number = number;
+    }
 }
