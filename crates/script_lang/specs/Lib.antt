@@ -1,4 +1,4 @@
 pub mod Scripts
 pub mod Steps
 pub mod Lines
-pub mod Paired
+pub mod Listing

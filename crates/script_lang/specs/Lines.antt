@@ -12,9 +12,10 @@ use Rattle.rt_values.specs.Maps.{contains}
 use Rattle.rt_values.specs.Trail.{Attribute}
 use Rattle.rt_values.specs.Nodes.{Nodes, Branch, nodes}
 use Rattle.rt_values.specs.Nodes as tree
-use Rattle.rt_values.specs.Frames.{Composed, Report, unseen}
+use Rattle.rt_values.specs.Frames.{Composed, unseen}
+use Rattle.rt_values.specs.declared.report.Report.{Report}
 use Rattle.lang_ast.specs.declared.program.State.{State}
-use Rattle.lang_ast.specs.declared.program.Stmt.{Stmt}
+use Rattle.lang_ast.specs.Terms.{Func}
 use Rattle.lang_ast.specs.Frame.{Good, frame}
 use Rattle.snap_policy.specs.declared.policy.BuiltIn.{BuiltIn}
 use Rattle.snap_policy.specs.Table.{table}
@@ -39,7 +40,7 @@ abbrev pub line : List ℕ → List ℕ
 line t = t ++ 10 ∷ []
 
 abbrev pub state_name : List State → ℕ → List ℕ
-state_name states x = option_map_or (λ s. s.name) (slice_get states x) []
+state_name states x = option_map_or (λ s. s.name.text) (slice_get states x) []
 
 -- a blank and the name of each
 abbrev pub state_names : List State → List ℕ → List ℕ
@@ -165,33 +166,33 @@ frame_taken (request.TakeFor watcher) (reply.TakenFor name changed) = name ∷ [
 frame_taken _ _ = []
 
 -- the frame that a call ends is composed in the view of its snapshot
-abbrev pub frame_at : List Stmt → Standing → Logged → Option Good
-frame_at root s e = frame root s.kept (shot_of s.world (name_in e.request)).view
+abbrev pub frame_at : List Func → Standing → Logged → Option Good
+frame_at functions s e = frame functions s.kept (shot_of s.world (name_in e.request)).view
 
-abbrev pub lines_at : Titles → List Stmt → Standing → Logged → List (List ℕ)
-lines_at t root s e = entry_line t e ∷ (if ends_frame s.frames e.request then frame_lines (frame_at root s e) else [])
+abbrev pub lines_at : Titles → List Func → Standing → Logged → List (List ℕ)
+lines_at t functions s e = entry_line t e ∷ (if ends_frame s.frames e.request then frame_lines (frame_at functions s e) else [])
 
-abbrev pub next : List Stmt → Standing → Logged → Standing
-next root s e =
+abbrev pub next : List Func → Standing → Logged → Standing
+next functions s e =
     let world = (call table s.world e.caller e.request).0 in
     if ends_frame s.frames e.request
-    then record { world = world; kept = kept_after s.kept (frame_at root s e); frames = filter (λ n. not (n == name_in e.request)) s.frames }
+    then record { world = world; kept = kept_after s.kept (frame_at functions s e); frames = filter (λ n. not (n == name_in e.request)) s.frames }
     else record { world = world; kept = s.kept; frames = s.frames ++ frame_taken e.request e.reply }
 
 -- the lines of a history, from where the walk stands
-abbrev pub lines : Titles → List Stmt → Standing → History → List (List ℕ)
-lines t root s [] = []
-lines t root s (e ∷ es) = lines_at t root s e ++ lines t root (next root s e) es
+abbrev pub lines : Titles → List Func → Standing → History → List (List ℕ)
+lines t functions s [] = []
+lines t functions s (e ∷ es) = lines_at t functions s e ++ lines t functions (next functions s e) es
 
 -- where the walk stands behind a history
-abbrev pub standing_after : List Stmt → Standing → History → Standing
-standing_after root s [] = s
-standing_after root s (e ∷ es) = standing_after root (next root s e) es
+abbrev pub standing_after : List Func → Standing → History → Standing
+standing_after functions s [] = s
+standing_after functions s (e ∷ es) = standing_after functions (next functions s e) es
 
 -- a walk begins in the opening world, before any frame
 abbrev pub beginning : List State → Standing
 beginning states = record { world = opening states; kept = unseen; frames = [] }
 
 -- All that a run prints: the lines of the history that the steps make one after the other.
-unfoldable pub run_text : Titles → List Stmt → List Step → List ℕ
-run_text t root steps = flat_map (λ l. l) (lines t root (beginning t.states) (sequential (opening t.states) steps))
+unfoldable pub run_text : Titles → List Func → List Step → List ℕ
+run_text t functions steps = flat_map (λ l. l) (lines t functions (beginning t.states) (sequential (opening t.states) steps))

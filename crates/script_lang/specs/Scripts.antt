@@ -10,8 +10,8 @@ use Rattle.script_lang.specs.declared.script.Step.TheVariants.{Write, Frame}
 
 -- whether its state is one of so many
 abbrev pub is_known : ℕ → StepForm → Bool
-is_known states (form.Write name number v) = nat_lt number states
-is_known states form.Frame = true
+is_known states (form.Write at name number v) = nat_lt number states
+is_known states (form.Frame at) = true
 
 abbrev pub all_known : ℕ → List DoForm → Bool
 all_known states forms = list_all (λ d. list_all (is_known states) d.steps) forms
@@ -19,15 +19,15 @@ all_known states forms = list_all (λ d. list_all (is_known states) d.steps) for
 -- all forms are of the first one's actor
 abbrev pub is_one_actor : List DoForm → Bool
 is_one_actor [] = true
-is_one_actor (d ∷ more) = list_all (λ e. bytes_eq e.actor d.actor) more
+is_one_actor (d ∷ more) = list_all (λ e. bytes_eq e.actor.text d.actor.text) more
 
 abbrev pub actor_of : List DoForm → List ℕ
 actor_of [] = []
-actor_of (d ∷ more) = d.actor
+actor_of (d ∷ more) = d.actor.text
 
 abbrev pub step_of : StepForm → Step
-step_of (form.Write name number v) = Write number v
-step_of form.Frame = Frame
+step_of (form.Write at name number v) = Write number v
+step_of (form.Frame at) = Frame
 
 abbrev pub steps_of : List StepForm → List Step
 steps_of forms = map step_of forms

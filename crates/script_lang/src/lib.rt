@@ -8,13 +8,13 @@
 //! the bytes of its definition.
 #![tactic(auto)]
 
+mod laws;
 mod line;
 mod script;
 mod tree;
 
+pub use laws::groups_tell_the_tree;
 pub use line::add_line;
 pub use script::{Script, ScriptStop, Step, script_of};
-pub use tree::{Report, add_node, add_refused, add_report};
+pub use tree::{OpenGroups, add_refused, add_report};
 
-#[cfg(test)]
-mod tests;

@@ -31,7 +31,7 @@ fn add_state(text: &mut Vec<u8>, states: &[State], x: ObjectNo) -> Result<(), No
     ensures { OnOk result (text.new.items ≡ text.old.items ++ state_name states.now x) }
 {
     match states.get(x as usize) {
-        Some(state) => add(text, state.name.bytes()),
+        Some(state) => add(text, state.name.text.bytes()),
         None => Ok(()),
     }
 }

@@ -55,9 +55,9 @@ const MOST_STEPS: usize = 65536;
 
 // Whether all are of this actor.
 fn all_of(actor: &[u8], forms: &[DoForm]) -> bool
-    ensures { result ≡ list_all (λ d. bytes_eq d.actor actor.now) forms.now }
+    ensures { result ≡ list_all (λ d. bytes_eq d.actor.text actor.now) forms.now }
 {
-    forms.iter().all(|form| form.actor.is(actor))
+    forms.iter().all(|form| form.actor.text.is(actor))
 }
 
 fn has_one_actor(forms: &[DoForm]) -> bool
@@ -65,7 +65,7 @@ fn has_one_actor(forms: &[DoForm]) -> bool
 {
     match forms.split_first() {
         None => true,
-        Some((first, more)) => all_of(first.actor.bytes(), more),
+        Some((first, more)) => all_of(first.actor.text.bytes(), more),
     }
 }
 
@@ -73,12 +73,8 @@ fn is_known_step(states: &[State], step: &StepForm) -> bool
     ensures { result ≡ is_known (length states.now) step.now }
 {
     match step {
-        StepForm::Write {
-            state: _,
-            number,
-            value: _,
-        } => (*number as usize) < states.len(),
-        StepForm::Frame => true,
+        StepForm::Write { number, .. } => (*number as usize) < states.len(),
+        StepForm::Frame { .. } => true,
     }
 }
 
@@ -101,7 +97,7 @@ fn first_actor(alloc: Global, forms: &[DoForm]) -> Result<Word, NoMemory>
 {
     match forms.split_first() {
         None => Word::of(alloc, &[]),
-        Some((first, _)) => first.actor.copy(alloc),
+        Some((first, _)) => first.actor.text.copy(alloc),
     }
 }
 
@@ -109,15 +105,11 @@ fn step_in(alloc: Global, form: &StepForm) -> Result<Step, NoMemory>
     ensures { IfOk result (λ s. s ≡ step_of form.now) }
 {
     match form {
-        StepForm::Write {
-            state: _,
-            number,
-            value,
-        } => Ok(Step::Write {
+        StepForm::Write { number, value, .. } => Ok(Step::Write {
             object: *number,
             value: value.copy(alloc)?,
         }),
-        StepForm::Frame => Ok(Step::Frame),
+        StepForm::Frame { .. } => Ok(Step::Frame),
     }
 }
 

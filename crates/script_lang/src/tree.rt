@@ -1,24 +1,13 @@
 // The lines of frames.
-ghost use Rattle.std.specs.Prelude.{◌≡◌, ◌++◌, ◌∷◌, [], ◌≤◌, List, ℕ, OnOk, IfOk, codes, length, drop};
+ghost use Rattle.std.specs.Prelude.{◌≡◌, ◌++◌, ◌∷◌, [], List, ℕ, Bool, false, OnOk, codes, map};
 ghost use Rattle.std.specs.Fmt.{decimal};
-ghost use Rattle.rt_values.specs.Frames.{Report as report_data};
-ghost use Rattle.script_lang.specs.Lines.{report_line, count_text, work_text, size_text, node_line, attributes_text, line};
-ghost use Rattle.script_lang.specs.Paired.{paired};
+ghost use Rattle.script_lang.specs.Lines.{report_line, count_text, work_text, size_text, margin, node_line, attributes_text, line};
+ghost use Rattle.script_lang.specs.Listing.{shown, level, line_of, around, opened, group_line};
 
 use crate::line::{add, add_number};
-use lang_ast::Attribute;
-use rt_values::{NoMemory, Value, Word};
-
-/// What a frame tells of itself: how many calls ran, how many remembered values were calculated, how many
-/// reads those calls made, and how many groups and nodes the composition has.
-#[derive(Clone, Copy, Debug, PartialEq, Eq)]
-pub struct Report {
-    pub ran: u64,
-    pub calculated: u64,
-    pub reads: u64,
-    pub groups: u64,
-    pub nodes: u64,
-}
+use rt_values::{Attribute, Attributes, Group, NoMemory, Report, What, Word};
+use std::alloc::Global;
+use std::marker::Model;
 
 // A word and a number.
 #[tactic(auto, unfolding(crate::specs::Lines::count_text), using(crate::proofs::Texts::joins))]
@@ -48,7 +37,7 @@ fn add_size(text: &mut Vec<u8>, groups: u64, nodes: u64) -> Result<(), NoMemory>
 /// Adds the line of a frame's report.
 #[tactic(auto, using(crate::proofs::Texts::joins))]
 pub fn add_report(text: &mut Vec<u8>, report: &Report) -> Result<(), NoMemory>
-    ensures { OnOk result (text.new.items ≡ text.old.items ++ report_line (record { ran = report.now.ran; calculated = report.now.calculated; reads = report.now.reads; groups = report.now.groups; nodes = report.now.nodes })) }
+    ensures { OnOk result (text.new.items ≡ text.old.items ++ report_line report.now) }
 {
     add_work(text, report.ran, report.calculated, report.reads)?;
     add_size(text, report.groups, report.nodes)?;
@@ -64,50 +53,106 @@ pub fn add_refused(text: &mut Vec<u8>) -> Result<(), NoMemory>
     add(text, b"\n")
 }
 
-// A blank, the name, = and the value of each; the values behind theirs.
+// A blank, the name, = and the value of each.
 #[tactic(auto, using(crate::proofs::Texts::joins))]
-fn add_attributes<'a>(
-    text: &mut Vec<u8>,
-    attributes: &[Attribute],
-    values: &'a [Value],
-) -> Result<&'a [Value], NoMemory>
-    ensures text { OnOk result (text.new.items ≡ text.old.items ++ attributes_text (paired attributes.now values.now)) }
-    ensures behind { IfOk result (λ rest. rest.now ≡ drop (length attributes.now) values.now) }
+fn add_attributes(text: &mut Vec<u8>, attributes: &[Attribute]) -> Result<(), NoMemory>
+    ensures { OnOk result (text.new.items ≡ text.old.items ++ attributes_text (map shown attributes.now)) }
 {
-    let mut left = attributes;
-    let mut rest = values;
-    while let (Some((attribute, fewer)), Some((value, more))) = (
-        left.split_first(),
-        rest.split_first(),
-    ) {
+    let mut rest = attributes;
+    while let Some((attribute, more)) = rest.split_first() {
         add(text, b" ")?;
         add(text, attribute.name.bytes())?;
         add(text, b"=")?;
-        value.put(text)?;
-        left = fewer;
+        attribute.value.put(text)?;
         rest = more;
     }
-    Ok(rest)
+    Ok(())
 }
 
-/// Adds the line of a node at the top of the tree: its number, its kind and its attributes with the first of
-/// these values, one for each in order. The values behind those are handed back.
+// Two blanks for each node among the groups that stand open.
 #[tactic(auto, using(crate::proofs::Texts::joins))]
-pub fn add_node<'a>(
+fn add_margin(text: &mut Vec<u8>, outer: &[bool]) -> Result<(), NoMemory>
+    ensures { OnOk result (text.new.items ≡ text.old.items ++ margin (level outer.now)) }
+{
+    let mut rest = outer;
+    while let Some((is_node, more)) = rest.split_first() {
+        if *is_node {
+            add(text, b"  ")?;
+        }
+        rest = more;
+    }
+    Ok(())
+}
+
+// The line of a node: two blanks for each node that it stands in, its number, its kind and its attributes.
+#[tactic(auto, using(crate::proofs::Texts::joins))]
+fn add_node(
     text: &mut Vec<u8>,
+    outer: &[bool],
     number: u64,
     kind: &Word,
-    attributes: &[Attribute],
-    values: &'a [Value],
-) -> Result<&'a [Value], NoMemory>
-    ensures text { OnOk result (text.new.items ≡ text.old.items ++ node_line 0 number kind.now (paired attributes.now values.now)) }
-    ensures behind { IfOk result (λ rest. rest.now ≡ drop (length attributes.now) values.now) }
+    attributes: &Attributes,
+) -> Result<(), NoMemory>
+    ensures { OnOk result (text.new.items ≡ text.old.items ++ node_line (level outer.now) number kind.now (map shown attributes.now)) }
 {
+    add_margin(text, outer)?;
     add(text, b"#")?;
     add_number(text, number)?;
     add(text, b" ")?;
     add(text, kind.bytes())?;
-    let rest = add_attributes(text, attributes, values)?;
-    add(text, b"\n")?;
-    Ok(rest)
+    add_attributes(text, attributes.items())?;
+    add(text, b"\n")
+}
+
+/// Which of the groups that stand open at a place of a composition are nodes; it tells how far in a node's line
+/// stands. This project's own rule.
+#[derive(Drop)]
+pub struct OpenGroups {
+    nodes: Vec<bool>,
+}
+
+impl Model for OpenGroups {
+    ghost use Rattle.std.specs.Prelude.{List, Bool};
+
+    ghost Value = { List Bool };
+
+    ghost view = { λ groups. groups.nodes.items };
+}
+
+impl OpenGroups {
+    /// Before the first group none stands open.
+    pub fn new(alloc: Global) -> Self
+        ensures { result ≡ [] }
+    {
+        OpenGroups {
+            nodes: Vec::new(alloc),
+        }
+    }
+
+    /// Adds the line of the next group in preorder, where it is a node; the group then stands open. Where memory runs
+    /// out part of the line may have been added.
+    pub fn add_group(&mut self, text: &mut Vec<u8>, group: &Group) -> Result<(), NoMemory>
+        ensures text { OnOk result (text.new.items ≡ text.old.items ++ group_line self.old group.now) }
+        ensures opened { OnOk result (self.new ≡ opened self.old group.now) }
+    {
+        self.nodes.truncate(group.depth as usize);
+        match &group.what {
+            What::Node { kind, attributes } => {
+                add_node(text, &self.nodes, group.number, kind, attributes)?;
+                self.nodes.push(true)?;
+                Ok(())
+            }
+            What::Call { .. } => self.open(),
+            What::Key(_) => self.open(),
+            What::Cell { .. } => self.open(),
+        }
+    }
+
+    // One group more stands open, which is no node.
+    fn open(&mut self) -> Result<(), NoMemory>
+        ensures { OnOk result (self.new ≡ self.old ++ false ∷ []) }
+    {
+        self.nodes.push(false)?;
+        Ok(())
+    }
 }

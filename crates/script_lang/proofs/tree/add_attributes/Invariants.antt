@@ -1,13 +1,10 @@
-use Rattle.std.proofs.Common.{◌≡◌, ◌++◌, length, drop}
+use Rattle.std.proofs.Common.{◌≡◌, ◌++◌, length, map}
 use Rattle.script_lang.specs.Lines.{attributes_text}
-use Rattle.script_lang.specs.Paired.{paired}
+use Rattle.script_lang.specs.Listing.{shown}
 use Rattle.script_lang.proofs.tree.add_attributes.Given as goal
 
 abbrev pub invariant-loop-attribute : goal.invariant-loop-attribute
-invariant-loop-attribute l = record {
-  text : l.text.items ++ attributes_text (paired l.left l.rest) ≡ l.fn.text.items ++ attributes_text (paired l.attributes l.values);
-  behind : drop (length l.left) l.rest ≡ drop (length l.attributes) l.values;
-}
+invariant-loop-attribute l = l.text.items ++ attributes_text (map shown l.rest) ≡ l.fn.text.items ++ attributes_text (map shown l.attributes)
 
 abbrev pub decreases-loop-attribute : goal.decreases-loop-attribute
 decreases-loop-attribute l = length l.rest
