@@ -3,7 +3,7 @@ use Rattle.std.proofs.Common.{◌≡◌, ℕ, ◌==◌, List, [], ◌∷◌, ◌
 use Rattle.std.specs.List.{filter}
 use Rattle.std.proofs.lemmas.Grind.{flat_map-append}
 use Rattle.std.proofs.lemmas.Bool.Decides.{eqb_tells}
-use Rattle.lang_ast.specs.declared.program.Stmt.{Stmt}
+use Rattle.lang_ast.specs.Terms.{Func}
 use Rattle.lang_ast.specs.Frame.{frame}
 use Rattle.snap_policy.specs.Table.{table}
 use Rattle.snap_api.specs.declared.data.Reply.{Reply}
@@ -19,43 +19,43 @@ use Rattle.play_core.specs.Turns.{Between, Turn, standing, frame_turn, done, tol
 use Rattle.play_core.specs.Standing.{flat}
 
 -- the lines of the first step, then those of the others
-pub turns-next : (t : Titles) (root : List Stmt) (b : Between) (s : Step) (more all : List Step) → all ≡ s ∷ more →
-    flat (turns t root b all) ≡ flat (turn t root b s).lines ++ flat (turns t root (turn t root b s).left more)
-turns-next t root b s more all e = ap (λ l. flat (turns t root b l)) e ∙ flat_map-append (λ l. l) (turn t root b s).lines (turns t root (turn t root b s).left more)
+pub turns-next : (t : Titles) (functions : List Func) (b : Between) (s : Step) (more all : List Step) → all ≡ s ∷ more →
+    flat (turns t functions b all) ≡ flat (turn t functions b s).lines ++ flat (turns t functions (turn t functions b s).left more)
+turns-next t functions b s more all e = ap (λ l. flat (turns t functions b l)) e ∙ flat_map-append (λ l. l) (turn t functions b s).lines (turns t functions (turn t functions b s).left more)
 
-module _ (t : Titles) (root : List Stmt) where
-  lines-append : (s : Standing) (xs ys : History) → lines t root s (xs ++ ys) ≡ lines t root s xs ++ lines t root (standing_after root s xs) ys
+module _ (t : Titles) (functions : List Func) where
+  lines-append : (s : Standing) (xs ys : History) → lines t functions s (xs ++ ys) ≡ lines t functions s xs ++ lines t functions (standing_after functions s xs) ys
   lines-append s [] ys = refl
-  lines-append s (x ∷ xs) ys = ap (λ l. lines_at t root s x ++ l) (lines-append (next root s x) xs ys) ∙ sym (append_assoc (lines_at t root s x) _ _)
+  lines-append s (x ∷ xs) ys = ap (λ l. lines_at t functions s x ++ l) (lines-append (next functions s x) xs ys) ∙ sym (append_assoc (lines_at t functions s x) _ _)
 
-  next-world : (s : Standing) (e : Logged) → (next root s e).world ≡ (call table s.world e.caller e.request).0
+  next-world : (s : Standing) (e : Logged) → (next functions s e).world ≡ (call table s.world e.caller e.request).0
   next-world s e = by (ends_frame s.frames e.request)
     where
-      by : (b : Bool) → (cond {A = Standing} b (record { world = (call table s.world e.caller e.request).0; kept = kept_after s.kept (frame_at root s e); frames = filter (λ n. not (n == name_in e.request)) s.frames })
+      by : (b : Bool) → (cond {A = Standing} b (record { world = (call table s.world e.caller e.request).0; kept = kept_after s.kept (frame_at functions s e); frames = filter (λ n. not (n == name_in e.request)) s.frames })
           (record { world = (call table s.world e.caller e.request).0; kept = s.kept; frames = s.frames ++ frame_taken e.request e.reply })).world ≡ (call table s.world e.caller e.request).0
       by true = refl
       by false = refl
 
-  world-after : (s : Standing) (es : History) → (standing_after root s es).world ≡ world_after table s.world es
+  world-after : (s : Standing) (es : History) → (standing_after functions s es).world ≡ world_after table s.world es
   world-after s [] = refl
-  world-after s (e ∷ es) = world-after (next root s e) es ∙ ap (λ w. world_after table w es) (next-world s e)
+  world-after s (e ∷ es) = world-after (next functions s e) es ∙ ap (λ w. world_after table w es) (next-world s e)
 
   itself : (n : ℕ) → (n == n) ≡ true
   itself n = elim (eqb_tells n n) [ inl e ↦ e.0 | inr e ↦ absurd (e.1 refl) ]
 
   -- one step
   record Made (b : Between) (es : History) (turned : Turn) : Type 0 where
-    pub lines_are : lines t root (standing b) es ≡ turned.lines
-    pub left_is : standing_after root (standing b) es ≡ standing turned.left
+    pub lines_are : lines t functions (standing b) es ≡ turned.lines
+    pub left_is : standing_after functions (standing b) es ≡ standing turned.left
 
   made-frame : (b : Between) (r : Reply) →
-      Made b (told (request.TakeFor watcher_number) r ∷ closing (done b.world (request.TakeFor watcher_number)).0 r) (frame_turn t root b.kept (done b.world (request.TakeFor watcher_number)).0 r)
+      Made b (told (request.TakeFor watcher_number) r ∷ closing (done b.world (request.TakeFor watcher_number)).0 r) (frame_turn t functions b.kept (done b.world (request.TakeFor watcher_number)).0 r)
   made-frame b (reply.TakenFor n changed) =
       let w = (done b.world (request.TakeFor watcher_number)).0 in
       let taken = entry_line t (told (request.TakeFor watcher_number) (reply.TakenFor n changed)) in
       let closed = entry_line t (told (request.Dispose n) (done w (request.Dispose n)).1) in
       record {
-        lines_are = rw (itself n) (ap (λ l. taken ∷ (closed ∷ l)) (append-nil (frame_lines (frame root b.kept (shot_of w n).view))));
+        lines_are = rw (itself n) (ap (λ l. taken ∷ (closed ∷ l)) (append-nil (frame_lines (frame functions b.kept (shot_of w n).view))));
         left_is = rw (itself n) refl;
       }
   made-frame b (reply.Taken n) = record { lines_are = refl; left_is = refl }
@@ -65,19 +65,19 @@ module _ (t : Titles) (root : List Stmt) where
   made-frame b reply.Disposed = record { lines_are = refl; left_is = refl }
   made-frame b (reply.Refused r) = record { lines_are = refl; left_is = refl }
 
-  made : (b : Between) (s : Step) → Made b (calls_of b.world s) (turn t root b s)
+  made : (b : Between) (s : Step) → Made b (calls_of b.world s) (turn t functions b s)
   made b (Write x v) = record { lines_are = refl; left_is = refl }
   made b Frame = made-frame b (done b.world (request.TakeFor watcher_number)).1
 
-  pub lines-turns : (b : Between) (ss : List Step) → lines t root (standing b) (sequential b.world ss) ≡ turns t root b ss
+  pub lines-turns : (b : Between) (ss : List Step) → lines t functions (standing b) (sequential b.world ss) ≡ turns t functions b ss
   lines-turns b [] = refl
   lines-turns b (s ∷ more) =
       let m = made b s in
       let here = calls_of b.world s in
       let after = world_after table b.world here in
-      let world : after ≡ (turn t root b s).left.world = sym (world-after (standing b) here) ∙ ap (λ (p : Standing). p.world) m.left_is in
+      let world : after ≡ (turn t functions b s).left.world = sym (world-after (standing b) here) ∙ ap (λ (p : Standing). p.world) m.left_is in
       lines-append (standing b) here (sequential after more)
-      ∙ ap (λ l. l ++ lines t root (standing_after root (standing b) here) (sequential after more)) m.lines_are
-      ∙ ap (λ p. (turn t root b s).lines ++ lines t root p (sequential after more)) m.left_is
-      ∙ ap (λ w. (turn t root b s).lines ++ lines t root (standing (turn t root b s).left) (sequential w more)) world
-      ∙ ap (λ l. (turn t root b s).lines ++ l) (lines-turns (turn t root b s).left more)
+      ∙ ap (λ l. l ++ lines t functions (standing_after functions (standing b) here) (sequential after more)) m.lines_are
+      ∙ ap (λ p. (turn t functions b s).lines ++ lines t functions p (sequential after more)) m.left_is
+      ∙ ap (λ w. (turn t functions b s).lines ++ lines t functions (standing (turn t functions b s).left) (sequential w more)) world
+      ∙ ap (λ l. (turn t functions b s).lines ++ l) (lines-turns (turn t functions b s).left more)

@@ -1,12 +1,8 @@
 pub mod Members
 pub mod Written
-pub mod Listed
-pub mod Forests
-pub mod Trees
+pub mod Owings
+pub mod Reports
 pub mod Frames
 pub mod Takings
 pub mod Laws
 pub mod Openings
-pub mod Uniques
-pub mod Refusals
-pub mod Plays

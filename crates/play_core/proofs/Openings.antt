@@ -4,7 +4,6 @@ use Rattle.std.specs.Prelude.{slice_index_or}
 use Rattle.std.specs.declared.result.Result.{Result}
 use Rattle.rt_values.specs.Frames.{unseen}
 use Rattle.lang_ast.specs.declared.program.State.{State}
-use Rattle.lang_ast.specs.declared.program.Stmt.{Stmt}
 use Rattle.snap_policy.specs.declared.policy.BuiltIn.{BuiltIn}
 use Rattle.snap_policy.specs.declared.policy.BuiltIn.TheVariants.{Structural}
 use Rattle.rt_values.specs.Values.{type_of, same_type}
@@ -18,9 +17,10 @@ use Rattle.snap_api.specs.declared.data.Refusal.TheVariants as refusal
 use Rattle.snap_api.proofs.ValidMade.{valid_start, valid_made, makeable}
 use Rattle.snap_api.proofs.ValidMoves.{valid_watched}
 use Rattle.script_lang.specs.Steps.{with_states, opening, watcher_number}
-use Rattle.play_core.specs.Reads.{stmts_reads}
+use Rattle.recompose_scratch.specs.Keeping.{Keeps}
+use Rattle.play_core.specs.declared.frame.Kept.{Kept}
 use Rattle.play_core.specs.Turns.{at_first}
-use Rattle.play_core.specs.Standing.{Stands, IsNumbered}
+use Rattle.play_core.specs.Standing.{Stands}
 
 -- making states makes no watcher
 pub lasts-states : (w : World BuiltIn) (ss : List State) → (with_states w ss).lasts ≡ w.lasts
@@ -45,19 +45,11 @@ valid-states w (s ∷ more) h = valid-states (made w (type_of s.initial) Structu
 last-opening : (ss : List State) → last_of (opening ss) watcher_number ≡ None
 last-opening ss = ap (λ ls. slice_index_or (ls ++ None ∷ []) watcher_number None) (lasts-states (start 0) ss)
 
-pub first-stands : {V : Type 0} {stands : V → World BuiltIn → Type 0} {world : V} {root : List Stmt} (states states_now : List State) (started : Bool) (ns read : List ℕ) →
-    states_now ≡ states → stands world (opening states_now) → started ≡ false → ns ≡ [] → read ≡ with_members (stmts_reads root) [] → Stands stands world root started ns read (at_first states)
-first-stands {stands = stands} {world = world} {root = root} states states_now started ns read same stood fresh none reads = record {
+pub first-stands : {V : Type 0} {stands : V → World BuiltIn → Type 0} {world : V} (kept : Kept) (states states_now : List State) →
+    states_now ≡ states → stands world (opening states_now) → Keeps kept.composition unseen → Stands stands world kept (at_first states)
+first-stands {stands = stands} {world = world} kept states states_now same stood keeps = record {
   world_stands = subst (λ ss. stands world (opening ss)) same stood;
   valid = valid_watched (valid-states (start 0) states (valid_start table 0 (omega arith)));
-  last = λ small. last-opening states;
-  kept = record {
-    next_is = ap (λ (l : List ℕ). length l + 1) (sym none);
-    trail_is = subst (λ b. IsNumbered root b ns unseen) (sym fresh) (refl, ap (λ (l : List ℕ). length l) none);
-  };
-  read_is = reads;
+  keeps = keeps;
+  owes = refl;
 }
-
-pub all_ok : {T E : Type 0} {P Q R S : T → Type 0} (r : Result T E) → ((x : T) → P x → Q x → R x → S x) → IfOk r P → IfOk r Q → IfOk r R → IfOk r S
-all_ok (Ok x) f p q s = f x p q s
-all_ok (Err e) f p q s = tt

@@ -3,10 +3,11 @@ use Rattle.std.proofs.Common.{◌≡◌, ℕ, List, [], ◌∷◌, ◌++◌, Boo
 use Rattle.std.specs.Prelude.{slice_get, slice_index_or}
 use Rattle.std.specs.declared.result.Result.{Result}
 use Rattle.rt_values.specs.declared.value.Value.{Value}
-use Rattle.rt_values.specs.Maps.{Map, differ, value_at}
+use Rattle.rt_values.specs.Maps.{Map, value_at}
 use Rattle.rt_values.specs.Values.{type_of, same_type}
 use Rattle.rt_values.specs.Frames.{Composed}
-use Rattle.lang_ast.specs.declared.program.Stmt.{Stmt}
+use Rattle.lang_ast.specs.Terms.{Func}
+use Rattle.recompose_scratch.specs.Keeping.{Keeps}
 use Rattle.lang_ast.specs.Frame.{frame}
 use Rattle.snap_policy.specs.declared.policy.BuiltIn.{BuiltIn}
 use Rattle.snap_policy.specs.Table.{table, table_merge_keeps_type}
@@ -19,27 +20,29 @@ use Rattle.snap_api.specs.declared.data.Reply.TheVariants as reply
 use Rattle.snap_api.specs.declared.data.Request.TheVariants as request
 use Rattle.snap_api.specs.declared.data.Shot.{Shot}
 use Rattle.snap_api.specs.Eyes.{Eyes}
-use Rattle.snap_api.specs.World.{World, shot_of, last_of, unless, is_spent, is_closed, is_foreign, is_mutable, write_to, written}
+use Rattle.snap_api.specs.World.{World, shot_of, last_of, unless, is_spent, is_closed, is_foreign, is_mutable, write_to, written, with_members}
 use Rattle.snap_api.proofs.Takes.{TookFor, call-TakeFor, took_own, took_eyes, call-Dispose}
 use Rattle.snap_api.proofs.ValidCalls.{valid_call}
 use Rattle.script_lang.specs.Lines.{Titles, entry_line, frame_lines, kept_after}
 use Rattle.script_lang.specs.Steps.{actor_number, watcher_number}
 use Rattle.play_core.specs.Turns.{Between, behind_take, done, told}
-use Rattle.play_core.specs.Standing.{Stands, Took, InFrame, IsKept, Says, flat}
-use Rattle.play_core.proofs.Frames.{seen-small}
+use Rattle.play_core.specs.Owing.{Owes}
+use Rattle.play_core.specs.Standing.{Stands, Took, InFrame, Says, flat}
+use Rattle.play_core.specs.declared.frame.Kept.{Kept}
+use Rattle.play_core.proofs.Owings.{owes-more}
 
 abbrev behind_of : Between → World BuiltIn
 behind_of b = (done b.world (request.TakeFor watcher_number)).0
 
-module _ {V : Type 0} {stands : V → World BuiltIn → Type 0} {world : V} {root : List Stmt} {started : Bool} {ns read : List ℕ} {b : Between} {name : ℕ} {changed : List ℕ} where
-  took-for : Took stands world root started ns read b (reply.TakenFor name changed) → TookFor b.world (behind_of b) actor_number watcher_number name changed
+module _ {V : Type 0} {stands : V → World BuiltIn → Type 0} {world : V} {kept : Kept} {b : Between} {name : ℕ} {changed : List ℕ} where
+  took-for : Took stands world kept b (reply.TakenFor name changed) → TookFor b.world (behind_of b) actor_number watcher_number name changed
   took-for h = call-TakeFor table b.world actor_number watcher_number name changed h.answered
 
   -- its view is what was global
-  view-is : Took stands world root started ns read b (reply.TakenFor name changed) → (shot_of (behind_of b) name).view ≡ (shot_of b.world 0).view
+  view-is : Took stands world kept b (reply.TakenFor name changed) → (shot_of (behind_of b) name).view ≡ (shot_of b.world 0).view
   view-is h = ap (λ (s : Shot). s.view) (took-for h).shot
 
-  pub in-frame : Took stands world root started ns read b (reply.TakenFor name changed) → InFrame stands world root started ns read b.kept (behind_of b) name changed
+  pub in-frame : Took stands world kept b (reply.TakenFor name changed) → InFrame stands world kept b.kept (behind_of b) name changed
   in-frame h =
       let t = took-for h in
       record {
@@ -47,25 +50,29 @@ module _ {V : Type 0} {stands : V → World BuiltIn → Type 0} {world : V} {roo
         valid = valid_call h.valid table_merge_keeps_type actor_number (request.TakeFor watcher_number);
         own = took_own t h.valid.shaped;
         eyes = subst (Eyes table (stands world) actor_number (Some name)) (sym (view-is h)) (took_eyes t table (stands world) h.valid.shaped (valid_call h.valid table_merge_keeps_type actor_number (request.TakeFor watcher_number)) h.world_stands);
-        listed = λ small. t.listed ∙ ap (λ o. differ o (shot_of b.world 0).view) (h.last small) ∙ ap (differ b.kept.seen) (sym (view-is h));
         last = t.last ∙ ap Some (sym (view-is h));
-        kept = h.kept;
-        read_is = h.read_is;
+        keeps = h.keeps;
+        owes = subst (λ m. Owes b.kept.seen b.kept.trail (Some m) (with_members changed kept.owed)) (sym (view-is h))
+            (owes-more b.kept.seen b.kept.trail (last_of b.world watcher_number) (shot_of b.world 0).view kept.owed changed h.owes (h.valid.seen watcher_number) t.listed);
       }
 
-  -- behind the frame: its snapshot is disposed
-  pub after-frame : {W : Type 0} {stands' : W → World BuiltIn → Type 0} {world' : W} {started' : Bool} {ns' read' : List ℕ} → (t : Titles) → Took stands world root started ns read b (reply.TakenFor name changed) →
-      IsKept root started' ns' (kept_after b.kept (frame root b.kept (shot_of (behind_of b) name).view)) → stands' world' (done (behind_of b) (request.Dispose name)).0 → read' ≡ read →
-      Stands stands' world' root started' ns' read' (behind_take t root b.kept (behind_of b) (reply.TakenFor name changed)).left
-  after-frame t h kept stood same =
-      let f = in-frame h in
-      record {
-        world_stands = stood;
-        valid = valid_call f.valid table_merge_keeps_type actor_number (request.Dispose name);
-        last = λ small. ap (λ (p : World BuiltIn × Reply). last_of p.0 watcher_number) (call-Dispose table (behind_of b) actor_number name f.own) ∙ f.last ∙ sym (seen-small root b.kept (shot_of (behind_of b) name).view small);
-        kept = kept;
-        read_is = same ∙ h.read_is;
-      }
+-- behind the frame: its snapshot is disposed
+pub after-frame : {V W : Type 0} {stands : V → World BuiltIn → Type 0} {world : V} {kept : Kept} {b : Between} {name : ℕ} {changed : List ℕ} {stands' : W → World BuiltIn → Type 0} {world' : W} {left : Kept} →
+    (t : Titles) (functions : List Func) → Took stands world kept b (reply.TakenFor name changed) →
+    Keeps left.composition (kept_after b.kept (frame functions b.kept (shot_of (behind_of b) name).view)) →
+    (let after = kept_after b.kept (frame functions b.kept (shot_of (behind_of b) name).view) in Owes after.seen after.trail (Some (shot_of (behind_of b) name).view) left.owed) →
+    stands' world' (done (behind_of b) (request.Dispose name)).0 →
+    Stands stands' world' left (behind_take t functions b.kept (behind_of b) (reply.TakenFor name changed)).left
+after-frame {b = b} {name = name} {left = left} t functions h keeps owes stood =
+    let f = in-frame h in
+    let after = kept_after b.kept (frame functions b.kept (shot_of (behind_of b) name).view) in
+    let last = ap (λ (p : World BuiltIn × Reply). last_of p.0 watcher_number) (call-Dispose table (behind_of b) actor_number name f.own) ∙ f.last in
+    record {
+      world_stands = stood;
+      valid = valid_call f.valid table_merge_keeps_type actor_number (request.Dispose name);
+      keeps = keeps;
+      owes = subst (λ o. Owes after.seen after.trail o left.owed) (sym last) owes;
+    }
 
 -- a write leaves the watchers' last maps
 
@@ -89,37 +96,36 @@ lasts-write w name x v =
     lasts-unless w ((is_spent w, refusal.Spent) ∷ (is_closed w name, refusal.Closed name) ∷ (is_foreign w actor_number name, refusal.NotYours (shot_of w name).owner) ∷ []) _
     (lasts-write_to w name x v (slice_get w.objects x))
 
-pub after-write : {V : Type 0} {stands : V → World BuiltIn → Type 0} {world world' : V} {root : List Stmt} {started : Bool} {ns read : List ℕ} (b : Between) (x : ℕ) (v : Value) →
-    Stands stands world root started ns read b → stands world' (done b.world (request.Write 0 x v)).0 →
-    Stands stands world' root started ns read (record { world = (done b.world (request.Write 0 x v)).0; kept = b.kept })
-after-write b x v h stood = record {
+pub after-write : {V : Type 0} {stands : V → World BuiltIn → Type 0} {world world' : V} {kept : Kept} (b : Between) (x : ℕ) (v : Value) →
+    Stands stands world kept b → stands world' (done b.world (request.Write 0 x v)).0 →
+    Stands stands world' kept (record { world = (done b.world (request.Write 0 x v)).0; kept = b.kept })
+after-write {kept = kept} b x v h stood = record {
   world_stands = stood;
   valid = valid_call h.valid table_merge_keeps_type actor_number (request.Write 0 x v);
-  last = λ small. ap (λ (ls : List (Option Map)). slice_index_or ls watcher_number None) (lasts-write b.world 0 x v) ∙ h.last small;
-  kept = h.kept;
-  read_is = h.read_is;
+  keeps = h.keeps;
+  owes = subst (λ o. Owes b.kept.seen b.kept.trail o kept.owed) (sym (ap (λ (ls : List (Option Map)). slice_index_or ls watcher_number None) (lasts-write b.world 0 x v))) h.owes;
 }
 
 -- the lines behind a take that was answered with a snapshot
-pub taken-says : {T E : Type 0} (r : Result T E) (a z : Option (List ℕ)) (t : Titles) (root : List Stmt) (k : Composed) (w : World BuiltIn) (answer : Reply) (name : ℕ) (changed : List ℕ) →
+pub taken-says : {T E : Type 0} (r : Result T E) (a z : Option (List ℕ)) (t : Titles) (functions : List Func) (k : Composed) (w : World BuiltIn) (answer : Reply) (name : ℕ) (changed : List ℕ) →
     answer ≡ reply.TakenFor name changed →
-    Says a z (entry_line t (told (request.Dispose name) (done w (request.Dispose name)).1) ++ flat (frame_lines (frame root k (shot_of w name).view))) r →
-    Says a z (flat (behind_take t root k w answer).lines) r
-taken-says r a z t root k w answer name changed e says = subst (λ reply. Says a z (flat (behind_take t root k w reply).lines) r) (sym e) says
+    Says a z (entry_line t (told (request.Dispose name) (done w (request.Dispose name)).1) ++ flat (frame_lines (frame functions k (shot_of w name).view))) r →
+    Says a z (flat (behind_take t functions k w answer).lines) r
+taken-says r a z t functions k w answer name changed e says = subst (λ reply. Says a z (flat (behind_take t functions k w reply).lines) r) (sym e) says
 
 -- one line
 pub one-line : {T E : Type 0} (r : Result T E) (a z : Option (List ℕ)) (l : List ℕ) → Says a z l r → Says a z (flat (l ∷ [])) r
 one-line r a z l says = subst (λ bytes. Says a z bytes r) (sym (append-nil l)) says
 
 -- a take was answered
-pub took : {V : Type 0} {stands : V → World BuiltIn → Type 0} {world world' : V} {root : List Stmt} {started : Bool} {ns read : List ℕ} (b : Between) (e : Logged) →
-    Stands stands world root started ns read b → stands world' (behind_of b) → e ≡ told (request.TakeFor watcher_number) (done b.world (request.TakeFor watcher_number)).1 →
-    Took stands world' root started ns read b e.reply
-took b e h stood is = record { world_stands = stood; answered = ap (λ (l : Logged). l.reply) is; valid = h.valid; last = h.last; kept = h.kept; read_is = h.read_is }
+pub took : {V : Type 0} {stands : V → World BuiltIn → Type 0} {world world' : V} {kept : Kept} (b : Between) (e : Logged) →
+    Stands stands world kept b → stands world' (behind_of b) → e ≡ told (request.TakeFor watcher_number) (done b.world (request.TakeFor watcher_number)).1 →
+    Took stands world' kept b e.reply
+took b e h stood is = record { world_stands = stood; answered = ap (λ (l : Logged). l.reply) is; valid = h.valid; keeps = h.keeps; owes = h.owes }
 
 -- what is said behind the answer that was given is what is said behind the plain world's
-pub took-after : {T E : Type 0} (r : Result T E) (a z : Option (List ℕ)) (t : Titles) (root : List Stmt) (b : Between) (e : Logged) (first : List ℕ) →
+pub took-after : {T E : Type 0} (r : Result T E) (a z : Option (List ℕ)) (t : Titles) (functions : List Func) (b : Between) (e : Logged) (first : List ℕ) →
     e ≡ told (request.TakeFor watcher_number) (done b.world (request.TakeFor watcher_number)).1 →
-    Says a z (first ++ flat (behind_take t root b.kept (behind_of b) e.reply).lines) r →
-    Says a z (first ++ flat (behind_take t root b.kept (behind_of b) (done b.world (request.TakeFor watcher_number)).1).lines) r
-took-after r a z t root b e first is says = subst (λ (l : Logged). Says a z (first ++ flat (behind_take t root b.kept (behind_of b) l.reply).lines) r) is says
+    Says a z (first ++ flat (behind_take t functions b.kept (behind_of b) e.reply).lines) r →
+    Says a z (first ++ flat (behind_take t functions b.kept (behind_of b) (done b.world (request.TakeFor watcher_number)).1).lines) r
+took-after r a z t functions b e first is says = subst (λ (l : Logged). Says a z (first ++ flat (behind_take t functions b.kept (behind_of b) l.reply).lines) r) is says

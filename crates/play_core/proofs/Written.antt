@@ -1,10 +1,12 @@
 -- What was written, piece by piece.
-use Rattle.std.proofs.Common.{◌≡◌, ℕ, List, ◌++◌, ◌∙◌, subst, append_assoc, Option, Ok, Err, OnOk}
+use Rattle.std.proofs.Common.{◌≡◌, ℕ, List, ◌∷◌, Bool, ◌++◌, ◌∙◌, ap, subst, append_assoc, Option, Ok, Err, OnOk}
 use Rattle.std.specs.declared.result.Result.{Result}
 use Rattle.std.specs.Io.KnownBytes.{Appends}
 use Rattle.std.proofs.KnownBytes.{Appends-trans}
 use Rattle.rt_streams.specs.Streams.{AppendsPart}
 use Rattle.rt_streams.proofs.Parts.{part-behind, part-front}
+use Rattle.rt_values.specs.declared.groups.Group.{Group}
+use Rattle.script_lang.specs.Listing.{listed, group_line, opened}
 use Rattle.play_core.specs.Standing.{Says}
 
 -- some bytes were written, then a part of the next piece
@@ -40,7 +42,11 @@ appends_same a b xs ys e h = subst (Appends a b) e h
 pub says_same : {T E : Type 0} (r : Result T E) (a b : Option (List ℕ)) (xs ys : List ℕ) → xs ≡ ys → Says a b xs r → Says a b ys r
 says_same r a b xs ys e h = subst (λ l. Says a b l r) e h
 
--- what follows from two facts after Ok
-pub both_ok : {T E P Q R : Type 0} (r : Result T E) → (P → Q → R) → OnOk r P → OnOk r Q → OnOk r R
-both_ok (Ok x) f p q = f p q
-both_ok (Err e) f p q = tt
+-- what follows from three facts after Ok
+pub three_ok : {T E P Q R S : Type 0} (r : Result T E) → (P → Q → R → S) → OnOk r P → OnOk r Q → OnOk r R → OnOk r S
+three_ok (Ok x) f p q s = f p q s
+three_ok (Err e) f p q s = tt
+
+-- the line of the first group, then those of the others
+pub listed-next : (before : List Bool) (g : Group) (more all : List Group) → all ≡ g ∷ more → listed before all ≡ group_line before g ++ listed (opened before g) more
+listed-next before g more all e = ap (listed before) e

@@ -8,7 +8,7 @@ ghost use Rattle.script_lang.specs.Steps.{opening, with_states};
 ghost use Rattle.play_core.specs.Turns.{at_first};
 ghost use Rattle.play_core.specs.Standing.{Stands};
 
-use crate::frame::Composition;
+use crate::frame::Kept;
 use lang_ast::State;
 use lang_checks::Checked;
 use rt_values::NoMemory;
@@ -78,11 +78,11 @@ pub fn begin<V: Versions<P = BuiltIn>>(
     alloc: Global,
     program: &Checked,
     world: &mut V,
-) -> Result<Composition, NoMemory>
+) -> Result<Kept, NoMemory>
     requires start { V.stands world.old (start 0) }
     requires few { length program.now.states.items ≤ 256 }
-    ensures { IfOk result (λ c. Stands V.stands world.new program.now.root.items c.started c.numbers.items c.reads (at_first program.now.states.items)) }
+    ensures { IfOk result (λ kept. Stands V.stands world.new kept (at_first program.now.states.items)) }
 {
     open_world(alloc, program.states(), world)?;
-    Composition::new(alloc, program.root())
+    Ok(Kept::new(alloc))
 }

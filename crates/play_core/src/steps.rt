@@ -3,13 +3,14 @@ ghost use Rattle.std.specs.Prelude.{◌≡◌, ◌≤◌, List, ℕ, Bool, Err, 
 ghost use Rattle.rt_streams.specs.Streams.{Rose};
 ghost use Rattle.snap_policy.specs.declared.policy.BuiltIn.{BuiltIn as built_in};
 ghost use Rattle.snap_api.specs.declared.data.Request.TheVariants as request;
+ghost use Rattle.lang_ast.specs.SyntaxView.{functions_view};
 ghost use Rattle.script_lang.specs.Steps.{watcher_number};
 ghost use Rattle.script_lang.specs.declared.script.Step.TheVariants.{Write, Frame};
 ghost use Rattle.play_core.specs.Turns.{Between, turn, turns, behind_take, done};
 ghost use Rattle.play_core.specs.Standing.{Stands, Took, Says, flat};
 
 use crate::entries::{take_entry, write_entry};
-use crate::frame::{Composition, Room, run_taken};
+use crate::frame::{Kept, Room, run_taken};
 use crate::say::{Stop, say_entry};
 use lang_checks::Checked;
 use rt_streams::Sink;
@@ -25,15 +26,15 @@ fn after_take<V: Versions<P = BuiltIn>, K: Sink>(
     program: &Checked,
     script: &Script,
     world: &mut V,
-    composition: &mut Composition,
+    kept: &mut Kept,
     answer: &Reply,
     room: &mut Room,
     sink: &mut K,
 ) -> Result<(), Stop>
-    ensures says { (b : Between) → Took V.stands world.old program.now.root.items composition.old.started composition.old.numbers.items composition.old.reads b answer.now →
-        Says (K.written sink.old) (K.written sink.new) (flat (behind_take (record { states = program.now.states.items; actor = script.now.actor }) program.now.root.items b.kept (done b.world (request.TakeFor watcher_number)).0 answer.now).lines) result }
-    ensures left { (b : Between) → Took V.stands world.old program.now.root.items composition.old.started composition.old.numbers.items composition.old.reads b answer.now →
-        OnOk result (Stands V.stands world.new program.now.root.items composition.new.started composition.new.numbers.items composition.new.reads (behind_take (record { states = program.now.states.items; actor = script.now.actor }) program.now.root.items b.kept (done b.world (request.TakeFor watcher_number)).0 answer.now).left) }
+    ensures says { (b : Between) → Took V.stands world.old kept.old b answer.now →
+        Says (K.written sink.old) (K.written sink.new) (flat (behind_take (record { states = program.now.states.items; actor = script.now.actor }) (functions_view program.now.functions.items) b.kept (done b.world (request.TakeFor watcher_number)).0 answer.now).lines) result }
+    ensures left { (b : Between) → Took V.stands world.old kept.old b answer.now →
+        OnOk result (Stands V.stands world.new kept.new (behind_take (record { states = program.now.states.items; actor = script.now.actor }) (functions_view program.now.functions.items) b.kept (done b.world (request.TakeFor watcher_number)).0 answer.now).left) }
     ensures fault { result ≡ Err Stop.WriteFault → Rose (K.faults sink.old) (K.faults sink.new) }
     ensures later { K.faults sink.old ≤ K.faults sink.new }
 {
@@ -43,7 +44,7 @@ fn after_take<V: Versions<P = BuiltIn>, K: Sink>(
             program,
             script,
             world,
-            composition,
+            kept,
             *name,
             changed,
             room,
@@ -63,14 +64,14 @@ fn run_frame<V: Versions<P = BuiltIn>, K: Sink>(
     program: &Checked,
     script: &Script,
     world: &mut V,
-    composition: &mut Composition,
+    kept: &mut Kept,
     room: &mut Room,
     sink: &mut K,
 ) -> Result<(), Stop>
-    ensures says { (b : Between) → Stands V.stands world.old program.now.root.items composition.old.started composition.old.numbers.items composition.old.reads b →
-        Says (K.written sink.old) (K.written sink.new) (flat (turn (record { states = program.now.states.items; actor = script.now.actor }) program.now.root.items b Frame).lines) result }
-    ensures left { (b : Between) → Stands V.stands world.old program.now.root.items composition.old.started composition.old.numbers.items composition.old.reads b →
-        OnOk result (Stands V.stands world.new program.now.root.items composition.new.started composition.new.numbers.items composition.new.reads (turn (record { states = program.now.states.items; actor = script.now.actor }) program.now.root.items b Frame).left) }
+    ensures says { (b : Between) → Stands V.stands world.old kept.old b →
+        Says (K.written sink.old) (K.written sink.new) (flat (turn (record { states = program.now.states.items; actor = script.now.actor }) (functions_view program.now.functions.items) b Frame).lines) result }
+    ensures left { (b : Between) → Stands V.stands world.old kept.old b →
+        OnOk result (Stands V.stands world.new kept.new (turn (record { states = program.now.states.items; actor = script.now.actor }) (functions_view program.now.functions.items) b Frame).left) }
     ensures fault { result ≡ Err Stop.WriteFault → Rose (K.faults sink.old) (K.faults sink.new) }
     ensures later { K.faults sink.old ≤ K.faults sink.new }
 {
@@ -83,7 +84,7 @@ fn run_frame<V: Versions<P = BuiltIn>, K: Sink>(
             program,
             script,
             world,
-            composition,
+            kept,
             &taken.reply,
             room,
             sink,
@@ -97,16 +98,16 @@ fn run_write<V: Versions<P = BuiltIn>, K: Sink>(
     program: &Checked,
     script: &Script,
     world: &mut V,
-    composition: &Composition,
+    kept: &Kept,
     object: ObjectNo,
     value: &Value,
     text: &mut Vec<u8>,
     sink: &mut K,
 ) -> Result<(), Stop>
-    ensures says { (b : Between) → Stands V.stands world.old program.now.root.items composition.now.started composition.now.numbers.items composition.now.reads b →
-        Says (K.written sink.old) (K.written sink.new) (flat (turn (record { states = program.now.states.items; actor = script.now.actor }) program.now.root.items b (Write object value.now)).lines) result }
-    ensures left { (b : Between) → Stands V.stands world.old program.now.root.items composition.now.started composition.now.numbers.items composition.now.reads b →
-        OnOk result (Stands V.stands world.new program.now.root.items composition.now.started composition.now.numbers.items composition.now.reads (turn (record { states = program.now.states.items; actor = script.now.actor }) program.now.root.items b (Write object value.now)).left) }
+    ensures says { (b : Between) → Stands V.stands world.old kept.now b →
+        Says (K.written sink.old) (K.written sink.new) (flat (turn (record { states = program.now.states.items; actor = script.now.actor }) (functions_view program.now.functions.items) b (Write object value.now)).lines) result }
+    ensures left { (b : Between) → Stands V.stands world.old kept.now b →
+        OnOk result (Stands V.stands world.new kept.now (turn (record { states = program.now.states.items; actor = script.now.actor }) (functions_view program.now.functions.items) b (Write object value.now)).left) }
     ensures fault { result ≡ Err Stop.WriteFault → Rose (K.faults sink.old) (K.faults sink.new) }
     ensures later { K.faults sink.old ≤ K.faults sink.new }
 {
@@ -121,15 +122,15 @@ fn run_step<V: Versions<P = BuiltIn>, K: Sink>(
     program: &Checked,
     script: &Script,
     world: &mut V,
-    composition: &mut Composition,
+    kept: &mut Kept,
     step: &Step,
     room: &mut Room,
     sink: &mut K,
 ) -> Result<(), Stop>
-    ensures says { (b : Between) → Stands V.stands world.old program.now.root.items composition.old.started composition.old.numbers.items composition.old.reads b →
-        Says (K.written sink.old) (K.written sink.new) (flat (turn (record { states = program.now.states.items; actor = script.now.actor }) program.now.root.items b step.now).lines) result }
-    ensures left { (b : Between) → Stands V.stands world.old program.now.root.items composition.old.started composition.old.numbers.items composition.old.reads b →
-        OnOk result (Stands V.stands world.new program.now.root.items composition.new.started composition.new.numbers.items composition.new.reads (turn (record { states = program.now.states.items; actor = script.now.actor }) program.now.root.items b step.now).left) }
+    ensures says { (b : Between) → Stands V.stands world.old kept.old b →
+        Says (K.written sink.old) (K.written sink.new) (flat (turn (record { states = program.now.states.items; actor = script.now.actor }) (functions_view program.now.functions.items) b step.now).lines) result }
+    ensures left { (b : Between) → Stands V.stands world.old kept.old b →
+        OnOk result (Stands V.stands world.new kept.new (turn (record { states = program.now.states.items; actor = script.now.actor }) (functions_view program.now.functions.items) b step.now).left) }
     ensures fault { result ≡ Err Stop.WriteFault → Rose (K.faults sink.old) (K.faults sink.new) }
     ensures later { K.faults sink.old ≤ K.faults sink.new }
 {
@@ -139,13 +140,13 @@ fn run_step<V: Versions<P = BuiltIn>, K: Sink>(
             program,
             script,
             world,
-            composition,
+            kept,
             *object,
             value,
             &mut room.text,
             sink,
         ),
-        Step::Frame => run_frame(alloc, program, script, world, composition, room, sink),
+        Step::Frame => run_frame(alloc, program, script, world, kept, room, sink),
     }
 }
 
@@ -155,18 +156,18 @@ pub fn run_steps<V: Versions<P = BuiltIn>, K: Sink>(
     program: &Checked,
     script: &Script,
     world: &mut V,
-    composition: &mut Composition,
+    kept: &mut Kept,
     room: &mut Room,
     sink: &mut K,
 ) -> Result<(), Stop>
-    ensures says { (b : Between) → Stands V.stands world.old program.now.root.items composition.old.started composition.old.numbers.items composition.old.reads b →
-        Says (K.written sink.old) (K.written sink.new) (flat (turns (record { states = program.now.states.items; actor = script.now.actor }) program.now.root.items b script.now.steps.items)) result }
+    ensures says { (b : Between) → Stands V.stands world.old kept.old b →
+        Says (K.written sink.old) (K.written sink.new) (flat (turns (record { states = program.now.states.items; actor = script.now.actor }) (functions_view program.now.functions.items) b script.now.steps.items)) result }
     ensures fault { result ≡ Err Stop.WriteFault → Rose (K.faults sink.old) (K.faults sink.new) }
     ensures later { K.faults sink.old ≤ K.faults sink.new }
 {
     let mut rest = script.steps.as_slice();
     while let Some((step, more)) = rest.split_first() {
-        match run_step(alloc, program, script, world, composition, step, room, sink) {
+        match run_step(alloc, program, script, world, kept, step, room, sink) {
             Ok(()) => rest = more,
             Err(stop) => return Err(stop),
         }
