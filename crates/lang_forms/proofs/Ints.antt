@@ -9,11 +9,12 @@ use Rattle.std.proofs.lemmas.Bool.{and_parts, ltb-true, ne_eqb}
 use Rattle.std.proofs.lemmas.Fmt.{decimal_is_IsNumeral}
 use Rattle.std.proofs.lemmas.Option.{cond_some}
 use Rattle.std.proofs.lemmas.Slice.Eq.{bytes_eq-Decides}
+use Rattle.std.proofs.lemmas.Str.{IsUtf8-from_is_utf8}
 use Rattle.std.proofs.lemmas.Str.Parse.{digit_from_value}
 use Rattle.std.specs.Int.Signed.{mag}
 use Rattle.std.proofs.lemmas.Int.{ints}
 use Rattle.lang_forms.specs.Names.{fits}
-use Rattle.lang_forms.specs.Reading.{int_of, when}
+use Rattle.lang_forms.specs.Seen.{int_of, when}
 
 pub fits-true : (z : ℤ) → fits z ≡ true → FitsSigned w64 z
 fits-true (pos n) h = let lt : n < 2 ^ 63 = ltb-true n (2 ^ 63) h in omega (arith, ints)
@@ -69,3 +70,6 @@ decimal-int a z h =
     let c = cond_some _ _ z h in
     let both = and_parts _ _ c.0 in
     (sym ((bytes_eq-Decides _ a).0 both.0) ∙ ap signed_decimal c.1, ap fits (sym c.1) ∙ both.1)
+
+-- what passes the test for UTF-8 is UTF-8
+pub ruleset characters = (IsUtf8-from_is_utf8)

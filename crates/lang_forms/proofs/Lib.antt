@@ -1,4 +1,2 @@
-pub mod Seen
+pub mod Trees
 pub mod Ints
-pub mod FormsAreRead
-pub mod ReadHasForms
