@@ -1,2 +1,5 @@
 pub mod Trees
+pub mod SeenIs
 pub mod Ints
+pub mod FormsAreRead
+pub mod TextIsRead

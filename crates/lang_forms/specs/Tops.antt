@@ -59,3 +59,12 @@ start at = record { header = at; states = []; functions = []; script = []; site 
 unfoldable pub text_of : ℕ → List Seen → Result Front ℕ
 text_of end [] = Err end
 text_of end (s ∷ ss) = if is_header s then tops_of (start (place s)) ss else Err (place s)
+
+-- the program and the script that were read
+abbrev pub sourced : Result Front ℕ → Result Source ℕ
+sourced (Ok p) = Ok (source p)
+sourced (Err at) = Err at
+
+-- The program with its script that a text's trees are, or the place that stops the reading.
+abbrev pub source_of : ℕ → List Seen → Result Source ℕ
+source_of end ss = sourced (text_of end ss)

@@ -13,6 +13,7 @@ mod expressions;
 mod front;
 mod items;
 mod known;
+mod laws;
 mod literals;
 mod program;
 mod rest;
