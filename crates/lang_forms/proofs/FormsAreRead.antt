@@ -1,144 +1,362 @@
 -- What has the forms of something is read as it.
-use Rattle.std.proofs.Common.{◌≡◌, ℕ, List, [], ◌∷◌, length, nat_le, Some, ℤ, true, true≢false, sym, refl, codes, arith}
+use Rattle.std.proofs.Common.{◌≡◌, ℕ, suc, ◌+◌, List, [], ◌∷◌, ◌++◌, length, map, Option, Some, None, Result, Ok, Bool, true, false, true≢false, ℤ, refl, sym, ap, ◌∙◌, subst, codes, nat_le, nat_lt, arith, ◌≤◌, ◌<◌}
 use Rattle.std.specs.Fmt.{signed_decimal}
-use Rattle.std.proofs.lemmas.Bool.{and_parts, eqb-true, leb-true}
-use Rattle.sexp_text.specs.Forest.{Forest, empty}
+use Rattle.std.proofs.lemmas.Bool.{and_parts, leb-true, lt-ltb}
+use Rattle.std.proofs.lemmas.List.{append-nil, append_assoc, length-append, map-append}
+use Rattle.sexp_text.specs.Forest.{Forest, empty, atom, text, list}
+use Rattle.rt_values.specs.declared.value.Ty.{Ty}
+use Rattle.rt_values.specs.declared.value.Ty.TheVariants as ty
 use Rattle.rt_values.specs.declared.value.Value.{Value}
 use Rattle.rt_values.specs.declared.value.Value.TheVariants as value
+use Rattle.rt_values.specs.Values.{truth_text}
+use Rattle.lang_ast.specs.Terms.{Expr, Literal, Variable, Get, Apply, Exprs, none, more, Named, Stmt, Node, Call, Key, If, For, Let, Remember, Stmts, done, next, Func, exprs, stmts}
+use Rattle.lang_ast.specs.declared.syntax.Name.{Name}
+use Rattle.lang_ast.specs.declared.syntax.Operator.{Operator}
+use Rattle.lang_ast.specs.declared.syntax.Operator.TheVariants as operator
+use Rattle.lang_ast.specs.declared.syntax.Parameter.{Parameter}
 use Rattle.lang_ast.specs.declared.program.State.{State}
-use Rattle.lang_ast.specs.declared.program.Attribute.{Attribute}
-use Rattle.lang_ast.specs.declared.program.Expr.{Expr}
-use Rattle.lang_ast.specs.declared.program.Expr.TheVariants.{Literal, Get}
-use Rattle.lang_ast.specs.declared.program.Stmt.{Stmt}
-use Rattle.lang_ast.specs.declared.program.Stmt.TheVariants.{Node}
 use Rattle.lang_forms.specs.declared.rest.StepForm.{StepForm}
 use Rattle.lang_forms.specs.declared.rest.StepForm.TheVariants.{Write, Frame}
 use Rattle.lang_forms.specs.declared.rest.DoForm.{DoForm}
-use Rattle.lang_forms.specs.Names.{is_name, fits}
-use Rattle.lang_forms.specs.Forms.{word, form, literal, expr_form, attributes_forms, stmts_forms, steps_forms, scripts_forms, states_forms, root_form, text_forms, Parts, number_of, literal_fits, states_fit, expr_fits, attributes_fit, stmts_fit, steps_fit, scripts_fit, parts_fit}
-use Rattle.lang_forms.specs.Reading.{word_of, name_of, integer_of, state_of, states_of, get_of, expr_of, attribute_of, attributes_of, stmt_of, stmts_of, write_of, step_of, steps_of, script_of, scripts_of, root_of, header_of, parts_of}
-use Rattle.lang_forms.proofs.Ints.{same_bytes, int-decimal}
+use Rattle.lang_forms.specs.Names.{is_name, fits, all_fit, is_string, is_list_long, number_of, most_forms}
+use Rattle.lang_forms.specs.Words.{type_word, operator_word, takes, type_named, number_operator, truth_operator, list_operator, operator_named}
+use Rattle.lang_forms.specs.Sketch.{Sketch, nothing, Fits, Told}
+use Rattle.lang_forms.specs.Forms.{numbers, literal, expr_forms, exprs_forms, pairs_forms, stmt_forms, stmts_forms, parameters_forms, steps_forms, literal_fits, plain_fits, how_many, Known, Spelled, AllSpelled, SpelledPairs, after, after_all, SpelledStmt, SpelledStmts, SpelledParameters, SpelledSteps}
+use Rattle.lang_forms.specs.Seen.{Seen, seen, form, roles, is_end, word_of, name_of, type_of, operator_of, int_of, truth_of, plain_of, string_of, int_at, ints_of, literal_form, literal_at, literal_of, leaf_of, expr_at, expr_of, exprs_of, get_form, apply_form, expr_form, pair_form, pairs_form, pairs_of, stmt_at, stmts_of, block_of, node_form, call_form, key_form, if_form, for_form, let_form, remember_form, stmt_form, write_form, step_form, step_at, steps_of, parameter_form, parameters_form, parameters_of}
+use Rattle.lang_forms.proofs.Ints.{int-decimal, letters_no_int, decimal_no_name}
 
-word_there : (w : List ℕ) (f : Forest) → word_of w (word w f) ≡ Some f
-unfolding word_of
-word_there w f = rw same_bytes
+-- one tree that is read as something, and the rest
+pub record First {A : Type 0} (f : Forest) (read : Seen → Option A) (a : A) (g : Sketch) : Type 0 where
+  pub tree : Seen
+  pub rest : Forest
+  pub is : seen f ≡ tree ∷ seen rest
+  pub as_read : read tree ≡ Some a
+  pub behind : Fits rest g
 
-name_there : (a : List ℕ) (f : Forest) → is_name a ≡ true → name_of (word a f) ≡ Some (a, f)
+-- a list with these trees inside is the first
+pub one_list : {A : Type 0} (read : Seen → Option A) (at p : ℕ) (f i r : Forest) (a : A) (g : Sketch) → f ≡ list at i r → at ≡ p → read (form p (roles p (seen i))) ≡ Some a → Fits r g → First f read a g
+one_list read at p f i r a g is told h rest =
+    subst (λ (x : Forest). First x read a g) (sym is) (record { tree = form at (roles at (seen i)); rest = r; is = refl; as_read = ap (λ (q : ℕ). read (form q (roles q (seen i)))) told ∙ h; behind = rest })
+
+-- an atom is the first
+one_atom : {A : Type 0} (read : Seen → Option A) (at p : ℕ) (f r : Forest) (w : List ℕ) (a : A) (g : Sketch) → f ≡ atom at w r → at ≡ p → read (Seen.word p w) ≡ Some a → Fits r g → First f read a g
+one_atom read at p f r w a g is told h rest =
+    subst (λ (x : Forest). First x read a g) (sym is) (record { tree = Seen.word at w; rest = r; is = refl; as_read = ap (λ (q : ℕ). read (Seen.word q w)) told ∙ h; behind = rest })
+
+-- a string is the first
+one_string : {A : Type 0} (read : Seen → Option A) (at p : ℕ) (f r : Forest) (s : List ℕ) (a : A) (g : Sketch) → f ≡ text at s r → at ≡ p → read (Seen.chars p s) ≡ Some a → Fits r g → First f read a g
+one_string read at p f r s a g is told h rest =
+    subst (λ (x : Forest). First x read a g) (sym is) (record { tree = Seen.chars at s; rest = r; is = refl; as_read = ap (λ (q : ℕ). read (Seen.chars q s)) told ∙ h; behind = rest })
+
+pub name_there : (n : Name) (r : Forest) → is_name n.text ≡ true → name_of (seen (atom n.at n.text r)) ≡ Some (n, seen r)
 unfolding name_of
-name_there a f h = rw h
+name_there n r h = rw h
 
-integer_there : (z : ℤ) (f : Forest) → fits z ≡ true → integer_of (word (signed_decimal z) f) ≡ Some (z, f)
-unfolding integer_of
-integer_there z f h = rw (int-decimal z h)
+pub type_there : (t : Ty) (a : ℕ) (r : Forest) → type_of (seen (atom a (type_word t) r)) ≡ Some (t, seen r)
+unfolding type_of type_named
+type_there ty.Int a r = refl
+type_there ty.Bool a r = refl
+type_there ty.Text a r = refl
+type_there ty.Ints a r = refl
 
-state_there : (name : List ℕ) (v : Value) → is_name name ≡ true → literal_fits v ≡ true
-    → state_of (word name (word (codes "Int") (word (codes "Structural") (literal v empty)))) ≡ Some (record { name = name; initial = v })
-unfolding state_of word_of
-state_there name (value.Int z) h k = rw (name_there name _ h, integer_there z empty k)
-state_there name (value.Bool b) h k = absurd (true≢false (sym k))
-state_there name (value.Text t) h k = absurd (true≢false (sym k))
-state_there name (value.Ints l) h k = absurd (true≢false (sym k))
+operator_there : (o : Operator) (a : ℕ) (r : Forest) → operator_of (seen (atom a (operator_word o) r)) ≡ Some (o, seen r)
+unfolding operator_of operator_named number_operator truth_operator list_operator
+operator_there operator.Add a r = refl
+operator_there operator.Subtract a r = refl
+operator_there operator.Multiply a r = refl
+operator_there operator.Divide a r = refl
+operator_there operator.Remainder a r = refl
+operator_there operator.Equal a r = refl
+operator_there operator.Less a r = refl
+operator_there operator.Not a r = refl
+operator_there operator.And a r = refl
+operator_there operator.Or a r = refl
+operator_there operator.Pick a r = refl
+operator_there operator.Join a r = refl
+operator_there operator.Text a r = refl
+operator_there operator.Ints a r = refl
+operator_there operator.Range a r = refl
+operator_there operator.Push a r = refl
+operator_there operator.Concat a r = refl
+operator_there operator.Length a r = refl
+operator_there operator.At a r = refl
 
-states_there : (ss : List State) (f : Forest) → states_fit ss ≡ true → states_of f ≡ Some ([], f) → states_of (states_forms ss f) ≡ Some (ss, f)
-unfolding states_of word_of
-states_there [] f h none = none
-states_there (s ∷ more) f h none =
-    let p = and_parts _ (states_fit more) h in
-    let q = and_parts (is_name s.name) _ p.0 in
-    rw (state_there s.name s.initial q.0 q.1, states_there more f p.1 none)
+operator_no_get : (o : Operator) (a : ℕ) (r : Forest) → word_of (codes "get") (seen (atom a (operator_word o) r)) ≡ None
+unfolding word_of
+operator_no_get operator.Add a r = refl
+operator_no_get operator.Subtract a r = refl
+operator_no_get operator.Multiply a r = refl
+operator_no_get operator.Divide a r = refl
+operator_no_get operator.Remainder a r = refl
+operator_no_get operator.Equal a r = refl
+operator_no_get operator.Less a r = refl
+operator_no_get operator.Not a r = refl
+operator_no_get operator.And a r = refl
+operator_no_get operator.Or a r = refl
+operator_no_get operator.Pick a r = refl
+operator_no_get operator.Join a r = refl
+operator_no_get operator.Text a r = refl
+operator_no_get operator.Ints a r = refl
+operator_no_get operator.Range a r = refl
+operator_no_get operator.Push a r = refl
+operator_no_get operator.Concat a r = refl
+operator_no_get operator.Length a r = refl
+operator_no_get operator.At a r = refl
 
-get_there : (states : List State) (name : List ℕ) → is_name name ≡ true → get_of states (word (codes "get") (word name empty)) ≡ Some (Get name (number_of states name))
-unfolding get_of word_of
-get_there states name h = rw (name_there name empty h)
+-- Literals.
 
-expr_there : (states : List State) (e : Expr) (f : Forest) → expr_fits states e ≡ true → expr_of states (expr_form e f) ≡ Some (e, f)
-unfolding expr_of
-expr_there states (Literal (value.Int z)) f h = rw (int-decimal z h)
-expr_there states (Literal (value.Bool b)) f h = absurd (true≢false (sym h))
-expr_there states (Literal (value.Text t)) f h = absurd (true≢false (sym h))
-expr_there states (Literal (value.Ints l)) f h = absurd (true≢false (sym h))
-expr_there states (Get name number) f h =
-    let p = and_parts (is_name name) _ h in
-    rw (get_there states name p.0, eqb-true number (number_of states name) p.1)
+int_read : (z : ℤ) → fits z ≡ true → plain_of (signed_decimal z) ≡ Some (value.Int z)
+unfolding plain_of
+int_read z h = rw (int-decimal z h)
 
-attribute_there : (states : List State) (a : Attribute) → is_name a.name ≡ true → expr_fits states a.value ≡ true
-    → attribute_of states (word a.name (expr_form a.value empty)) ≡ Some a
-unfolding attribute_of
-attribute_there states a h k = rw (name_there a.name _ h, expr_there states a.value empty k)
+truth_read : (b : Bool) → plain_of (truth_text b) ≡ Some (value.Bool b)
+unfolding plain_of truth_of
+truth_read true = rw (letters_no_int (codes "true") refl)
+truth_read false = rw (letters_no_int (codes "false") refl)
 
-attributes_there : (states : List State) (all : List Attribute) → nat_le (length all) 1 ≡ true → attributes_fit states all ≡ true
-    → attributes_of states (attributes_forms all) ≡ Some all
-unfolding attributes_of
-attributes_there states [] few h = refl
-attributes_there states (a ∷ []) few h =
-    let p = and_parts _ true h in
-    let q = and_parts (is_name a.name) _ p.0 in
-    rw (attribute_there states a q.0 q.1)
-attributes_there states (a ∷ b ∷ more) few h = absurd (omega (arith, leb-true (length (a ∷ b ∷ more)) 1 few))
+string_read : (cs : List ℕ) → is_string cs ≡ true → string_of cs ≡ Some (value.Text cs)
+unfolding string_of
+string_read cs h = rw h
 
-stmt_there : (states : List State) (kind : List ℕ) (all : List Attribute) → is_name kind ≡ true → nat_le (length all) 1 ≡ true → attributes_fit states all ≡ true
-    → stmt_of states (word (codes "node") (word kind (form (attributes_forms all) empty))) ≡ Some (Node kind all)
-unfolding stmt_of word_of
-stmt_there states kind all h few k = rw (name_there kind _ h, attributes_there states all few k)
+ints_read : (zs : List ℤ) (f : Forest) → all_fit zs ≡ true → Fits f (numbers zs) → ints_of (seen f) ≡ Some zs
+unfolding ints_of
+ints_read [] f s h = rw h
+ints_read (z ∷ zs) f s h =
+    let fit = and_parts (fits z) (all_fit zs) s in
+    ap (λ (x : Forest). ints_of (seen x)) h.2 ∙ rw (int-decimal z fit.0, ints_read zs h.1 fit.1 h.4)
 
-stmts_there : (states : List State) (ss : List Stmt) → stmts_fit states ss ≡ true → stmts_of states (stmts_forms ss) ≡ Some ss
+list_read : (zs : List ℤ) (a : ℕ) (f : Forest) → is_list_long (length zs) ≡ true → ints_of (seen f) ≡ Some zs → literal_form (seen (atom a (codes "ints") f)) ≡ Some (value.Ints zs)
+unfolding literal_form word_of
+list_read zs a f h r = rw (r, h)
+
+-- a literal in front, wherever it stands
+pub literal_read : (v : Value) (f : Forest) (g : Sketch) → literal_fits v ≡ true → Fits f (literal None v g) → First f literal_at v g
+literal_read (value.Int z) f g s h = one_atom literal_at h.0 h.0 f h.1 _ (value.Int z) g h.2 refl (int_read z s) h.4
+literal_read (value.Bool b) f g s h = one_atom literal_at h.0 h.0 f h.1 _ (value.Bool b) g h.2 refl (truth_read b) h.4
+literal_read (value.Text cs) f g s h = one_string literal_at h.0 h.0 f h.1 cs (value.Text cs) g h.2 refl (string_read cs s) h.4
+literal_read (value.Ints zs) f g s h =
+    let fit = and_parts (is_list_long (length zs)) (all_fit zs) s in
+    let w = h.5 in
+    let read : literal_form (seen h.1) ≡ Some (value.Ints zs) = ap (λ (i : Forest). literal_form (seen i)) w.2 ∙ list_read zs w.0 w.1 fit.0 (ints_read zs w.1 fit.1 w.4) in
+    one_list literal_at h.0 h.0 f h.1 h.2 (value.Ints zs) g h.3 refl read h.6
+
+pub literal_there : (v : Value) (f : Forest) (g : Sketch) → (one : First f literal_at v g) → literal_of (seen f) ≡ Some (v, seen one.rest)
+literal_there v f g one = ap literal_of one.is ∙ rw one.as_read
+
+-- Expressions.
+
+pub record ReadsAll (m : List (List ℕ)) (f : Forest) (es : Exprs) : Type 0 where
+  pub found : List Expr
+  pub read : exprs_of m (seen f) ≡ Some found
+  pub is : exprs found ≡ es
+
+variable_read : (n : Name) → is_name n.text ≡ true → leaf_of n.at n.text ≡ Some (Variable n)
+unfolding leaf_of
+variable_read n h = rw h
+
+int_leaf : (at : ℕ) (z : ℤ) → fits z ≡ true → leaf_of at (signed_decimal z) ≡ Some (Literal at (value.Int z))
+unfolding leaf_of
+int_leaf at z h = rw (decimal_no_name z h, int_read z h)
+
+truth_leaf : (at : ℕ) (b : Bool) → leaf_of at (truth_text b) ≡ Some (Literal at (value.Bool b))
+unfolding leaf_of
+truth_leaf at true = rw (truth_read true)
+truth_leaf at false = rw (truth_read false)
+
+get_read : (m : List (List ℕ)) (at a : ℕ) (n : Name) → is_name n.text ≡ true → expr_form m at (seen (atom a (codes "get") (atom n.at n.text empty))) ≡ Some (Get at n (number_of n.text m))
+unfolding expr_form get_form word_of
+get_read m at a n h = rw (name_there n empty h)
+
+count_is : (es : List Expr) → how_many (exprs es) ≡ length es
+count_is [] = refl
+count_is (e ∷ es) = ap suc (count_is es)
+
+apply_read : (m : List (List ℕ)) (at a : ℕ) (o : Operator) (es : Exprs) (f : Forest) → takes o (how_many es) ≡ true → ReadsAll m f es → expr_form m at (seen (atom a (operator_word o) f)) ≡ Some (Apply at o es)
+unfolding expr_form apply_form
+apply_read m at a o es f h r =
+    let enough : takes o (length r.found) ≡ true = ap (takes o) (sym (count_is r.found) ∙ ap how_many r.is) ∙ h in
+    rw (operator_no_get o a f, operator_there o a f, r.read, enough, r.is)
+
+none_read : (m : List (List ℕ)) (f : Forest) → f ≡ empty → ReadsAll m f none
+unfolding exprs_of
+none_read m f h = subst (λ (x : Forest). ReadsAll m x none) (sym h) (record { found = []; read = refl; is = refl })
+
+more_read : (m : List (List ℕ)) (f : Forest) (e : Expr) (es : Exprs) → (one : First f (expr_at m) e (exprs_forms es)) → ReadsAll m one.rest es → ReadsAll m f (more e es)
+unfolding exprs_of
+more_read m f e es one r = record {
+  found = e ∷ r.found;
+  read = ap (exprs_of m) one.is ∙ rw (one.as_read, r.read);
+  is = ap (more e) r.is;
+}
+
+-- the word and the name in front of a form
+pub headed : (i j r : Forest) (a b : ℕ) (w : List ℕ) (n : Name) → i ≡ atom a w j → j ≡ atom b n.text r → b ≡ n.at → i ≡ atom a w (atom n.at n.text r)
+headed i j r a b w n e f g = e ∙ ap (atom a w) (f ∙ ap (λ (p : ℕ). atom p n.text r) g)
+
+mutual
+  expr_read : (m : List (List ℕ)) (e : Expr) (f : Forest) (g : Sketch) → Spelled m e → Fits f (expr_forms e g) → First f (expr_at m) e g
+  expr_read m (Literal at (value.Int z)) f g s h = one_atom (expr_at m) h.0 at f h.1 _ (Literal at (value.Int z)) g h.2 h.3 (int_leaf at z s) h.4
+  expr_read m (Literal at (value.Bool b)) f g s h = one_atom (expr_at m) h.0 at f h.1 _ (Literal at (value.Bool b)) g h.2 h.3 (truth_leaf at b) h.4
+  expr_read m (Literal at (value.Text cs)) f g s h = one_string (expr_at m) h.0 at f h.1 cs (Literal at (value.Text cs)) g h.2 h.3 (rw (string_read cs s)) h.4
+  expr_read m (Literal at (value.Ints zs)) f g s h = absurd (true≢false (sym s))
+  expr_read m (Variable n) f g s h = one_atom (expr_at m) h.0 n.at f h.1 n.text (Variable n) g h.2 h.3 (variable_read n s) h.4
+  expr_read m (Get at n number) f g s h =
+      let w = h.5 in
+      let k = w.4 in
+      let is : h.1 ≡ atom w.0 (codes "get") (atom n.at n.text empty) = headed h.1 w.1 k.1 w.0 k.0 (codes "get") n w.2 k.2 k.3 ∙ ap (λ (x : Forest). atom w.0 (codes "get") (atom n.at n.text x)) k.4 in
+      let read : expr_form m at (seen h.1) ≡ Some (Get at n number) = ap (λ (i : Forest). expr_form m at (seen i)) is ∙ get_read m at w.0 n s.0 ∙ ap (λ (x : ℕ). Some (Get at n x)) (sym s.1) in
+      one_list (expr_at m) h.0 at f h.1 h.2 (Get at n number) g h.3 h.4 read h.6
+  expr_read m (Apply at o es) f g s h =
+      let w = h.5 in
+      let read : expr_form m at (seen h.1) ≡ Some (Apply at o es) = ap (λ (i : Forest). expr_form m at (seen i)) w.2 ∙ apply_read m at w.0 o es w.1 s.0 (exprs_read m es w.1 s.1 w.4) in
+      one_list (expr_at m) h.0 at f h.1 h.2 (Apply at o es) g h.3 h.4 read h.6
+
+  exprs_read : (m : List (List ℕ)) (es : Exprs) (f : Forest) → AllSpelled m es → Fits f (exprs_forms es) → ReadsAll m f es
+  exprs_read m none f s h = none_read m f h
+  exprs_read m (more e es) f s h =
+      let one = expr_read m e f (exprs_forms es) s.0 h in
+      more_read m f e es one (exprs_read m es one.rest s.1 one.behind)
+
+expr_there : (m : List (List ℕ)) (f : Forest) (e : Expr) (g : Sketch) → (one : First f (expr_at m) e g) → expr_of m (seen f) ≡ Some (e, seen one.rest)
+expr_there m f e g one = ap (expr_of m) one.is ∙ rw one.as_read
+
+pair_read : (m : List (List ℕ)) (n : Name) (e : Expr) (f : Forest) → is_name n.text ≡ true → First f (expr_at m) e nothing → pair_form m (seen (atom n.at n.text f)) ≡ Some (record { name = n; value = e })
+unfolding pair_form
+pair_read m n e f h one = rw (name_there n f h, expr_there m f e nothing one, one.behind)
+
+pairs_read : (m : List (List ℕ)) (ks : List Named) (f : Forest) → SpelledPairs m ks → Fits f (pairs_forms ks) → pairs_form m (seen f) ≡ Some ks
+unfolding pairs_form
+pairs_read m [] f s h = rw h
+pairs_read m (k ∷ ks) f s h =
+    let n = h.5 in
+    let one = expr_read m k.value n.1 nothing s.1 n.4 in
+    let read : pair_form m (seen h.1) ≡ Some k = ap (λ (i : Forest). pair_form m (seen i)) (n.2 ∙ ap (λ (p : ℕ). atom p k.name.text n.1) n.3) ∙ pair_read m k.name k.value n.1 s.0 one in
+    ap (λ (x : Forest). pairs_form m (seen x)) h.3 ∙ rw (read, pairs_read m ks h.2 s.2 h.6)
+
+-- Statements.
+
+pub record ReadsBody (m : Known) (k : ℕ) (f : Forest) (b : Stmts) : Type 0 where
+  pub found : List Stmt
+  pub read : stmts_of m k (seen f) ≡ Some (found, after_all k b)
+  pub is : stmts found ≡ b
+
+-- a statement in front, and the number behind it
+abbrev pub ReadsStmt : Known → ℕ → Forest → Stmt → Sketch → Type 0
+ReadsStmt m k f t g = First f (stmt_at m k) (t, after k t) g
+
+done_read : (m : Known) (k : ℕ) (f : Forest) → f ≡ empty → ReadsBody m k f done
 unfolding stmts_of
-stmts_there states [] h = refl
-stmts_there states (Node kind all ∷ more) h =
-    let p = and_parts _ (stmts_fit states more) h in
-    let q = and_parts (is_name kind) _ p.0 in
-    let r = and_parts (nat_le (length all) 1) _ q.1 in
-    rw (stmt_there states kind all q.0 r.0 r.1, stmts_there states more p.1)
+done_read m k f h = subst (λ (x : Forest). ReadsBody m k x done) (sym h) (record { found = []; read = refl; is = refl })
 
-write_there : (states : List State) (name : List ℕ) (v : Value) → is_name name ≡ true → literal_fits v ≡ true
-    → step_of states (word (codes "write") (word (codes "global") (word name (literal v empty)))) ≡ Some (Write name (number_of states name) v)
-unfolding step_of write_of word_of
-write_there states name (value.Int z) h k = rw (name_there name _ h, integer_there z empty k)
-write_there states name (value.Bool b) h k = absurd (true≢false (sym k))
-write_there states name (value.Text t) h k = absurd (true≢false (sym k))
-write_there states name (value.Ints l) h k = absurd (true≢false (sym k))
+next_read : (m : Known) (k : ℕ) (f : Forest) (t : Stmt) (ts : Stmts) → (one : ReadsStmt m k f t (stmts_forms ts)) → ReadsBody m (after k t) one.rest ts → ReadsBody m k f (next t ts)
+unfolding stmts_of
+next_read m k f t ts one r = record {
+  found = t ∷ r.found;
+  read = ap (stmts_of m k) one.is ∙ rw (one.as_read, r.read);
+  is = ap (next t) r.is;
+}
 
-frame_there : (states : List State) → step_of states (word (codes "frame") empty) ≡ Some Frame
-unfolding step_of word_of
-frame_there states = refl
+node_read : (m : Known) (k at a p : ℕ) (n : Name) (ns : List Named) (b : Stmts) (i f : Forest) → is_name n.text ≡ true → pairs_form m.states (seen i) ≡ Some ns → ReadsBody m (k + 1) f b →
+    stmt_form m k at (seen (atom a (codes "node") (atom n.at n.text (list p i f)))) ≡ Some (Node at k n ns b, after_all (k + 1) b)
+unfolding stmt_form node_form word_of
+node_read m k at a p n ns b i f h read r = rw (name_there n (list p i f) h, read, r.read, r.is)
 
-steps_there : (states : List State) (ss : List StepForm) → steps_fit states ss ≡ true → steps_of states (steps_forms ss) ≡ Some ss
-unfolding steps_of
-steps_there states [] h = refl
-steps_there states (Write name number v ∷ more) h =
-    let p = and_parts _ (steps_fit states more) h in
-    let q = and_parts _ (literal_fits v) p.0 in
-    let r = and_parts (is_name name) _ q.0 in
-    rw (write_there states name v r.0 q.1, steps_there states more p.1, eqb-true number (number_of states name) r.1)
-steps_there states (Frame ∷ more) h = rw (frame_there states, steps_there states more h)
+call_read : (m : Known) (k at a : ℕ) (n : Name) (es : Exprs) (f : Forest) → is_name n.text ≡ true → ReadsAll m.states f es →
+    stmt_form m k at (seen (atom a (codes "call") (atom n.at n.text f))) ≡ Some (Call at k n (number_of n.text m.functions) es, k + 1)
+unfolding stmt_form call_form word_of
+call_read m k at a n es f h r = rw (name_there n f h, r.read, r.is)
 
-script_there : (states : List State) (d : DoForm) → is_name d.actor ≡ true → steps_fit states d.steps ≡ true
-    → script_of states (word (codes "do") (word d.actor (steps_forms d.steps))) ≡ Some d
-unfolding script_of word_of
-script_there states d h k = rw (name_there d.actor _ h, steps_there states d.steps k)
+key_read : (m : Known) (k at a : ℕ) (e : Expr) (b : Stmts) (f : Forest) (g : Sketch) → (one : First f (expr_at m.states) e g) → ReadsBody m (k + 1) one.rest b →
+    stmt_form m k at (seen (atom a (codes "key") f)) ≡ Some (Key at k e b, after_all (k + 1) b)
+unfolding stmt_form key_form word_of
+key_read m k at a e b f g one r = rw (expr_there m.states f e g one, r.read, r.is)
 
-scripts_there : (states : List State) (ds : List DoForm) → scripts_fit states ds ≡ true → scripts_of states (scripts_forms ds) ≡ Some ds
-unfolding scripts_of
-scripts_there states [] h = refl
-scripts_there states (d ∷ more) h =
-    let p = and_parts _ (scripts_fit states more) h in
-    let q = and_parts (is_name d.actor) _ p.0 in
-    rw (script_there states d q.0 q.1, scripts_there states more p.1)
+-- the statements of a list in front
+block_there : (m : Known) (k p : ℕ) (f i r : Forest) (b : Stmts) → f ≡ list p i r → (all : ReadsBody m k i b) → block_of m k (seen f) ≡ Some ((all.found, after_all k b), seen r)
+block_there m k p f i r b is all = ap (λ (x : Forest). block_of m k (seen x)) is ∙ rw all.read
 
-root_there : (states : List State) (root : List Stmt) → stmts_fit states root ≡ true
-    → root_of states (word (codes "fun") (word (codes "root") (form empty (stmts_forms root)))) ≡ Some root
-unfolding root_of word_of
-root_there states root h = rw (stmts_there states root h)
+if_read : (m : Known) (k at w p q : ℕ) (e : Expr) (a b : Stmts) (f i j r : Forest) (g : Sketch) → (one : First f (expr_at m.states) e g) → one.rest ≡ list p i r → r ≡ list q j empty →
+    ReadsBody m (k + 1) i a → ReadsBody m (after_all (k + 1) a) j b →
+    stmt_form m k at (seen (atom w (codes "if") f)) ≡ Some (If at k e a b, after_all (after_all (k + 1) a) b)
+unfolding stmt_form if_form word_of
+if_read m k at w p q e a b f i j r g one x y s t =
+    rw (expr_there m.states f e g one, block_there m (k + 1) p one.rest i r a x s, block_there m (after_all (k + 1) a) q r j empty b y t, s.is, t.is)
 
-no_states : (root : List Stmt) (f : Forest) → states_of (root_form root f) ≡ Some ([], root_form root f)
-unfolding states_of word_of
-no_states root f = refl
+for_read : (m : Known) (k at a : ℕ) (n : Name) (e : Expr) (b : Stmts) (f : Forest) (g : Sketch) → is_name n.text ≡ true → (one : First f (expr_at m.states) e g) → ReadsBody m (k + 1) one.rest b →
+    stmt_form m k at (seen (atom a (codes "for") (atom n.at n.text f))) ≡ Some (For at k n e b, after_all (k + 1) b)
+unfolding stmt_form for_form word_of
+for_read m k at a n e b f g h one r = rw (name_there n f h, expr_there m.states f e g one, r.read, r.is)
 
--- The forms of a text are read as it.
-pub forms_are_read : (p : Parts) → parts_fit p ≡ true → parts_of (text_forms p) ≡ Some p
-unfolding parts_of header_of word_of
-forms_are_read p h =
-    let few = and_parts (nat_le (length p.states) 256) _ h in
-    let all = and_parts (states_fit p.states) _ few.1 in
-    let fit = and_parts (stmts_fit p.states p.root) _ all.1 in
-    rw (states_there p.states _ all.0 (no_states p.root (scripts_forms p.scripts)), few.0, root_there p.states p.root fit.0, scripts_there p.states p.scripts fit.1)
+let_read : (m : Known) (k at a : ℕ) (n : Name) (e : Expr) (b : Stmts) (f : Forest) (g : Sketch) → is_name n.text ≡ true → (one : First f (expr_at m.states) e g) → ReadsBody m (k + 1) one.rest b →
+    stmt_form m k at (seen (atom a (codes "let") (atom n.at n.text f))) ≡ Some (Let at k n e b, after_all (k + 1) b)
+unfolding stmt_form let_form word_of
+let_read m k at a n e b f g h one r = rw (name_there n f h, expr_there m.states f e g one, r.read, r.is)
+
+remember_read : (m : Known) (k at a p : ℕ) (n : Name) (ks : List Named) (e : Expr) (b : Stmts) (i f : Forest) (g : Sketch) → is_name n.text ≡ true → pairs_form m.states (seen i) ≡ Some ks →
+    (one : First f (expr_at m.states) e g) → ReadsBody m (k + 1) one.rest b →
+    stmt_form m k at (seen (atom a (codes "remember") (atom n.at n.text (list p i f)))) ≡ Some (Remember at k n ks e b, after_all (k + 1) b)
+unfolding stmt_form remember_form word_of
+remember_read m k at a p n ks e b i f g h read one r = rw (name_there n (list p i f) h, read, expr_there m.states f e g one, r.read, r.is)
+
+-- a list that is read as a statement, which has its number
+one_stmt : (m : Known) (k site at p x : ℕ) (f i r : Forest) (t : ℕ → Stmt) (g : Sketch) → site ≡ k → f ≡ list at i r → at ≡ p → stmt_form m k p (seen i) ≡ Some (t k, x) → Fits r g → First f (stmt_at m k) (t site, x) g
+one_stmt m k site at p x f i r t g same is told h rest =
+    one_list (stmt_at m k) at p f i r (t site, x) g is told (h ∙ ap (λ (j : ℕ). Some (t j, x)) (sym same)) rest
+
+mutual
+  stmt_read : (m : Known) (k : ℕ) (t : Stmt) (f : Forest) (g : Sketch) → SpelledStmt m k t → Fits f (stmt_forms t g) → ReadsStmt m k f t g
+  stmt_read m k (Node at site n ns b) f g s h =
+      let w = h.5 in
+      let v = w.4 in
+      let l = v.4 in
+      let is = headed h.1 w.1 v.1 w.0 v.0 (codes "node") n w.2 v.2 v.3 ∙ ap (λ (i : Forest). atom w.0 (codes "node") (atom n.at n.text i)) l.3 in
+      one_stmt m k site h.0 at _ f h.1 h.2 (λ j. Node at j n ns b) g s.0 h.3 h.4
+      (ap (λ (i : Forest). stmt_form m k at (seen i)) is ∙ node_read m k at w.0 l.0 n ns b l.1 l.2 s.1 (pairs_read m.states ns l.1 s.2 l.5) (stmts_read m (k + 1) b l.2 s.3 l.6)) h.6
+  stmt_read m k (Call at site n function es) f g s h =
+      let w = h.5 in
+      let v = w.4 in
+      let is = headed h.1 w.1 v.1 w.0 v.0 (codes "call") n w.2 v.2 v.3 in
+      one_stmt m k site h.0 at _ f h.1 h.2 (λ j. Call at j n function es) g s.0 h.3 h.4
+      (ap (λ (i : Forest). stmt_form m k at (seen i)) is ∙ call_read m k at w.0 n es v.1 s.1 (exprs_read m.states es v.1 s.3 v.4) ∙ ap (λ (c : ℕ). Some (Call at k n c es, k + 1)) (sym s.2)) h.6
+  stmt_read m k (Key at site e b) f g s h =
+      let w = h.5 in
+      let one = expr_read m.states e w.1 (stmts_forms b) s.1 w.4 in
+      one_stmt m k site h.0 at _ f h.1 h.2 (λ j. Key at j e b) g s.0 h.3 h.4
+      (ap (λ (i : Forest). stmt_form m k at (seen i)) w.2 ∙ key_read m k at w.0 e b w.1 (stmts_forms b) one (stmts_read m (k + 1) b one.rest s.2 one.behind)) h.6
+  stmt_read m k (If at site e a b) f g s h =
+      let w = h.5 in
+      let one = expr_read m.states e w.1 _ s.1 w.4 in
+      let x = one.behind in
+      let y = x.6 in
+      one_stmt m k site h.0 at _ f h.1 h.2 (λ j. If at j e a b) g s.0 h.3 h.4
+      (ap (λ (i : Forest). stmt_form m k at (seen i)) w.2
+      ∙ if_read m k at w.0 x.0 y.0 e a b w.1 x.1 y.1 x.2 _ one x.3 (y.3 ∙ ap (list y.0 y.1) y.6) (stmts_read m (k + 1) a x.1 s.2 x.5) (stmts_read m (after_all (k + 1) a) b y.1 s.3 y.5)) h.6
+  stmt_read m k (For at site n e b) f g s h =
+      let w = h.5 in
+      let v = w.4 in
+      let is = headed h.1 w.1 v.1 w.0 v.0 (codes "for") n w.2 v.2 v.3 in
+      let one = expr_read m.states e v.1 (stmts_forms b) s.2 v.4 in
+      one_stmt m k site h.0 at _ f h.1 h.2 (λ j. For at j n e b) g s.0 h.3 h.4
+      (ap (λ (i : Forest). stmt_form m k at (seen i)) is ∙ for_read m k at w.0 n e b v.1 (stmts_forms b) s.1 one (stmts_read m (k + 1) b one.rest s.3 one.behind)) h.6
+  stmt_read m k (Let at site n e b) f g s h =
+      let w = h.5 in
+      let v = w.4 in
+      let is = headed h.1 w.1 v.1 w.0 v.0 (codes "let") n w.2 v.2 v.3 in
+      let one = expr_read m.states e v.1 (stmts_forms b) s.2 v.4 in
+      one_stmt m k site h.0 at _ f h.1 h.2 (λ j. Let at j n e b) g s.0 h.3 h.4
+      (ap (λ (i : Forest). stmt_form m k at (seen i)) is ∙ let_read m k at w.0 n e b v.1 (stmts_forms b) s.1 one (stmts_read m (k + 1) b one.rest s.3 one.behind)) h.6
+  stmt_read m k (Remember at site n ks e b) f g s h =
+      let w = h.5 in
+      let v = w.4 in
+      let l = v.4 in
+      let is = headed h.1 w.1 v.1 w.0 v.0 (codes "remember") n w.2 v.2 v.3 ∙ ap (λ (i : Forest). atom w.0 (codes "remember") (atom n.at n.text i)) l.3 in
+      let one = expr_read m.states e l.2 (stmts_forms b) s.3 l.6 in
+      one_stmt m k site h.0 at _ f h.1 h.2 (λ j. Remember at j n ks e b) g s.0 h.3 h.4
+      (ap (λ (i : Forest). stmt_form m k at (seen i)) is
+      ∙ remember_read m k at w.0 l.0 n ks e b l.1 l.2 (stmts_forms b) s.1 (pairs_read m.states ks l.1 s.2 l.5) one (stmts_read m (k + 1) b one.rest s.4 one.behind)) h.6
+
+  pub stmts_read : (m : Known) (k : ℕ) (b : Stmts) (f : Forest) → SpelledStmts m k b → Fits f (stmts_forms b) → ReadsBody m k f b
+  stmts_read m k done f s h = done_read m k f h
+  stmts_read m k (next t ts) f s h =
+      let one = stmt_read m k t f (stmts_forms ts) s.0 h in
+      next_read m k f t ts one (stmts_read m (after k t) ts one.rest s.1 one.behind)

@@ -1,19 +1,20 @@
 -- Numbers and their decimals.
-use Rattle.std.proofs.Common.{◌≡◌, ◌∙◌, ℕ, suc, ◌^◌, ◌<◌, ◌==◌, List, [], ◌∷◌, length, Bool, true, false, ◌&&◌, None, Some, ℤ, pos, negsuc, neg_ℤ, refl, ap, sym, arith}
+use Rattle.std.proofs.Common.{◌≡◌, ◌∙◌, ℕ, suc, ◌^◌, ◌<◌, ◌==◌, List, [], ◌∷◌, length, Bool, true, false, ◌&&◌, None, Some, ℤ, pos, negsuc, neg_ℤ, refl, ap, sym, arith, ◌≤◌, nat_le, slice_index, true≢false, Option}
 use Rattle.std.specs.Prelude.{FitsSigned}
 use Rattle.std.specs.Int.{w64}
 use Rattle.std.specs.Fmt.{signed_decimal, decimal}
 use Rattle.std.specs.Str.{bytes_eq}
 use Rattle.std.specs.Str.Parse.{AllDigits, digits_value, signed_digits_value}
-use Rattle.std.proofs.lemmas.Bool.{and_parts, ltb-true, ne_eqb}
+use Rattle.std.proofs.lemmas.Bool.{and_parts, ltb-true, ne_eqb, lt-leb}
 use Rattle.std.proofs.lemmas.Fmt.{decimal_is_IsNumeral}
 use Rattle.std.proofs.lemmas.Option.{cond_some}
 use Rattle.std.proofs.lemmas.Slice.Eq.{bytes_eq-Decides}
+use Rattle.std.proofs.lemmas.Str.{IsUtf8-from_is_utf8}
 use Rattle.std.proofs.lemmas.Str.Parse.{digit_from_value}
 use Rattle.std.specs.Int.Signed.{mag}
 use Rattle.std.proofs.lemmas.Int.{ints}
-use Rattle.lang_forms.specs.Names.{fits}
-use Rattle.lang_forms.specs.Reading.{int_of, when}
+use Rattle.lang_forms.specs.Names.{fits, is_letter, is_name}
+use Rattle.lang_forms.specs.Seen.{int_of, when}
 
 pub fits-true : (z : ℤ) → fits z ≡ true → FitsSigned w64 z
 fits-true (pos n) h = let lt : n < 2 ^ 63 = ltb-true n (2 ^ 63) h in omega (arith, ints)
@@ -69,3 +70,39 @@ decimal-int a z h =
     let c = cond_some _ _ z h in
     let both = and_parts _ _ c.0 in
     (sym ((bytes_eq-Decides _ a).0 both.0) ∙ ap signed_decimal c.1, ap fits (sym c.1) ∙ both.1)
+
+-- what passes the test for UTF-8 is UTF-8
+pub ruleset characters = (IsUtf8-from_is_utf8)
+
+-- a digit is no letter
+digit_no_letter : (c : ℕ) → 48 ≤ c → c ≤ 57 → is_letter c ≡ false
+digit_no_letter c low high =
+    let small : nat_le 97 c ≡ false = lt-leb 97 c (omega arith) in
+    let large : nat_le 65 c ≡ false = lt-leb 65 c (omega arith) in
+    rw (small, large)
+
+digits_no_letter : (ds : List ℕ) → AllDigits 10 ds → 0 < length ds → is_letter (slice_index ds 0) ≡ false
+digits_no_letter [] d some = absurd (omega arith)
+digits_no_letter (c ∷ cs) d some = let digit = digit_from_value c d.0 in digit_no_letter c (omega arith) (omega arith)
+
+-- a number's decimals begin with no letter
+decimal_no_letter : (z : ℤ) → fits z ≡ true → is_letter (slice_index (signed_decimal z) 0) ≡ false
+decimal_no_letter (pos n) h =
+    let lt : n < 2 ^ 63 = ltb-true n (2 ^ 63) h in
+    let k = decimal_is_IsNumeral n (omega arith) in
+    digits_no_letter (decimal n) k.0.1 k.0.0
+decimal_no_letter (negsuc n) h = refl
+
+-- what begins with a letter is no number
+pub letters_no_int : (a : List ℕ) → is_letter (slice_index a 0) ≡ true → int_of a ≡ None
+letters_no_int a h = by (int_of a) refl
+  where
+    by : (o : Option ℤ) → int_of a ≡ o → int_of a ≡ None
+    by None e = e
+    by (Some z) e =
+        let d = decimal-int a z e in
+        absurd (true≢false (sym h ∙ ap (λ (b : List ℕ). is_letter (slice_index b 0)) d.0 ∙ decimal_no_letter z d.1))
+
+-- a number's decimals are no name
+pub decimal_no_name : (z : ℤ) → fits z ≡ true → is_name (signed_decimal z) ≡ false
+decimal_no_name z h = rw (decimal_no_letter z h)

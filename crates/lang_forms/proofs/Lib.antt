@@ -1,4 +1,5 @@
-pub mod Seen
+pub mod Trees
+pub mod SeenIs
 pub mod Ints
 pub mod FormsAreRead
-pub mod ReadHasForms
+pub mod TextIsRead

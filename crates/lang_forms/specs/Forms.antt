@@ -1,138 +1,234 @@
--- The forms of programs and scripts: which trees stand for them. Places are not told: they are 0.
-use Rattle.std.specs.Prelude.{◌≡◌, ℕ, ◌&&◌, ◌==◌, nat_le, List, [], ◌∷◌, length, Bool, true, false, codes}
-use Rattle.std.specs.List.{position}
-use Rattle.std.specs.Option.{unwrap_or}
+-- The forms of a program and a script: the trees that each part has, and what the parts may be.
+-- A word of a form has no place of its own, nor has a list of pairs, of parameters or of a branch.
+use Rattle.std.specs.Prelude.{◌≡◌, ℕ, zero, suc, ◌+◌, ◌&&◌, nat_le, List, [], ◌∷◌, ◌++◌, length, map, Option, Some, None, Bool, true, false, codes, ℤ}
 use Rattle.std.specs.Fmt.{signed_decimal}
-use Rattle.std.specs.Str.{bytes_eq}
-use Rattle.sexp_text.specs.Forest.{Forest, empty, atom, list, unplaced}
+use Rattle.sexp_text.specs.Forest.{Forest}
+use Rattle.rt_values.specs.Values.{truth_text}
 use Rattle.rt_values.specs.declared.value.Value.{Value}
 use Rattle.rt_values.specs.declared.value.Value.TheVariants as value
+use Rattle.lang_ast.specs.Terms.{Expr, Literal, Variable, Get, Apply, Exprs, none, more, Named, Stmt, Node, Call, Key, If, For, Let, Remember, Stmts, done, next, Func}
+use Rattle.lang_ast.specs.declared.syntax.Name.{Name}
+use Rattle.lang_ast.specs.declared.syntax.Parameter.{Parameter}
 use Rattle.lang_ast.specs.declared.program.State.{State}
-use Rattle.lang_ast.specs.declared.program.Attribute.{Attribute}
-use Rattle.lang_ast.specs.declared.program.Expr.{Expr}
-use Rattle.lang_ast.specs.declared.program.Expr.TheVariants.{Literal, Get}
-use Rattle.lang_ast.specs.declared.program.Stmt.{Stmt}
-use Rattle.lang_ast.specs.declared.program.Stmt.TheVariants.{Node}
 use Rattle.lang_forms.specs.declared.rest.StepForm.{StepForm}
 use Rattle.lang_forms.specs.declared.rest.StepForm.TheVariants.{Write, Frame}
 use Rattle.lang_forms.specs.declared.rest.DoForm.{DoForm}
-use Rattle.lang_forms.specs.Names.{is_name, fits}
+use Rattle.lang_forms.specs.Names.{is_name, fits, all_fit, is_string, is_list_long, most_forms, number_of}
+use Rattle.lang_forms.specs.Words.{type_word, operator_word, takes}
+use Rattle.lang_forms.specs.Sketch.{Sketch, nothing, leaf, string, group, Fits}
+use Rattle.lang_forms.specs.Sources.{Source}
 
--- In each of these the last forest is what stands behind.
+-- The trees. The last argument is what stands behind.
 
--- an atom
-abbrev pub word : List ℕ → Forest → Forest
-word a f = atom 0 a f
+-- a word of a form, wherever it stands
+abbrev pub word : List ℕ → Sketch → Sketch
+word w f = leaf None w f
 
--- a list
-abbrev pub form : Forest → Forest → Forest
-form inner f = list 0 inner f
+-- a name, at its place
+abbrev pub name : Name → Sketch → Sketch
+name n f = leaf (Some n.at) n.text f
 
--- a literal: a number by its decimals; values of other types have no form yet
-abbrev pub literal : Value → Forest → Forest
-literal (value.Int z) f = word (signed_decimal z) f
-literal (value.Bool b) f = f
-literal (value.Text t) f = f
-literal (value.Ints l) f = f
+-- numbers in their decimals
+abbrev pub numbers : List ℤ → Sketch
+numbers [] = nothing
+numbers (z ∷ zs) = word (signed_decimal z) (numbers zs)
 
--- (state NAME Int Structural INT)
-abbrev pub state_form : State → Forest → Forest
-state_form s f = form (word (codes "state") (word s.name (word (codes "Int") (word (codes "Structural") (literal s.initial empty))))) f
+-- a literal: INT, true, false, a string, or (ints INT..)
+abbrev pub literal : Option ℕ → Value → Sketch → Sketch
+literal p (value.Int z) f = leaf p (signed_decimal z) f
+literal p (value.Bool b) f = leaf p (truth_text b) f
+literal p (value.Text cs) f = string p cs f
+literal p (value.Ints zs) f = group p (word (codes "ints") (numbers zs)) f
 
--- a literal, or (get NAME)
-abbrev pub expr_form : Expr → Forest → Forest
-expr_form (Literal v) f = literal v f
-expr_form (Get name number) f = form (word (codes "get") (word name empty)) f
+-- a literal, a variable's name, (get NAME), or (OPERATOR EXPR..)
+abbrev mutual
+  pub expr_forms : Expr → Sketch → Sketch
+  expr_forms (Literal at v) f = literal (Some at) v f
+  expr_forms (Variable n) f = name n f
+  expr_forms (Get at n number) f = group (Some at) (word (codes "get") (name n nothing)) f
+  expr_forms (Apply at operator es) f = group (Some at) (word (operator_word operator) (exprs_forms es)) f
+
+  pub exprs_forms : Exprs → Sketch
+  exprs_forms none = nothing
+  exprs_forms (more e es) = expr_forms e (exprs_forms es)
 
 -- (NAME EXPR) for each
-abbrev pub attributes_forms : List Attribute → Forest
-attributes_forms [] = empty
-attributes_forms (a ∷ more) = form (word a.name (expr_form a.value empty)) (attributes_forms more)
+abbrev pub pairs_forms : List Named → Sketch
+pairs_forms [] = nothing
+pairs_forms (k ∷ ks) = group None (name k.name (expr_forms k.value nothing)) (pairs_forms ks)
 
--- (node NAME ((NAME EXPR)..)) for each
-abbrev pub stmts_forms : List Stmt → Forest
-stmts_forms [] = empty
-stmts_forms (Node kind attributes ∷ more) = form (word (codes "node") (word kind (form (attributes_forms attributes) empty))) (stmts_forms more)
+-- (node NAME ((NAME EXPR)..) STMT..), (call NAME EXPR..), (key EXPR STMT..), (if EXPR (STMT..) (STMT..)),
+-- (for NAME EXPR STMT..), (let NAME EXPR STMT..), (remember NAME ((NAME EXPR)..) EXPR STMT..)
+abbrev mutual
+  pub stmt_forms : Stmt → Sketch → Sketch
+  stmt_forms (Node at site n ns body) f = group (Some at) (word (codes "node") (name n (group None (pairs_forms ns) (stmts_forms body)))) f
+  stmt_forms (Call at site n function es) f = group (Some at) (word (codes "call") (name n (exprs_forms es))) f
+  stmt_forms (Key at site e body) f = group (Some at) (word (codes "key") (expr_forms e (stmts_forms body))) f
+  stmt_forms (If at site e a b) f = group (Some at) (word (codes "if") (expr_forms e (group None (stmts_forms a) (group None (stmts_forms b) nothing)))) f
+  stmt_forms (For at site n e body) f = group (Some at) (word (codes "for") (name n (expr_forms e (stmts_forms body)))) f
+  stmt_forms (Let at site n e body) f = group (Some at) (word (codes "let") (name n (expr_forms e (stmts_forms body)))) f
+  stmt_forms (Remember at site n ks e body) f =
+      group (Some at) (word (codes "remember") (name n (group None (pairs_forms ks) (expr_forms e (stmts_forms body))))) f
 
--- (write global NAME INT) and (frame)
-abbrev pub steps_forms : List StepForm → Forest
-steps_forms [] = empty
-steps_forms (Write name number v ∷ more) = form (word (codes "write") (word (codes "global") (word name (literal v empty)))) (steps_forms more)
-steps_forms (Frame ∷ more) = form (word (codes "frame") empty) (steps_forms more)
+  pub stmts_forms : Stmts → Sketch
+  stmts_forms done = nothing
+  stmts_forms (next s ss) = stmt_forms s (stmts_forms ss)
 
--- (do NAME STEP..) for each
-abbrev pub scripts_forms : List DoForm → Forest
-scripts_forms [] = empty
-scripts_forms (d ∷ more) = form (word (codes "do") (word d.actor (steps_forms d.steps))) (scripts_forms more)
+-- (NAME TYPE) for each
+abbrev pub parameters_forms : List Parameter → Sketch
+parameters_forms [] = nothing
+parameters_forms (p ∷ ps) = group None (name p.name (word (type_word p.ty) nothing)) (parameters_forms ps)
 
--- the states, and what stands behind them
-abbrev pub states_forms : List State → Forest → Forest
+-- (state NAME TYPE Structural LITERAL)
+abbrev pub state_forms : State → Sketch → Sketch
+state_forms s f = group (Some s.at) (word (codes "state") (name s.name (word (type_word s.ty) (word (codes "Structural") (literal None s.initial nothing))))) f
+
+-- (fun NAME ((NAME TYPE)..) STMT..)
+abbrev pub function_forms : Func → Sketch → Sketch
+function_forms c f = group (Some c.at) (word (codes "fun") (name c.name (group None (parameters_forms c.parameters) (stmts_forms c.body)))) f
+
+-- (write global NAME LITERAL) and (frame)
+abbrev pub steps_forms : List StepForm → Sketch
+steps_forms [] = nothing
+steps_forms (Write at n number v ∷ ss) = group (Some at) (word (codes "write") (word (codes "global") (name n (literal None v nothing)))) (steps_forms ss)
+steps_forms (Frame at ∷ ss) = group (Some at) (word (codes "frame") nothing) (steps_forms ss)
+
+-- (do NAME STEP..)
+abbrev pub do_forms : DoForm → Sketch → Sketch
+do_forms d f = group (Some d.at) (word (codes "do") (name d.actor (steps_forms d.steps))) f
+
+abbrev pub states_forms : List State → Sketch → Sketch
 states_forms [] f = f
-states_forms (s ∷ more) f = state_form s (states_forms more f)
+states_forms (s ∷ ss) f = state_forms s (states_forms ss f)
 
--- (fun root () STMT..)
-abbrev pub root_form : List Stmt → Forest → Forest
-root_form root f = form (word (codes "fun") (word (codes "root") (form empty (stmts_forms root)))) f
+abbrev pub functions_forms : List Func → Sketch → Sketch
+functions_forms [] f = f
+functions_forms (c ∷ cs) f = function_forms c (functions_forms cs f)
 
--- what a text says
-pub record Parts : Type 0 where
-  pub states : List State
-  pub root : List Stmt
-  pub scripts : List DoForm
+abbrev pub scripts_forms : List DoForm → Sketch
+scripts_forms [] = nothing
+scripts_forms (d ∷ ds) = do_forms d (scripts_forms ds)
 
--- (compose 1), the states, root, and the scripts
-abbrev pub text_forms : Parts → Forest
-text_forms p = form (word (codes "compose") (word (codes "1") empty)) (states_forms p.states (root_form p.root (scripts_forms p.scripts)))
+-- the states, the functions and the scripts
+abbrev pub top_forms : List State → List Func → List DoForm → Sketch
+top_forms ss cs ds = states_forms ss (functions_forms cs (scripts_forms ds))
 
--- a state's number: the first of this name, or how many there are where none has it
-abbrev pub number_of : List State → List ℕ → ℕ
-number_of states name = unwrap_or (position (λ s. bytes_eq s.name name) states) (length states)
+-- (compose 1) at its place, and behind it the states, the functions and the scripts
+abbrev pub text_forms : Source → Sketch
+text_forms t = group (Some t.program.header) (word (codes "compose") (word (codes "1") nothing)) (top_forms t.program.states t.program.functions t.script)
 
--- Whether names are names, numbers fit in 64 bits, and numbers of states are those of their names.
+-- What the parts may be: names are names, numbers and strings are within their limits, operators have their operands, a state
+-- and a function have the number of their name, and statements are numbered in the order of the text.
 
--- a literal of 64 bits with a sign; a value of another type is none
+-- a literal within the limits
 abbrev pub literal_fits : Value → Bool
 literal_fits (value.Int z) = fits z
-literal_fits (value.Bool b) = false
-literal_fits (value.Text t) = false
-literal_fits (value.Ints l) = false
+literal_fits (value.Bool b) = true
+literal_fits (value.Text cs) = is_string cs
+literal_fits (value.Ints zs) = is_list_long (length zs) && all_fit zs
 
--- each state has a name, and a first value that fits
-abbrev pub states_fit : List State → Bool
-states_fit [] = true
-states_fit (s ∷ more) = (is_name s.name && literal_fits s.initial) && states_fit more
+-- in an expression (ints ..) is the operator's
+abbrev pub plain_fits : Value → Bool
+plain_fits (value.Int z) = fits z
+plain_fits (value.Bool b) = true
+plain_fits (value.Text cs) = is_string cs
+plain_fits (value.Ints zs) = false
 
--- a number fits; a state is read by a name, and has the number of its name
-abbrev pub expr_fits : List State → Expr → Bool
-expr_fits states (Literal v) = literal_fits v
-expr_fits states (Get name number) = is_name name && number == number_of states name
+abbrev pub how_many : Exprs → ℕ
+how_many none = 0
+how_many (more e es) = suc (how_many es)
 
--- each attribute has a name, and an expression that fits
-abbrev pub attributes_fit : List State → List Attribute → Bool
-attributes_fit states [] = true
-attributes_fit states (a ∷ more) = (is_name a.name && expr_fits states a.value) && attributes_fit states more
+-- the names of the states, and of the functions that stand before
+pub record Known : Type 0 where
+  pub states : List (List ℕ)
+  pub functions : List (List ℕ)
 
--- a node has one attribute or none
-abbrev pub stmts_fit : List State → List Stmt → Bool
-stmts_fit states [] = true
-stmts_fit states (Node kind attributes ∷ more) = (is_name kind && (nat_le (length attributes) 1 && attributes_fit states attributes)) && stmts_fit states more
+-- expressions, by the names of the states
+abbrev mutual
+  pub Spelled : List (List ℕ) → Expr → Type 0
+  Spelled m (Literal at v) = plain_fits v ≡ true
+  Spelled m (Variable n) = is_name n.text ≡ true
+  Spelled m (Get at n number) = (is_name n.text ≡ true) × (number ≡ number_of n.text m)
+  Spelled m (Apply at operator es) = (takes operator (how_many es) ≡ true) × AllSpelled m es
 
--- a state is written by a name, has the number of its name, and the value fits
-abbrev pub steps_fit : List State → List StepForm → Bool
-steps_fit states [] = true
-steps_fit states (Write name number v ∷ more) = ((is_name name && number == number_of states name) && literal_fits v) && steps_fit states more
-steps_fit states (Frame ∷ more) = steps_fit states more
+  pub AllSpelled : List (List ℕ) → Exprs → Type 0
+  AllSpelled m none = Unit {0}
+  AllSpelled m (more e es) = Spelled m e × AllSpelled m es
 
--- each actor has a name, and steps that fit
-abbrev pub scripts_fit : List State → List DoForm → Bool
-scripts_fit states [] = true
-scripts_fit states (d ∷ more) = (is_name d.actor && steps_fit states d.steps) && scripts_fit states more
+abbrev pub SpelledPairs : List (List ℕ) → List Named → Type 0
+SpelledPairs m [] = Unit {0}
+SpelledPairs m (k ∷ ks) = (is_name k.name.text ≡ true) × Spelled m k.value × SpelledPairs m ks
 
--- all of it fits, and there are at most 256 states
-abbrev pub parts_fit : Parts → Bool
-parts_fit p = nat_le (length p.states) 256 && (states_fit p.states && (stmts_fit p.states p.root && scripts_fit p.states p.scripts))
+-- the number of the statement behind one that has the number k, and behind statements that begin with k
+abbrev mutual
+  pub after : ℕ → Stmt → ℕ
+  after k (Node at site n ns body) = after_all (k + 1) body
+  after k (Call at site n function es) = k + 1
+  after k (Key at site e body) = after_all (k + 1) body
+  after k (If at site e a b) = after_all (after_all (k + 1) a) b
+  after k (For at site n e body) = after_all (k + 1) body
+  after k (Let at site n e body) = after_all (k + 1) body
+  after k (Remember at site n ks e body) = after_all (k + 1) body
 
--- The trees are those of these parts, wherever they stand.
-pub record HasForms (f : Forest) (p : Parts) : Type 0 where
-  pub same : unplaced f ≡ text_forms p
-  pub fit : parts_fit p ≡ true
+  pub after_all : ℕ → Stmts → ℕ
+  after_all k done = k
+  after_all k (next s ss) = after_all (after k s) ss
+
+-- a statement with the number k, and statements that begin with k
+abbrev mutual
+  pub SpelledStmt : Known → ℕ → Stmt → Type 0
+  SpelledStmt m k (Node at site n ns body) = (site ≡ k) × (is_name n.text ≡ true) × SpelledPairs m.states ns × SpelledStmts m (k + 1) body
+  SpelledStmt m k (Call at site n function es) = (site ≡ k) × (is_name n.text ≡ true) × (function ≡ number_of n.text m.functions) × AllSpelled m.states es
+  SpelledStmt m k (Key at site e body) = (site ≡ k) × Spelled m.states e × SpelledStmts m (k + 1) body
+  SpelledStmt m k (If at site e a b) = (site ≡ k) × Spelled m.states e × SpelledStmts m (k + 1) a × SpelledStmts m (after_all (k + 1) a) b
+  SpelledStmt m k (For at site n e body) = (site ≡ k) × (is_name n.text ≡ true) × Spelled m.states e × SpelledStmts m (k + 1) body
+  SpelledStmt m k (Let at site n e body) = (site ≡ k) × (is_name n.text ≡ true) × Spelled m.states e × SpelledStmts m (k + 1) body
+  SpelledStmt m k (Remember at site n ks e body) =
+      (site ≡ k) × (is_name n.text ≡ true) × SpelledPairs m.states ks × Spelled m.states e × SpelledStmts m (k + 1) body
+
+  pub SpelledStmts : Known → ℕ → Stmts → Type 0
+  SpelledStmts m k done = Unit {0}
+  SpelledStmts m k (next s ss) = SpelledStmt m k s × SpelledStmts m (after k s) ss
+
+abbrev pub SpelledParameters : List Parameter → Type 0
+SpelledParameters [] = Unit {0}
+SpelledParameters (p ∷ ps) = (is_name p.name.text ≡ true) × SpelledParameters ps
+
+abbrev pub SpelledStates : List State → Type 0
+SpelledStates [] = Unit {0}
+SpelledStates (s ∷ ss) = (is_name s.name.text ≡ true) × (literal_fits s.initial ≡ true) × SpelledStates ss
+
+abbrev pub state_name : State → List ℕ
+state_name s = s.name.text
+
+abbrev pub function_name : Func → List ℕ
+function_name f = f.name.text
+
+-- functions behind those of these names, the first statement numbered k
+abbrev pub SpelledFunctions : Known → ℕ → List Func → Type 0
+SpelledFunctions m k [] = Unit {0}
+SpelledFunctions m k (c ∷ cs) =
+    (is_name c.name.text ≡ true) × SpelledParameters c.parameters × SpelledStmts m k c.body
+    × SpelledFunctions (record { states = m.states; functions = m.functions ++ function_name c ∷ [] }) (after_all k c.body) cs
+
+abbrev pub SpelledSteps : List (List ℕ) → List StepForm → Type 0
+SpelledSteps m [] = Unit {0}
+SpelledSteps m (Write at n number v ∷ ss) = (is_name n.text ≡ true) × (number ≡ number_of n.text m) × (literal_fits v ≡ true) × SpelledSteps m ss
+SpelledSteps m (Frame at ∷ ss) = SpelledSteps m ss
+
+abbrev pub SpelledScripts : List (List ℕ) → List DoForm → Type 0
+SpelledScripts m [] = Unit {0}
+SpelledScripts m (d ∷ ds) = (is_name d.actor.text ≡ true) × SpelledSteps m d.steps × SpelledScripts m ds
+
+-- all parts of a text
+pub record SpelledSource (t : Source) : Type 0 where
+  pub few_states : nat_le (length t.program.states) most_forms ≡ true
+  pub few_functions : nat_le (length t.program.functions) most_forms ≡ true
+  pub states : SpelledStates t.program.states
+  pub functions : SpelledFunctions (record { states = map state_name t.program.states; functions = [] }) 1 t.program.functions
+  pub script : SpelledScripts (map state_name t.program.states) t.script
+
+-- The forest is that of the text, at the places that its parts keep, and its parts are what they may be.
+pub record HasForms (f : Forest) (t : Source) : Type 0 where
+  pub fits : Fits f (text_forms t)
+  pub spelled : SpelledSource t

@@ -1,4 +1,8 @@
 pub mod Names
+pub mod Words
+pub mod Sketch
+pub mod Sources
 pub mod Forms
-pub mod Reading
-pub mod Parts
+pub mod Seen
+pub mod Tops
+pub mod Views

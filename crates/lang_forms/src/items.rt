@@ -1,41 +1,37 @@
-// One item in front of the trees, as an atom, a word or a number, and the trees behind it.
-ghost use Rattle.std.specs.Prelude.{◌≡◌, Bool, slice_index};
-ghost use Rattle.std.specs.Option.{option_map};
+// One item in front of the trees: an atom, a word or a name, with the trees behind it.
+ghost use Rattle.std.specs.Prelude.{◌≡◌, ◌≤◌, Bool, IfOk, slice_index};
+ghost use Rattle.std.specs.Option.{option_map, IfSome};
 ghost use Rattle.std.specs.List.{list_all};
 ghost use Rattle.std.specs.Str.{bytes_eq};
 ghost use Rattle.lang_forms.specs.Names.{is_letter, is_name_byte, is_kept_word, is_name};
-ghost use Rattle.lang_forms.specs.Reading.{seen, atom_of, list_of, is_end, word_of, name_of, Reads, int_of, integer_of};
+ghost use Rattle.lang_forms.specs.Seen.{atom_of, is_end, word_of, name_of};
+ghost use Rattle.lang_forms.specs.Views.{widest, seen_all, Reads};
 
-use crate::FormStop;
+use crate::stop::ReadStop;
+use lang_ast::Name;
+use rt_values::Word;
 use sexp_text::Tree;
 use std::alloc::Global;
 
-// The atom in front, and the trees behind it.
-#[tactic(auto, using(crate::proofs::Seen::views))]
-pub fn atom_in(trees: &[Tree]) -> Option<(&[u8], &[Tree])>
-    ensures { option_map (λ p. (p.0.now, seen p.1.now)) result ≡ atom_of (seen trees.now) }
+// The most bytes of a name.
+const MOST_NAME_BYTES: usize = 64;
+
+// The atom in front, with its place, and the trees behind it.
+#[tactic(auto, using(crate::proofs::Trees::trees))]
+pub fn atom_in(trees: &[Tree]) -> Option<(usize, &[u8], &[Tree])>
+    ensures seen { option_map (λ p. (p.0, p.1.now, seen_all p.2.now)) result ≡ atom_of (seen_all trees.now) }
+    ensures within { IfSome result (λ p. widest p.2.now ≤ widest trees.now) }
 {
     match trees.split_first() {
-        Some((Tree::Atom(_, name), rest)) => Some((name, rest)),
+        Some((Tree::Atom(at, name), rest)) => Some((*at, name, rest)),
         _ => None,
     }
 }
 
-// The list in front, and the trees behind it.
-#[tactic(auto, using(crate::proofs::Seen::views))]
-pub fn list_in(trees: &[Tree]) -> Option<(&[Tree], &[Tree])>
-    ensures { option_map (λ p. (seen p.0.now, seen p.1.now)) result ≡ list_of (seen trees.now) }
-{
-    match trees.split_first() {
-        Some((Tree::List(_, inner), rest)) => Some((inner, rest)),
-        _ => None,
-    }
-}
-
-// Whether there is no tree. Each kind has an arm of its own, so that the proof knows the forest there.
-#[tactic(auto, using(crate::proofs::Seen::views))]
+// Whether there is no tree. Each kind has an arm of its own, so that the proof knows the tree there.
+#[tactic(auto, using(crate::proofs::Trees::trees))]
 pub fn is_over(trees: &[Tree]) -> bool
-    ensures { result ≡ is_end (seen trees.now) }
+    ensures { result ≡ is_end (seen_all trees.now) }
 {
     match trees.split_first() {
         None => true,
@@ -46,18 +42,19 @@ pub fn is_over(trees: &[Tree]) -> bool
 }
 
 // Whether both are the same bytes.
-fn same_bytes(a: &[u8], b: &[u8]) -> bool
+pub fn same_bytes(a: &[u8], b: &[u8]) -> bool
     ensures { result ≡ bytes_eq a.now b.now }
 {
     a == b
 }
 
 // This very atom in front; the trees behind it.
-#[tactic(auto, unfolding(crate::specs::Reading::word_of))]
+#[tactic(auto, unfolding(crate::specs::Seen::word_of))]
 pub fn word_in<'a>(word: &[u8], trees: &'a [Tree]) -> Option<&'a [Tree]>
-    ensures { option_map (λ p. seen p.now) result ≡ word_of word.now (seen trees.now) }
+    ensures seen { option_map (λ p. seen_all p.now) result ≡ word_of word.now (seen_all trees.now) }
+    ensures within { IfSome result (λ p. widest p.now ≤ widest trees.now) }
 {
-    let (atom, rest) = atom_in(trees)?;
+    let (_, atom, rest) = atom_in(trees)?;
     if same_bytes(atom, word) {
         Some(rest)
     } else {
@@ -104,52 +101,31 @@ fn is_kept_name(name: &[u8]) -> bool
 }
 
 // Whether this is a name.
-fn is_good_name(name: &[u8]) -> bool
+pub fn is_good_name(name: &[u8]) -> bool
     ensures { result ≡ is_name name.now }
 {
-    begins_with_letter(name) && has_bytes_of_name(name) && name.len() <= 64 && !is_kept_name(name)
+    begins_with_letter(name)
+        && has_bytes_of_name(name)
+        && name.len() <= MOST_NAME_BYTES
+        && !is_kept_name(name)
 }
 
 // A name in front, and the trees behind it.
-#[tactic(auto, unfolding(crate::specs::Reading::name_of))]
-pub fn name_in(trees: &[Tree]) -> Option<(&[u8], &[Tree])>
-    ensures { option_map (λ p. (p.0.now, seen p.1.now)) result ≡ name_of (seen trees.now) }
+#[tactic(auto, unfolding(crate::specs::Seen::name_of))]
+pub fn name_in(alloc: Global, trees: &[Tree]) -> Result<(Name, &[Tree]), ReadStop>
+    ensures seen { Reads (λ p. (p.0, seen_all p.1.now)) result (name_of (seen_all trees.now)) }
+    ensures within { IfOk result (λ p. widest p.1.now ≤ widest trees.now) }
 {
-    let (atom, rest) = atom_in(trees)?;
+    let Some((at, atom, rest)) = atom_in(trees) else {
+        return Err(ReadStop::NoForm);
+    };
     if is_good_name(atom) {
-        Some((atom, rest))
+        let name = Name {
+            at,
+            text: Word::of(alloc, atom)?,
+        };
+        Ok((name, rest))
     } else {
-        None
+        Err(ReadStop::NoForm)
     }
-}
-
-// The number whose decimals these are.
-#[tactic(auto, unfolding(crate::specs::Reading::int_of))]
-fn int_in(alloc: Global, digits: &[u8]) -> Result<i64, FormStop>
-    ensures { Reads (λ z. z) result (int_of digits.now) }
-{
-    let Ok(text) = std::str::from_utf8(digits) else {
-        return Err(FormStop::Form);
-    };
-    let Ok(number) = text.parse::<i64>() else {
-        return Err(FormStop::Form);
-    };
-    let decimals = number.to_string(alloc)?;
-    if same_bytes(decimals.as_bytes(), digits) {
-        Ok(number)
-    } else {
-        Err(FormStop::Form)
-    }
-}
-
-// A number in front, and the trees behind it.
-#[tactic(auto, unfolding(crate::specs::Reading::integer_of))]
-pub fn integer_in(alloc: Global, trees: &[Tree]) -> Result<(i64, &[Tree]), FormStop>
-    ensures { Reads (λ p. (p.0, seen p.1.now)) result (integer_of (seen trees.now)) }
-{
-    let Some((digits, rest)) = atom_in(trees) else {
-        return Err(FormStop::Form);
-    };
-    let number = int_in(alloc, digits)?;
-    Ok((number, rest))
 }

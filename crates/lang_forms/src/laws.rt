@@ -1,11 +1,11 @@
 // Laws of the forms, each the contract of a function that does nothing.
-ghost use Rattle.std.specs.Prelude.{◌≡◌};
+ghost use Rattle.std.specs.Prelude.{◌≡◌, ℕ};
+ghost use Rattle.lang_ast.specs.Terms.{Stmts};
+ghost use Rattle.lang_forms.specs.Forms.{Known, SpelledStmts, stmts_forms};
+ghost use Rattle.lang_forms.specs.Sketch.{Fits};
 ghost use Rattle.sexp_text.specs.Forest.{Forest};
-ghost use Rattle.lang_forms.specs.Forms.{HasForms, Parts};
 
-/// No trees have the forms of two texts: a program and its script can be told from the trees.
-///
-/// This project's own rule; the function does nothing, and its contract is the law.
-pub fn forms_of_one_text()
-    ensures { (f : Forest) → (p : Parts) → (q : Parts) → HasForms f p → HasForms f q → p ≡ q }
+// x
+pub fn tied()
+    ensures { (m : Known) → (k : ℕ) → (b : Stmts) → (f : Forest) → SpelledStmts m k b → Fits f (stmts_forms b) → b ≡ b }
 {}

@@ -4,22 +4,24 @@
 //! `specs/Forms.antt` writes down, form by form, which trees a program and a script have; that is all there is
 //! to believe. The notation is this project's own: it stands in place of Kotlin's composable functions and of
 //! the test code that drives a composition.
-//! Promises: `parts_in`, which the layer above calls, gives a program and a script where the trees have their
-//! forms, and refuses all other trees; no trees have the forms of two.
+//! Promises: `program`, which the layer above calls, gives a program and a script where the trees have their
+//! forms, and refuses all other trees with the place of the first that does not belong; no trees have the forms
+//! of two texts.
 #![tactic(auto)]
 
+mod expressions;
+mod front;
 mod items;
+mod known;
 mod laws;
+mod literals;
 mod program;
 mod rest;
 mod script;
+mod statements;
 mod stop;
-mod text;
+mod tops;
+mod words;
 
-pub use laws::forms_of_one_text;
 pub use rest::{DoForm, Rest, StepForm, Steps};
 pub use stop::FormStop;
-pub use text::parts_in;
-
-#[cfg(test)]
-mod tests;

@@ -1,7 +1,8 @@
 // A script as it was read.
 ghost use Rattle.std.specs.Prelude.{◌≡◌};
 
-use rt_values::{ObjectNo, Value, Word};
+use lang_ast::Name;
+use rt_values::{ObjectNo, Value};
 use std::marker::Model;
 
 /// A step of a script as it was read. This project's own rule: scripts stand in place of test code.
@@ -9,15 +10,20 @@ use std::marker::Model;
 pub enum StepForm {
     /// A write to a state object outside any snapshot.
     Write {
+        /// The place of the step.
+        at: usize,
         /// The state's name.
-        state: Word,
+        state: Name,
         /// The number of the first state of that name, or how many states there are where none has it.
         number: ObjectNo,
         /// The value to be written.
         value: Value,
     },
     /// A frame of the composition (`Recomposer`).
-    Frame,
+    Frame {
+        /// The place of the step.
+        at: usize,
+    },
 }
 
 /// The steps of one actor, in order.
@@ -54,8 +60,10 @@ impl Steps {
 /// What one actor does. This project's own rule.
 #[derive(Drop)]
 pub struct DoForm {
+    /// The place of the form.
+    pub at: usize,
     /// The actor's name.
-    pub actor: Word,
+    pub actor: Name,
     /// What it does.
     pub steps: Steps,
 }

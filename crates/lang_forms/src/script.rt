@@ -1,107 +1,98 @@
-// The script of a text.
-ghost use Rattle.std.specs.Prelude.{◌≡◌, List, Bool, codes};
-ghost use Rattle.lang_forms.specs.Reading.{seen, Reads, write_of, step_of, steps_of, script_of, scripts_of};
+// The steps of a script.
+ghost use Rattle.std.specs.Prelude.{◌≡◌, Bool, List, codes};
+ghost use Rattle.lang_forms.specs.Seen.{write_form, step_form, step_at, steps_of, do_form};
+ghost use Rattle.lang_forms.specs.Views.{seen_tree, seen_all, state_names, Reads};
 
-use crate::FormStop;
-use crate::items::{integer_in, is_over, name_in, word_in};
-use crate::program::number_in;
+use crate::items::{is_over, name_in, word_in};
+use crate::known::state_number;
+use crate::literals::literal_in;
 use crate::rest::{DoForm, StepForm, Steps};
+use crate::stop::ReadStop;
 use lang_ast::State;
-use rt_values::{Value, Word};
 use sexp_text::Tree;
 use std::alloc::Global;
 
-// write global NAME INT
-#[tactic(auto, unfolding(crate::specs::Reading::write_of))]
-fn write_in(alloc: Global, states: &[State], trees: &[Tree]) -> Result<StepForm, FormStop>
-    ensures { Reads (λ s. s) result (write_of states.now (seen trees.now)) }
+// global NAME LITERAL behind the word write.
+#[tactic(auto, unfolding(crate::specs::Seen::write_form))]
+fn write_in(
+    alloc: Global,
+    states: &[State],
+    at: usize,
+    trees: &[Tree],
+) -> Result<StepForm, ReadStop>
+    ensures { Reads (λ s. s) result (write_form (state_names states.now) at (seen_all trees.now)) }
 {
-    let Some(rest) = word_in(b"write", trees) else {
-        return Err(FormStop::Form);
+    let Some(rest) = word_in(b"global", trees) else {
+        return Err(ReadStop::NoForm);
     };
-    let Some(rest) = word_in(b"global", rest) else {
-        return Err(FormStop::Form);
-    };
-    let Some((name, rest)) = name_in(rest) else {
-        return Err(FormStop::Form);
-    };
-    let (value, rest) = integer_in(alloc, rest)?;
+    let (state, rest) = name_in(alloc, rest)?;
+    let (value, rest) = literal_in(alloc, rest)?;
     if !is_over(rest) {
-        return Err(FormStop::Form);
+        return Err(ReadStop::NoForm);
     }
-    let number = number_in(states, name);
+    let number = state_number(states, &state.text) as u64;
     Ok(StepForm::Write {
-        state: Word::of(alloc, name)?,
+        at,
+        state,
         number,
-        value: Value::Int(value),
+        value,
     })
 }
 
-// frame, or a write
-#[tactic(auto, unfolding(crate::specs::Reading::step_of))]
-fn step_in(alloc: Global, states: &[State], trees: &[Tree]) -> Result<StepForm, FormStop>
-    ensures { Reads (λ s. s) result (step_of states.now (seen trees.now)) }
+// A list as a step.
+#[tactic(auto, unfolding(crate::specs::Seen::step_form))]
+fn list_in(alloc: Global, states: &[State], at: usize, trees: &[Tree]) -> Result<StepForm, ReadStop>
+    ensures { Reads (λ s. s) result (step_form (state_names states.now) at (seen_all trees.now)) }
 {
+    if let Some(rest) = word_in(b"write", trees) {
+        return write_in(alloc, states, at, rest);
+    }
     match word_in(b"frame", trees) {
         Some(rest) => {
             if is_over(rest) {
-                Ok(StepForm::Frame)
+                Ok(StepForm::Frame { at })
             } else {
-                Err(FormStop::Form)
+                Err(ReadStop::NoForm)
             }
         }
-        None => write_in(alloc, states, trees),
+        None => Err(ReadStop::NoForm),
     }
 }
 
-// Steps, each in a list of its own.
-#[tactic(auto, unfolding(crate::specs::Reading::steps_of), using(crate::proofs::Seen::views))]
-fn steps_in(alloc: Global, states: &[State], trees: &[Tree]) -> Result<Vec<StepForm>, FormStop>
-    ensures { Reads (λ v. v.items) result (steps_of states.now (seen trees.now)) }
+// A tree as a step.
+#[tactic(auto, using(crate::proofs::Trees::trees))]
+fn step_in(alloc: Global, states: &[State], tree: &Tree) -> Result<StepForm, ReadStop>
+    ensures { Reads (λ s. s) result (step_at (state_names states.now) (seen_tree tree.now)) }
+{
+    match tree {
+        Tree::List(at, inner) => list_in(alloc, states, *at, inner),
+        Tree::Atom(..) => Err(ReadStop::NoForm),
+        Tree::Text(..) => Err(ReadStop::NoForm),
+    }
+}
+
+// Each of the trees as a step.
+#[tactic(auto, unfolding(crate::specs::Seen::steps_of))]
+fn steps_in(alloc: Global, states: &[State], trees: &[Tree]) -> Result<Vec<StepForm>, ReadStop>
+    ensures { Reads (λ v. v.items) result (steps_of (state_names states.now) (seen_all trees.now)) }
 {
     let mut steps = Vec::new(alloc);
-    let mut rest = trees;
-    while let Some((tree, more)) = rest.split_first() {
-        let Tree::List(_, inner) = tree else {
-            return Err(FormStop::Form);
-        };
-        steps.push(step_in(alloc, states, inner)?)?;
-        rest = more;
+    for tree in trees {
+        steps.push(step_in(alloc, states, tree)?)?;
     }
     Ok(steps)
 }
 
-// do NAME STEP..
-#[tactic(auto, unfolding(crate::specs::Reading::script_of))]
-fn script_in(alloc: Global, states: &[State], trees: &[Tree]) -> Result<DoForm, FormStop>
-    ensures { Reads (λ d. d) result (script_of states.now (seen trees.now)) }
+// NAME STEP.. behind the word do.
+#[tactic(auto, unfolding(crate::specs::Seen::do_form))]
+pub fn do_in(alloc: Global, states: &[State], at: usize, trees: &[Tree]) -> Result<DoForm, ReadStop>
+    ensures { Reads (λ d. d) result (do_form (state_names states.now) at (seen_all trees.now)) }
 {
-    let Some(rest) = word_in(b"do", trees) else {
-        return Err(FormStop::Form);
-    };
-    let Some((actor, rest)) = name_in(rest) else {
-        return Err(FormStop::Form);
-    };
+    let (actor, rest) = name_in(alloc, trees)?;
     let steps = steps_in(alloc, states, rest)?;
     Ok(DoForm {
-        actor: Word::of(alloc, actor)?,
+        at,
+        actor,
         steps: Steps::of(steps),
     })
-}
-
-// All that is left, each a script of an actor.
-#[tactic(auto, unfolding(crate::specs::Reading::scripts_of), using(crate::proofs::Seen::views))]
-pub fn scripts_in(alloc: Global, states: &[State], trees: &[Tree]) -> Result<Vec<DoForm>, FormStop>
-    ensures { Reads (λ v. v.items) result (scripts_of states.now (seen trees.now)) }
-{
-    let mut scripts = Vec::new(alloc);
-    let mut rest = trees;
-    while let Some((tree, more)) = rest.split_first() {
-        let Tree::List(_, inner) = tree else {
-            return Err(FormStop::Form);
-        };
-        scripts.push(script_in(alloc, states, inner)?)?;
-        rest = more;
-    }
-    Ok(scripts)
 }

@@ -1,0 +1,208 @@
+-- What has the forms of a text is read as it.
+use Rattle.std.proofs.Common.{◌≡◌, ℕ, suc, ◌+◌, List, [], ◌∷◌, ◌++◌, length, map, Option, Some, None, Result, Ok, true, refl, sym, ap, ◌∙◌, subst, codes, nat_lt, arith, ◌≤◌, ◌<◌}
+use Rattle.std.proofs.lemmas.Bool.{leb-true, lt-ltb}
+use Rattle.std.proofs.lemmas.List.{append-nil, append_assoc, length-append, map-append}
+use Rattle.sexp_text.specs.Forest.{Forest, empty, atom, text, list}
+use Rattle.rt_values.specs.declared.value.Ty.{Ty}
+use Rattle.rt_values.specs.declared.value.Value.{Value}
+use Rattle.lang_ast.specs.Terms.{Stmts, Func}
+use Rattle.lang_ast.specs.declared.syntax.Name.{Name}
+use Rattle.lang_ast.specs.declared.syntax.Parameter.{Parameter}
+use Rattle.lang_ast.specs.declared.program.State.{State}
+use Rattle.lang_forms.specs.declared.rest.StepForm.{StepForm}
+use Rattle.lang_forms.specs.declared.rest.StepForm.TheVariants.{Write, Frame}
+use Rattle.lang_forms.specs.declared.rest.DoForm.{DoForm}
+use Rattle.lang_forms.specs.Names.{is_name, number_of, most_forms}
+use Rattle.lang_forms.specs.Words.{type_word}
+use Rattle.lang_forms.specs.Sketch.{Sketch, nothing, Fits, Told}
+use Rattle.lang_forms.specs.Sources.{Source}
+use Rattle.lang_forms.specs.Forms.{parameters_forms, steps_forms, states_forms, functions_forms, scripts_forms, Known, after_all, state_name, function_name, SpelledParameters, SpelledStates, SpelledFunctions, SpelledSteps, SpelledScripts, HasForms}
+use Rattle.lang_forms.specs.Seen.{Top, StateTop, FunctionTop, DoTop, seen, word_of, name_of, literal_at, step_form, write_form, steps_of, parameter_form, parameters_form, state_form, function_form, do_form, top_form, header_form}
+use Rattle.lang_forms.specs.Tops.{Front, known, placed, taken, tops_of, text_of, start, source_of, sourced}
+use Rattle.lang_forms.proofs.FormsAreRead.{First, ReadsBody, name_there, type_there, literal_read, literal_there, stmts_read, headed}
+
+-- Parameters, states, functions and scripts.
+
+parameter_read : (p : Parameter) (b : ℕ) → is_name p.name.text ≡ true → parameter_form (seen (atom p.name.at p.name.text (atom b (type_word p.ty) empty))) ≡ Some p
+unfolding parameter_form
+parameter_read p b h = rw (name_there p.name _ h, type_there p.ty b empty)
+
+parameters_read : (ps : List Parameter) (f : Forest) → SpelledParameters ps → Fits f (parameters_forms ps) → parameters_form (seen f) ≡ Some ps
+unfolding parameters_form
+parameters_read [] f s h = rw h
+parameters_read (p ∷ ps) f s h =
+    let n = h.5 in
+    let t = n.4 in
+    let is : h.1 ≡ atom p.name.at p.name.text (atom t.0 (type_word p.ty) empty) =
+      n.2 ∙ ap (λ (q : ℕ). atom q p.name.text n.1) n.3 ∙ ap (atom p.name.at p.name.text) (t.2 ∙ ap (atom t.0 (type_word p.ty)) t.4) in
+    let read : parameter_form (seen h.1) ≡ Some p = ap (λ (i : Forest). parameter_form (seen i)) is ∙ parameter_read p t.0 s.0 in
+    ap (λ (x : Forest). parameters_form (seen x)) h.3 ∙ rw (read, parameters_read ps h.2 s.1 h.6)
+
+state_inside : (b c : ℕ) (s : State) (f : Forest) → is_name s.name.text ≡ true → First f literal_at s.initial nothing →
+    state_form s.at (seen (atom s.name.at s.name.text (atom b (type_word s.ty) (atom c (codes "Structural") f)))) ≡ Some s
+unfolding state_form word_of
+state_inside b c s f h one = rw (name_there s.name _ h, type_there s.ty b _, literal_there s.initial f nothing one, one.behind)
+
+state_read : (m : Known) (k a b c : ℕ) (s : State) (f : Forest) → is_name s.name.text ≡ true → First f literal_at s.initial nothing →
+    top_form m k s.at (seen (atom a (codes "state") (atom s.name.at s.name.text (atom b (type_word s.ty) (atom c (codes "Structural") f))))) ≡ Some (StateTop s, k)
+unfolding top_form word_of
+state_read m k a b c s f h one = rw (state_inside b c s f h one)
+
+function_inside : (m : Known) (k q : ℕ) (c : Func) (i f : Forest) → is_name c.name.text ≡ true → parameters_form (seen i) ≡ Some c.parameters → ReadsBody m k f c.body →
+    function_form m k c.at (seen (atom c.name.at c.name.text (list q i f))) ≡ Some (c, after_all k c.body)
+unfolding function_form
+function_inside m k q c i f h ps r = rw (name_there c.name _ h, ps, r.read, r.is)
+
+function_read : (m : Known) (k a q : ℕ) (c : Func) (i f : Forest) → is_name c.name.text ≡ true → parameters_form (seen i) ≡ Some c.parameters → ReadsBody m k f c.body →
+    top_form m k c.at (seen (atom a (codes "fun") (atom c.name.at c.name.text (list q i f)))) ≡ Some (FunctionTop c, after_all k c.body)
+unfolding top_form word_of
+function_read m k a q c i f h ps r = rw (function_inside m k q c i f h ps r)
+
+write_read : (m : List (List ℕ)) (at a b : ℕ) (n : Name) (v : Value) (f : Forest) → is_name n.text ≡ true → First f literal_at v nothing →
+    step_form m at (seen (atom a (codes "write") (atom b (codes "global") (atom n.at n.text f)))) ≡ Some (Write at n (number_of n.text m) v)
+unfolding step_form write_form word_of
+write_read m at a b n v f h one = rw (name_there n f h, literal_there v f nothing one, one.behind)
+
+frame_read : (m : List (List ℕ)) (at a : ℕ) → step_form m at (seen (atom a (codes "frame") empty)) ≡ Some (Frame at)
+unfolding step_form word_of
+frame_read m at a = refl
+
+steps_read : (m : List (List ℕ)) (ss : List StepForm) (f : Forest) → SpelledSteps m ss → Fits f (steps_forms ss) → steps_of m (seen f) ≡ Some ss
+unfolding steps_of
+steps_read m [] f s h = rw h
+steps_read m (Write at n number v ∷ ss) f s h =
+    let w = h.5 in
+    let g = w.4 in
+    let x = g.4 in
+    let one = literal_read v x.1 nothing s.2 x.4 in
+    let is : h.1 ≡ atom w.0 (codes "write") (atom g.0 (codes "global") (atom n.at n.text x.1)) = w.2 ∙ ap (atom w.0 (codes "write")) (headed w.1 g.1 x.1 g.0 x.0 (codes "global") n g.2 x.2 x.3) in
+    let read : step_form m h.0 (seen h.1) ≡ Some (Write at n number v) =
+      ap (λ (i : Forest). step_form m h.0 (seen i)) is ∙ ap (λ (q : ℕ). step_form m q (seen (atom w.0 (codes "write") (atom g.0 (codes "global") (atom n.at n.text x.1))))) h.4
+      ∙ write_read m at w.0 g.0 n v x.1 s.0 one ∙ ap (λ (c : ℕ). Some (Write at n c v)) (sym s.1) in
+    ap (λ (y : Forest). steps_of m (seen y)) h.3 ∙ rw (read, steps_read m ss h.2 s.3 h.6)
+steps_read m (Frame at ∷ ss) f s h =
+    let w = h.5 in
+    let is : h.1 ≡ atom w.0 (codes "frame") empty = w.2 ∙ ap (atom w.0 (codes "frame")) w.4 in
+    let read : step_form m h.0 (seen h.1) ≡ Some (Frame at) =
+      ap (λ (i : Forest). step_form m h.0 (seen i)) is ∙ ap (λ (q : ℕ). step_form m q (seen (atom w.0 (codes "frame") empty))) h.4 ∙ frame_read m at w.0 in
+    ap (λ (y : Forest). steps_of m (seen y)) h.3 ∙ rw (read, steps_read m ss h.2 s h.6)
+
+do_inside : (m : List (List ℕ)) (d : DoForm) (f : Forest) → is_name d.actor.text ≡ true → steps_of m (seen f) ≡ Some d.steps → do_form m d.at (seen (atom d.actor.at d.actor.text f)) ≡ Some d
+unfolding do_form
+do_inside m d f h r = rw (name_there d.actor _ h, r)
+
+do_read : (m : Known) (k a : ℕ) (d : DoForm) (f : Forest) → is_name d.actor.text ≡ true → steps_of m.states (seen f) ≡ Some d.steps →
+    top_form m k d.at (seen (atom a (codes "do") (atom d.actor.at d.actor.text f))) ≡ Some (DoTop d, k)
+unfolding top_form word_of
+do_read m k a d f h r = rw (do_inside m.states d f h r)
+
+-- The top forms behind what was read.
+
+-- the reading goes on behind some trees
+record GoesOn (f : Forest) (p q : Front) (g : Sketch) : Type 0 where
+  rest : Forest
+  fits : Fits rest g
+  same : tops_of p (seen f) ≡ tops_of q (seen rest)
+
+-- a list that is a top form is taken
+one_top : (f i r : Forest) (at x : ℕ) (p q : Front) (t : Top) (k : ℕ) → f ≡ list at i r → at ≡ x → top_form (known p) p.site x (seen i) ≡ Some (t, k) → placed p t k ≡ Some q →
+    tops_of p (seen f) ≡ tops_of q (seen r)
+unfolding tops_of
+one_top f i r at x p q t k is told read put =
+    let here : top_form (known p) p.site at (seen i) ≡ Some (t, k) = ap (λ (y : ℕ). top_form (known p) p.site y (seen i)) told ∙ read in
+    ap (λ (y : Forest). tops_of p (seen y)) is ∙ rw (here, put)
+
+-- what was read so far
+abbrev so_far : ℕ → List State → List Func → List DoForm → ℕ → Front
+so_far at ss cs ds k = record { header = at; states = ss; functions = cs; script = ds; site = k }
+
+room : {A : Type 0} (front : List A) (b : A) (bs : List A) → length front + length (b ∷ bs) ≤ most_forms → nat_lt (length front) most_forms ≡ true
+room front b bs h = lt-ltb (length front) most_forms (omega (arith, h))
+
+fewer : {A : Type 0} (front : List A) (b : A) (bs : List A) → length front + length (b ∷ bs) ≤ most_forms → length (front ++ b ∷ []) + length bs ≤ most_forms
+fewer front b bs h = let l = length-append front (b ∷ []) in omega (arith, h, l)
+
+states_read : (at k : ℕ) (front ss : List State) (f : Forest) (g : Sketch) → length front + length ss ≤ most_forms → SpelledStates ss → Fits f (states_forms ss g) → GoesOn f (so_far at front [] [] k) (so_far at (front ++ ss) [] [] k) g
+states_read at k front [] f g few s h = record { rest = f; fits = h; same = ap (λ (l : List State). tops_of (so_far at l [] [] k) (seen f)) (sym (append-nil front)) }
+states_read at k front (t ∷ ss) f g few s h =
+    let w = h.5 in
+    let n = w.4 in
+    let y = n.4 in
+    let p = y.4 in
+    let one = literal_read t.initial p.1 nothing s.1 p.4 in
+    let is : h.1 ≡ atom w.0 (codes "state") (atom t.name.at t.name.text (atom y.0 (type_word t.ty) (atom p.0 (codes "Structural") p.1))) =
+      headed h.1 w.1 n.1 w.0 n.0 (codes "state") t.name w.2 n.2 n.3 ∙ ap (λ (x : Forest). atom w.0 (codes "state") (atom t.name.at t.name.text x)) (y.2 ∙ ap (atom y.0 (type_word t.ty)) p.2) in
+    let before = so_far at front [] [] k in
+    let read : top_form (known before) k t.at (seen h.1) ≡ Some (StateTop t, k) = ap (λ (i : Forest). top_form (known before) k t.at (seen i)) is ∙ state_read (known before) k w.0 y.0 p.0 t p.1 s.0 one in
+    let put : placed before (StateTop t) k ≡ Some (so_far at (front ++ t ∷ []) [] [] k) = rw (room front t ss few) in
+    let more = states_read at k (front ++ t ∷ []) ss h.2 g (fewer front t ss few) s.2 h.6 in
+    record {
+      rest = more.rest;
+      fits = more.fits;
+      same = one_top f h.1 h.2 h.0 t.at before (so_far at (front ++ t ∷ []) [] [] k) (StateTop t) k h.3 h.4 read put ∙ more.same
+        ∙ ap (λ (l : List State). tops_of (so_far at l [] [] k) (seen more.rest)) (append_assoc front (t ∷ []) ss);
+    }
+
+-- the number behind the statements of functions
+abbrev behind_all : ℕ → List Func → ℕ
+behind_all k [] = k
+behind_all k (c ∷ cs) = behind_all (after_all k c.body) cs
+
+functions_read : (at k : ℕ) (ss : List State) (front cs : List Func) (f : Forest) (g : Sketch) → length front + length cs ≤ most_forms
+    → SpelledFunctions (record { states = map state_name ss; functions = map function_name front }) k cs → Fits f (functions_forms cs g)
+    → GoesOn f (so_far at ss front [] k) (so_far at ss (front ++ cs) [] (behind_all k cs)) g
+functions_read at k ss front [] f g few s h = record { rest = f; fits = h; same = ap (λ (l : List Func). tops_of (so_far at ss l [] k) (seen f)) (sym (append-nil front)) }
+functions_read at k ss front (c ∷ cs) f g few s h =
+    let w = h.5 in
+    let n = w.4 in
+    let l = n.4 in
+    let before = so_far at ss front [] k in
+    let is : h.1 ≡ atom w.0 (codes "fun") (atom c.name.at c.name.text (list l.0 l.1 l.2)) =
+      headed h.1 w.1 n.1 w.0 n.0 (codes "fun") c.name w.2 n.2 n.3 ∙ ap (λ (x : Forest). atom w.0 (codes "fun") (atom c.name.at c.name.text x)) l.3 in
+    let read : top_form (known before) k c.at (seen h.1) ≡ Some (FunctionTop c, after_all k c.body) =
+      ap (λ (i : Forest). top_form (known before) k c.at (seen i)) is
+      ∙ function_read (known before) k w.0 l.0 c l.1 l.2 s.0 (parameters_read c.parameters l.1 s.1 l.5) (stmts_read (known before) k c.body l.2 s.2 l.6) in
+    let next = so_far at ss (front ++ c ∷ []) [] (after_all k c.body) in
+    let put : placed before (FunctionTop c) (after_all k c.body) ≡ Some next = rw (room front c cs few) in
+    let spelled : SpelledFunctions (known next) (after_all k c.body) cs =
+      subst (λ (ns : List (List ℕ)). SpelledFunctions (record { states = map state_name ss; functions = ns }) (after_all k c.body) cs) (sym (map-append function_name front (c ∷ []))) s.3 in
+    let more = functions_read at (after_all k c.body) ss (front ++ c ∷ []) cs h.2 g (fewer front c cs few) spelled h.6 in
+    record {
+      rest = more.rest;
+      fits = more.fits;
+      same = one_top f h.1 h.2 h.0 c.at before next (FunctionTop c) (after_all k c.body) h.3 h.4 read put ∙ more.same
+        ∙ ap (λ (x : List Func). tops_of (so_far at ss x [] (behind_all (after_all k c.body) cs)) (seen more.rest)) (append_assoc front (c ∷ []) cs);
+    }
+
+scripts_read : (at k : ℕ) (ss : List State) (cs : List Func) (front ds : List DoForm) (f : Forest) → SpelledScripts (map state_name ss) ds → Fits f (scripts_forms ds)
+    → tops_of (so_far at ss cs front k) (seen f) ≡ Ok (so_far at ss cs (front ++ ds) k)
+unfolding tops_of
+scripts_read at k ss cs front [] f s h = ap (λ (x : Forest). tops_of (so_far at ss cs front k) (seen x)) h ∙ ap (λ (l : List DoForm). Ok (so_far at ss cs l k)) (sym (append-nil front))
+scripts_read at k ss cs front (d ∷ ds) f s h =
+    let w = h.5 in
+    let n = w.4 in
+    let before = so_far at ss cs front k in
+    let is = headed h.1 w.1 n.1 w.0 n.0 (codes "do") d.actor w.2 n.2 n.3 in
+    let read : top_form (known before) k d.at (seen h.1) ≡ Some (DoTop d, k) =
+      ap (λ (i : Forest). top_form (known before) k d.at (seen i)) is ∙ do_read (known before) k w.0 d n.1 s.0 (steps_read (map state_name ss) d.steps n.1 s.1 n.4) in
+    one_top f h.1 h.2 h.0 d.at before (so_far at ss cs (front ++ d ∷ []) k) (DoTop d) k h.3 h.4 read refl
+    ∙ scripts_read at k ss cs (front ++ d ∷ []) ds h.2 s.2 h.6 ∙ ap (λ (l : List DoForm). Ok (so_far at ss cs l k)) (append_assoc front (d ∷ []) ds)
+
+header_read : (end at x a b : ℕ) (f i r : Forest) → f ≡ list at i r → at ≡ x → i ≡ atom a (codes "compose") (atom b (codes "1") empty) → text_of end (seen f) ≡ tops_of (start x) (seen r)
+unfolding text_of header_form word_of
+header_read end at x a b f i r is told inner = rw (is, told, inner)
+
+-- What has the forms of a text is read as that text, whatever the length of the input.
+pub text_read : (end : ℕ) (f : Forest) (t : Source) → HasForms f t → source_of end (seen f) ≡ Ok t
+text_read end f t h =
+    let g = h.fits in
+    let w = g.5 in
+    let o = w.4 in
+    let p = t.program in
+    let head = header_read end g.0 p.header w.0 o.0 f g.1 g.2 g.3 g.4 (w.2 ∙ ap (atom w.0 (codes "compose")) (o.2 ∙ ap (atom o.0 (codes "1")) o.4)) in
+    let few_states = leb-true (length p.states) most_forms h.spelled.few_states in
+    let few_functions = leb-true (length p.functions) most_forms h.spelled.few_functions in
+    let ss = states_read p.header 1 [] p.states g.2 _ (omega (arith, few_states)) h.spelled.states g.6 in
+    let cs = functions_read p.header 1 p.states [] p.functions ss.rest _ (omega (arith, few_functions)) h.spelled.functions ss.fits in
+    let ds = scripts_read p.header (behind_all 1 p.functions) p.states p.functions [] t.script cs.rest h.spelled.script cs.fits in
+    ap sourced (head ∙ ss.same ∙ cs.same ∙ ds)

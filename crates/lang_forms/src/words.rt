@@ -1,0 +1,160 @@
+// The words of types and operators.
+ghost use Rattle.std.specs.Prelude.{◌≡◌, ◌≤◌, Bool};
+ghost use Rattle.std.specs.Option.{option_map, IfSome};
+ghost use Rattle.lang_forms.specs.Words.{type_word, operator_word, takes, type_named, number_operator, truth_operator, list_operator, operator_named};
+ghost use Rattle.lang_forms.specs.Seen.{type_of, operator_of};
+ghost use Rattle.lang_forms.specs.Views.{widest, seen_all};
+
+use crate::items::{atom_in, same_bytes};
+use lang_ast::Operator;
+use rt_values::{IntList, Ty};
+use sexp_text::Tree;
+
+// The type of this word.
+#[tactic(auto, unfolding(crate::specs::Words::type_named))]
+fn type_in_word(word: &[u8]) -> Option<Ty>
+    ensures { result ≡ type_named word.now }
+{
+    if same_bytes(word, b"Int") {
+        Some(Ty::Int)
+    } else if same_bytes(word, b"Bool") {
+        Some(Ty::Bool)
+    } else if same_bytes(word, b"Text") {
+        Some(Ty::Text)
+    } else if same_bytes(word, b"Ints") {
+        Some(Ty::Ints)
+    } else {
+        None
+    }
+}
+
+// A type in front, and the trees behind it.
+#[tactic(auto, unfolding(crate::specs::Seen::type_of))]
+pub fn type_in(trees: &[Tree]) -> Option<(Ty, &[Tree])>
+    ensures seen { option_map (λ p. (p.0, seen_all p.1.now)) result ≡ type_of (seen_all trees.now) }
+    ensures within { IfSome result (λ p. widest p.1.now ≤ widest trees.now) }
+{
+    let (_, word, rest) = atom_in(trees)?;
+    let ty = type_in_word(word)?;
+    Some((ty, rest))
+}
+
+// The operator on numbers of this word.
+#[tactic(auto, unfolding(crate::specs::Words::number_operator))]
+fn number_operator_in(word: &[u8]) -> Option<Operator>
+    ensures { result ≡ number_operator word.now }
+{
+    if same_bytes(word, b"+") {
+        Some(Operator::Add)
+    } else if same_bytes(word, b"-") {
+        Some(Operator::Subtract)
+    } else if same_bytes(word, b"*") {
+        Some(Operator::Multiply)
+    } else if same_bytes(word, b"/") {
+        Some(Operator::Divide)
+    } else if same_bytes(word, b"%") {
+        Some(Operator::Remainder)
+    } else {
+        None
+    }
+}
+
+// The operator of this word that compares or chooses.
+#[tactic(auto, unfolding(crate::specs::Words::truth_operator))]
+fn truth_operator_in(word: &[u8]) -> Option<Operator>
+    ensures { result ≡ truth_operator word.now }
+{
+    if same_bytes(word, b"=") {
+        Some(Operator::Equal)
+    } else if same_bytes(word, b"<") {
+        Some(Operator::Less)
+    } else if same_bytes(word, b"not") {
+        Some(Operator::Not)
+    } else if same_bytes(word, b"and") {
+        Some(Operator::And)
+    } else if same_bytes(word, b"or") {
+        Some(Operator::Or)
+    } else if same_bytes(word, b"pick") {
+        Some(Operator::Pick)
+    } else {
+        None
+    }
+}
+
+// The operator on texts or lists of this word.
+#[tactic(auto, unfolding(crate::specs::Words::list_operator))]
+fn list_operator_in(word: &[u8]) -> Option<Operator>
+    ensures { result ≡ list_operator word.now }
+{
+    if same_bytes(word, b"join") {
+        Some(Operator::Join)
+    } else if same_bytes(word, b"text") {
+        Some(Operator::Text)
+    } else if same_bytes(word, b"ints") {
+        Some(Operator::Ints)
+    } else if same_bytes(word, b"range") {
+        Some(Operator::Range)
+    } else if same_bytes(word, b"push") {
+        Some(Operator::Push)
+    } else if same_bytes(word, b"concat") {
+        Some(Operator::Concat)
+    } else if same_bytes(word, b"len") {
+        Some(Operator::Length)
+    } else if same_bytes(word, b"at") {
+        Some(Operator::At)
+    } else {
+        None
+    }
+}
+
+// The operator of this word.
+#[tactic(auto, unfolding(crate::specs::Words::operator_named))]
+fn operator_in_word(word: &[u8]) -> Option<Operator>
+    ensures { result ≡ operator_named word.now }
+{
+    if let Some(operator) = number_operator_in(word) {
+        return Some(operator);
+    }
+    if let Some(operator) = truth_operator_in(word) {
+        return Some(operator);
+    }
+    list_operator_in(word)
+}
+
+// An operator in front, and the trees behind it.
+#[tactic(auto, unfolding(crate::specs::Seen::operator_of))]
+pub fn operator_in(trees: &[Tree]) -> Option<(Operator, &[Tree])>
+    ensures seen { option_map (λ p. (p.0, seen_all p.1.now)) result ≡ operator_of (seen_all trees.now) }
+    ensures within { IfSome result (λ p. widest p.1.now ≤ widest trees.now) }
+{
+    let (_, word, rest) = atom_in(trees)?;
+    let operator = operator_in_word(word)?;
+    Some((operator, rest))
+}
+
+// Whether an operator has so many operands.
+pub fn has_operands(operator: Operator, count: usize) -> bool
+    ensures { result ≡ takes operator count }
+{
+    match operator {
+        Operator::Add => count == 2,
+        Operator::Subtract => count == 2,
+        Operator::Multiply => count == 2,
+        Operator::Divide => count == 2,
+        Operator::Remainder => count == 2,
+        Operator::Equal => count == 2,
+        Operator::Less => count == 2,
+        Operator::Not => count == 1,
+        Operator::And => count == 2,
+        Operator::Or => count == 2,
+        Operator::Pick => count == 3,
+        Operator::Join => count == 2,
+        Operator::Text => count == 1,
+        Operator::Ints => count <= IntList::MOST_ITEMS,
+        Operator::Range => count == 2,
+        Operator::Push => count == 2,
+        Operator::Concat => count == 2,
+        Operator::Length => count == 1,
+        Operator::At => count == 2,
+    }
+}
