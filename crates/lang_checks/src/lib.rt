@@ -28,4 +28,6 @@ pub use faults::{Fault, Kind};
 pub use laws::{answer_is_least, no_answer_no_fault};
 
 #[cfg(test)]
+mod notation;
+#[cfg(test)]
 mod tests;
