@@ -1,1 +1,6 @@
-pub mod First
+pub mod Forms
+pub mod Least
+pub mod Rows
+pub mod Steps
+pub mod Numbered
+pub mod Fine

@@ -1,1 +1,9 @@
-pub mod Faults
+pub mod FaultOrder
+pub mod Scopes
+pub mod Operands
+pub mod Expressions
+pub mod Statements
+pub mod Chains
+pub mod ProgramFaults
+pub mod Laws
+pub mod Views

@@ -1,72 +1,33 @@
 //! The faults of a program that has the right forms: what makes it no program to compose.
 //!
-//! `check` takes a program that was read and hands it back as `Checked`, whose type keeps that it has no
-//! fault; composing takes `Checked` alone. The Kotlin compiler finds such faults before the runtime sees any
-//! composable; the rules are this project's own.
-//! Promises: `check` is Ok exactly where `specs/Faults.antt` has no fault for the program, and else answers
-//! the first of them.
+//! `check` takes a program that was read and hands it back as `Checked`, whose type keeps that it has no fault;
+//! composing takes `Checked` alone. The Kotlin compiler and the Compose compiler plugin find such faults before the
+//! runtime sees any composable; the rules are this project's own.
+//!
+//! Five passes look for faults: names that stand twice, names that stand for nothing, calls out of order, types, and
+//! calculations that are remembered without depending on their keys alone. `specs/ProgramFaults.antt` lists all faults
+//! of a program, each with its pass and its place in the text.
+//! Promises: `check` is Ok exactly where that list is empty, and else answers the least place of the first pass that
+//! finds a fault.
 #![tactic(auto)]
 
-mod passes;
+mod chains;
+mod checks;
+mod doubles;
+mod environment;
+mod expression;
+mod faults;
+mod functions;
+mod laws;
+mod operands;
+mod resolved;
+mod statement;
 
-pub use passes::{CheckStop, Checked, check};
+pub use checks::{CheckStop, Checked, check};
+pub use faults::{Fault, Kind};
+pub use laws::{answer_is_least, no_answer_no_fault};
 
 #[cfg(test)]
-mod tests {
-    use super::*;
-    use lang_ast::{Attribute, Attributes, Expr, Program, State, Stmt};
-    use rt_values::{ObjectNo, Value, Word};
-    use std::alloc::Global;
-    use std::test::Fail;
-
-    fn state(alloc: Global, name: &[u8]) -> Result<State, Fail> {
-        Ok(State {
-            name: Word::of(alloc, name)?,
-            initial: Value::Int(0),
-        })
-    }
-
-    fn node(alloc: Global, number: ObjectNo) -> Result<Stmt, Fail> {
-        let mut attributes = Vec::new(alloc);
-        attributes.push(Attribute {
-            name: Word::of(alloc, b"text")?,
-            value: Expr::Get {
-                name: Word::of(alloc, b"a")?,
-                number,
-            },
-        })?;
-        Ok(Stmt::Node {
-            kind: Word::of(alloc, b"Text")?,
-            attributes: Attributes::of(attributes),
-        })
-    }
-
-    // Two states of these names, and a node that shows the state of this number.
-    fn program(
-        alloc: Global,
-        first: &[u8],
-        second: &[u8],
-        number: ObjectNo,
-    ) -> Result<Program, Fail> {
-        let mut states = Vec::new(alloc);
-        states.push(state(alloc, first)?)?;
-        states.push(state(alloc, second)?)?;
-        let mut root = Vec::new(alloc);
-        root.push(node(alloc, number)?)?;
-        Ok(Program { states, root })
-    }
-
-    #[test]
-    fn the_first_pass_goes_first(rt: HostRuntime) -> Result<(), Fail> {
-        let alloc = rt.alloc();
-        let checked = check(program(alloc, b"a", b"b", 1)?)?;
-        assert_eq!(rt; (checked.states().len(), checked.root().len()), (2, 1));
-        let unknown = check(program(alloc, b"a", b"b", 2)?).err();
-        assert!(rt; unknown == Some(CheckStop::Unknown));
-        let double = check(program(alloc, b"a", b"a", 1)?).err();
-        assert!(rt; double == Some(CheckStop::Double));
-        let both = check(program(alloc, b"a", b"a", 2)?).err();
-        assert!(rt; both == Some(CheckStop::Double));
-        Ok(())
-    }
-}
+mod notation;
+#[cfg(test)]
+mod tests;

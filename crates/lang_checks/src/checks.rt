@@ -1,0 +1,92 @@
+// Whether a program is well formed.
+ghost use Rattle.std.specs.Prelude.{◌≡◌, ◌<◌, [], length, Some, Err, IfOk, OnOk};
+ghost use Rattle.lang_ast.specs.SyntaxView.{functions_view};
+ghost use Rattle.lang_ast.specs.Programs.{Program as program_data, program_view, root_number};
+ghost use Rattle.lang_checks.specs.declared.faults.Fault.{Fault as fault_data};
+ghost use Rattle.lang_checks.specs.FaultOrder.{least_fault};
+ghost use Rattle.lang_checks.specs.ProgramFaults.{program_faults};
+
+use crate::faults::Fault;
+use crate::functions::least_fault;
+use lang_ast::{Function, Program, State, root_number};
+use rt_values::NoMemory;
+use std::alloc::Global;
+
+/// Why a program is not taken.
+#[derive(Clone, Copy, Debug, PartialEq, Eq)]
+pub enum CheckStop {
+    /// The fault of the first pass that finds one, the least place of its faults.
+    Fault(Fault),
+    /// A request for memory was refused.
+    NoMemory,
+}
+
+impl From<NoMemory> for CheckStop {
+    ghost use Rattle.std.specs.Prelude.{◌≡◌};
+    ghost use Rattle.lang_checks.specs.declared.checks.CheckStop.TheVariants as stop;
+
+    ghost from_gives = { λ _ e. e ≡ stop.NoMemory };
+
+    fn from(_: NoMemory) -> Self {
+        CheckStop::NoMemory
+    }
+}
+
+/// A program without a fault.
+#[derive(Drop)]
+pub struct Checked {
+    header: usize,
+    states: Vec<State>,
+    functions: Vec<Function>,
+    ghost fine: { program_faults (record { header = header; states = states.items; functions = functions_view functions.items }) ≡ [] },
+}
+
+impl Checked {
+    /// The place of the header in the text.
+    pub fn header(&self) -> usize
+        ensures { result ≡ self.now.header }
+    {
+        self.header
+    }
+
+    /// The states, objects 0, 1, .. of the program's world.
+    pub fn states(&self) -> &[State]
+        ensures { result.now ≡ self.now.states.items }
+    {
+        &self.states
+    }
+
+    /// The functions, by number. Each calls functions before it alone.
+    pub fn functions(&self) -> &[Function]
+        ensures { result.now ≡ self.now.functions.items }
+    {
+        &self.functions
+    }
+
+    /// The number of the function `root`, the content of the composition (`setContent`).
+    #[tactic(auto, using(crate::proofs::Fine::root_is_there))]
+    pub fn root(&self) -> usize
+        ensures root { result ≡ root_number (functions_view self.now.functions.items) }
+        ensures there { result < length self.now.functions.items }
+    {
+        root_number(&self.functions)
+    }
+}
+
+/// The same program, known to have no fault, or the fault of the first pass that finds one, with the least place. It
+/// fails for want of memory too.
+#[tactic(auto, using(crate::proofs::Least::no_answer))]
+pub fn check(alloc: Global, program: Program) -> Result<Checked, CheckStop>
+    ensures same { IfOk result (λ c. (c.header ≡ program.header) × (c.states ≡ program.states) × (c.functions ≡ program.functions)) }
+    ensures fine { OnOk result (program_faults (program_view program) ≡ []) }
+    ensures fault { (f : fault_data) → result ≡ Err (CheckStop.Fault f) → least_fault (program_faults (program_view program)) ≡ Some f }
+{
+    match least_fault(alloc, &program)? {
+        Some(fault) => Err(CheckStop::Fault(fault)),
+        None => Ok(Checked {
+            header: program.header,
+            states: program.states,
+            functions: program.functions,
+        }),
+    }
+}
