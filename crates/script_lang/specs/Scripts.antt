@@ -1,25 +1,13 @@
--- The scripts that forms stand for.
-use Rattle.std.specs.Prelude.{ℕ, List, [], ◌∷◌, ◌++◌, Bool, true, nat_lt, map}
-use Rattle.std.specs.List.{list_all}
-use Rattle.std.specs.Str.{bytes_eq}
+-- The scripts that forms stand for, and the faults that scripts have.
+use Rattle.std.specs.Prelude.{ℕ, ◌+◌, List, [], ◌∷◌, ◌++◌, nat_le, nat_lt, map, length, Option, Some, None, if◌then◌else◌}
+use Rattle.std.specs.Option.{option_map}
 use Rattle.lang_forms.specs.declared.rest.StepForm.{StepForm}
 use Rattle.lang_forms.specs.declared.rest.StepForm.TheVariants as form
 use Rattle.lang_forms.specs.declared.rest.DoForm.{DoForm}
 use Rattle.script_lang.specs.declared.script.Step.{Step}
 use Rattle.script_lang.specs.declared.script.Step.TheVariants.{Write, Frame}
-
--- whether its state is one of so many
-abbrev pub is_known : ℕ → StepForm → Bool
-is_known states (form.Write at name number v) = nat_lt number states
-is_known states (form.Frame at) = true
-
-abbrev pub all_known : ℕ → List DoForm → Bool
-all_known states forms = list_all (λ d. list_all (is_known states) d.steps) forms
-
--- all forms are of the first one's actor
-abbrev pub is_one_actor : List DoForm → Bool
-is_one_actor [] = true
-is_one_actor (d ∷ more) = list_all (λ e. bytes_eq e.actor.text d.actor.text) more
+use Rattle.script_lang.specs.declared.script.ScriptStop.{ScriptStop}
+use Rattle.script_lang.specs.declared.script.ScriptStop.TheVariants.{Limit, Unknown}
 
 abbrev pub actor_of : List DoForm → List ℕ
 actor_of [] = []
@@ -40,3 +28,31 @@ all_steps (d ∷ more) = steps_of d.steps ++ all_steps more
 -- more steps are refused
 abbrev pub most_steps : ℕ
 most_steps = 65536
+
+-- the place of the form that passes the limit, where so many steps stand before these
+abbrev pub too_many_at : ℕ → List DoForm → Option ℕ
+too_many_at before [] = None
+too_many_at before (d ∷ more) = if nat_le (before + length d.steps) most_steps then too_many_at (before + length d.steps) more else Some d.at
+
+-- the one, or else the other
+abbrev pub or_else : {A : Type 0} → Option A → Option A → Option A
+or_else None other = other
+or_else (Some a) other = Some a
+
+-- the place of a step on a state that is none of so many
+abbrev pub unknown_step : ℕ → StepForm → Option ℕ
+unknown_step states (form.Write at name number v) = if nat_lt number states then None else Some at
+unknown_step states (form.Frame at) = None
+
+-- the place of the first such step
+abbrev pub unknown_in : ℕ → List StepForm → Option ℕ
+unknown_in states [] = None
+unknown_in states (s ∷ more) = or_else (unknown_step states s) (unknown_in states more)
+
+abbrev pub unknown_at : ℕ → List DoForm → Option ℕ
+unknown_at states [] = None
+unknown_at states (d ∷ more) = or_else (unknown_in states d.steps) (unknown_at states more)
+
+-- Why a script of a program with so many states is refused: too many steps, or else a step on a state that is nowhere; the first of them in the text.
+abbrev pub script_refusal : ℕ → List DoForm → Option ScriptStop
+script_refusal states forms = or_else (option_map Limit (too_many_at 0 forms)) (option_map Unknown (unknown_at states forms))

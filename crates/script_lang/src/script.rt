@@ -1,11 +1,9 @@
 // Scripts, resolved against their program.
-ghost use Rattle.std.specs.Prelude.{◌≡◌, ◌++◌, ◌<◌, ◌≤◌, [], List, ℕ, Bool, true, false, length, Err, IfOk, OnOk};
-ghost use Rattle.std.specs.Str.{bytes_eq};
-ghost use Rattle.std.specs.List.{list_all};
+ghost use Rattle.std.specs.Prelude.{◌≡◌, ◌≢◌, ◌++◌, [], List, ℕ, Option, Some, None, length, IfOk, IfErr, OnOk};
 ghost use Rattle.lang_forms.specs.declared.rest.StepForm.{StepForm as step_form};
-ghost use Rattle.script_lang.specs.Scripts.{is_known, all_known, actor_of, is_one_actor, step_of, steps_of, all_steps, most_steps};
+ghost use Rattle.script_lang.specs.Scripts.{actor_of, step_of, steps_of, all_steps, too_many_at, unknown_step, unknown_in, unknown_at, script_refusal};
+ghost use Rattle.script_lang.specs.declared.script.ScriptStop.TheVariants.{NoMemory as no_memory};
 
-use lang_ast::State;
 use lang_checks::Checked;
 use lang_forms::{DoForm, Rest, StepForm};
 use rt_values::{NoMemory, ObjectNo, Value, Word};
@@ -27,15 +25,13 @@ pub struct Script {
     pub steps: Vec<Step>,
 }
 
-/// Why a script was not taken, in the order in which it is looked through.
+/// Why a script was not taken, and where in the text; in the order in which it is looked through.
 #[derive(Clone, Copy, Debug, PartialEq, Eq)]
 pub enum ScriptStop {
-    /// A second actor: this notation has one.
-    Actor,
-    /// A step on a state that is nowhere.
-    Unknown,
-    /// More than 65,536 steps.
-    Limit,
+    /// At `at` stands the form with which there are more than 65,536 steps.
+    Limit { at: usize },
+    /// At `at` stands the first step on a state that is nowhere.
+    Unknown { at: usize },
     NoMemory,
 }
 
@@ -53,43 +49,64 @@ impl From<NoMemory> for ScriptStop {
 // A script has at most so many steps.
 const MOST_STEPS: usize = 65536;
 
-// Whether all are of this actor.
-fn all_of(actor: &[u8], forms: &[DoForm]) -> bool
-    ensures { result ≡ list_all (λ d. bytes_eq d.actor.text actor.now) forms.now }
+// The place of the form with which there are too many steps.
+fn too_many_at(forms: &[DoForm]) -> Option<usize>
+    ensures { result ≡ too_many_at 0 forms.now }
 {
-    forms.iter().all(|form| form.actor.text.is(actor))
-}
-
-fn has_one_actor(forms: &[DoForm]) -> bool
-    ensures { result ≡ is_one_actor forms.now }
-{
-    match forms.split_first() {
-        None => true,
-        Some((first, more)) => all_of(first.actor.text.bytes(), more),
+    let mut room = MOST_STEPS;
+    let mut rest = forms;
+    while let Some((form, more)) = rest.split_first() {
+        let steps = form.steps.items().len();
+        if room < steps {
+            return Some(form.at);
+        }
+        room -= steps;
+        rest = more;
     }
+    None
 }
 
-fn is_known_step(states: &[State], step: &StepForm) -> bool
-    ensures { result ≡ is_known (length states.now) step.now }
+// The place of a step on a state that is none of so many.
+fn unknown_step(states: usize, step: &StepForm) -> Option<usize>
+    ensures { result ≡ unknown_step states step.now }
 {
     match step {
-        StepForm::Write { number, .. } => (*number as usize) < states.len(),
-        StepForm::Frame { .. } => true,
+        StepForm::Write { at, number, .. } => {
+            if (*number as usize) < states {
+                None
+            } else {
+                Some(*at)
+            }
+        }
+        StepForm::Frame { .. } => None,
     }
 }
 
-fn are_known_steps(states: &[State], steps: &[StepForm]) -> bool
-    ensures { result ≡ list_all (is_known (length states.now)) steps.now }
+fn unknown_in(states: usize, steps: &[StepForm]) -> Option<usize>
+    ensures { result ≡ unknown_in states steps.now }
 {
-    steps.iter().all(|step| is_known_step(states, step))
+    let mut rest = steps;
+    while let Some((step, more)) = rest.split_first() {
+        if let Some(at) = unknown_step(states, step) {
+            return Some(at);
+        }
+        rest = more;
+    }
+    None
 }
 
-fn are_known(states: &[State], forms: &[DoForm]) -> bool
-    ensures { result ≡ all_known (length states.now) forms.now }
+// The place of the first step on a state that is none of so many.
+fn unknown_at(states: usize, forms: &[DoForm]) -> Option<usize>
+    ensures { result ≡ unknown_at states forms.now }
 {
-    forms
-        .iter()
-        .all(|form| are_known_steps(states, form.steps.items()))
+    let mut rest = forms;
+    while let Some((form, more)) = rest.split_first() {
+        if let Some(at) = unknown_in(states, form.steps.items()) {
+            return Some(at);
+        }
+        rest = more;
+    }
+    None
 }
 
 fn first_actor(alloc: Global, forms: &[DoForm]) -> Result<Word, NoMemory>
@@ -139,27 +156,24 @@ fn steps_in(alloc: Global, forms: &[DoForm]) -> Result<Vec<Step>, NoMemory>
     Ok(steps)
 }
 
-/// The script that was read behind a program: all steps in the order of the text, with states by number.
+/// The script that was read behind a program: all steps in the order of the text, with states by number. Its actor
+/// is the first form's; a script has one.
+///
+/// This project's own rule. It fails where there are too many steps, where a step is on a state that is nowhere, and
+/// where memory runs out.
 pub fn script_of(alloc: Global, rest: &Rest, program: &Checked) -> Result<Script, ScriptStop>
     ensures actor { IfOk result (λ s. s.actor ≡ actor_of rest.now.forms.items) }
     ensures steps { IfOk result (λ s. s.steps.items ≡ all_steps rest.now.forms.items) }
-    ensures one { OnOk result (is_one_actor rest.now.forms.items ≡ true) }
-    ensures known { OnOk result (all_known (length program.now.states.items) rest.now.forms.items ≡ true) }
-    ensures few { OnOk result (length (all_steps rest.now.forms.items) ≤ most_steps) }
-    ensures second { result ≡ Err ScriptStop.Actor → is_one_actor rest.now.forms.items ≡ false }
-    ensures unknown { result ≡ Err ScriptStop.Unknown → all_known (length program.now.states.items) rest.now.forms.items ≡ false }
-    ensures many { result ≡ Err ScriptStop.Limit → most_steps < length (all_steps rest.now.forms.items) }
+    ensures fine { OnOk result (script_refusal (length program.now.states.items) rest.now.forms.items ≡ None) }
+    ensures refused { IfErr result (λ stop. stop ≢ no_memory → script_refusal (length program.now.states.items) rest.now.forms.items ≡ Some stop) }
 {
-    if !has_one_actor(&rest.forms) {
-        return Err(ScriptStop::Actor);
+    if let Some(at) = too_many_at(&rest.forms) {
+        return Err(ScriptStop::Limit { at });
     }
-    if !are_known(program.states(), &rest.forms) {
-        return Err(ScriptStop::Unknown);
+    if let Some(at) = unknown_at(program.states().len(), &rest.forms) {
+        return Err(ScriptStop::Unknown { at });
     }
     let steps = steps_in(alloc, &rest.forms)?;
-    if steps.len() > MOST_STEPS {
-        return Err(ScriptStop::Limit);
-    }
     let actor = first_actor(alloc, &rest.forms)?;
     Ok(Script { actor, steps })
 }
