@@ -3,3 +3,4 @@ pub mod SeenIs
 pub mod Ints
 pub mod FormsAreRead
 pub mod TextIsRead
+pub mod Found
