@@ -4,3 +4,4 @@ pub mod Ints
 pub mod FormsAreRead
 pub mod TextIsRead
 pub mod Found
+pub mod ReadHasForms
