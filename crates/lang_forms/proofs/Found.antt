@@ -1,9 +1,8 @@
 -- What is read in front of trees stands there.
-use Rattle.std.proofs.Common.{◌≡◌, ◌⊎◌, inl, inr, ℕ, List, [], ◌∷◌, length, Option, Some, None, Bool, true, false, cond, ℤ, refl, sym, ap, ◌∙◌, subst, codes}
+use Rattle.std.proofs.Common.{◌≡◌, ◌⊎◌, inl, inr, ℕ, List, ◌∷◌, length, Option, Some, None, Bool, true, false, cond, ℤ, refl, sym, ap, ◌∙◌, subst, codes}
 use Rattle.std.specs.Option.{option_map}
-use Rattle.std.specs.Fmt.{signed_decimal}
 use Rattle.std.specs.Str.{bytes_eq}
-use Rattle.std.proofs.lemmas.Bool.{and_parts, and_from}
+use Rattle.std.proofs.lemmas.Bool.{and_from}
 use Rattle.std.proofs.lemmas.Option.{cond_some}
 use Rattle.std.proofs.lemmas.Slice.Eq.{bytes_eq-Decides}
 use Rattle.sexp_text.specs.Forest.{Forest, empty, atom, text, list}
@@ -17,9 +16,9 @@ use Rattle.lang_ast.specs.declared.syntax.Operator.{Operator}
 use Rattle.lang_ast.specs.declared.syntax.Operator.TheVariants as operator
 use Rattle.lang_forms.specs.Names.{is_name, fits, all_fit, is_string, is_list_long}
 use Rattle.lang_forms.specs.Words.{type_word, operator_word, named, or_else, type_named, number_operator, truth_operator, list_operator, operator_named}
-use Rattle.lang_forms.specs.Sketch.{Sketch, nothing, Fits, Told}
+use Rattle.lang_forms.specs.Sketch.{Sketch, Fits, Told}
 use Rattle.lang_forms.specs.Forms.{numbers, literal, literal_fits, plain_fits}
-use Rattle.lang_forms.specs.Seen.{◌>>=◌, choose, when, Seen, seen, is_end, word_of, name_of, type_of, operator_of, int_of, truth_of, plain_of, string_of, ints_of, literal_form, literal_of}
+use Rattle.lang_forms.specs.Seen.{◌>>=◌, choose, Seen, seen, is_end, word_of, name_of, type_of, operator_of, int_of, truth_of, plain_of, string_of, ints_of, literal_form, literal_of}
 use Rattle.lang_forms.proofs.Ints.{decimal-int}
 
 pub inject : {A : Type 0} {a b : A} → Some a ≡ Some b → a ≡ b
@@ -122,12 +121,12 @@ or_else_some (Some b) other a h = inl h
 operator_word_found : (w : List ℕ) (o : Operator) → operator_named w ≡ Some o → w ≡ operator_word o
 unfolding operator_named
 operator_word_found w o h = elim (or_else_some (number_operator w) _ o h) [
-    inl x ↦ number_operator_found w o x
+  | inl x ↦ number_operator_found w o x
   | inr x ↦ elim (or_else_some (truth_operator w) (list_operator w) o x) [
-      inl y ↦ truth_operator_found w o y
+    | inl y ↦ truth_operator_found w o y
     | inr y ↦ list_operator_found w o y
-    ]
   ]
+]
 
 -- a type, and what stands behind it
 pub record Typed (i : Forest) (t : Ty × List Seen) : Type 0 where
@@ -186,6 +185,7 @@ truth_found a v h = by (bytes_eq a (codes "true")) (bytes_eq a (codes "false")) 
   where
     is_truth : (b : Bool) → a ≡ truth_text b → value.Bool b ≡ v → Plain a v
     is_truth b e i = subst (λ (x : Value). Plain a x) i (record { fit = λ p at r g told rest. (at, r, ap (λ (x : List ℕ). atom at x r) e, told, rest); plain = refl; whole = refl })
+
     by : (t u : Bool) → bytes_eq a (codes "true") ≡ t → bytes_eq a (codes "false") ≡ u → cond t (Some (value.Bool true)) (cond u (Some (value.Bool false)) None) ≡ Some v → Plain a v
     by true u x y i = is_truth true (bytes_same a _ x) (inject i)
     by false true x y i = is_truth false (bytes_same a _ y) (inject i)
@@ -194,12 +194,12 @@ truth_found a v h = by (bytes_eq a (codes "true")) (bytes_eq a (codes "false")) 
 pub plain_found : (a : List ℕ) (v : Value) → plain_of a ≡ Some v → Plain a v
 unfolding plain_of
 plain_found a v h = elim (choose_some (int_of a) (λ z. Some (value.Int z)) (truth_of a) v h) [
-    inl x ↦
+  | inl x ↦
       let d = decimal-int a x.0 x.1 in
       let is : value.Int x.0 ≡ v = inject x.2 in
       subst (λ (y : Value). Plain a y) is (record { fit = λ p at r g told rest. (at, r, ap (λ (y : List ℕ). atom at y r) d.0, told, rest); plain = d.1; whole = d.1 })
   | inr x ↦ truth_found a v x.1
-  ]
+]
 
 -- a string that is a literal
 pub record Quoted (s : List ℕ) (v : Value) : Type 0 where

@@ -5,3 +5,5 @@ pub mod FormsAreRead
 pub mod TextIsRead
 pub mod Found
 pub mod ReadHasForms
+pub mod TextHasForms
+pub mod FirstWrong

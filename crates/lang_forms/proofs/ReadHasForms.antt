@@ -1,18 +1,17 @@
 -- What is read as expressions and statements has their forms.
-use Rattle.std.proofs.Common.{◌≡◌, inl, inr, ℕ, suc, ◌+◌, List, [], ◌∷◌, length, Option, Some, None, Bool, true, false, cond, refl, sym, ap, ◌∙◌, subst, codes, eqb-true}
+use Rattle.std.proofs.Common.{◌≡◌, inl, inr, ℕ, suc, ◌+◌, List, [], ◌∷◌, length, Option, Some, None, Bool, true, false, cond, refl, sym, ap, ◌∙◌, subst, codes}
 use Rattle.std.specs.Option.{option_map}
 use Rattle.std.proofs.lemmas.Option.{cond_some}
 use Rattle.sexp_text.specs.Forest.{Forest, empty, atom, text, list}
 use Rattle.rt_values.specs.declared.value.Value.{Value}
 use Rattle.rt_values.specs.declared.value.Value.TheVariants as value
-use Rattle.lang_ast.specs.Terms.{Expr, Literal, Variable, Get, Apply, Exprs, none, more, Named, Stmt, Node, Call, Key, If, For, Let, Remember, Stmts, done, next, exprs, stmts}
+use Rattle.lang_ast.specs.Terms.{Expr, Literal, Variable, Get, Apply, Named, Stmt, If, exprs, stmts}
 use Rattle.lang_ast.specs.declared.syntax.Name.{Name}
-use Rattle.lang_ast.specs.declared.syntax.Operator.{Operator}
-use Rattle.lang_forms.specs.Names.{is_name, is_string, number_of}
-use Rattle.lang_forms.specs.Words.{operator_word, takes}
-use Rattle.lang_forms.specs.Sketch.{Sketch, nothing, Fits, Told}
-use Rattle.lang_forms.specs.Forms.{name, literal, expr_forms, exprs_forms, pairs_forms, stmt_forms, stmts_forms, how_many, Known, Spelled, AllSpelled, SpelledPairs, after, after_all, SpelledStmt, SpelledStmts, plain_fits}
-use Rattle.lang_forms.specs.Seen.{◌>>=◌, choose, when, Seen, seen, form, roles, is_end, word_of, name_of, plain_of, string_of, leaf_of, expr_at, expr_of, exprs_of, get_form, apply_form, expr_form, pair_form, pairs_form, pairs_of, stmt_at, stmts_of, block_of, node_form, call_form, key_form, if_form, for_form, let_form, remember_form, stmt_form, operator_of}
+use Rattle.lang_forms.specs.Names.{is_name, number_of}
+use Rattle.lang_forms.specs.Words.{takes}
+use Rattle.lang_forms.specs.Sketch.{Sketch, nothing, Fits}
+use Rattle.lang_forms.specs.Forms.{name, expr_forms, exprs_forms, pairs_forms, stmt_forms, stmts_forms, how_many, Known, Spelled, AllSpelled, SpelledPairs, after, after_all, SpelledStmt, SpelledStmts, plain_fits}
+use Rattle.lang_forms.specs.Seen.{choose, Seen, seen, is_end, word_of, name_of, plain_of, string_of, leaf_of, expr_at, expr_of, exprs_of, get_form, apply_form, expr_form, pair_form, pairs_form, pairs_of, stmts_of, block_of, node_form, call_form, key_form, if_form, for_form, let_form, remember_form, stmt_form, operator_of}
 use Rattle.lang_forms.proofs.Found.{inject, bind_some, map_some, choose_some, Worded, word_found, name_next, operator_found, end_next, plain_found, string_found, tail}
 
 -- what is said of statements that are read
@@ -132,9 +131,9 @@ apply_found m at i e good h =
 list_found : (m : List (List ℕ)) (at : ℕ) (i : Forest) (e : Expr) → Good i → expr_form m at (seen i) ≡ Some e → ListExpr m at i e
 unfolding expr_form
 list_found m at i e good h = elim (choose_some (word_of (codes "get") (seen i)) (get_form m at) (apply_form m at (seen i)) e h) [
-    inl x ↦ get_found m at i e x.0 (word_found (codes "get") i x.0 x.1) x.2
+  | inl x ↦ get_found m at i e x.0 (word_found (codes "get") i x.0 x.1) x.2
   | inr x ↦ apply_found m at i e good x.1
-  ]
+]
 
 expr_found : (m : List (List ℕ)) (f : Forest) (e : Expr × List Seen) → Good f → expr_of m (seen f) ≡ Some e → ExprFirst m f e
 expr_found m empty e good h = absurd (cc)
@@ -375,7 +374,7 @@ remember_found m k at i t ss good w h =
     })
 
 -- one of two readings
-either : {A B : Type 0} (C : Type 0) (o : Option A) (f : A → Option B) (other : Option B) (y : B) → choose o f other ≡ Some y → ((x : A) → o ≡ Some x → f x ≡ Some y → C) → (other ≡ Some y → C) → C
+pub either : {A B : Type 0} (C : Type 0) (o : Option A) (f : A → Option B) (other : Option B) (y : B) → choose o f other ≡ Some y → ((x : A) → o ≡ Some x → f x ≡ Some y → C) → (other ≡ Some y → C) → C
 either C None f other y h one two = two h
 either C (Some x) f other y h one two = one x refl h
 
