@@ -1,28 +1,22 @@
 -- What has the forms of something is read as it.
-use Rattle.std.proofs.Common.{◌≡◌, ℕ, suc, ◌+◌, List, [], ◌∷◌, ◌++◌, length, map, Option, Some, None, Result, Ok, Bool, true, false, true≢false, ℤ, refl, sym, ap, ◌∙◌, subst, codes, nat_le, nat_lt, arith, ◌≤◌, ◌<◌}
+use Rattle.std.proofs.Common.{◌≡◌, ℕ, suc, ◌+◌, List, [], ◌∷◌, length, Option, Some, None, Bool, true, false, true≢false, ℤ, refl, sym, ap, ◌∙◌, subst, codes}
 use Rattle.std.specs.Fmt.{signed_decimal}
-use Rattle.std.proofs.lemmas.Bool.{and_parts, leb-true, lt-ltb}
-use Rattle.std.proofs.lemmas.List.{append-nil, append_assoc, length-append, map-append}
+use Rattle.std.proofs.lemmas.Bool.{and_parts}
 use Rattle.sexp_text.specs.Forest.{Forest, empty, atom, text, list}
 use Rattle.rt_values.specs.declared.value.Ty.{Ty}
 use Rattle.rt_values.specs.declared.value.Ty.TheVariants as ty
 use Rattle.rt_values.specs.declared.value.Value.{Value}
 use Rattle.rt_values.specs.declared.value.Value.TheVariants as value
 use Rattle.rt_values.specs.Values.{truth_text}
-use Rattle.lang_ast.specs.Terms.{Expr, Literal, Variable, Get, Apply, Exprs, none, more, Named, Stmt, Node, Call, Key, If, For, Let, Remember, Stmts, done, next, Func, exprs, stmts}
+use Rattle.lang_ast.specs.Terms.{Expr, Literal, Variable, Get, Apply, Exprs, none, more, Named, Stmt, Node, Call, Key, If, For, Let, Remember, Stmts, done, next, exprs, stmts}
 use Rattle.lang_ast.specs.declared.syntax.Name.{Name}
 use Rattle.lang_ast.specs.declared.syntax.Operator.{Operator}
 use Rattle.lang_ast.specs.declared.syntax.Operator.TheVariants as operator
-use Rattle.lang_ast.specs.declared.syntax.Parameter.{Parameter}
-use Rattle.lang_ast.specs.declared.program.State.{State}
-use Rattle.lang_forms.specs.declared.rest.StepForm.{StepForm}
-use Rattle.lang_forms.specs.declared.rest.StepForm.TheVariants.{Write, Frame}
-use Rattle.lang_forms.specs.declared.rest.DoForm.{DoForm}
-use Rattle.lang_forms.specs.Names.{is_name, fits, all_fit, is_string, is_list_long, number_of, most_forms}
+use Rattle.lang_forms.specs.Names.{is_name, fits, all_fit, is_string, is_list_long, number_of}
 use Rattle.lang_forms.specs.Words.{type_word, operator_word, takes, type_named, number_operator, truth_operator, list_operator, operator_named}
-use Rattle.lang_forms.specs.Sketch.{Sketch, nothing, Fits, Told}
-use Rattle.lang_forms.specs.Forms.{numbers, literal, expr_forms, exprs_forms, pairs_forms, stmt_forms, stmts_forms, parameters_forms, steps_forms, literal_fits, plain_fits, how_many, Known, Spelled, AllSpelled, SpelledPairs, after, after_all, SpelledStmt, SpelledStmts, SpelledParameters, SpelledSteps}
-use Rattle.lang_forms.specs.Seen.{Seen, seen, form, roles, is_end, word_of, name_of, type_of, operator_of, int_of, truth_of, plain_of, string_of, int_at, ints_of, literal_form, literal_at, literal_of, leaf_of, expr_at, expr_of, exprs_of, get_form, apply_form, expr_form, pair_form, pairs_form, pairs_of, stmt_at, stmts_of, block_of, node_form, call_form, key_form, if_form, for_form, let_form, remember_form, stmt_form, write_form, step_form, step_at, steps_of, parameter_form, parameters_form, parameters_of}
+use Rattle.lang_forms.specs.Sketch.{Sketch, nothing, Fits}
+use Rattle.lang_forms.specs.Forms.{numbers, literal, expr_forms, exprs_forms, pairs_forms, stmt_forms, stmts_forms, literal_fits, how_many, Known, Spelled, AllSpelled, SpelledPairs, after, after_all, SpelledStmt, SpelledStmts}
+use Rattle.lang_forms.specs.Seen.{Seen, seen, form, roles, word_of, name_of, type_of, operator_of, truth_of, plain_of, string_of, ints_of, literal_form, literal_at, literal_of, leaf_of, expr_at, expr_of, exprs_of, get_form, apply_form, expr_form, pair_form, pairs_form, stmt_at, stmts_of, block_of, node_form, call_form, key_form, if_form, for_form, let_form, remember_form, stmt_form}
 use Rattle.lang_forms.proofs.Ints.{int-decimal, letters_no_int, decimal_no_name}
 
 -- one tree that is read as something, and the rest

@@ -3,3 +3,7 @@ pub mod SeenIs
 pub mod Ints
 pub mod FormsAreRead
 pub mod TextIsRead
+pub mod Found
+pub mod ReadHasForms
+pub mod TextHasForms
+pub mod FirstWrong

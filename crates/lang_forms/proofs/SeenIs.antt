@@ -1,10 +1,10 @@
 -- What trees in memory can be read as, through their forest.
-use Rattle.std.proofs.Common.{◌≡◌, ℕ, List, [], ◌∷◌, ◌++◌, map, refl, sym, subst, ap, ◌∙◌}
+use Rattle.std.proofs.Common.{◌≡◌, List, [], ◌∷◌, ◌++◌, map, refl, sym, subst, ap, ◌∙◌}
 use Rattle.sexp_text.specs.Forest.{Forest, empty, atom, text, list, behind}
 use Rattle.sexp_text.specs.View.{joined, tree_view, view_step, forest_view}
 use Rattle.sexp_text.specs.declared.tree.Tree.{Tree}
 use Rattle.sexp_text.specs.declared.tree.Tree.TheOpen.{Tree-F}
-use Rattle.sexp_text.specs.declared.tree.Tree.TheFolds.{fold-Tree, fold-roll-Tree, map-Tree, ind-Tree}
+use Rattle.sexp_text.specs.declared.tree.Tree.TheFolds.{fold-roll-Tree, map-Tree, ind-Tree}
 use Rattle.lang_forms.specs.Seen.{Seen, seen, word, chars, form, roles}
 use Rattle.lang_forms.specs.Views.{seen_tree, seen_step, seen_all}
 

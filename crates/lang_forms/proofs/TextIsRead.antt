@@ -1,11 +1,10 @@
 -- What has the forms of a text is read as it.
-use Rattle.std.proofs.Common.{◌≡◌, ℕ, suc, ◌+◌, List, [], ◌∷◌, ◌++◌, length, map, Option, Some, None, Result, Ok, true, refl, sym, ap, ◌∙◌, subst, codes, nat_lt, arith, ◌≤◌, ◌<◌}
+use Rattle.std.proofs.Common.{◌≡◌, ℕ, ◌+◌, List, [], ◌∷◌, ◌++◌, length, map, Some, Ok, true, refl, sym, ap, ◌∙◌, subst, codes, nat_lt, arith, ◌≤◌}
 use Rattle.std.proofs.lemmas.Bool.{leb-true, lt-ltb}
 use Rattle.std.proofs.lemmas.List.{append-nil, append_assoc, length-append, map-append}
-use Rattle.sexp_text.specs.Forest.{Forest, empty, atom, text, list}
-use Rattle.rt_values.specs.declared.value.Ty.{Ty}
+use Rattle.sexp_text.specs.Forest.{Forest, empty, atom, list}
 use Rattle.rt_values.specs.declared.value.Value.{Value}
-use Rattle.lang_ast.specs.Terms.{Stmts, Func}
+use Rattle.lang_ast.specs.Terms.{Func}
 use Rattle.lang_ast.specs.declared.syntax.Name.{Name}
 use Rattle.lang_ast.specs.declared.syntax.Parameter.{Parameter}
 use Rattle.lang_ast.specs.declared.program.State.{State}
@@ -14,11 +13,11 @@ use Rattle.lang_forms.specs.declared.rest.StepForm.TheVariants.{Write, Frame}
 use Rattle.lang_forms.specs.declared.rest.DoForm.{DoForm}
 use Rattle.lang_forms.specs.Names.{is_name, number_of, most_forms}
 use Rattle.lang_forms.specs.Words.{type_word}
-use Rattle.lang_forms.specs.Sketch.{Sketch, nothing, Fits, Told}
+use Rattle.lang_forms.specs.Sketch.{Sketch, nothing, Fits}
 use Rattle.lang_forms.specs.Sources.{Source}
 use Rattle.lang_forms.specs.Forms.{parameters_forms, steps_forms, states_forms, functions_forms, scripts_forms, Known, after_all, state_name, function_name, SpelledParameters, SpelledStates, SpelledFunctions, SpelledSteps, SpelledScripts, HasForms}
-use Rattle.lang_forms.specs.Seen.{Top, StateTop, FunctionTop, DoTop, seen, word_of, name_of, literal_at, step_form, write_form, steps_of, parameter_form, parameters_form, state_form, function_form, do_form, top_form, header_form}
-use Rattle.lang_forms.specs.Tops.{Front, known, placed, taken, tops_of, text_of, start, source_of, sourced}
+use Rattle.lang_forms.specs.Seen.{Top, StateTop, FunctionTop, DoTop, seen, word_of, literal_at, step_form, write_form, steps_of, parameter_form, parameters_form, state_form, function_form, do_form, top_form, header_form}
+use Rattle.lang_forms.specs.Tops.{Front, known, placed, tops_of, text_of, start, source_of, sourced}
 use Rattle.lang_forms.proofs.FormsAreRead.{First, ReadsBody, name_there, type_there, literal_read, literal_there, stmts_read, headed}
 
 -- Parameters, states, functions and scripts.
@@ -34,7 +33,7 @@ parameters_read (p ∷ ps) f s h =
     let n = h.5 in
     let t = n.4 in
     let is : h.1 ≡ atom p.name.at p.name.text (atom t.0 (type_word p.ty) empty) =
-      n.2 ∙ ap (λ (q : ℕ). atom q p.name.text n.1) n.3 ∙ ap (atom p.name.at p.name.text) (t.2 ∙ ap (atom t.0 (type_word p.ty)) t.4) in
+    n.2 ∙ ap (λ (q : ℕ). atom q p.name.text n.1) n.3 ∙ ap (atom p.name.at p.name.text) (t.2 ∙ ap (atom t.0 (type_word p.ty)) t.4) in
     let read : parameter_form (seen h.1) ≡ Some p = ap (λ (i : Forest). parameter_form (seen i)) is ∙ parameter_read p t.0 s.0 in
     ap (λ (x : Forest). parameters_form (seen x)) h.3 ∙ rw (read, parameters_read ps h.2 s.1 h.6)
 
@@ -77,14 +76,14 @@ steps_read m (Write at n number v ∷ ss) f s h =
     let one = literal_read v x.1 nothing s.2 x.4 in
     let is : h.1 ≡ atom w.0 (codes "write") (atom g.0 (codes "global") (atom n.at n.text x.1)) = w.2 ∙ ap (atom w.0 (codes "write")) (headed w.1 g.1 x.1 g.0 x.0 (codes "global") n g.2 x.2 x.3) in
     let read : step_form m h.0 (seen h.1) ≡ Some (Write at n number v) =
-      ap (λ (i : Forest). step_form m h.0 (seen i)) is ∙ ap (λ (q : ℕ). step_form m q (seen (atom w.0 (codes "write") (atom g.0 (codes "global") (atom n.at n.text x.1))))) h.4
-      ∙ write_read m at w.0 g.0 n v x.1 s.0 one ∙ ap (λ (c : ℕ). Some (Write at n c v)) (sym s.1) in
+    ap (λ (i : Forest). step_form m h.0 (seen i)) is ∙ ap (λ (q : ℕ). step_form m q (seen (atom w.0 (codes "write") (atom g.0 (codes "global") (atom n.at n.text x.1))))) h.4
+    ∙ write_read m at w.0 g.0 n v x.1 s.0 one ∙ ap (λ (c : ℕ). Some (Write at n c v)) (sym s.1) in
     ap (λ (y : Forest). steps_of m (seen y)) h.3 ∙ rw (read, steps_read m ss h.2 s.3 h.6)
 steps_read m (Frame at ∷ ss) f s h =
     let w = h.5 in
     let is : h.1 ≡ atom w.0 (codes "frame") empty = w.2 ∙ ap (atom w.0 (codes "frame")) w.4 in
     let read : step_form m h.0 (seen h.1) ≡ Some (Frame at) =
-      ap (λ (i : Forest). step_form m h.0 (seen i)) is ∙ ap (λ (q : ℕ). step_form m q (seen (atom w.0 (codes "frame") empty))) h.4 ∙ frame_read m at w.0 in
+    ap (λ (i : Forest). step_form m h.0 (seen i)) is ∙ ap (λ (q : ℕ). step_form m q (seen (atom w.0 (codes "frame") empty))) h.4 ∙ frame_read m at w.0 in
     ap (λ (y : Forest). steps_of m (seen y)) h.3 ∙ rw (read, steps_read m ss h.2 s h.6)
 
 do_inside : (m : List (List ℕ)) (d : DoForm) (f : Forest) → is_name d.actor.text ≡ true → steps_of m (seen f) ≡ Some d.steps → do_form m d.at (seen (atom d.actor.at d.actor.text f)) ≡ Some d
@@ -131,7 +130,7 @@ states_read at k front (t ∷ ss) f g few s h =
     let p = y.4 in
     let one = literal_read t.initial p.1 nothing s.1 p.4 in
     let is : h.1 ≡ atom w.0 (codes "state") (atom t.name.at t.name.text (atom y.0 (type_word t.ty) (atom p.0 (codes "Structural") p.1))) =
-      headed h.1 w.1 n.1 w.0 n.0 (codes "state") t.name w.2 n.2 n.3 ∙ ap (λ (x : Forest). atom w.0 (codes "state") (atom t.name.at t.name.text x)) (y.2 ∙ ap (atom y.0 (type_word t.ty)) p.2) in
+    headed h.1 w.1 n.1 w.0 n.0 (codes "state") t.name w.2 n.2 n.3 ∙ ap (λ (x : Forest). atom w.0 (codes "state") (atom t.name.at t.name.text x)) (y.2 ∙ ap (atom y.0 (type_word t.ty)) p.2) in
     let before = so_far at front [] [] k in
     let read : top_form (known before) k t.at (seen h.1) ≡ Some (StateTop t, k) = ap (λ (i : Forest). top_form (known before) k t.at (seen i)) is ∙ state_read (known before) k w.0 y.0 p.0 t p.1 s.0 one in
     let put : placed before (StateTop t) k ≡ Some (so_far at (front ++ t ∷ []) [] [] k) = rw (room front t ss few) in
@@ -140,7 +139,7 @@ states_read at k front (t ∷ ss) f g few s h =
       rest = more.rest;
       fits = more.fits;
       same = one_top f h.1 h.2 h.0 t.at before (so_far at (front ++ t ∷ []) [] [] k) (StateTop t) k h.3 h.4 read put ∙ more.same
-        ∙ ap (λ (l : List State). tops_of (so_far at l [] [] k) (seen more.rest)) (append_assoc front (t ∷ []) ss);
+          ∙ ap (λ (l : List State). tops_of (so_far at l [] [] k) (seen more.rest)) (append_assoc front (t ∷ []) ss);
     }
 
 -- the number behind the statements of functions
@@ -158,20 +157,20 @@ functions_read at k ss front (c ∷ cs) f g few s h =
     let l = n.4 in
     let before = so_far at ss front [] k in
     let is : h.1 ≡ atom w.0 (codes "fun") (atom c.name.at c.name.text (list l.0 l.1 l.2)) =
-      headed h.1 w.1 n.1 w.0 n.0 (codes "fun") c.name w.2 n.2 n.3 ∙ ap (λ (x : Forest). atom w.0 (codes "fun") (atom c.name.at c.name.text x)) l.3 in
+    headed h.1 w.1 n.1 w.0 n.0 (codes "fun") c.name w.2 n.2 n.3 ∙ ap (λ (x : Forest). atom w.0 (codes "fun") (atom c.name.at c.name.text x)) l.3 in
     let read : top_form (known before) k c.at (seen h.1) ≡ Some (FunctionTop c, after_all k c.body) =
-      ap (λ (i : Forest). top_form (known before) k c.at (seen i)) is
-      ∙ function_read (known before) k w.0 l.0 c l.1 l.2 s.0 (parameters_read c.parameters l.1 s.1 l.5) (stmts_read (known before) k c.body l.2 s.2 l.6) in
+    ap (λ (i : Forest). top_form (known before) k c.at (seen i)) is
+    ∙ function_read (known before) k w.0 l.0 c l.1 l.2 s.0 (parameters_read c.parameters l.1 s.1 l.5) (stmts_read (known before) k c.body l.2 s.2 l.6) in
     let next = so_far at ss (front ++ c ∷ []) [] (after_all k c.body) in
     let put : placed before (FunctionTop c) (after_all k c.body) ≡ Some next = rw (room front c cs few) in
     let spelled : SpelledFunctions (known next) (after_all k c.body) cs =
-      subst (λ (ns : List (List ℕ)). SpelledFunctions (record { states = map state_name ss; functions = ns }) (after_all k c.body) cs) (sym (map-append function_name front (c ∷ []))) s.3 in
+    subst (λ (ns : List (List ℕ)). SpelledFunctions (record { states = map state_name ss; functions = ns }) (after_all k c.body) cs) (sym (map-append function_name front (c ∷ []))) s.3 in
     let more = functions_read at (after_all k c.body) ss (front ++ c ∷ []) cs h.2 g (fewer front c cs few) spelled h.6 in
     record {
       rest = more.rest;
       fits = more.fits;
       same = one_top f h.1 h.2 h.0 c.at before next (FunctionTop c) (after_all k c.body) h.3 h.4 read put ∙ more.same
-        ∙ ap (λ (x : List Func). tops_of (so_far at ss x [] (behind_all (after_all k c.body) cs)) (seen more.rest)) (append_assoc front (c ∷ []) cs);
+          ∙ ap (λ (x : List Func). tops_of (so_far at ss x [] (behind_all (after_all k c.body) cs)) (seen more.rest)) (append_assoc front (c ∷ []) cs);
     }
 
 scripts_read : (at k : ℕ) (ss : List State) (cs : List Func) (front ds : List DoForm) (f : Forest) → SpelledScripts (map state_name ss) ds → Fits f (scripts_forms ds)
@@ -184,7 +183,7 @@ scripts_read at k ss cs front (d ∷ ds) f s h =
     let before = so_far at ss cs front k in
     let is = headed h.1 w.1 n.1 w.0 n.0 (codes "do") d.actor w.2 n.2 n.3 in
     let read : top_form (known before) k d.at (seen h.1) ≡ Some (DoTop d, k) =
-      ap (λ (i : Forest). top_form (known before) k d.at (seen i)) is ∙ do_read (known before) k w.0 d n.1 s.0 (steps_read (map state_name ss) d.steps n.1 s.1 n.4) in
+    ap (λ (i : Forest). top_form (known before) k d.at (seen i)) is ∙ do_read (known before) k w.0 d n.1 s.0 (steps_read (map state_name ss) d.steps n.1 s.1 n.4) in
     one_top f h.1 h.2 h.0 d.at before (so_far at ss cs (front ++ d ∷ []) k) (DoTop d) k h.3 h.4 read refl
     ∙ scripts_read at k ss cs (front ++ d ∷ []) ds h.2 s.2 h.6 ∙ ap (λ (l : List DoForm). Ok (so_far at ss cs l k)) (append_assoc front (d ∷ []) ds)
 

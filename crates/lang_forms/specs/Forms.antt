@@ -1,6 +1,6 @@
 -- The forms of a program and a script: the trees that each part has, and what the parts may be.
 -- A word of a form has no place of its own, nor has a list of pairs, of parameters or of a branch.
-use Rattle.std.specs.Prelude.{◌≡◌, ℕ, zero, suc, ◌+◌, ◌&&◌, nat_le, List, [], ◌∷◌, ◌++◌, length, map, Option, Some, None, Bool, true, false, codes, ℤ}
+use Rattle.std.specs.Prelude.{◌≡◌, ℕ, suc, ◌+◌, ◌&&◌, nat_le, List, [], ◌∷◌, ◌++◌, length, map, Option, Some, None, Bool, true, false, codes, ℤ}
 use Rattle.std.specs.Fmt.{signed_decimal}
 use Rattle.sexp_text.specs.Forest.{Forest}
 use Rattle.rt_values.specs.Values.{truth_text}

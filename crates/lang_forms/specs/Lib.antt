@@ -6,3 +6,4 @@ pub mod Forms
 pub mod Seen
 pub mod Tops
 pub mod Views
+pub mod Stops

@@ -278,13 +278,13 @@ remember_form m k at ss = do
 
 unfoldable pub stmt_form : Known → ℕ → ℕ → List Seen → Option (Stmt × ℕ)
 stmt_form m k at ss =
-  choose (word_of (codes "node") ss) (node_form m k at) (
-  choose (word_of (codes "call") ss) (call_form m k at) (
-  choose (word_of (codes "key") ss) (key_form m k at) (
-  choose (word_of (codes "if") ss) (if_form m k at) (
-  choose (word_of (codes "for") ss) (for_form m k at) (
-  choose (word_of (codes "let") ss) (let_form m k at) (
-  choose (word_of (codes "remember") ss) (remember_form m k at) None))))))
+    choose (word_of (codes "node") ss) (node_form m k at) (
+    choose (word_of (codes "call") ss) (call_form m k at) (
+    choose (word_of (codes "key") ss) (key_form m k at) (
+    choose (word_of (codes "if") ss) (if_form m k at) (
+    choose (word_of (codes "for") ss) (for_form m k at) (
+    choose (word_of (codes "let") ss) (let_form m k at) (
+    choose (word_of (codes "remember") ss) (remember_form m k at) None))))))
 
 -- Steps of a script, after the names of the states.
 
@@ -298,8 +298,8 @@ write_form m at ss = do
 
 unfoldable pub step_form : List (List ℕ) → ℕ → List Seen → Option StepForm
 step_form m at ss =
-  choose (word_of (codes "write") ss) (write_form m at) (
-  choose (word_of (codes "frame") ss) (λ r. when (is_end r) (Frame at)) None)
+    choose (word_of (codes "write") ss) (write_form m at) (
+    choose (word_of (codes "frame") ss) (λ r. when (is_end r) (Frame at)) None)
 
 abbrev pub step_at : List (List ℕ) → Seen → Option StepForm
 step_at m (word at a) = None
@@ -363,9 +363,9 @@ do_form m at ss = do
 
 unfoldable pub top_form : Known → ℕ → ℕ → List Seen → Option (Top × ℕ)
 top_form m k at ss =
-  choose (word_of (codes "state") ss) (λ r. option_map (λ s. (StateTop s, k)) (state_form at r)) (
-  choose (word_of (codes "fun") ss) (λ r. option_map (λ c. (FunctionTop c.0, c.1)) (function_form m k at r)) (
-  choose (word_of (codes "do") ss) (λ r. option_map (λ d. (DoTop d, k)) (do_form m.states at r)) None))
+    choose (word_of (codes "state") ss) (λ r. option_map (λ s. (StateTop s, k)) (state_form at r)) (
+    choose (word_of (codes "fun") ss) (λ r. option_map (λ c. (FunctionTop c.0, c.1)) (function_form m k at r)) (
+    choose (word_of (codes "do") ss) (λ r. option_map (λ d. (DoTop d, k)) (do_form m.states at r)) None))
 
 -- compose 1
 unfoldable pub header_form : List Seen → Option (List Seen)

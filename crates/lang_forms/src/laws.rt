@@ -1,11 +1,23 @@
 // Laws of the forms, each the contract of a function that does nothing.
-ghost use Rattle.std.specs.Prelude.{◌≡◌, ℕ};
-ghost use Rattle.lang_ast.specs.Terms.{Stmts};
-ghost use Rattle.lang_forms.specs.Forms.{Known, SpelledStmts, stmts_forms};
-ghost use Rattle.lang_forms.specs.Sketch.{Fits};
+ghost use Rattle.std.specs.Prelude.{◌≡◌, ℕ, Ok};
 ghost use Rattle.sexp_text.specs.Forest.{Forest};
+ghost use Rattle.lang_forms.specs.Sources.{Source};
+ghost use Rattle.lang_forms.specs.Forms.{HasForms};
+ghost use Rattle.lang_forms.specs.Seen.{seen};
+ghost use Rattle.lang_forms.specs.Tops.{source_of};
 
-// x
-pub fn tied()
-    ensures { (m : Known) → (k : ℕ) → (b : Stmts) → (f : Forest) → SpelledStmts m k b → Fits f (stmts_forms b) → b ≡ b }
+/// No trees have the forms of two texts: a program and its script can be told from the trees.
+///
+/// This project's own rule; the function does nothing, and its contract is the law.
+pub fn forms_of_one_text()
+    ensures { (f : Forest) → (t : Source) → (u : Source) → HasForms f t → HasForms f u → t ≡ u }
+{}
+
+/// What has the forms of a text is read as that text, and what is read as a text has its forms, whatever the
+/// length of the input.
+///
+/// This project's own rule; the function does nothing, and its contract is the law.
+pub fn forms_are_what_is_read()
+    ensures read { (end : ℕ) → (f : Forest) → (t : Source) → HasForms f t → source_of end (seen f) ≡ Ok t }
+    ensures forms { (end : ℕ) → (f : Forest) → (t : Source) → source_of end (seen f) ≡ Ok t → HasForms f t }
 {}

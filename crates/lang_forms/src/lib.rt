@@ -15,7 +15,7 @@ mod items;
 mod known;
 mod laws;
 mod literals;
-mod program;
+mod reading;
 mod rest;
 mod script;
 mod statements;
@@ -23,5 +23,7 @@ mod stop;
 mod tops;
 mod words;
 
+pub use laws::{forms_are_what_is_read, forms_of_one_text};
+pub use reading::program;
 pub use rest::{DoForm, Rest, StepForm, Steps};
 pub use stop::FormStop;

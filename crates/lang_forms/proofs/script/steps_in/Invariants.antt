@@ -1,4 +1,4 @@
-use Rattle.std.proofs.Common.{◌≡◌, ◌++◌, map, drop, ◌∷◌}
+use Rattle.std.proofs.Common.{◌≡◌, ◌++◌, drop}
 use Rattle.std.specs.Option.{option_map}
 use Rattle.lang_forms.specs.Views.{seen_all, state_names}
 use Rattle.lang_forms.specs.Seen.{steps_of}

@@ -1,4 +1,4 @@
-use Rattle.std.proofs.Common.{◌≡◌, ◌++◌, map, drop, ◌∷◌, ◌+◌, ◌*◌}
+use Rattle.std.proofs.Common.{◌≡◌, ◌++◌, map, drop, ◌+◌, ◌*◌}
 use Rattle.std.specs.Option.{option_map}
 use Rattle.sexp_text.specs.declared.tree.Tree.{size-Tree}
 use Rattle.lang_ast.specs.SyntaxView.{stmt_view}

@@ -1,0 +1,270 @@
+-- What is read in front of trees stands there.
+use Rattle.std.proofs.Common.{◌≡◌, ◌⊎◌, inl, inr, ℕ, List, ◌∷◌, length, Option, Some, None, Bool, true, false, cond, ℤ, refl, sym, ap, ◌∙◌, subst, codes}
+use Rattle.std.specs.Option.{option_map}
+use Rattle.std.specs.Str.{bytes_eq}
+use Rattle.std.proofs.lemmas.Bool.{and_from}
+use Rattle.std.proofs.lemmas.Option.{cond_some}
+use Rattle.std.proofs.lemmas.Slice.Eq.{bytes_eq-Decides}
+use Rattle.sexp_text.specs.Forest.{Forest, empty, atom, text, list}
+use Rattle.rt_values.specs.declared.value.Ty.{Ty}
+use Rattle.rt_values.specs.declared.value.Ty.TheVariants as ty
+use Rattle.rt_values.specs.declared.value.Value.{Value}
+use Rattle.rt_values.specs.declared.value.Value.TheVariants as value
+use Rattle.rt_values.specs.Values.{truth_text}
+use Rattle.lang_ast.specs.declared.syntax.Name.{Name}
+use Rattle.lang_ast.specs.declared.syntax.Operator.{Operator}
+use Rattle.lang_ast.specs.declared.syntax.Operator.TheVariants as operator
+use Rattle.lang_forms.specs.Names.{is_name, fits, all_fit, is_string, is_list_long}
+use Rattle.lang_forms.specs.Words.{type_word, operator_word, named, or_else, type_named, number_operator, truth_operator, list_operator, operator_named}
+use Rattle.lang_forms.specs.Sketch.{Sketch, Fits, Told}
+use Rattle.lang_forms.specs.Forms.{numbers, literal, literal_fits, plain_fits}
+use Rattle.lang_forms.specs.Seen.{◌>>=◌, choose, Seen, seen, is_end, word_of, name_of, type_of, operator_of, int_of, truth_of, plain_of, string_of, ints_of, literal_form, literal_of}
+use Rattle.lang_forms.proofs.Ints.{decimal-int}
+
+pub inject : {A : Type 0} {a b : A} → Some a ≡ Some b → a ≡ b
+inject h = cc
+
+pub bind_some : {A B : Type 0} (o : Option A) (f : A → Option B) (y : B) → (o >>= f) ≡ Some y → (x : A) × (o ≡ Some x) × (f x ≡ Some y)
+bind_some None f y h = absurd (cc)
+bind_some (Some x) f y h = (x, refl, h)
+
+pub map_some : {A B : Type 0} (o : Option A) (f : A → B) (y : B) → option_map f o ≡ Some y → (x : A) × (o ≡ Some x) × (f x ≡ y)
+map_some None f y h = absurd (cc)
+map_some (Some x) f y h = (x, refl, cc)
+
+pub choose_some : {A B : Type 0} (o : Option A) (f : A → Option B) (other : Option B) (y : B) → choose o f other ≡ Some y → ((x : A) × (o ≡ Some x) × (f x ≡ Some y)) ⊎ ((o ≡ None) × (other ≡ Some y))
+choose_some None f other y h = inr (refl, h)
+choose_some (Some x) f other y h = inl (x, refl, h)
+
+-- Words and names.
+
+bytes_same : (a b : List ℕ) → bytes_eq a b ≡ true → a ≡ b
+bytes_same a b h = (bytes_eq-Decides a b).0 h
+
+-- a word, and what stands behind it
+pub record Worded (i : Forest) (w : List ℕ) (ss : List Seen) : Type 0 where
+  pub at : ℕ
+  pub rest : Forest
+  pub is : i ≡ atom at w rest
+  pub behind : ss ≡ seen rest
+
+pub word_found : (w : List ℕ) (i : Forest) (ss : List Seen) → word_of w (seen i) ≡ Some ss → Worded i w ss
+unfolding word_of
+word_found w empty ss h = absurd (cc)
+word_found w (atom b v r) ss h =
+    let c = cond_some (bytes_eq v w) (seen r) ss h in
+    record { at = b; rest = r; is = ap (λ (x : List ℕ). atom b x r) (bytes_same v w c.0); behind = sym c.1 }
+word_found w (text b v r) ss h = absurd (cc)
+word_found w (list b j r) ss h = absurd (cc)
+
+-- the same behind trees that are seen already
+pub word_next : (w : List ℕ) (i : Forest) (rs ss : List Seen) → rs ≡ seen i → word_of w rs ≡ Some ss → Worded i w ss
+word_next w i rs ss is h = word_found w i ss (ap (word_of w) (sym is) ∙ h)
+
+-- a name, and what stands behind it
+pub record NamedBy (i : Forest) (n : Name × List Seen) : Type 0 where
+  pub rest : Forest
+  pub is : i ≡ atom n.0.at n.0.text rest
+  pub behind : n.1 ≡ seen rest
+  pub good : is_name n.0.text ≡ true
+
+name_found : (i : Forest) (n : Name × List Seen) → name_of (seen i) ≡ Some n → NamedBy i n
+unfolding name_of
+name_found empty n h = absurd (cc)
+name_found (atom b v r) n h =
+    let c = cond_some (is_name v) (record { at = b; text = v }, seen r) n h in
+    subst (λ (m : Name × List Seen). NamedBy (atom b v r) m) c.1 (record { rest = r; is = refl; behind = refl; good = c.0 })
+name_found (text b v r) n h = absurd (cc)
+name_found (list b j r) n h = absurd (cc)
+
+pub name_next : (i : Forest) (rs : List Seen) (n : Name × List Seen) → rs ≡ seen i → name_of rs ≡ Some n → NamedBy i n
+name_next i rs n is h = name_found i n (ap name_of (sym is) ∙ h)
+
+-- the word of something, or of something else
+named_some : {A : Type 0} (word : A → List ℕ) (a b : A) (w : List ℕ) (other : Option A) → (other ≡ Some b → w ≡ word b) → named (word a) a w other ≡ Some b → w ≡ word b
+named_some word a b w other rest h = by (bytes_eq w (word a)) refl h
+  where
+    by : (t : Bool) → bytes_eq w (word a) ≡ t → cond t (Some a) other ≡ Some b → w ≡ word b
+    by true e i = bytes_same w (word a) e ∙ ap word (inject i)
+    by false e i = rest i
+
+no_word : {A : Type 0} (word : A → List ℕ) (b : A) (w : List ℕ) → None ≡ Some b → w ≡ word b
+no_word word b w h = absurd (cc)
+
+type_found : (w : List ℕ) (t : Ty) → type_named w ≡ Some t → w ≡ type_word t
+unfolding type_named
+type_found w t = named_some type_word ty.Int t w _ (named_some type_word ty.Bool t w _ (named_some type_word ty.Text t w _ (named_some type_word ty.Ints t w _ (no_word type_word t w))))
+
+number_operator_found : (w : List ℕ) (o : Operator) → number_operator w ≡ Some o → w ≡ operator_word o
+unfolding number_operator
+number_operator_found w o =
+    named_some operator_word operator.Add o w _ (named_some operator_word operator.Subtract o w _ (named_some operator_word operator.Multiply o w _ (
+    named_some operator_word operator.Divide o w _ (named_some operator_word operator.Remainder o w _ (no_word operator_word o w)))))
+
+truth_operator_found : (w : List ℕ) (o : Operator) → truth_operator w ≡ Some o → w ≡ operator_word o
+unfolding truth_operator
+truth_operator_found w o =
+    named_some operator_word operator.Equal o w _ (named_some operator_word operator.Less o w _ (named_some operator_word operator.Not o w _ (
+    named_some operator_word operator.And o w _ (named_some operator_word operator.Or o w _ (named_some operator_word operator.Pick o w _ (no_word operator_word o w))))))
+
+list_operator_found : (w : List ℕ) (o : Operator) → list_operator w ≡ Some o → w ≡ operator_word o
+unfolding list_operator
+list_operator_found w o =
+    named_some operator_word operator.Join o w _ (named_some operator_word operator.Text o w _ (named_some operator_word operator.Ints o w _ (
+    named_some operator_word operator.Range o w _ (named_some operator_word operator.Push o w _ (named_some operator_word operator.Concat o w _ (
+    named_some operator_word operator.Length o w _ (named_some operator_word operator.At o w _ (no_word operator_word o w))))))))
+
+or_else_some : {A : Type 0} (o other : Option A) (a : A) → or_else o other ≡ Some a → (o ≡ Some a) ⊎ (other ≡ Some a)
+or_else_some None other a h = inr h
+or_else_some (Some b) other a h = inl h
+
+operator_word_found : (w : List ℕ) (o : Operator) → operator_named w ≡ Some o → w ≡ operator_word o
+unfolding operator_named
+operator_word_found w o h = elim (or_else_some (number_operator w) _ o h) [
+  | inl x ↦ number_operator_found w o x
+  | inr x ↦ elim (or_else_some (truth_operator w) (list_operator w) o x) [
+    | inl y ↦ truth_operator_found w o y
+    | inr y ↦ list_operator_found w o y
+  ]
+]
+
+-- a type, and what stands behind it
+pub record Typed (i : Forest) (t : Ty × List Seen) : Type 0 where
+  pub at : ℕ
+  pub rest : Forest
+  pub is : i ≡ atom at (type_word t.0) rest
+  pub behind : t.1 ≡ seen rest
+
+pub type_next : (i : Forest) (rs : List Seen) (t : Ty × List Seen) → rs ≡ seen i → type_of rs ≡ Some t → Typed i t
+unfolding type_of
+type_next empty rs t is h = absurd (cc (ap type_of (sym is) ∙ h))
+type_next (atom b v r) rs t is h =
+    let c = bind_some (type_named v) (λ x. Some (x, seen r)) t (ap type_of (sym is) ∙ h) in
+    let same : (c.0, seen r) ≡ t = inject c.2 in
+    subst (λ (m : Ty × List Seen). Typed (atom b v r) m) same (record { at = b; rest = r; is = ap (λ (x : List ℕ). atom b x r) (type_found v c.0 c.1); behind = refl })
+type_next (text b v r) rs t is h = absurd (cc (ap type_of (sym is) ∙ h))
+type_next (list b j r) rs t is h = absurd (cc (ap type_of (sym is) ∙ h))
+
+-- an operator, and what stands behind it
+pub record Operated (i : Forest) (o : Operator × List Seen) : Type 0 where
+  pub at : ℕ
+  pub rest : Forest
+  pub is : i ≡ atom at (operator_word o.0) rest
+  pub behind : o.1 ≡ seen rest
+
+pub operator_found : (i : Forest) (o : Operator × List Seen) → operator_of (seen i) ≡ Some o → Operated i o
+unfolding operator_of
+operator_found empty o h = absurd (cc)
+operator_found (atom b v r) o h =
+    let c = bind_some (operator_named v) (λ x. Some (x, seen r)) o h in
+    let same : (c.0, seen r) ≡ o = inject c.2 in
+    subst (λ (m : Operator × List Seen). Operated (atom b v r) m) same (record { at = b; rest = r; is = ap (λ (x : List ℕ). atom b x r) (operator_word_found v c.0 c.1); behind = refl })
+operator_found (text b v r) o h = absurd (cc)
+operator_found (list b j r) o h = absurd (cc)
+
+end_found : (i : Forest) → is_end (seen i) ≡ true → i ≡ empty
+end_found empty h = refl
+end_found (atom b v r) h = absurd (cc)
+end_found (text b v r) h = absurd (cc)
+end_found (list b j r) h = absurd (cc)
+
+pub end_next : (i : Forest) (rs : List Seen) → rs ≡ seen i → is_end rs ≡ true → i ≡ empty
+end_next i rs is h = end_found i (ap is_end (sym is) ∙ h)
+
+-- Literals.
+
+-- an atom that is a literal
+pub record Plain (a : List ℕ) (v : Value) : Type 0 where
+  pub fit : (p : Option ℕ) (at : ℕ) (r : Forest) (g : Sketch) → Told p at → Fits r g → Fits (atom at a r) (literal p v g)
+  pub plain : plain_fits v ≡ true
+  pub whole : literal_fits v ≡ true
+
+truth_found : (a : List ℕ) (v : Value) → truth_of a ≡ Some v → Plain a v
+unfolding truth_of
+truth_found a v h = by (bytes_eq a (codes "true")) (bytes_eq a (codes "false")) refl refl h
+  where
+    is_truth : (b : Bool) → a ≡ truth_text b → value.Bool b ≡ v → Plain a v
+    is_truth b e i = subst (λ (x : Value). Plain a x) i (record { fit = λ p at r g told rest. (at, r, ap (λ (x : List ℕ). atom at x r) e, told, rest); plain = refl; whole = refl })
+
+    by : (t u : Bool) → bytes_eq a (codes "true") ≡ t → bytes_eq a (codes "false") ≡ u → cond t (Some (value.Bool true)) (cond u (Some (value.Bool false)) None) ≡ Some v → Plain a v
+    by true u x y i = is_truth true (bytes_same a _ x) (inject i)
+    by false true x y i = is_truth false (bytes_same a _ y) (inject i)
+    by false false x y i = absurd (cc)
+
+pub plain_found : (a : List ℕ) (v : Value) → plain_of a ≡ Some v → Plain a v
+unfolding plain_of
+plain_found a v h = elim (choose_some (int_of a) (λ z. Some (value.Int z)) (truth_of a) v h) [
+  | inl x ↦
+      let d = decimal-int a x.0 x.1 in
+      let is : value.Int x.0 ≡ v = inject x.2 in
+      subst (λ (y : Value). Plain a y) is (record { fit = λ p at r g told rest. (at, r, ap (λ (y : List ℕ). atom at y r) d.0, told, rest); plain = d.1; whole = d.1 })
+  | inr x ↦ truth_found a v x.1
+]
+
+-- a string that is a literal
+pub record Quoted (s : List ℕ) (v : Value) : Type 0 where
+  pub is : value.Text s ≡ v
+  pub good : is_string s ≡ true
+
+pub string_found : (s : List ℕ) (v : Value) → string_of s ≡ Some v → Quoted s v
+unfolding string_of
+string_found s v h = let c = cond_some (is_string s) (value.Text s) v h in record { is = c.1; good = c.0 }
+
+ints_found : (f : Forest) (zs : List ℤ) → ints_of (seen f) ≡ Some zs → Fits f (numbers zs) × (all_fit zs ≡ true)
+unfolding ints_of
+ints_found empty zs h = rw (← inject h) (refl, refl)
+ints_found (atom at a f) zs h =
+    let z = bind_some (int_of a) _ zs h in
+    let rest = map_some (ints_of (seen f)) (λ (ys : List ℤ). z.0 ∷ ys) zs z.2 in
+    let d = decimal-int a z.0 z.1 in
+    let all = ints_found f rest.0 rest.1 in
+    subst (λ (l : List ℤ). Fits (atom at a f) (numbers l) × (all_fit l ≡ true)) rest.2 ((at, f, ap (λ (y : List ℕ). atom at y f) d.0, tt, all.0), and_from (fits z.0) (all_fit rest.0) d.1 all.1)
+ints_found (text at s f) zs h = absurd (cc)
+ints_found (list at i f) zs h = absurd (cc)
+
+-- a list that is a literal
+record Listed (i : Forest) (v : Value) : Type 0 where
+  fit : (at : ℕ) (r : Forest) (g : Sketch) → Fits r g → Fits (list at i r) (literal None v g)
+  whole : literal_fits v ≡ true
+
+list_found : (i : Forest) (v : Value) → literal_form (seen i) ≡ Some v → Listed i v
+unfolding literal_form
+list_found i v h =
+    let w = bind_some (word_of (codes "ints") (seen i)) _ v h in
+    let zs = bind_some (ints_of w.0) _ v w.2 in
+    let c = cond_some (is_list_long (length zs.0)) (value.Ints zs.0) v zs.2 in
+    let word = word_found (codes "ints") i w.0 w.1 in
+    let all = ints_found word.rest zs.0 (ap ints_of (sym word.behind) ∙ zs.1) in
+    subst (λ (x : Value). Listed i x) c.1
+    (record { fit = λ at r g rest. (at, i, r, refl, tt, (word.at, word.rest, word.is, tt, all.0), rest); whole = and_from (is_list_long (length zs.0)) (all_fit zs.0) c.0 all.1 })
+
+-- the trees behind the first
+abbrev pub tail : Forest → Forest
+tail empty = empty
+tail (atom at a f) = f
+tail (text at s f) = f
+tail (list at i f) = f
+
+-- a literal in front, and what stands behind it
+pub record LiteralFirst (f : Forest) (v : Value × List Seen) : Type 0 where
+  pub behind : v.1 ≡ seen (tail f)
+  pub fit : (g : Sketch) → Fits (tail f) g → Fits f (literal None v.0 g)
+  pub whole : literal_fits v.0 ≡ true
+
+literal_found : (f : Forest) (v : Value × List Seen) → literal_of (seen f) ≡ Some v → LiteralFirst f v
+literal_found empty v h = absurd (cc)
+literal_found (atom at a f) v h =
+    let x = map_some (plain_of a) (λ (y : Value). (y, seen f)) v h in
+    let p = plain_found a x.0 x.1 in
+    subst (λ (y : Value × List Seen). LiteralFirst (atom at a f) y) x.2 (record { behind = refl; fit = λ g rest. p.fit None at f g tt rest; whole = p.whole })
+literal_found (text at s f) v h =
+    let x = map_some (string_of s) (λ (y : Value). (y, seen f)) v h in
+    let q = string_found s x.0 x.1 in
+    subst (λ (y : Value × List Seen). LiteralFirst (text at s f) y) (ap (λ (y : Value). (y, seen f)) q.is ∙ x.2) (record { behind = refl; fit = λ g rest. (at, f, refl, tt, rest); whole = q.good })
+literal_found (list at i f) v h =
+    let x = map_some (literal_form (seen i)) (λ (y : Value). (y, seen f)) v h in
+    let l = list_found i x.0 x.1 in
+    subst (λ (y : Value × List Seen). LiteralFirst (list at i f) y) x.2 (record { behind = refl; fit = λ g rest. l.fit at f g rest; whole = l.whole })
+
+pub literal_next : (f : Forest) (rs : List Seen) (v : Value × List Seen) → rs ≡ seen f → literal_of rs ≡ Some v → LiteralFirst f v
+literal_next f rs v is h = literal_found f v (ap literal_of (sym is) ∙ h)

@@ -1,0 +1,414 @@
+-- What is read as a text has its forms.
+use Rattle.std.proofs.Common.{◌≡◌, ℕ, List, [], ◌∷◌, ◌++◌, length, map, Option, Some, None, Result, Ok, Err, Bool, true, false, true≢false, cond, refl, sym, ap, ◌∙◌, subst, codes, nat_lt, ◌&&◌, arith, ◌≤◌}
+use Rattle.std.specs.Option.{option_map}
+use Rattle.std.proofs.lemmas.Bool.{and_parts, ltb-true, le-leb}
+use Rattle.std.proofs.lemmas.List.{append-nil, append_assoc, length-append, map-append}
+use Rattle.std.proofs.lemmas.Option.{cond_some}
+use Rattle.sexp_text.specs.Forest.{Forest, empty, atom, text, list}
+use Rattle.lang_ast.specs.Terms.{Func}
+use Rattle.lang_ast.specs.declared.syntax.Parameter.{Parameter}
+use Rattle.lang_ast.specs.declared.program.State.{State}
+use Rattle.lang_forms.specs.declared.rest.StepForm.{StepForm}
+use Rattle.lang_forms.specs.declared.rest.StepForm.TheVariants.{Write, Frame}
+use Rattle.lang_forms.specs.declared.rest.DoForm.{DoForm}
+use Rattle.lang_forms.specs.Names.{is_name, number_of, most_forms}
+use Rattle.lang_forms.specs.Sketch.{Sketch, nothing, Fits}
+use Rattle.lang_forms.specs.Sources.{Source}
+use Rattle.lang_forms.specs.Forms.{parameters_forms, state_forms, function_forms, do_forms, steps_forms, top_forms, Known, after_all, state_name, function_name, literal_fits, SpelledStmts, SpelledParameters, SpelledStates, SpelledFunctions, SpelledSteps, SpelledScripts, HasForms}
+use Rattle.lang_forms.specs.Seen.{when, Top, StateTop, FunctionTop, DoTop, Seen, seen, is_end, word_of, name_of, type_of, literal_of, step_form, write_form, steps_of, parameter_form, parameters_form, parameters_of, stmts_of, state_form, function_form, do_form, top_form, header_form, is_there}
+use Rattle.lang_forms.specs.Tops.{Front, known, source, is_none, placed, followed, tops_of, text_of, start, source_of, sourced}
+use Rattle.lang_forms.proofs.Found.{inject, bind_some, map_some, Worded, word_found, word_next, name_next, type_next, literal_next, end_next, tail}
+use Rattle.lang_forms.proofs.ReadHasForms.{either, body_found}
+
+-- Parameters, states, functions and scripts.
+
+-- NAME TYPE
+record ParameterFits (i : Forest) (p : Parameter) : Type 0 where
+  fits : (at : ℕ) (f : Forest) (ps : List Parameter) → Fits f (parameters_forms ps) → Fits (list at i f) (parameters_forms (p ∷ ps))
+  good : is_name p.name.text ≡ true
+
+parameter_found : (i : Forest) (p : Parameter) → parameter_form (seen i) ≡ Some p → ParameterFits i p
+unfolding parameter_form
+parameter_found i p h =
+    let n = bind_some (name_of (seen i)) _ p h in
+    let x = name_next i (seen i) n.0 refl n.1 in
+    let t = bind_some (type_of n.0.1) _ p n.2 in
+    let y = type_next x.rest n.0.1 t.0 x.behind t.1 in
+    let made : Parameter = record { name = n.0.0; ty = t.0.0 } in
+    let c = cond_some (is_end t.0.1) made p t.2 in
+    let over = end_next y.rest t.0.1 y.behind c.0 in
+    subst (λ (q : Parameter). ParameterFits i q) c.1
+    (record { fits = λ at f ps rest. (at, i, f, refl, tt, (n.0.0.at, x.rest, x.is, refl, (y.at, y.rest, y.is, tt, over)), rest); good = x.good })
+
+parameters_found : (f : Forest) (ps : List Parameter) → parameters_form (seen f) ≡ Some ps → Fits f (parameters_forms ps) × SpelledParameters ps
+unfolding parameters_form
+parameters_found empty ps h = rw (← inject h) (refl, tt)
+parameters_found (atom at a f) ps h = absurd (cc)
+parameters_found (text at s f) ps h = absurd (cc)
+parameters_found (list at i f) ps h =
+    let p = bind_some (parameter_form (seen i)) _ ps h in
+    let rest = map_some (parameters_form (seen f)) (λ (l : List Parameter). p.0 ∷ l) ps p.2 in
+    let all = parameters_found f rest.0 rest.1 in
+    let one = parameter_found i p.0 p.1 in
+    subst (λ (l : List Parameter). Fits (list at i f) (parameters_forms l) × SpelledParameters l) rest.2 (one.fits at f rest.0 all.0, (one.good, all.1))
+
+-- a list of parameters in front
+record ParametersFirst (f : Forest) (ps : List Parameter × List Seen) : Type 0 where
+  at : ℕ
+  inner : Forest
+  rest : Forest
+  is : f ≡ list at inner rest
+  behind : ps.1 ≡ seen rest
+  fits : Fits inner (parameters_forms ps.0)
+  spelled : SpelledParameters ps.0
+
+parameters_first : (f : Forest) (ps : List Parameter × List Seen) → parameters_of (seen f) ≡ Some ps → ParametersFirst f ps
+parameters_first empty ps h = absurd (cc)
+parameters_first (atom at a f) ps h = absurd (cc)
+parameters_first (text at s f) ps h = absurd (cc)
+parameters_first (list at i f) ps h =
+    let x = map_some (parameters_form (seen i)) (λ (l : List Parameter). (l, seen f)) ps h in
+    let all = parameters_found i x.0 x.1 in
+    subst (λ (p : List Parameter × List Seen). ParametersFirst (list at i f) p) x.2
+    (record { at = at; inner = i; rest = f; is = refl; behind = refl; fits = all.0; spelled = all.1 })
+
+-- a step with those behind it
+record StepFits (m : List (List ℕ)) (at : ℕ) (i : Forest) (t : StepForm) : Type 0 where
+  fits : (f : Forest) (ts : List StepForm) → Fits f (steps_forms ts) → Fits (list at i f) (steps_forms (t ∷ ts))
+  spelled : (ts : List StepForm) → SpelledSteps m ts → SpelledSteps m (t ∷ ts)
+
+write_found : (m : List (List ℕ)) (at : ℕ) (i : Forest) (t : StepForm) (ss : List Seen) → Worded i (codes "write") ss → write_form m at ss ≡ Some t → StepFits m at i t
+unfolding write_form
+write_found m at i t ss w h =
+    let o = bind_some (word_of (codes "global") ss) _ t h in
+    let g = word_next (codes "global") w.rest ss o.0 w.behind o.1 in
+    let n = bind_some (name_of o.0) _ t o.2 in
+    let x = name_next g.rest o.0 n.0 g.behind n.1 in
+    let v = bind_some (literal_of n.0.1) _ t n.2 in
+    let y = literal_next x.rest n.0.1 v.0 x.behind v.1 in
+    let made : StepForm = Write at n.0.0 (number_of n.0.0.text m) v.0.0 in
+    let c = cond_some (is_end v.0.1) made t v.2 in
+    let over = end_next (tail x.rest) v.0.1 y.behind c.0 in
+    subst (λ (q : StepForm). StepFits m at i q) c.1 (record {
+      fits = λ f ts rest. (at, i, f, refl, refl, (w.at, w.rest, w.is, tt, (g.at, g.rest, g.is, tt, (n.0.0.at, x.rest, x.is, refl, y.fit nothing over))), rest);
+      spelled = λ ts rest. (x.good, refl, y.whole, rest);
+    })
+
+frame_found : (m : List (List ℕ)) (at : ℕ) (i : Forest) (t : StepForm) (ss : List Seen) → Worded i (codes "frame") ss → when (is_end ss) (Frame at) ≡ Some t → StepFits m at i t
+frame_found m at i t ss w h =
+    let c = cond_some (is_end ss) (Frame at) t h in
+    let over = end_next w.rest ss w.behind c.0 in
+    subst (λ (q : StepForm). StepFits m at i q) c.1 (record { fits = λ f ts rest. (at, i, f, refl, refl, (w.at, w.rest, w.is, tt, over), rest); spelled = λ ts rest. rest })
+
+step_found : (m : List (List ℕ)) (at : ℕ) (i : Forest) (t : StepForm) → step_form m at (seen i) ≡ Some t → StepFits m at i t
+unfolding step_form
+step_found m at i t h =
+    let C = StepFits m at i t in
+    either C (word_of (codes "write") (seen i)) (write_form m at) _ t h (λ ss w x. write_found m at i t ss (word_found (codes "write") i ss w) x) (λ h1.
+    either C (word_of (codes "frame") (seen i)) (λ r. when (is_end r) (Frame at)) None t h1 (λ ss w x. frame_found m at i t ss (word_found (codes "frame") i ss w) x) (λ h2. absurd (cc (h2))))
+
+steps_found : (m : List (List ℕ)) (f : Forest) (ts : List StepForm) → steps_of m (seen f) ≡ Some ts → Fits f (steps_forms ts) × SpelledSteps m ts
+unfolding steps_of
+steps_found m empty ts h = rw (← inject h) (refl, tt)
+steps_found m (atom at a f) ts h = absurd (cc)
+steps_found m (text at s f) ts h = absurd (cc)
+steps_found m (list at i f) ts h =
+    let t = bind_some (step_form m at (seen i)) _ ts h in
+    let rest = map_some (steps_of m (seen f)) (λ (l : List StepForm). t.0 ∷ l) ts t.2 in
+    let all = steps_found m f rest.0 rest.1 in
+    let one = step_found m at i t.0 t.1 in
+    subst (λ (l : List StepForm). Fits (list at i f) (steps_forms l) × SpelledSteps m l) rest.2 (one.fits f rest.0 all.0, one.spelled rest.0 all.1)
+
+-- Top forms.
+
+-- what is said of a state, a function and a script with the number of the next statement
+abbrev TopFits : Known → ℕ → ℕ → Forest → Top → ℕ → Type 0
+TopFits m k at i (StateTop s) x = ((f : Forest) (g : Sketch) → Fits f g → Fits (list at i f) (state_forms s g)) × (is_name s.name.text ≡ true) × (literal_fits s.initial ≡ true) × (x ≡ k)
+TopFits m k at i (FunctionTop c) x =
+    ((f : Forest) (g : Sketch) → Fits f g → Fits (list at i f) (function_forms c g)) × (is_name c.name.text ≡ true) × SpelledParameters c.parameters × SpelledStmts m k c.body × (x ≡ after_all k c.body)
+TopFits m k at i (DoTop d) x = ((f : Forest) (g : Sketch) → Fits f g → Fits (list at i f) (do_forms d g)) × (is_name d.actor.text ≡ true) × SpelledSteps m.states d.steps × (x ≡ k)
+
+abbrev Topped : Known → ℕ → ℕ → Forest → Top × ℕ → Type 0
+Topped m k at i t = TopFits m k at i t.0 t.1
+
+state_found : (m : Known) (k at : ℕ) (i : Forest) (s : State) (ss : List Seen) → Worded i (codes "state") ss → state_form at ss ≡ Some s → TopFits m k at i (StateTop s) k
+unfolding state_form
+state_found m k at i s ss w h =
+    let n = bind_some (name_of ss) _ s h in
+    let x = name_next w.rest ss n.0 w.behind n.1 in
+    let t = bind_some (type_of n.0.1) _ s n.2 in
+    let y = type_next x.rest n.0.1 t.0 x.behind t.1 in
+    let o = bind_some (word_of (codes "Structural") t.0.1) _ s t.2 in
+    let p = word_next (codes "Structural") y.rest t.0.1 o.0 y.behind o.1 in
+    let v = bind_some (literal_of o.0) _ s o.2 in
+    let z = literal_next p.rest o.0 v.0 p.behind v.1 in
+    let made : State = record { at = at; name = n.0.0; ty = t.0.0; initial = v.0.0 } in
+    let c = cond_some (is_end v.0.1) made s v.2 in
+    let over = end_next (tail p.rest) v.0.1 z.behind c.0 in
+    subst (λ (q : State). TopFits m k at i (StateTop q) k) c.1
+    ((λ f g rest. (at, i, f, refl, refl, (w.at, w.rest, w.is, tt, (n.0.0.at, x.rest, x.is, refl, (y.at, y.rest, y.is, tt, (p.at, p.rest, p.is, tt, z.fit nothing over)))), rest)), x.good, z.whole, refl)
+
+function_found : (m : Known) (k at : ℕ) (i : Forest) (c : Func × ℕ) (ss : List Seen) → Worded i (codes "fun") ss → function_form m k at ss ≡ Some c → TopFits m k at i (FunctionTop c.0) c.1
+unfolding function_form
+function_found m k at i c ss w h =
+    let n = bind_some (name_of ss) _ c h in
+    let x = name_next w.rest ss n.0 w.behind n.1 in
+    let ps = bind_some (parameters_of n.0.1) _ c n.2 in
+    let l = parameters_first x.rest ps.0 (ap parameters_of (sym x.behind) ∙ ps.1) in
+    let b = bind_some (stmts_of m k ps.0.1) _ c ps.2 in
+    let body = body_found m k l.rest ps.0.1 b.0 l.behind b.1 in
+    subst (λ (q : Func × ℕ). TopFits m k at i (FunctionTop q.0) q.1) (inject b.2)
+    ((λ f g rest. (at, i, f, refl, refl, (w.at, w.rest, w.is, tt, (n.0.0.at, x.rest, x.is, refl, (l.at, l.inner, l.rest, l.is, tt, l.fits, body.fits))), rest)), x.good, l.spelled, body.spelled, body.next)
+
+do_found : (m : Known) (k at : ℕ) (i : Forest) (d : DoForm) (ss : List Seen) → Worded i (codes "do") ss → do_form m.states at ss ≡ Some d → TopFits m k at i (DoTop d) k
+unfolding do_form
+do_found m k at i d ss w h =
+    let n = bind_some (name_of ss) _ d h in
+    let x = name_next w.rest ss n.0 w.behind n.1 in
+    let ts = bind_some (steps_of m.states n.0.1) _ d n.2 in
+    let all = steps_found m.states x.rest ts.0 (ap (steps_of m.states) (sym x.behind) ∙ ts.1) in
+    subst (λ (q : DoForm). TopFits m k at i (DoTop q) k) (inject ts.2)
+    ((λ f g rest. (at, i, f, refl, refl, (w.at, w.rest, w.is, tt, (n.0.0.at, x.rest, x.is, refl, all.0)), rest)), x.good, all.1, refl)
+
+top_found : (m : Known) (k at : ℕ) (i : Forest) (t : Top × ℕ) → top_form m k at (seen i) ≡ Some t → Topped m k at i t
+unfolding top_form
+top_found m k at i t h =
+    let C = Topped m k at i t in
+    either C (word_of (codes "state") (seen i)) (λ r. option_map (λ s. (StateTop s, k)) (state_form at r)) _ t h
+    (λ ss w x. let s = map_some (state_form at ss) (λ (s : State). (StateTop s, k)) t x in subst (Topped m k at i) s.2 (state_found m k at i s.0 ss (word_found (codes "state") i ss w) s.1)) (λ h1.
+    either C (word_of (codes "fun") (seen i)) (λ r. option_map (λ c. (FunctionTop c.0, c.1)) (function_form m k at r)) _ t h1
+    (λ ss w x. let c = map_some (function_form m k at ss) (λ (c : Func × ℕ). (FunctionTop c.0, c.1)) t x in subst (Topped m k at i) c.2 (function_found m k at i c.0 ss (word_found (codes "fun") i ss w) c.1)) (λ h2.
+    either C (word_of (codes "do") (seen i)) (λ r. option_map (λ d. (DoTop d, k)) (do_form m.states at r)) None t h2
+    (λ ss w x. let d = map_some (do_form m.states at ss) (λ (d : DoForm). (DoTop d, k)) t x in subst (Topped m k at i) d.2 (do_found m k at i d.0 ss (word_found (codes "do") i ss w) d.1))
+    (λ h3. absurd (cc (h3)))))
+
+-- The top forms behind what was read.
+
+-- what stands in the trees that lead from p to q
+record Leads (f : Forest) (p q : Front) : Type 0 where
+  states : List State
+  functions : List Func
+  script : List DoForm
+  header : q.header ≡ p.header
+  all_states : p.states ++ states ≡ q.states
+  all_functions : p.functions ++ functions ≡ q.functions
+  all_script : p.script ++ script ≡ q.script
+  fits : Fits f (top_forms states functions script)
+  good_states : SpelledStates states
+  good_functions : SpelledFunctions (record { states = map state_name q.states; functions = map function_name p.functions }) p.site functions
+  good_script : SpelledScripts (map state_name q.states) script
+  few_states : length p.states ≤ most_forms → length q.states ≤ most_forms
+  few_functions : length p.functions ≤ most_forms → length q.functions ≤ most_forms
+  no_states : is_none p.functions && is_none p.script ≡ false → states ≡ []
+  no_functions : is_none p.script ≡ false → functions ≡ []
+
+nothing_more : (p q : Front) → p ≡ q → Leads empty p q
+nothing_more p q is = subst (λ (x : Front). Leads empty p x) is (record {
+  states = [];
+  functions = [];
+  script = [];
+  header = refl;
+  all_states = append-nil p.states;
+  all_functions = append-nil p.functions;
+  all_script = append-nil p.script;
+  fits = refl;
+  good_states = tt;
+  good_functions = tt;
+  good_script = tt;
+  few_states = λ h. h;
+  few_functions = λ h. h;
+  no_states = λ h. refl;
+  no_functions = λ h. refl;
+})
+
+some_there : {A : Type 0} (front : List A) (b : A) → is_none (front ++ b ∷ []) ≡ false
+some_there [] b = refl
+some_there (a ∷ front) b = refl
+
+one_more : {A : Type 0} (front : List A) (b : A) → nat_lt (length front) most_forms ≡ true → length (front ++ b ∷ []) ≤ most_forms
+one_more front b h =
+    let lt = ltb-true (length front) most_forms h in
+    let l = length-append front (b ∷ []) in
+    omega (arith, lt, l)
+
+no_more : (b c : Bool) → b ≡ true → c ≡ true → b && c ≡ false → ⊥
+no_more b c x y h = true≢false (sym (and_true b c x y) ∙ h)
+  where
+    and_true : (b c : Bool) → b ≡ true → c ≡ true → b && c ≡ true
+    and_true true c x y = y
+    and_true false c x y = absurd (cc)
+
+-- a state, and what stands behind it
+state_leads : (at : ℕ) (i f : Forest) (p q r : Front) (s : State) (k : ℕ) → TopFits (known p) p.site at i (StateTop s) k → placed p (StateTop s) k ≡ Some r → Leads f r q → Leads (list at i f) p q
+state_leads at i f p q r s k top put more =
+    let made : Front = record { header = p.header; states = p.states ++ s ∷ []; functions = p.functions; script = p.script; site = k } in
+    let c = cond_some (is_none p.functions && is_none p.script && nat_lt (length p.states) most_forms) made r put in
+    let tests = and_parts (is_none p.functions && is_none p.script) _ c.0 in
+    let early = and_parts (is_none p.functions) (is_none p.script) tests.0 in
+    let rest : Leads f made q = subst (λ (x : Front). Leads f x q) (sym c.1) more in
+    record {
+      states = s ∷ rest.states;
+      functions = rest.functions;
+      script = rest.script;
+      header = rest.header;
+      all_states = sym (append_assoc p.states (s ∷ []) rest.states) ∙ rest.all_states;
+      all_functions = rest.all_functions;
+      all_script = rest.all_script;
+      fits = top.0 f (top_forms rest.states rest.functions rest.script) rest.fits;
+      good_states = (top.1, top.2, rest.good_states);
+      good_functions = subst (λ (j : ℕ). SpelledFunctions (record { states = map state_name q.states; functions = map function_name p.functions }) j rest.functions) top.3 rest.good_functions;
+      good_script = rest.good_script;
+      few_states = λ h. rest.few_states (one_more p.states s tests.1);
+      few_functions = rest.few_functions;
+      no_states = λ h. absurd (no_more (is_none p.functions) (is_none p.script) early.0 early.1 h);
+      no_functions = rest.no_functions;
+    }
+
+-- a function, and what stands behind it
+function_leads : (at : ℕ) (i f : Forest) (p q r : Front) (c : Func) (k : ℕ) → TopFits (known p) p.site at i (FunctionTop c) k → placed p (FunctionTop c) k ≡ Some r → Leads f r q → Leads (list at i f) p q
+function_leads at i f p q r c k top put more =
+    let made : Front = record { header = p.header; states = p.states; functions = p.functions ++ c ∷ []; script = p.script; site = k } in
+    let t = cond_some (is_none p.script && nat_lt (length p.functions) most_forms) made r put in
+    let tests = and_parts (is_none p.script) _ t.0 in
+    let rest : Leads f made q = subst (λ (x : Front). Leads f x q) (sym t.1) more in
+    let alone : rest.states ≡ [] = rest.no_states (ap (λ (b : Bool). b && is_none p.script) (some_there p.functions c)) in
+    let same_states : p.states ≡ q.states = sym (append-nil p.states) ∙ ap (λ (l : List State). p.states ++ l) (sym alone) ∙ rest.all_states in
+    let m : Known = record { states = map state_name q.states; functions = map function_name p.functions } in
+    let body : SpelledStmts m p.site c.body = subst (λ (l : List State). SpelledStmts (record { states = map state_name l; functions = map function_name p.functions }) p.site c.body) same_states top.3 in
+    let behind : SpelledFunctions (record { states = map state_name q.states; functions = map function_name p.functions ++ function_name c ∷ [] }) (after_all p.site c.body) rest.functions =
+    subst (λ (j : ℕ). SpelledFunctions (record { states = map state_name q.states; functions = map function_name p.functions ++ function_name c ∷ [] }) j rest.functions) top.4
+    (subst (λ (ns : List (List ℕ)). SpelledFunctions (record { states = map state_name q.states; functions = ns }) k rest.functions) (map-append function_name p.functions (c ∷ [])) rest.good_functions) in
+    record {
+      states = [];
+      functions = c ∷ rest.functions;
+      script = rest.script;
+      header = rest.header;
+      all_states = append-nil p.states ∙ same_states;
+      all_functions = sym (append_assoc p.functions (c ∷ []) rest.functions) ∙ rest.all_functions;
+      all_script = rest.all_script;
+      fits = top.0 f (top_forms [] rest.functions rest.script) (subst (λ (l : List State). Fits f (top_forms l rest.functions rest.script)) alone rest.fits);
+      good_states = tt;
+      good_functions = (top.1, top.2, body, behind);
+      good_script = rest.good_script;
+      few_states = rest.few_states;
+      few_functions = λ h. rest.few_functions (one_more p.functions c tests.1);
+      no_states = λ h. refl;
+      no_functions = λ h. absurd (true≢false (sym tests.0 ∙ h));
+    }
+
+-- a script, and what stands behind it
+do_leads : (at : ℕ) (i f : Forest) (p q r : Front) (d : DoForm) (k : ℕ) → TopFits (known p) p.site at i (DoTop d) k → placed p (DoTop d) k ≡ Some r → Leads f r q → Leads (list at i f) p q
+do_leads at i f p q r d k top put more =
+    let made : Front = record { header = p.header; states = p.states; functions = p.functions; script = p.script ++ d ∷ []; site = k } in
+    let rest : Leads f made q = subst (λ (x : Front). Leads f x q) (sym (inject put)) more in
+    let late : is_none (p.script ++ d ∷ []) ≡ false = some_there p.script d in
+    let no_states : rest.states ≡ [] = rest.no_states (and_false (is_none p.functions) _ late) in
+    let no_functions : rest.functions ≡ [] = rest.no_functions late in
+    let same_states : p.states ≡ q.states = sym (append-nil p.states) ∙ ap (λ (l : List State). p.states ++ l) (sym no_states) ∙ rest.all_states in
+    let same_functions : p.functions ≡ q.functions = sym (append-nil p.functions) ∙ ap (λ (l : List Func). p.functions ++ l) (sym no_functions) ∙ rest.all_functions in
+    let fits : Fits f (top_forms [] [] rest.script) =
+    subst (λ (l : List Func). Fits f (top_forms [] l rest.script)) no_functions (subst (λ (l : List State). Fits f (top_forms l rest.functions rest.script)) no_states rest.fits) in
+    record {
+      states = [];
+      functions = [];
+      script = d ∷ rest.script;
+      header = rest.header;
+      all_states = append-nil p.states ∙ same_states;
+      all_functions = append-nil p.functions ∙ same_functions;
+      all_script = sym (append_assoc p.script (d ∷ []) rest.script) ∙ rest.all_script;
+      fits = top.0 f (top_forms [] [] rest.script) fits;
+      good_states = tt;
+      good_functions = tt;
+      good_script = (top.1, subst (λ (l : List State). SpelledSteps (map state_name l) d.steps) same_states top.2, rest.good_script);
+      few_states = rest.few_states;
+      few_functions = rest.few_functions;
+      no_states = λ h. refl;
+      no_functions = λ h. refl;
+    }
+  where
+    and_false : (b c : Bool) → c ≡ false → b && c ≡ false
+    and_false true c h = h
+    and_false false c h = refl
+
+top_leads : (at : ℕ) (i f : Forest) (p q r : Front) (t : Top) (k : ℕ) → TopFits (known p) p.site at i t k → placed p t k ≡ Some r → Leads f r q → Leads (list at i f) p q
+top_leads at i f p q r (StateTop s) k top put more = state_leads at i f p q r s k top put more
+top_leads at i f p q r (FunctionTop c) k top put more = function_leads at i f p q r c k top put more
+top_leads at i f p q r (DoTop d) k top put more = do_leads at i f p q r d k top put more
+
+followed_ok : (at : ℕ) (o : Option Front) (go : Front → Result Front ℕ) (q : Front) → followed at o go ≡ Ok q → (r : Front) × (o ≡ Some r) × (go r ≡ Ok q)
+followed_ok at None go q h = absurd (cc)
+followed_ok at (Some r) go q h = (r, refl, h)
+
+abbrev pub good : {A : Type 0} → A → Result A ℕ
+good a = Ok a
+
+pub ok_same : {A : Type 0} (a b : A) → good a ≡ good b → a ≡ b
+ok_same a b h = cc
+
+tops_found : (f : Forest) (p q : Front) → tops_of p (seen f) ≡ Ok q → Leads f p q
+unfolding tops_of
+tops_found empty p q h = nothing_more p q (ok_same p q h)
+tops_found (atom at a f) p q h = absurd (cc)
+tops_found (text at s f) p q h = absurd (cc)
+tops_found (list at i f) p q h =
+    let r = followed_ok at _ (λ x. tops_of x (seen f)) q h in
+    let t = bind_some (top_form (known p) p.site at (seen i)) (λ x. placed p x.0 x.1) r.0 r.1 in
+    top_leads at i f p q r.0 t.0.0 t.0.1 (top_found (known p) p.site at i t.0 t.1) t.2 (tops_found f r.0 q r.2)
+
+-- compose 1
+record Headed (i : Forest) : Type 0 where
+  at : ℕ
+  rest : Forest
+  is : i ≡ atom at (codes "compose") rest
+  one : ℕ
+  one_is : rest ≡ atom one (codes "1") empty
+
+header_found : (i : Forest) → is_there (header_form (seen i)) ≡ true → Headed i
+unfolding header_form
+header_found i h = by (header_form (seen i)) refl h
+  where
+    by : (o : Option (List Seen)) → header_form (seen i) ≡ o → is_there o ≡ true → Headed i
+    by None e false_there = absurd (true≢false (sym false_there))
+    by (Some ss) e there =
+        let c = bind_some (word_of (codes "compose") (seen i)) _ ss e in
+        let w = word_found (codes "compose") i c.0 c.1 in
+        let o = bind_some (word_of (codes "1") c.0) _ ss c.2 in
+        let v = word_next (codes "1") w.rest c.0 o.0 w.behind o.1 in
+        let d = cond_some (is_end o.0) o.0 ss o.2 in
+        record { at = w.at; rest = w.rest; is = w.is; one = v.at; one_is = v.is ∙ ap (atom v.at (codes "1")) (end_next v.rest o.0 v.behind d.0) }
+
+whole : (at : ℕ) (i f : Forest) (q : Front) → Headed i → Leads f (start at) q → HasForms (list at i f) (source q)
+whole at i f q head all =
+    let t : Source = record { program = record { header = at; states = all.states; functions = all.functions }; script = all.script } in
+    let is : source q ≡ t = rw (all.header, ← all.all_states, ← all.all_functions, ← all.all_script) in
+    let few_states : length all.states ≤ most_forms = subst (λ (l : List State). length l ≤ most_forms) (sym all.all_states) (all.few_states (omega arith)) in
+    let few_functions : length all.functions ≤ most_forms = subst (λ (l : List Func). length l ≤ most_forms) (sym all.all_functions) (all.few_functions (omega arith)) in
+    subst (λ (s : Source). HasForms (list at i f) s) (sym is) (record {
+      fits = (at, i, f, refl, refl, (head.at, head.rest, head.is, tt, (head.one, empty, head.one_is, tt, refl)), all.fits);
+      spelled = record {
+        few_states = le-leb (length all.states) most_forms few_states;
+        few_functions = le-leb (length all.functions) most_forms few_functions;
+        states = all.good_states;
+        functions = subst (λ (l : List State). SpelledFunctions (record { states = map state_name l; functions = [] }) 1 all.functions) (sym all.all_states) all.good_functions;
+        script = subst (λ (l : List State). SpelledScripts (map state_name l) all.script) (sym all.all_states) all.good_script;
+      };
+    })
+
+text_found : (end : ℕ) (f : Forest) (q : Front) → text_of end (seen f) ≡ Ok q → HasForms f (source q)
+unfolding text_of
+text_found end empty q h = absurd (cc)
+text_found end (atom at a f) q h = absurd (cc)
+text_found end (text at s f) q h = absurd (cc)
+text_found end (list at i f) q h = by (is_there (header_form (seen i))) refl h
+  where
+    by : (b : Bool) → is_there (header_form (seen i)) ≡ b → cond b (tops_of (start at) (seen f)) (Err at) ≡ Ok q → HasForms (list at i f) (source q)
+    by true e k = whole at i f q (header_found i e) (tops_found f (start at) q k)
+    by false e k = absurd (cc)
+
+-- What is read as a text has its forms.
+pub source_found : (end : ℕ) (f : Forest) (t : Source) → source_of end (seen f) ≡ Ok t → HasForms f t
+source_found end f t h = by (text_of end (seen f)) refl h
+  where
+    by : (r : Result Front ℕ) → text_of end (seen f) ≡ r → sourced r ≡ Ok t → HasForms f t
+    by (Ok q) e k = subst (HasForms f) (ok_same (source q) t k) (text_found end f q e)
+    by (Err at) e k = absurd (cc)

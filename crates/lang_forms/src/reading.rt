@@ -1,0 +1,90 @@
+// A whole text: the header, the program and the script.
+ghost use Rattle.std.specs.Prelude.{◌≡◌, ℕ, Err, IfOk};
+ghost use Rattle.sexp_text.specs.View.{forest_view};
+ghost use Rattle.lang_forms.specs.Sources.{source_view};
+ghost use Rattle.lang_forms.specs.Forms.{HasForms};
+ghost use Rattle.lang_forms.specs.Seen.{seen};
+ghost use Rattle.lang_forms.specs.Tops.{tops_of, text_of, source_of};
+ghost use Rattle.lang_forms.specs.Stops.{IsFirstWrong};
+ghost use Rattle.lang_forms.specs.Views.{seen_all, front_view, Gives};
+
+use crate::FormStop;
+use crate::front::Front;
+use crate::rest::Rest;
+use crate::stop::ReadStop;
+use crate::tops::{is_header, place_of};
+use lang_ast::Program;
+use sexp_text::Tree;
+use std::alloc::Global;
+
+// The top forms behind what was read.
+#[tactic(auto, unfolding(crate::specs::Tops::tops_of))]
+fn tops_in(alloc: Global, front: Front, trees: &[Tree]) -> Result<Front, FormStop>
+    ensures { Gives front_view result (tops_of (front_view front) (seen_all trees.now)) }
+{
+    let mut read = front;
+    for tree in trees {
+        match read.with_tree(alloc, tree) {
+            Ok(more) => {
+                read = more;
+            }
+            Err(ReadStop::NoForm) => {
+                return Err(FormStop::Form { at: place_of(tree) });
+            }
+            Err(ReadStop::NoMemory) => {
+                return Err(FormStop::NoMemory);
+            }
+        }
+    }
+    Ok(read)
+}
+
+// The header, and the top forms behind it.
+#[tactic(auto, unfolding(crate::specs::Tops::text_of))]
+fn text_in(alloc: Global, trees: &[Tree], end: usize) -> Result<Front, FormStop>
+    ensures { Gives front_view result (text_of end (seen_all trees.now)) }
+{
+    let Some((header, rest)) = trees.split_first() else {
+        return Err(FormStop::Form { at: end });
+    };
+    if !is_header(header) {
+        return Err(FormStop::Form {
+            at: place_of(header),
+        });
+    }
+    tops_in(alloc, Front::new(alloc, place_of(header)), rest)
+}
+
+// The program and the script that were read.
+fn source_in(alloc: Global, trees: &[Tree], end: usize) -> Result<(Program, Rest), FormStop>
+    ensures { Gives source_view result (source_of end (seen_all trees.now)) }
+{
+    match text_in(alloc, trees, end) {
+        Ok(front) => Ok((
+            Program {
+                header: front.header,
+                states: front.states,
+                functions: front.functions,
+            },
+            Rest {
+                forms: front.script,
+            },
+        )),
+        Err(stop) => Err(stop),
+    }
+}
+
+/// The program and the script whose forms these trees are, with their places, where `end` is the length of the
+/// input. A state that is named and declared nowhere has how many states there are for its number, and a
+/// composable that is called and stands nowhere before has how many stand before.
+///
+/// This project's own rule. It fails where the trees have the forms of no program with a script, at the first top
+/// form that is none of the language or may not stand where it stands, or at the end of an input without a tree;
+/// and where memory runs out.
+pub fn program(alloc: Global, trees: &[Tree], end: usize) -> Result<(Program, Rest), FormStop>
+    ensures read { Gives source_view result (source_of end (seen (forest_view trees.now))) }
+    ensures forms { IfOk result (λ r. HasForms (forest_view trees.now) (source_view r)) }
+    ensures stop { (at : ℕ) → result ≡ Err (FormStop.Form at) → IsFirstWrong end (forest_view trees.now) at }
+{
+    source_in(alloc, trees, end)
+}
