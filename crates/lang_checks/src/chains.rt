@@ -9,8 +9,8 @@ use lang_ast::{Function, Statement};
 use rt_values::NoMemory;
 use std::alloc::Global;
 
-/// The most functions that a chain of calls has; this project's own rule, so that composing goes no deeper.
-pub const MOST_CHAIN: usize = 32;
+// The most functions that a chain of calls has; this project's own rule, so that composing goes no deeper.
+const MOST_CHAIN: usize = 32;
 
 // The longest chain that a statement calls, by the chains of the functions before its own.
 #[tactic(auto, using(crate::proofs::Forms::statements))]

@@ -1,5 +1,5 @@
 // Whether a program is well formed.
-ghost use Rattle.std.specs.Prelude.{◌≡◌, ◌<◌, [], length, Some, Err, IfOk, OnOk};
+ghost use Rattle.std.specs.Prelude.{◌≡◌, ◌<◌, [], length, Some, Err, IfOk, IfErr, OnOk};
 ghost use Rattle.lang_ast.specs.SyntaxView.{functions_view};
 ghost use Rattle.lang_ast.specs.Programs.{Program as program_data, program_view, root_number};
 ghost use Rattle.lang_checks.specs.declared.faults.Fault.{Fault as fault_data};
@@ -79,6 +79,7 @@ impl Checked {
 pub fn check(alloc: Global, program: Program) -> Result<Checked, CheckStop>
     ensures same { IfOk result (λ c. (c.header ≡ program.header) × (c.states ≡ program.states) × (c.functions ≡ program.functions)) }
     ensures fine { OnOk result (program_faults (program_view program) ≡ []) }
+    ensures taken { program_faults (program_view program) ≡ [] → IfErr result (λ stop. stop ≡ CheckStop.NoMemory) }
     ensures fault { (f : fault_data) → result ≡ Err (CheckStop.Fault f) → least_fault (program_faults (program_view program)) ≡ Some f }
 {
     match least_fault(alloc, &program)? {
