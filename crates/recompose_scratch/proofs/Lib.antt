@@ -1,0 +1,6 @@
+pub mod Counts
+pub mod Matches
+pub mod Passes
+pub mod Places
+pub mod Results
+pub mod Steps

@@ -1,0 +1,82 @@
+// A frame from scratch.
+ghost use Rattle.std.specs.Prelude.{◌≡◌, ◌≤◌, ◌<◌, ◌++◌, [], Some, Err, IfOk, OnOk, OnErr};
+ghost use Rattle.rt_values.specs.Maps.{Map};
+ghost use Rattle.rt_values.specs.Views.{Grew};
+ghost use Rattle.rt_values.specs.Trail.{asks, how_many};
+ghost use Rattle.rt_values.specs.Flat.{flat};
+ghost use Rattle.rt_values.specs.Frames.{Composed, unseen, numbered, report, most_groups};
+ghost use Rattle.lang_ast.specs.SyntaxView.{functions_view};
+ghost use Rattle.lang_ast.specs.Composing.{forest};
+ghost use Rattle.lang_meaning.specs.declared.composition.ScratchStop.TheVariants.{TooManyGroups};
+ghost use Rattle.recompose_scratch.specs.Keeping.{Keeps};
+
+use crate::pass::number_all;
+use lang_ast::Function;
+use lang_meaning::{ScratchStop, compose};
+use rt_values::{Groups, Objects, Report, View};
+use std::alloc::Global;
+
+/// What is kept between frames: the groups of the last good one, and the number of the next new node (a
+/// `Composition` with its slot table).
+#[derive(Drop)]
+pub struct Composition {
+    groups: Groups,
+    next: u64,
+}
+
+impl Composition {
+    /// What there is before the first frame: no group. Numbers begin at 1.
+    pub fn new(alloc: Global) -> Self
+        ensures { Keeps result unseen }
+    {
+        Composition {
+            groups: Groups::new(alloc),
+            next: 1,
+        }
+    }
+
+    /// The groups of the last good frame in preorder, nodes with their numbers.
+    pub fn groups(&self) -> &Groups
+        ensures { (k : Composed) → Keeps self.now k → result.now ≡ flat 0 k.trail }
+    {
+        &self.groups
+    }
+}
+
+/// One frame (`Recomposer.recompose`): composes the program from scratch in the map that the view shows, as
+/// `compose` does, and keeps its groups. A node keeps its number where a node stood at its path, by this project's
+/// own rule; others get the next numbers in preorder. The report tells what an incremental frame would have done,
+/// where `owed` has the objects that changed since the last good frame: the calls that are new, whose arguments
+/// differ or whose own reads meet the owed objects run, cells in them that are new or whose keys differ are
+/// calculated, and the reads of those calls are counted. Fails as `compose` does, or where memory runs out; what
+/// was kept then stays as it was.
+pub fn frame<V: View>(
+    alloc: Global,
+    functions: &[Function],
+    root: usize,
+    composition: &mut Composition,
+    owed: &Objects,
+    view: &mut V,
+) -> Result<Report, ScratchStop>
+    ensures keeps { V.keeps view.old view.new }
+    ensures same { (m : Map) → V.shows view.old m → V.shows view.new m }
+    ensures told { (k : Composed) (m : Map) → Keeps composition.old k → V.shows view.old m → IfOk result (λ r. r ≡ report owed.now k.trail (forest (functions_view functions.now) root m)) }
+    ensures left { (k : Composed) (m : Map) → Keeps composition.old k → V.shows view.old m → let given = numbered k.trail [] [] k.next (forest (functions_view functions.now) root m) in OnOk result (Keeps composition.new (record { seen = Some m; trail = given.0; next = given.1 })) }
+    ensures fits { (m : Map) → V.shows view.old m → OnOk result (how_many (forest (functions_view functions.now) root m) ≤ most_groups) }
+    ensures many { (m : Map) → V.shows view.old m → result ≡ Err TooManyGroups → most_groups < how_many (forest (functions_view functions.now) root m) }
+    ensures asks { (m : Map) → V.shows view.old m → OnOk result (V.asked view.new ≡ V.asked view.old ++ asks (forest (functions_view functions.now) root m)) }
+    ensures part { (m : Map) → V.shows view.old m → OnErr result (Grew (V.asked view.old) (V.asked view.new) (asks (forest (functions_view functions.now) root m))) }
+    ensures kept { OnErr result (composition.new ≡ composition.old) }
+{
+    let mut groups = compose(alloc, functions, root, view)?;
+    let (next, report) = number_all(
+        alloc,
+        composition.groups.items(),
+        owed,
+        composition.next,
+        &mut groups,
+    )?;
+    composition.groups = groups;
+    composition.next = next;
+    Ok(report)
+}
