@@ -10,8 +10,8 @@ use Rattle.lang_ast.specs.Terms.{Func}
 use Rattle.lang_ast.specs.Programs.{root_number}
 use Rattle.lang_ast.specs.Composing.{forest}
 use Rattle.lang_ast.specs.Frame.{Good, good_frame, frame}
-use Rattle.recompose_scratch.specs.Keeping.{Keeps}
-use Rattle.recompose_scratch.specs.declared.composition.Composition.{Composition}
+use Rattle.rt_values.specs.Flat as groups
+use Rattle.rt_values.specs.declared.groups.Group.{Group}
 use Rattle.script_lang.specs.Lines.{kept_after, report_line, frame_lines}
 use Rattle.script_lang.specs.Listing.{listed}
 use Rattle.script_lang.proofs.Trees.{groups_tell_the_tree}
@@ -50,10 +50,9 @@ module _ (functions : List Func) (k : Composed) (m : Map) where
       (subst (λ l. Owes (Some m) (good_frame k m (forest functions (root_number functions) m)).left.trail (Some m) l) (sym none) (owes-nothing m (good_frame k m (forest functions (root_number functions) m)).left.trail))
 
 -- the lines of a good frame are those of its report and of its groups
-pub good_lines : (good : Option Good) (k : Composed) (r : Report) (c : Composition) → Some r ≡ option_map (λ g. g.told) good → Keeps c (kept_after k good) → report_line r ++ listed [] c.groups ≡ flat (frame_lines good)
-good_lines None k r c e keeps = absurd cc
-good_lines (Some good) k r c e keeps =
-    let same : r ≡ good.told = ap (λ o. unwrap_or o r) e in
-    ap (λ t. report_line t ++ listed [] c.groups) same
-    ∙ ap (λ gs. report_line good.told ++ listed [] gs) keeps.groups_are
+pub good_lines : (good : Option Good) (k : Composed) (r : Report) (gs : List Group) → Some r ≡ option_map (λ g. g.told) good → gs ≡ groups.flat 0 (kept_after k good).trail → report_line r ++ listed [] gs ≡ flat (frame_lines good)
+good_lines None k r gs e same = absurd cc
+good_lines (Some good) k r gs e same =
+    ap (λ t. report_line t ++ listed [] gs) (ap (λ o. unwrap_or o r) e)
+    ∙ ap (λ l. report_line good.told ++ listed [] l) same
     ∙ ap (λ l. report_line good.told ++ l) (groups_tell_the_tree good.left.trail)

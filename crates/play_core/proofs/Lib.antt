@@ -6,3 +6,6 @@ pub mod Frames
 pub mod Takings
 pub mod Laws
 pub mod Openings
+pub mod Uniques
+pub mod Refusals
+pub mod Plays

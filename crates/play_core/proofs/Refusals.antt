@@ -1,0 +1,158 @@
+-- The fault of a refused text, both ways.
+use Rattle.std.proofs.Common.{◌≡◌, ◌≢◌, ◌⊎◌, ◌≤◌, ℕ, List, Bool, true, false, Option, Some, None, refl, sym, ap, ◌∙◌, subst, length, Ok, Err, OnOk, inl, inr}
+use Rattle.std.specs.Option.{option_map}
+use Rattle.std.specs.declared.result.Result.{Result}
+use Rattle.sexp_text.specs.Forest.{Forest, nesting}
+use Rattle.sexp_text.specs.Grammar.{Spells}
+use Rattle.sexp_text.proofs.Complete.{spells_one}
+use Rattle.sexp_text.specs.Places.{Cause}
+use Rattle.sexp_text.specs.declared.stop.TextStop.{TextStop}
+use Rattle.sexp_text.specs.declared.stop.TextStop.TheVariants as stop
+use Rattle.lang_forms.specs.Sources.{Source}
+use Rattle.lang_forms.specs.Seen.{seen}
+use Rattle.lang_forms.specs.Tops.{source_of}
+use Rattle.lang_checks.specs.FaultOrder.{least_fault}
+use Rattle.lang_checks.specs.ProgramFaults.{program_faults}
+use Rattle.lang_checks.specs.declared.faults.Kind.{Kind}
+use Rattle.lang_checks.specs.declared.faults.Kind.TheVariants as kind
+use Rattle.lang_checks.specs.declared.faults.Fault as checks
+use Rattle.lang_checks.specs.declared.checks.CheckStop.TheVariants as check
+use Rattle.script_lang.specs.Scripts.{or_else, script_refusal}
+use Rattle.script_lang.specs.declared.script.ScriptStop.{ScriptStop}
+use Rattle.script_lang.specs.declared.script.ScriptStop.TheVariants as script
+use Rattle.play_core.specs.Ends.{text_end, check_kind, check_end, script_end}
+use Rattle.play_core.specs.Faults.{IsFaultAt, IsFault, IsRefused, source_refusal, reading_refusal, refusal}
+use Rattle.play_core.specs.Texts.{IsNoText}
+use Rattle.play_core.specs.declared.fault.Fault.{Fault}
+use Rattle.play_core.specs.declared.fault.FaultKind.{FaultKind}
+use Rattle.play_core.specs.declared.fault.FaultKind.TheVariants.{Utf8, Text, Deep, Form, Limit, Double, Unknown, Order, «Type», Remember}
+use Rattle.play_core.specs.declared.text.TextEnd.{TextEnd}
+use Rattle.play_core.specs.declared.text.TextEnd.TheVariants.{Bad, NoMemory}
+
+ended : (t : TextStop) → (t ≢ stop.NoMemory → ⊥) → text_end t ≡ NoMemory
+ended (stop.NotUtf8 at) never = absurd (never (λ e. absurd cc))
+ended (stop.Bad at) never = absurd (never (λ e. absurd cc))
+ended (stop.TooDeep at) never = absurd (never (λ e. absurd cc))
+ended stop.NoMemory never = refl
+
+-- the cause of a stop is the fault that it ends with
+pub cause-fault : (bytes : List ℕ) (t : TextStop) → Cause bytes t → (fault : Fault) → text_end t ≡ Bad fault → IsFault bytes fault
+cause-fault bytes (stop.NotUtf8 at) cause fault e = let same : record { kind = Utf8; at = at } ≡ fault = cc in subst (IsFault bytes) same cause
+cause-fault bytes (stop.Bad at) cause fault e = let same : record { kind = Text; at = at } ≡ fault = cc in subst (IsFault bytes) same cause
+cause-fault bytes (stop.TooDeep at) cause fault e = let same : record { kind = Deep; at = at } ≡ fault = cc in subst (IsFault bytes) same cause
+cause-fault bytes stop.NoMemory cause fault e = absurd cc
+
+-- what is refused for its text is no text
+pub stop-none : (bytes : List ℕ) (t : TextStop) → (t ≢ stop.NoMemory → (f : Forest) → Spells bytes f → nesting f ≤ 100 → ⊥) → (fault : Fault) → text_end t ≡ Bad fault → IsNoText bytes
+stop-none bytes t never fault e p text = never (λ (same : t ≡ stop.NoMemory). let memory : NoMemory ≡ Bad fault = subst (λ s. text_end s ≡ Bad fault) same e in absurd cc) text.forest text.spelled text.shallow
+
+-- whether a kind is one of faults of the text
+abbrev is_texts : FaultKind → Bool
+is_texts Utf8 = true
+is_texts Text = true
+is_texts Deep = true
+is_texts Form = false
+is_texts Limit = false
+is_texts Double = false
+is_texts Unknown = false
+is_texts Order = false
+is_texts «Type» = false
+is_texts Remember = false
+
+-- a fault that is none of the text's, where there is one
+abbrev IsLater : Option TextEnd → Type 0
+IsLater o = (fault : Fault) → o ≡ Some (Bad fault) → is_texts fault.kind ≡ false
+
+later-kind : (k : Kind) → is_texts (check_kind k) ≡ false
+later-kind kind.Double = refl
+later-kind kind.Unknown = refl
+later-kind kind.Order = refl
+later-kind kind.Type = refl
+later-kind kind.Remember = refl
+
+later-bad : (f fault : Fault) → is_texts f.kind ≡ false → Some (Bad f) ≡ Some (Bad fault) → is_texts fault.kind ≡ false
+later-bad f fault h e = let same : f ≡ fault = cc in subst (λ (g : Fault). is_texts g.kind ≡ false) same h
+
+later-script : (o : Option ScriptStop) → IsLater (option_map script_end o)
+later-script None fault e = absurd cc
+later-script (Some (script.Limit at)) fault e = later-bad (record { kind = Limit; at = at }) fault refl e
+later-script (Some (script.Unknown at)) fault e = later-bad (record { kind = Unknown; at = at }) fault refl e
+later-script (Some script.NoMemory) fault e = absurd cc
+
+later-check : (o : Option checks.Fault) (p : Option ScriptStop) → IsLater (or_else (option_map (λ f. check_end (check.Fault f)) o) (option_map script_end p))
+later-check None p fault e = later-script p fault e
+later-check (Some f) p fault e = later-bad (record { kind = check_kind f.kind; at = f.at }) fault (later-kind f.kind) e
+
+later-reading : (r : Result Source ℕ) → IsLater (reading_refusal r)
+later-reading (Ok t) fault e = later-check (least_fault (program_faults t.program)) (script_refusal (length t.program.states) t.script) fault e
+later-reading (Err at) fault e = later-bad (record { kind = Form; at = at }) fault refl e
+
+later-at : (bytes : List ℕ) (kind : FaultKind) (at : ℕ) → is_texts kind ≡ false → IsRefused bytes (record { kind = kind; at = at }) → IsFaultAt bytes at kind
+later-at bytes Utf8 at e h = absurd cc
+later-at bytes Text at e h = absurd cc
+later-at bytes Deep at e h = absurd cc
+later-at bytes Form at e h = h
+later-at bytes Limit at e h = h
+later-at bytes Double at e h = h
+later-at bytes Unknown at e h = h
+later-at bytes Order at e h = h
+later-at bytes «Type» at e h = h
+later-at bytes Remember at e h = h
+
+-- a forest that is refused is refused with a fault
+pub refused-fault : (bytes : List ℕ) (f : Forest) (fault : Fault) → Spells bytes f → nesting f ≤ 100 → refusal (length bytes) f ≡ Some (Bad fault) → IsFault bytes fault
+refused-fault bytes f fault spelled shallow e =
+    later-at bytes fault.kind fault.at (later-reading (source_of (length bytes) (seen f)) fault e) (record { forest = f; spelled = spelled; shallow = shallow; refused = e })
+
+module _ {T : Type 0} (bytes : List ℕ) (r : Result T TextStop) (told : (s : TextStop) → s ≢ stop.NoMemory → Cause bytes s → (r ≡ Err s) ⊎ (r ≡ Err stop.NoMemory)) where
+  told-as : (t s : TextStop) → r ≡ Err t → s ≢ stop.NoMemory → Cause bytes s → (text_end t ≡ text_end s) ⊎ (text_end t ≡ NoMemory)
+  told-as t s is other cause = elim (told s other cause) [
+    | inl e ↦ let same : t ≡ s = cc in inl (ap text_end same)
+    | inr e ↦ let same : t ≡ stop.NoMemory = cc in inr (ap text_end same)
+  ]
+
+  unread : (t : TextStop) (fault : Fault) → (t ≢ stop.NoMemory → (f : Forest) → Spells bytes f → nesting f ≤ 100 → ⊥) → IsRefused bytes fault → (text_end t ≡ Bad fault) ⊎ (text_end t ≡ NoMemory)
+  unread t fault never h = inr (ended t (λ other. never other h.forest h.spelled h.shallow))
+
+  stopped-at : (t : TextStop) → r ≡ Err t → (t ≢ stop.NoMemory → (f : Forest) → Spells bytes f → nesting f ≤ 100 → ⊥) → (kind : FaultKind) (at : ℕ) → IsFaultAt bytes at kind →
+      (text_end t ≡ Bad (record { kind = kind; at = at })) ⊎ (text_end t ≡ NoMemory)
+  stopped-at t is never Utf8 at cause = told-as t (stop.NotUtf8 at) is (λ e. absurd cc) cause
+  stopped-at t is never Text at cause = told-as t (stop.Bad at) is (λ e. absurd cc) cause
+  stopped-at t is never Deep at cause = told-as t (stop.TooDeep at) is (λ e. absurd cc) cause
+  stopped-at t is never Form at h = unread t _ never h
+  stopped-at t is never Limit at h = unread t _ never h
+  stopped-at t is never Double at h = unread t _ never h
+  stopped-at t is never Unknown at h = unread t _ never h
+  stopped-at t is never Order at h = unread t _ never h
+  stopped-at t is never «Type» at h = unread t _ never h
+  stopped-at t is never Remember at h = unread t _ never h
+
+  -- where the reader stopped, any fault is the one that it ends with, but for memory
+  pub stopped : (t : TextStop) → r ≡ Err t → (t ≢ stop.NoMemory → (f : Forest) → Spells bytes f → nesting f ≤ 100 → ⊥) → (fault : Fault) → IsFault bytes fault →
+      (text_end t ≡ Bad fault) ⊎ (text_end t ≡ NoMemory)
+  stopped t is never fault h = stopped-at t is never fault.kind fault.at h
+
+  read-at : (x : T) → r ≡ Ok x → (kind : FaultKind) (at : ℕ) → IsFaultAt bytes at kind → IsRefused bytes (record { kind = kind; at = at })
+  read-at x is Utf8 at cause = elim (told (stop.NotUtf8 at) (λ e. absurd cc) cause) [ inl e ↦ absurd cc | inr e ↦ absurd cc ]
+  read-at x is Text at cause = elim (told (stop.Bad at) (λ e. absurd cc) cause) [ inl e ↦ absurd cc | inr e ↦ absurd cc ]
+  read-at x is Deep at cause = elim (told (stop.TooDeep at) (λ e. absurd cc) cause) [ inl e ↦ absurd cc | inr e ↦ absurd cc ]
+  read-at x is Form at h = h
+  read-at x is Limit at h = h
+  read-at x is Double at h = h
+  read-at x is Unknown at h = h
+  read-at x is Order at h = h
+  read-at x is «Type» at h = h
+  read-at x is Remember at h = h
+
+  -- where trees were read, any fault is that with which their forest is refused
+  pub read-fault : (x : T) → r ≡ Ok x → (f : Forest) → Spells bytes f → (fault : Fault) → IsFault bytes fault → refusal (length bytes) f ≡ Some (Bad fault)
+  read-fault x is f spelled fault h =
+      let refused = read-at x is fault.kind fault.at h in
+      ap (refusal (length bytes)) (spells_one bytes f refused.forest spelled refused.spelled) ∙ refused.refused
+
+-- a refusal that answers is the one that there is, but for memory
+pub answered : {T : Type 0} (r : Result T TextEnd) (o : Option TextEnd) (fault : Fault) → OnOk r (o ≡ None) → ((g : Fault) → r ≡ Err (Bad g) → o ≡ Some (Bad g)) → o ≡ Some (Bad fault) →
+    (r ≡ Err (Bad fault)) ⊎ (r ≡ Err NoMemory)
+answered (Ok x) o fault fine bad e = absurd cc
+answered (Err (Bad g)) o fault fine bad e = let told = bad g refl in let same : g ≡ fault = cc in inl (ap (λ (f : Fault). Err (Bad f)) same)
+answered (Err NoMemory) o fault fine bad e = inr refl

@@ -1,0 +1,35 @@
+use Rattle.std.proofs.Common.{◌≡◌, ◌≤◌, ◌∙◌, ap, sym, subst, Some, Err, inl, inr}
+use Rattle.std.specs.Prelude.{IfErr}
+use Rattle.sexp_text.specs.Forest.{nesting}
+use Rattle.sexp_text.specs.Places.{Cause}
+use Rattle.sexp_text.specs.Grammar.{Spells}
+use Rattle.sexp_text.specs.View.{forest_view}
+use Rattle.play_core.specs.declared.text.TextEnd.TheVariants.{Bad}
+use Rattle.play_core.specs.Faults.{refusal}
+use Rattle.play_core.proofs.Uniques.{refused_none}
+use Rattle.play_core.proofs.Refusals.{cause-fault, stop-none, stopped, refused-fault, read-fault, answered}
+use Rattle.play_core.proofs.text.read_text.Goals as goal
+
+pub returns-in-Err-clause-bad : goal.returns-in-Err-clause-bad
+returns-in-Err-clause-bad c fault e =
+    let ends : c.from.result ≡ Bad fault = cc in
+    let same = sym c.from.ensures ∙ ends in
+    (stop-none c.args.bytes.now c.in-Err.stop (c.read.ensures.refused c.in-Err.stop c.in-Err.is) fault same, cause-fault c.args.bytes.now c.in-Err.stop (subst (λ r. IfErr r (Cause c.args.bytes.now)) c.in-Err.is c.read.ensures.cause) fault same)
+
+pub returns-in-Err-clause-told : goal.returns-in-Err-clause-told
+returns-in-Err-clause-told c fault f = elim (stopped c.args.bytes.now c.read.result c.read.ensures.told c.in-Err.stop c.in-Err.is (c.read.ensures.refused c.in-Err.stop c.in-Err.is) fault f) [
+  | inl e ↦ inl (ap Err (c.from.ensures ∙ e))
+  | inr e ↦ inr (ap Err (c.from.ensures ∙ e))
+]
+
+pub returns-clause-bad : goal.returns-clause-bad
+returns-clause-bad c fault e =
+    let spelled = subst (λ ts. Spells c.args.bytes.now (forest_view ts)) (sym c.deref.ensures.value) c.in-Ok.ensures.ok.0 in
+    let shallow = subst (λ ts. nesting (forest_view ts) ≤ 100) (sym c.deref.ensures.value) c.in-Ok.ensures.ok.1 in
+    let refused = c.program_in.ensures.bad fault e in
+    (refused_none c.args.bytes.now (forest_view c.deref.result.now) (Bad fault) spelled refused, refused-fault c.args.bytes.now (forest_view c.deref.result.now) fault spelled shallow refused)
+
+pub returns-clause-told : goal.returns-clause-told
+returns-clause-told c fault f =
+    let spelled = subst (λ ts. Spells c.args.bytes.now (forest_view ts)) (sym c.deref.ensures.value) c.in-Ok.ensures.ok.0 in
+    answered c.program_in.result _ fault c.program_in.ensures.fine c.program_in.ensures.bad (read-fault c.args.bytes.now c.read.result c.read.ensures.told c.in-Ok.trees c.in-Ok.is (forest_view c.deref.result.now) spelled fault f)
