@@ -27,3 +27,6 @@ pub use laws::{forms_are_what_is_read, forms_of_one_text};
 pub use reading::program;
 pub use rest::{DoForm, Rest, StepForm, Steps};
 pub use stop::FormStop;
+
+#[cfg(test)]
+mod tests;
