@@ -1,5 +1,5 @@
 // Texts read into programs and scripts.
-use crate::{FormStop, Rest, StepForm, program};
+use crate::{FormStop, Rest, StepForm, forms_of, program};
 use lang_ast::{Expression, Program, Statement};
 use rt_values::Value;
 use std::alloc::Global;
@@ -10,7 +10,7 @@ fn text_read(alloc: Global, text: &str) -> Result<Result<(Program, Rest), FormSt
     Ok(program(alloc, &trees, text.len()))
 }
 
-// A text with each form of the language.
+// A program with each form of the language.
 const EVERY_FORM: &str = r#"(compose 1) ; a comment
 (state a Int Structural -9223372036854775808)
 (state b2_ Bool Structural true)
@@ -25,13 +25,18 @@ const EVERY_FORM: &str = r#"(compose 1) ; a comment
   (if (and (get b2_) (not (< 1 (* 2 (- 3 (/ 4 (% 5 6))))))) ((call none)) ())
   (for i (concat (range 0 3) (push (get d) (len (ints 1 2))))
     (let x (pick (or (= i 1) false) (at (get d) i) 0)
-      (remember v ((k x)) (* k k) (node Cell ((v v)))))))
-(do main (write global a 7) (frame) (write global d (ints)))
+      (remember v ((k x)) (* k k) (node Cell ((v v)))))))"#;
+
+// A script with each form, for it.
+const EVERY_STEP: &str = r#"(do main (write global a 7) (frame) (write global d (ints)))
 (do other (write global c "") (write global nowhere false))
 (do third)"#;
 
 #[test]
 fn texts_have_the_forms(rt: HostRuntime) -> Result<(), Fail> {
+    let mut whole = String::from_str(rt.alloc(), EVERY_FORM)?;
+    whole.push_str(EVERY_STEP)?;
+    assert!(rt; text_read(rt.alloc(), &whole)?.is_ok());
     for text in [
         EVERY_FORM,
         "(compose 1)",
@@ -247,5 +252,15 @@ fn states_are_numbered_in_their_order(rt: HostRuntime) -> Result<(), Fail> {
     assert_eq!(rt; number_read(&program), Some(1));
     assert_eq!(rt; first_written(&rest), Some((100, 2, 5)));
     assert_eq!(rt; program.states.len(), 2);
+    Ok(())
+}
+
+#[test]
+fn a_program_is_written_as_it_was_read(rt: HostRuntime) -> Result<(), Fail> {
+    let alloc = rt.alloc();
+    let trees = sexp_text::read(alloc, EVERY_FORM.as_bytes())?;
+    let (program, _) = program(alloc, &trees, EVERY_FORM.len())?;
+    let written = sexp_text::print(alloc, &forms_of(alloc, &program)?)?;
+    assert!(rt; written == sexp_text::print(alloc, &trees)?);
     Ok(())
 }
