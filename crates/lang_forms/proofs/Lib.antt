@@ -7,3 +7,4 @@ pub mod Found
 pub mod ReadHasForms
 pub mod TextHasForms
 pub mod FirstWrong
+pub mod Written

@@ -1,8 +1,9 @@
 // Laws of the forms, each the contract of a function that does nothing.
 ghost use Rattle.std.specs.Prelude.{◌≡◌, ℕ, Ok};
-ghost use Rattle.sexp_text.specs.Forest.{Forest};
+ghost use Rattle.sexp_text.specs.Forest.{Forest, unplaced};
 ghost use Rattle.lang_forms.specs.Sources.{Source};
-ghost use Rattle.lang_forms.specs.Forms.{HasForms};
+ghost use Rattle.lang_forms.specs.Forms.{HasForms, text_forms};
+ghost use Rattle.lang_forms.specs.Sketch.{unplaced_sketch};
 ghost use Rattle.lang_forms.specs.Seen.{seen};
 ghost use Rattle.lang_forms.specs.Tops.{source_of};
 
@@ -20,4 +21,12 @@ pub fn forms_of_one_text()
 pub fn forms_are_what_is_read()
     ensures read { (end : ℕ) → (f : Forest) → (t : Source) → HasForms f t → source_of end (seen f) ≡ Ok t }
     ensures forms { (end : ℕ) → (f : Forest) → (t : Source) → source_of end (seen f) ≡ Ok t → HasForms f t }
+{}
+
+/// The trees that `forms_of` gives for a program are those that it was read from, places apart, where no script
+/// stands behind it.
+///
+/// This project's own rule; the function does nothing, and its contract is the law.
+pub fn forms_are_those_read()
+    ensures { (f : Forest) → (t : Source) → HasForms f t → unplaced f ≡ unplaced_sketch (text_forms t) }
 {}

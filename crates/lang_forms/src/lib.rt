@@ -15,6 +15,7 @@ mod items;
 mod known;
 mod laws;
 mod literals;
+mod putting;
 mod reading;
 mod rest;
 mod script;
@@ -22,8 +23,13 @@ mod statements;
 mod stop;
 mod tops;
 mod words;
+mod writing;
 
-pub use laws::{forms_are_what_is_read, forms_of_one_text};
+pub use laws::{forms_are_those_read, forms_are_what_is_read, forms_of_one_text};
 pub use reading::program;
 pub use rest::{DoForm, Rest, StepForm, Steps};
 pub use stop::FormStop;
+pub use writing::forms_of;
+
+#[cfg(test)]
+mod tests;
