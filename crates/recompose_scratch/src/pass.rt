@@ -13,10 +13,10 @@ use std::collections::VecDeque;
 fn call_is_run(owed: &Objects, found: &Option<KeyInfo>, what: &What) -> bool
     ensures { result ≡ call_runs owed.now found.now what.now }
 {
-    match found {
-        None => true,
-        Some(info) => { !same_calls(&info.group().what, what) || meet(&info.group().reads, owed) }
-    }
+    let Some(info) = found else {
+        return true;
+    };
+    !same_calls(&info.group().what, what) || meet(&info.group().reads, owed)
 }
 
 // Whether the innermost call around what stands in a group runs: the group itself where it is a call.
