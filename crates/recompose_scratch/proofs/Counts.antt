@@ -221,7 +221,6 @@ is_work_group running runs f site n (Key value) inside rest v w a b e h k =
     subst (λ (x : Work). IsWork running (Group site n (Key value) inside rest) (also x w) (total (one_group 0 0 0 0) (total a b))) (not_counted v)
     (put_together running runs inside rest (Group site n (Key value) inside rest) v w a b 0 0 0 0 h k (both_charged running runs inside rest e) refl refl)
 is_work_group running runs f site n (Cell ks value) inside rest v w a b e h k =
-    let c = runs && frames.other_keys f ks in
     subst (λ (x : Work). IsWork running (Group site n (Cell ks value) inside rest) (also x w) (total (told runs f (Cell ks value) inside) (total a b))) (celled (runs && frames.other_keys f ks) v)
     (subst (λ (r : Report). IsWork running (Group site n (Cell ks value) inside rest) (also (more_work 0 (if runs && frames.other_keys f ks then 1 else 0) v) w) (total r (total a b))) (sym (told_cell (runs && frames.other_keys f ks)))
     (put_together running runs inside rest (Group site n (Cell ks value) inside rest) v w a b 0 (if runs && frames.other_keys f ks then 1 else 0) 0 0 h k (both_charged running runs inside rest e) refl refl))
