@@ -1,5 +1,5 @@
 -- What one group adds is what its trail tells, and all that is added is the report.
-use Rattle.std.proofs.Common.{◌≡◌, ◌≤◌, ℕ, suc, ◌+◌, ◌-◌, ◌^◌, min, ◌==◌, Bool, true, false, not, ◌&&◌, ◌||◌, List, [], ◌∷◌, ◌++◌, length, length-append, Option, Some, None, if◌then◌else◌, refl, ap, sym, subst, ◌∙◌, arith}
+use Rattle.std.proofs.Common.{◌≡◌, ◌≤◌, ℕ, suc, ◌+◌, Bool, true, false, not, ◌&&◌, ◌||◌, List, [], ◌∷◌, ◌++◌, length, length-append, Option, Some, None, if◌then◌else◌, refl, ap, sym, subst, ◌∙◌, arith}
 use Rattle.rt_values.specs.declared.value.Value.{Value}
 use Rattle.rt_values.specs.declared.report.Report.{Report}
 use Rattle.rt_values.specs.Trail.{Trail, End, Read, Group, What, Call, Node, Key, Cell, asks, own, how_many, how_many_nodes}
@@ -221,7 +221,6 @@ is_work_group running runs f site n (Key value) inside rest v w a b e h k =
     subst (λ (x : Work). IsWork running (Group site n (Key value) inside rest) (also x w) (total (one_group 0 0 0 0) (total a b))) (not_counted v)
     (put_together running runs inside rest (Group site n (Key value) inside rest) v w a b 0 0 0 0 h k (both_charged running runs inside rest e) refl refl)
 is_work_group running runs f site n (Cell ks value) inside rest v w a b e h k =
-    let c = runs && frames.other_keys f ks in
     subst (λ (x : Work). IsWork running (Group site n (Cell ks value) inside rest) (also x w) (total (told runs f (Cell ks value) inside) (total a b))) (celled (runs && frames.other_keys f ks) v)
     (subst (λ (r : Report). IsWork running (Group site n (Cell ks value) inside rest) (also (more_work 0 (if runs && frames.other_keys f ks then 1 else 0) v) w) (total r (total a b))) (sym (told_cell (runs && frames.other_keys f ks)))
     (put_together running runs inside rest (Group site n (Cell ks value) inside rest) v w a b 0 (if runs && frames.other_keys f ks then 1 else 0) 0 0 h k (both_charged running runs inside rest e) refl refl))

@@ -1,5 +1,5 @@
 -- Going over the groups of a trail numbers them and counts them as the trail tells beside the old one.
-use Rattle.std.proofs.Common.{◌≡◌, ◌≤◌, ◌<◌, ℕ, zero, suc, ◌+◌, ◌-◌, Bool, true, false, List, [], ◌∷◌, ◌++◌, length, length-append, take, get_or, Option, Some, None, refl, ap, sym, subst, ◌∙◌, arith, append_assoc}
+use Rattle.std.proofs.Common.{◌≡◌, ℕ, zero, suc, ◌+◌, ◌-◌, Bool, List, [], ◌∷◌, ◌++◌, length, length-append, take, get_or, Option, refl, ap, sym, ◌∙◌, arith, append_assoc}
 use Rattle.std.proofs.Math.Seq.{take-append_seam, get_or-append_seam}
 use Rattle.std.proofs.lemmas.List.{take_all}
 use Rattle.rt_values.specs.declared.groups.Group.{Group as Kept}
@@ -224,23 +224,18 @@ over owed (Group site n what inside rest) d old seen outside running left p behi
     let s = path.sibling site what in
     let found = matched old seen site what in
     let runs = runs_in owed running found what in
-    let alike : Alike d (first_of (path.sibling site what) left) (matched old seen site what) = fits_found d left old seen (path.sibling site what) fits in
-    let next = (frames.number_of what found p.next).1 in
+    let alike : Alike d (first_of s left) found = fits_found d left old seen s fits in
     let report = both p.report (told runs found what inside) in
-    let q = pass_behind d outside left running s runs next report in
-    let around = outside ++ (pending_of (without s left) running ∷ []) in
-    let around_long : length (outside ++ (pending_of (without (path.sibling site what) left) running ∷ [])) ≡ d + 1 = inside_long d outside (pending_of (without (path.sibling site what) left) running) long in
-    let within = over owed inside (d + 1) (inside_of (matched old seen site what)) [] (outside ++ (pending_of (without (path.sibling site what) left) running ∷ [])) (runs_in owed running (matched old seen site what) what) (inside_at (d + 1) (first_of (path.sibling site what) left))
-    (pass_behind d outside left running (path.sibling site what) (runs_in owed running (matched old seen site what) what) (frames.number_of what (matched old seen site what) p.next).1 (both p.report (told (runs_in owed running (matched old seen site what) what) (matched old seen site what) what inside)))
-    (flat d rest ++ behind) around_long
-    (both-bounded p.report (told (runs_in owed running (matched old seen site what) what) (matched old seen site what) what inside))
-    (inside_open d outside (pending_of (without (path.sibling site what) left) running) (pending_of (inside_at (d + 1) (first_of (path.sibling site what) left)) (runs_in owed running (matched old seen site what) what)) long)
-    (fits_inside d (first_of (path.sibling site what) left) (matched old seen site what) alike) in
+    let q = pass_behind d outside left running s runs (frames.number_of what found p.next).1 report in
+    let one_less_waits = pending_of (without s left) running in
+    let around = outside ++ (one_less_waits ∷ []) in
+    let around_long = inside_long d outside one_less_waits long in
+    let waiting = inside_at (d + 1) (first_of s left) in
+    let within = over owed inside (d + 1) (inside_of found) [] around runs waiting q (flat d rest ++ behind) around_long
+    (both-bounded p.report (told runs found what inside)) (inside_open d outside one_less_waits (pending_of waiting runs) long) (fits_inside d (first_of s left) found alike) in
     over_group owed d old seen site n what inside rest outside around running p q behind
     (step_is owed p d site n what inside outside running left found stands alike)
     (ap (λ (m : ℕ × ℕ). m.0) (number_is p d site n what inside outside running left found stands alike))
     refl refl within
-    (over owed rest d old (path.sibling site what ∷ seen) outside running (without (path.sibling site what) left) within.reached behind long
-    (bounded within.reached.report _ _ within.reported)
-    (inside_closed d within.reached.pending (outside ++ (pending_of (without (path.sibling site what) left) running ∷ [])) _ around_long within.is_open)
-    (fits_next d left old seen (path.sibling site what) fits))
+    (over owed rest d old (s ∷ seen) outside running (without s left) within.reached behind long (bounded within.reached.report _ _ within.reported)
+    (inside_closed d within.reached.pending around _ around_long within.is_open) (fits_next d left old seen s fits))

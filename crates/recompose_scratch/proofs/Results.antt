@@ -1,12 +1,12 @@
 -- Going over all groups gives what a frame leaves and tells.
-use Rattle.std.proofs.Common.{◌≡◌, ◌≤◌, ℕ, ◌+◌, ◌-◌, ◌^◌, min, true, List, [], ◌∷◌, ◌++◌, length, refl, ap, sym, ◌∙◌, arith}
+use Rattle.std.proofs.Common.{◌≡◌, ◌≤◌, ℕ, ◌+◌, ◌-◌, ◌^◌, min, true, List, [], ◌++◌, length, refl, ap, sym, ◌∙◌, arith}
 use Rattle.std.proofs.lemmas.List.{append-nil}
 use Rattle.rt_values.specs.declared.groups.Group.{Group as Kept}
 use Rattle.rt_values.specs.declared.report.Report.{Report}
 use Rattle.rt_values.specs.Trail.{Trail, asks, own, how_many, how_many_nodes}
 use Rattle.rt_values.specs.Flat.{flat}
 use Rattle.rt_values.specs.Frames.{numbered, ran, calculated, reads, report, most_groups}
-use Rattle.recompose_walk.specs.Work.{Work, work}
+use Rattle.recompose_walk.specs.Work.{Work}
 use Rattle.recompose_walk.specs.Numbering.{numbered_beside}
 use Rattle.recompose_walk.proofs.Beside.{paths_and_places_agree}
 use Rattle.recompose_walk.proofs.Numbers.{numbers_are_told_beside}

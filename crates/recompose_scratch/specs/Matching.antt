@@ -1,5 +1,5 @@
 -- Which old group a new one is matched with, told of groups in preorder.
-use Rattle.std.specs.Prelude.{ℕ, suc, ◌==◌, nat_le, List, [], ◌∷◌, Bool, true, false, Option, Some, None, if◌then◌else◌}
+use Rattle.std.specs.Prelude.{ℕ, suc, ◌==◌, nat_le, List, [], ◌∷◌, Bool, Option, Some, None, if◌then◌else◌}
 use Rattle.rt_values.specs.declared.value.Value.{Value}
 use Rattle.rt_values.specs.declared.groups.What.{What}
 use Rattle.rt_values.specs.declared.groups.What.TheVariants as what

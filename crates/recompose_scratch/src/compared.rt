@@ -72,10 +72,7 @@ pub fn is_kept_for(what: &What, keys: &[Value]) -> bool
     ensures { result ≡ has_keys keys.now what.now }
 {
     match what {
-        What::Cell {
-            keys: kept,
-            ..
-        } => same_lists(kept.items(), keys),
+        What::Cell { keys: kept, .. } => same_lists(kept.items(), keys),
         _ => false,
     }
 }

@@ -49,7 +49,8 @@ impl Composition {
 /// where `owed` has the objects that changed since the last good frame: the calls that are new, whose arguments
 /// differ or whose own reads meet the owed objects run, cells in them that are new or whose keys differ are
 /// calculated, and the reads of those calls are counted. Fails as `compose` does, or where memory runs out; what
-/// was kept then stays as it was.
+/// was kept then stays as it was. Groups that come in the old order are matched at once; where the siblings in one
+/// group are shuffled, or many of them are gone or new, it takes time with the square of their number.
 pub fn frame<V: View>(
     alloc: Global,
     functions: &[Function],

@@ -9,8 +9,8 @@
 //! `specs/Matching.antt` and `specs/Passing.antt` tell how the new groups are gone over.
 #![tactic(auto)]
 
-mod composition;
 mod compared;
+mod composition;
 mod pass;
 mod pending;
 

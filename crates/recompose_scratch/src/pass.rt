@@ -13,12 +13,10 @@ use std::collections::VecDeque;
 fn call_is_run(owed: &Objects, found: &Option<KeyInfo>, what: &What) -> bool
     ensures { result ≡ call_runs owed.now found.now what.now }
 {
-    match found {
-        None => true,
-        Some(info) => {
-            !same_calls(&info.group().what, what) || meet(&info.group().reads, owed)
-        }
-    }
+    let Some(info) = found else {
+        return true;
+    };
+    !same_calls(&info.group().what, what) || meet(&info.group().reads, owed)
 }
 
 // Whether the innermost call around what stands in a group runs: the group itself where it is a call.
@@ -122,11 +120,7 @@ fn node_number(found: &Option<KeyInfo>, next: u64) -> Result<(u64, u64), NoMemor
 }
 
 // The number of a group, and the number of the next new node.
-fn group_number(
-    what: &What,
-    found: &Option<KeyInfo>,
-    next: u64,
-) -> Result<(u64, u64), NoMemory>
+fn group_number(what: &What, found: &Option<KeyInfo>, next: u64) -> Result<(u64, u64), NoMemory>
     ensures { IfOk result (λ n. n ≡ number_of what.now found.now next) }
 {
     match what {

@@ -77,10 +77,10 @@ impl<'a> Pending<'a> {
         self.running
     }
 
-    // Takes the first old group that has the site and the key of a new one (`getNext`). As long as groups come in
-    // the old order it is the first that is left, and where some moved on by a few places it is one of the first
-    // few; else it is searched among all that are left, so that a shuffle takes time with the square of the number
-    // of siblings.
+    // Takes the first old group that has the site and the key of a new one (`getNext`): the one at its path, since
+    // those that earlier new ones were matched with are gone. As long as groups come in the old order it is the
+    // first that is left, and where a few moved or are gone it is one of the first few; else it is searched among
+    // all that are left.
     pub fn take(&mut self, group: &Group) -> Option<KeyInfo<'a>>
         ensures found { result ≡ first_of (sibling group.now) self.old.left }
         ensures left { self.new ≡ record { left = without (sibling group.now) self.old.left; running = self.old.running } }

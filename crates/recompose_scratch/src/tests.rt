@@ -14,7 +14,7 @@ struct Shown {
     asked: Objects,
 }
 
-#[tactic(auto, using(crate::proofs::Asked::grew_none))]
+#[tactic(auto, using(lang_meaning::proofs::Grows::grew_none))]
 impl View for Shown {
     ghost use Rattle.std.specs.Prelude.{◌≡◌};
 
@@ -40,8 +40,11 @@ impl View for Shown {
 // The map in which state 0 has the numbers of the rows, and states 1 and 2 have these values.
 fn map_of(alloc: Global, rows: &[i64], first: i64, second: i64) -> Result<Shown, Fail> {
     let mut map = Map::new(alloc);
-    let list = Value::Ints(IntList::of(alloc, rows)?);
-    for value in [list, Value::Int(first), Value::Int(second)] {
+    let mut list = IntList::new(alloc);
+    for row in rows {
+        list.push(*row)?;
+    }
+    for value in [Value::Ints(list), Value::Int(first), Value::Int(second)] {
         map.push(Entry { value, stamp: 0 })?;
     }
     Ok(Shown {
@@ -244,13 +247,24 @@ fn calls_that_read_a_changed_state_run(rt: HostRuntime) -> Result<(), Fail> {
 fn numbers_move_with_their_keys(rt: HostRuntime) -> Result<(), Fail> {
     let alloc = rt.alloc();
     let mut kept = Composition::new(alloc);
-    next_frame(alloc, &mut kept, &[0, 1, 2], map_of(alloc, &[3, 4, 5], 0, 7)?)?;
+    next_frame(
+        alloc,
+        &mut kept,
+        &[0, 1, 2],
+        map_of(alloc, &[3, 4, 5], 0, 7)?,
+    )?;
     let left = next_frame(alloc, &mut kept, &[0], map_of(alloc, &[4, 5, 3], 0, 7)?)?;
     assert_eq!(rt; left, told(1, 0, 2, 12, 4));
-    assert_eq!(rt; numbers(alloc, &kept)?.as_slice(), [2u64, 3, 1, 4].as_slice());
+    assert_eq!(rt;
+        numbers(alloc, &kept)?.as_slice(),
+        [2u64, 3, 1, 4].as_slice()
+    );
     let right = next_frame(alloc, &mut kept, &[0], map_of(alloc, &[3, 4, 5], 0, 7)?)?;
     assert_eq!(rt; right, told(1, 0, 2, 12, 4));
-    assert_eq!(rt; numbers(alloc, &kept)?.as_slice(), [1u64, 2, 3, 4].as_slice());
+    assert_eq!(rt;
+        numbers(alloc, &kept)?.as_slice(),
+        [1u64, 2, 3, 4].as_slice()
+    );
     Ok(())
 }
 
@@ -258,9 +272,17 @@ fn numbers_move_with_their_keys(rt: HostRuntime) -> Result<(), Fail> {
 fn equal_keys_are_matched_in_order(rt: HostRuntime) -> Result<(), Fail> {
     let alloc = rt.alloc();
     let mut kept = Composition::new(alloc);
-    next_frame(alloc, &mut kept, &[0, 1, 2], map_of(alloc, &[3, 3, 4], 0, 7)?)?;
+    next_frame(
+        alloc,
+        &mut kept,
+        &[0, 1, 2],
+        map_of(alloc, &[3, 3, 4], 0, 7)?,
+    )?;
     next_frame(alloc, &mut kept, &[0], map_of(alloc, &[4, 3, 3, 3], 0, 7)?)?;
-    assert_eq!(rt; numbers(alloc, &kept)?.as_slice(), [3u64, 1, 2, 5, 4].as_slice());
+    assert_eq!(rt;
+        numbers(alloc, &kept)?.as_slice(),
+        [3u64, 1, 2, 5, 4].as_slice()
+    );
     Ok(())
 }
 

@@ -1,6 +1,4 @@
-use Rattle.std.proofs.Common.{rules, ◌≡◌, ◌≤◌, ◌∙◌, refl}
-use Rattle.rt_values.specs.Trail.{how_many}
-use Rattle.rt_values.specs.Frames.{most_groups}
+use Rattle.std.proofs.Common.{rules, ◌∙◌, refl}
 use Rattle.lang_ast.specs.SyntaxView.{functions_view}
 use Rattle.lang_ast.specs.Composing.{forest}
 use Rattle.recompose_scratch.proofs.Results.{done, report_is}

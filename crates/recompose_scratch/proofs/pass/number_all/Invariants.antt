@@ -1,5 +1,5 @@
 use Rattle.std.proofs.Common.{◌≡◌, ◌≤◌, ◌-◌, ◌++◌, drop, take, length}
-use Rattle.recompose_scratch.specs.Passing.{Pass, at_first, marked, passed}
+use Rattle.recompose_scratch.specs.Passing.{at_first, marked, passed}
 use Rattle.recompose_scratch.proofs.pass.number_all.Given as goal
 
 abbrev pub invariant-loop-place : goal.invariant-loop-place

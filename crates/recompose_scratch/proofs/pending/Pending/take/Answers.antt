@@ -1,4 +1,4 @@
-use Rattle.std.proofs.Common.{rules, ◌≡◌, length, ap}
+use Rattle.std.proofs.Common.{rules, ◌≡◌, length}
 use Rattle.std.specs.VecDeque.{deque_len}
 use Rattle.recompose_scratch.specs.Matching.{sibling}
 use Rattle.recompose_scratch.proofs.Places.{taken}
