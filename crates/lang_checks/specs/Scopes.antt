@@ -16,14 +16,16 @@ use Rattle.lang_checks.specs.FaultOrder.{unless}
 abbrev pub bound : Name → Ty → Bound
 bound n t = record { name = n.text; ty = t }
 
--- the type that a name is bound to
+-- the type that a name is bound to, by the first binding that has it
 abbrev pub found : List ℕ → List Bound → Option Ty
 found name [] = None
 found name (b ∷ bs) = if bytes_eq b.name name then Some b.ty else found name bs
 
+-- no binding has this name
 abbrev pub is_free : List ℕ → List Bound → Bool
 is_free name bs = not (is_some (found name bs))
 
+-- one of these is this name
 abbrev pub is_among : List ℕ → List Name → Bool
 is_among name ns = list_any (λ n. bytes_eq n.text name) ns
 
