@@ -34,6 +34,7 @@ abbrev pub doubled : List Name → List Name → List Fault
 doubled earlier [] = []
 doubled earlier (n ∷ ns) = unless (not (is_among n.text earlier)) kind.Double n.at ++ doubled (earlier ++ n ∷ []) ns
 
+-- the type of a state, where it has this name
 abbrev pub type_if_named : List ℕ → Option State → Option Ty
 type_if_named name None = None
 type_if_named name (Some s) = if bytes_eq s.name.text name then Some s.ty else None
@@ -47,6 +48,7 @@ abbrev pub first_named : List Func → List ℕ → ℕ → Option (ℕ × Func)
 first_named [] name i = None
 first_named (f ∷ fs) name i = if bytes_eq f.name.text name then Some (i, f) else first_named fs name (i + 1)
 
+-- a function with its number, where it has this name, else another
 abbrev pub numbered_or : List ℕ → ℕ → Option Func → Option (ℕ × Func) → Option (ℕ × Func)
 numbered_or name number None other = other
 numbered_or name number (Some f) other = if bytes_eq f.name.text name then Some (number, f) else other
