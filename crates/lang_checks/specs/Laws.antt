@@ -1,19 +1,11 @@
 -- What it means that a fault answers.
-use Rattle.std.specs.Prelude.{◌≡◌, List, [], ◌∷◌, false, Some, None, ◌⊎◌}
+use Rattle.std.specs.Prelude.{◌≡◌, List, [], All, Contains, false, Some, None}
 use Rattle.lang_checks.specs.declared.faults.Fault.{Fault}
 use Rattle.lang_checks.specs.FaultOrder.{before, least_fault}
 
-abbrev pub In : Fault → List Fault → Type 0
-In f [] = ⊥
-In f (g ∷ gs) = (g ≡ f) ⊎ In f gs
-
-abbrev pub NoneBefore : Fault → List Fault → Type 0
-NoneBefore f [] = Unit {0}
-NoneBefore f (g ∷ gs) = (before g f ≡ false) × NoneBefore f gs
-
 -- the fault that answers is one of them, and none goes before it
 abbrev pub AnswerIsLeast : Type 0
-AnswerIsLeast = (fs : List Fault) (f : Fault) → least_fault fs ≡ Some f → In f fs × NoneBefore f fs
+AnswerIsLeast = (fs : List Fault) (f : Fault) → least_fault fs ≡ Some f → Contains fs f × All (λ g. before g f ≡ false) fs
 
 -- where none answers there is none
 abbrev pub NoAnswerNoFault : Type 0

@@ -1,12 +1,13 @@
 -- The types that operators take and give.
 use Rattle.std.specs.Prelude.{◌&&◌, ◌||◌, List, [], ◌∷◌, Bool, true, false}
+use Rattle.std.specs.List.{list_all}
 use Rattle.rt_values.specs.declared.value.Ty.{Ty}
 use Rattle.rt_values.specs.declared.value.Ty.TheVariants as ty
 use Rattle.rt_values.specs.Values.{same_type}
 use Rattle.lang_ast.specs.declared.syntax.Operator.{Operator}
 use Rattle.lang_ast.specs.declared.syntax.Operator.TheVariants as operator
 
--- as many types, and each the same
+-- as many types of one list as of the other, and each the same
 abbrev pub same_types : List Ty → List Ty → Bool
 same_types [] [] = true
 same_types [] (u ∷ us) = false
@@ -14,8 +15,7 @@ same_types (t ∷ ts) [] = false
 same_types (t ∷ ts) (u ∷ us) = same_type t u && same_types ts us
 
 abbrev pub all_ints : List Ty → Bool
-all_ints [] = true
-all_ints (t ∷ ts) = same_type t ty.Int && all_ints ts
+all_ints ts = list_all (λ t. same_type t ty.Int) ts
 
 -- two of one type
 abbrev pub is_pair : List Ty → Bool

@@ -16,14 +16,16 @@ use Rattle.lang_checks.specs.FaultOrder.{unless}
 abbrev pub bound : Name → Ty → Bound
 bound n t = record { name = n.text; ty = t }
 
--- the type that a name is bound to
+-- the type that a name is bound to, by the first binding that has it
 abbrev pub found : List ℕ → List Bound → Option Ty
 found name [] = None
 found name (b ∷ bs) = if bytes_eq b.name name then Some b.ty else found name bs
 
+-- no binding has this name
 abbrev pub is_free : List ℕ → List Bound → Bool
 is_free name bs = not (is_some (found name bs))
 
+-- one of these is this name
 abbrev pub is_among : List ℕ → List Name → Bool
 is_among name ns = list_any (λ n. bytes_eq n.text name) ns
 
@@ -32,6 +34,7 @@ abbrev pub doubled : List Name → List Name → List Fault
 doubled earlier [] = []
 doubled earlier (n ∷ ns) = unless (not (is_among n.text earlier)) kind.Double n.at ++ doubled (earlier ++ n ∷ []) ns
 
+-- the type of a state, where it has this name
 abbrev pub type_if_named : List ℕ → Option State → Option Ty
 type_if_named name None = None
 type_if_named name (Some s) = if bytes_eq s.name.text name then Some s.ty else None
@@ -45,6 +48,7 @@ abbrev pub first_named : List Func → List ℕ → ℕ → Option (ℕ × Func)
 first_named [] name i = None
 first_named (f ∷ fs) name i = if bytes_eq f.name.text name then Some (i, f) else first_named fs name (i + 1)
 
+-- a function with its number, where it has this name, else another
 abbrev pub numbered_or : List ℕ → ℕ → Option Func → Option (ℕ × Func) → Option (ℕ × Func)
 numbered_or name number None other = other
 numbered_or name number (Some f) other = if bytes_eq f.name.text name then Some (number, f) else other

@@ -25,9 +25,9 @@ pub record Around : Type 0 where
 abbrev pub plain : List State → List Bound → Look
 plain states scope = record { states = states; scope = scope; keys = []; calculating = false }
 
--- the calculation of a remember with these keys
-abbrev pub inside : List State → List Bound → List Bound → Look
-inside states scope keys = record { states = states; scope = scope; keys = keys; calculating = true }
+-- the calculation of a remember with these keys, each of its expression's type
+abbrev pub inside : List State → List Bound → List Named → Look
+inside states scope keys = record { states = states; scope = scope; keys = bounds (plain states scope) keys; calculating = true }
 
 abbrev pub names : List Named → List Name
 names ns = map (λ n. n.name) ns
@@ -66,8 +66,8 @@ abbrev mutual
   -- a remember: no key stands twice; keys see what is around them, the calculation sees the keys, and the body sees the name
   stmt_faults p scope (Remember at site name keys value body) =
       doubled [] (names keys) ++ (values_faults (plain p.states scope) keys
-      ++ (expr_faults (inside p.states scope (bounds (plain p.states scope) keys)) value
-      ++ binding scope name (stmts_faults p (scope ++ bound name (type (inside p.states scope (bounds (plain p.states scope) keys)) value) ∷ []) body)))
+      ++ (expr_faults (inside p.states scope keys) value
+      ++ binding scope name (stmts_faults p (scope ++ bound name (type (inside p.states scope keys) value) ∷ []) body)))
 
   -- the faults of statements one after another
   pub stmts_faults : Around → List Bound → Stmts → List Fault

@@ -27,14 +27,7 @@ pub fn same_types(types: &[Ty], others: &[Ty]) -> bool
 fn all_ints(types: &[Ty]) -> bool
     ensures { result ≡ all_ints types.now }
 {
-    let mut rest = types;
-    while let Some((ty, more)) = rest.split_first() {
-        if !ty.same(Ty::Int) {
-            return false;
-        }
-        rest = more;
-    }
-    true
+    types.iter().all(|ty| ty.same(Ty::Int))
 }
 
 // Two of one type.
