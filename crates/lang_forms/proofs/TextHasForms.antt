@@ -14,7 +14,7 @@ use Rattle.lang_forms.specs.declared.rest.DoForm.{DoForm}
 use Rattle.lang_forms.specs.Names.{is_name, number_of, most_forms}
 use Rattle.lang_forms.specs.Sketch.{Sketch, nothing, Fits}
 use Rattle.lang_forms.specs.Sources.{Source}
-use Rattle.lang_forms.specs.Forms.{parameters_forms, state_forms, function_forms, do_forms, steps_forms, top_forms, Known, after_all, state_name, function_name, literal_fits, SpelledStmts, SpelledParameters, SpelledStates, SpelledFunctions, SpelledSteps, SpelledScripts, HasForms}
+use Rattle.lang_forms.specs.Forms.{is_of_actor, AreOfActor, parameters_forms, state_forms, function_forms, do_forms, steps_forms, top_forms, Known, after_all, state_name, function_name, literal_fits, SpelledStmts, SpelledParameters, SpelledStates, SpelledFunctions, SpelledSteps, SpelledScripts, HasForms}
 use Rattle.lang_forms.specs.Seen.{when, Top, StateTop, FunctionTop, DoTop, Seen, seen, is_end, word_of, name_of, type_of, literal_of, step_form, write_form, steps_of, parameter_form, parameters_form, parameters_of, stmts_of, state_form, function_form, do_form, top_form, header_form, is_there}
 use Rattle.lang_forms.specs.Tops.{Front, known, source, is_none, placed, followed, tops_of, text_of, start, source_of, sourced}
 use Rattle.lang_forms.proofs.Found.{inject, bind_some, map_some, Worded, word_found, word_next, name_next, type_next, literal_next, end_next, tail}
@@ -197,6 +197,7 @@ record Leads (f : Forest) (p q : Front) : Type 0 where
   good_states : SpelledStates states
   good_functions : SpelledFunctions (record { states = map state_name q.states; functions = map function_name p.functions }) p.site functions
   good_script : SpelledScripts (map state_name q.states) script
+  one_actor : AreOfActor p.script script
   few_states : length p.states ≤ most_forms → length q.states ≤ most_forms
   few_functions : length p.functions ≤ most_forms → length q.functions ≤ most_forms
   no_states : is_none p.functions && is_none p.script ≡ false → states ≡ []
@@ -215,6 +216,7 @@ nothing_more p q is = subst (λ (x : Front). Leads empty p x) is (record {
   good_states = tt;
   good_functions = tt;
   good_script = tt;
+  one_actor = tt;
   few_states = λ h. h;
   few_functions = λ h. h;
   no_states = λ h. refl;
@@ -258,6 +260,7 @@ state_leads at i f p q r s k top put more =
       good_states = (top.1, top.2, rest.good_states);
       good_functions = subst (λ (j : ℕ). SpelledFunctions (record { states = map state_name q.states; functions = map function_name p.functions }) j rest.functions) top.3 rest.good_functions;
       good_script = rest.good_script;
+      one_actor = rest.one_actor;
       few_states = λ h. rest.few_states (one_more p.states s tests.1);
       few_functions = rest.few_functions;
       no_states = λ h. absurd (no_more (is_none p.functions) (is_none p.script) early.0 early.1 h);
@@ -290,6 +293,7 @@ function_leads at i f p q r c k top put more =
       good_states = tt;
       good_functions = (top.1, top.2, body, behind);
       good_script = rest.good_script;
+      one_actor = rest.one_actor;
       few_states = rest.few_states;
       few_functions = λ h. rest.few_functions (one_more p.functions c tests.1);
       no_states = λ h. refl;
@@ -300,7 +304,8 @@ function_leads at i f p q r c k top put more =
 do_leads : (at : ℕ) (i f : Forest) (p q r : Front) (d : DoForm) (k : ℕ) → TopFits (known p) p.site at i (DoTop d) k → placed p (DoTop d) k ≡ Some r → Leads f r q → Leads (list at i f) p q
 do_leads at i f p q r d k top put more =
     let made : Front = record { header = p.header; states = p.states; functions = p.functions; script = p.script ++ d ∷ []; site = k } in
-    let rest : Leads f made q = subst (λ (x : Front). Leads f x q) (sym (inject put)) more in
+    let t = cond_some (is_of_actor p.script d) made r put in
+    let rest : Leads f made q = subst (λ (x : Front). Leads f x q) (sym t.1) more in
     let late : is_none (p.script ++ d ∷ []) ≡ false = some_there p.script d in
     let no_states : rest.states ≡ [] = rest.no_states (and_false (is_none p.functions) _ late) in
     let no_functions : rest.functions ≡ [] = rest.no_functions late in
@@ -320,6 +325,7 @@ do_leads at i f p q r d k top put more =
       good_states = tt;
       good_functions = tt;
       good_script = (top.1, subst (λ (l : List State). SpelledSteps (map state_name l) d.steps) same_states top.2, rest.good_script);
+      one_actor = (t.0, rest.one_actor);
       few_states = rest.few_states;
       few_functions = rest.few_functions;
       no_states = λ h. refl;
@@ -391,6 +397,7 @@ whole at i f q head all =
         states = all.good_states;
         functions = subst (λ (l : List State). SpelledFunctions (record { states = map state_name l; functions = [] }) 1 all.functions) (sym all.all_states) all.good_functions;
         script = subst (λ (l : List State). SpelledScripts (map state_name l) all.script) (sym all.all_states) all.good_script;
+        one_actor = all.one_actor;
       };
     })
 

@@ -1,5 +1,5 @@
 -- What has the forms of a text is read as it.
-use Rattle.std.proofs.Common.{◌≡◌, ℕ, ◌+◌, List, [], ◌∷◌, ◌++◌, length, map, Some, Ok, true, refl, sym, ap, ◌∙◌, subst, codes, nat_lt, arith, ◌≤◌}
+use Rattle.std.proofs.Common.{Bool, true, ◌≡◌, ℕ, ◌+◌, List, [], ◌∷◌, ◌++◌, length, map, Some, Ok, true, refl, sym, ap, ◌∙◌, subst, codes, nat_lt, arith, ◌≤◌}
 use Rattle.std.proofs.lemmas.Bool.{leb-true, lt-ltb}
 use Rattle.std.proofs.lemmas.List.{append-nil, append_assoc, length-append, map-append}
 use Rattle.sexp_text.specs.Forest.{Forest, empty, atom, list}
@@ -15,8 +15,8 @@ use Rattle.lang_forms.specs.Names.{is_name, number_of, most_forms}
 use Rattle.lang_forms.specs.Words.{type_word}
 use Rattle.lang_forms.specs.Sketch.{Sketch, nothing, Fits}
 use Rattle.lang_forms.specs.Sources.{Source}
-use Rattle.lang_forms.specs.Forms.{parameters_forms, steps_forms, states_forms, functions_forms, scripts_forms, Known, after_all, state_name, function_name, SpelledParameters, SpelledStates, SpelledFunctions, SpelledSteps, SpelledScripts, HasForms}
-use Rattle.lang_forms.specs.Seen.{Top, StateTop, FunctionTop, DoTop, seen, word_of, literal_at, step_form, write_form, steps_of, parameter_form, parameters_form, state_form, function_form, do_form, top_form, header_form}
+use Rattle.lang_forms.specs.Forms.{parameters_forms, steps_forms, states_forms, functions_forms, scripts_forms, Known, after_all, state_name, function_name, SpelledParameters, SpelledStates, SpelledFunctions, SpelledSteps, SpelledScripts, AreOfActor, HasForms}
+use Rattle.lang_forms.specs.Seen.{when, Top, StateTop, FunctionTop, DoTop, seen, word_of, literal_at, step_form, write_form, steps_of, parameter_form, parameters_form, state_form, function_form, do_form, top_form, header_form}
 use Rattle.lang_forms.specs.Tops.{Front, known, placed, tops_of, text_of, start, source_of, sourced}
 use Rattle.lang_forms.proofs.FormsAreRead.{First, ReadsBody, name_there, type_there, literal_read, literal_there, stmts_read, headed}
 
@@ -173,19 +173,19 @@ functions_read at k ss front (c ∷ cs) f g few s h =
           ∙ ap (λ (x : List Func). tops_of (so_far at ss x [] (behind_all (after_all k c.body) cs)) (seen more.rest)) (append_assoc front (c ∷ []) cs);
     }
 
-scripts_read : (at k : ℕ) (ss : List State) (cs : List Func) (front ds : List DoForm) (f : Forest) → SpelledScripts (map state_name ss) ds → Fits f (scripts_forms ds)
+scripts_read : (at k : ℕ) (ss : List State) (cs : List Func) (front ds : List DoForm) (f : Forest) → SpelledScripts (map state_name ss) ds → AreOfActor front ds → Fits f (scripts_forms ds)
     → tops_of (so_far at ss cs front k) (seen f) ≡ Ok (so_far at ss cs (front ++ ds) k)
 unfolding tops_of
-scripts_read at k ss cs front [] f s h = ap (λ (x : Forest). tops_of (so_far at ss cs front k) (seen x)) h ∙ ap (λ (l : List DoForm). Ok (so_far at ss cs l k)) (sym (append-nil front))
-scripts_read at k ss cs front (d ∷ ds) f s h =
+scripts_read at k ss cs front [] f s a h = ap (λ (x : Forest). tops_of (so_far at ss cs front k) (seen x)) h ∙ ap (λ (l : List DoForm). Ok (so_far at ss cs l k)) (sym (append-nil front))
+scripts_read at k ss cs front (d ∷ ds) f s a h =
     let w = h.5 in
     let n = w.4 in
     let before = so_far at ss cs front k in
     let is = headed h.1 w.1 n.1 w.0 n.0 (codes "do") d.actor w.2 n.2 n.3 in
     let read : top_form (known before) k d.at (seen h.1) ≡ Some (DoTop d, k) =
     ap (λ (i : Forest). top_form (known before) k d.at (seen i)) is ∙ do_read (known before) k w.0 d n.1 s.0 (steps_read (map state_name ss) d.steps n.1 s.1 n.4) in
-    one_top f h.1 h.2 h.0 d.at before (so_far at ss cs (front ++ d ∷ []) k) (DoTop d) k h.3 h.4 read refl
-    ∙ scripts_read at k ss cs (front ++ d ∷ []) ds h.2 s.2 h.6 ∙ ap (λ (l : List DoForm). Ok (so_far at ss cs l k)) (append_assoc front (d ∷ []) ds)
+    one_top f h.1 h.2 h.0 d.at before (so_far at ss cs (front ++ d ∷ []) k) (DoTop d) k h.3 h.4 read (ap (λ (b : Bool). when b (so_far at ss cs (front ++ d ∷ []) k)) a.0)
+    ∙ scripts_read at k ss cs (front ++ d ∷ []) ds h.2 s.2 a.1 h.6 ∙ ap (λ (l : List DoForm). Ok (so_far at ss cs l k)) (append_assoc front (d ∷ []) ds)
 
 header_read : (end at x a b : ℕ) (f i r : Forest) → f ≡ list at i r → at ≡ x → i ≡ atom a (codes "compose") (atom b (codes "1") empty) → text_of end (seen f) ≡ tops_of (start x) (seen r)
 unfolding text_of header_form word_of
@@ -203,5 +203,5 @@ text_read end f t h =
     let few_functions = leb-true (length p.functions) most_forms h.spelled.few_functions in
     let ss = states_read p.header 1 [] p.states g.2 _ (omega (arith, few_states)) h.spelled.states g.6 in
     let cs = functions_read p.header 1 p.states [] p.functions ss.rest _ (omega (arith, few_functions)) h.spelled.functions ss.fits in
-    let ds = scripts_read p.header (behind_all 1 p.functions) p.states p.functions [] t.script cs.rest h.spelled.script cs.fits in
+    let ds = scripts_read p.header (behind_all 1 p.functions) p.states p.functions [] t.script cs.rest h.spelled.script h.spelled.one_actor cs.fits in
     ap sourced (head ∙ ss.same ∙ cs.same ∙ ds)

@@ -2,6 +2,7 @@
 -- A word of a form has no place of its own, nor has a list of pairs, of parameters or of a branch.
 use Rattle.std.specs.Prelude.{◌≡◌, ℕ, suc, ◌+◌, ◌&&◌, nat_le, List, [], ◌∷◌, ◌++◌, length, map, Option, Some, None, Bool, true, false, codes, ℤ}
 use Rattle.std.specs.Fmt.{signed_decimal}
+use Rattle.std.specs.Str.{bytes_eq}
 use Rattle.sexp_text.specs.Forest.{Forest}
 use Rattle.rt_values.specs.Values.{truth_text}
 use Rattle.rt_values.specs.declared.value.Value.{Value}
@@ -220,6 +221,16 @@ abbrev pub SpelledScripts : List (List ℕ) → List DoForm → Type 0
 SpelledScripts m [] = Unit {0}
 SpelledScripts m (d ∷ ds) = (is_name d.actor.text ≡ true) × SpelledSteps m d.steps × SpelledScripts m ds
 
+-- a script has one actor, that of the first form
+abbrev pub is_of_actor : List DoForm → DoForm → Bool
+is_of_actor [] d = true
+is_of_actor (first ∷ ds) d = bytes_eq d.actor.text first.actor.text
+
+-- forms behind those that stand before them
+abbrev pub AreOfActor : List DoForm → List DoForm → Type 0
+AreOfActor front [] = Unit {0}
+AreOfActor front (d ∷ ds) = (is_of_actor front d ≡ true) × AreOfActor (front ++ d ∷ []) ds
+
 -- all parts of a text
 pub record SpelledSource (t : Source) : Type 0 where
   pub few_states : nat_le (length t.program.states) most_forms ≡ true
@@ -227,6 +238,7 @@ pub record SpelledSource (t : Source) : Type 0 where
   pub states : SpelledStates t.program.states
   pub functions : SpelledFunctions (record { states = map state_name t.program.states; functions = [] }) 1 t.program.functions
   pub script : SpelledScripts (map state_name t.program.states) t.script
+  pub one_actor : AreOfActor [] t.script
 
 -- The forest is that of the text, at the places that its parts keep, and its parts are what they may be.
 pub record HasForms (f : Forest) (t : Source) : Type 0 where

@@ -5,7 +5,7 @@ use Rattle.lang_ast.specs.declared.program.State.{State}
 use Rattle.lang_forms.specs.declared.rest.DoForm.{DoForm}
 use Rattle.lang_forms.specs.Names.{most_forms}
 use Rattle.lang_forms.specs.Sources.{Source}
-use Rattle.lang_forms.specs.Forms.{Known, state_name, function_name}
+use Rattle.lang_forms.specs.Forms.{Known, state_name, function_name, is_of_actor}
 use Rattle.lang_forms.specs.Seen.{◌>>=◌, when, Top, StateTop, FunctionTop, DoTop, Seen, place, top_at, is_header}
 
 -- what was read of a text so far, and the number of the next statement
@@ -27,7 +27,7 @@ is_none [] = true
 is_none (a ∷ more) = false
 
 -- A top form behind what was read; none where it may not stand there: a state behind a function, a state or a function
--- behind a script, and one more than there may be. k is the number of the next statement.
+-- behind a script, one more than there may be, and a script of another actor. k is the number of the next statement.
 abbrev pub placed : Front → Top → ℕ → Option Front
 placed p (StateTop s) k =
     when (is_none p.functions && is_none p.script && nat_lt (length p.states) most_forms)
@@ -35,7 +35,7 @@ placed p (StateTop s) k =
 placed p (FunctionTop c) k =
     when (is_none p.script && nat_lt (length p.functions) most_forms)
     (record { header = p.header; states = p.states; functions = p.functions ++ c ∷ []; script = p.script; site = k })
-placed p (DoTop d) k = Some (record { header = p.header; states = p.states; functions = p.functions; script = p.script ++ d ∷ []; site = k })
+placed p (DoTop d) k = when (is_of_actor p.script d) (record { header = p.header; states = p.states; functions = p.functions; script = p.script ++ d ∷ []; site = k })
 
 -- one tree behind what was read; none where it is no top form, or may not stand there
 abbrev pub taken : Front → Seen → Option Front

@@ -2,6 +2,7 @@
 ghost use Rattle.std.specs.Prelude.{◌≡◌, Bool};
 ghost use Rattle.lang_ast.specs.SyntaxView.{function_view};
 ghost use Rattle.lang_forms.specs.Seen.{StateTop, FunctionTop, DoTop};
+ghost use Rattle.lang_forms.specs.Forms.{is_of_actor};
 ghost use Rattle.lang_forms.specs.Tops.{start, known, placed, taken};
 ghost use Rattle.lang_forms.specs.Views.{seen_tree, known_view, front_view, Reads};
 
@@ -24,6 +25,16 @@ pub struct Front {
     pub functions: Vec<Function>,
     pub script: Vec<DoForm>,
     pub site: u32,
+}
+
+// Whether a form is of the actor of those before it.
+fn is_of_actor(before: &[DoForm], form: &DoForm) -> bool
+    ensures { result ≡ is_of_actor before.now form.now }
+{
+    match before.first() {
+        Some(first) => form.actor.text.is(first.actor.text.bytes()),
+        None => true,
+    }
 }
 
 impl Front {
@@ -89,10 +100,13 @@ impl Front {
         })
     }
 
-    // With an actor's script behind it.
+    // With an actor's script behind it, where it is the one actor.
     fn with_script(self, form: DoForm, next: u32) -> Result<Self, ReadStop>
         ensures { Reads front_view result (placed (front_view self) (DoTop form) next) }
     {
+        if !is_of_actor(&self.script, &form) {
+            return Err(ReadStop::NoForm);
+        }
         let mut script = self.script;
         script.push(form)?;
         Ok(Front {
