@@ -18,3 +18,5 @@ pub use line::add_line;
 pub use script::{Script, ScriptStop, Step, script_of};
 pub use tree::{OpenGroups, add_refused, add_report};
 
+#[cfg(test)]
+mod tests;
