@@ -1,12 +1,12 @@
 -- What a statement in memory makes, by its parts, and what a list of them makes.
-use Rattle.std.proofs.Common.{ℕ, zero, suc, ◌+◌, ◌<◌, ◌≤◌, ◌≡◌, List, [], ◌∷◌, ◌++◌, map, length, drop, take, get_or, drop-cons, Vec, Global, Result, refl, ap, ◌∙◌, sym, subst, arith}
+use Rattle.std.proofs.Common.{ℕ, zero, suc, ◌+◌, ◌<◌, ◌≤◌, ◌≡◌, List, [], ◌∷◌, length, drop, take, get_or, drop-cons, Vec, Global, Result, refl, ap, ◌∙◌, sym, subst, arith}
 use Rattle.std.proofs.lemmas.List.{drop_all}
 use Rattle.rt_values.specs.declared.value.Value.{Value}
 use Rattle.rt_values.specs.declared.groups.Group.{Group as Entry}
 use Rattle.rt_values.specs.Maps.{Map}
 use Rattle.rt_values.specs.Trail.{Trail, End, joined, how_many}
 use Rattle.rt_values.specs.Flat.{flat}
-use Rattle.lang_ast.specs.Terms.{Stmt, Node, Call, Key, If, For, Let, Remember, Func}
+use Rattle.lang_ast.specs.Terms.{Stmt, Node, Key, If, For, Let, Remember, Func}
 use Rattle.lang_ast.specs.SyntaxView.{expr_view, exprs_view, nameds_view, stmt_view, stmts_view, functions_view, function_view}
 use Rattle.lang_ast.specs.Evaluation.{Env, eval_all}
 use Rattle.lang_ast.specs.Composing.{after, bind, forest, meaning_at, meanings, run_all}

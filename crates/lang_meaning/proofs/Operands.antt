@@ -18,7 +18,7 @@ use Rattle.lang_ast.specs.declared.syntax.Named.{Named}
 use Rattle.lang_ast.specs.declared.syntax.Operator.{Operator}
 use Rattle.lang_ast.specs.declared.syntax.Operator.TheVariants as operator
 use Rattle.lang_ast.proofs.Views.{view-Literal, view-Variable, view-Get, view-Apply}
-use Rattle.lang_meaning.specs.Operands.{is_list, pair, placed, filled, gathered}
+use Rattle.lang_meaning.specs.Operands.{is_list, pair, filled, gathered}
 use Rattle.lang_meaning.specs.declared.applying.Pair.{Pair}
 use Rattle.lang_meaning.proofs.Grows.{grew_front, grew_behind, grew_left, grew_all}
 

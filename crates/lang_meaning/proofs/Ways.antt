@@ -1,5 +1,5 @@
 -- What the parts of a composition come to, for each way to make a trail.
-use Rattle.std.proofs.Common.{ℕ, ℤ, pos, suc, ◌+◌, ◌++◌, ◌<◌, ◌≤◌, List, [], ◌∷◌, ◌≡◌, refl, ap, ◌∙◌, sym, subst, append_assoc, append-nil, length, length-append, drop, get_or, drop-cons, arith, Result, Ok, Err, OnOk, OnErr, IsErr, Bool, true, false, if◌then◌else◌}
+use Rattle.std.proofs.Common.{ℕ, ℤ, pos, suc, ◌+◌, ◌++◌, ◌<◌, ◌≤◌, List, [], ◌∷◌, ◌≡◌, refl, ap, ◌∙◌, sym, append_assoc, append-nil, length, length-append, drop, get_or, drop-cons, arith, Result, Ok, Err, IsErr, Bool, true, false, if◌then◌else◌}
 use Rattle.std.proofs.lemmas.List.{drop_all}
 use Rattle.rt_values.specs.declared.value.Value.{Value}
 use Rattle.rt_values.specs.Views.{Grew}
@@ -14,7 +14,7 @@ use Rattle.lang_ast.specs.Composing.{after, turns}
 use Rattle.lang_meaning.specs.Ran.{Ran, Going}
 use Rattle.lang_meaning.specs.declared.composition.ScratchStop.{ScratchStop}
 use Rattle.lang_meaning.specs.declared.composition.ScratchStop.TheVariants.{TooManyGroups, NoMemory}
-use Rattle.lang_meaning.proofs.Grows.{grew_front, grew_behind, grew_left, grew_all}
+use Rattle.lang_meaning.proofs.Grows.{grew_front, grew_behind, grew_left}
 
 -- The groups and the own reads of trails put one behind another.
 

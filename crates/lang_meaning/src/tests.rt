@@ -1,19 +1,21 @@
 // Whole composables over a map that stands for itself: their groups, the reads that calls keep, and what is asked for.
 use crate::{Scope, compose, evaluate};
 use lang_ast::{Expression, Function, Name, Named, Operator, Parameter, Statement};
-use rt_values::{Entry, Group, IntList, Map, NoMemory, ObjectNo, Objects, Ty, Value, View, What, Word};
+use rt_values::{
+    Entry, Group, IntList, Map, NoMemory, ObjectNo, Objects, Ty, Value, View, What, Word,
+};
 use std::alloc::Global;
 use std::test::Fail;
 
 // A map, and what was asked for in it.
 #[derive(Drop)]
-struct Shown {
+struct MapView {
     map: Map,
     asked: Objects,
 }
 
 #[tactic(auto, using(crate::proofs::Grows::grew_none))]
-impl View for Shown {
+impl View for MapView {
     ghost use Rattle.std.specs.Prelude.{◌≡◌};
 
     ghost shows = { λ s m. s.map ≡ m };
@@ -35,7 +37,7 @@ impl View for Shown {
     }
 }
 
-fn view_of(alloc: Global, numbers: &[i64]) -> Result<Shown, Fail> {
+fn view_of(alloc: Global, numbers: &[i64]) -> Result<MapView, Fail> {
     let mut map = Map::new(alloc);
     for number in numbers {
         map.push(Entry {
@@ -43,7 +45,7 @@ fn view_of(alloc: Global, numbers: &[i64]) -> Result<Shown, Fail> {
             stamp: 0,
         })?;
     }
-    Ok(Shown {
+    Ok(MapView {
         map,
         asked: Objects::new(alloc),
     })

@@ -1,25 +1,22 @@
-use Rattle.std.proofs.Common.{rules, ◌≡◌, ◌<◌, ◌++◌, ◌+◌, ◌∷◌, [], arith, sym, ap, ◌∙◌, subst, List, ℕ, ℤ, pos, Err, Ok, refl, length, length-append, take, get_or, map, true, false, to_z, of_z, w64}
+use Rattle.std.proofs.Common.{rules, ◌≡◌, ◌<◌, ◌++◌, ◌+◌, ◌∷◌, [], arith, sym, ap, ◌∙◌, subst, List, ℕ, ℤ, pos, Err, Ok, refl, length, length-append, get_or, map, true, false, to_z, of_z, w64}
 use Rattle.rt_values.specs.declared.value.Value.{Value}
 use Rattle.rt_values.specs.declared.value.Value.TheVariants as value
-use Rattle.rt_values.specs.declared.groups.What.{What}
 use Rattle.rt_values.specs.declared.groups.What.TheVariants as what
 use Rattle.rt_values.specs.declared.groups.Attribute.{Attribute}
 use Rattle.rt_values.specs.Flat.{entry}
 use Rattle.rt_values.specs.Maps.{Map}
 use Rattle.rt_values.specs.Operators.{is_true, items_of}
 use Rattle.rt_values.specs.Trail.{Trail, asks, own}
-use Rattle.rt_values.specs.Trail as trail
 use Rattle.rt_values.specs.Views.{Grew}
 use Rattle.lang_ast.specs.declared.binding.Binding.{Binding}
 use Rattle.lang_ast.specs.Readings.{Reading}
-use Rattle.lang_ast.specs.Evaluation.{bound, eval, eval_all, eval_named}
-use Rattle.lang_ast.specs.Composing.{bind}
-use Rattle.lang_ast.specs.SyntaxView.{expr_view, exprs_view, nameds_view, stmt_view, stmts_view}
+use Rattle.lang_ast.specs.Evaluation.{bound, eval, eval_named}
+use Rattle.lang_ast.specs.SyntaxView.{expr_view, nameds_view, stmt_view, stmts_view}
 use Rattle.lang_meaning.specs.Ran.{Ran, made_by, made_by_all, called, turned}
 use Rattle.lang_meaning.specs.declared.composition.ScratchStop.TheVariants.{NoMemory}
 use Rattle.lang_meaning.proofs.Grows.{grew_none, grew_all}
 use Rattle.lang_meaning.proofs.Sizes.{size_at, falls_at}
-use Rattle.lang_meaning.proofs.Arms.{all_at, all_end, node_ran, call_ran, key_ran, choice_ran, loop_ran, binding_ran, remember_ran, call_body, call_none, inside_call}
+use Rattle.lang_meaning.proofs.Arms.{all_at, all_end, node_ran, call_ran, key_ran, choice_ran, loop_ran, binding_ran, remember_ran, call_body, call_none}
 use Rattle.lang_meaning.proofs.Ways.{ran_end, ran_stop, ran_stop_after, ran_after, ran_full, ran_group, ran_call, ran_call_stop, ran_cell, ran_first, ran_second, going_more, going_done, going_stop, turns_at, turns_end}
 use Rattle.lang_meaning.proofs.composition.+run.Goals as goal
 
