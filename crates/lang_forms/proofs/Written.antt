@@ -1,10 +1,9 @@
 -- Forests that grow at their end.
-use Rattle.std.proofs.Common.{◌≡◌, ℕ, suc, ◌+◌, ◌≤◌, ◌<◌, List, [], ◌∷◌, ◌++◌, map, length, get_or, drop, refl, sym, ap, ◌∙◌, drop-cons, add-one, arith, codes, None}
+use Rattle.std.proofs.Common.{◌≡◌, ℕ, suc, ◌+◌, ◌≤◌, ◌<◌, List, [], length, get_or, drop, sym, ap, ◌∙◌, drop-cons, add-one, arith, codes, None}
 use Rattle.std.proofs.lemmas.Grind.{common_steps}
 use Rattle.sexp_text.specs.Forest.{Forest, empty, atom, text, list, behind, unplaced}
-use Rattle.sexp_text.specs.View.{forest_view}
 use Rattle.sexp_text.proofs.Trees.{behind-empty, behind_assoc, forest_view-push, view-Atom, view-Text, view-List}
-use Rattle.lang_ast.specs.Terms.{Expr, Exprs, Stmts, If, more, next}
+use Rattle.lang_ast.specs.Terms.{Expr, Stmts, If, more, next}
 use Rattle.lang_ast.specs.SyntaxView.{expr_view, exprs_view, stmt_view, stmts_view}
 use Rattle.lang_ast.specs.declared.syntax.Expression.{Expression}
 use Rattle.lang_ast.specs.declared.syntax.Statement.{Statement}
