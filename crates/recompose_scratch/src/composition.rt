@@ -44,8 +44,8 @@ impl Composition {
 }
 
 /// One frame (`Recomposer.recompose`): composes the program from scratch in the map that the view shows, as
-/// `compose` does, and keeps its groups. A node keeps its number where a node stood at its path, by this project's
-/// own rule; others get the next numbers in preorder. The report tells what an incremental frame would have done,
+/// `compose` does, and keeps its groups. A node keeps its number where its path was in the last composition, by this
+/// project's own rule; others get the next numbers in preorder. The report tells what an incremental frame would have done,
 /// where `owed` has the objects that changed since the last good frame: the calls that are new, whose arguments
 /// differ or whose own reads meet the owed objects run, cells in them that are new or whose keys differ are
 /// calculated, and the reads of those calls are counted. Fails as `compose` does, or where memory runs out; what
