@@ -29,7 +29,7 @@ pub fn evaluate_all<V: View>(
     ensures reads { (m : Map) → V.shows view.old m → OnOk result (reads.new ≡ reads.old ++ (eval_all m (exprs_view expressions.now) scope.now).reads) }
     ensures part { (m : Map) → V.shows view.old m → OnErr result (Grew (V.asked view.old) (V.asked view.new) (eval_all m (exprs_view expressions.now) scope.now).reads) }
 {
-    let mut values = Values::new(alloc);
+    let mut values = Values::with_room(alloc, expressions.len())?;
     for expression in expressions {
         values.push(evaluate(alloc, expression, scope, view, reads)?)?;
     }
@@ -76,7 +76,7 @@ pub fn evaluate_attributes<V: View>(
     ensures reads { (m : Map) → V.shows view.old m → OnOk result (reads.new ≡ reads.old ++ (eval_named m (nameds_view attributes.now) scope.now).reads) }
     ensures part { (m : Map) → V.shows view.old m → OnErr result (Grew (V.asked view.old) (V.asked view.new) (eval_named m (nameds_view attributes.now) scope.now).reads) }
 {
-    let mut all = Attributes::new(alloc);
+    let mut all = Attributes::with_room(alloc, attributes.len())?;
     for named in attributes {
         let value = evaluate(alloc, &named.value, scope, view, reads)?;
         let name = named.name.text.copy(alloc)?;

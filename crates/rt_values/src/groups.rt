@@ -1,5 +1,5 @@
 // A composition as a list of groups, and the lists that groups hold.
-ghost use Rattle.std.specs.Prelude.{◌≡◌, ◌<◌, ◌++◌, ◌∷◌, [], List, length, OnOk, OnErr};
+ghost use Rattle.std.specs.Prelude.{◌≡◌, ◌<◌, ◌++◌, ◌∷◌, [], List, length, IfOk, OnOk, OnErr};
 ghost use Rattle.rt_values.specs.Flat.{entry};
 ghost use Rattle.rt_values.specs.declared.groups.Group.{Group as group_data};
 
@@ -30,6 +30,15 @@ impl Values {
         Values {
             items: Vec::new(alloc),
         }
+    }
+
+    /// None, with room for so many.
+    pub fn with_room(alloc: Global, count: usize) -> Result<Self, NoMemory>
+        ensures { IfOk result (λ all. all ≡ []) }
+    {
+        Ok(Values {
+            items: Vec::with_capacity(alloc, count)?,
+        })
     }
 
     /// Them, in order.
@@ -79,6 +88,15 @@ impl Attributes {
         Attributes {
             items: Vec::new(alloc),
         }
+    }
+
+    /// None, with room for so many.
+    pub fn with_room(alloc: Global, count: usize) -> Result<Self, NoMemory>
+        ensures { IfOk result (λ all. all ≡ []) }
+    {
+        Ok(Attributes {
+            items: Vec::with_capacity(alloc, count)?,
+        })
     }
 
     /// Them, in order.

@@ -5,11 +5,12 @@ ghost use Rattle.std.specs.Str.{bytes_eq};
 use crate::NoMemory;
 use std::alloc::Global;
 use std::marker::Model;
+use std::sync::ArcSlice;
 
 /// A name of a program, by its bytes: of a state, a function, a variable, a node's kind or attribute, an actor.
 #[derive(Drop)]
 pub struct Word {
-    bytes: Vec<u8>,
+    bytes: ArcSlice<u8>,
 }
 
 impl Model for Word {
@@ -17,7 +18,7 @@ impl Model for Word {
 
     ghost Value = { List ℕ };
 
-    ghost view = { λ w. w.bytes.items };
+    ghost view = { λ w. w.bytes.items.value.items };
 }
 
 impl Word {
@@ -26,7 +27,7 @@ impl Word {
         ensures { IfOk result (λ w. w ≡ bytes.now) }
     {
         Ok(Word {
-            bytes: bytes.to_vec(alloc)?,
+            bytes: ArcSlice::from_vec(bytes.to_vec(alloc)?)?,
         })
     }
 
@@ -38,11 +39,11 @@ impl Word {
     }
 
     /// Another name with the same bytes.
-    pub fn copy(&self, alloc: Global) -> Result<Self, NoMemory>
+    pub fn copy(&self, _alloc: Global) -> Result<Self, NoMemory>
         ensures { IfOk result (λ w. w ≡ self.now) }
     {
         Ok(Word {
-            bytes: self.bytes.to_vec(alloc)?,
+            bytes: self.bytes.clone()?,
         })
     }
 
@@ -50,6 +51,6 @@ impl Word {
     pub fn is(&self, bytes: &[u8]) -> bool
         ensures { result ≡ bytes_eq self.now bytes.now }
     {
-        self.bytes.as_slice() == bytes
+        self.bytes() == bytes
     }
 }
