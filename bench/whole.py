@@ -1,0 +1,50 @@
+#!/usr/bin/env python3
+"""Writes texts for `compose_play run` that ask much of a frame: whole.py forest|turns|keyed
+
+    forest   a forest of 200,000 nodes, shown in five frames, each of which changes all of them
+    turns    a frame whose loops want 16 million groups, which is refused, and a small frame behind it
+    keyed    a list of 4,000 rows with keys, turned round, and turned round again
+"""
+import sys
+
+
+def program(states, functions, steps):
+    """A text, as bytes."""
+    return "\n".join(["(compose 1)"] + states + functions + ["(do main", "\n".join(steps), ")\n"]).encode()
+
+
+def forest(rows=400, cells=499, frames=5):
+    """Rows of cells, each cell with the state's value: rows * (cells + 1) nodes."""
+    return program(
+        ["(state n Int Structural 0)"],
+        ["(fun root () (let n (get n)",
+         "  (for y (range 0 %d) (node Row ((y y)) (for x (range 0 %d) (node Cell ((x x) (n n))))))))" % (rows, cells)],
+        ["(write global n %d) (frame)" % (n + 1) for n in range(frames)])
+
+
+def turns(side=4000):
+    """Loops of side * side turns with a group in each, and then of one."""
+    return program(
+        ["(state side Int Structural %d)" % side],
+        ["(fun root () (for y (range 0 (get side)) (for x (range 0 (get side)) (key x (node Cell ((x x)))))))"],
+        ["(frame)", "(write global side 1)", "(frame)"])
+
+
+def keyed(rows=4000, frames=2):
+    """A list of rows with keys, turned round before each frame but the first."""
+    items = " ".join(map(str, range(rows)))
+    back = " ".join(map(str, reversed(range(rows))))
+    steps = ["(frame)"]
+    for n in range(frames):
+        steps.append("(write global items (ints %s)) (frame)" % (items if n % 2 else back))
+    return program(
+        ["(state items Ints Structural (ints %s))" % items],
+        ["(fun row ((i Int)) (remember square ((i i)) (* i i) (node Row ((i i) (square square)))))",
+         "(fun root () (for i (get items) (key i (call row i))))"],
+        steps)
+
+
+TEXTS = {"forest": forest, "turns": turns, "keyed": keyed}
+
+if __name__ == "__main__":
+    sys.stdout.buffer.write(TEXTS[sys.argv[1]]())
