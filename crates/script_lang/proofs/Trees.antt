@@ -1,17 +1,17 @@
 -- The lines of groups, and the lines of the node tree.
-use Rattle.std.proofs.Common.{◌≡◌, ℕ, zero, suc, ◌+◌, List, [], ◌∷◌, ◌++◌, map, take, length, Bool, true, false, refl, sym, ap, ◌∙◌, append_assoc, append-nil, arith}
+use Rattle.std.proofs.Common.{◌≡◌, ℕ, suc, ◌+◌, List, [], ◌∷◌, ◌++◌, map, take, length, Bool, true, false, refl, sym, ap, ◌∙◌, append_assoc, append-nil, arith}
 use Rattle.std.specs.List.{flat_map}
 use Rattle.std.proofs.Math.Seq.{take-append_seam}
 use Rattle.std.proofs.lemmas.List.{length-append}
 use Rattle.std.proofs.lemmas.Grind.{flat_map-append}
 use Rattle.rt_values.specs.Trail.{Trail, End, Read, Attribute}
 use Rattle.rt_values.specs.Trail as trail
-use Rattle.rt_values.specs.Flat.{flat, kept, what_of, reads_of, entry}
+use Rattle.rt_values.specs.Flat.{flat, kept, what_of}
 use Rattle.rt_values.specs.Nodes.{Nodes, Branch, followed, over, nodes}
 use Rattle.rt_values.specs.Nodes as tree
 use Rattle.rt_values.specs.declared.groups.Group.{Group}
 use Rattle.script_lang.specs.Lines.{node_line, tree_lines}
-use Rattle.script_lang.specs.Listing.{shown, is_node, level, line_of, around, opened, group_line, listed, GroupsTellTheTree}
+use Rattle.script_lang.specs.Listing.{shown, is_node, level, line_of, listed, GroupsTellTheTree}
 
 abbrev bytes : List (List ℕ) → List ℕ
 bytes ls = flat_map (λ l. l) ls
@@ -83,7 +83,7 @@ told (trail.Group site n what inside rest) base extra d behind k e h =
     let b = is_node (what_of what) in
     let k' = bytes (tree_lines (level base) (nodes rest)) ++ k in
     let later : (more : List Bool) → listed ((base ++ b ∷ []) ++ more) (flat d rest ++ behind) ≡ k' =
-        λ more. ap (λ l. listed l (flat d rest ++ behind)) (append_assoc base (b ∷ []) more) ∙ told rest base (b ∷ more) d behind k e h in
+    λ more. ap (λ l. listed l (flat d rest ++ behind)) (append_assoc base (b ∷ []) more) ∙ told rest base (b ∷ more) d behind k e h in
     let longer : d + 1 ≡ length (base ++ b ∷ []) = ap (λ m. m + 1) e ∙ sym (length-behind base b) in
     let within = told inside (base ++ b ∷ []) [] (d + 1) (flat d rest ++ behind) k' longer later in
     ap (λ l. line_of (level l) n (what_of what) ++ listed (l ++ b ∷ []) ((flat (d + 1) inside ++ flat d rest) ++ behind)) (take-front base extra d e)

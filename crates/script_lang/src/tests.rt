@@ -1,7 +1,5 @@
 // Scripts resolved, and each kind of line.
-use crate::{
-    OpenGroups, Script, ScriptStop, Step, add_line, add_refused, add_report, script_of,
-};
+use crate::{OpenGroups, Script, ScriptStop, Step, add_line, add_refused, add_report, script_of};
 use lang_ast::{Function, Name, Program, State};
 use lang_checks::{Checked, check};
 use lang_forms::{DoForm, Rest, StepForm, Steps};

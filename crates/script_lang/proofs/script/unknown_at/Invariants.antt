@@ -1,5 +1,5 @@
-use Rattle.std.proofs.Common.{◌≡◌, ◌≤◌, ◌-◌, length}
-use Rattle.script_lang.specs.Scripts.{unknown_at, most_steps}
+use Rattle.std.proofs.Common.{◌≡◌, length}
+use Rattle.script_lang.specs.Scripts.{unknown_at}
 use Rattle.script_lang.proofs.script.unknown_at.Given as goal
 
 abbrev pub invariant-loop-form : goal.invariant-loop-form

@@ -1,5 +1,5 @@
-use Rattle.std.proofs.Common.{◌≡◌, ◌≤◌, ◌-◌, length}
-use Rattle.script_lang.specs.Scripts.{unknown_in, most_steps}
+use Rattle.std.proofs.Common.{◌≡◌, length}
+use Rattle.script_lang.specs.Scripts.{unknown_in}
 use Rattle.script_lang.proofs.script.unknown_in.Given as goal
 
 abbrev pub invariant-loop-step : goal.invariant-loop-step
