@@ -82,9 +82,9 @@ stamps-differ a b c h i = elim (eqb_tells a c) [
       let second : (b == c) ≡ true = eq-eqb b c (omega (arith, h, i, same)) in
       rw (first, second, e.0) refl
   | inr e ↦ elim (eqb_tells a b) [
-      | inl f ↦ let other : (b == c) ≡ false = subst (λ n. (n == c) ≡ false) f.1 e.0 in rw (f.0, other, e.0) refl
-      | inr f ↦ rw (f.0, e.0) refl
-    ]
+    | inl f ↦ let other : (b == c) ≡ false = subst (λ n. (n == c) ≡ false) f.1 e.0 in rw (f.0, other, e.0) refl
+    | inr f ↦ rw (f.0, e.0) refl
+  ]
 ]
 
 -- what differs between two maps and then between the second and a third differs between the first and the third, where stamps rise
@@ -135,9 +135,10 @@ pub owes-more : (seen : Option Map) (trail : Trail) (last : Option Map) (now : M
     Owes seen trail (Some now) (with_members changed owed)
 owes-more None trail last now owed changed h moved is = h
 owes-more (Some m) trail None now owed changed h moved is = absurd h
-owes-more (Some m) trail (Some n) now owed changed h moved is =
-    (moved-trans m n now h.0 moved,
-     λ x. any-with_members (λ y. y == x) changed owed ∙ ap (λ b. b || contains x changed) (h.1 x) ∙ ap (λ l. contains x (differ (Some m) n) || contains x l) is ∙ moved-members m n now x h.0 moved)
+owes-more (Some m) trail (Some n) now owed changed h moved is = (
+  moved-trans m n now h.0 moved,
+  λ x. any-with_members (λ y. y == x) changed owed ∙ ap (λ b. b || contains x changed) (h.1 x) ∙ ap (λ l. contains x (differ (Some m) n) || contains x l) is ∙ moved-members m n now x h.0 moved,
+)
 
 -- a good frame owes nothing
 pub owes-nothing : (m : Map) (trail : Trail) → Owes (Some m) trail (Some m) []

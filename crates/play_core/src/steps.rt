@@ -40,15 +40,7 @@ fn after_take<V: Versions<P = BuiltIn>, K: Sink>(
 {
     match answer {
         Reply::TakenFor(name, changed) => run_taken(
-            alloc,
-            program,
-            script,
-            world,
-            kept,
-            *name,
-            changed,
-            room,
-            sink,
+            alloc, program, script, world, kept, *name, changed, room, sink,
         ),
         Reply::Taken(_) => Ok(()),
         Reply::Got(_) => Ok(()),

@@ -93,15 +93,7 @@ fn run_script<V: Versions<P = BuiltIn>, K: Sink>(
         text: Vec::new(alloc),
         asked: Objects::new(alloc),
     };
-    run_steps(
-        alloc,
-        program,
-        script,
-        world,
-        &mut kept,
-        &mut room,
-        sink,
-    )
+    run_steps(alloc, program, script, world, &mut kept, &mut room, sink)
 }
 
 // The one line of a fault.
