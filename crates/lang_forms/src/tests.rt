@@ -29,8 +29,8 @@ const EVERY_FORM: &str = r#"(compose 1) ; a comment
 
 // A script with each form, for it.
 const EVERY_STEP: &str = r#"(do main (write global a 7) (frame) (write global d (ints)))
-(do other (write global c "") (write global nowhere false))
-(do third)"#;
+(do main (write global c "") (write global nowhere false))
+(do main)"#;
 
 #[test]
 fn texts_have_the_forms(rt: HostRuntime) -> Result<(), Fail> {
