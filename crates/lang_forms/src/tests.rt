@@ -85,29 +85,6 @@ fn a_fault_stands_at_the_first_form_that_does_not_belong(rt: HostRuntime) -> Res
         ("(compose 1) (state a Ints Structural (ints (ints)))", 12),
         ("(compose 1) (state global Int Structural 0)", 12),
         ("(compose 1) (state 2a Int Structural 0)", 12),
-        ("(compose 1) (fun root (a))", 12),
-        ("(compose 1) (fun root ((a Int Int)))", 12),
-        ("(compose 1) (fun root)", 12),
-        (
-            "(compose 1) (fun root () (node nnnnnnnnnnnnnnnnnnnnnnnnnnnnnnnnnnnnnnnnnnnnnnnnnnnnnnnnnnnnnnnnn ()))",
-            12,
-        ),
-        ("(compose 1) (fun root () (node Text))", 12),
-        ("(compose 1) (fun root () (node Text ((a 1 2))))", 12),
-        ("(compose 1) (fun root () (node Text (a 1)))", 12),
-        ("(compose 1) (fun root () x)", 12),
-        ("(compose 1) (fun root () (let x))", 12),
-        ("(compose 1) (fun root () (let true 1))", 12),
-        ("(compose 1) (fun root () (if 1 ()))", 12),
-        ("(compose 1) (fun root () (if 1 () () ()))", 12),
-        ("(compose 1) (fun root () (key (+ 1)))", 12),
-        ("(compose 1) (fun root () (key (+ 1 2 3)))", 12),
-        ("(compose 1) (fun root () (key (not 1 2)))", 12),
-        ("(compose 1) (fun root () (key (pick 1 2)))", 12),
-        ("(compose 1) (fun root () (key (get 1)))", 12),
-        ("(compose 1) (fun root () (key (other 1)))", 12),
-        ("(compose 1) (fun root () (key ()))", 12),
-        ("(compose 1) (fun root () (key global))", 12),
         ("(compose 1) (fun root ()) (do main (frame now))", 26),
         (
             "(compose 1) (fun root ()) (do main (frame)) (do main (write a 1))",
@@ -116,10 +93,43 @@ fn a_fault_stands_at_the_first_form_that_does_not_belong(rt: HostRuntime) -> Res
         ("(compose 1) (do main (write global a (+ 1 2)))", 12),
         ("(compose 1) (do main (write global a 1 2))", 12),
         ("(compose 1) (do 1)", 12),
+        ("(compose 1) (do main) (do other)", 22),
         ("(compose 1) (fun root ()) (write global a 1)", 26),
     ] {
         assert!(rt;
             text_read(rt.alloc(), text)?.err() == Some(FormStop::Form { at: place }),
+            "{text}"
+        );
+    }
+    Ok(())
+}
+
+#[test]
+fn a_fault_of_a_statement_stands_at_its_function(rt: HostRuntime) -> Result<(), Fail> {
+    for text in [
+        "(compose 1) (fun root (a))",
+        "(compose 1) (fun root ((a Int Int)))",
+        "(compose 1) (fun root)",
+        "(compose 1) (fun root () (node nnnnnnnnnnnnnnnnnnnnnnnnnnnnnnnnnnnnnnnnnnnnnnnnnnnnnnnnnnnnnnnnn ()))",
+        "(compose 1) (fun root () (node Text))",
+        "(compose 1) (fun root () (node Text ((a 1 2))))",
+        "(compose 1) (fun root () (node Text (a 1)))",
+        "(compose 1) (fun root () x)",
+        "(compose 1) (fun root () (let x))",
+        "(compose 1) (fun root () (let true 1))",
+        "(compose 1) (fun root () (if 1 ()))",
+        "(compose 1) (fun root () (if 1 () () ()))",
+        "(compose 1) (fun root () (key (+ 1)))",
+        "(compose 1) (fun root () (key (+ 1 2 3)))",
+        "(compose 1) (fun root () (key (not 1 2)))",
+        "(compose 1) (fun root () (key (pick 1 2)))",
+        "(compose 1) (fun root () (key (get 1)))",
+        "(compose 1) (fun root () (key (other 1)))",
+        "(compose 1) (fun root () (key ()))",
+        "(compose 1) (fun root () (key global))",
+    ] {
+        assert!(rt;
+            text_read(rt.alloc(), text)?.err() == Some(FormStop::Form { at: 12 }),
             "{text}"
         );
     }
