@@ -1,0 +1,5 @@
+pub mod Least
+pub mod Tokens
+pub mod Sizes
+pub mod Within
+pub mod Laws
