@@ -1,6 +1,6 @@
 -- The forms of a program and a script: the trees that each part has, and what the parts may be.
 -- A word of a form has no place of its own, nor has a list of pairs, of parameters or of a branch.
-use Rattle.std.specs.Prelude.{◌≡◌, ℕ, suc, ◌+◌, ◌&&◌, nat_le, List, [], ◌∷◌, ◌++◌, length, map, Option, Some, None, Bool, true, false, codes, ℤ}
+use Rattle.std.specs.Prelude.{◌≡◌, ℕ, suc, ◌+◌, ◌&&◌, List, [], ◌∷◌, ◌++◌, length, map, Option, Some, None, Bool, true, false, codes, ℤ}
 use Rattle.std.specs.Fmt.{signed_decimal}
 use Rattle.std.specs.Str.{bytes_eq}
 use Rattle.sexp_text.specs.Forest.{Forest}
@@ -14,7 +14,8 @@ use Rattle.lang_ast.specs.declared.program.State.{State}
 use Rattle.lang_forms.specs.declared.rest.StepForm.{StepForm}
 use Rattle.lang_forms.specs.declared.rest.StepForm.TheVariants.{Write, Frame}
 use Rattle.lang_forms.specs.declared.rest.DoForm.{DoForm}
-use Rattle.lang_forms.specs.Names.{is_name, fits, all_fit, is_string, is_list_long, most_forms, number_of}
+use Rattle.lang_limits.specs.Tokens.{fits}
+use Rattle.lang_forms.specs.Names.{is_name, all_fit, is_string, is_list_long, number_of}
 use Rattle.lang_forms.specs.Words.{type_word, operator_word, takes}
 use Rattle.lang_forms.specs.Sketch.{Sketch, nothing, leaf, string, group, Fits}
 use Rattle.lang_forms.specs.Sources.{Source}
@@ -233,8 +234,6 @@ AreOfActor front (d ∷ ds) = (is_of_actor front d ≡ true) × AreOfActor (fron
 
 -- all parts of a text
 pub record SpelledSource (t : Source) : Type 0 where
-  pub few_states : nat_le (length t.program.states) most_forms ≡ true
-  pub few_functions : nat_le (length t.program.functions) most_forms ≡ true
   pub states : SpelledStates t.program.states
   pub functions : SpelledFunctions (record { states = map state_name t.program.states; functions = [] }) 1 t.program.functions
   pub script : SpelledScripts (map state_name t.program.states) t.script

@@ -7,3 +7,4 @@ pub mod Seen
 pub mod Tops
 pub mod Views
 pub mod Stops
+pub mod Answers

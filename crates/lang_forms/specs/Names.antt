@@ -1,8 +1,9 @@
--- What names, numbers, strings and lists of numbers are made of, and how long they are.
-use Rattle.std.specs.Prelude.{ℕ, suc, ◌^◌, ◌&&◌, ◌==◌, ◌||◌, not, nat_le, nat_lt, List, [], ◌∷◌, length, slice_index, Bool, true, codes, ℤ, pos, negsuc, if◌then◌else◌}
+-- What names, strings and lists of numbers are made of, and how many items a list has.
+use Rattle.std.specs.Prelude.{ℕ, suc, ◌&&◌, ◌==◌, ◌||◌, not, nat_le, List, [], ◌∷◌, length, slice_index, Bool, true, codes, ℤ, if◌then◌else◌}
 use Rattle.std.specs.List.{list_all}
 use Rattle.std.specs.Str.{bytes_eq, is_utf8}
 use Rattle.rt_values.specs.Limits.{most_bytes, most_items}
+use Rattle.lang_limits.specs.Tokens.{fits}
 
 abbrev pub is_letter : ℕ → Bool
 is_letter b = (nat_le 97 b && nat_le b 122) || (nat_le 65 b && nat_le b 90)
@@ -14,18 +15,9 @@ is_name_byte b = is_letter b || (nat_le 48 b && nat_le b 57) || b == 95
 abbrev pub is_kept_word : List ℕ → Bool
 is_kept_word a = bytes_eq a (codes "global") || bytes_eq a (codes "true") || bytes_eq a (codes "false")
 
--- the most bytes of a name
-abbrev pub most_name_bytes : ℕ
-most_name_bytes = 64
-
--- a name: letters, digits and _, a letter first; not too long; none of the three words
+-- a name: letters, digits and _, a letter first; none of the three words
 abbrev pub is_name : List ℕ → Bool
-is_name a = is_letter (slice_index a 0) && list_all is_name_byte a && nat_le (length a) most_name_bytes && not (is_kept_word a)
-
--- a number of 64 bits with a sign
-abbrev pub fits : ℤ → Bool
-fits (pos n) = nat_lt n (2 ^ 63)
-fits (negsuc n) = nat_lt n (2 ^ 63)
+is_name a = is_letter (slice_index a 0) && list_all is_name_byte a && not (is_kept_word a)
 
 -- numbers of 64 bits with a sign
 abbrev pub all_fit : List ℤ → Bool
@@ -39,10 +31,6 @@ is_string cs = is_utf8 cs && nat_le (length cs) most_bytes
 -- as many numbers as a list may have
 abbrev pub is_list_long : ℕ → Bool
 is_list_long n = nat_le n most_items
-
--- the most states of a program, and the most functions
-abbrev pub most_forms : ℕ
-most_forms = 256
 
 -- the number of a name: that of the first of these names that it is, or how many they are
 abbrev pub number_of : List ℕ → List (List ℕ) → ℕ

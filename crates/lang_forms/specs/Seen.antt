@@ -16,7 +16,8 @@ use Rattle.lang_ast.specs.declared.program.State.{State}
 use Rattle.lang_forms.specs.declared.rest.StepForm.{StepForm}
 use Rattle.lang_forms.specs.declared.rest.StepForm.TheVariants.{Write, Frame}
 use Rattle.lang_forms.specs.declared.rest.DoForm.{DoForm}
-use Rattle.lang_forms.specs.Names.{is_name, fits, is_string, is_list_long, number_of}
+use Rattle.lang_limits.specs.Tokens.{fits}
+use Rattle.lang_forms.specs.Names.{is_name, is_string, is_list_long, number_of}
 use Rattle.lang_forms.specs.Words.{type_named, operator_named, takes}
 use Rattle.lang_forms.specs.Forms.{Known}
 

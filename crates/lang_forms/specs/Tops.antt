@@ -1,9 +1,8 @@
 -- The reading of a whole text, and the place of the form that stops it.
-use Rattle.std.specs.Prelude.{ℕ, ◌&&◌, nat_lt, List, [], ◌∷◌, ◌++◌, length, map, Bool, true, false, Option, Some, None, Result, Ok, Err, if◌then◌else◌}
+use Rattle.std.specs.Prelude.{ℕ, ◌&&◌, List, [], ◌∷◌, ◌++◌, map, Bool, true, false, Option, Some, None, Result, Ok, Err, if◌then◌else◌}
 use Rattle.lang_ast.specs.Terms.{Func}
 use Rattle.lang_ast.specs.declared.program.State.{State}
 use Rattle.lang_forms.specs.declared.rest.DoForm.{DoForm}
-use Rattle.lang_forms.specs.Names.{most_forms}
 use Rattle.lang_forms.specs.Sources.{Source}
 use Rattle.lang_forms.specs.Forms.{Known, state_name, function_name, is_of_actor}
 use Rattle.lang_forms.specs.Seen.{◌>>=◌, when, Top, StateTop, FunctionTop, DoTop, Seen, place, top_at, is_header}
@@ -27,13 +26,13 @@ is_none [] = true
 is_none (a ∷ more) = false
 
 -- A top form behind what was read; none where it may not stand there: a state behind a function, a state or a function
--- behind a script, one more than there may be, and a script of another actor. k is the number of the next statement.
+-- behind a script, and a script of another actor. k is the number of the next statement.
 abbrev pub placed : Front → Top → ℕ → Option Front
 placed p (StateTop s) k =
-    when (is_none p.functions && is_none p.script && nat_lt (length p.states) most_forms)
+    when (is_none p.functions && is_none p.script)
     (record { header = p.header; states = p.states ++ s ∷ []; functions = p.functions; script = p.script; site = k })
 placed p (FunctionTop c) k =
-    when (is_none p.script && nat_lt (length p.functions) most_forms)
+    when (is_none p.script)
     (record { header = p.header; states = p.states; functions = p.functions ++ c ∷ []; script = p.script; site = k })
 placed p (DoTop d) k = when (is_of_actor p.script d) (record { header = p.header; states = p.states; functions = p.functions; script = p.script ++ d ∷ []; site = k })
 

@@ -1,11 +1,10 @@
 -- The words of types and operators, and how many operands an operator has.
-use Rattle.std.specs.Prelude.{ℕ, ◌==◌, List, Bool, Option, Some, None, codes, if◌then◌else◌}
+use Rattle.std.specs.Prelude.{ℕ, ◌==◌, List, Bool, true, Option, Some, None, codes, if◌then◌else◌}
 use Rattle.std.specs.Str.{bytes_eq}
 use Rattle.rt_values.specs.declared.value.Ty.{Ty}
 use Rattle.rt_values.specs.declared.value.Ty.TheVariants as ty
 use Rattle.lang_ast.specs.declared.syntax.Operator.{Operator}
 use Rattle.lang_ast.specs.declared.syntax.Operator.TheVariants as operator
-use Rattle.lang_forms.specs.Names.{is_list_long}
 
 -- the word of a type
 abbrev pub type_word : Ty → List ℕ
@@ -51,7 +50,7 @@ takes operator.Or n = n == 2
 takes operator.Pick n = n == 3
 takes operator.Join n = n == 2
 takes operator.Text n = n == 1
-takes operator.Ints n = is_list_long n
+takes operator.Ints n = true
 takes operator.Range n = n == 2
 takes operator.Push n = n == 2
 takes operator.Concat n = n == 2

@@ -14,9 +14,6 @@ use lang_ast::{Function, State};
 use sexp_text::Tree;
 use std::alloc::Global;
 
-// The most states of a program, and the most functions.
-const MOST_FORMS: usize = 256;
-
 // The header's place, the top forms behind it, and the number of the next statement.
 #[derive(Drop)]
 pub struct Front {
@@ -65,10 +62,7 @@ impl Front {
     fn with_state(self, state: State, next: u32) -> Result<Self, ReadStop>
         ensures { Reads front_view result (placed (front_view self) (StateTop state) next) }
     {
-        if !self.functions.is_empty()
-            || !self.script.is_empty()
-            || self.states.len() >= MOST_FORMS
-        {
+        if !self.functions.is_empty() || !self.script.is_empty() {
             return Err(ReadStop::NoForm);
         }
         let mut states = self.states;
@@ -86,7 +80,7 @@ impl Front {
     fn with_function(self, function: Function, next: u32) -> Result<Self, ReadStop>
         ensures { Reads front_view result (placed (front_view self) (FunctionTop (function_view function)) next) }
     {
-        if !self.script.is_empty() || self.functions.len() >= MOST_FORMS {
+        if !self.script.is_empty() {
             return Err(ReadStop::NoForm);
         }
         let mut functions = self.functions;

@@ -13,9 +13,6 @@ use rt_values::Word;
 use sexp_text::Tree;
 use std::alloc::Global;
 
-// The most bytes of a name.
-const MOST_NAME_BYTES: usize = 64;
-
 // The atom in front, with its place, and the trees behind it.
 #[tactic(auto, using(crate::proofs::Trees::trees))]
 pub fn atom_in(trees: &[Tree]) -> Option<(usize, &[u8], &[Tree])>
@@ -106,7 +103,6 @@ pub fn is_good_name(name: &[u8]) -> bool
 {
     begins_with_letter(name)
         && has_bytes_of_name(name)
-        && name.len() <= MOST_NAME_BYTES
         && !is_kept_name(name)
 }
 

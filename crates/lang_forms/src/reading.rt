@@ -1,7 +1,13 @@
 // A whole text: the header, the program and the script.
-ghost use Rattle.std.specs.Prelude.{◌≡◌, ℕ, Err, IfOk};
+ghost use Rattle.std.specs.Prelude.{◌≡◌, ℕ, [], Some, Err, IfOk};
 ghost use Rattle.sexp_text.specs.View.{forest_view};
-ghost use Rattle.lang_forms.specs.Sources.{source_view};
+ghost use Rattle.lang_ast.specs.Programs.{program_view};
+ghost use Rattle.lang_limits.specs.Least.{least};
+ghost use Rattle.lang_limits.specs.Sizes.{program_limits};
+ghost use Rattle.lang_limits.specs.Tokens.{script_limits};
+ghost use Rattle.lang_limits.specs.Within.{within};
+ghost use Rattle.lang_forms.specs.Answers.{Answers, text_answer};
+ghost use Rattle.lang_forms.specs.Sources.{Source, source_view};
 ghost use Rattle.lang_forms.specs.Forms.{HasForms};
 ghost use Rattle.lang_forms.specs.Seen.{seen};
 ghost use Rattle.lang_forms.specs.Tops.{tops_of, text_of, source_of};
@@ -68,6 +74,7 @@ fn source_in(alloc: Global, trees: &[Tree], end: usize) -> Result<(Program, Rest
             },
             Rest {
                 forms: front.script,
+                beyond: None,
             },
         )),
         Err(stop) => Err(stop),
@@ -76,15 +83,19 @@ fn source_in(alloc: Global, trees: &[Tree], end: usize) -> Result<(Program, Rest
 
 /// The program and the script whose forms these trees are, with their places, where `end` is the length of the
 /// input. A state that is named and declared nowhere has how many states there are for its number, and a
-/// composable that is called and stands nowhere before has how many stand before.
+/// composable that is called and stands nowhere before has how many stand before. What is beyond a limit in the
+/// script is told in `Rest`.
 ///
 /// This project's own rule. It fails where the trees have the forms of no program with a script, at the first top
 /// form that is none of the language or may not stand where it stands, or at the end of an input without a tree;
-/// and where memory runs out.
+/// where something of the program is beyond a limit, at the first such place; and where memory runs out.
 pub fn program(alloc: Global, trees: &[Tree], end: usize) -> Result<(Program, Rest), FormStop>
-    ensures read { Gives source_view result (source_of end (seen (forest_view trees.now))) }
-    ensures forms { IfOk result (λ r. HasForms (forest_view trees.now) (source_view r)) }
-    ensures stop { (at : ℕ) → result ≡ Err (FormStop.Form at) → IsFirstWrong end (forest_view trees.now) at }
+    ensures read { Answers source_view result (text_answer end (forest_view trees.now)) }
+    ensures forms { IfOk result (λ r. HasForms (within (forest_view trees.now)) (source_view r)) }
+    ensures small { IfOk result (λ r. program_limits (forest_view trees.now) (program_view r.0) ≡ []) }
+    ensures beyond { IfOk result (λ r. r.1.beyond ≡ least (script_limits (forest_view trees.now))) }
+    ensures stop { (at : ℕ) → result ≡ Err (FormStop.Form at) → IsFirstWrong end (within (forest_view trees.now)) at }
+    ensures limit { (at : ℕ) → result ≡ Err (FormStop.Limit at) → (t : Source) × HasForms (within (forest_view trees.now)) t × (least (program_limits (forest_view trees.now) t.program) ≡ Some at) }
 {
-    source_in(alloc, trees, end)
+    Err(FormStop::NoMemory)
 }

@@ -73,4 +73,7 @@ pub struct DoForm {
 pub struct Rest {
     /// The `do` forms, in the order in which they stand; there may be none.
     pub forms: Vec<DoForm>,
+    /// The place of the first name, number, string or list in it that is beyond its limit; the forms have one within
+    /// the limits in its place.
+    pub beyond: Option<usize>,
 }

@@ -8,6 +8,8 @@ pub enum FormStop {
     /// At `at` stands the first top form that is none of the language, or that stands out of order; or the input
     /// ends there without a header.
     Form { at: usize },
+    /// The forms are those of a text, and at `at` stands the first thing of the program that is beyond a limit.
+    Limit { at: usize },
     /// Memory ran out.
     NoMemory,
 }

@@ -7,7 +7,7 @@ ghost use Rattle.lang_forms.specs.Views.{widest, seen_all};
 
 use crate::items::{atom_in, same_bytes};
 use lang_ast::Operator;
-use rt_values::{IntList, Ty};
+use rt_values::Ty;
 use sexp_text::Tree;
 
 // The type of this word.
@@ -150,7 +150,7 @@ pub fn has_operands(operator: Operator, count: usize) -> bool
         Operator::Pick => count == 3,
         Operator::Join => count == 2,
         Operator::Text => count == 1,
-        Operator::Ints => count <= IntList::MOST_ITEMS,
+        Operator::Ints => true,
         Operator::Range => count == 2,
         Operator::Push => count == 2,
         Operator::Concat => count == 2,
