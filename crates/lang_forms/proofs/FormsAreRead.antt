@@ -12,7 +12,8 @@ use Rattle.lang_ast.specs.Terms.{Expr, Literal, Variable, Get, Apply, Exprs, non
 use Rattle.lang_ast.specs.declared.syntax.Name.{Name}
 use Rattle.lang_ast.specs.declared.syntax.Operator.{Operator}
 use Rattle.lang_ast.specs.declared.syntax.Operator.TheVariants as operator
-use Rattle.lang_forms.specs.Names.{is_name, fits, all_fit, is_string, is_list_long, number_of}
+use Rattle.lang_limits.specs.Tokens.{fits}
+use Rattle.lang_forms.specs.Names.{is_name, all_fit, is_string, is_list_long, number_of}
 use Rattle.lang_forms.specs.Words.{type_word, operator_word, takes, type_named, number_operator, truth_operator, list_operator, operator_named}
 use Rattle.lang_forms.specs.Sketch.{Sketch, nothing, Fits}
 use Rattle.lang_forms.specs.Forms.{numbers, literal, expr_forms, exprs_forms, pairs_forms, stmt_forms, stmts_forms, literal_fits, how_many, Known, Spelled, AllSpelled, SpelledPairs, after, after_all, SpelledStmt, SpelledStmts}

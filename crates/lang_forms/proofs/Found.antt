@@ -14,7 +14,8 @@ use Rattle.rt_values.specs.Values.{truth_text}
 use Rattle.lang_ast.specs.declared.syntax.Name.{Name}
 use Rattle.lang_ast.specs.declared.syntax.Operator.{Operator}
 use Rattle.lang_ast.specs.declared.syntax.Operator.TheVariants as operator
-use Rattle.lang_forms.specs.Names.{is_name, fits, all_fit, is_string, is_list_long}
+use Rattle.lang_limits.specs.Tokens.{fits}
+use Rattle.lang_forms.specs.Names.{is_name, all_fit, is_string, is_list_long}
 use Rattle.lang_forms.specs.Words.{type_word, operator_word, named, or_else, type_named, number_operator, truth_operator, list_operator, operator_named}
 use Rattle.lang_forms.specs.Sketch.{Sketch, Fits, Told}
 use Rattle.lang_forms.specs.Forms.{numbers, literal, literal_fits, plain_fits}

@@ -13,7 +13,8 @@ use Rattle.std.proofs.lemmas.Str.{IsUtf8-from_is_utf8}
 use Rattle.std.proofs.lemmas.Str.Parse.{digit_from_value}
 use Rattle.std.specs.Int.Signed.{mag}
 use Rattle.std.proofs.lemmas.Int.{ints}
-use Rattle.lang_forms.specs.Names.{fits, is_letter, is_name}
+use Rattle.lang_limits.specs.Tokens.{fits}
+use Rattle.lang_forms.specs.Names.{is_letter, is_name}
 use Rattle.lang_forms.specs.Seen.{int_of, when}
 
 pub fits-true : (z : ℤ) → fits z ≡ true → FitsSigned w64 z

@@ -8,3 +8,4 @@ pub mod ReadHasForms
 pub mod TextHasForms
 pub mod FirstWrong
 pub mod Written
+pub mod Limits

@@ -1,8 +1,8 @@
 -- What is read as a text has its forms.
-use Rattle.std.proofs.Common.{◌≡◌, ℕ, List, [], ◌∷◌, ◌++◌, length, map, Option, Some, None, Result, Ok, Err, Bool, true, false, true≢false, cond, refl, sym, ap, ◌∙◌, subst, codes, nat_lt, ◌&&◌, arith, ◌≤◌}
+use Rattle.std.proofs.Common.{◌≡◌, ℕ, List, [], ◌∷◌, ◌++◌, map, Option, Some, None, Result, Ok, Err, Bool, true, false, true≢false, cond, refl, sym, ap, ◌∙◌, subst, codes, ◌&&◌}
 use Rattle.std.specs.Option.{option_map}
-use Rattle.std.proofs.lemmas.Bool.{and_parts, ltb-true, le-leb}
-use Rattle.std.proofs.lemmas.List.{append-nil, append_assoc, length-append, map-append}
+use Rattle.std.proofs.lemmas.Bool.{and_parts}
+use Rattle.std.proofs.lemmas.List.{append-nil, append_assoc, map-append}
 use Rattle.std.proofs.lemmas.Option.{cond_some}
 use Rattle.sexp_text.specs.Forest.{Forest, empty, atom, text, list}
 use Rattle.lang_ast.specs.Terms.{Func}
@@ -11,7 +11,7 @@ use Rattle.lang_ast.specs.declared.program.State.{State}
 use Rattle.lang_forms.specs.declared.rest.StepForm.{StepForm}
 use Rattle.lang_forms.specs.declared.rest.StepForm.TheVariants.{Write, Frame}
 use Rattle.lang_forms.specs.declared.rest.DoForm.{DoForm}
-use Rattle.lang_forms.specs.Names.{is_name, number_of, most_forms}
+use Rattle.lang_forms.specs.Names.{is_name, number_of}
 use Rattle.lang_forms.specs.Sketch.{Sketch, nothing, Fits}
 use Rattle.lang_forms.specs.Sources.{Source}
 use Rattle.lang_forms.specs.Forms.{is_of_actor, AreOfActor, parameters_forms, state_forms, function_forms, do_forms, steps_forms, top_forms, Known, after_all, state_name, function_name, literal_fits, SpelledStmts, SpelledParameters, SpelledStates, SpelledFunctions, SpelledSteps, SpelledScripts, HasForms}
@@ -198,8 +198,6 @@ record Leads (f : Forest) (p q : Front) : Type 0 where
   good_functions : SpelledFunctions (record { states = map state_name q.states; functions = map function_name p.functions }) p.site functions
   good_script : SpelledScripts (map state_name q.states) script
   one_actor : AreOfActor p.script script
-  few_states : length p.states ≤ most_forms → length q.states ≤ most_forms
-  few_functions : length p.functions ≤ most_forms → length q.functions ≤ most_forms
   no_states : is_none p.functions && is_none p.script ≡ false → states ≡ []
   no_functions : is_none p.script ≡ false → functions ≡ []
 
@@ -217,8 +215,6 @@ nothing_more p q is = subst (λ (x : Front). Leads empty p x) is (record {
   good_functions = tt;
   good_script = tt;
   one_actor = tt;
-  few_states = λ h. h;
-  few_functions = λ h. h;
   no_states = λ h. refl;
   no_functions = λ h. refl;
 })
@@ -226,12 +222,6 @@ nothing_more p q is = subst (λ (x : Front). Leads empty p x) is (record {
 some_there : {A : Type 0} (front : List A) (b : A) → is_none (front ++ b ∷ []) ≡ false
 some_there [] b = refl
 some_there (a ∷ front) b = refl
-
-one_more : {A : Type 0} (front : List A) (b : A) → nat_lt (length front) most_forms ≡ true → length (front ++ b ∷ []) ≤ most_forms
-one_more front b h =
-    let lt = ltb-true (length front) most_forms h in
-    let l = length-append front (b ∷ []) in
-    omega (arith, lt, l)
 
 no_more : (b c : Bool) → b ≡ true → c ≡ true → b && c ≡ false → ⊥
 no_more b c x y h = true≢false (sym (and_true b c x y) ∙ h)
@@ -244,9 +234,8 @@ no_more b c x y h = true≢false (sym (and_true b c x y) ∙ h)
 state_leads : (at : ℕ) (i f : Forest) (p q r : Front) (s : State) (k : ℕ) → TopFits (known p) p.site at i (StateTop s) k → placed p (StateTop s) k ≡ Some r → Leads f r q → Leads (list at i f) p q
 state_leads at i f p q r s k top put more =
     let made : Front = record { header = p.header; states = p.states ++ s ∷ []; functions = p.functions; script = p.script; site = k } in
-    let c = cond_some (is_none p.functions && is_none p.script && nat_lt (length p.states) most_forms) made r put in
-    let tests = and_parts (is_none p.functions && is_none p.script) _ c.0 in
-    let early = and_parts (is_none p.functions) (is_none p.script) tests.0 in
+    let c = cond_some (is_none p.functions && is_none p.script) made r put in
+    let early = and_parts (is_none p.functions) (is_none p.script) c.0 in
     let rest : Leads f made q = subst (λ (x : Front). Leads f x q) (sym c.1) more in
     record {
       states = s ∷ rest.states;
@@ -261,8 +250,6 @@ state_leads at i f p q r s k top put more =
       good_functions = subst (λ (j : ℕ). SpelledFunctions (record { states = map state_name q.states; functions = map function_name p.functions }) j rest.functions) top.3 rest.good_functions;
       good_script = rest.good_script;
       one_actor = rest.one_actor;
-      few_states = λ h. rest.few_states (one_more p.states s tests.1);
-      few_functions = rest.few_functions;
       no_states = λ h. absurd (no_more (is_none p.functions) (is_none p.script) early.0 early.1 h);
       no_functions = rest.no_functions;
     }
@@ -271,8 +258,7 @@ state_leads at i f p q r s k top put more =
 function_leads : (at : ℕ) (i f : Forest) (p q r : Front) (c : Func) (k : ℕ) → TopFits (known p) p.site at i (FunctionTop c) k → placed p (FunctionTop c) k ≡ Some r → Leads f r q → Leads (list at i f) p q
 function_leads at i f p q r c k top put more =
     let made : Front = record { header = p.header; states = p.states; functions = p.functions ++ c ∷ []; script = p.script; site = k } in
-    let t = cond_some (is_none p.script && nat_lt (length p.functions) most_forms) made r put in
-    let tests = and_parts (is_none p.script) _ t.0 in
+    let t = cond_some (is_none p.script) made r put in
     let rest : Leads f made q = subst (λ (x : Front). Leads f x q) (sym t.1) more in
     let alone : rest.states ≡ [] = rest.no_states (ap (λ (b : Bool). b && is_none p.script) (some_there p.functions c)) in
     let same_states : p.states ≡ q.states = sym (append-nil p.states) ∙ ap (λ (l : List State). p.states ++ l) (sym alone) ∙ rest.all_states in
@@ -294,10 +280,8 @@ function_leads at i f p q r c k top put more =
       good_functions = (top.1, top.2, body, behind);
       good_script = rest.good_script;
       one_actor = rest.one_actor;
-      few_states = rest.few_states;
-      few_functions = λ h. rest.few_functions (one_more p.functions c tests.1);
       no_states = λ h. refl;
-      no_functions = λ h. absurd (true≢false (sym tests.0 ∙ h));
+      no_functions = λ h. absurd (true≢false (sym t.0 ∙ h));
     }
 
 -- a script, and what stands behind it
@@ -326,8 +310,6 @@ do_leads at i f p q r d k top put more =
       good_functions = tt;
       good_script = (top.1, subst (λ (l : List State). SpelledSteps (map state_name l) d.steps) same_states top.2, rest.good_script);
       one_actor = (t.0, rest.one_actor);
-      few_states = rest.few_states;
-      few_functions = rest.few_functions;
       no_states = λ h. refl;
       no_functions = λ h. refl;
     }
@@ -387,13 +369,9 @@ whole : (at : ℕ) (i f : Forest) (q : Front) → Headed i → Leads f (start at
 whole at i f q head all =
     let t : Source = record { program = record { header = at; states = all.states; functions = all.functions }; script = all.script } in
     let is : source q ≡ t = rw (all.header, ← all.all_states, ← all.all_functions, ← all.all_script) in
-    let few_states : length all.states ≤ most_forms = subst (λ (l : List State). length l ≤ most_forms) (sym all.all_states) (all.few_states (omega arith)) in
-    let few_functions : length all.functions ≤ most_forms = subst (λ (l : List Func). length l ≤ most_forms) (sym all.all_functions) (all.few_functions (omega arith)) in
     subst (λ (s : Source). HasForms (list at i f) s) (sym is) (record {
       fits = (at, i, f, refl, refl, (head.at, head.rest, head.is, tt, (head.one, empty, head.one_is, tt, refl)), all.fits);
       spelled = record {
-        few_states = le-leb (length all.states) most_forms few_states;
-        few_functions = le-leb (length all.functions) most_forms few_functions;
         states = all.good_states;
         functions = subst (λ (l : List State). SpelledFunctions (record { states = map state_name l; functions = [] }) 1 all.functions) (sym all.all_states) all.good_functions;
         script = subst (λ (l : List State). SpelledScripts (map state_name l) all.script) (sym all.all_states) all.good_script;

@@ -1,7 +1,6 @@
 -- What has the forms of a text is read as it.
-use Rattle.std.proofs.Common.{Bool, true, ◌≡◌, ℕ, ◌+◌, List, [], ◌∷◌, ◌++◌, length, map, Some, Ok, true, refl, sym, ap, ◌∙◌, subst, codes, nat_lt, arith, ◌≤◌}
-use Rattle.std.proofs.lemmas.Bool.{leb-true, lt-ltb}
-use Rattle.std.proofs.lemmas.List.{append-nil, append_assoc, length-append, map-append}
+use Rattle.std.proofs.Common.{Bool, true, ◌≡◌, ℕ, List, [], ◌∷◌, ◌++◌, map, Some, Ok, refl, sym, ap, ◌∙◌, subst, codes}
+use Rattle.std.proofs.lemmas.List.{append-nil, append_assoc, map-append}
 use Rattle.sexp_text.specs.Forest.{Forest, empty, atom, list}
 use Rattle.rt_values.specs.declared.value.Value.{Value}
 use Rattle.lang_ast.specs.Terms.{Func}
@@ -11,7 +10,7 @@ use Rattle.lang_ast.specs.declared.program.State.{State}
 use Rattle.lang_forms.specs.declared.rest.StepForm.{StepForm}
 use Rattle.lang_forms.specs.declared.rest.StepForm.TheVariants.{Write, Frame}
 use Rattle.lang_forms.specs.declared.rest.DoForm.{DoForm}
-use Rattle.lang_forms.specs.Names.{is_name, number_of, most_forms}
+use Rattle.lang_forms.specs.Names.{is_name, number_of}
 use Rattle.lang_forms.specs.Words.{type_word}
 use Rattle.lang_forms.specs.Sketch.{Sketch, nothing, Fits}
 use Rattle.lang_forms.specs.Sources.{Source}
@@ -115,15 +114,9 @@ one_top f i r at x p q t k is told read put =
 abbrev so_far : ℕ → List State → List Func → List DoForm → ℕ → Front
 so_far at ss cs ds k = record { header = at; states = ss; functions = cs; script = ds; site = k }
 
-room : {A : Type 0} (front : List A) (b : A) (bs : List A) → length front + length (b ∷ bs) ≤ most_forms → nat_lt (length front) most_forms ≡ true
-room front b bs h = lt-ltb (length front) most_forms (omega (arith, h))
-
-fewer : {A : Type 0} (front : List A) (b : A) (bs : List A) → length front + length (b ∷ bs) ≤ most_forms → length (front ++ b ∷ []) + length bs ≤ most_forms
-fewer front b bs h = let l = length-append front (b ∷ []) in omega (arith, h, l)
-
-states_read : (at k : ℕ) (front ss : List State) (f : Forest) (g : Sketch) → length front + length ss ≤ most_forms → SpelledStates ss → Fits f (states_forms ss g) → GoesOn f (so_far at front [] [] k) (so_far at (front ++ ss) [] [] k) g
-states_read at k front [] f g few s h = record { rest = f; fits = h; same = ap (λ (l : List State). tops_of (so_far at l [] [] k) (seen f)) (sym (append-nil front)) }
-states_read at k front (t ∷ ss) f g few s h =
+states_read : (at k : ℕ) (front ss : List State) (f : Forest) (g : Sketch) → SpelledStates ss → Fits f (states_forms ss g) → GoesOn f (so_far at front [] [] k) (so_far at (front ++ ss) [] [] k) g
+states_read at k front [] f g s h = record { rest = f; fits = h; same = ap (λ (l : List State). tops_of (so_far at l [] [] k) (seen f)) (sym (append-nil front)) }
+states_read at k front (t ∷ ss) f g s h =
     let w = h.5 in
     let n = w.4 in
     let y = n.4 in
@@ -133,12 +126,12 @@ states_read at k front (t ∷ ss) f g few s h =
     headed h.1 w.1 n.1 w.0 n.0 (codes "state") t.name w.2 n.2 n.3 ∙ ap (λ (x : Forest). atom w.0 (codes "state") (atom t.name.at t.name.text x)) (y.2 ∙ ap (atom y.0 (type_word t.ty)) p.2) in
     let before = so_far at front [] [] k in
     let read : top_form (known before) k t.at (seen h.1) ≡ Some (StateTop t, k) = ap (λ (i : Forest). top_form (known before) k t.at (seen i)) is ∙ state_read (known before) k w.0 y.0 p.0 t p.1 s.0 one in
-    let put : placed before (StateTop t) k ≡ Some (so_far at (front ++ t ∷ []) [] [] k) = rw (room front t ss few) in
-    let more = states_read at k (front ++ t ∷ []) ss h.2 g (fewer front t ss few) s.2 h.6 in
+    let next = so_far at (front ++ t ∷ []) [] [] k in
+    let more = states_read at k (front ++ t ∷ []) ss h.2 g s.2 h.6 in
     record {
       rest = more.rest;
       fits = more.fits;
-      same = one_top f h.1 h.2 h.0 t.at before (so_far at (front ++ t ∷ []) [] [] k) (StateTop t) k h.3 h.4 read put ∙ more.same
+      same = one_top f h.1 h.2 h.0 t.at before next (StateTop t) k h.3 h.4 read refl ∙ more.same
           ∙ ap (λ (l : List State). tops_of (so_far at l [] [] k) (seen more.rest)) (append_assoc front (t ∷ []) ss);
     }
 
@@ -147,11 +140,11 @@ abbrev behind_all : ℕ → List Func → ℕ
 behind_all k [] = k
 behind_all k (c ∷ cs) = behind_all (after_all k c.body) cs
 
-functions_read : (at k : ℕ) (ss : List State) (front cs : List Func) (f : Forest) (g : Sketch) → length front + length cs ≤ most_forms
+functions_read : (at k : ℕ) (ss : List State) (front cs : List Func) (f : Forest) (g : Sketch)
     → SpelledFunctions (record { states = map state_name ss; functions = map function_name front }) k cs → Fits f (functions_forms cs g)
     → GoesOn f (so_far at ss front [] k) (so_far at ss (front ++ cs) [] (behind_all k cs)) g
-functions_read at k ss front [] f g few s h = record { rest = f; fits = h; same = ap (λ (l : List Func). tops_of (so_far at ss l [] k) (seen f)) (sym (append-nil front)) }
-functions_read at k ss front (c ∷ cs) f g few s h =
+functions_read at k ss front [] f g s h = record { rest = f; fits = h; same = ap (λ (l : List Func). tops_of (so_far at ss l [] k) (seen f)) (sym (append-nil front)) }
+functions_read at k ss front (c ∷ cs) f g s h =
     let w = h.5 in
     let n = w.4 in
     let l = n.4 in
@@ -162,14 +155,13 @@ functions_read at k ss front (c ∷ cs) f g few s h =
     ap (λ (i : Forest). top_form (known before) k c.at (seen i)) is
     ∙ function_read (known before) k w.0 l.0 c l.1 l.2 s.0 (parameters_read c.parameters l.1 s.1 l.5) (stmts_read (known before) k c.body l.2 s.2 l.6) in
     let next = so_far at ss (front ++ c ∷ []) [] (after_all k c.body) in
-    let put : placed before (FunctionTop c) (after_all k c.body) ≡ Some next = rw (room front c cs few) in
     let spelled : SpelledFunctions (known next) (after_all k c.body) cs =
     subst (λ (ns : List (List ℕ)). SpelledFunctions (record { states = map state_name ss; functions = ns }) (after_all k c.body) cs) (sym (map-append function_name front (c ∷ []))) s.3 in
-    let more = functions_read at (after_all k c.body) ss (front ++ c ∷ []) cs h.2 g (fewer front c cs few) spelled h.6 in
+    let more = functions_read at (after_all k c.body) ss (front ++ c ∷ []) cs h.2 g spelled h.6 in
     record {
       rest = more.rest;
       fits = more.fits;
-      same = one_top f h.1 h.2 h.0 c.at before next (FunctionTop c) (after_all k c.body) h.3 h.4 read put ∙ more.same
+      same = one_top f h.1 h.2 h.0 c.at before next (FunctionTop c) (after_all k c.body) h.3 h.4 read refl ∙ more.same
           ∙ ap (λ (x : List Func). tops_of (so_far at ss x [] (behind_all (after_all k c.body) cs)) (seen more.rest)) (append_assoc front (c ∷ []) cs);
     }
 
@@ -199,9 +191,7 @@ text_read end f t h =
     let o = w.4 in
     let p = t.program in
     let head = header_read end g.0 p.header w.0 o.0 f g.1 g.2 g.3 g.4 (w.2 ∙ ap (atom w.0 (codes "compose")) (o.2 ∙ ap (atom o.0 (codes "1")) o.4)) in
-    let few_states = leb-true (length p.states) most_forms h.spelled.few_states in
-    let few_functions = leb-true (length p.functions) most_forms h.spelled.few_functions in
-    let ss = states_read p.header 1 [] p.states g.2 _ (omega (arith, few_states)) h.spelled.states g.6 in
-    let cs = functions_read p.header 1 p.states [] p.functions ss.rest _ (omega (arith, few_functions)) h.spelled.functions ss.fits in
+    let ss = states_read p.header 1 [] p.states g.2 _ h.spelled.states g.6 in
+    let cs = functions_read p.header 1 p.states [] p.functions ss.rest _ h.spelled.functions ss.fits in
     let ds = scripts_read p.header (behind_all 1 p.functions) p.states p.functions [] t.script cs.rest h.spelled.script h.spelled.one_actor cs.fits in
     ap sourced (head ∙ ss.same ∙ cs.same ∙ ds)

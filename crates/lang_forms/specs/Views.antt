@@ -59,8 +59,9 @@ Reads view (Ok x) o = o ≡ Some (view x)
 Reads view (Err NoForm) o = o ≡ None
 Reads view (Err NoMemory) o = Unit {0}
 
--- what a reading of a text gives: the value that there is, or the place that stops it; want of memory says nothing
+-- What a reading of a text gives: the value that there is, or the place that stops it. It tells no limit, and want of memory says nothing.
 abbrev pub Gives : {X Y : Type 0} → (X → Y) → Result X FormStop → Result Y ℕ → Type 0
 Gives view (Ok x) r = r ≡ Ok (view x)
 Gives view (Err (stops.Form at)) r = r ≡ Err at
+Gives view (Err (stops.Limit at)) r = ⊥
 Gives view (Err stops.NoMemory) r = Unit {0}

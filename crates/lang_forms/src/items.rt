@@ -101,9 +101,7 @@ fn is_kept_name(name: &[u8]) -> bool
 pub fn is_good_name(name: &[u8]) -> bool
     ensures { result ≡ is_name name.now }
 {
-    begins_with_letter(name)
-        && has_bytes_of_name(name)
-        && !is_kept_name(name)
+    begins_with_letter(name) && has_bytes_of_name(name) && !is_kept_name(name)
 }
 
 // A name in front, and the trees behind it.

@@ -4,9 +4,10 @@
 //! `specs/Forms.antt` writes down, form by form, which trees a program and a script have; that is all there is
 //! to believe. The notation is this project's own: it stands in place of Kotlin's composable functions and of
 //! the test code that drives a composition.
-//! Promises: `program`, which the layer above calls, gives a program and a script where the trees have their
-//! forms, and refuses all other trees with the place of the first that does not belong; no trees have the forms
-//! of two texts.
+//! Promises: `program`, which the layer above calls, gives a program and a script where the trees, brought within
+//! the limits of `lang_limits`, have their forms and nothing of the program is beyond a limit; it refuses all other
+//! trees with the place of the first that does not belong, or else of the first thing that is beyond; no trees have
+//! the forms of two texts.
 #![tactic(auto)]
 
 mod expressions;

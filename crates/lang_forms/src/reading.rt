@@ -1,16 +1,17 @@
 // A whole text: the header, the program and the script.
-ghost use Rattle.std.specs.Prelude.{◌≡◌, ℕ, [], Some, Err, IfOk};
+ghost use Rattle.std.specs.Prelude.{◌≡◌, ℕ, [], Some, Ok, Err, IfOk};
+ghost use Rattle.sexp_text.specs.Forest.{Forest};
 ghost use Rattle.sexp_text.specs.View.{forest_view};
 ghost use Rattle.lang_ast.specs.Programs.{program_view};
 ghost use Rattle.lang_limits.specs.Least.{least};
 ghost use Rattle.lang_limits.specs.Sizes.{program_limits};
-ghost use Rattle.lang_limits.specs.Tokens.{script_limits};
+ghost use Rattle.lang_limits.specs.Tokens.{beyond, program_trees, script_limits};
 ghost use Rattle.lang_limits.specs.Within.{within};
-ghost use Rattle.lang_forms.specs.Answers.{Answers, text_answer};
+ghost use Rattle.lang_forms.specs.Answers.{Answers, answered, text_answer};
 ghost use Rattle.lang_forms.specs.Sources.{Source, source_view};
 ghost use Rattle.lang_forms.specs.Forms.{HasForms};
 ghost use Rattle.lang_forms.specs.Seen.{seen};
-ghost use Rattle.lang_forms.specs.Tops.{tops_of, text_of, source_of};
+ghost use Rattle.lang_forms.specs.Tops.{source, tops_of, text_of};
 ghost use Rattle.lang_forms.specs.Stops.{IsFirstWrong};
 ghost use Rattle.lang_forms.specs.Views.{seen_all, front_view, Gives};
 
@@ -20,6 +21,7 @@ use crate::rest::Rest;
 use crate::stop::ReadStop;
 use crate::tops::{is_header, place_of};
 use lang_ast::Program;
+use lang_limits::{TokenLimits, size_limit, token_limits, within};
 use sexp_text::Tree;
 use std::alloc::Global;
 
@@ -61,24 +63,57 @@ fn text_in(alloc: Global, trees: &[Tree], end: usize) -> Result<Front, FormStop>
     tops_in(alloc, Front::new(alloc, place_of(header)), rest)
 }
 
-// The program and the script that were read.
-fn source_in(alloc: Global, trees: &[Tree], end: usize) -> Result<(Program, Rest), FormStop>
-    ensures { Gives source_view result (source_of end (seen_all trees.now)) }
+// What is read of the trees within the limits, which are these trees where nothing is beyond.
+#[tactic(auto, using(crate::proofs::SeenIs::seen_is, crate::proofs::Limits::all_within))]
+fn text_within(
+    alloc: Global,
+    trees: &[Tree],
+    end: usize,
+    limits: TokenLimits,
+) -> Result<Front, FormStop>
+    requires program { limits.program ≡ least (beyond (program_trees (forest_view trees.now))) }
+    requires script { limits.script ≡ least (script_limits (forest_view trees.now)) }
+    ensures { Gives front_view result (text_of end (seen (within (forest_view trees.now)))) }
 {
-    match text_in(alloc, trees, end) {
-        Ok(front) => Ok((
-            Program {
-                header: front.header,
-                states: front.states,
-                functions: front.functions,
-            },
+    if limits.program.is_none() && limits.script.is_none() {
+        return text_in(alloc, trees, end);
+    }
+    let small = within(alloc, trees)?;
+    text_in(alloc, &small, end)
+}
+
+// The text that was read, unless something of its program is beyond a limit, whatever trees it was read from: of these
+// only the least place in the program is needed.
+#[tactic(auto, using(lang_limits::proofs::Lesser::least_append))]
+fn unless_beyond(front: Front, limits: TokenLimits) -> Result<(Program, Rest), FormStop>
+    ensures read { (f : Forest) → limits.program ≡ least (beyond (program_trees f)) → Answers source_view result (answered f (Ok (source (front_view front)))) }
+    ensures beyond { IfOk result (λ r. r.1.beyond ≡ limits.script) }
+{
+    let program = Program {
+        header: front.header,
+        states: front.states,
+        functions: front.functions,
+    };
+    match size_limit(&program, limits.program) {
+        Some(at) => Err(FormStop::Limit { at }),
+        None => Ok((
+            program,
             Rest {
                 forms: front.script,
-                beyond: None,
+                beyond: limits.script,
             },
         )),
-        Err(stop) => Err(stop),
     }
+}
+
+// The text that the trees are within the limits, unless something of its program is beyond a limit.
+fn text_or_limit(alloc: Global, trees: &[Tree], end: usize) -> Result<(Program, Rest), FormStop>
+    ensures read { Answers source_view result (text_answer end (forest_view trees.now)) }
+    ensures beyond { IfOk result (λ r. r.1.beyond ≡ least (script_limits (forest_view trees.now))) }
+{
+    let limits = token_limits(trees);
+    let front = text_within(alloc, trees, end, limits)?;
+    unless_beyond(front, limits)
 }
 
 /// The program and the script whose forms these trees are, with their places, where `end` is the length of the
@@ -97,5 +132,5 @@ pub fn program(alloc: Global, trees: &[Tree], end: usize) -> Result<(Program, Re
     ensures stop { (at : ℕ) → result ≡ Err (FormStop.Form at) → IsFirstWrong end (within (forest_view trees.now)) at }
     ensures limit { (at : ℕ) → result ≡ Err (FormStop.Limit at) → (t : Source) × HasForms (within (forest_view trees.now)) t × (least (program_limits (forest_view trees.now) t.program) ≡ Some at) }
 {
-    Err(FormStop::NoMemory)
+    text_or_limit(alloc, trees, end)
 }

@@ -23,13 +23,13 @@ pub enum ReadStop {
     NoMemory,
 }
 
-impl From<AllocError> for FormStop {
+impl From<NoMemory> for FormStop {
     ghost use Rattle.std.specs.Prelude.{◌≡◌};
-    ghost use Rattle.lang_forms.specs.declared.stop.FormStop.TheVariants.{NoMemory};
+    ghost use Rattle.lang_forms.specs.declared.stop.FormStop.TheVariants.{NoMemory as no_memory};
 
-    ghost from_gives = { λ _ e. e ≡ NoMemory };
+    ghost from_gives = { λ _ e. e ≡ no_memory };
 
-    fn from(_: AllocError) -> Self {
+    fn from(_: NoMemory) -> Self {
         FormStop::NoMemory
     }
 }

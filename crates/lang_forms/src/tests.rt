@@ -45,6 +45,7 @@ fn texts_have_the_forms(rt: HostRuntime) -> Result<(), Fail> {
         "(compose 1) (state get Int Structural true)",
         "(compose 1) (fun root () (if 1 () ()) (for x 1) (let x 1) (key 1) (remember x () 1))",
         "(compose 1) (fun root () (node nnnnnnnnnnnnnnnnnnnnnnnnnnnnnnnnnnnnnnnnnnnnnnnnnnnnnnnnnnnnnnnn ()))",
+        "(compose 1) (do main (write global a (ints -9223372036854775809)) (frame))",
     ] {
         assert!(rt; text_read(rt.alloc(), text)?.is_ok(), "{text}");
     }
@@ -77,8 +78,8 @@ fn a_fault_stands_at_the_first_form_that_does_not_belong(rt: HostRuntime) -> Res
         ("(compose 1) (state a Int Structural +1)", 12),
         ("(compose 1) (state a Int Structural --1)", 12),
         (
-            "(compose 1) (state a Int Structural 9223372036854775808)",
-            12,
+            "(compose 1) (state a Int Structural 9223372036854775808) (fun)",
+            57,
         ),
         ("(compose 1) (state a Int Structural x)", 12),
         ("(compose 1) (state a Ints Structural (ints 1 x))", 12),
@@ -110,7 +111,6 @@ fn a_fault_of_a_statement_stands_at_its_function(rt: HostRuntime) -> Result<(), 
         "(compose 1) (fun root (a))",
         "(compose 1) (fun root ((a Int Int)))",
         "(compose 1) (fun root)",
-        "(compose 1) (fun root () (node nnnnnnnnnnnnnnnnnnnnnnnnnnnnnnnnnnnnnnnnnnnnnnnnnnnnnnnnnnnnnnnnn ()))",
         "(compose 1) (fun root () (node Text))",
         "(compose 1) (fun root () (node Text ((a 1 2))))",
         "(compose 1) (fun root () (node Text (a 1)))",
@@ -136,44 +136,27 @@ fn a_fault_of_a_statement_stands_at_its_function(rt: HostRuntime) -> Result<(), 
     Ok(())
 }
 
-// A text with this top form so many times.
-fn with_forms(alloc: Global, form: &str, count: usize) -> Result<String, Fail> {
-    let mut text = String::from_str(alloc, "(compose 1)")?;
-    for _ in 0..count {
-        text.push_str(form)?;
-    }
-    Ok(text)
-}
-
 #[test]
-fn a_text_has_at_most_256_states_and_functions(rt: HostRuntime) -> Result<(), Fail> {
-    let alloc = rt.alloc();
-    for (form, place) in [("(state a Int Structural 0)", 6667), ("(fun f ())", 2571)] {
-        let text = with_forms(alloc, form, 256)?;
-        assert!(rt; text_read(alloc, &text)?.is_ok());
-        let text = with_forms(alloc, form, 257)?;
-        assert!(rt; text_read(alloc, &text)?.err() == Some(FormStop::Form { at: place }));
+fn what_is_beyond_a_limit_stands_at_its_own_place(rt: HostRuntime) -> Result<(), Fail> {
+    for (text, place) in [
+        (
+            "(compose 1) (state a Int Structural 9223372036854775808) (do a)",
+            36,
+        ),
+        (
+            "(compose 1) (fun root () (node nnnnnnnnnnnnnnnnnnnnnnnnnnnnnnnnnnnnnnnnnnnnnnnnnnnnnnnnnnnnnnnnn ()))",
+            31,
+        ),
+        (
+            "(compose 1) (fun f ((a Int)(b Int)(c Int)(d Int)(e Int)(f Int)(g Int)(h Int)(i Int)(j Int)(k Int)(l Int)(m Int)(n Int)(o Int)(p Int)(q Int)))",
+            12,
+        ),
+    ] {
+        assert!(rt;
+            text_read(rt.alloc(), text)?.err() == Some(FormStop::Limit { at: place }),
+            "{text}"
+        );
     }
-    Ok(())
-}
-
-// A text with a state of so many numbers.
-fn with_items(alloc: Global, count: usize) -> Result<String, Fail> {
-    let mut text = String::from_str(alloc, "(compose 1)(state a Ints Structural (ints")?;
-    for _ in 0..count {
-        text.push_str(" 1")?;
-    }
-    text.push_str("))")?;
-    Ok(text)
-}
-
-#[test]
-fn a_list_has_at_most_4096_items(rt: HostRuntime) -> Result<(), Fail> {
-    let alloc = rt.alloc();
-    let text = with_items(alloc, 4096)?;
-    assert!(rt; text_read(alloc, &text)?.is_ok());
-    let text = with_items(alloc, 4097)?;
-    assert!(rt; text_read(alloc, &text)?.err() == Some(FormStop::Form { at: 11 }));
     Ok(())
 }
 
@@ -261,7 +244,17 @@ fn states_are_numbered_in_their_order(rt: HostRuntime) -> Result<(), Fail> {
     let (program, rest) = text_read(rt.alloc(), text)??;
     assert_eq!(rt; number_read(&program), Some(1));
     assert_eq!(rt; first_written(&rest), Some((100, 2, 5)));
+    assert_eq!(rt; rest.beyond, None);
     assert_eq!(rt; program.states.len(), 2);
+    Ok(())
+}
+
+#[test]
+fn a_number_beyond_in_a_script_is_read_as_0_and_told(rt: HostRuntime) -> Result<(), Fail> {
+    let text = "(compose 1) (do main (write global a 9223372036854775808))";
+    let (_, rest) = text_read(rt.alloc(), text)??;
+    assert_eq!(rt; first_written(&rest), Some((21, 0, 0)));
+    assert_eq!(rt; rest.beyond, Some(37));
     Ok(())
 }
 

@@ -1,0 +1,5 @@
+pub mod Lesser
+pub mod Ints
+pub mod Walks
+pub mod Copies
+pub mod Parts

@@ -1,6 +1,5 @@
 -- The parts of a program that are too many, or that stand too deep in one another.
 use Rattle.std.specs.Prelude.{ℕ, ◌+◌, max, nat_lt, List, [], ◌∷◌, ◌++◌, length, map, slice_get, Option, Some, None}
-use Rattle.std.specs.List.{flat_map}
 use Rattle.sexp_text.specs.Forest.{Forest}
 use Rattle.lang_ast.specs.Terms.{Expr, Literal, Variable, Get, Apply, Exprs, none, more, Named, Stmt, Node, Call, Key, If, For, Let, Remember, Stmts, done, next, Func}
 use Rattle.lang_ast.specs.Places.{expr_place}

@@ -1,5 +1,5 @@
 -- Names, numbers, strings and lists of numbers that are beyond their limits.
-use Rattle.std.specs.Prelude.{ℕ, suc, ◌^◌, ◌==◌, ◌&&◌, ◌||◌, not, nat_le, nat_lt, List, [], ◌∷◌, ◌++◌, length, Bool, true, false, codes, ℤ, pos, negsuc, if◌then◌else◌}
+use Rattle.std.specs.Prelude.{ℕ, suc, ◌^◌, ◌==◌, ◌&&◌, ◌||◌, not, nat_le, nat_lt, List, [], ◌∷◌, ◌++◌, length, Bool, false, codes, ℤ, pos, negsuc, if◌then◌else◌}
 use Rattle.std.specs.List.{list_all}
 use Rattle.std.specs.Str.{bytes_eq}
 use Rattle.std.specs.Str.Parse.{signed_digits_value}
@@ -68,6 +68,13 @@ is_do empty = false
 is_do (atom at a f) = bytes_eq a (codes "do")
 is_do (text at s f) = false
 is_do (list at i f) = false
+
+-- whether a part of the script stands first
+abbrev pub is_script : Forest → Bool
+is_script empty = false
+is_script (atom at a f) = false
+is_script (text at s f) = false
+is_script (list at i f) = is_do i
 
 -- the trees before the script
 abbrev pub program_trees : Forest → Forest

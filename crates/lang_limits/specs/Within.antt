@@ -1,6 +1,5 @@
 -- The forest with a token within the limits in place of each that is beyond. Its forms can be read, and are those of the forest.
-use Rattle.std.specs.Prelude.{ℕ, ◌&&◌, nat_lt, List, [], Bool, true, false, codes, if◌then◌else◌}
-use Rattle.std.specs.Str.{bytes_eq}
+use Rattle.std.specs.Prelude.{ℕ, ◌&&◌, List, [], Bool, true, false, codes, if◌then◌else◌}
 use Rattle.sexp_text.specs.Forest.{Forest, empty, atom, text, list}
 use Rattle.lang_limits.specs.Tokens.{is_int, is_int_beyond, is_string_beyond, is_list_beyond}
 
@@ -19,6 +18,13 @@ are_ints (atom at a f) = is_int a && are_ints f
 are_ints (text at s f) = false
 are_ints (list at i f) = false
 
+-- too many numbers, and numbers alone, behind the word ints
+abbrev pub is_cut : Forest → Bool
+is_cut empty = false
+is_cut (atom at a f) = is_list_beyond (atom at a f) && are_ints f
+is_cut (text at s f) = false
+is_cut (list at i f) = false
+
 -- the first tree
 abbrev pub first_tree : Forest → Forest
 first_tree empty = empty
@@ -26,12 +32,16 @@ first_tree (atom at a f) = atom at a empty
 first_tree (text at s f) = text at s empty
 first_tree (list at i f) = list at i empty
 
+-- the first tree, and the one behind it
+abbrev pub first_two : Forest → Forest
+first_two empty = empty
+first_two (atom at a f) = atom at a (first_tree f)
+first_two (text at s f) = text at s (first_tree f)
+first_two (list at i f) = list at i (first_tree f)
+
 -- (ints INT) with the first of its numbers alone for (ints INT..) with too many
 abbrev pub list_within : Forest → Forest
-list_within empty = empty
-list_within (atom at a f) = if is_list_beyond (atom at a f) && are_ints f then atom at a (first_tree f) else atom at a f
-list_within (text at s f) = text at s f
-list_within (list at i f) = list at i f
+list_within f = if is_cut f then first_two f else f
 
 abbrev pub within : Forest → Forest
 within empty = empty

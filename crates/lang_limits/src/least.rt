@@ -1,6 +1,6 @@
 // The least of some places.
 ghost use Rattle.std.specs.Prelude.{◌≡◌};
-ghost use Rattle.lang_limits.specs.Least.{over, lesser, least_of};
+ghost use Rattle.lang_limits.specs.Least.{over, least_of};
 
 /// The least place so far, where something at this place is too much or is not.
 pub fn note(is_over: bool, at: usize, least: Option<usize>) -> Option<usize>

@@ -11,6 +11,7 @@
 
 mod laws;
 mod least;
+mod numbers;
 mod sizes;
 mod tokens;
 mod trees;

@@ -1,0 +1,105 @@
+-- What the limits make of a text that was read.
+use Rattle.std.proofs.Common.{◌≡◌, ℕ, [], Option, Some, None, Result, Ok, Err, IfOk, refl, ap, ◌∙◌, subst}
+use Rattle.sexp_text.specs.Forest.{Forest}
+use Rattle.lang_limits.specs.Least.{least}
+use Rattle.lang_limits.specs.Tokens.{beyond, program_trees, script_limits}
+use Rattle.lang_limits.specs.Sizes.{program_limits}
+use Rattle.lang_limits.specs.Within.{within}
+use Rattle.lang_limits.proofs.Copies.{within_stays}
+use Rattle.lang_limits.proofs.Lesser.{no_least}
+use Rattle.lang_forms.specs.declared.stop.FormStop.{FormStop}
+use Rattle.lang_forms.specs.declared.stop.FormStop.TheVariants.{Form, Limit}
+use Rattle.lang_forms.specs.Answers.{Answers, answered, unless_beyond, text_answer}
+use Rattle.lang_forms.specs.Sources.{Source}
+use Rattle.lang_forms.specs.Forms.{HasForms}
+use Rattle.lang_forms.specs.Seen.{seen}
+use Rattle.lang_forms.specs.Stops.{IsFirstWrong}
+use Rattle.lang_forms.specs.Tops.{Front, sourced, text_of, source_of}
+use Rattle.lang_forms.proofs.TextHasForms.{source_found}
+use Rattle.lang_forms.proofs.FirstWrong.{first_wrong}
+
+-- Where no place is the least, of the program nor of the script, the trees are within the limits.
+pub all_within : (f : Forest) → least (beyond (program_trees f)) ≡ None → least (script_limits f) ≡ None → within f ≡ f
+all_within f h k = within_stays f (no_least _ h) (no_least _ k)
+
+-- What an answer says.
+
+abbrev answer : Source → Result Source FormStop
+answer t = Ok t
+
+abbrev refusal : FormStop → Result Source FormStop
+refusal stop = Err stop
+
+abbrev stopped_at : ℕ → Result Source ℕ
+stopped_at at = Err at
+
+abbrev front_stopped : ℕ → Result Front ℕ
+front_stopped at = Err at
+
+abbrev read_as : Source → Result Source ℕ
+read_as t = Ok t
+
+answer_same : (t u : Source) → answer t ≡ answer u → t ≡ u
+answer_same t u h = cc
+
+form_same : (x at : ℕ) → refusal (Form x) ≡ refusal (Form at) → stopped_at x ≡ stopped_at at
+form_same x at h = cc
+
+limit_same : (x at : ℕ) → refusal (Limit x) ≡ refusal (Limit at) → x ≡ at
+limit_same x at h = cc
+
+-- a text that answers was read, and nothing of its program is beyond a limit
+text_told : (f : Forest) (r : Result Source ℕ) (t : Source) → answered f r ≡ answer t → (r ≡ read_as t) × (least (program_limits f t.program) ≡ None)
+text_told f (Ok u) t h = by (least (program_limits f u.program)) refl h
+  where
+    by : (o : Option ℕ) → least (program_limits f u.program) ≡ o → unless_beyond o u ≡ answer t → (read_as u ≡ read_as t) × (least (program_limits f t.program) ≡ None)
+    by None e k = subst (λ (v : Source). (read_as u ≡ read_as v) × (least (program_limits f v.program) ≡ None)) (answer_same u t k) (refl, e)
+    by (Some at) e k = absurd (cc)
+text_told f (Err at) t h = absurd (cc)
+
+-- a form that answers stopped the reading
+form_told : (f : Forest) (r : Result Source ℕ) (at : ℕ) → answered f r ≡ refusal (Form at) → r ≡ stopped_at at
+form_told f (Ok u) at h = absurd (no_form (least (program_limits f u.program)) h)
+  where
+    no_form : (o : Option ℕ) → unless_beyond o u ≡ refusal (Form at) → ⊥
+    no_form None k = absurd (cc)
+    no_form (Some x) k = absurd (cc)
+form_told f (Err x) at h = form_same x at h
+
+-- a text is beyond the limit that answers
+limit_told : (f : Forest) (r : Result Source ℕ) (at : ℕ) → answered f r ≡ refusal (Limit at) → (t : Source) × (r ≡ read_as t) × (least (program_limits f t.program) ≡ Some at)
+limit_told f (Ok u) at h = by (least (program_limits f u.program)) refl h
+  where
+    by : (o : Option ℕ) → least (program_limits f u.program) ≡ o → unless_beyond o u ≡ refusal (Limit at) → (t : Source) × (read_as u ≡ read_as t) × (least (program_limits f t.program) ≡ Some at)
+    by None e k = absurd (cc)
+    by (Some x) e k = (u, refl, e ∙ ap (λ (y : ℕ). Some y) (limit_same x at k))
+limit_told f (Err x) at h = absurd (cc)
+
+pub forms_answer : {X : Type 0} (view : X → Source) (end : ℕ) (f : Forest) (result : Result X FormStop) → Answers view result (text_answer end f) → IfOk result (λ r. HasForms (within f) (view r))
+forms_answer view end f (Ok r) h = source_found end (within f) (view r) (text_told f (source_of end (seen (within f))) (view r) h).0
+forms_answer view end f (Err e) h = tt
+
+pub small_answers : {X : Type 0} (view : X → Source) (end : ℕ) (f : Forest) (result : Result X FormStop) → Answers view result (text_answer end f) → IfOk result (λ r. program_limits f (view r).program ≡ [])
+small_answers view end f (Ok r) h = no_least _ (text_told f (source_of end (seen (within f))) (view r) h).1
+small_answers view end f (Err e) h = tt
+
+-- the place that stops the reading
+stop_read : (end at : ℕ) (f : Forest) → source_of end (seen f) ≡ stopped_at at → IsFirstWrong end f at
+stop_read end at f h = by (text_of end (seen f)) refl h
+  where
+    again : (x y : ℕ) → sourced (Err x) ≡ stopped_at y → front_stopped x ≡ front_stopped y
+    again x y e = cc
+
+    by : (r : Result Front ℕ) → text_of end (seen f) ≡ r → sourced r ≡ stopped_at at → IsFirstWrong end f at
+    by (Ok q) e k = absurd (cc)
+    by (Err x) e k = first_wrong end at f (e ∙ again x at k)
+
+pub stop_answers : {X : Type 0} (view : X → Source) (end at : ℕ) (f : Forest) (result : Result X FormStop) → Answers view result (text_answer end f) → result ≡ Err (Form at) → IsFirstWrong end (within f) at
+stop_answers {X = X} view end at f result h is =
+    stop_read end at (within f) (form_told f (source_of end (seen (within f))) at (subst (λ (r : Result X FormStop). Answers view r (text_answer end f)) is h))
+
+pub limit_answers : {X : Type 0} (view : X → Source) (end at : ℕ) (f : Forest) (result : Result X FormStop) → Answers view result (text_answer end f) → result ≡ Err (Limit at)
+    → (t : Source) × HasForms (within f) t × (least (program_limits f t.program) ≡ Some at)
+limit_answers {X = X} view end at f result h is =
+    let told = limit_told f (source_of end (seen (within f))) at (subst (λ (r : Result X FormStop). Answers view r (text_answer end f)) is h) in
+    (told.0, source_found end (within f) told.0 told.1, told.2)

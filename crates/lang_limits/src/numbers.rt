@@ -1,0 +1,58 @@
+// Numbers as they are written, and those that have not room in 64 bits.
+ghost use Rattle.std.specs.Prelude.{◌≡◌, true};
+ghost use Rattle.std.specs.List.{list_all};
+ghost use Rattle.std.specs.Str.Parse.{signed_digits_value};
+ghost use Rattle.lang_limits.specs.Tokens.{fits, is_digit, is_counting, is_int, is_int_beyond};
+
+// Whether a byte is a digit.
+fn is_digit(b: u8) -> bool
+    ensures { result ≡ is_digit b }
+{
+    b'0' <= b && b <= b'9'
+}
+
+// Whether all of the bytes are digits.
+fn are_digits(bytes: &[u8]) -> bool
+    ensures { result ≡ list_all is_digit bytes.now }
+{
+    bytes.iter().all(|b| is_digit(*b))
+}
+
+// Whether the bytes are digits, the first of which is not 0.
+fn is_counting(bytes: &[u8]) -> bool
+    ensures { result ≡ is_counting bytes.now }
+{
+    match bytes.split_first() {
+        None => false,
+        Some((first, rest)) => is_digit(*first) && *first != b'0' && are_digits(rest),
+    }
+}
+
+/// Whether the bytes are a number as it is written.
+pub fn is_int(bytes: &[u8]) -> bool
+    ensures { result ≡ is_int bytes.now }
+{
+    match bytes.split_first() {
+        None => false,
+        Some((b'-', rest)) => is_counting(rest),
+        Some(_) => bytes == b"0".as_slice() || is_counting(bytes),
+    }
+}
+
+// Whether a number has room in 64 bits.
+fn fits(digits: &[u8]) -> bool
+    requires { is_int digits.now ≡ true }
+    ensures { result ≡ fits (signed_digits_value 10 digits.now) }
+{
+    match std::str::from_utf8(digits) {
+        Ok(text) => text.parse::<i64>().is_ok(),
+        Err(_) => unreachable!(),
+    }
+}
+
+/// Whether the bytes are a number that has not room in 64 bits.
+pub fn is_int_beyond(bytes: &[u8]) -> bool
+    ensures { result ≡ is_int_beyond bytes.now }
+{
+    is_int(bytes) && !fits(bytes)
+}
