@@ -1,5 +1,5 @@
 -- The scripts that forms stand for, and the faults that scripts have.
-use Rattle.std.specs.Prelude.{ℕ, ◌+◌, List, [], ◌∷◌, ◌++◌, nat_le, nat_lt, map, length, Option, Some, None, if◌then◌else◌}
+use Rattle.std.specs.Prelude.{ℕ, ◌+◌, min, List, [], ◌∷◌, ◌++◌, nat_le, nat_lt, map, length, Option, Some, None, if◌then◌else◌}
 use Rattle.std.specs.Option.{option_map}
 use Rattle.lang_forms.specs.declared.rest.StepForm.{StepForm}
 use Rattle.lang_forms.specs.declared.rest.StepForm.TheVariants as form
@@ -53,6 +53,13 @@ abbrev pub unknown_at : ℕ → List DoForm → Option ℕ
 unknown_at states [] = None
 unknown_at states (d ∷ more) = or_else (unknown_in states d.steps) (unknown_at states more)
 
--- Why a script of a program with so many states is refused: too many steps, or else a step on a state that is nowhere; the first of them in the text.
-abbrev pub script_refusal : ℕ → List DoForm → Option ScriptStop
-script_refusal states forms = or_else (option_map Limit (too_many_at 0 forms)) (option_map Unknown (unknown_at states forms))
+-- the lesser of two places, where there are two
+abbrev pub lesser : Option ℕ → Option ℕ → Option ℕ
+lesser None other = other
+lesser (Some a) None = Some a
+lesser (Some a) (Some b) = Some (min a b)
+
+-- Why a script of a program with so many states is refused: something in it that is beyond its limit, the first of which stands at this place,
+-- or too many steps; or else a step on a state that is nowhere. The least place answers.
+abbrev pub script_refusal : Option ℕ → ℕ → List DoForm → Option ScriptStop
+script_refusal beyond states forms = or_else (option_map Limit (lesser beyond (too_many_at 0 forms))) (option_map Unknown (unknown_at states forms))

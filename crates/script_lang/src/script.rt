@@ -1,7 +1,7 @@
 // Scripts, resolved against their program.
 ghost use Rattle.std.specs.Prelude.{◌≡◌, ◌≢◌, ◌++◌, [], List, ℕ, Option, Some, None, length, IfOk, IfErr, OnOk};
 ghost use Rattle.lang_forms.specs.declared.rest.StepForm.{StepForm as step_form};
-ghost use Rattle.script_lang.specs.Scripts.{actor_of, step_of, steps_of, all_steps, too_many_at, unknown_step, unknown_in, unknown_at, script_refusal};
+ghost use Rattle.script_lang.specs.Scripts.{actor_of, step_of, steps_of, all_steps, too_many_at, lesser, unknown_step, unknown_in, unknown_at, script_refusal};
 ghost use Rattle.script_lang.specs.declared.script.ScriptStop.TheVariants.{NoMemory as no_memory};
 
 use lang_checks::Checked;
@@ -28,7 +28,8 @@ pub struct Script {
 /// Why a script was not taken, and where in the text; in the order in which it is looked through.
 #[derive(Clone, Copy, Debug, PartialEq, Eq)]
 pub enum ScriptStop {
-    /// At `at` stands the form with which there are more than 65,536 steps.
+    /// At `at` stands the first thing of the script that is beyond its limit, or the form with which there are more
+    /// than 65,536 steps.
     Limit { at: usize },
     /// At `at` stands the first step on a state that is nowhere.
     Unknown { at: usize },
@@ -156,18 +157,29 @@ fn steps_in(alloc: Global, forms: &[DoForm]) -> Result<Vec<Step>, NoMemory>
     Ok(steps)
 }
 
+// The lesser of two places, where there are two.
+fn lesser(a: Option<usize>, b: Option<usize>) -> Option<usize>
+    ensures { result ≡ lesser a b }
+{
+    match (a, b) {
+        (None, other) => other,
+        (Some(a), None) => Some(a),
+        (Some(a), Some(b)) => Some(a.min(b)),
+    }
+}
+
 /// The script that was read behind a program: all steps in the order of the text, with states by number. Its actor
 /// is the first form's; a script has one.
 ///
-/// This project's own rule. It fails where there are too many steps, where a step is on a state that is nowhere, and
-/// where memory runs out.
+/// This project's own rule. It fails where something is beyond its limit or there are too many steps, where a step is
+/// on a state that is nowhere, and where memory runs out.
 pub fn script_of(alloc: Global, rest: &Rest, program: &Checked) -> Result<Script, ScriptStop>
     ensures actor { IfOk result (λ s. s.actor ≡ actor_of rest.now.forms.items) }
     ensures steps { IfOk result (λ s. s.steps.items ≡ all_steps rest.now.forms.items) }
-    ensures fine { OnOk result (script_refusal (length program.now.states.items) rest.now.forms.items ≡ None) }
-    ensures refused { IfErr result (λ stop. stop ≢ no_memory → script_refusal (length program.now.states.items) rest.now.forms.items ≡ Some stop) }
+    ensures fine { OnOk result (script_refusal rest.now.beyond (length program.now.states.items) rest.now.forms.items ≡ None) }
+    ensures refused { IfErr result (λ stop. stop ≢ no_memory → script_refusal rest.now.beyond (length program.now.states.items) rest.now.forms.items ≡ Some stop) }
 {
-    if let Some(at) = too_many_at(&rest.forms) {
+    if let Some(at) = lesser(rest.beyond, too_many_at(&rest.forms)) {
         return Err(ScriptStop::Limit { at });
     }
     if let Some(at) = unknown_at(program.states().len(), &rest.forms) {

@@ -68,7 +68,10 @@ fn script(alloc: Global, number: ObjectNo) -> Result<Rest, Fail> {
     let mut forms = Vec::new(alloc);
     forms.push(form(alloc, 10, 0)?)?;
     forms.push(form(alloc, 20, number)?)?;
-    Ok(Rest { forms })
+    Ok(Rest {
+        forms,
+        beyond: None,
+    })
 }
 
 fn is_write(step: &Step, number: ObjectNo) -> bool {
