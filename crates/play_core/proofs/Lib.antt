@@ -7,5 +7,6 @@ pub mod Takings
 pub mod Laws
 pub mod Openings
 pub mod Uniques
+pub mod TreeLines
 pub mod Refusals
 pub mod Plays

@@ -1,4 +1,4 @@
--- What a run writes, as the definitions say it.
+-- What a command writes, as the definitions say it.
 use Rattle.std.proofs.Common.{◌≡◌, ℕ, List, sym, ap, ◌∙◌, subst, refl, Option, Some, None, ◌⊎◌, inl, inr, ◌<◌, ◌≤◌, ◌≢◌, arith}
 use Rattle.std.specs.declared.result.Result.{Result}
 use Rattle.std.specs.Prelude.{IfSome}
@@ -12,7 +12,8 @@ use Rattle.script_lang.specs.Lines.{Titles, run_text}
 use Rattle.script_lang.specs.Scripts.{actor_of}
 use Rattle.play_core.specs.declared.top.Status.{Status}
 use Rattle.play_core.specs.declared.top.Status.TheVariants as status
-use Rattle.play_core.specs.Texts.{IsText, IsRead, IsNoText, output}
+use Rattle.play_words.specs.declared.command.Command.{Command}
+use Rattle.play_core.specs.Texts.{IsText, IsRead, IsNoText, run_output, output}
 use Rattle.play_core.specs.Faults.{IsFault, WritesPart, fault_line}
 use Rattle.play_core.specs.declared.fault.Fault.{Fault}
 use Rattle.play_core.specs.Turns.{at_first, turns}
@@ -26,33 +27,35 @@ pub run-says : {T E : Type 0} (r : Result T E) (a z : Option (List ℕ)) (t : Ti
 unfolding run_text
 run-says r a z t functions steps says = subst (λ ls. Says a z (flat ls) r) (sym (lines-turns t functions (at_first t.states) steps)) says
 
-pub output-is : {bytes : List ℕ} {states : List State} {functions : List Func} {actor : List ℕ} {steps : List Step} (h : IsRead bytes states functions actor steps) →
-    run_text (record { states = states; actor = actor }) functions steps ≡ output h.source
-unfolding output
-output-is {functions = functions} {actor = actor} {steps = steps} h =
+pub run-is : {bytes : List ℕ} {states : List State} {functions : List Func} {actor : List ℕ} {steps : List Step} (h : IsRead bytes states functions actor steps) (p : Source) → IsText bytes p →
+    run_text (record { states = states; actor = actor }) functions steps ≡ run_output p
+unfolding run_output
+run-is {bytes = bytes} {functions = functions} {actor = actor} {steps = steps} h p t =
     ap (λ ss. run_text (record { states = ss; actor = actor }) functions steps) h.states_are
     ∙ ap (λ l. run_text (record { states = h.source.program.states; actor = l }) functions steps) h.actor_is
     ∙ ap (λ l. run_text (record { states = h.source.program.states; actor = actor_of h.source.script }) l steps) h.functions_are
     ∙ ap (λ l. run_text (record { states = h.source.program.states; actor = actor_of h.source.script }) h.source.program.functions l) h.steps_are
+    ∙ ap run_output (text_one bytes h.source p h.text t)
 
-pub text-part : {bytes : List ℕ} {states : List State} {functions : List Func} {actor : List ℕ} {steps : List Step} (h : IsRead bytes states functions actor steps) (a z : Option (List ℕ)) →
-    ((fault : Fault) → IsFault bytes fault → ⊥) → AppendsPart a z (run_text (record { states = states; actor = actor }) functions steps) → WritesPart bytes a z
-text-part {bytes = bytes} h a z good part = record {
-  lines = λ p t. subst (AppendsPart a z) (output-is h ∙ ap output (text_one bytes h.source p h.text t)) part;
-  refusal = λ fault f. absurd (good fault f);
-}
+-- a text, which has no fault
+pub text-part : (command : Command) (bytes : List ℕ) (a z : Option (List ℕ)) → ((fault : Fault) → IsFault bytes fault → ⊥) → ((p : Source) → IsText bytes p → AppendsPart a z (output command p)) → WritesPart command bytes a z
+text-part command bytes a z good part = record { lines = part; refusal = λ fault f. absurd (good fault f) }
+
+-- the words ask for one command
+pub one-command : (o : Option Command) (a b : Command) → o ≡ Some a → o ≡ Some b → a ≡ b
+one-command o a b e f = cc
 
 -- a refused text, whose faults are one
-pub refused-part : (bytes : List ℕ) (fault : Fault) (a z : Option (List ℕ)) → IsNoText bytes → ((other : Fault) → IsFault bytes other → other ≡ fault) → AppendsPart a z (fault_line fault) → WritesPart bytes a z
-refused-part bytes fault a z none one part = record {
+pub refused-part : (command : Command) (bytes : List ℕ) (fault : Fault) (a z : Option (List ℕ)) → IsNoText bytes → ((other : Fault) → IsFault bytes other → other ≡ fault) → AppendsPart a z (fault_line fault) → WritesPart command bytes a z
+refused-part command bytes fault a z none one part = record {
   lines = λ p t. absurd (none p t);
   refusal = λ other f. subst (λ g. AppendsPart a z (fault_line g)) (sym (one other f)) part;
 }
 
 -- nothing was written
-pub nothing-part : (o a : Option (List ℕ)) → IfSome o (λ bytes. WritesPart bytes a a)
-nothing-part None a = tt
-nothing-part (Some bytes) a = record { lines = λ p t. part-none a (output p); refusal = λ fault f. part-none a (fault_line fault) }
+pub nothing-part : (command : Command) (o a : Option (List ℕ)) → IfSome o (λ bytes. WritesPart command bytes a a)
+nothing-part command None a = tt
+nothing-part command (Some bytes) a = record { lines = λ p t. part-none a (output command p); refusal = λ fault f. part-none a (fault_line fault) }
 
 -- Every status has its cause. So a text of a program is done, but for want of memory and faults that were counted.
 pub text-answers : (r : Status) (left : Option (List ℕ)) {B C D E : Type 0} (P : List ℕ → Type 0) (taken limit : ℕ) (bytes : List ℕ) (p : Source) → ((bs : List ℕ) → P bs → IsNoText bs) → left ≡ Some bytes → taken ≤ limit → IsText bytes p →

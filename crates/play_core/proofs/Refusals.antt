@@ -9,8 +9,11 @@ use Rattle.sexp_text.specs.Places.{Cause}
 use Rattle.sexp_text.specs.declared.stop.TextStop.{TextStop}
 use Rattle.sexp_text.specs.declared.stop.TextStop.TheVariants as stop
 use Rattle.lang_forms.specs.Sources.{Source}
-use Rattle.lang_forms.specs.Seen.{seen}
-use Rattle.lang_forms.specs.Tops.{source_of}
+use Rattle.lang_limits.specs.Least.{least}
+use Rattle.lang_limits.specs.Tokens.{script_limits}
+use Rattle.lang_forms.specs.Answers.{text_answer}
+use Rattle.lang_forms.specs.declared.stop.FormStop.{FormStop}
+use Rattle.lang_forms.specs.declared.stop.FormStop.TheVariants as form
 use Rattle.lang_checks.specs.FaultOrder.{least_fault}
 use Rattle.lang_checks.specs.ProgramFaults.{program_faults}
 use Rattle.lang_checks.specs.declared.faults.Kind.{Kind}
@@ -83,9 +86,11 @@ later-check : (o : Option checks.Fault) (p : Option ScriptStop) → IsLater (or_
 later-check None p fault e = later-script p fault e
 later-check (Some f) p fault e = later-bad (record { kind = check_kind f.kind; at = f.at }) fault (later-kind f.kind) e
 
-later-reading : (r : Result Source ℕ) → IsLater (reading_refusal r)
-later-reading (Ok t) fault e = later-check (least_fault (program_faults t.program)) (script_refusal (length t.program.states) t.script) fault e
-later-reading (Err at) fault e = later-bad (record { kind = Form; at = at }) fault refl e
+later-reading : (beyond : Option ℕ) (r : Result Source FormStop) → IsLater (reading_refusal beyond r)
+later-reading beyond (Ok t) fault e = later-check (least_fault (program_faults t.program)) (script_refusal beyond (length t.program.states) t.script) fault e
+later-reading beyond (Err (form.Form at)) fault e = later-bad (record { kind = Form; at = at }) fault refl e
+later-reading beyond (Err (form.Limit at)) fault e = later-bad (record { kind = Limit; at = at }) fault refl e
+later-reading beyond (Err form.NoMemory) fault e = absurd cc
 
 later-at : (bytes : List ℕ) (kind : FaultKind) (at : ℕ) → is_texts kind ≡ false → IsRefused bytes (record { kind = kind; at = at }) → IsFaultAt bytes at kind
 later-at bytes Utf8 at e h = absurd cc
@@ -102,7 +107,7 @@ later-at bytes Remember at e h = h
 -- a forest that is refused is refused with a fault
 pub refused-fault : (bytes : List ℕ) (f : Forest) (fault : Fault) → Spells bytes f → nesting f ≤ 100 → refusal (length bytes) f ≡ Some (Bad fault) → IsFault bytes fault
 refused-fault bytes f fault spelled shallow e =
-    later-at bytes fault.kind fault.at (later-reading (source_of (length bytes) (seen f)) fault e) (record { forest = f; spelled = spelled; shallow = shallow; refused = e })
+    later-at bytes fault.kind fault.at (later-reading (least (script_limits f)) (text_answer (length bytes) f) fault e) (record { forest = f; spelled = spelled; shallow = shallow; refused = e })
 
 module _ {T : Type 0} (bytes : List ℕ) (r : Result T TextStop) (told : (s : TextStop) → s ≢ stop.NoMemory → Cause bytes s → (r ≡ Err s) ⊎ (r ≡ Err stop.NoMemory)) where
   told-as : (t s : TextStop) → r ≡ Err t → s ≢ stop.NoMemory → Cause bytes s → (text_end t ≡ text_end s) ⊎ (text_end t ≡ NoMemory)

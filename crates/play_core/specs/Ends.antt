@@ -23,9 +23,10 @@ text_end (stop.Bad at) = Bad (record { kind = Text; at = at })
 text_end (stop.TooDeep at) = Bad (record { kind = Deep; at = at })
 text_end stop.NoMemory = NoMemory
 
--- and one of the forms
+-- and one of the forms and the limits
 abbrev pub form_end : FormStop → TextEnd
 form_end (form.Form at) = Bad (record { kind = Form; at = at })
+form_end (form.Limit at) = Bad (record { kind = Limit; at = at })
 form_end form.NoMemory = NoMemory
 
 abbrev pub check_kind : Kind → FaultKind

@@ -8,16 +8,18 @@ use Rattle.sexp_text.specs.Forest.{Forest, nesting}
 use Rattle.sexp_text.specs.Grammar.{Spells}
 use Rattle.sexp_text.specs.Places.{Cause}
 use Rattle.sexp_text.specs.declared.stop.TextStop.TheVariants as stop
+use Rattle.lang_limits.specs.Least.{least}
+use Rattle.lang_limits.specs.Tokens.{script_limits}
 use Rattle.lang_forms.specs.Sources.{Source}
-use Rattle.lang_forms.specs.Seen.{seen}
-use Rattle.lang_forms.specs.Tops.{source_of}
+use Rattle.lang_forms.specs.Answers.{text_answer}
+use Rattle.lang_forms.specs.declared.stop.FormStop.{FormStop}
 use Rattle.lang_checks.specs.FaultOrder.{least_fault}
 use Rattle.lang_checks.specs.ProgramFaults.{program_faults}
 use Rattle.script_lang.specs.Scripts.{or_else, script_refusal}
 use Rattle.script_lang.specs.Lines.{line}
+use Rattle.play_words.specs.declared.command.Command.{Command}
 use Rattle.play_core.specs.Ends.{form_end, check_end, script_end}
 use Rattle.play_core.specs.Texts.{IsText, output}
-use Rattle.lang_forms.specs.declared.stop.FormStop.TheVariants as form
 use Rattle.lang_checks.specs.declared.checks.CheckStop.TheVariants as check
 use Rattle.play_core.specs.declared.fault.Fault.{Fault}
 use Rattle.play_core.specs.declared.fault.FaultKind.{FaultKind}
@@ -25,18 +27,20 @@ use Rattle.play_core.specs.declared.fault.FaultKind.TheVariants.{Utf8, Text, Dee
 use Rattle.play_core.specs.declared.text.TextEnd.{TextEnd}
 use Rattle.play_core.specs.declared.text.TextEnd.TheVariants as end
 
--- why a program with a script is refused: the fault of the program that answers, or else that of the script
-abbrev pub source_refusal : Source → Option TextEnd
-source_refusal t = or_else (option_map (λ f. check_end (check.Fault f)) (least_fault (program_faults t.program))) (option_map script_end (script_refusal (length t.program.states) t.script))
+-- why a program with a script is refused: the fault of the program that answers, or else that of the script, in which what is beyond a limit
+-- stands first at this place
+abbrev pub source_refusal : Option ℕ → Source → Option TextEnd
+source_refusal beyond t =
+    or_else (option_map (λ f. check_end (check.Fault f)) (least_fault (program_faults t.program))) (option_map script_end (script_refusal beyond (length t.program.states) t.script))
 
--- why what was read is refused: there is no program with a script, or it is refused
-abbrev pub reading_refusal : Result Source ℕ → Option TextEnd
-reading_refusal (Ok t) = source_refusal t
-reading_refusal (Err at) = Some (form_end (form.Form at))
+-- why what was read is refused: there is no program with a script, or something of the program is beyond a limit, or the two are refused
+abbrev pub reading_refusal : Option ℕ → Result Source FormStop → Option TextEnd
+reading_refusal beyond (Ok t) = source_refusal beyond t
+reading_refusal beyond (Err stop) = Some (form_end stop)
 
 -- Why a forest is refused, in an input of this length.
 abbrev pub refusal : ℕ → Forest → Option TextEnd
-refusal end f = reading_refusal (source_of end (seen f))
+refusal end f = reading_refusal (least (script_limits f)) (text_answer end f)
 
 -- The bytes spell lists at most 100 deep, which are refused with this fault.
 pub record IsRefused (bytes : List ℕ) (fault : Fault) : Type 0 where
@@ -71,7 +75,7 @@ kind_word Remember = codes "remember"
 abbrev pub fault_line : Fault → List ℕ
 fault_line fault = line (codes "bad input: " ++ kind_word fault.kind ++ codes " at " ++ decimal fault.at)
 
--- A first part of what the bytes make a run write was written: of the program's lines, or of the one line that refuses them.
-pub record WritesPart (bytes : List ℕ) (before now : Option (List ℕ)) : Type 0 where
-  pub lines : (t : Source) → IsText bytes t → AppendsPart before now (output t)
+-- A first part of what a command writes of the bytes was written: of its lines, or of the one line that refuses them.
+pub record WritesPart (command : Command) (bytes : List ℕ) (before now : Option (List ℕ)) : Type 0 where
+  pub lines : (t : Source) → IsText bytes t → AppendsPart before now (output command t)
   pub refusal : (fault : Fault) → IsFault bytes fault → AppendsPart before now (fault_line fault)

@@ -16,7 +16,7 @@ pub enum FaultKind {
     Deep,
     /// A top form is none of the language, or stands out of order.
     Form,
-    /// A script has too many steps.
+    /// Something is too long, too many or too deep.
     Limit,
     /// A name stands twice.
     Double,

@@ -33,7 +33,7 @@ const COUNTER_LINES: [&[u8]; 9] = [
 fn run<R: Threads + Wait + Sync>(
     rt: &R,
     alloc: Global,
-    word: &str,
+    asked: &[&str],
     input: Vec<u8>,
     piece: usize,
     read_fault: u64,
@@ -43,7 +43,9 @@ fn run<R: Threads + Wait + Sync>(
     requires { 0 < piece }
 {
     let mut words = Vec::new(alloc);
-    words.push(word.to_string(alloc)?)?;
+    for word in asked {
+        words.push(word.to_string(alloc)?)?;
+    }
     let mut world = PlainWorld::<BuiltIn>::new(alloc)?;
     let mut source = MemSource::new(input, piece, [read_fault].to_vec(alloc)?);
     let mut sink = MemSink::new(alloc, 4096, most, [write_fault].to_vec(alloc)?)?;
@@ -71,12 +73,45 @@ fn first_lines(alloc: Global, lines: &[&[u8]], count: usize) -> Result<Vec<u8>, 
 #[test]
 fn a_write_between_two_frames_shows_in_the_second(rt: HostRuntime) -> Result<(), Fail> {
     let alloc = rt.alloc();
-    let (status, written) = run(&rt, alloc, "run", COUNTER.to_vec(alloc)?, 4096, 0, 4096, 0)?;
+    let (status, written) = run(
+        &rt,
+        alloc,
+        &["run"],
+        COUNTER.to_vec(alloc)?,
+        4096,
+        0,
+        4096,
+        0,
+    )?;
     assert!(rt; status == Status::Done);
     assert_eq!(rt; written, first_lines(alloc, &COUNTER_LINES, 9)?);
-    let (status, written) = run(&rt, alloc, "run", COUNTER.to_vec(alloc)?, 1, 0, 1, 0)?;
+    let (status, written) = run(&rt, alloc, &["run"], COUNTER.to_vec(alloc)?, 1, 0, 1, 0)?;
     assert!(rt; status == Status::Done);
     assert_eq!(rt; written, first_lines(alloc, &COUNTER_LINES, 9)?);
+    Ok(())
+}
+
+// The counter's text with blanks and comments.
+const LOOSE_COUNTER: &[u8] = b"; counts
+(compose 1)(state  count Int Structural 0 )
+(fun root ()
+  (node Text ((value (get count))))) ; no more
+(do main (frame)(write global count 1)(frame))";
+
+#[test]
+fn check_writes_the_canonical_text(rt: HostRuntime) -> Result<(), Fail> {
+    let alloc = rt.alloc();
+    let loose = LOOSE_COUNTER.to_vec(alloc)?;
+    let (status, written) = run(&rt, alloc, &["check"], loose, 4096, 0, 4096, 0)?;
+    assert!(rt; status == Status::Done);
+    assert_eq!(rt; written.as_slice(), COUNTER);
+    let loose = LOOSE_COUNTER.to_vec(alloc)?;
+    let (status, written) = run(&rt, alloc, &["check"], loose, 4096, 0, 4096, 3)?;
+    assert!(rt; status == Status::WriteFault);
+    assert_eq!(rt;
+        written.as_slice(),
+        b"(compose 1)\n(state count Int Structural 0)\n".as_slice()
+    );
     Ok(())
 }
 
@@ -88,7 +123,7 @@ fn a_failing_write_leaves_the_lines_before_it(rt: HostRuntime) -> Result<(), Fai
         let (status, written) = run(
             &rt,
             alloc,
-            "run",
+            &["run"],
             COUNTER.to_vec(alloc)?,
             4096,
             0,
@@ -108,7 +143,7 @@ fn a_failing_read_writes_nothing(rt: HostRuntime) -> Result<(), Fail> {
         let (status, written) = run(
             &rt,
             alloc,
-            "run",
+            &["run"],
             COUNTER.to_vec(alloc)?,
             20,
             fault,
@@ -125,7 +160,7 @@ fn a_failing_read_writes_nothing(rt: HostRuntime) -> Result<(), Fail> {
 fn equal_writes_and_empty_programs_run_nothing(rt: HostRuntime) -> Result<(), Fail> {
     let alloc = rt.alloc();
     let empty = b"(compose 1) (fun root ()) (do main (frame) (frame))";
-    let (status, written) = run(&rt, alloc, "run", empty.to_vec(alloc)?, 4096, 0, 4096, 0)?;
+    let (status, written) = run(&rt, alloc, &["run"], empty.to_vec(alloc)?, 4096, 0, 4096, 0)?;
     assert!(rt; status == Status::Done);
     assert_eq!(rt;
         written.as_slice(),
@@ -140,7 +175,7 @@ report: ran 0, calculated 0, reads 0, groups 1, nodes 0
     );
     let equal =
         b"(compose 1) (state count Int Structural 0) (fun root () (node Text ((value (get count))))) (do main (frame) (write global count 0) (frame))";
-    let (status, written) = run(&rt, alloc, "run", equal.to_vec(alloc)?, 4096, 0, 4096, 0)?;
+    let (status, written) = run(&rt, alloc, &["run"], equal.to_vec(alloc)?, 4096, 0, 4096, 0)?;
     assert!(rt; status == Status::Done);
     assert_eq!(rt;
         written.as_slice(),
@@ -169,7 +204,7 @@ const ROWS: &[u8] =
 #[test]
 fn what_changed_runs_and_nodes_keep_their_numbers(rt: HostRuntime) -> Result<(), Fail> {
     let alloc = rt.alloc();
-    let (status, written) = run(&rt, alloc, "run", ROWS.to_vec(alloc)?, 4096, 0, 4096, 0)?;
+    let (status, written) = run(&rt, alloc, &["run"], ROWS.to_vec(alloc)?, 4096, 0, 4096, 0)?;
     assert!(rt; status == Status::Done);
     assert_eq!(rt;
         written.as_slice(),
@@ -210,42 +245,29 @@ fn filled(alloc: Global, text: &[u8], length: usize) -> Result<Vec<u8>, Fail> {
 fn the_input_has_at_most_1048576_bytes(rt: HostRuntime) -> Result<(), Fail> {
     let alloc = rt.alloc();
     let full = filled(alloc, COUNTER, 1048576)?;
-    let (status, written) = run(&rt, alloc, "run", full, 65536, 0, 4096, 0)?;
+    let (status, written) = run(&rt, alloc, &["run"], full, 65536, 0, 4096, 0)?;
     assert!(rt; status == Status::Done);
     assert_eq!(rt; written, first_lines(alloc, &COUNTER_LINES, 9)?);
     let over = filled(alloc, COUNTER, 1048577)?;
-    let (status, written) = run(&rt, alloc, "run", over, 65536, 0, 4096, 0)?;
+    let (status, written) = run(&rt, alloc, &["run"], over, 65536, 0, 4096, 0)?;
     assert!(rt; status == Status::TooLong);
     assert_eq!(rt; written.as_slice(), b"too long\n".as_slice());
     Ok(())
 }
 
 #[test]
-fn other_words_and_other_texts_have_a_line_each(rt: HostRuntime) -> Result<(), Fail> {
+fn other_words_have_the_line_of_usage(rt: HostRuntime) -> Result<(), Fail> {
     let alloc = rt.alloc();
     let usage = b"usage: compose_play run|threads [--json] [--ops] | check | gen NUMBER SIZE\n";
-    let (status, written) = run(
-        &rt,
-        alloc,
-        "--help",
-        COUNTER.to_vec(alloc)?,
-        4096,
-        1,
-        4096,
-        0,
-    )?;
-    assert!(rt; status == Status::Usage);
-    assert_eq!(rt; written.as_slice(), usage.as_slice());
-    let (status, written) = run(
-        &rt,
-        alloc,
-        "--help",
-        COUNTER.to_vec(alloc)?,
-        4096,
-        0,
-        4096,
-        1,
-    )?;
+    let others: [&[&str]; 4] = [&[], &["--help"], &["--"], &["check", "run"]];
+    for words in others {
+        let input = COUNTER.to_vec(alloc)?;
+        let (status, written) = run(&rt, alloc, words, input, 4096, 1, 4096, 0)?;
+        assert!(rt; status == Status::Usage);
+        assert_eq!(rt; written.as_slice(), usage.as_slice());
+    }
+    let input = COUNTER.to_vec(alloc)?;
+    let (status, written) = run(&rt, alloc, &["--help"], input, 4096, 0, 4096, 1)?;
     assert!(rt; status == Status::WriteFault && written.is_empty());
     Ok(())
 }
@@ -297,7 +319,19 @@ const FAULTS: [(&[u8], &[u8]); 14] = [
 fn a_refused_input_has_the_line_of_its_fault(rt: HostRuntime) -> Result<(), Fail> {
     let alloc = rt.alloc();
     for (input, line) in FAULTS {
-        let (status, written) = run(&rt, alloc, "run", input.to_vec(alloc)?, 4096, 0, 4096, 0)?;
+        let (status, written) = run(&rt, alloc, &["run"], input.to_vec(alloc)?, 4096, 0, 4096, 0)?;
+        assert!(rt; status == Status::BadInput);
+        assert_eq!(rt; written.as_slice(), line);
+        let (status, written) = run(
+            &rt,
+            alloc,
+            &["check"],
+            input.to_vec(alloc)?,
+            4096,
+            0,
+            4096,
+            0,
+        )?;
         assert!(rt; status == Status::BadInput);
         assert_eq!(rt; written.as_slice(), line);
     }

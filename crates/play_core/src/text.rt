@@ -3,9 +3,8 @@ ghost use Rattle.std.specs.Prelude.{◌≡◌, ◌⊎◌, ◌≤◌, [], ℕ, Li
 ghost use Rattle.sexp_text.specs.Forest.{nesting};
 ghost use Rattle.sexp_text.specs.Grammar.{Spells};
 ghost use Rattle.sexp_text.specs.View.{forest_view};
-ghost use Rattle.lang_ast.specs.SyntaxView.{functions_view};
 ghost use Rattle.play_core.specs.declared.fault.Fault.{Fault as fault_data};
-ghost use Rattle.play_core.specs.Texts.{IsRead, IsNoText};
+ghost use Rattle.play_core.specs.Texts.{IsInput, IsNoText};
 ghost use Rattle.play_core.specs.Faults.{IsFault, refusal};
 
 use crate::fault::{Fault, FaultKind};
@@ -47,13 +46,12 @@ impl From<FormStop> for TextEnd {
     ghost from_gives = { λ stop end. end ≡ form_end stop };
 
     fn from(stop: FormStop) -> Self {
-        match stop {
-            FormStop::Form { at } => TextEnd::Bad(Fault {
-                kind: FaultKind::Form,
-                at,
-            }),
-            FormStop::NoMemory => TextEnd::NoMemory,
-        }
+        let (kind, at) = match stop {
+            FormStop::Form { at } => (FaultKind::Form, at),
+            FormStop::Limit { at } => (FaultKind::Limit, at),
+            FormStop::NoMemory => return TextEnd::NoMemory,
+        };
+        TextEnd::Bad(Fault { kind, at })
     }
 }
 
@@ -107,21 +105,33 @@ impl From<ScriptStop> for TextEnd {
     }
 }
 
-// The program and the script that trees are the forms of, in an input of this length.
-fn program_in(alloc: Global, trees: &[Tree], end: usize) -> Result<(Checked, Script), TextEnd>
-    ensures ok { (bytes : List ℕ) → Spells bytes (forest_view trees.now) → nesting (forest_view trees.now) ≤ 100 → IfOk result (λ r. IsRead bytes r.0.states.items (functions_view r.0.functions.items) r.1.actor r.1.steps.items) }
-    ensures fine { OnOk result (refusal end (forest_view trees.now) ≡ None) }
-    ensures bad { (fault : fault_data) → result ≡ Err (TextEnd.Bad fault) → refusal end (forest_view trees.now) ≡ Some (TextEnd.Bad fault) }
-{
-    let (program, rest) = lang_forms::program(alloc, trees, end)?;
-    let program = check(alloc, program)?;
-    let script = script_of(alloc, &rest, &program)?;
-    Ok((program, script))
+/// What was read of an input: its trees, and the program and the script that they are the forms of.
+#[derive(Drop)]
+pub struct Input {
+    pub trees: Vec<Tree>,
+    pub program: Checked,
+    pub script: Script,
 }
 
-/// The program and the script that the bytes are a text of.
-pub fn read_text(alloc: Global, bytes: &[u8]) -> Result<(Checked, Script), TextEnd>
-    ensures ok { IfOk result (λ r. IsRead bytes.now r.0.states.items (functions_view r.0.functions.items) r.1.actor r.1.steps.items) }
+// The trees with the program and the script that they are the forms of, in an input of this length.
+fn program_in(alloc: Global, trees: Vec<Tree>, end: usize) -> Result<Input, TextEnd>
+    ensures ok { (bytes : List ℕ) → Spells bytes (forest_view trees.items) → nesting (forest_view trees.items) ≤ 100 → IfOk result (λ input. IsInput bytes input) }
+    ensures fine { OnOk result (refusal end (forest_view trees.items) ≡ None) }
+    ensures bad { (fault : fault_data) → result ≡ Err (TextEnd.Bad fault) → refusal end (forest_view trees.items) ≡ Some (TextEnd.Bad fault) }
+{
+    let (program, rest) = lang_forms::program(alloc, &trees, end)?;
+    let program = check(alloc, program)?;
+    let script = script_of(alloc, &rest, &program)?;
+    Ok(Input {
+        trees,
+        program,
+        script,
+    })
+}
+
+/// The trees that the bytes spell, with the program and the script that the bytes are a text of.
+pub fn read_text(alloc: Global, bytes: &[u8]) -> Result<Input, TextEnd>
+    ensures ok { IfOk result (λ input. IsInput bytes.now input) }
     ensures bad { (fault : fault_data) → result ≡ Err (TextEnd.Bad fault) → IsNoText bytes.now × IsFault bytes.now fault }
     ensures told { (fault : fault_data) → IsFault bytes.now fault → (result ≡ Err (TextEnd.Bad fault)) ⊎ (result ≡ Err TextEnd.NoMemory) }
 {
@@ -129,5 +139,5 @@ pub fn read_text(alloc: Global, bytes: &[u8]) -> Result<(Checked, Script), TextE
         Ok(trees) => trees,
         Err(stop) => return Err(TextEnd::from(stop)),
     };
-    program_in(alloc, &trees, bytes.len())
+    program_in(alloc, trees, bytes.len())
 }

@@ -1,24 +1,28 @@
 // The top call.
-ghost use Rattle.std.specs.Prelude.{◌≡◌, ◌≢◌, ◌⊎◌, ◌<◌, ◌≤◌, ◌+◌, ℕ, List, Some, true, false, Ok, Err, IfOk, OnOk, IfSome, length};
+ghost use Rattle.std.specs.Prelude.{◌≡◌, ◌≢◌, ◌⊎◌, ◌<◌, ◌≤◌, ◌+◌, ℕ, List, Some, None, Ok, Err, IfOk, OnOk, IfSome, length};
 ghost use Rattle.std.specs.Io.KnownBytes.{Appends, Keeps, IsAtEnd};
 ghost use Rattle.rt_streams.specs.Streams.{Rose, AppendsPart, rise};
 ghost use Rattle.lang_ast.specs.SyntaxView.{functions_view};
 ghost use Rattle.lang_forms.specs.Sources.{Source as source_data};
 ghost use Rattle.snap_api.specs.World.{start};
-ghost use Rattle.play_core.specs.Texts.{is_run, IsText, IsRead, IsNoText, output, usage_line, long_line, input_limit};
+ghost use Rattle.play_words.specs.Asked.{asked, texts};
+ghost use Rattle.play_words.specs.declared.command.Command.{Command as command_data};
+ghost use Rattle.play_core.specs.Texts.{IsText, IsInput, IsNoText, output, usage_line, long_line, input_limit};
 ghost use Rattle.play_core.specs.Faults.{IsFault, WritesPart, fault_line};
 ghost use Rattle.play_core.specs.declared.fault.Fault.{Fault as fault_data};
 ghost use Rattle.play_core.specs.Turns.{at_first};
 ghost use Rattle.play_core.specs.Standing.{Says};
 ghost use Rattle.script_lang.specs.Lines.{run_text};
 
+use crate::canonical::say_canonical;
 use crate::fault::Fault;
 use crate::frame::Room;
 use crate::open::begin;
 use crate::say::Stop;
 use crate::steps::run_steps;
-use crate::text::{TextEnd, read_text};
+use crate::text::{Input, TextEnd, read_text};
 use lang_checks::Checked;
+use play_words::{Command, asked};
 use rt_streams::{Gate, ReadStop, Sink, Source, read_all, write_all};
 use rt_values::Objects;
 use script_lang::Script;
@@ -49,15 +53,6 @@ pub enum Status {
 
 // A longer input is refused.
 const INPUT_LIMIT: u64 = 1048576;
-
-fn asks_run(words: &Vec<String>) -> bool
-    ensures { result ≡ is_run words.now.items }
-{
-    match words.as_slice() {
-        [word] => word.as_bytes() == b"run".as_slice(),
-        _ => false,
-    }
-}
 
 // The one line of a status, or the fault of writing it.
 fn say_status<K: Sink>(sink: &mut K, line: &[u8], status: Status) -> Status
@@ -110,64 +105,88 @@ fn refuse<K: Sink>(alloc: Global, fault: Fault, sink: &mut K) -> Status
     say_status(sink, &line, Status::BadInput)
 }
 
-// Runs a text.
+// Does with an input what the command asks for. A run keeps no trees.
+fn do_command<V: Versions<P = BuiltIn>, K: Sink>(
+    alloc: Global,
+    command: Command,
+    world: &mut V,
+    input: Input,
+    sink: &mut K,
+) -> Result<(), Stop>
+    requires start { V.stands world.old (start 0) }
+    requires few { length input.program.states.items ≤ 256 }
+    ensures says { (bytes : List ℕ) (p : source_data) → IsInput bytes input → IsText bytes p → Says (K.written sink.old) (K.written sink.new) (output command p) result }
+    ensures fault { result ≡ Err Stop.WriteFault → Rose (K.faults sink.old) (K.faults sink.new) }
+{
+    match command {
+        Command::Run => {
+            drop(input.trees);
+            run_script(alloc, &input.program, &input.script, world, sink)
+        }
+        Command::Check => say_canonical(alloc, &input.trees, sink),
+    }
+}
+
+// Does with a text what the command asks for.
 fn play_bytes<V: Versions<P = BuiltIn>, K: Sink>(
     alloc: Global,
+    command: Command,
     world: &mut V,
     bytes: &[u8],
     sink: &mut K,
 ) -> Status
     requires { V.stands world.old (start 0) }
-    ensures done { result ≡ Status.Done → (p : source_data) × IsText bytes.now p × Appends (K.written sink.old) (K.written sink.new) (output p) }
+    ensures done { result ≡ Status.Done → (p : source_data) × IsText bytes.now p × Appends (K.written sink.old) (K.written sink.new) (output command p) }
     ensures bad_input { result ≡ Status.BadInput → IsNoText bytes.now × ((fault : fault_data) × IsFault bytes.now fault × Appends (K.written sink.old) (K.written sink.new) (fault_line fault)) }
-    ensures part { (result ≡ Status.WriteFault) ⊎ (result ≡ Status.NoMemory) → WritesPart bytes.now (K.written sink.old) (K.written sink.new) }
+    ensures part { (result ≡ Status.WriteFault) ⊎ (result ≡ Status.NoMemory) → WritesPart command bytes.now (K.written sink.old) (K.written sink.new) }
     ensures write_fault { result ≡ Status.WriteFault → Rose (K.faults sink.old) (K.faults sink.new) }
     ensures others { (result ≢ Status.Usage) × (result ≢ Status.ReadFault) × (result ≢ Status.TooLong) }
 {
     match read_text(alloc, bytes) {
-        Ok((program, script)) => play_text(alloc, world, &program, &script, sink, bytes),
+        Ok(input) => play_text(alloc, command, world, input, sink, bytes),
         Err(TextEnd::Bad(fault)) => refuse(alloc, fault, sink),
         Err(TextEnd::NoMemory) => Status::NoMemory,
     }
 }
 
-// Runs the program and the script of a text.
+// Does with what was read of a text what the command asks for.
 fn play_text<V: Versions<P = BuiltIn>, K: Sink>(
     alloc: Global,
+    command: Command,
     world: &mut V,
-    program: &Checked,
-    script: &Script,
+    input: Input,
     sink: &mut K,
     bytes: &[u8],
 ) -> Status
     requires start { V.stands world.old (start 0) }
-    requires read { IsRead bytes.now program.now.states.items (functions_view program.now.functions.items) script.now.actor script.now.steps.items }
+    requires read { IsInput bytes.now input }
     requires good { (fault : fault_data) → IsFault bytes.now fault → ⊥ }
-    ensures done { result ≡ Status.Done → (p : source_data) × IsText bytes.now p × Appends (K.written sink.old) (K.written sink.new) (output p) }
-    ensures part { (result ≡ Status.WriteFault) ⊎ (result ≡ Status.NoMemory) → WritesPart bytes.now (K.written sink.old) (K.written sink.new) }
+    ensures done { result ≡ Status.Done → (p : source_data) × IsText bytes.now p × Appends (K.written sink.old) (K.written sink.new) (output command p) }
+    ensures part { (result ≡ Status.WriteFault) ⊎ (result ≡ Status.NoMemory) → WritesPart command bytes.now (K.written sink.old) (K.written sink.new) }
     ensures write_fault { result ≡ Status.WriteFault → Rose (K.faults sink.old) (K.faults sink.new) }
     ensures answers { (result ≡ Status.Done) ⊎ ((result ≡ Status.WriteFault) ⊎ (result ≡ Status.NoMemory)) }
 {
-    match run_script(alloc, program, script, world, sink) {
+    match do_command(alloc, command, world, input, sink) {
         Ok(()) => Status::Done,
         Err(Stop::WriteFault) => Status::WriteFault,
         Err(Stop::NoMemory) => Status::NoMemory,
     }
 }
 
-// Reads the input and runs it.
-fn run_input<V: Versions<P = BuiltIn>, S: Source, K: Sink>(
+// Reads the input and does with it what the command asks for.
+fn play_input<V: Versions<P = BuiltIn>, S: Source, K: Sink>(
     alloc: Global,
+    command: Command,
     world: &mut V,
     source: &mut S,
     sink: &mut K,
 ) -> Status
     requires { V.stands world.old (start 0) }
-    ensures done { result ≡ Status.Done → IfSome (S.left source.old) (λ bytes. IsAtEnd (S.left source.new) × (length bytes ≤ input_limit) × ((p : source_data) × IsText bytes p × Appends (K.written sink.old) (K.written sink.new) (output p))) }
+    ensures done { result ≡ Status.Done → IfSome (S.left source.old) (λ bytes. IsAtEnd (S.left source.new) × (length bytes ≤ input_limit) × ((p : source_data) × IsText bytes p × Appends (K.written sink.old) (K.written sink.new) (output command p))) }
     ensures bad_input { result ≡ Status.BadInput → IfSome (S.left source.old) (λ bytes. IsAtEnd (S.left source.new) × (length bytes ≤ input_limit) × IsNoText bytes × ((fault : fault_data) × IsFault bytes fault × Appends (K.written sink.old) (K.written sink.new) (fault_line fault))) }
     ensures too_long { result ≡ Status.TooLong → (input_limit < rise (S.taken source.old) (S.taken source.new)) × Appends (K.written sink.old) (K.written sink.new) long_line }
     ensures long_told { input_limit < rise (S.taken source.old) (S.taken source.new) → (result ≡ Status.TooLong) ⊎ ((result ≡ Status.WriteFault) × AppendsPart (K.written sink.old) (K.written sink.new) long_line) }
-    ensures part { rise (S.taken source.old) (S.taken source.new) ≤ input_limit → (result ≡ Status.WriteFault) ⊎ (result ≡ Status.NoMemory) → IfSome (S.left source.old) (λ bytes. WritesPart bytes (K.written sink.old) (K.written sink.new)) }
+    ensures part { rise (S.taken source.old) (S.taken source.new) ≤ input_limit → (result ≡ Status.WriteFault) ⊎ (result ≡ Status.NoMemory) → IfSome (S.left source.old) (λ bytes. WritesPart command bytes (K.written sink.old) (K.written sink.new)) }
     ensures read_fault { result ≡ Status.ReadFault → Rose (S.faults source.old) (S.faults source.new) × Keeps (K.written sink.old) (K.written sink.new) }
     ensures write_fault { result ≡ Status.WriteFault → Rose (K.faults sink.old) (K.faults sink.new) }
     ensures at_most { rise (S.taken source.old) (S.taken source.new) ≤ input_limit + 1 }
@@ -178,13 +197,14 @@ fn run_input<V: Versions<P = BuiltIn>, S: Source, K: Sink>(
         Err(ReadStop::NoMemory) => Status::NoMemory,
         Err(ReadStop::ReadFault) => Status::ReadFault,
         Err(ReadStop::TooLong) => say_status(sink, b"too long\n", Status::TooLong),
-        Ok(bytes) => play_bytes(alloc, world, &bytes, sink),
+        Ok(bytes) => play_bytes(alloc, command, world, &bytes, sink),
     }
 }
 
-/// Does what the words ask for, which is one thing: `run` reads a program with its script from `source`, runs
-/// the script's steps on `world`, and writes the line of each call and of each frame to `sink` as it comes,
-/// each line with its LF as one piece. The world is a new one. Nobody is waited for.
+/// Does what the words ask for: reads a program with its script from `source`, and writes to `sink` line by line,
+/// each line with its LF as one piece. `run` runs the script's steps on `world`, which is a new one, and writes the
+/// line of each call and of each frame as it comes. `check` writes the canonical text of the program and the script.
+/// Nobody is waited for.
 ///
 /// What is written with each status, and what is left of the source, stands in the clauses. It is what
 /// `Recomposer` and a test driver do together in Compose; the program and its lines are this project's own.
@@ -196,38 +216,42 @@ pub fn play_alone<V: Versions<P = BuiltIn>, S: Source, K: Sink>(
     sink: &mut K,
 ) -> Status
     requires { V.stands world.old (start 0) }
-    // Usage comes exactly where the words are not the one word `run`: its line is written, and the source stays as it was.
-    ensures usage { result ≡ Status.Usage → (is_run words.now.items ≡ false) × Appends (K.written sink.old) (K.written sink.new) usage_line }
-    ensures usage_told { is_run words.now.items ≡ false → ((result ≡ Status.Usage) ⊎ ((result ≡ Status.WriteFault) × AppendsPart (K.written sink.old) (K.written sink.new) usage_line)) × (source.new ≡ source.old) }
-    // Done: the input was read to its end, within the limit, and is a text, and the lines of the history that its steps make were written.
-    ensures done { result ≡ Status.Done → IfSome (S.left source.old) (λ bytes. IsAtEnd (S.left source.new) × (length bytes ≤ input_limit) × ((p : source_data) × IsText bytes p × Appends (K.written sink.old) (K.written sink.new) (output p))) }
+    // Usage comes where the words ask for no command, but for a fault of the sink and want of memory: its line is written, and the source stays as it was.
+    ensures usage { result ≡ Status.Usage → (asked (texts words.now.items) ≡ None) × Appends (K.written sink.old) (K.written sink.new) usage_line }
+    ensures usage_told { asked (texts words.now.items) ≡ None →
+        ((result ≡ Status.Usage) ⊎ (((result ≡ Status.WriteFault) × AppendsPart (K.written sink.old) (K.written sink.new) usage_line) ⊎ ((result ≡ Status.NoMemory) × Keeps (K.written sink.old) (K.written sink.new)))) × (source.new ≡ source.old) }
+    // Done: the input was read to its end, within the limit, and is a text, and all that the command writes of it was written.
+    ensures done { (c : command_data) → asked (texts words.now.items) ≡ Some c → result ≡ Status.Done →
+        IfSome (S.left source.old) (λ bytes. IsAtEnd (S.left source.new) × (length bytes ≤ input_limit) × ((p : source_data) × IsText bytes p × Appends (K.written sink.old) (K.written sink.new) (output c p))) }
     // BadInput: the input was read to its end, within the limit, and is none, and the line of its fault was written.
     ensures bad_input { result ≡ Status.BadInput → IfSome (S.left source.old) (λ bytes. IsAtEnd (S.left source.new) × (length bytes ≤ input_limit) × IsNoText bytes × ((fault : fault_data) × IsFault bytes fault × Appends (K.written sink.old) (K.written sink.new) (fault_line fault))) }
     // TooLong comes exactly where a byte more than the limit was taken: its line is written.
     ensures too_long { result ≡ Status.TooLong → (input_limit < rise (S.taken source.old) (S.taken source.new)) × Appends (K.written sink.old) (K.written sink.new) long_line }
-    ensures long_told { is_run words.now.items ≡ true → input_limit < rise (S.taken source.old) (S.taken source.new) → (result ≡ Status.TooLong) ⊎ ((result ≡ Status.WriteFault) × AppendsPart (K.written sink.old) (K.written sink.new) long_line) }
+    ensures long_told { (c : command_data) → asked (texts words.now.items) ≡ Some c → input_limit < rise (S.taken source.old) (S.taken source.new) → (result ≡ Status.TooLong) ⊎ ((result ≡ Status.WriteFault) × AppendsPart (K.written sink.old) (K.written sink.new) long_line) }
     // A fault comes only where it was counted; after a fault of the source nothing was written.
     ensures read_fault { result ≡ Status.ReadFault → Rose (S.faults source.old) (S.faults source.new) × Keeps (K.written sink.old) (K.written sink.new) }
     ensures write_fault { result ≡ Status.WriteFault → Rose (K.faults sink.old) (K.faults sink.new) }
-    // After a fault of the sink or want of memory a first part of the text was written.
-    ensures part { is_run words.now.items ≡ true → rise (S.taken source.old) (S.taken source.new) ≤ input_limit → (result ≡ Status.WriteFault) ⊎ (result ≡ Status.NoMemory) → IfSome (S.left source.old) (λ bytes. WritesPart bytes (K.written sink.old) (K.written sink.new)) }
-    ensures memory { result ≡ Status.NoMemory → is_run words.now.items ≡ true }
+    // After a fault of the sink or want of memory a first part of what the command writes of the input was written.
+    ensures part { (c : command_data) → asked (texts words.now.items) ≡ Some c → rise (S.taken source.old) (S.taken source.new) ≤ input_limit → (result ≡ Status.WriteFault) ⊎ (result ≡ Status.NoMemory) →
+        IfSome (S.left source.old) (λ bytes. WritesPart c bytes (K.written sink.old) (K.written sink.new)) }
     // Where nothing failed, a text within the limit is done and another input within it is refused, but for want of memory.
-    ensures complete { (bytes : List ℕ) (p : source_data) → is_run words.now.items ≡ true → S.left source.old ≡ Some bytes → length bytes ≤ input_limit → IsText bytes p →
+    ensures complete { (bytes : List ℕ) (p : source_data) (c : command_data) → asked (texts words.now.items) ≡ Some c → S.left source.old ≡ Some bytes → length bytes ≤ input_limit → IsText bytes p →
         (result ≡ Status.Done) ⊎ ((result ≡ Status.NoMemory) ⊎ (((result ≡ Status.ReadFault) × Rose (S.faults source.old) (S.faults source.new)) ⊎ ((result ≡ Status.WriteFault) × Rose (K.faults sink.old) (K.faults sink.new)))) }
-    ensures refused { (bytes : List ℕ) → is_run words.now.items ≡ true → S.left source.old ≡ Some bytes → length bytes ≤ input_limit → IsNoText bytes →
+    ensures refused { (bytes : List ℕ) (c : command_data) → asked (texts words.now.items) ≡ Some c → S.left source.old ≡ Some bytes → length bytes ≤ input_limit → IsNoText bytes →
         (result ≡ Status.BadInput) ⊎ ((result ≡ Status.NoMemory) ⊎ (((result ≡ Status.ReadFault) × Rose (S.faults source.old) (S.faults source.new)) ⊎ ((result ≡ Status.WriteFault) × Rose (K.faults sink.old) (K.faults sink.new)))) }
     // Of the source at most one byte more than the limit is taken.
-    ensures at_most { is_run words.now.items ≡ true → rise (S.taken source.old) (S.taken source.new) ≤ input_limit + 1 }
+    ensures at_most { (c : command_data) → asked (texts words.now.items) ≡ Some c → rise (S.taken source.old) (S.taken source.new) ≤ input_limit + 1 }
 {
-    if asks_run(words) {
-        run_input(alloc, world, source, sink)
-    } else {
-        say_status(
+    let Ok(wanted) = asked(alloc, words) else {
+        return Status::NoMemory;
+    };
+    match wanted {
+        Some(command) => play_input(alloc, command, world, source, sink),
+        None => say_status(
             sink,
             b"usage: compose_play run|threads [--json] [--ops] | check | gen NUMBER SIZE\n",
             Status::Usage,
-        )
+        ),
     }
 }
 
@@ -243,29 +267,31 @@ pub fn play<R: Threads + Wait + Sync, V: Versions<P = BuiltIn>, S: Source, K: Si
     _gate: &G,
 ) -> Status
     requires { V.stands world.old (start 0) }
-    // Usage comes exactly where the words are not the one word `run`: its line is written, and the source stays as it was.
-    ensures usage { result ≡ Status.Usage → (is_run words.now.items ≡ false) × Appends (K.written sink.old) (K.written sink.new) usage_line }
-    ensures usage_told { is_run words.now.items ≡ false → ((result ≡ Status.Usage) ⊎ ((result ≡ Status.WriteFault) × AppendsPart (K.written sink.old) (K.written sink.new) usage_line)) × (source.new ≡ source.old) }
-    // Done: the input was read to its end, within the limit, and is a text, and the lines of the history that its steps make were written.
-    ensures done { result ≡ Status.Done → IfSome (S.left source.old) (λ bytes. IsAtEnd (S.left source.new) × (length bytes ≤ input_limit) × ((p : source_data) × IsText bytes p × Appends (K.written sink.old) (K.written sink.new) (output p))) }
+    // Usage comes where the words ask for no command, but for a fault of the sink and want of memory: its line is written, and the source stays as it was.
+    ensures usage { result ≡ Status.Usage → (asked (texts words.now.items) ≡ None) × Appends (K.written sink.old) (K.written sink.new) usage_line }
+    ensures usage_told { asked (texts words.now.items) ≡ None →
+        ((result ≡ Status.Usage) ⊎ (((result ≡ Status.WriteFault) × AppendsPart (K.written sink.old) (K.written sink.new) usage_line) ⊎ ((result ≡ Status.NoMemory) × Keeps (K.written sink.old) (K.written sink.new)))) × (source.new ≡ source.old) }
+    // Done: the input was read to its end, within the limit, and is a text, and all that the command writes of it was written.
+    ensures done { (c : command_data) → asked (texts words.now.items) ≡ Some c → result ≡ Status.Done →
+        IfSome (S.left source.old) (λ bytes. IsAtEnd (S.left source.new) × (length bytes ≤ input_limit) × ((p : source_data) × IsText bytes p × Appends (K.written sink.old) (K.written sink.new) (output c p))) }
     // BadInput: the input was read to its end, within the limit, and is none, and the line of its fault was written.
     ensures bad_input { result ≡ Status.BadInput → IfSome (S.left source.old) (λ bytes. IsAtEnd (S.left source.new) × (length bytes ≤ input_limit) × IsNoText bytes × ((fault : fault_data) × IsFault bytes fault × Appends (K.written sink.old) (K.written sink.new) (fault_line fault))) }
     // TooLong comes exactly where a byte more than the limit was taken: its line is written.
     ensures too_long { result ≡ Status.TooLong → (input_limit < rise (S.taken source.old) (S.taken source.new)) × Appends (K.written sink.old) (K.written sink.new) long_line }
-    ensures long_told { is_run words.now.items ≡ true → input_limit < rise (S.taken source.old) (S.taken source.new) → (result ≡ Status.TooLong) ⊎ ((result ≡ Status.WriteFault) × AppendsPart (K.written sink.old) (K.written sink.new) long_line) }
+    ensures long_told { (c : command_data) → asked (texts words.now.items) ≡ Some c → input_limit < rise (S.taken source.old) (S.taken source.new) → (result ≡ Status.TooLong) ⊎ ((result ≡ Status.WriteFault) × AppendsPart (K.written sink.old) (K.written sink.new) long_line) }
     // A fault comes only where it was counted; after a fault of the source nothing was written.
     ensures read_fault { result ≡ Status.ReadFault → Rose (S.faults source.old) (S.faults source.new) × Keeps (K.written sink.old) (K.written sink.new) }
     ensures write_fault { result ≡ Status.WriteFault → Rose (K.faults sink.old) (K.faults sink.new) }
-    // After a fault of the sink or want of memory a first part of the text was written.
-    ensures part { is_run words.now.items ≡ true → rise (S.taken source.old) (S.taken source.new) ≤ input_limit → (result ≡ Status.WriteFault) ⊎ (result ≡ Status.NoMemory) → IfSome (S.left source.old) (λ bytes. WritesPart bytes (K.written sink.old) (K.written sink.new)) }
-    ensures memory { result ≡ Status.NoMemory → is_run words.now.items ≡ true }
+    // After a fault of the sink or want of memory a first part of what the command writes of the input was written.
+    ensures part { (c : command_data) → asked (texts words.now.items) ≡ Some c → rise (S.taken source.old) (S.taken source.new) ≤ input_limit → (result ≡ Status.WriteFault) ⊎ (result ≡ Status.NoMemory) →
+        IfSome (S.left source.old) (λ bytes. WritesPart c bytes (K.written sink.old) (K.written sink.new)) }
     // Where nothing failed, a text within the limit is done and another input within it is refused, but for want of memory.
-    ensures complete { (bytes : List ℕ) (p : source_data) → is_run words.now.items ≡ true → S.left source.old ≡ Some bytes → length bytes ≤ input_limit → IsText bytes p →
+    ensures complete { (bytes : List ℕ) (p : source_data) (c : command_data) → asked (texts words.now.items) ≡ Some c → S.left source.old ≡ Some bytes → length bytes ≤ input_limit → IsText bytes p →
         (result ≡ Status.Done) ⊎ ((result ≡ Status.NoMemory) ⊎ (((result ≡ Status.ReadFault) × Rose (S.faults source.old) (S.faults source.new)) ⊎ ((result ≡ Status.WriteFault) × Rose (K.faults sink.old) (K.faults sink.new)))) }
-    ensures refused { (bytes : List ℕ) → is_run words.now.items ≡ true → S.left source.old ≡ Some bytes → length bytes ≤ input_limit → IsNoText bytes →
+    ensures refused { (bytes : List ℕ) (c : command_data) → asked (texts words.now.items) ≡ Some c → S.left source.old ≡ Some bytes → length bytes ≤ input_limit → IsNoText bytes →
         (result ≡ Status.BadInput) ⊎ ((result ≡ Status.NoMemory) ⊎ (((result ≡ Status.ReadFault) × Rose (S.faults source.old) (S.faults source.new)) ⊎ ((result ≡ Status.WriteFault) × Rose (K.faults sink.old) (K.faults sink.new)))) }
     // Of the source at most one byte more than the limit is taken.
-    ensures at_most { is_run words.now.items ≡ true → rise (S.taken source.old) (S.taken source.new) ≤ input_limit + 1 }
+    ensures at_most { (c : command_data) → asked (texts words.now.items) ≡ Some c → rise (S.taken source.old) (S.taken source.new) ≤ input_limit + 1 }
 {
     play_alone(alloc, words, world, source, sink)
 }

@@ -24,12 +24,9 @@ returns-in-Err-clause-told c fault f = elim (stopped c.args.bytes.now c.read.res
 
 pub returns-clause-bad : goal.returns-clause-bad
 returns-clause-bad c fault e =
-    let spelled = subst (λ ts. Spells c.args.bytes.now (forest_view ts)) (sym c.deref.ensures.value) c.in-Ok.ensures.ok.0 in
-    let shallow = subst (λ ts. nesting (forest_view ts) ≤ 100) (sym c.deref.ensures.value) c.in-Ok.ensures.ok.1 in
     let refused = c.program_in.ensures.bad fault e in
-    (refused_none c.args.bytes.now (forest_view c.deref.result.now) (Bad fault) spelled refused, refused-fault c.args.bytes.now (forest_view c.deref.result.now) fault spelled shallow refused)
+    (refused_none c.args.bytes.now (forest_view c.in-Ok.trees.items) (Bad fault) c.in-Ok.ensures.ok.0 refused, refused-fault c.args.bytes.now (forest_view c.in-Ok.trees.items) fault c.in-Ok.ensures.ok.0 c.in-Ok.ensures.ok.1 refused)
 
 pub returns-clause-told : goal.returns-clause-told
 returns-clause-told c fault f =
-    let spelled = subst (λ ts. Spells c.args.bytes.now (forest_view ts)) (sym c.deref.ensures.value) c.in-Ok.ensures.ok.0 in
-    answered c.program_in.result _ fault c.program_in.ensures.fine c.program_in.ensures.bad (read-fault c.args.bytes.now c.read.result c.read.ensures.told c.in-Ok.trees c.in-Ok.is (forest_view c.deref.result.now) spelled fault f)
+    answered c.program_in.result _ fault c.program_in.ensures.fine c.program_in.ensures.bad (read-fault c.args.bytes.now c.read.result c.read.ensures.told c.in-Ok.trees c.in-Ok.is (forest_view c.in-Ok.trees.items) c.in-Ok.ensures.ok.0 fault f)

@@ -1,0 +1,19 @@
+use Rattle.std.proofs.Common.{sym, ap, ◌∙◌, subst}
+use Rattle.sexp_text.specs.Layout.{lines}
+use Rattle.sexp_text.specs.View.{forest_view}
+use Rattle.play_core.specs.Standing.{Says}
+use Rattle.play_core.specs.Texts.{output}
+use Rattle.play_core.proofs.TreeLines.{check-is}
+use Rattle.play_core.proofs.Plays.{run-is}
+use Rattle.play_core.proofs.Written.{says_same}
+use Rattle.play_core.proofs.top.do_command.Goals as goal
+
+pub returns-in-Run-clause-says : goal.returns-in-Run-clause-says
+returns-in-Run-clause-says g c bytes p read text =
+    subst (λ k. Says (g.K.Sink.written c.args.sink.now) (g.K.Sink.written c.run_script.new.sink) (output k p) c.run_script.result) (sym c.in-Run.is)
+    (says_same _ _ _ _ _ (run-is read.read p text) c.run_script.ensures.says)
+
+pub returns-in-Check-clause-says : goal.returns-in-Check-clause-says
+returns-in-Check-clause-says g c bytes p read text =
+    subst (λ k. Says (g.K.Sink.written c.args.sink.now) (g.K.Sink.written c.say_canonical.new.sink) (output k p) c.say_canonical.result) (sym c.in-Check.is)
+    (says_same _ _ _ _ _ (ap (λ ts. lines (forest_view ts)) c.deref.ensures.value ∙ check-is bytes c.args.input.trees.items p read.spelled text) c.say_canonical.ensures.says)

@@ -1,0 +1,10 @@
+-- The command line that clap reads: the commands, as subcommands.
+use Rattle.std.specs.Prelude.{codes, true}
+use Rattle.clap.specs.Words.{App, new_app, with_subcommand}
+use Rattle.clap.specs.Simple.{on_top}
+
+-- no word is the program's name
+abbrev pub line : App
+line =
+    with_subcommand (with_subcommand (on_top (λ s. record s { no_binary_name = true }) (new_app (codes "compose_play"))) (new_app (codes "run")).top)
+    (new_app (codes "check")).top
