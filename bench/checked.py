@@ -8,6 +8,8 @@
     deep         expressions in which 64 stand in one another
     blocks       statements that stand in 15 others
     lists        lists of 4,096 numbers in expressions
+    states       more states than a program may have, and reads of none of them
+    functions    more functions than a program may have, and calls of none of them
 
 FAULT is form, limit, double, unknown, order, type or remember: one more statement, at the end, has that fault.
 """
@@ -74,8 +76,20 @@ def lists(fault):
     return text("", filled("(key (ints" + " 1" * 4096 + "))"), fault)
 
 
+def states(fault):
+    front = "".join("(state s%05d Int Structural 0)\n" % n for n in range(17000))
+    return text(front, filled("(key (get zzzzzz))", len(front)), fault)
+
+
+def functions(fault):
+    front = "".join("(fun f%05d ())\n" % n for n in range(33000))
+    return text(front, filled("(call zzzzzz)", len(front)), fault)
+
+
 TEXTS = {"statements": statements, "calls": calls, "chains": chains, "names": names, "deep": deep, "blocks": blocks,
-         "lists": lists}
+         "lists": lists, "states": states, "functions": functions}
+# what these have a fault of their own in, before any other but a wrong form
+LARGE = "states", "functions"
 
 if __name__ == "__main__":
     sys.stdout.write(TEXTS[sys.argv[1]](sys.argv[2] if len(sys.argv) > 2 else None))

@@ -9,3 +9,4 @@ pub mod TextHasForms
 pub mod FirstWrong
 pub mod Written
 pub mod Limits
+pub mod Firsts

@@ -1,8 +1,9 @@
 -- What names, strings and lists of numbers are made of, and how many items a list has.
-use Rattle.std.specs.Prelude.{ℕ, suc, ◌&&◌, ◌==◌, ◌||◌, not, nat_le, List, [], ◌∷◌, length, slice_index, Bool, true, codes, ℤ, if◌then◌else◌}
+use Rattle.std.specs.Prelude.{ℕ, suc, ◌&&◌, ◌==◌, ◌||◌, not, nat_le, List, [], ◌∷◌, length, take, slice_index, Bool, true, codes, ℤ, if◌then◌else◌}
 use Rattle.std.specs.List.{list_all}
 use Rattle.std.specs.Str.{bytes_eq, is_utf8}
 use Rattle.rt_values.specs.Limits.{most_bytes, most_items}
+use Rattle.lang_limits.specs.Sizes.{most_forms}
 use Rattle.lang_limits.specs.Tokens.{fits}
 
 abbrev pub is_letter : ℕ → Bool
@@ -32,7 +33,11 @@ is_string cs = is_utf8 cs && nat_le (length cs) most_bytes
 abbrev pub is_list_long : ℕ → Bool
 is_list_long n = nat_le n most_items
 
--- the number of a name: that of the first of these names that it is, or how many they are
+-- the number of a name among these: that of the first that it is, or how many they are
+abbrev pub number_in : List ℕ → List (List ℕ) → ℕ
+number_in n [] = 0
+number_in n (m ∷ ms) = if bytes_eq m n then 0 else suc (number_in n ms)
+
+-- The number of a name: it is looked for among the first 256, which are as many as a program may have.
 abbrev pub number_of : List ℕ → List (List ℕ) → ℕ
-number_of n [] = 0
-number_of n (m ∷ ms) = if bytes_eq m n then 0 else suc (number_of n ms)
+number_of n ms = number_in n (take most_forms ms)

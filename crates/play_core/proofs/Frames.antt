@@ -1,9 +1,9 @@
 -- A frame's outcome, as the definition has it.
-use Rattle.std.proofs.Common.{◌≡◌, ℕ, List, [], ◌++◌, Option, Some, None, ◌≤◌, ◌<◌, refl, sym, ap, ◌∙◌, subst, cond, le-leb}
+use Rattle.std.proofs.Common.{◌≡◌, ℕ, List, [], ◌++◌, Option, Some, None, ◌≤◌, ◌<◌, sym, ap, ◌∙◌, subst, cond, le-leb}
 use Rattle.std.proofs.lemmas.Bool.{lt-leb}
 use Rattle.std.specs.Option.{option_map, unwrap_or}
 use Rattle.rt_values.specs.declared.report.Report.{Report}
-use Rattle.rt_values.specs.Maps.{Map, differ}
+use Rattle.rt_values.specs.Maps.{Map}
 use Rattle.rt_values.specs.Trail.{how_many}
 use Rattle.rt_values.specs.Frames.{Composed, most_groups, report}
 use Rattle.lang_ast.specs.Terms.{Func}

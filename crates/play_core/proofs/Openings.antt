@@ -1,7 +1,6 @@
 -- The world and the composition before the first step.
-use Rattle.std.proofs.Common.{◌≡◌, ℕ, ◌+◌, List, [], ◌∷◌, ◌++◌, Bool, true, false, Some, None, cond, not, arith, refl, sym, ap, subst, length, IfOk, Ok, Err}
+use Rattle.std.proofs.Common.{◌≡◌, List, [], ◌∷◌, ◌++◌, true, Some, None, cond, not, arith, refl, ap, subst}
 use Rattle.std.specs.Prelude.{slice_index_or}
-use Rattle.std.specs.declared.result.Result.{Result}
 use Rattle.rt_values.specs.Frames.{unseen}
 use Rattle.lang_ast.specs.declared.program.State.{State}
 use Rattle.snap_policy.specs.declared.policy.BuiltIn.{BuiltIn}
@@ -12,7 +11,7 @@ use Rattle.rt_values.specs.declared.value.Ty.TheVariants as ty
 use Rattle.rt_values.specs.declared.value.Value.{Value}
 use Rattle.snap_policy.specs.Table.{table}
 use Rattle.snap_api.specs.Valid.{IsValid}
-use Rattle.snap_api.specs.World.{World, start, made, make_refusal, with_members, last_of}
+use Rattle.snap_api.specs.World.{World, start, made, make_refusal, last_of}
 use Rattle.snap_api.specs.declared.data.Refusal.TheVariants as refusal
 use Rattle.snap_api.proofs.ValidMade.{valid_start, valid_made, makeable}
 use Rattle.snap_api.proofs.ValidMoves.{valid_watched}

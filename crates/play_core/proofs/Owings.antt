@@ -1,12 +1,11 @@
 -- What is owed from one take to the next.
 use Rattle.std.proofs.Common.{ℕ, zero, suc, ◌+◌, ◌<◌, ◌≤◌, ◌==◌, ◌||◌, List, [], ◌∷◌, ◌≡◌, inl, inr, refl, ap, ◌∙◌, sym, subst, length, eq-eqb, Bool, true, false, not, cond, Option, Some, None, slice_get, arith}
 use Rattle.std.specs.Option.{unwrap_or}
-use Rattle.std.proofs.lemmas.Bool.{eqb-true}
 use Rattle.std.proofs.lemmas.Bool.Decides.{eqb_tells}
 use Rattle.std.proofs.lemmas.Option.{slice_get_cases, slice_get_past, get_or_from_slice_get}
 use Rattle.rt_values.specs.declared.maps.Entry.{Entry}
 use Rattle.rt_values.specs.Maps.{Map, no_entry, entry_at, differs, differ, differ_from, contains}
-use Rattle.rt_values.specs.Trail.{Trail, End}
+use Rattle.rt_values.specs.Trail.{Trail}
 use Rattle.snap_api.specs.Valid.{MovedOn}
 use Rattle.snap_api.specs.World.{with_members}
 use Rattle.recompose_walk.proofs.Refreshes.{split_at}

@@ -27,6 +27,7 @@ pub run-says : {T E : Type 0} (r : Result T E) (a z : Option (List ℕ)) (t : Ti
 unfolding run_text
 run-says r a z t functions steps says = subst (λ ls. Says a z (flat ls) r) (sym (lines-turns t functions (at_first t.states) steps)) says
 
+-- what is read of the bytes makes the run of any text of them
 pub run-is : {bytes : List ℕ} {states : List State} {functions : List Func} {actor : List ℕ} {steps : List Step} (h : IsRead bytes states functions actor steps) (p : Source) → IsText bytes p →
     run_text (record { states = states; actor = actor }) functions steps ≡ run_output p
 unfolding run_output

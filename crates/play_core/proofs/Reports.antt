@@ -1,12 +1,11 @@
 -- The report of a frame, and the objects that it owes.
-use Rattle.std.proofs.Common.{ℕ, ◌-◌, ◌^◌, List, [], ◌∷◌, ◌≡◌, map, refl, ap, ◌∙◌, sym, length, Bool, true, false, not, ◌&&◌, ◌||◌, cond, Option, Some, None, min}
-use Rattle.std.specs.List.{filter, list_any}
-use Rattle.std.specs.Option.{option_map}
+use Rattle.std.proofs.Common.{ℕ, ◌-◌, ◌^◌, List, [], ◌∷◌, ◌≡◌, map, refl, ap, ◌∙◌, sym, length, Bool, true, not, ◌&&◌, ◌||◌, cond, Option, Some, None, min}
+use Rattle.std.specs.List.{filter}
 use Rattle.rt_values.specs.declared.report.Report.{Report}
 use Rattle.rt_values.specs.Maps.{Map, differ, contains}
 use Rattle.rt_values.specs.Trail.{Trail, End, What, asks, own, how_many, how_many_nodes}
 use Rattle.rt_values.specs.Paths.{Path, Found, at_path}
-use Rattle.rt_values.specs.Frames.{Caller, Kept, Composed, nobody, calls, cells, trace, meets, same_call, runs_after, call_runs, other_keys, is_calculated, ran, calculated, reads, report}
+use Rattle.rt_values.specs.Frames.{Caller, nobody, calls, cells, trace, meets, same_call, runs_after, call_runs, other_keys, is_calculated, ran, calculated, reads, report}
 use Rattle.play_core.specs.Owing.{Owes}
 
 filter-same : {X : Type 0} (f g : X → Bool) (xs : List X) → ((x : X) → f x ≡ g x) → filter f xs ≡ filter g xs

@@ -22,7 +22,8 @@ fn say_trees<K: Sink>(alloc: Global, trees: &[Tree], sink: &mut K) -> Result<(),
     say(sink, &text)
 }
 
-/// Writes each tree on a line of its own, with its LF as one piece, so that no more than one line is held in memory.
+/// Writes each tree on a line of its own, the line with its LF as one piece. The text of one line at a time is in
+/// memory. This project's own rule.
 pub fn say_canonical<K: Sink>(alloc: Global, trees: &[Tree], sink: &mut K) -> Result<(), Stop>
     ensures says { Says (K.written sink.old) (K.written sink.new) (lines (forest_view trees.now)) result }
     ensures fault { result ≡ Err Stop.WriteFault → Rose (K.faults sink.old) (K.faults sink.new) }

@@ -5,7 +5,7 @@
 //! It joins what `Recomposer` and its caller do in Compose: it takes a frame's snapshot, has the program composed
 //! in it, disposes it and keeps what is owed. `compose_play` hands in the world and the real streams.
 //! Promises: what `run` wrote is what plain copied maps and composing from scratch give, line by line; what `check`
-//! wrote is the trees of the forms of the program and the script, each on a line; and each status has its cause in
+//! wrote is the trees of the forms of the program and the script, each on a line; each status has its cause in
 //! `play`'s own clauses; after a fault or want of memory a first part was written.
 #![tactic(auto)]
 
@@ -21,5 +21,7 @@ mod top;
 
 pub use top::{Status, play, play_alone};
 
+#[cfg(test)]
+mod fault_table;
 #[cfg(test)]
 mod tests;

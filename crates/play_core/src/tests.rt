@@ -30,7 +30,7 @@ const COUNTER_LINES: [&[u8]; 9] = [
 
 // The status of a run and what it wrote. The source hands out at most `piece` bytes a call, and fails at the
 // read with the number `read_fault`, from 1; the sink takes `most` bytes a call, and fails at `write_fault`.
-fn run<R: Threads + Wait + Sync>(
+pub fn run<R: Threads + Wait + Sync>(
     rt: &R,
     alloc: Global,
     asked: &[&str],

@@ -105,7 +105,7 @@ fn refuse<K: Sink>(alloc: Global, fault: Fault, sink: &mut K) -> Status
     say_status(sink, &line, Status::BadInput)
 }
 
-// Does with an input what the command asks for. A run keeps no trees.
+// Does with an input what the command asks for. A run drops the trees before its first step.
 fn do_command<V: Versions<P = BuiltIn>, K: Sink>(
     alloc: Global,
     command: Command,
@@ -216,7 +216,7 @@ pub fn play_alone<V: Versions<P = BuiltIn>, S: Source, K: Sink>(
     sink: &mut K,
 ) -> Status
     requires { V.stands world.old (start 0) }
-    // Usage comes where the words ask for no command, but for a fault of the sink and want of memory: its line is written, and the source stays as it was.
+    // Usage comes exactly where the words ask for no command, but for a fault of the sink and want of memory: its line is written, and the source stays as it was.
     ensures usage { result ≡ Status.Usage → (asked (texts words.now.items) ≡ None) × Appends (K.written sink.old) (K.written sink.new) usage_line }
     ensures usage_told { asked (texts words.now.items) ≡ None →
         ((result ≡ Status.Usage) ⊎ (((result ≡ Status.WriteFault) × AppendsPart (K.written sink.old) (K.written sink.new) usage_line) ⊎ ((result ≡ Status.NoMemory) × Keeps (K.written sink.old) (K.written sink.new)))) × (source.new ≡ source.old) }
@@ -267,7 +267,7 @@ pub fn play<R: Threads + Wait + Sync, V: Versions<P = BuiltIn>, S: Source, K: Si
     _gate: &G,
 ) -> Status
     requires { V.stands world.old (start 0) }
-    // Usage comes where the words ask for no command, but for a fault of the sink and want of memory: its line is written, and the source stays as it was.
+    // Usage comes exactly where the words ask for no command, but for a fault of the sink and want of memory: its line is written, and the source stays as it was.
     ensures usage { result ≡ Status.Usage → (asked (texts words.now.items) ≡ None) × Appends (K.written sink.old) (K.written sink.new) usage_line }
     ensures usage_told { asked (texts words.now.items) ≡ None →
         ((result ≡ Status.Usage) ⊎ (((result ≡ Status.WriteFault) × AppendsPart (K.written sink.old) (K.written sink.new) usage_line) ⊎ ((result ≡ Status.NoMemory) × Keeps (K.written sink.old) (K.written sink.new)))) × (source.new ≡ source.old) }

@@ -1,11 +1,8 @@
-use Rattle.std.proofs.Common.{◌≡◌, ◌≤◌, ◌∙◌, ap, sym, subst, Some, Err, inl, inr}
+use Rattle.std.proofs.Common.{◌≡◌, ◌∙◌, ap, sym, subst, Err, inl, inr}
 use Rattle.std.specs.Prelude.{IfErr}
-use Rattle.sexp_text.specs.Forest.{nesting}
 use Rattle.sexp_text.specs.Places.{Cause}
-use Rattle.sexp_text.specs.Grammar.{Spells}
 use Rattle.sexp_text.specs.View.{forest_view}
 use Rattle.play_core.specs.declared.text.TextEnd.TheVariants.{Bad}
-use Rattle.play_core.specs.Faults.{refusal}
 use Rattle.play_core.proofs.Uniques.{refused_none}
 use Rattle.play_core.proofs.Refusals.{cause-fault, stop-none, stopped, refused-fault, read-fault, answered}
 use Rattle.play_core.proofs.text.read_text.Goals as goal
