@@ -1,5 +1,5 @@
 -- The fault of a refused text, both ways.
-use Rattle.std.proofs.Common.{◌≡◌, ◌≢◌, ◌⊎◌, ◌≤◌, ℕ, List, Bool, true, false, Option, Some, None, refl, sym, ap, ◌∙◌, subst, length, Ok, Err, OnOk, inl, inr}
+use Rattle.std.proofs.Common.{◌≡◌, ◌≢◌, ◌⊎◌, ◌≤◌, ℕ, List, Bool, true, false, Option, Some, None, refl, ap, ◌∙◌, subst, length, Ok, Err, OnOk, inl, inr}
 use Rattle.std.specs.Option.{option_map}
 use Rattle.std.specs.declared.result.Result.{Result}
 use Rattle.sexp_text.specs.Forest.{Forest, nesting}
@@ -24,7 +24,7 @@ use Rattle.script_lang.specs.Scripts.{or_else, script_refusal}
 use Rattle.script_lang.specs.declared.script.ScriptStop.{ScriptStop}
 use Rattle.script_lang.specs.declared.script.ScriptStop.TheVariants as script
 use Rattle.play_core.specs.Ends.{text_end, check_kind, check_end, script_end}
-use Rattle.play_core.specs.Faults.{IsFaultAt, IsFault, IsRefused, source_refusal, reading_refusal, refusal}
+use Rattle.play_core.specs.Faults.{IsFaultAt, IsFault, IsRefused, reading_refusal, refusal}
 use Rattle.play_core.specs.Texts.{IsNoText}
 use Rattle.play_core.specs.declared.fault.Fault.{Fault}
 use Rattle.play_core.specs.declared.fault.FaultKind.{FaultKind}

@@ -2,9 +2,11 @@
 use crate::Status;
 use crate::tests::run;
 use std::alloc::Global;
+use std::sync::Wait;
 use std::test::Fail;
+use std::thread::Threads;
 
-// A row of the table: a text that is a part so many times between two others, and its fault; none where it has none.
+// A text that is a part so many times between two others, and its fault; none where it has none.
 type Row = (
     &'static [u8],
     &'static [u8],
@@ -13,7 +15,7 @@ type Row = (
     &'static [u8],
 );
 
-const ROWS: [Row; 173] = [
+static TEXTS: [Row; 8] = [
     (b"\xff", b"", 0, b"", b"utf8 at 0"),
     (b"(compose 1)[\x80", b"", 0, b"", b"utf8 at 12"),
     (b"(compose 1)[", b"", 0, b"", b"text at 11"),
@@ -28,6 +30,9 @@ const ROWS: [Row; 173] = [
         b"1",
         b"deep at 717",
     ),
+];
+
+static FORMS: [Row; 19] = [
     (b"; nothing", b"", 0, b"", b"form at 9"),
     (b"(fun root ())", b"", 0, b"", b"form at 0"),
     (b"(compose 2)(fun root ())", b"", 0, b"", b"form at 0"),
@@ -143,6 +148,9 @@ const ROWS: [Row; 173] = [
         b"",
         b"form at 50",
     ),
+];
+
+static NAMES_WITHIN: [Row; 13] = [
     (
         b"(compose 1)(state ",
         b"n",
@@ -210,6 +218,9 @@ const ROWS: [Row; 173] = [
         b" 1))",
         b"unknown at 30",
     ),
+];
+
+static NAMES_BEYOND: [Row; 13] = [
     (
         b"(compose 1)(state ",
         b"n",
@@ -301,6 +312,9 @@ const ROWS: [Row; 173] = [
         b" 1))",
         b"limit at 44",
     ),
+];
+
+static NUMBERS: [Row; 9] = [
     (
         b"(compose 1)(fun root () (key -9223372036854775808))",
         b"",
@@ -364,6 +378,9 @@ const ROWS: [Row; 173] = [
         b"",
         b"limit at 72",
     ),
+];
+
+static STRINGS_AND_LISTS: [Row; 12] = [
     (b"(compose 1)(fun root () (key \"", b"x", 4096, b"\"))", b""),
     (
         b"(compose 1)(state a Text Structural \"",
@@ -442,6 +459,9 @@ const ROWS: [Row; 173] = [
         b")))",
         b"limit at 46",
     ),
+];
+
+static SIZES: [Row; 16] = [
     (
         b"(compose 1)(fun f (",
         b"(a Int)",
@@ -554,6 +574,9 @@ const ROWS: [Row; 173] = [
         b"1))))))))))))))))))))))))))))))))))))))))))))))))))))))))))))))))))",
         b"limit at 49",
     ),
+];
+
+static COUNTS: [Row; 7] = [
     (
         b"(compose 1)",
         b"(state a Int Structural 0)",
@@ -603,6 +626,9 @@ const ROWS: [Row; 173] = [
         b"",
         b"limit at 65",
     ),
+];
+
+static DOUBLES: [Row; 13] = [
     (
         b"(compose 1)(state a Int Structural 0)(state b Int Structural 0)(state a Int Structural 0)(fun root ())",
         b"",
@@ -694,6 +720,9 @@ const ROWS: [Row; 173] = [
         b"",
         b"double at 46",
     ),
+];
+
+static UNKNOWNS: [Row; 15] = [
     (b"(compose 1)(fun main ())", b"", 0, b"", b"unknown at 0"),
     (b"; first\n(compose 1)", b"", 0, b"", b"unknown at 8"),
     (
@@ -787,6 +816,9 @@ const ROWS: [Row; 173] = [
         b"",
         b"unknown at 48",
     ),
+];
+
+static ORDERS: [Row; 6] = [
     (
         b"(compose 1)(fun f () (key 1 (call f)))(fun root ())",
         b"",
@@ -829,6 +861,9 @@ const ROWS: [Row; 173] = [
         b"",
         b"order at 38",
     ),
+];
+
+static TYPES_OF_OPERANDS: [Row; 12] = [
     (
         b"(compose 1)(fun root () (key (+ 1 true)))",
         b"",
@@ -913,6 +948,9 @@ const ROWS: [Row; 173] = [
         b"",
         b"type at 29",
     ),
+];
+
+static TYPES_OF_MORE_OPERANDS: [Row; 12] = [
     (
         b"(compose 1)(fun root () (key (join \"a\" 1)))",
         b"",
@@ -997,6 +1035,9 @@ const ROWS: [Row; 173] = [
         b"",
         b"type at 32",
     ),
+];
+
+static TYPES: [Row; 12] = [
     (
         b"(compose 1)(fun root () (key 1 (if 1 () ())))",
         b"",
@@ -1081,6 +1122,9 @@ const ROWS: [Row; 173] = [
         b"",
         b"type at 55",
     ),
+];
+
+static REMEMBERS: [Row; 6] = [
     (
         b"(compose 1)(state s Int Structural 0)(fun root () (remember r ((k 1)) (+ k (get s))))",
         b"",
@@ -1148,14 +1192,40 @@ fn answer_of(alloc: Global, row: &Row) -> Result<(Status, Vec<u8>), Fail> {
     Ok((Status::BadInput, line))
 }
 
+// The place of the first row that is answered otherwise.
+fn first_wrong<R: Threads + Wait + Sync>(
+    rt: &R,
+    alloc: Global,
+    rows: &[Row],
+) -> Result<Option<usize>, Fail> {
+    for (place, row) in rows.iter().enumerate() {
+        let text = text_of(alloc, row)?;
+        let (status, written) = run(rt, alloc, &["run"], text, 4096, 0, 4096, 0)?;
+        let (wanted, line) = answer_of(alloc, row)?;
+        if status != wanted || written != line {
+            return Ok(Some(place));
+        }
+    }
+    Ok(None)
+}
+
 #[test]
 fn each_row_is_answered(rt: HostRuntime) -> Result<(), Fail> {
     let alloc = rt.alloc();
-    for row in ROWS.iter() {
-        let text = text_of(alloc, row)?;
-        let (status, written) = run(&rt, alloc, &["run"], text, 4096, 0, 4096, 0)?;
-        let (wanted, line) = answer_of(alloc, row)?;
-        assert!(rt; status == wanted && written == line, "{row:?}");
-    }
+    assert_eq!(rt; first_wrong(&rt, alloc, &TEXTS)?, None);
+    assert_eq!(rt; first_wrong(&rt, alloc, &FORMS)?, None);
+    assert_eq!(rt; first_wrong(&rt, alloc, &NAMES_WITHIN)?, None);
+    assert_eq!(rt; first_wrong(&rt, alloc, &NAMES_BEYOND)?, None);
+    assert_eq!(rt; first_wrong(&rt, alloc, &NUMBERS)?, None);
+    assert_eq!(rt; first_wrong(&rt, alloc, &STRINGS_AND_LISTS)?, None);
+    assert_eq!(rt; first_wrong(&rt, alloc, &SIZES)?, None);
+    assert_eq!(rt; first_wrong(&rt, alloc, &COUNTS)?, None);
+    assert_eq!(rt; first_wrong(&rt, alloc, &DOUBLES)?, None);
+    assert_eq!(rt; first_wrong(&rt, alloc, &UNKNOWNS)?, None);
+    assert_eq!(rt; first_wrong(&rt, alloc, &ORDERS)?, None);
+    assert_eq!(rt; first_wrong(&rt, alloc, &TYPES_OF_OPERANDS)?, None);
+    assert_eq!(rt; first_wrong(&rt, alloc, &TYPES_OF_MORE_OPERANDS)?, None);
+    assert_eq!(rt; first_wrong(&rt, alloc, &TYPES)?, None);
+    assert_eq!(rt; first_wrong(&rt, alloc, &REMEMBERS)?, None);
     Ok(())
 }

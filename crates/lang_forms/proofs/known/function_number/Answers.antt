@@ -1,4 +1,4 @@
-use Rattle.std.proofs.Common.{◌≡◌, ◌∙◌, ap}
+use Rattle.std.proofs.Common.{◌∙◌, ap}
 use Rattle.lang_forms.specs.Names.{number_in}
 use Rattle.lang_forms.proofs.Firsts.{first_functions}
 use Rattle.lang_forms.proofs.known.function_number.Goals as goal

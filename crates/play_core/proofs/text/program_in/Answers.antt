@@ -1,6 +1,5 @@
-use Rattle.std.proofs.Common.{rules, ◌≡◌, ◌≤◌, ◌∙◌, ap, sym, subst, [], length}
+use Rattle.std.proofs.Common.{◌≡◌, ◌≤◌, ◌∙◌, ap, sym, subst, [], length}
 use Rattle.sexp_text.specs.View.{forest_view}
-use Rattle.lang_ast.specs.Programs.{program_view}
 use Rattle.lang_ast.specs.SyntaxView.{functions_view}
 use Rattle.lang_limits.specs.Least.{least}
 use Rattle.lang_limits.specs.Tokens.{script_limits}
