@@ -14,12 +14,9 @@ use Rattle.std.proofs.lemmas.Str.Parse.{digit_from_value}
 use Rattle.std.specs.Int.Signed.{mag}
 use Rattle.std.proofs.lemmas.Int.{ints}
 use Rattle.lang_limits.specs.Tokens.{fits}
+use Rattle.lang_limits.proofs.Ints.{fits-true}
 use Rattle.lang_forms.specs.Names.{is_letter, is_name}
 use Rattle.lang_forms.specs.Seen.{int_of, when}
-
-pub fits-true : (z : ℤ) → fits z ≡ true → FitsSigned w64 z
-fits-true (pos n) h = let lt : n < 2 ^ 63 = ltb-true n (2 ^ 63) h in omega (arith, ints)
-fits-true (negsuc n) h = let lt : n < 2 ^ 63 = ltb-true n (2 ^ 63) h in omega (arith, ints)
 
 -- what no number's decimals are is no number
 pub no_int : (a : List ℕ) → ((z : ℤ) → FitsSigned w64 z → signed_decimal z ≡ a → ⊥) → int_of a ≡ None

@@ -24,4 +24,6 @@ pub use top::{Status, play, play_alone};
 #[cfg(test)]
 mod fault_table;
 #[cfg(test)]
+mod limit_table;
+#[cfg(test)]
 mod tests;
