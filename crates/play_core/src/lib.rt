@@ -22,8 +22,4 @@ mod top;
 pub use top::{Status, play, play_alone};
 
 #[cfg(test)]
-mod fault_table;
-#[cfg(test)]
-mod limit_table;
-#[cfg(test)]
 mod tests;

@@ -1,6 +1,9 @@
 // Runs of `play` over a source and a sink in memory.
 ghost use Rattle.std.specs.Prelude.{◌<◌};
 
+mod faults;
+mod limits;
+
 use crate::{Status, play};
 use rt_streams::{MemSink, MemSource, OpenGate};
 use snap_plain::PlainWorld;
@@ -30,7 +33,7 @@ const COUNTER_LINES: [&[u8]; 9] = [
 
 // The status of a run and what it wrote. The source hands out at most `piece` bytes a call, and fails at the
 // read with the number `read_fault`, from 1; the sink takes `most` bytes a call, and fails at `write_fault`.
-pub fn run<R: Threads + Wait + Sync>(
+fn run<R: Threads + Wait + Sync>(
     rt: &R,
     alloc: Global,
     asked: &[&str],

@@ -1,6 +1,6 @@
 // Faulty texts with the fault that answers, each kind at several places.
 use crate::Status;
-use crate::limit_table::first_long_wrong;
+use crate::tests::limits::first_long_wrong;
 use crate::tests::run;
 use std::alloc::Global;
 use std::sync::Wait;

@@ -1,5 +1,5 @@
 // Texts at the limits and beyond, with the fault that answers.
-use crate::fault_table::is_answered;
+use crate::tests::faults::is_answered;
 use std::alloc::Global;
 use std::sync::Wait;
 use std::test::Fail;
