@@ -15,7 +15,7 @@ FAULT is form, limit, double, unknown, order, type or remember: one more stateme
 """
 import sys
 
-ROOM = 1000000
+ROOM = 1045000
 FAULTS = {
     "form": "(node N)",
     "limit": "(key 9223372036854775808)",
