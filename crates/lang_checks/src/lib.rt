@@ -28,6 +28,4 @@ pub use faults::{Fault, Kind};
 pub use laws::{answer_is_least, no_answer_no_fault};
 
 #[cfg(test)]
-mod notation;
-#[cfg(test)]
 mod tests;

@@ -1,5 +1,7 @@
 // Faulty programs with the fault that answers, and programs without one.
-use crate::notation::read;
+mod notation;
+
+use crate::tests::notation::read;
 use crate::{CheckStop, Fault, Kind, check};
 use std::alloc::Global;
 use std::test::Fail;

@@ -31,7 +31,7 @@ fn open_at(alloc: Global, at: usize) -> Open {
 }
 
 /// The program of a text.
-pub(crate) fn read(alloc: Global, text: &[u8]) -> Result<Program, Fail> {
+pub fn read(alloc: Global, text: &[u8]) -> Result<Program, Fail> {
     let mut program = Program {
         header: 0,
         states: Vec::new(alloc),
