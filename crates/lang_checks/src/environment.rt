@@ -41,11 +41,11 @@ impl Environment {
     }
 
     /// One name more.
-    pub fn push(&mut self, alloc: Global, name: &Name, ty: Ty) -> Result<(), NoMemory>
+    pub fn push(&mut self, name: &Name, ty: Ty) -> Result<(), NoMemory>
         ensures { OnOk result (self.new ≡ self.old ++ bound name.now ty ∷ []) }
     {
         self.items.push(Bound {
-            name: name.text.copy(alloc)?,
+            name: name.text.copy()?,
             ty,
         })?;
         Ok(())

@@ -154,7 +154,7 @@ fn add_bound(
     ensures least { IfOk result (λ r. r ≡ least_of least (expr_faults (look_view look.now) (named_view named.now).value)) }
 {
     let (ty, least) = expression(alloc, look, &named.value, least)?;
-    into.push(alloc, &named.name, ty)?;
+    into.push(&named.name, ty)?;
     Ok(least)
 }
 

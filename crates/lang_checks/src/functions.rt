@@ -39,7 +39,7 @@ fn parameters_of(alloc: Global, parameters: &[Parameter]) -> Result<Environment,
 {
     let mut scope = Environment::new(alloc);
     for parameter in parameters {
-        scope.push(alloc, &parameter.name, parameter.ty)?;
+        scope.push(&parameter.name, parameter.ty)?;
     }
     Ok(scope)
 }

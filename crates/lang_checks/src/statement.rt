@@ -322,7 +322,7 @@ fn bound_in(
     ensures least { IfOk result (λ r. r ≡ least_of least (binding scope.old name.now (stmts_faults (around_view around.now) (scope.old ++ bound name.now ty ∷ []) (stmts_view body.now)))) }
 {
     let least = unless(scope.find(name).is_none(), Kind::Double, name.at, least);
-    scope.push(alloc, name, ty)?;
+    scope.push(name, ty)?;
     let least = statements(alloc, around, scope, body, least)?;
     scope.pop();
     Ok(least)

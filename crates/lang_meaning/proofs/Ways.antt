@@ -248,3 +248,7 @@ turns_at go is i below = ap (λ (l : List ℤ). turns go l) (drop-cons is i (pos
 pub turns_end : (go : ℤ → Trail) (is : List ℤ) (i : ℕ) → length is ≤ i → turns go (drop i is) ≡ End
 unfolding turns
 turns_end go is i past = ap (λ (l : List ℤ). turns go l) (drop_all i is past)
+
+-- one group more, by what it is and by what stood before it
+pub added_to : {X : Type 0} {after before known : List X} {x y : X} → after ≡ before ++ x ∷ [] → x ≡ y → before ≡ known → after ≡ known ++ y ∷ []
+added_to is same start = rw (is, same, start) refl

@@ -55,15 +55,16 @@ pub fn evaluate_keys<V: View>(
     let mut bound = Scope::new(alloc);
     for key in keys {
         let value = evaluate(alloc, &key.value, scope, view, reads)?;
-        bound.push(key.name.text.copy(alloc)?, value)?;
+        bound.push(key.name.text.copy()?, value)?;
     }
     Ok(bound)
 }
 
-/// The attributes of a node with their values, from left to right.
+/// The attributes of a node with their values, from left to right, in the room of others, which are let go.
 #[tactic(auto, using(crate::proofs::Operands::evaluation, crate::proofs::Operands::named_part))]
 pub fn evaluate_attributes<V: View>(
     alloc: Global,
+    room: Attributes,
     attributes: &[Named],
     scope: &Scope,
     view: &mut V,
@@ -76,10 +77,11 @@ pub fn evaluate_attributes<V: View>(
     ensures reads { (m : Map) → V.shows view.old m → OnOk result (reads.new ≡ reads.old ++ (eval_named m (nameds_view attributes.now) scope.now).reads) }
     ensures part { (m : Map) → V.shows view.old m → OnErr result (Grew (V.asked view.old) (V.asked view.new) (eval_named m (nameds_view attributes.now) scope.now).reads) }
 {
-    let mut all = Attributes::with_room(alloc, attributes.len())?;
+    let mut all = room;
+    all.clear();
     for named in attributes {
         let value = evaluate(alloc, &named.value, scope, view, reads)?;
-        let name = named.name.text.copy(alloc)?;
+        let name = named.name.text.copy()?;
         all.push(Attribute { name, value })?;
     }
     Ok(all)
@@ -96,7 +98,7 @@ pub fn bind(alloc: Global, parameters: &[Parameter], arguments: &Values) -> Resu
         let Some((argument, more)) = rest.split_first() else {
             return Ok(scope);
         };
-        scope.push(parameter.name.text.copy(alloc)?, argument.copy(alloc)?)?;
+        scope.push(parameter.name.text.copy()?, argument.copy(alloc)?)?;
         rest = more;
     }
     Ok(scope)

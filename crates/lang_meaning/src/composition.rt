@@ -213,8 +213,9 @@ fn run_node<V: View>(
     ensures bound { OnOk result (scope.new ≡ scope.old) }
     ensures ran { (m : Map) → V.shows view.old m → Ran depth (made_by m functions.now (Node 0 site kind.now (nameds_view attributes.now) (stmts_view body.now)) scope.old) groups.old groups.new (V.asked view.old) (V.asked view.new) reads.old reads.new result }
 {
-    let attributes = evaluate_attributes(alloc, attributes, scope, view, reads)?;
-    let kind = kind.text.copy(alloc)?;
+    let room = groups.spare_attributes(alloc, attributes.len())?;
+    let attributes = evaluate_attributes(alloc, room, attributes, scope, view, reads)?;
+    let kind = kind.text.copy()?;
     let node = What::Node { kind, attributes };
     add_group(groups, group(alloc, depth, site, node))?;
     run_all(
@@ -337,7 +338,7 @@ fn run_bound<V: View>(
     ensures bound { OnOk result (scope.new ≡ scope.old) }
     ensures ran { (m : Map) → V.shows view.old m → Ran depth (made_by_all m functions.now (stmts_view body.now) (scope.old ++ bound name.now.text value ∷ [])) groups.old groups.new (V.asked view.old) (V.asked view.new) reads.old reads.new result }
 {
-    let name = name.text.copy(alloc)?;
+    let name = name.text.copy()?;
     scope.push(name, value)?;
     run_all(alloc, functions, depth, body, scope, view, reads, groups)?;
     scope.pop();
@@ -571,11 +572,12 @@ fn run_call<V: View>(
 /// preorder, where each call keeps its own reads (what `Composer.composeContent` does in an empty slot table). A call of a
 /// function that does not stand before its own makes nothing, this project's own rule. Refused where there are more
 /// than 1,000,000 groups, as soon as that many were made, or where memory runs out; a first part of the reads was then
-/// asked for.
+/// asked for. The groups are made in the room of others, which are let go.
 pub fn compose<V: View>(
     alloc: Global,
     functions: &[Function],
     root: usize,
+    room: Groups,
     view: &mut V,
 ) -> Result<Groups, ScratchStop>
     ensures keeps { V.keeps view.old view.new }
@@ -587,7 +589,8 @@ pub fn compose<V: View>(
     ensures part { (m : Map) → V.shows view.old m → OnErr result (Grew (V.asked view.old) (V.asked view.new) (asks (forest (functions_view functions.now) root m))) }
 {
     let arguments = Values::new(alloc);
-    let mut groups = Groups::new(alloc);
+    let mut groups = room;
+    groups.clear();
     run_call(alloc, functions, 0, 0, root, arguments, view, &mut groups)?;
     Ok(groups)
 }

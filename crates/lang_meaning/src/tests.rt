@@ -2,7 +2,7 @@
 use crate::{Scope, compose, evaluate};
 use lang_ast::{Expression, Function, Name, Named, Operator, Parameter, Statement};
 use rt_values::{
-    Entry, Group, IntList, Map, NoMemory, ObjectNo, Objects, Ty, Value, View, What, Word,
+    Entry, Group, Groups, IntList, Map, NoMemory, ObjectNo, Objects, Ty, Value, View, What, Word,
 };
 use std::alloc::Global;
 use std::test::Fail;
@@ -267,7 +267,7 @@ fn numbers_are(groups: &[Group], numbers: &[i64]) -> bool {
 fn groups_stand_in_order_with_their_depths(rt: HostRuntime) -> Result<(), Fail> {
     let alloc = rt.alloc();
     let mut view = view_of(alloc, &[2, 7, 9])?;
-    let groups = compose(alloc, &program(alloc)?, 1, &mut view)?;
+    let groups = compose(alloc, &program(alloc)?, 1, Groups::new(alloc), &mut view)?;
     assert!(rt; depths_are(groups.items(), &[0, 1, 2, 3, 1, 2, 3, 1, 1, 1]));
     assert!(rt; sites_are(groups.items(), &[0, 3, 4, 1, 3, 4, 1, 5, 6, 8]));
     assert!(rt; numbers_are(groups.items(), &[-1, 3, 5, 12, 4, 6, 13, 4, 4, 7]));
@@ -286,7 +286,7 @@ fn a_call_of_its_own_function_makes_nothing(rt: HostRuntime) -> Result<(), Fail>
     };
     let functions = one(alloc, function(alloc, Vec::new(alloc), one(alloc, call)?)?)?;
     let mut view = view_of(alloc, &[])?;
-    let groups = compose(alloc, &functions, 0, &mut view)?;
+    let groups = compose(alloc, &functions, 0, Groups::new(alloc), &mut view)?;
     assert!(rt; depths_are(groups.items(), &[0, 1]));
     Ok(())
 }

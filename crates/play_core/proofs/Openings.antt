@@ -3,6 +3,7 @@ use Rattle.std.proofs.Common.{◌≡◌, List, [], ◌∷◌, ◌++◌, true, So
 use Rattle.std.specs.Prelude.{slice_index_or}
 use Rattle.rt_values.specs.Frames.{unseen}
 use Rattle.lang_ast.specs.declared.program.State.{State}
+use Rattle.lang_ast.specs.Terms.{Func}
 use Rattle.snap_policy.specs.declared.policy.BuiltIn.{BuiltIn}
 use Rattle.snap_policy.specs.declared.policy.BuiltIn.TheVariants.{Structural}
 use Rattle.rt_values.specs.Values.{type_of, same_type}
@@ -44,8 +45,8 @@ valid-states w (s ∷ more) h = valid-states (made w (type_of s.initial) Structu
 last-opening : (ss : List State) → last_of (opening ss) watcher_number ≡ None
 last-opening ss = ap (λ ls. slice_index_or (ls ++ None ∷ []) watcher_number None) (lasts-states (start 0) ss)
 
-pub first-stands : {V : Type 0} {stands : V → World BuiltIn → Type 0} {world : V} (kept : Kept) (states states_now : List State) →
-    states_now ≡ states → stands world (opening states_now) → Keeps kept.composition unseen → Stands stands world kept (at_first states)
+pub first-stands : {functions : List Func} {V : Type 0} {stands : V → World BuiltIn → Type 0} {world : V} (kept : Kept) (states states_now : List State) →
+    states_now ≡ states → stands world (opening states_now) → Keeps kept.composition unseen → Stands functions stands world kept (at_first states)
 first-stands {stands = stands} {world = world} kept states states_now same stood keeps = record {
   world_stands = subst (λ ss. stands world (opening ss)) same stood;
   valid = valid_watched (valid-states (start 0) states (valid_start table 0 (omega arith)));

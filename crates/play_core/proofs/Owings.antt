@@ -6,10 +6,11 @@ use Rattle.std.proofs.lemmas.Option.{slice_get_cases, slice_get_past, get_or_fro
 use Rattle.rt_values.specs.declared.maps.Entry.{Entry}
 use Rattle.rt_values.specs.Maps.{Map, no_entry, entry_at, differs, differ, differ_from, contains}
 use Rattle.rt_values.specs.Trail.{Trail}
+use Rattle.lang_ast.specs.Terms.{Func}
 use Rattle.snap_api.specs.Valid.{MovedOn}
 use Rattle.snap_api.specs.World.{with_members}
 use Rattle.recompose_walk.proofs.Refreshes.{split_at}
-use Rattle.play_core.specs.Owing.{Owes}
+use Rattle.play_core.specs.Owing.{IsKept, Follows, Owes}
 use Rattle.play_core.proofs.Members.{any-with_members}
 
 other : (x y : ℕ) → x < y → (x == y) ≡ false
@@ -129,19 +130,31 @@ moved-trans m n p h i =
       stamps = λ x old. let a = h.stamps x old in let b = i.stamps x (omega (arith, longer, old)) in omega (arith, a, b);
     }
 
+follows-trans : (m n p : Map) → Follows m n → Follows n p → Follows m p
+follows-trans m n p h i =
+    let longer = h.moved.longer in
+    record {
+      moved = moved-trans m n p h.moved i.moved;
+      stamps = λ x old same.
+          let a = h.moved.stamps x old in
+          let b = i.moved.stamps x (omega (arith, longer, old)) in
+          h.stamps x old (omega (arith, a, b, same)) ∙ i.stamps x (omega (arith, longer, old)) (omega (arith, a, b, same));
+    }
+
 -- what changed since the last take is owed too
-pub owes-more : (seen : Option Map) (trail : Trail) (last : Option Map) (now : Map) (owed changed : List ℕ) → Owes seen trail last owed → MovedOn (unwrap_or last []) now → changed ≡ differ last now →
-    Owes seen trail (Some now) (with_members changed owed)
-owes-more None trail last now owed changed h moved is = h
-owes-more (Some m) trail None now owed changed h moved is = absurd h
-owes-more (Some m) trail (Some n) now owed changed h moved is = (
-  moved-trans m n now h.0 moved,
-  λ x. any-with_members (λ y. y == x) changed owed ∙ ap (λ b. b || contains x changed) (h.1 x) ∙ ap (λ l. contains x (differ (Some m) n) || contains x l) is ∙ moved-members m n now x h.0 moved,
+pub owes-more : (functions : List Func) (seen : Option Map) (trail : Trail) (last : Option Map) (now : Map) (owed changed : List ℕ) → Owes functions seen trail last owed → Follows (unwrap_or last []) now → changed ≡ differ last now →
+    Owes functions seen trail (Some now) (with_members changed owed)
+owes-more functions None trail last now owed changed h after is = h
+owes-more functions (Some m) trail None now owed changed h after is = absurd h
+owes-more functions (Some m) trail (Some n) now owed changed h after is = (
+  follows-trans m n now h.0 after,
+  λ x. any-with_members (λ y. y == x) changed owed ∙ ap (λ b. b || contains x changed) (h.1 x) ∙ ap (λ l. contains x (differ (Some m) n) || contains x l) is ∙ moved-members m n now x h.0.moved after.moved,
+  h.2,
 )
 
 -- a good frame owes nothing
-pub owes-nothing : (m : Map) (trail : Trail) → Owes (Some m) trail (Some m) []
-owes-nothing m trail = (record { longer = omega arith; stamps = λ x h. omega arith }, λ x. sym (nothing x))
+pub owes-nothing : (functions : List Func) (m : Map) (trail : Trail) → IsKept functions m trail → Owes functions (Some m) trail (Some m) []
+owes-nothing functions m trail kept = (record { moved = record { longer = omega arith; stamps = λ x h. omega arith }; stamps = λ x h same. refl }, λ x. sym (nothing x), kept)
   where
     nothing : (x : ℕ) → contains x (differ (Some m) m) ≡ false
     nothing x = elim (split_at x (length m)) [

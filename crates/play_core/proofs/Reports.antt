@@ -6,6 +6,7 @@ use Rattle.rt_values.specs.Maps.{Map, differ, contains}
 use Rattle.rt_values.specs.Trail.{Trail, End, What, asks, own, how_many, how_many_nodes}
 use Rattle.rt_values.specs.Paths.{Path, Found, at_path}
 use Rattle.rt_values.specs.Frames.{Caller, nobody, calls, cells, trace, meets, same_call, runs_after, call_runs, other_keys, is_calculated, ran, calculated, reads, report}
+use Rattle.lang_ast.specs.Terms.{Func}
 use Rattle.play_core.specs.Owing.{Owes}
 
 filter-same : {X : Type 0} (f g : X → Bool) (xs : List X) → ((x : X) → f x ≡ g x) → filter f xs ≡ filter g xs
@@ -43,9 +44,9 @@ all-run : (o : List ℕ) (c : Caller) → call_runs o End c ≡ true
 all-run o c = ap (λ f. runs_after o f c.what) (nothing-at c.path)
 
 -- where these are owed, the report is that of all that changed since the last good frame
-pub owed-report : (seen : Option Map) (old : Trail) (m : Map) (owed : List ℕ) (new : Trail) → Owes seen old (Some m) owed → report owed old new ≡ report (differ seen m) old new
-owed-report None old m owed new h =
+pub owed-report : (functions : List Func) (seen : Option Map) (old : Trail) (m : Map) (owed : List ℕ) (new : Trail) → Owes functions seen old (Some m) owed → report owed old new ≡ report (differ seen m) old new
+owed-report functions None old m owed new h =
     ap (λ t. report owed t new) h
     ∙ report-same owed (differ None m) End new (λ c. all-run owed c ∙ sym (all-run (differ None m) c))
     ∙ ap (λ t. report (differ None m) t new) (sym h)
-owed-report (Some seen) old m owed new h = report-same owed (differ (Some seen) m) old new (λ c. runs-same owed (differ (Some seen) m) (at_path c.path old) c.what h.1)
+owed-report functions (Some seen) old m owed new h = report-same owed (differ (Some seen) m) old new (λ c. runs-same owed (differ (Some seen) m) (at_path c.path old) c.what h.1)

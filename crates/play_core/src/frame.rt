@@ -1,8 +1,9 @@
 // A frame, composed anew in its snapshot.
-ghost use Rattle.std.specs.Prelude.{◌≡◌, ◌≢◌, ◌≤◌, ◌++◌, [], List, ℕ, Option, Some, Err, IfOk, OnOk, codes};
+ghost use Rattle.std.specs.Prelude.{◌≡◌, ◌≢◌, ◌≤◌, ◌++◌, [], List, ℕ, Option, Some, Err, IfOk, OnOk, codes, true};
 ghost use Rattle.std.specs.Option.{option_map};
 ghost use Rattle.rt_streams.specs.Streams.{Rose};
 ghost use Rattle.rt_values.specs.Maps.{Map};
+ghost use Rattle.rt_values.specs.Trail.{End};
 ghost use Rattle.rt_values.specs.Frames.{Composed, unseen};
 ghost use Rattle.lang_ast.specs.SyntaxView.{functions_view};
 ghost use Rattle.lang_ast.specs.Frame.{Good, frame as frame_of};
@@ -56,6 +57,14 @@ impl Kept {
             owed: Objects::new(alloc),
         }
     }
+
+    // Whether a frame has nothing to do: the groups of a good one are kept, and nothing changed since.
+    fn is_idle(&self) -> bool
+        ensures none { result ≡ true → self.now.owed ≡ [] }
+        ensures there { (k : Composed) → Keeps self.now.composition k → result ≡ true → k.trail ≢ End }
+    {
+        self.owed.numbers().is_empty() && !self.composition.is_empty()
+    }
 }
 
 // With each of these objects, once.
@@ -70,8 +79,9 @@ fn add_members(owed: &mut Objects, changed: &[ObjectNo]) -> Result<(), NoMemory>
     Ok(())
 }
 
-// Composes the program in its open snapshot. The report of a good frame; none of one with too many groups, which
-// leaves all that is kept, and then the objects stay owed.
+// Composes the program in its open snapshot, where it has to be. The report of a good frame; none of one with too many
+// groups, which leaves all that is kept, and then the objects stay owed. Where nothing is owed all that is kept stays, and
+// nothing is composed.
 #[tactic(auto, using(crate::proofs::Frames::told_good, crate::proofs::Frames::owes_good))]
 fn compose<V: Versions<P = BuiltIn>>(
     alloc: Global,
@@ -82,14 +92,17 @@ fn compose<V: Versions<P = BuiltIn>>(
     asked: &mut Objects,
 ) -> Result<Option<Report>, Stop>
     ensures same { (w : World built_in) → V.stands world.old w → V.stands world.new w }
-    ensures told { (k : Composed) (m : Map) → Eyes table (V.stands world.old) actor_number (Some name) m → Keeps kept.old.composition k → Owes k.seen k.trail (Some m) kept.old.owed →
+    ensures told { (k : Composed) (m : Map) → Eyes table (V.stands world.old) actor_number (Some name) m → Keeps kept.old.composition k → Owes (functions_view program.now.functions.items) k.seen k.trail (Some m) kept.old.owed →
         IfOk result (λ r. r ≡ option_map (λ g. g.told) (frame_of (functions_view program.now.functions.items) k m)) }
-    ensures keeps { (k : Composed) (m : Map) → Eyes table (V.stands world.old) actor_number (Some name) m → Keeps kept.old.composition k → Owes k.seen k.trail (Some m) kept.old.owed →
+    ensures keeps { (k : Composed) (m : Map) → Eyes table (V.stands world.old) actor_number (Some name) m → Keeps kept.old.composition k → Owes (functions_view program.now.functions.items) k.seen k.trail (Some m) kept.old.owed →
         OnOk result (Keeps kept.new.composition (kept_after k (frame_of (functions_view program.now.functions.items) k m))) }
-    ensures owes { (k : Composed) (m : Map) → Eyes table (V.stands world.old) actor_number (Some name) m → Keeps kept.old.composition k → Owes k.seen k.trail (Some m) kept.old.owed →
-        OnOk result (let after = kept_after k (frame_of (functions_view program.now.functions.items) k m) in Owes after.seen after.trail (Some m) kept.new.owed) }
+    ensures owes { (k : Composed) (m : Map) → Eyes table (V.stands world.old) actor_number (Some name) m → Keeps kept.old.composition k → Owes (functions_view program.now.functions.items) k.seen k.trail (Some m) kept.old.owed →
+        OnOk result (let after = kept_after k (frame_of (functions_view program.now.functions.items) k m) in Owes (functions_view program.now.functions.items) after.seen after.trail (Some m) kept.new.owed) }
     ensures fault { result ≢ Err Stop.WriteFault }
 {
+    if kept.is_idle() {
+        return Ok(Some(kept.composition.idle_report()));
+    }
     asked.clear();
     let mut desk = OwnDesk::new(world, asked, ACTOR, Some(name));
     match frame(
@@ -226,13 +239,13 @@ pub fn run_taken<V: Versions<P = BuiltIn>, K: Sink>(
     room: &mut Room,
     sink: &mut K,
 ) -> Result<(), Stop>
-    ensures says { (k : Composed) (w : World built_in) → InFrame V.stands world.old kept.old k w name changed.now →
+    ensures says { (k : Composed) (w : World built_in) → InFrame (functions_view program.now.functions.items) V.stands world.old kept.old k w name changed.now →
         Says (K.written sink.old) (K.written sink.new) (entry_line (record { states = program.now.states.items; actor = script.now.actor }) (told (request.Dispose name) (done w (request.Dispose name)).1) ++ flat (frame_lines (frame_of (functions_view program.now.functions.items) k (shot_of w name).view))) result }
-    ensures keeps { (k : Composed) (w : World built_in) → InFrame V.stands world.old kept.old k w name changed.now →
+    ensures keeps { (k : Composed) (w : World built_in) → InFrame (functions_view program.now.functions.items) V.stands world.old kept.old k w name changed.now →
         OnOk result (Keeps kept.new.composition (kept_after k (frame_of (functions_view program.now.functions.items) k (shot_of w name).view))) }
-    ensures owes { (k : Composed) (w : World built_in) → InFrame V.stands world.old kept.old k w name changed.now →
-        OnOk result (let after = kept_after k (frame_of (functions_view program.now.functions.items) k (shot_of w name).view) in Owes after.seen after.trail (Some (shot_of w name).view) kept.new.owed) }
-    ensures world { (k : Composed) (w : World built_in) → InFrame V.stands world.old kept.old k w name changed.now →
+    ensures owes { (k : Composed) (w : World built_in) → InFrame (functions_view program.now.functions.items) V.stands world.old kept.old k w name changed.now →
+        OnOk result (let after = kept_after k (frame_of (functions_view program.now.functions.items) k (shot_of w name).view) in Owes (functions_view program.now.functions.items) after.seen after.trail (Some (shot_of w name).view) kept.new.owed) }
+    ensures world { (k : Composed) (w : World built_in) → InFrame (functions_view program.now.functions.items) V.stands world.old kept.old k w name changed.now →
         OnOk result (V.stands world.new (done w (request.Dispose name)).0) }
     ensures fault { result ≡ Err Stop.WriteFault → Rose (K.faults sink.old) (K.faults sink.new) }
     ensures later { K.faults sink.old ≤ K.faults sink.new }

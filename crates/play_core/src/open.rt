@@ -6,6 +6,7 @@ ghost use Rattle.rt_values.specs.Values.{type_of};
 ghost use Rattle.snap_api.specs.World.{World, start, made};
 ghost use Rattle.script_lang.specs.Steps.{opening, with_states};
 ghost use Rattle.play_core.specs.Turns.{at_first};
+ghost use Rattle.lang_ast.specs.SyntaxView.{functions_view};
 ghost use Rattle.play_core.specs.Standing.{Stands};
 
 use crate::frame::Kept;
@@ -81,7 +82,7 @@ pub fn begin<V: Versions<P = BuiltIn>>(
 ) -> Result<Kept, NoMemory>
     requires start { V.stands world.old (start 0) }
     requires few { length program.now.states.items ≤ 256 }
-    ensures { IfOk result (λ kept. Stands V.stands world.new kept (at_first program.now.states.items)) }
+    ensures { IfOk result (λ kept. Stands (functions_view program.now.functions.items) V.stands world.new kept (at_first program.now.states.items)) }
 {
     open_world(alloc, program.states(), world)?;
     Ok(Kept::new(alloc))

@@ -31,10 +31,10 @@ fn after_take<V: Versions<P = BuiltIn>, K: Sink>(
     room: &mut Room,
     sink: &mut K,
 ) -> Result<(), Stop>
-    ensures says { (b : Between) → Took V.stands world.old kept.old b answer.now →
+    ensures says { (b : Between) → Took (functions_view program.now.functions.items) V.stands world.old kept.old b answer.now →
         Says (K.written sink.old) (K.written sink.new) (flat (behind_take (record { states = program.now.states.items; actor = script.now.actor }) (functions_view program.now.functions.items) b.kept (done b.world (request.TakeFor watcher_number)).0 answer.now).lines) result }
-    ensures left { (b : Between) → Took V.stands world.old kept.old b answer.now →
-        OnOk result (Stands V.stands world.new kept.new (behind_take (record { states = program.now.states.items; actor = script.now.actor }) (functions_view program.now.functions.items) b.kept (done b.world (request.TakeFor watcher_number)).0 answer.now).left) }
+    ensures left { (b : Between) → Took (functions_view program.now.functions.items) V.stands world.old kept.old b answer.now →
+        OnOk result (Stands (functions_view program.now.functions.items) V.stands world.new kept.new (behind_take (record { states = program.now.states.items; actor = script.now.actor }) (functions_view program.now.functions.items) b.kept (done b.world (request.TakeFor watcher_number)).0 answer.now).left) }
     ensures fault { result ≡ Err Stop.WriteFault → Rose (K.faults sink.old) (K.faults sink.new) }
     ensures later { K.faults sink.old ≤ K.faults sink.new }
 {
@@ -60,10 +60,10 @@ fn run_frame<V: Versions<P = BuiltIn>, K: Sink>(
     room: &mut Room,
     sink: &mut K,
 ) -> Result<(), Stop>
-    ensures says { (b : Between) → Stands V.stands world.old kept.old b →
+    ensures says { (b : Between) → Stands (functions_view program.now.functions.items) V.stands world.old kept.old b →
         Says (K.written sink.old) (K.written sink.new) (flat (turn (record { states = program.now.states.items; actor = script.now.actor }) (functions_view program.now.functions.items) b Frame).lines) result }
-    ensures left { (b : Between) → Stands V.stands world.old kept.old b →
-        OnOk result (Stands V.stands world.new kept.new (turn (record { states = program.now.states.items; actor = script.now.actor }) (functions_view program.now.functions.items) b Frame).left) }
+    ensures left { (b : Between) → Stands (functions_view program.now.functions.items) V.stands world.old kept.old b →
+        OnOk result (Stands (functions_view program.now.functions.items) V.stands world.new kept.new (turn (record { states = program.now.states.items; actor = script.now.actor }) (functions_view program.now.functions.items) b Frame).left) }
     ensures fault { result ≡ Err Stop.WriteFault → Rose (K.faults sink.old) (K.faults sink.new) }
     ensures later { K.faults sink.old ≤ K.faults sink.new }
 {
@@ -96,10 +96,10 @@ fn run_write<V: Versions<P = BuiltIn>, K: Sink>(
     text: &mut Vec<u8>,
     sink: &mut K,
 ) -> Result<(), Stop>
-    ensures says { (b : Between) → Stands V.stands world.old kept.now b →
+    ensures says { (b : Between) → Stands (functions_view program.now.functions.items) V.stands world.old kept.now b →
         Says (K.written sink.old) (K.written sink.new) (flat (turn (record { states = program.now.states.items; actor = script.now.actor }) (functions_view program.now.functions.items) b (Write object value.now)).lines) result }
-    ensures left { (b : Between) → Stands V.stands world.old kept.now b →
-        OnOk result (Stands V.stands world.new kept.now (turn (record { states = program.now.states.items; actor = script.now.actor }) (functions_view program.now.functions.items) b (Write object value.now)).left) }
+    ensures left { (b : Between) → Stands (functions_view program.now.functions.items) V.stands world.old kept.now b →
+        OnOk result (Stands (functions_view program.now.functions.items) V.stands world.new kept.now (turn (record { states = program.now.states.items; actor = script.now.actor }) (functions_view program.now.functions.items) b (Write object value.now)).left) }
     ensures fault { result ≡ Err Stop.WriteFault → Rose (K.faults sink.old) (K.faults sink.new) }
     ensures later { K.faults sink.old ≤ K.faults sink.new }
 {
@@ -119,10 +119,10 @@ fn run_step<V: Versions<P = BuiltIn>, K: Sink>(
     room: &mut Room,
     sink: &mut K,
 ) -> Result<(), Stop>
-    ensures says { (b : Between) → Stands V.stands world.old kept.old b →
+    ensures says { (b : Between) → Stands (functions_view program.now.functions.items) V.stands world.old kept.old b →
         Says (K.written sink.old) (K.written sink.new) (flat (turn (record { states = program.now.states.items; actor = script.now.actor }) (functions_view program.now.functions.items) b step.now).lines) result }
-    ensures left { (b : Between) → Stands V.stands world.old kept.old b →
-        OnOk result (Stands V.stands world.new kept.new (turn (record { states = program.now.states.items; actor = script.now.actor }) (functions_view program.now.functions.items) b step.now).left) }
+    ensures left { (b : Between) → Stands (functions_view program.now.functions.items) V.stands world.old kept.old b →
+        OnOk result (Stands (functions_view program.now.functions.items) V.stands world.new kept.new (turn (record { states = program.now.states.items; actor = script.now.actor }) (functions_view program.now.functions.items) b step.now).left) }
     ensures fault { result ≡ Err Stop.WriteFault → Rose (K.faults sink.old) (K.faults sink.new) }
     ensures later { K.faults sink.old ≤ K.faults sink.new }
 {
@@ -152,7 +152,7 @@ pub fn run_steps<V: Versions<P = BuiltIn>, K: Sink>(
     room: &mut Room,
     sink: &mut K,
 ) -> Result<(), Stop>
-    ensures says { (b : Between) → Stands V.stands world.old kept.old b →
+    ensures says { (b : Between) → Stands (functions_view program.now.functions.items) V.stands world.old kept.old b →
         Says (K.written sink.old) (K.written sink.new) (flat (turns (record { states = program.now.states.items; actor = script.now.actor }) (functions_view program.now.functions.items) b script.now.steps.items)) result }
     ensures fault { result ≡ Err Stop.WriteFault → Rose (K.faults sink.old) (K.faults sink.new) }
     ensures later { K.faults sink.old ≤ K.faults sink.new }

@@ -1,4 +1,5 @@
 pub mod Counts
+pub mod Idling
 pub mod Matches
 pub mod Passes
 pub mod Places

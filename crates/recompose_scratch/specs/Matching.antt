@@ -1,5 +1,5 @@
 -- Which old group a new one is matched with, told of groups in preorder.
-use Rattle.std.specs.Prelude.{ℕ, suc, ◌==◌, nat_le, List, [], ◌∷◌, Bool, Option, Some, None, if◌then◌else◌}
+use Rattle.std.specs.Prelude.{ℕ, suc, ◌==◌, nat_le, List, [], ◌∷◌, Bool, false, Option, Some, None, if◌then◌else◌}
 use Rattle.rt_values.specs.declared.value.Value.{Value}
 use Rattle.rt_values.specs.declared.groups.What.{What}
 use Rattle.rt_values.specs.declared.groups.What.TheVariants as what
@@ -37,6 +37,11 @@ siblings_at depth (g ∷ rest) =
 abbrev pub first_of : Sibling → List KeyInfo → Option KeyInfo
 first_of s [] = None
 first_of s (k ∷ ks) = if same_sibling (sibling k.group) s then Some k else first_of s ks
+
+-- whether the first of all is told by the same
+abbrev pub begins_with : Sibling → List KeyInfo → Bool
+begins_with s [] = false
+begins_with s (k ∷ ks) = same_sibling (sibling k.group) s
 
 -- all but the first that is told by the same
 abbrev pub without : Sibling → List KeyInfo → List KeyInfo

@@ -1,5 +1,5 @@
 // A frame from scratch.
-ghost use Rattle.std.specs.Prelude.{◌≡◌, ◌≤◌, ◌<◌, ◌++◌, [], Some, Err, IfOk, OnOk, OnErr};
+ghost use Rattle.std.specs.Prelude.{◌≡◌, ◌≤◌, ◌<◌, ◌++◌, ◌==◌, [], Some, Err, IfOk, OnOk, OnErr};
 ghost use Rattle.rt_values.specs.Maps.{Map};
 ghost use Rattle.rt_values.specs.Views.{Grew};
 ghost use Rattle.rt_values.specs.Trail.{asks, how_many};
@@ -8,13 +8,16 @@ ghost use Rattle.rt_values.specs.Frames.{Composed, unseen, numbered, report, mos
 ghost use Rattle.lang_ast.specs.SyntaxView.{functions_view};
 ghost use Rattle.lang_ast.specs.Composing.{forest};
 ghost use Rattle.lang_meaning.specs.declared.composition.ScratchStop.TheVariants.{TooManyGroups};
-ghost use Rattle.recompose_scratch.specs.Keeping.{Keeps};
+ghost use Rattle.recompose_walk.specs.Idle.{idle};
+ghost use Rattle.recompose_scratch.specs.Keeping.{Keeps, is_node as node, nodes_in};
 
 use crate::pass::number_all;
 use lang_ast::Function;
 use lang_meaning::{ScratchStop, compose};
-use rt_values::{Groups, Objects, Report, View};
+use rt_values::{Group, Groups, Objects, Report, View, What};
 use std::alloc::Global;
+use std::marker::Model;
+use std::mem;
 
 /// What is kept between frames: the groups of the last good one, and the number of the next new node (a
 /// `Composition` with its slot table).
@@ -22,6 +25,16 @@ use std::alloc::Global;
 pub struct Composition {
     groups: Groups,
     next: u64,
+    // The room of the groups that were let go, in which the next frame makes its own.
+    room: Groups,
+}
+
+impl Model for Composition {
+    ghost use Rattle.recompose_scratch.specs.Keeping.{Kept};
+
+    ghost Value = { Kept };
+
+    ghost view = { λ c. record { groups = c.groups; next = c.next } };
 }
 
 impl Composition {
@@ -32,6 +45,7 @@ impl Composition {
         Composition {
             groups: Groups::new(alloc),
             next: 1,
+            room: Groups::new(alloc),
         }
     }
 
@@ -41,6 +55,69 @@ impl Composition {
     {
         &self.groups
     }
+
+    /// Whether no group is kept, as before the first good frame. A good frame keeps at least the group of the
+    /// root's call.
+    #[tactic(auto, using(crate::proofs::Idling::none_kept))]
+    pub fn is_empty(&self) -> bool
+        ensures { (k : Composed) → Keeps self.now k → result ≡ (how_many k.trail == 0) }
+    {
+        self.groups.len() == 0
+    }
+
+    /// What a frame tells that owes nothing, and so keeps all that was kept and runs nothing: how many groups and
+    /// nodes are kept.
+    #[tactic(auto, using(crate::proofs::Idling::idle_is))]
+    pub fn idle_report(&self) -> Report
+        ensures { (k : Composed) → Keeps self.now k → result ≡ idle k.trail }
+    {
+        let groups = self.groups.len() as u64;
+        let nodes = node_count(self.groups.items()) as u64;
+        Report {
+            ran: 0,
+            calculated: 0,
+            reads: 0,
+            groups,
+            nodes,
+        }
+    }
+
+    // The room for the groups of the next frame.
+    fn take_room(&mut self, alloc: Global) -> Groups
+        ensures { self.new ≡ self.old }
+    {
+        mem::replace(&mut self.room, Groups::new(alloc))
+    }
+
+    // Keeps the groups of a frame and the number of the next new node. Those that were kept are let go, but for
+    // their room.
+    fn keep(&mut self, groups: Groups, next: u64)
+        ensures { self.new ≡ record { groups = groups; next = next } }
+    {
+        self.room = mem::replace(&mut self.groups, groups);
+        self.room.clear();
+        self.next = next;
+    }
+}
+
+// Whether a group is a node.
+fn is_node(group: &Group) -> bool
+    ensures { result ≡ node group.now }
+{
+    matches!(&group.what, What::Node { .. })
+}
+
+// How many of the groups are nodes.
+fn node_count(groups: &[Group]) -> usize
+    ensures { result ≡ nodes_in groups.now }
+{
+    let mut count = 0;
+    for group in groups {
+        if is_node(group) {
+            count += 1;
+        }
+    }
+    count
 }
 
 /// One frame (`Recomposer.recompose`): composes the program from scratch in the map that the view shows, as
@@ -69,7 +146,8 @@ pub fn frame<V: View>(
     ensures part { (m : Map) → V.shows view.old m → OnErr result (Grew (V.asked view.old) (V.asked view.new) (asks (forest (functions_view functions.now) root m))) }
     ensures kept { OnErr result (composition.new ≡ composition.old) }
 {
-    let mut groups = compose(alloc, functions, root, view)?;
+    let room = composition.take_room(alloc);
+    let mut groups = compose(alloc, functions, root, room, view)?;
     let (next, report) = number_all(
         alloc,
         composition.groups.items(),
@@ -77,7 +155,6 @@ pub fn frame<V: View>(
         composition.next,
         &mut groups,
     )?;
-    composition.groups = groups;
-    composition.next = next;
+    composition.keep(groups, next);
     Ok(report)
 }

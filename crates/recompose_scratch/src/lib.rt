@@ -5,8 +5,9 @@
 //! `KeyInfo`), a node that was there keeps its number, and what the original would have run, calculated and read
 //! is counted.
 //! Promises: `frame` leaves exactly the groups, the numbers and the report of `rt_values`' definition of a frame,
-//! and leaves all as it was where it fails. `specs/Keeping.antt` says what is kept between frames;
-//! `specs/Matching.antt` and `specs/Passing.antt` tell how the new groups are gone over.
+//! and leaves all as it was where it fails; `Composition::idle_report` is what a frame tells that owes nothing.
+//! `specs/Keeping.antt` says what is kept between frames; `specs/Matching.antt` and `specs/Passing.antt` tell how
+//! the new groups are gone over.
 #![tactic(auto)]
 
 mod compared;

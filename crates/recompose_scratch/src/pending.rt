@@ -1,6 +1,6 @@
 // Old groups that wait for a new one.
 ghost use Rattle.std.specs.Prelude.{◌≡◌, ◌++◌, ◌∷◌, [], ℕ, List, IfOk, OnOk, OnErr};
-ghost use Rattle.recompose_scratch.specs.Matching.{KeyInfo as key_info, sibling, siblings_at, first_of, without, inside_at, place_of};
+ghost use Rattle.recompose_scratch.specs.Matching.{KeyInfo as key_info, sibling, siblings_at, first_of, without, inside_at, place_of, begins_with};
 
 use crate::compared::same_siblings;
 use rt_values::{Group, NoMemory};
@@ -79,14 +79,27 @@ impl<'a> Pending<'a> {
 
     // Takes the first old group that has the site and the key of a new one (`getNext`): the one at its path, since
     // those that earlier new ones were matched with are gone. As long as groups come in the old order it is the
-    // first that is left, and where a few moved or are gone it is one of the first few; else it is searched among
-    // all that are left.
+    // first that is left, which leaves at once; else it is searched among all that are left, and where a few moved
+    // or are gone it is one of the first few.
     pub fn take(&mut self, group: &Group) -> Option<KeyInfo<'a>>
         ensures found { result ≡ first_of (sibling group.now) self.old.left }
         ensures left { self.new ≡ record { left = without (sibling group.now) self.old.left; running = self.old.running } }
     {
+        if is_first(&self.left, group) {
+            return self.left.pop_front();
+        }
         let place = place_among(&self.left, group);
         self.left.remove(place)
+    }
+}
+
+// Whether the first of them has the site and the key of a group.
+fn is_first(left: &VecDeque<KeyInfo>, group: &Group) -> bool
+    ensures { result ≡ begins_with (sibling group.now) left.now.items }
+{
+    match left.front() {
+        Some(info) => same_siblings(info.group(), group),
+        None => false,
     }
 }
 

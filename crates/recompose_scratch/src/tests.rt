@@ -231,6 +231,23 @@ fn nothing_runs_where_nothing_changed(rt: HostRuntime) -> Result<(), Fail> {
 }
 
 #[test]
+fn an_idle_report_tells_what_two_frames_left(rt: HostRuntime) -> Result<(), Fail> {
+    let alloc = rt.alloc();
+    let mut kept = Composition::new(alloc);
+    assert!(rt; kept.is_empty());
+    assert_eq!(rt; kept.idle_report(), told(0, 0, 0, 0, 0));
+    next_frame(alloc, &mut kept, &[0, 1, 2], map_of(alloc, &[3, 4], 0, 7)?)?;
+    assert_eq!(rt; kept.idle_report(), told(0, 0, 0, 9, 3));
+    let more = next_frame(alloc, &mut kept, &[0], map_of(alloc, &[3, 4, 5], 0, 7)?)?;
+    assert_eq!(rt; more, told(2, 0, 3, 12, 4));
+    assert!(rt; !kept.is_empty());
+    assert_eq!(rt; kept.idle_report(), told(0, 0, 0, 12, 4));
+    let idle = next_frame(alloc, &mut kept, &[], map_of(alloc, &[3, 4, 5], 0, 7)?)?;
+    assert_eq!(rt; idle, kept.idle_report());
+    Ok(())
+}
+
+#[test]
 fn calls_that_read_a_changed_state_run(rt: HostRuntime) -> Result<(), Fail> {
     let alloc = rt.alloc();
     let mut kept = Composition::new(alloc);

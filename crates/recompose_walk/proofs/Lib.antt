@@ -1,5 +1,6 @@
 pub mod Apart
 pub mod Beside
+pub mod Idles
 pub mod Numbers
 pub mod Orders
 pub mod Owed

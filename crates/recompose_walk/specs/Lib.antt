@@ -3,3 +3,4 @@ pub mod Refreshing
 pub mod Walking
 pub mod Numbering
 pub mod Distinct
+pub mod Idle

@@ -6,12 +6,15 @@
 //! they are owed. The composer follows these definitions with its code.
 //! Promises: each law is the promise of a function that does nothing. `specs/Refreshing.antt` says what going over
 //! the old groups makes, `specs/Work.antt` what work a frame owes, told beside the old groups, and
-//! `specs/Walking.antt` what work going over them does. `specs/Numbering.antt` adds the numbers of nodes, and
-//! `specs/Distinct.antt` that no two nodes have one.
+//! `specs/Walking.antt` what work going over them does. `specs/Numbering.antt` adds the numbers of nodes,
+//! `specs/Distinct.antt` that no two nodes have one, and `specs/Idle.antt` that a frame that owes nothing does
+//! nothing.
 #![tactic(auto)]
 
+mod idle;
 mod laws;
 
+pub use idle::{kept_trail_is_numbered, nothing_owed_nothing_done};
 pub use laws::{
     composing_again_is_the_frame, kept_trail_is_the_forest, nodes_stand_at_their_sites,
     numbers_are_told_beside, numbers_stay_distinct, owed_is_what_changed, paths_and_places_agree,

@@ -8,3 +8,4 @@ pub mod Flat
 pub mod Paths
 pub mod Frames
 pub mod Nodes
+pub mod Spelling

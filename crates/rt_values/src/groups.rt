@@ -99,6 +99,13 @@ impl Attributes {
         })
     }
 
+    /// None again; the room stays.
+    pub fn clear(&mut self)
+        ensures { self.new ≡ [] }
+    {
+        self.items.clear();
+    }
+
     /// Them, in order.
     pub fn items(&self) -> &[Attribute]
         ensures { result.now ≡ self.now }
@@ -145,10 +152,31 @@ pub struct Group {
     pub reads: Objects,
 }
 
+// The attributes of a node, for their room; the rest is let go.
+fn attributes_of(what: What) -> Option<Attributes> {
+    match what {
+        What::Node {
+            kind: _kind,
+            attributes,
+        } => Some(attributes),
+        What::Call {
+            arguments: _arguments,
+            ..
+        } => None,
+        What::Key(_value) => None,
+        What::Cell {
+            keys: _keys,
+            value: _value,
+        } => None,
+    }
+}
+
 /// The groups of a composition in preorder.
 #[derive(Drop)]
 pub struct Groups {
     items: Vec<Group>,
+    // The room of attributes that were let go, which new nodes take.
+    spare: Vec<Attributes>,
 }
 
 impl Model for Groups {
@@ -167,6 +195,7 @@ impl Groups {
     {
         Groups {
             items: Vec::new(alloc),
+            spare: Vec::new(alloc),
         }
     }
 
@@ -189,8 +218,35 @@ impl Groups {
         ensures ok { OnOk result (self.new ≡ self.old ++ group ∷ []) }
         ensures err { OnErr result (self.new ≡ self.old) }
     {
-        self.items.push(group)?;
+        self.items.reserve(1)?;
+        self.items.push_reserved(group);
         Ok(())
+    }
+
+    /// None again. The room stays, that of the attributes of nodes too, as far as there is memory to keep it.
+    pub fn clear(&mut self)
+        ensures { self.new ≡ [] }
+    {
+        while let Some(group) = self.items.pop() {
+            if let Some(mut attributes) = attributes_of(group.what) {
+                attributes.clear();
+                let _ = self.spare.push(attributes);
+            }
+        }
+    }
+
+    /// No attributes, in the room of some that `clear` let go, or with new room for so many.
+    pub fn spare_attributes(&mut self, alloc: Global, count: usize) -> Result<Attributes, NoMemory>
+        ensures none { IfOk result (λ all. all ≡ []) }
+        ensures same { self.new ≡ self.old }
+    {
+        match self.spare.pop() {
+            Some(mut room) => {
+                room.clear();
+                Ok(room)
+            }
+            None => Attributes::with_room(alloc, count),
+        }
     }
 
     /// Other reads for the group at a place.

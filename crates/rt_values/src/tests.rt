@@ -35,7 +35,34 @@ fn stamps_tell_what_changed(rt: HostRuntime) -> Result<(), Fail> {
     objects.put(3)?;
     assert_eq!(rt; objects.copy(alloc)?.numbers(), [3u64].as_slice());
     let name = Word::of(alloc, b"count")?;
-    assert_eq!(rt; name.copy(alloc)?.bytes(), b"count".as_slice());
+    assert_eq!(rt; name.copy()?.bytes(), b"count".as_slice());
+    let long = Word::of(alloc, b"count_of_all_the_rows")?;
+    assert_eq!(rt; long.copy()?.bytes(), b"count_of_all_the_rows".as_slice());
+    Ok(())
+}
+
+#[test]
+fn room_of_groups_is_used_again(rt: HostRuntime) -> Result<(), Fail> {
+    let alloc = rt.alloc();
+    let mut groups = Groups::new(alloc);
+    let mut attributes = groups.spare_attributes(alloc, 1)?;
+    attributes.push(Attribute {
+        name: Word::of(alloc, b"n")?,
+        value: Value::Int(1),
+    })?;
+    groups.push(Group {
+        depth: 0,
+        site: 1,
+        number: 1,
+        what: What::Node {
+            kind: Word::of(alloc, b"Row")?,
+            attributes,
+        },
+        reads: Objects::new(alloc),
+    })?;
+    groups.clear();
+    assert_eq!(rt; groups.len(), 0usize);
+    assert_eq!(rt; groups.spare_attributes(alloc, 1)?.items().len(), 0usize);
     Ok(())
 }
 

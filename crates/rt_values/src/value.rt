@@ -57,6 +57,7 @@ impl Value {
     }
 
     /// Another value that is the same. The copy of a number or a truth value takes no memory.
+    #[inline]
     pub fn copy(&self, alloc: Global) -> Result<Value, NoMemory>
         ensures same { IfOk result (λ v. v ≡ self.now) }
         ensures flat { is_flat self.now ≡ true → OnErr result ⊥ }

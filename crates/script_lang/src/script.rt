@@ -115,7 +115,7 @@ fn first_actor(alloc: Global, forms: &[DoForm]) -> Result<Word, NoMemory>
 {
     match forms.split_first() {
         None => Word::of(alloc, &[]),
-        Some((first, _)) => first.actor.text.copy(alloc),
+        Some((first, _)) => first.actor.text.copy(),
     }
 }
 

@@ -60,9 +60,9 @@ fn add_attributes(text: &mut Vec<u8>, attributes: &[Attribute]) -> Result<(), No
 {
     let mut rest = attributes;
     while let Some((attribute, more)) = rest.split_first() {
-        add(text, b" ")?;
+        text.push(b' ')?;
         add(text, attribute.name.bytes())?;
-        add(text, b"=")?;
+        text.push(b'=')?;
         attribute.value.put(text)?;
         rest = more;
     }
@@ -96,12 +96,13 @@ fn add_node(
     ensures { OnOk result (text.new.items ≡ text.old.items ++ node_line (level outer.now) number kind.now (map shown attributes.now)) }
 {
     add_margin(text, outer)?;
-    add(text, b"#")?;
+    text.push(b'#')?;
     add_number(text, number)?;
-    add(text, b" ")?;
+    text.push(b' ')?;
     add(text, kind.bytes())?;
     add_attributes(text, attributes.items())?;
-    add(text, b"\n")
+    text.push(b'\n')?;
+    Ok(())
 }
 
 /// Which of the groups that stand open at a place of a composition are nodes; it tells how far in a node's line

@@ -17,7 +17,7 @@ use Rattle.lang_meaning.specs.declared.composition.ScratchStop.TheVariants.{NoMe
 use Rattle.lang_meaning.proofs.Grows.{grew_none, grew_all}
 use Rattle.lang_meaning.proofs.Sizes.{size_at, falls_at}
 use Rattle.lang_meaning.proofs.Arms.{all_at, all_end, node_ran, call_ran, key_ran, choice_ran, loop_ran, binding_ran, remember_ran, call_body, call_none}
-use Rattle.lang_meaning.proofs.Ways.{ran_end, ran_stop, ran_stop_after, ran_after, ran_full, ran_group, ran_call, ran_call_stop, ran_cell, ran_first, ran_second, going_more, going_done, going_stop, turns_at, turns_end}
+use Rattle.lang_meaning.proofs.Ways.{added_to, ran_end, ran_stop, ran_stop_after, ran_after, ran_full, ran_group, ran_call, ran_call_stop, ran_cell, ran_first, ran_second, going_more, going_done, going_stop, turns_at, turns_end}
 use Rattle.lang_meaning.proofs.composition.+run.Goals as goal
 
 -- Statements one after another.
@@ -95,9 +95,14 @@ run_key-returns-clause-ran g t c m h =
 
 -- A node.
 
+pub run_node-returns-in_err-room-clause-ran : goal.run_node-returns-in_err-room-clause-ran
+run_node-returns-in_err-room-clause-ran g t c m h =
+    let e : c.from_residual.result ≡ Err NoMemory = search rules in
+    ran_stop _ _ _ _ _ _ _ _ _ e (grew_none _ _)
+
 pub run_node-returns-in_err-attributes-clause-ran : goal.run_node-returns-in_err-attributes-clause-ran
 run_node-returns-in_err-attributes-clause-ran g t c m h =
-    let e : c.from_residual.result ≡ Err NoMemory = search rules in
+    let e : c.from_residual-in_err-attributes.result ≡ Err NoMemory = search rules in
     ran_stop_after _ _ _ _ _ _ _ _ _ _ e (c.in_err-attributes.ensures.part m h)
 
 pub run_node-returns-in_err-kind-clause-ran : goal.run_node-returns-in_err-kind-clause-ran
@@ -113,7 +118,7 @@ pub run_node-returns-clause-ran : goal.run_node-returns-clause-ran
 run_node-returns-clause-ran g t c m h =
     let made = c.group.ensures ∙ ap (λ (k : List ℕ). entry c.args.depth c.args.site 0 (what.Node k c.in_ok-attributes.attributes) []) c.in_ok-kind.ensures
     ∙ ap (λ (all : List Attribute). entry c.args.depth c.args.site 0 (what.Node c.args.kind.now.text all) []) (c.in_ok-attributes.ensures.value m h) in
-    let added = c.in_ok-add_group.ensures.added ∙ ap (λ (x : _). c.args.groups.now ++ x ∷ []) made in
+    let added = added_to c.in_ok-add_group.ensures.added made c.spare_attributes.ensures.same in
     let inner = c.run_all.ensures.ran m (c.evaluate_attributes.ensures.same m h) in
     ran_after _ _ _ _ _ _ _ _ _ _ _ _ (c.in_ok-attributes.ensures.asks m h) (c.in_ok-attributes.ensures.reads m h) (ran_group _ _ _ _ _ _ _ _ _ _ _ _ refl refl added inner)
 

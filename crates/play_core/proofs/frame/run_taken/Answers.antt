@@ -12,7 +12,7 @@ pub returns-in-Ok-say_entry-clause-says : goal.returns-in-Ok-say_entry-clause-sa
 returns-in-Ok-say_entry-clause-says g c k w h =
     let told = c.in-Ok-dispose_entry.ensures w (c.compose-composed.ensures.same w h.world_stands) in
     let m = (shot_of w c.args.name).view in
-    let owes = subst (Owes k.seen k.trail (Some m)) (sym (c.in-Ok.ensures ∙ ap (λ xs. with_members xs c.args.kept.now.owed) c.numbers.ensures)) h.owes in
+    let owes = subst (Owes (functions_view c.args.program.now.functions.items) k.seen k.trail (Some m)) (sym (c.in-Ok.ensures ∙ ap (λ xs. with_members xs c.args.kept.now.owed) c.numbers.ensures)) h.owes in
     says_behind _ _ _ _ _ _ (appends_same _ _ _ _ (ap (entry_line _) told.0) c.in-Ok-say_entry.ensures.says.all)
     (c.say_frame.ensures.says k (frame (functions_view c.args.program.now.functions.items) k m) (c.in-Ok-composed.ensures.told k m h.eyes h.keeps owes) (c.in-Ok-composed.ensures.keeps k m h.eyes h.keeps owes))
 

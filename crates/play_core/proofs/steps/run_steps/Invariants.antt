@@ -9,8 +9,8 @@ use Rattle.play_core.proofs.steps.run_steps.Given as goal
 abbrev pub invariant-loop-step : goal.invariant-loop-step
 invariant-loop-step g l = record {
   later : g.K.Sink.faults l.fn.sink ≤ g.K.Sink.faults l.sink;
-  run : (o : Between) → Stands g.V.Versions.stands l.fn.world l.fn.kept o →
-      (n : Between) × (said : List ℕ) × Stands g.V.Versions.stands l.world l.kept n
+  run : (o : Between) → Stands (functions_view l.program.functions.items) g.V.Versions.stands l.fn.world l.fn.kept o →
+      (n : Between) × (said : List ℕ) × Stands (functions_view l.program.functions.items) g.V.Versions.stands l.world l.kept n
       × (said ++ flat (turns (record { states = l.program.states.items; actor = l.script.actor }) (functions_view l.program.functions.items) n l.rest) ≡ flat (turns (record { states = l.program.states.items; actor = l.script.actor }) (functions_view l.program.functions.items) o l.script.steps.items))
       × Appends (g.K.Sink.written l.fn.sink) (g.K.Sink.written l.sink) said;
 }
