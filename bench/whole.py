@@ -1,7 +1,8 @@
 #!/usr/bin/env python3
-"""Writes texts for `compose_play run` that ask much of a frame: whole.py forest|turns|keyed
+"""Writes texts for `compose_play run` that ask much of a frame: whole.py forest|changing|turns|keyed
 
-    forest   a forest of 200,000 nodes, shown in five frames, each of which changes all of them
+    forest   a forest of 200,000 nodes, shown in five frames
+    changing the same, where each frame changes all of the nodes
     turns    a frame whose loops want 16 million groups, which is refused, and a small frame behind it
     keyed    a list of 4,000 rows with keys, turned round, and turned round again
 """
@@ -13,13 +14,18 @@ def program(states, functions, steps):
     return "\n".join(["(compose 1)"] + states + functions + ["(do main", "\n".join(steps), ")\n"]).encode()
 
 
-def forest(rows=400, cells=499, frames=5):
+def forest(steps=("(frame)",) * 5, rows=400, cells=499):
     """Rows of cells, each cell with the state's value: rows * (cells + 1) nodes."""
     return program(
         ["(state n Int Structural 0)"],
         ["(fun root () (let n (get n)",
          "  (for y (range 0 %d) (node Row ((y y)) (for x (range 0 %d) (node Cell ((x x) (n n))))))))" % (rows, cells)],
-        ["(write global n %d) (frame)" % (n + 1) for n in range(frames)])
+        list(steps))
+
+
+def changing(frames=5):
+    """The forest, with another value of the state in each frame."""
+    return forest(["(write global n %d) (frame)" % (n + 1) for n in range(frames)])
 
 
 def turns(side=4000):
@@ -44,7 +50,7 @@ def keyed(rows=4000, frames=2):
         steps)
 
 
-TEXTS = {"forest": forest, "turns": turns, "keyed": keyed}
+TEXTS = {"forest": forest, "changing": changing, "turns": turns, "keyed": keyed}
 
 if __name__ == "__main__":
     sys.stdout.buffer.write(TEXTS[sys.argv[1]]())
