@@ -1,0 +1,14 @@
+-- The numbers with which the process ends.
+use Rattle.std.specs.Prelude.{ℕ}
+use Rattle.play_core.specs.declared.top.Status.{Status}
+use Rattle.play_core.specs.declared.top.Status.TheVariants.{Done, Usage, BadInput, ReadFault, WriteFault, NoMemory, TooLong}
+
+-- 0 says that the command was done; 1 is nobody's, since it is what shells and tools answer for faults of their own
+abbrev pub number : Status → ℕ
+number Done = 0
+number Usage = 2
+number BadInput = 3
+number ReadFault = 4
+number WriteFault = 5
+number NoMemory = 6
+number TooLong = 7
