@@ -1,4 +1,4 @@
--- The test of equality tells exactly which values are equal.
+-- The equality test on values is exact.
 use Rattle.std.proofs.Common.{◌≡◌, ℤ, Bool, true, List, refl, ap, sym, ◌∙◌}
 use Rattle.std.specs.Bool.{Decides}
 use Rattle.std.specs.Cmp.{booleans_Decides}
@@ -29,6 +29,6 @@ same_value_decides (value.Ints a) (value.Int b) = (λ e. absurd cc, λ e. absurd
 same_value_decides (value.Ints a) (value.Bool b) = (λ e. absurd cc, λ e. absurd cc)
 same_value_decides (value.Ints a) (value.Text b) = (λ e. absurd cc, λ e. absurd cc)
 
--- what a test of equality answers tells whether the values are equal
+-- A test that answers `same_value` is true exactly for equal values.
 pub told_equal : (v w : Value) (r : Bool) → r ≡ same_value v w → (r ≡ true → v ≡ w) × (v ≡ w → r ≡ true)
 told_equal v w r e = let h = same_value_decides v w in (λ p. h.0 (sym e ∙ p), λ p. e ∙ h.1 p)

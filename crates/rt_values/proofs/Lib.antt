@@ -1,7 +1,6 @@
 pub mod Equal
-pub mod Fronts
+pub mod TextPrefixes
 pub mod Lists
-pub mod Printed
+pub mod PrintedForms
 pub mod Quotients
-pub mod Seams
-pub mod Trails
+pub mod Views

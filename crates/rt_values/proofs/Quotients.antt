@@ -9,7 +9,7 @@ use Rattle.std.proofs.lemmas.Bool.{false_from_ne_true}
 use Rattle.std.proofs.lemmas.Bool.Decides.{Decides-int_eq}
 use Rattle.rt_values.specs.Operators.{quotient}
 
--- how far a quotient can lie from 0
+-- A bound on the absolute value of a quotient.
 abbrev Short : ℤ → Type 0
 Short (pos n) = n < 2 ^ 64
 Short (negsuc n) = n < 2 ^ 63

@@ -3,9 +3,4 @@ pub mod Values
 pub mod Operators
 pub mod Maps
 pub mod Views
-pub mod Trail
-pub mod Flat
-pub mod Paths
-pub mod Frames
-pub mod Nodes
-pub mod Spelling
+pub mod WordLetters

@@ -1,4 +1,4 @@
--- Types and values: equality, types and printed forms.
+-- Trusted: the types of values, their equality and their printed forms.
 use Rattle.std.specs.Prelude.{ℕ, ℤ, Bool, true, false, List, [], ◌∷◌, ◌++◌, ◌==◌, pos, codes, if◌then◌else◌}
 use Rattle.std.specs.Bool.{beq}
 use Rattle.std.specs.Ordering.{int_eq}
@@ -10,7 +10,7 @@ use Rattle.rt_values.specs.declared.value.Value.TheVariants as value
 use Rattle.rt_values.specs.declared.value.Ty.{Ty}
 use Rattle.rt_values.specs.declared.value.Ty.TheVariants as ty
 
--- the type of a value
+-- The type of a value.
 abbrev pub type_of : Value → Ty
 type_of (value.Int z) = ty.Int
 type_of (value.Bool b) = ty.Bool
@@ -30,7 +30,7 @@ same_type ty.Ints _ = false
 abbrev pub same_items : List ℤ → List ℤ → Bool
 same_items = pointwise int_eq
 
--- equal values: of one type, and with equal contents
+-- Whether two values are equal: they have one type and equal contents.
 abbrev pub same_value : Value → Value → Bool
 same_value (value.Int a) (value.Int b) = int_eq a b
 same_value (value.Bool a) (value.Bool b) = beq a b
@@ -44,12 +44,12 @@ same_value (value.Ints a) _ = false
 abbrev pub same_values : List Value → List Value → Bool
 same_values = pointwise same_value
 
--- a truth value as a literal is written
+-- The literal of a truth value.
 abbrev pub truth_text : Bool → List ℕ
 truth_text true = codes "true"
 truth_text false = codes "false"
 
--- a byte of a string: a quote, a backslash and LF are escaped, and no other
+-- A byte of a string literal. Only a quote, a backslash and a line feed are escaped.
 abbrev pub escape : ℕ → List ℕ
 escape b = if b == 34 then 92 ∷ 34 ∷ [] else if b == 92 then 92 ∷ 92 ∷ [] else if b == 10 then 92 ∷ 110 ∷ [] else b ∷ []
 
@@ -57,25 +57,25 @@ abbrev pub escaped : List ℕ → List ℕ
 escaped [] = []
 escaped (b ∷ bs) = escape b ++ escaped bs
 
--- a blank before each number, by its decimals
+-- The decimal digits of the numbers, each after a space.
 abbrev pub items_text : List ℤ → List ℕ
 items_text [] = []
 items_text (z ∷ zs) = 32 ∷ signed_decimal z ++ items_text zs
 
--- A value as a literal is written: an Int by its decimals, a Bool as true or false, a Text in quotes, an Ints as (ints 1 2).
+-- The literal of a value: decimal digits for an Int, true or false, a Text in quotes, (ints 1 2) for an Ints.
 abbrev pub value_text : Value → List ℕ
 value_text (value.Int z) = signed_decimal z
 value_text (value.Bool b) = truth_text b
 value_text (value.Text t) = 34 ∷ escaped t ++ 34 ∷ []
 value_text (value.Ints l) = codes "(ints" ++ items_text l ++ 41 ∷ []
 
--- whether a copy takes no memory
+-- Whether a copy takes no memory: the value is an Int or a Bool.
 abbrev pub is_flat : Value → Bool
 is_flat (value.Int z) = true
 is_flat (value.Bool b) = true
 is_flat (value.Text t) = false
 is_flat (value.Ints l) = false
 
--- what a state that is not there is read as
+-- The default value, which a missing state or operand has.
 abbrev pub no_value : Value
 no_value = value.Int (pos 0)

@@ -1,37 +1,36 @@
-//! Values, maps of entries and the lists that contracts see as lists, with the plain data that the layers
-//! above are defined over: groups, paths and frames stand in `specs/`.
+//! Values of states and expressions, maps from state objects to stamped values, and the trait `View` that a
+//! composition reads through.
 //!
 //! A value is an Int, a Bool, a Text or an Ints. The operators of expressions are total: none fails, whatever the
-//! types of its operands, and what a text or a list has no room for is left out.
+//! types of its operands. A Text or an Ints that would exceed its limit is cut at the limit.
 //!
-//! A map has one entry, a value with the stamp of its last change, for each state object: what a snapshot of
-//! `androidx.compose.runtime.snapshots` shows of all its state objects at once. `View` is what a composition
-//! reads through, so that the language stands on no particular world.
-//! Promises: lists and texts are plain lists, equality and printing are those of `specs/Values.antt`, operators
-//! those of `specs/Operators.antt`, and `differing` is exactly the objects whose stamps differ.
+//! A map has one stamped value for each state object, that is the value with the clock of its last change. It is what
+//! a snapshot of `androidx.compose.runtime.snapshots` shows of all state objects at once. The language reads through
+//! `View`, so it depends on no particular implementation of snapshots.
+//!
+//! Promises: contracts see lists and texts as plain lists. Equality and printed forms are those of
+//! `specs/Values.antt`, and the operators those of `specs/Operators.antt`. `find_differing` returns exactly the
+//! objects whose stamps differ.
 #![tactic(auto)]
 
-mod groups;
+mod items;
 mod list;
 mod maps;
 mod names;
 mod operands;
 pub mod operators;
-mod report;
+mod steps;
 mod text;
 mod value;
 mod view;
 mod word;
 
-pub use groups::{Attribute, Attributes, Group, Groups, Values, What};
+pub use items::Items;
 pub use list::IntList;
-pub use maps::{Entry, Map, Objects, differing};
+pub use maps::{Map, Objects, StampedValue, find_differing};
 pub use names::{Caller, Kind, Name, NoMemory, ObjectNo, WatcherNo};
-pub use report::Report;
+pub use steps::Steps;
 pub use text::Txt;
 pub use value::{Ty, Value};
 pub use view::View;
 pub use word::Word;
-
-#[cfg(test)]
-mod tests;

@@ -1,8 +1,8 @@
-// Lists of numbers: values of the type Ints.
+// The list type behind values of the type Ints.
 ghost use Rattle.std.specs.Prelude.{◌≡◌, ◌≤◌, Bool, List, [], ℕ, ℤ, length, IfOk, OnOk, OnErr};
 ghost use Rattle.rt_values.specs.Limits.{most_items};
 ghost use Rattle.rt_values.specs.Values.{same_items};
-ghost use Rattle.rt_values.specs.Operators.{range, pushed, concatenated, item_at};
+ghost use Rattle.rt_values.specs.Operators.{range, list_with_item, concatenation, item_at};
 
 use crate::NoMemory;
 use std::alloc::Global;
@@ -26,10 +26,10 @@ impl Model for IntList {
 }
 
 impl IntList {
-    /// The most items that a list has; this project's own rule.
+    /// The maximum number of items, a rule of this project.
     pub const MOST_ITEMS: usize = 4096;
 
-    /// The list of no item.
+    /// Returns the empty list.
     pub fn new(alloc: Global) -> Self
         ensures { result ≡ [] }
     {
@@ -38,7 +38,7 @@ impl IntList {
         }
     }
 
-    /// The list of these items.
+    /// Returns a copy of `items` as a list.
     pub fn of(alloc: Global, items: &[i64]) -> Result<Self, NoMemory>
         requires { length items.now ≤ most_items }
         ensures { IfOk result (λ l. l ≡ items.now) }
@@ -48,8 +48,8 @@ impl IntList {
         })
     }
 
-    /// The numbers `first`, `first + 1`, .. below `end`, the first `IntList::MOST_ITEMS` of them; none where `first` is
-    /// not below `end`.
+    /// Returns the numbers from `first` to `end - 1`, at most the first `IntList::MOST_ITEMS` of them. The list is
+    /// empty if `first` is not below `end`.
     pub fn range(alloc: Global, first: i64, end: i64) -> Result<Self, NoMemory>
         ensures { IfOk result (λ l. l ≡ range first end) }
     {
@@ -62,7 +62,7 @@ impl IntList {
         Ok(IntList { items })
     }
 
-    /// Its items, at most `IntList::MOST_ITEMS` of them.
+    /// Returns the items, at most `IntList::MOST_ITEMS` of them.
     pub fn items(&self) -> &[i64]
         ensures items { result.now ≡ self.now }
         ensures fits { length self.now ≤ most_items }
@@ -70,14 +70,14 @@ impl IntList {
         &self.items
     }
 
-    /// How many items it has.
+    /// Returns the number of items.
     pub fn len(&self) -> usize
         ensures { result ≡ length self.now }
     {
         self.items.len()
     }
 
-    /// The item at a place from 0; 0 where there is none.
+    /// Returns the item at index `place`, or 0 if there is no such index.
     pub fn at(&self, place: i64) -> i64
         ensures { result ≡ item_at self.now place }
     {
@@ -87,10 +87,9 @@ impl IntList {
         self.items.get(place as usize).copied().unwrap_or(0)
     }
 
-    /// One item more, at the end. A list of `IntList::MOST_ITEMS` items stays as it is, and so does any list where
-    /// memory runs out.
+    /// Appends `item`, unless the list has `IntList::MOST_ITEMS` items. After `NoMemory` the list is unchanged.
     pub fn push(&mut self, item: i64) -> Result<(), NoMemory>
-        ensures ok { OnOk result (self.new ≡ pushed self.old item) }
+        ensures ok { OnOk result (self.new ≡ list_with_item self.old item) }
         ensures err { OnErr result (self.new ≡ self.old) }
     {
         if self.items.len() < IntList::MOST_ITEMS {
@@ -99,10 +98,9 @@ impl IntList {
         Ok(())
     }
 
-    /// Items at the end, as many as `IntList::MOST_ITEMS` leaves room for. Where memory runs out the list stays as it
-    /// is.
+    /// Appends the items of `more` up to the limit `IntList::MOST_ITEMS`. After `NoMemory` the list is unchanged.
     pub fn extend(&mut self, more: &[i64]) -> Result<(), NoMemory>
-        ensures ok { OnOk result (self.new ≡ concatenated self.old more.now) }
+        ensures ok { OnOk result (self.new ≡ concatenation self.old more.now) }
         ensures err { OnErr result (self.new ≡ self.old) }
     {
         let room = IntList::MOST_ITEMS - self.items.len();
@@ -110,15 +108,15 @@ impl IntList {
         Ok(())
     }
 
-    /// The items of another list at the end, as `extend` adds them.
+    /// Appends the items of `other`, as `extend` does.
     pub fn concat(&mut self, other: &IntList) -> Result<(), NoMemory>
-        ensures ok { OnOk result (self.new ≡ concatenated self.old other.now) }
+        ensures ok { OnOk result (self.new ≡ concatenation self.old other.now) }
         ensures err { OnErr result (self.new ≡ self.old) }
     {
         self.extend(other.items())
     }
 
-    /// Another list that is the same.
+    /// Returns a copy.
     pub fn copy(&self, alloc: Global) -> Result<Self, NoMemory>
         ensures { IfOk result (λ l. l ≡ self.now) }
     {
@@ -127,7 +125,7 @@ impl IntList {
         })
     }
 
-    /// Whether both have the same items in the same order.
+    /// Returns whether both lists have the same items in the same order.
     pub fn same(&self, other: &IntList) -> bool
         ensures { result ≡ same_items self.now other.now }
     {

@@ -1,4 +1,4 @@
-// Maps from state objects to entries, and lists of objects.
+// Maps from state objects to stamped values, and lists of objects.
 ghost use Rattle.std.specs.Prelude.{◌≡◌, ◌<◌, List, ℕ, [], ◌∷◌, ◌++◌, length, slice_get, slice_set, Bool, IfOk, OnOk, OnErr};
 ghost use Rattle.rt_values.specs.Maps.{differ, differ_from, differs, entry_at, contains, with_member};
 
@@ -6,43 +6,43 @@ use crate::{NoMemory, ObjectNo, Value};
 use std::alloc::Global;
 use std::marker::Model;
 
-/// What a map has for one object: its value, and the stamp of its last change, the world's clock at that
-/// write or merge (0 for the initial value). It stands for a `StateRecord`.
+/// The value of one object with its stamp: the clock of the write or merge that changed it last, or 0 for the initial
+/// value. It takes the place of a `StateRecord`.
 #[derive(Drop)]
-pub struct Entry {
+pub struct StampedValue {
     pub value: Value,
     pub stamp: u64,
 }
 
-impl Entry {
-    /// Another entry that is the same.
-    pub fn copy(&self, alloc: Global) -> Result<Entry, NoMemory>
+impl StampedValue {
+    /// Returns a copy.
+    pub fn copy(&self, alloc: Global) -> Result<StampedValue, NoMemory>
         ensures { IfOk result (λ e. e ≡ self.now) }
     {
-        Ok(Entry {
+        Ok(StampedValue {
             value: self.value.copy(alloc)?,
             stamp: self.stamp,
         })
     }
 }
 
-/// One entry for each object, in the order of their numbers.
+/// A map from state objects to stamped values. The list index is the number of the object.
 #[derive(Drop)]
 pub struct Map {
-    entries: Vec<Entry>,
+    entries: Vec<StampedValue>,
 }
 
 impl Model for Map {
     ghost use Rattle.std.specs.Prelude.{List};
-    ghost use Rattle.rt_values.specs.declared.maps.Entry.{Entry};
+    ghost use Rattle.rt_values.specs.declared.maps.StampedValue.{StampedValue};
 
-    ghost Value = { List Entry };
+    ghost Value = { List StampedValue };
 
     ghost view = { λ m. m.entries.items };
 }
 
 impl Map {
-    /// A map of no object.
+    /// Returns the map without objects.
     pub fn new(alloc: Global) -> Self
         ensures { result ≡ [] }
     {
@@ -51,58 +51,58 @@ impl Map {
         }
     }
 
-    /// All entries, that of object 0 first.
-    pub fn entries(&self) -> &[Entry]
+    /// Returns the stamped values of all objects, in the order of their numbers.
+    pub fn entries(&self) -> &[StampedValue]
         ensures { result.now ≡ self.now }
     {
         &self.entries
     }
 
-    /// How many objects it has.
+    /// Returns the number of objects.
     pub fn len(&self) -> usize
         ensures { result ≡ length self.now }
     {
         self.entries.len()
     }
 
-    /// An object's entry.
-    pub fn at(&self, x: usize) -> &Entry
+    /// Returns the stamped value of object `x`.
+    pub fn at(&self, x: usize) -> &StampedValue
         requires { x < length self.now }
         ensures { result.now ≡ entry_at self.now x }
     {
         &self.entries[x]
     }
 
-    /// Another map that is the same.
+    /// Returns a copy.
     pub fn copy(&self, alloc: Global) -> Result<Map, NoMemory>
         ensures { IfOk result (λ m. m ≡ self.now) }
     {
         let mut entries = Vec::with_capacity(alloc, self.entries.len())?;
-        for entry in &self.entries {
-            entries.push(entry.copy(alloc)?)?;
+        for stamped in &self.entries {
+            entries.push(stamped.copy(alloc)?)?;
         }
         Ok(Map { entries })
     }
 
-    /// The entry of one object more.
-    pub fn push(&mut self, entry: Entry) -> Result<(), NoMemory>
-        ensures ok { OnOk result (self.new ≡ self.old ++ entry ∷ []) }
+    /// Appends the stamped value of a new object. After `NoMemory` the map is unchanged.
+    pub fn push(&mut self, stamped: StampedValue) -> Result<(), NoMemory>
+        ensures ok { OnOk result (self.new ≡ self.old ++ stamped ∷ []) }
         ensures err { OnErr result (self.new ≡ self.old) }
     {
-        self.entries.push(entry)?;
+        self.entries.push(stamped)?;
         Ok(())
     }
 
-    /// Another entry for an object.
-    pub fn set(&mut self, x: usize, entry: Entry)
+    /// Replaces the stamped value of object `x`.
+    pub fn set(&mut self, x: usize, stamped: StampedValue)
         requires { x < length self.old }
-        ensures { self.new ≡ slice_set self.old x entry }
+        ensures { self.new ≡ slice_set self.old x stamped }
     {
-        self.entries[x] = entry;
+        self.entries[x] = stamped;
     }
 }
 
-/// Numbers of objects.
+/// A list of numbers of state objects.
 #[derive(Drop)]
 pub struct Objects {
     numbers: Vec<ObjectNo>,
@@ -117,7 +117,7 @@ impl Model for Objects {
 }
 
 impl Objects {
-    /// None.
+    /// Returns the empty list.
     pub fn new(alloc: Global) -> Self
         ensures { result ≡ [] }
     {
@@ -126,28 +126,28 @@ impl Objects {
         }
     }
 
-    /// These numbers, in the memory that they lie in.
+    /// Returns the list of `numbers`, without a copy.
     pub fn of(numbers: Vec<ObjectNo>) -> Self
         ensures { result ≡ numbers.items }
     {
         Objects { numbers }
     }
 
-    /// The numbers, in order.
+    /// Returns the numbers, in order.
     pub fn numbers(&self) -> &[ObjectNo]
         ensures { result.now ≡ self.now }
     {
         &self.numbers
     }
 
-    /// Whether this number is among them.
+    /// Returns whether the list contains `x`.
     pub fn has(&self, x: ObjectNo) -> bool
         ensures { result ≡ contains x self.now }
     {
         self.numbers.contains(&x)
     }
 
-    /// One number more, at the end.
+    /// Appends `x`. After `NoMemory` the list is unchanged.
     pub fn push(&mut self, x: ObjectNo) -> Result<(), NoMemory>
         ensures ok { OnOk result (self.new ≡ self.old ++ x ∷ []) }
         ensures err { OnErr result (self.new ≡ self.old) }
@@ -156,7 +156,7 @@ impl Objects {
         Ok(())
     }
 
-    /// The number at the end, where it is not there yet.
+    /// Appends `x` unless the list contains it. After `NoMemory` the list is unchanged.
     pub fn put(&mut self, x: ObjectNo) -> Result<(), NoMemory>
         ensures ok { OnOk result (self.new ≡ with_member x self.old) }
         ensures err { OnErr result (self.new ≡ self.old) }
@@ -167,7 +167,7 @@ impl Objects {
         Ok(())
     }
 
-    /// Without the last number, if there is one.
+    /// Removes the last number. An empty list remains empty.
     pub fn pop(&mut self)
         ensures last { (xs : List ℕ) (x : ℕ) → self.old ≡ xs ++ x ∷ [] → self.new ≡ xs }
         ensures none { self.old ≡ [] → self.new ≡ [] }
@@ -175,14 +175,14 @@ impl Objects {
         let _ = self.numbers.pop();
     }
 
-    /// None again; the room stays.
+    /// Removes all numbers and keeps the capacity.
     pub fn clear(&mut self)
         ensures { self.new ≡ [] }
     {
         self.numbers.clear();
     }
 
-    /// Another list that is the same.
+    /// Returns a copy.
     pub fn copy(&self, alloc: Global) -> Result<Objects, NoMemory>
         ensures { IfOk result (λ o. o ≡ self.now) }
     {
@@ -192,35 +192,40 @@ impl Objects {
     }
 }
 
-/// The objects whose stamps differ from those of an earlier map or that it had not, by rising number; all
-/// where there was no earlier map.
-pub fn differing(alloc: Global, before: &Option<Map>, now: &Map) -> Result<Objects, NoMemory>
+/// Returns the objects whose stamps differ between `before` and `now` or that only `now` has, by increasing number.
+/// Returns all objects if there is no map `before`.
+pub fn find_differing(alloc: Global, before: &Option<Map>, now: &Map) -> Result<Objects, NoMemory>
     ensures { IfOk result (λ o. o ≡ differ before.now now.now) }
 {
     match before {
-        Some(map) => differing_entries(alloc, map.entries(), now.entries()),
-        None => differing_entries(alloc, &[], now.entries()),
+        Some(map) => find_differing_entries(alloc, map.entries(), now.entries()),
+        None => find_differing_entries(alloc, &[], now.entries()),
     }
 }
 
-fn differing_entries(alloc: Global, before: &[Entry], now: &[Entry]) -> Result<Objects, NoMemory>
+// Returns the objects of `now` whose stamps differ from those in `before` or that `before` lacks.
+fn find_differing_entries(
+    alloc: Global,
+    before: &[StampedValue],
+    now: &[StampedValue],
+) -> Result<Objects, NoMemory>
     ensures { IfOk result (λ o. o ≡ differ_from before.now 0 now.now) }
 {
     let mut found = Objects::new(alloc);
-    for (x, entry) in now.iter().enumerate() {
-        if is_other(before, x, entry) {
+    for (x, stamped) in now.iter().enumerate() {
+        if is_other(before, x, stamped) {
             found.push(x as u64)?;
         }
     }
     Ok(found)
 }
 
-// Whether an entry's stamp is another than that of the one before, if there was one.
-fn is_other(before: &[Entry], x: usize, now: &Entry) -> bool
+// Returns whether the stamp of `now` differs from that of object `x` in `before`. Returns true if `before` lacks `x`.
+fn is_other(before: &[StampedValue], x: usize, now: &StampedValue) -> bool
     ensures { result ≡ differs (slice_get before.now x) now.now }
 {
     match before.get(x) {
         None => true,
-        Some(entry) => entry.stamp != now.stamp,
+        Some(stamped) => stamped.stamp != now.stamp,
     }
 }

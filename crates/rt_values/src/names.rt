@@ -1,28 +1,30 @@
-// The numbers that name things, and want of memory.
+// Numbers of snapshots, state objects, watchers and callers, and the error `NoMemory`.
 
 use std::alloc::{AllocError, AllocFailed};
 
-/// A snapshot's number: 0 is global, others get 1, 2, .. in the order in which they are taken (`SnapshotId`).
+/// The number of a snapshot. The global snapshot is 0, and the others get 1, 2, .. in the order in which they are
+/// taken. A name is a handle that never changes, unlike Compose's `SnapshotId`, which advances while a snapshot is
+/// open.
 pub type Name = u64;
 
-/// A state object's number, from 0 in the order in which the objects are made.
+/// The number of a state object, from 0 in the order in which the objects are created.
 pub type ObjectNo = u64;
 
-/// A watcher's number, from 0. A watcher is whoever asks what changed since it asked last, as the recomposer
-/// does by its apply observer; this project's own rule.
+/// The number of a watcher, from 0. A watcher asks which objects changed since its last request, as the recomposer
+/// does by its apply observer. Numbered watchers are a rule of this project.
 pub type WatcherNo = u64;
 
-/// Who calls: an actor's number. Only the owner of a snapshot may use it; this project's own rule.
+/// The number of the actor that makes a call. Only the owner of a snapshot may use it, a rule of this project.
 pub type Caller = u64;
 
-/// Whether a snapshot may be written (`MutableSnapshot` and `ReadonlySnapshot`).
+/// The kind of a snapshot: whether it can be written (`MutableSnapshot` and `ReadonlySnapshot`).
 #[derive(Clone, Copy, Debug, PartialEq, Eq)]
 pub enum Kind {
     Mutable,
     Readonly,
 }
 
-/// A request for memory was refused.
+/// The error that an allocation failed.
 #[derive(Clone, Copy, Debug, PartialEq, Eq)]
 pub struct NoMemory;
 

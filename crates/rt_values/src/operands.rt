@@ -1,5 +1,5 @@
-// How operators read their operands: a value of another type as 0, as false, as the empty text or as the empty
-// list. This project's own rule, by which no operator fails.
+// Conversions of operands to the type that an operator needs. A value of another type counts as 0, false, the empty
+// text or the empty list. By this rule of the project no operator fails.
 ghost use Rattle.std.specs.Prelude.{◌≡◌, IfOk};
 ghost use Rattle.rt_values.specs.Operators.{number_of, is_true, text_of, items_of, plain_text};
 
@@ -7,7 +7,7 @@ use crate::{IntList, NoMemory, Txt, Value};
 use std::alloc::Global;
 
 impl Value {
-    /// The number, or 0 of another type.
+    /// Returns the number, or 0 for a value of another type.
     pub fn number(&self) -> i64
         ensures { result ≡ number_of self.now }
     {
@@ -17,7 +17,7 @@ impl Value {
         }
     }
 
-    /// The truth value, or false of another type.
+    /// Returns the truth value, or false for a value of another type.
     pub fn is_true(&self) -> bool
         ensures { result ≡ is_true self.now }
     {
@@ -27,7 +27,7 @@ impl Value {
         }
     }
 
-    /// The characters of the text, or none of another type.
+    /// Returns the characters of the text, or the empty string for a value of another type.
     pub fn chars(&self) -> &str
         ensures { result.now ≡ text_of self.now }
     {
@@ -37,7 +37,7 @@ impl Value {
         }
     }
 
-    /// The items of the list, or none of another type.
+    /// Returns the items of the list, or an empty slice for a value of another type.
     pub fn items(&self) -> &[i64]
         ensures { result.now ≡ items_of self.now }
     {
@@ -47,7 +47,7 @@ impl Value {
         }
     }
 
-    /// The text, or the empty text of another type. It takes no memory.
+    /// Returns the text, or the empty text for a value of another type. Takes no memory.
     pub fn into_text(self, alloc: Global) -> Txt
         ensures { result ≡ text_of self }
     {
@@ -57,7 +57,7 @@ impl Value {
         }
     }
 
-    /// The list, or the empty list of another type. It takes no memory.
+    /// Returns the list, or the empty list for a value of another type. Takes no memory.
     pub fn into_list(self, alloc: Global) -> IntList
         ensures { result ≡ items_of self }
     {
@@ -67,7 +67,7 @@ impl Value {
         }
     }
 
-    /// A number by its decimals, or a truth value as `true` or `false`; a text or a list gives the empty text.
+    /// Returns the decimal digits of a number, or `true` or `false`. A text or a list gives the empty text.
     pub fn to_text(&self, alloc: Global) -> Result<Txt, NoMemory>
         ensures { IfOk result (λ t. t ≡ plain_text self.now) }
     {

@@ -1,4 +1,4 @@
-// Texts: values of the type Text.
+// The string type behind values of the type Text.
 ghost use Rattle.std.specs.Prelude.{◌≡◌, ◌≤◌, Bool, List, ℕ, length, [], IfOk, IsUtf8};
 ghost use Rattle.std.specs.Str.{bytes_eq};
 ghost use Rattle.std.specs.Fmt.{signed_decimal};
@@ -29,10 +29,10 @@ impl Model for Txt {
 }
 
 impl Txt {
-    /// The most bytes that a text has; this project's own rule.
+    /// The maximum number of bytes, a rule of this project.
     pub const MOST_BYTES: usize = 4096;
 
-    /// The text with these characters.
+    /// Returns a copy of `text`.
     pub fn from_str(alloc: Global, text: &str) -> Result<Self, NoMemory>
         requires { length text.now ≤ most_bytes }
         ensures { IfOk result (λ t. t ≡ text.now) }
@@ -42,7 +42,7 @@ impl Txt {
         })
     }
 
-    /// The text with these bytes.
+    /// Returns the text with these bytes, which are UTF-8.
     pub fn of(alloc: Global, bytes: &[u8]) -> Result<Self, NoMemory>
         requires utf8 { IsUtf8 bytes.now }
         requires fits { length bytes.now ≤ most_bytes }
@@ -54,7 +54,7 @@ impl Txt {
         }
     }
 
-    /// The text of no character. It takes no memory.
+    /// Returns the empty text. Takes no memory.
     pub fn new(alloc: Global) -> Self
         ensures { result ≡ [] }
     {
@@ -63,21 +63,21 @@ impl Txt {
         }
     }
 
-    /// A number by its decimals.
+    /// Returns the decimal digits of a number, with a minus sign if it is negative.
     pub fn of_number(alloc: Global, number: i64) -> Result<Self, NoMemory>
         ensures { IfOk result (λ t. t ≡ signed_decimal number) }
     {
         Txt::from_str(alloc, Buffer::new().format(number))
     }
 
-    /// `true` or `false`.
+    /// Returns `true` or `false`.
     pub fn of_truth(alloc: Global, truth: bool) -> Result<Self, NoMemory>
         ensures { IfOk result (λ t. t ≡ truth_text truth) }
     {
         Txt::from_str(alloc, if truth { "true" } else { "false" })
     }
 
-    /// One text and then the other, cut to the longest front of whole characters that has at most
+    /// Returns `first` followed by `second`, cut to the longest prefix of whole characters with at most
     /// `Txt::MOST_BYTES` bytes.
     pub fn join(alloc: Global, first: &Txt, second: &Txt) -> Result<Self, NoMemory>
         ensures { IfOk result (λ t. t ≡ joined_text first.now second.now) }
@@ -89,14 +89,14 @@ impl Txt {
         Ok(Txt { text })
     }
 
-    /// Its characters.
+    /// Returns the characters.
     pub fn as_str(&self) -> &str
         ensures { result.now ≡ self.now }
     {
         self.text.as_str()
     }
 
-    /// Its bytes: UTF-8, and at most `Txt::MOST_BYTES` of them.
+    /// Returns the bytes: UTF-8, at most `Txt::MOST_BYTES` of them.
     pub fn bytes(&self) -> &[u8]
         ensures bytes { result.now ≡ self.now }
         ensures utf8 { IsUtf8 self.now }
@@ -105,7 +105,7 @@ impl Txt {
         self.text.as_str().as_bytes()
     }
 
-    /// Another text that is the same.
+    /// Returns a copy.
     pub fn copy(&self, alloc: Global) -> Result<Self, NoMemory>
         ensures { IfOk result (λ t. t ≡ self.now) }
     {
@@ -114,7 +114,7 @@ impl Txt {
         })
     }
 
-    /// Whether both have the same characters.
+    /// Returns whether both texts have the same characters.
     pub fn same(&self, other: &Txt) -> bool
         ensures { result ≡ bytes_eq self.now other.now }
     {
@@ -122,7 +122,7 @@ impl Txt {
     }
 }
 
-// The longest front of whole characters that has at most `room` bytes.
+// Returns the longest prefix of whole characters with at most `room` bytes.
 fn front(text: &str, room: usize) -> &str
     ensures { result.now ≡ front room text.now }
 {

@@ -1,4 +1,4 @@
-// Values of states and expressions, and their types.
+// Values of states and expressions, with their types and printed forms.
 ghost use Rattle.std.specs.Prelude.{◌≡◌, ◌++◌, ◌∷◌, [], ◌↔◌, List, ℕ, codes, true, IfOk, OnOk, OnErr};
 ghost use Rattle.std.specs.Fmt.{signed_decimal};
 ghost use Rattle.rt_values.specs.Values.{type_of, same_type, same_value, value_text, truth_text, escape, escaped, items_text, is_flat};
@@ -10,7 +10,7 @@ use std::alloc::Global;
 /// The type of a state's values.
 #[derive(Clone, Copy, Debug, PartialEq, Eq)]
 pub enum Ty {
-    /// Whole numbers of 64 bits with a sign.
+    /// Signed whole numbers of 64 bits.
     Int,
     /// Truth values.
     Bool,
@@ -21,7 +21,7 @@ pub enum Ty {
 }
 
 impl Ty {
-    /// Whether both are one type.
+    /// Returns whether both types are equal.
     pub fn same(self, other: Ty) -> bool
         ensures { result ≡ same_type self other }
     {
@@ -44,7 +44,7 @@ pub enum Value {
 }
 
 impl Value {
-    /// The type that it is of.
+    /// Returns the type of the value.
     pub fn ty(&self) -> Ty
         ensures { result ≡ type_of self.now }
     {
@@ -56,7 +56,7 @@ impl Value {
         }
     }
 
-    /// Another value that is the same. The copy of a number or a truth value takes no memory.
+    /// Returns a copy. Copying a number or a truth value takes no memory.
     #[inline]
     pub fn copy(&self, alloc: Global) -> Result<Value, NoMemory>
         ensures same { IfOk result (λ v. v ≡ self.now) }
@@ -70,7 +70,7 @@ impl Value {
         }
     }
 
-    /// Whether both are equal, as `structuralEqualityPolicy` asks.
+    /// Returns whether both values are equal, as `structuralEqualityPolicy` tests it. Values of two types differ.
     pub fn same(&self, other: &Value) -> bool
         ensures value { result ≡ same_value self.now other.now }
         ensures equal { (result ≡ true) ↔ (self.now ≡ other.now) }
@@ -84,21 +84,21 @@ impl Value {
         }
     }
 
-    /// Adds its printed form, as a program's text writes a literal, to the end of a text.
+    /// Appends the printed form to the output buffer `text`: the literal that a program writes for the value.
     pub fn put(&self, text: &mut Vec<u8>) -> Result<(), NoMemory>
         ensures { OnOk result (text.new.items ≡ text.old.items ++ value_text self.now) }
     {
         match self {
-            Value::Int(number) => put_number(text, *number),
-            Value::Bool(truth) => put_truth(text, *truth),
-            Value::Text(chars) => put_string(text, chars),
-            Value::Ints(list) => put_list(text, list),
+            Value::Int(number) => append_number(text, *number),
+            Value::Bool(truth) => append_truth(text, *truth),
+            Value::Text(chars) => append_string(text, chars),
+            Value::Ints(list) => append_list(text, list),
         }
     }
 }
 
-// The decimals of a number.
-fn put_number(text: &mut Vec<u8>, number: i64) -> Result<(), NoMemory>
+// Appends the decimal digits of `number`.
+fn append_number(text: &mut Vec<u8>, number: i64) -> Result<(), NoMemory>
     ensures { OnOk result (text.new.items ≡ text.old.items ++ signed_decimal number) }
 {
     let mut digits = Buffer::new();
@@ -106,8 +106,8 @@ fn put_number(text: &mut Vec<u8>, number: i64) -> Result<(), NoMemory>
     Ok(())
 }
 
-// `true` or `false`.
-fn put_truth(text: &mut Vec<u8>, truth: bool) -> Result<(), NoMemory>
+// Appends `true` or `false`.
+fn append_truth(text: &mut Vec<u8>, truth: bool) -> Result<(), NoMemory>
     ensures { OnOk result (text.new.items ≡ text.old.items ++ truth_text truth) }
 {
     let word: &[u8] = if truth { b"true" } else { b"false" };
@@ -115,8 +115,8 @@ fn put_truth(text: &mut Vec<u8>, truth: bool) -> Result<(), NoMemory>
     Ok(())
 }
 
-// A byte of a string, escaped where it needs to be.
-fn put_char(text: &mut Vec<u8>, c: u8) -> Result<(), NoMemory>
+// Appends one byte of a string literal, with a backslash escape for a quote, a backslash and a line feed.
+fn append_escaped(text: &mut Vec<u8>, c: u8) -> Result<(), NoMemory>
     ensures { OnOk result (text.new.items ≡ text.old.items ++ escape c) }
 {
     match c {
@@ -128,37 +128,37 @@ fn put_char(text: &mut Vec<u8>, c: u8) -> Result<(), NoMemory>
     Ok(())
 }
 
-// A string in its quotes.
-#[tactic(auto, using(crate::proofs::Printed::strings))]
-fn put_string(text: &mut Vec<u8>, chars: &Txt) -> Result<(), NoMemory>
+// Appends a string literal with its quotes.
+#[tactic(auto, using(crate::proofs::PrintedForms::strings))]
+fn append_string(text: &mut Vec<u8>, chars: &Txt) -> Result<(), NoMemory>
     ensures { OnOk result (text.new.items ≡ text.old.items ++ 34 ∷ escaped chars.now ++ 34 ∷ []) }
 {
     text.push(b'"')?;
     for c in chars.bytes() {
-        put_char(text, *c)?;
+        append_escaped(text, *c)?;
     }
     text.push(b'"')?;
     Ok(())
 }
 
-// The numbers of a list, each with a blank before it.
-#[tactic(auto, using(crate::proofs::Printed::lists))]
-fn put_items(text: &mut Vec<u8>, items: &[i64]) -> Result<(), NoMemory>
+// Appends the numbers of a list, each after a space.
+#[tactic(auto, using(crate::proofs::PrintedForms::lists))]
+fn append_items(text: &mut Vec<u8>, items: &[i64]) -> Result<(), NoMemory>
     ensures { OnOk result (text.new.items ≡ text.old.items ++ items_text items.now) }
 {
     for item in items {
         text.push(b' ')?;
-        put_number(text, *item)?;
+        append_number(text, *item)?;
     }
     Ok(())
 }
 
-// A list as the form that makes it.
-fn put_list(text: &mut Vec<u8>, list: &IntList) -> Result<(), NoMemory>
+// Appends a list as the form `(ints 1 2)`.
+fn append_list(text: &mut Vec<u8>, list: &IntList) -> Result<(), NoMemory>
     ensures { OnOk result (text.new.items ≡ text.old.items ++ (codes "(ints" ++ items_text list.now ++ 41 ∷ [])) }
 {
     text.extend_from_slice(b"(ints")?;
-    put_items(text, list.items())?;
+    append_items(text, list.items())?;
     text.push(b')')?;
     Ok(())
 }

@@ -1,26 +1,25 @@
-// Names of programs.
+// Identifiers of programs, stored compactly.
 ghost use Rattle.std.specs.Prelude.{◌≡◌, ◌≤◌, Bool, List, ℕ, length, IfOk};
 ghost use Rattle.std.specs.Str.{bytes_eq};
-ghost use Rattle.rt_values.specs.Spelling.{spelled};
+ghost use Rattle.rt_values.specs.WordLetters.{letter_bytes};
 
 use crate::NoMemory;
 use std::alloc::Global;
 use std::marker::Model;
 use std::sync::Arc;
 
-// The most bytes that lie in a word itself.
+// The maximum number of bytes that a word stores inline.
 const ROOM: usize = 14;
 
-// Where the bytes of a word lie: in the word itself, the first `len` of its room, or where they are more, in a list
-// that it shares with its copies.
+// The bytes of a word: inline, as the first `len` bytes of `room`, or in a list that the word shares with its copies.
 #[derive(Drop)]
 enum Letters {
     Short { len: u8, room: [u8; ROOM] },
     Long(Arc<Vec<u8>>),
 }
 
-/// A name of a program, by its bytes: of a state, a function, a variable, a node's kind or attribute, an actor. To copy
-/// a short one is to copy some bytes, and a copy of a long one shares them.
+/// The letters of an identifier: the name of a state, a function, a variable, a node's kind, an attribute or an
+/// actor. A short word is copied byte by byte, and copies of a long word share its bytes.
 #[derive(Drop)]
 pub struct Word {
     letters: Letters,
@@ -28,17 +27,17 @@ pub struct Word {
 
 impl Model for Word {
     ghost use Rattle.std.specs.Prelude.{List, ℕ};
-    ghost use Rattle.rt_values.specs.Spelling.{spelled, IsSound};
+    ghost use Rattle.rt_values.specs.WordLetters.{letter_bytes, IsSound};
 
     ghost Value = { List ℕ };
 
-    ghost view = { λ w. spelled w.letters };
+    ghost view = { λ w. letter_bytes w.letters };
 
     ghost invariant = { λ w. IsSound w.letters };
 }
 
 impl Word {
-    /// The name with these bytes.
+    /// Returns the word with these bytes.
     pub fn of(alloc: Global, bytes: &[u8]) -> Result<Self, NoMemory>
         ensures { IfOk result (λ w. w ≡ bytes.now) }
     {
@@ -57,7 +56,7 @@ impl Word {
         })
     }
 
-    /// Its bytes.
+    /// Returns the bytes.
     #[inline]
     pub fn bytes(&self) -> &[u8]
         ensures { result.now ≡ self.now }
@@ -68,7 +67,7 @@ impl Word {
         }
     }
 
-    /// Another name with the same bytes.
+    /// Returns a copy. A word of more than 14 bytes shares its bytes with the copy.
     #[inline]
     pub fn copy(&self) -> Result<Self, NoMemory>
         ensures { IfOk result (λ w. w ≡ self.now) }
@@ -83,7 +82,7 @@ impl Word {
         Ok(Word { letters })
     }
 
-    /// Whether its bytes are these.
+    /// Returns whether the word has exactly these bytes.
     pub fn is(&self, bytes: &[u8]) -> bool
         ensures { result ≡ bytes_eq self.now bytes.now }
     {

@@ -1,5 +1,5 @@
 use Rattle.std.proofs.Common.{◌∙◌}
-use Rattle.rt_values.proofs.Fronts.{front-is}
+use Rattle.rt_values.proofs.TextPrefixes.{front-is}
 use Rattle.rt_values.proofs.text.front.Goals as goal
 
 pub returns : goal.returns

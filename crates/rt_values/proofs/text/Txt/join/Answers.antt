@@ -1,6 +1,6 @@
 use Rattle.std.proofs.Common.{◌≡◌, ◌≤◌, ◌-◌, ◌++◌, ◌∙◌, length, arith, ap, string_bytes}
 use Rattle.rt_values.specs.Operators.{front, joined_text}
-use Rattle.rt_values.proofs.Fronts.{joined_text-is}
+use Rattle.rt_values.proofs.TextPrefixes.{joined_text-is}
 use Rattle.rt_values.proofs.text.Txt.join.Goals as goal
 
 both : (c : goal.In_ok-push_str) → (string_bytes c.push_str.new.self ≡ joined_text c.args.first.now c.args.second.now) × (length (string_bytes c.push_str.new.self) ≤ 4096)

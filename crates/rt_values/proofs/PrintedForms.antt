@@ -1,4 +1,4 @@
--- Laws of printed values.
+-- Laws of printed values, for loops that append them item by item.
 use Rattle.std.proofs.Common.{◌≡◌, ◌<◌, ℕ, ◌+◌, ℤ, pos, List, [], ◌∷◌, ◌++◌, refl, sym, ap, ◌∙◌, length, take, get_or, append_assoc, add-one}
 use Rattle.std.proofs.Math.Seq.{take-suc}
 use Rattle.std.proofs.lemmas.List.{append-nil}
@@ -10,7 +10,7 @@ escaped-append : (xs ys : List ℕ) → escaped (xs ++ ys) ≡ escaped xs ++ esc
 escaped-append [] ys = refl
 escaped-append (x ∷ xs) ys = ap (λ l. escape x ++ l) (escaped-append xs ys) ∙ sym (append_assoc (escape x) (escaped xs) (escaped ys))
 
--- one more byte of a string
+-- The literal of a prefix that is one byte longer.
 pub escaped-more : (xs : List ℕ) (i : ℕ) → i < length xs → escaped (take (i + 1) xs) ≡ escaped (take i xs) ++ escape (get_or xs i 0)
 escaped-more xs i lt =
     ap (λ n. escaped (take n xs)) (add-one i) ∙ ap escaped (take-suc xs i 0 lt) ∙ escaped-append (take i xs) (get_or xs i 0 ∷ [])
@@ -24,7 +24,7 @@ items_text-append (x ∷ xs) ys =
     ap (λ l. 32 ∷ signed_decimal x ++ l) (items_text-append xs ys)
     ∙ ap (λ l. 32 ∷ l) (sym (append_assoc (signed_decimal x) (items_text xs) (items_text ys)))
 
--- one more number of a list
+-- The literal of a prefix that is one number longer.
 pub items_text-more : (xs : List ℤ) (i : ℕ) (d : ℤ) → i < length xs → items_text (take (i + 1) xs) ≡ items_text (take i xs) ++ 32 ∷ signed_decimal (get_or xs i d)
 items_text-more xs i d lt =
     ap (λ n. items_text (take n xs)) (add-one i) ∙ ap items_text (take-suc xs i d lt) ∙ items_text-append (take i xs) (get_or xs i d ∷ [])

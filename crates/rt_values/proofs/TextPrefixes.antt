@@ -1,4 +1,4 @@
--- Fronts of whole characters.
+-- Prefixes of whole characters.
 use Rattle.std.proofs.Common.{◌≡◌, ◌≤◌, ◌<◌, ◌⊎◌, inl, inr, subst, ℕ, zero, suc, ◌+◌, ◌-◌, Bool, true, false, List, [], ◌++◌, length, take, refl, sym, ap, ◌∙◌, arith, length-append}
 use Rattle.std.specs.Str.{IsUtf8, is_utf8, IsCharBoundary}
 use Rattle.std.specs.Prelude.{if◌then◌else◌}
@@ -18,7 +18,7 @@ by_le_or_gt {P = P} m n f g = by (le_or_gt m n)
     by (inl le) = f le
     by (inr gt) = g gt
 
--- a front that is UTF-8 is taken whole
+-- A prefix that is UTF-8 is the result itself.
 front_at : (n : ℕ) (t : List ℕ) → is_utf8 (take n t) ≡ true → front n t ≡ take n t
 unfolding front
 front_at zero t whole = refl
@@ -37,7 +37,7 @@ length-front (suc n) t = by (is_utf8 (take (suc n) t)) (length-front n t)
     by true less = let l = length-take (suc n) t in omega (arith, l)
     by false less = omega (arith, less)
 
--- the last boundary at or before a place ends the front
+-- The result ends at the last character boundary at or before the limit.
 pub front-is : (n r : ℕ) (t : List ℕ) → IsUtf8 t → r ≤ n → IsCharBoundary t r → ((i : ℕ) → r < i → i ≤ n → ¬ (IsCharBoundary t i)) → take r t ≡ front n t
 front-is zero r t utf8 before boundary last =
     let start : r ≡ 0 = omega (arith, before) in
@@ -80,7 +80,7 @@ utf8-behind s t utf8 =
     is_utf8-from_IsUtf8 t (subst IsUtf8 (drop-append_seam s t) (IsUtf8-drop _ _ all seam)))
     (λ e. is_utf8-from_IsUtf8 _ (IsUtf8-append s t utf8 (IsUtf8-from_is_utf8 t e)))
 
--- whole characters stand in front of a front
+-- A prefix of a text after whole characters consists of them and a prefix of the text.
 front-behind : (s t : List ℕ) (n : ℕ) → IsUtf8 s → front (length s + n) (s ++ t) ≡ s ++ front n t
 front-behind s t zero utf8 =
     let seam : take (length s + 0) (s ++ t) ≡ s = ap (λ m. take m (s ++ t)) (omega arith) ∙ take-append_seam s t in
@@ -102,15 +102,15 @@ front-behind s t (suc n) utf8 = by (front-behind s t n utf8) (is_utf8 (take (suc
         ap (λ m. front m (s ++ t)) one_more ∙ front_before _ _ (ap (λ m. is_utf8 (take m (s ++ t))) (sym one_more) ∙ told ∙ e) ∙ shorter
         ∙ ap (λ l. s ++ l) (sym (front_before n t e))
 
-joined : (s t : List ℕ) (n : ℕ) → IsUtf8 s → length s ≤ n → s ++ front (n - length s) t ≡ front n (s ++ t)
-joined s t n utf8 fits =
+joined_prefix : (s t : List ℕ) (n : ℕ) → IsUtf8 s → length s ≤ n → s ++ front (n - length s) t ≡ front n (s ++ t)
+joined_prefix s t n utf8 fits =
     let whole : length s + (n - length s) ≡ n = omega (arith, fits) in
     sym (front-behind s t (n - length s) utf8) ∙ ap (λ m. front m (s ++ t)) whole
 
--- one text and as much of the other as fits
+-- One text and as much of the other as the limit allows.
 pub joined_text-is : (all front_part more s t : List ℕ) → IsUtf8 front_part → front_part ≡ s → all ≡ front_part ++ more → more ≡ front (4096 - length front_part) t → length front_part ≤ 4096
     → (all ≡ joined_text s t) × (length all ≤ 4096)
 joined_text-is all front_part more s t utf8 same is_all is_more fits =
-    let whole : all ≡ joined_text front_part t = is_all ∙ ap (λ l. front_part ++ l) is_more ∙ joined front_part t 4096 utf8 fits in
+    let whole : all ≡ joined_text front_part t = is_all ∙ ap (λ l. front_part ++ l) is_more ∙ joined_prefix front_part t 4096 utf8 fits in
     let short = length-front 4096 (front_part ++ t) in
     (whole ∙ ap (λ l. joined_text l t) same, omega (arith, ap length whole, short))

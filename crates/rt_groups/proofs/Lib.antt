@@ -1,0 +1,2 @@
+pub mod ReplacedItems
+pub mod GroupForests

@@ -1,0 +1,5 @@
+pub mod GroupForest
+pub mod PreorderGroups
+pub mod Paths
+pub mod Frames
+pub mod Nodes
