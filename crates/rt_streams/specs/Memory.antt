@@ -1,12 +1,13 @@
--- A source and a sink in memory, as contracts see them, and which of their calls fail.
+-- Trusted: the source and the sink in memory that tests use, and which of their calls fail.
 use Rattle.std.specs.Prelude.{ℕ, List, Bool, true, not, ◌&&◌, ◌==◌, Ok, Err}
 use Rattle.std.specs.declared.result.Result.{Result}
 use Rattle.rt_streams.specs.declared.source.Failed.{Failed}
 use Rattle.std.specs.List.{list_any}
-use Rattle.rt_streams.specs.Streams.{one_more}
+use Rattle.rt_streams.specs.Streams.{next_count}
 
--- A source: the bytes not yet handed out, how many were, modulo 2^64, and the most that one call hands out; then the
--- numbers of the calls that are to fail, counted from 1, how many calls were made, and how many of them failed.
+-- A source in memory. `left` are the bytes not yet read, `taken` is the number of bytes read, modulo 2^64, and `piece`
+-- is the most that one call reads. `failing` are the numbers, from 1, of the calls that fail, `calls` is the number of
+-- calls so far, and `faults` the number of those that failed.
 pub record Feed : Type 0 where
   pub left : List ℕ
   pub taken : ℕ
@@ -15,8 +16,9 @@ pub record Feed : Type 0 where
   pub calls : ℕ
   pub faults : ℕ
 
--- A sink: the bytes written, how many more there is room for, and the most that one call takes; then its calls as above,
--- where a call that took nothing of a piece with bytes is among the faults.
+-- A sink in memory. `written` are the bytes written, `room` is the number of bytes that still fit, and `piece` is the
+-- most that one call writes. The other fields are those of a source; a call that took no byte of a non-empty piece is
+-- a fault too.
 pub record Store : Type 0 where
   pub written : List ℕ
   pub room : ℕ
@@ -25,11 +27,11 @@ pub record Store : Type 0 where
   pub calls : ℕ
   pub faults : ℕ
 
--- the next call is one of those that are to fail
+-- Whether the next call fails.
 abbrev pub fails_next : List ℕ → ℕ → Bool
-fails_next failing calls = list_any (λ n. n == one_more calls) failing
+fails_next failing calls = list_any (λ n. n == next_count calls) failing
 
--- a write of a piece of this length failed, or took nothing of a piece that has bytes
+-- Whether a write of a piece of this length is a fault: it failed, or took no byte of a non-empty piece.
 abbrev pub is_fault : Result ℕ Failed → ℕ → Bool
 is_fault (Err failed) length = true
 is_fault (Ok n) length = (n == 0) && not (length == 0)

@@ -1,11 +1,11 @@
-// A source and a sink over std's readers and writers: the trusted edge, which tells no content.
+// A source and a sink over std's readers and writers. Both are trusted: no clause says which bytes they pass.
 ghost use Rattle.std.specs.Prelude.{◌≡◌, ◌≤◌, None};
 ghost use Rattle.rt_streams.specs.Streams.{HasCause, Rose};
 
 use crate::{Failed, Sink, Source};
 use std::io::{Read, Write};
 
-// Counts a fault.
+// Adds 1 to the count of faults.
 fn failed(faults: &mut u64) -> Failed
     ensures later { faults.old ≤ faults.new }
     ensures rose { Rose faults.old faults.new }
@@ -14,8 +14,8 @@ fn failed(faults: &mut u64) -> Failed
     Failed
 }
 
-/// A source over a reader, as standard input. It tells no bytes. Each `Err` of the reader is a fault.
-/// This project's own edge.
+/// A source over a reader, such as standard input. The bytes left are unknown. Each `Err` of the reader
+/// is a fault. This project's own rule.
 #[derive(Drop)]
 pub struct Reading<R> {
     inner: R,
@@ -24,7 +24,7 @@ pub struct Reading<R> {
 }
 
 impl<R: Read> Reading<R> {
-    /// A source of which nothing was taken yet.
+    /// Makes a source over `inner`, with both counters at 0.
     pub fn new(inner: R) -> Self
         ensures taken { ⟦<Reading<R> as Source>⟧.taken result ≡ 0 }
         ensures faults { ⟦<Reading<R> as Source>⟧.faults result ≡ 0 }
@@ -55,11 +55,11 @@ impl<R: Read> Source for Reading<R> {
     }
 }
 
-/// A sink over a writer, as standard output. It tells no bytes. Each `Err` of the writer is a fault,
-/// and so is each write that takes nothing of a piece that has bytes. This project's own edge.
+/// A sink over a writer, such as standard output. The bytes written are unknown. Each `Err` of the writer
+/// is a fault, and so is each write that takes no byte of a non-empty piece. This project's own rule.
 ///
-/// Give it a `std::io::BufWriter` where many short pieces are written, and call `flush` at the end:
-/// what a buffer still holds is not written when it is dropped without a fault being told.
+/// For many short pieces use a `std::io::BufWriter`. Call `flush` before dropping it: a dropped buffer
+/// loses the bytes that it holds, and no error is reported.
 #[derive(Drop)]
 pub struct Writing<W> {
     inner: W,
@@ -67,16 +67,17 @@ pub struct Writing<W> {
 }
 
 impl<W: Write> Writing<W> {
-    /// A sink to which nothing was written yet.
+    /// Makes a sink over `inner`, with the count of faults at 0.
     pub fn new(inner: W) -> Self
         ensures faults { ⟦<Writing<W> as Sink>⟧.faults result ≡ 0 }
     {
         Writing { inner, faults: 0 }
     }
 
-    /// Writes out what the writer holds back. It fails only with a fault.
+    /// Flushes the writer. A failed flush is counted as a fault.
     pub fn flush(&mut self) -> Result<(), Failed>
-        ensures cause { HasCause (⟦<Writing<W> as Sink>⟧.faults self.old) (⟦<Writing<W> as Sink>⟧.faults self.new) result }
+        ensures cause { HasCause (⟦<Writing<W> as Sink>⟧.faults self.old)
+            (⟦<Writing<W> as Sink>⟧.faults self.new) result }
     {
         match self.inner.flush() {
             Ok(()) => Ok(()),

@@ -1,13 +1,12 @@
-//! Where the program reads its input and writes its lines, and how faults of both are told.
+//! Byte streams: where the program reads its input and writes its lines, and how faults are counted.
 //!
-//! The layer above reads its whole input by `read_all` and hands each line to a sink by `write_all`. A
-//! `Gate` says when a worker in a thread may make its next step; no worker asks it yet. No part of
-//! Compose stands here: its runtime reads and writes nothing, and this is this project's own edge to
-//! the outside.
+//! The layer above reads its whole input with `read_all` and writes each line with `write_all`. A `Gate`
+//! decides when a worker thread may make its next step; there are no worker threads yet. Compose has no
+//! counterpart, since its runtime does no I/O: this crate is the project's own edge to the outside.
 //!
-//! Promised: the bytes that a source tells are those that `read_all` gives, to their end, and at most
-//! one byte past the limit is ever taken; the bytes that a sink tells are those given, and a first
-//! part of them after a fault; and each error has its cause in a count, of bytes taken or of faults.
+//! Promises: `read_all` returns exactly the bytes that a source has left, and never takes more than one
+//! byte past the limit. `write_all` writes exactly the bytes given, or a prefix after a fault. Both stop
+//! at the first fault. A counter, of bytes taken or of faults, shows the cause of each error.
 #![tactic(auto)]
 
 mod adapters;
@@ -15,8 +14,6 @@ mod gate;
 mod memory;
 mod sink;
 mod source;
-#[cfg(test)]
-mod tests;
 
 pub use adapters::{Reading, Writing};
 pub use gate::{Gate, OpenGate};

@@ -1,45 +1,45 @@
-// A source and a sink in memory, for tests: each fails at the calls that it is told to fail at.
-ghost use Rattle.std.specs.Prelude.{◌≡◌, ◌<◌, ◌≤◌, ◌+◌, ◌-◌, ◌%◌, ◌^◌, ◌↔◌, ◌&&◌, ◌==◌, ℕ, [], min, drop, take, length, Some, IfOk, OnErr, IsErr, IsTrue, is_err, vec_len, vec_capacity, if◌then◌else◌};
+// A source and a sink in memory, for tests. Each fails at the calls that its list of failing calls names.
+ghost use Rattle.std.specs.Prelude.{◌≡◌, ◌<◌, ◌≤◌, ◌+◌, ◌-◌, ◌%◌, ◌^◌, ◌↔◌, ◌&&◌, ◌==◌, ℕ, [], min, drop, take, length, Some, IfOk, OnOk, OnErr, IsErr, IsTrue, is_err, vec_len, vec_capacity, if◌then◌else◌};
 ghost use Rattle.std.specs.Io.KnownBytes.{Keeps, Appends};
-ghost use Rattle.rt_streams.specs.Streams.{Rose, HasCause, HandsOut, Counts, one_more};
+ghost use Rattle.rt_streams.specs.Streams.{Rose, HasCause, HandsOut, IsTaken, CountsBytes, next_count};
 ghost use Rattle.rt_streams.specs.Memory.{Feed, Store, fails_next, is_fault};
 
 use crate::{Failed, Sink, Source};
 use std::alloc::{AllocError, Global};
 use std::marker::Model;
 
-// The calls that were made, and those that are to fail. Each count stays at its last value.
+// The number of calls so far, the calls that fail, and the number of faults. Each counter stops at 2^64 - 1.
 #[derive(Drop)]
-struct Calls {
+struct CallCounter {
     failing: Vec<u64>,
     made: u64,
     faults: u64,
 }
 
-impl Calls {
+impl CallCounter {
     fn new(failing: Vec<u64>) -> Self
         ensures { result ≡ record { failing = failing; made = 0; faults = 0 } }
     {
-        Calls {
+        CallCounter {
             failing,
             made: 0,
             faults: 0,
         }
     }
 
-    // Counts a fault.
+    // Adds 1 to the count of faults.
     fn fault(&mut self)
-        ensures { self.new ≡ record self.old { faults = one_more self.old.faults } }
+        ensures { self.new ≡ record self.old { faults = next_count self.old.faults } }
     {
         self.faults = self.faults.saturating_add(1);
     }
 
-    // Counts the next call, which fails where its number is listed.
+    // Counts the next call, and fails if `failing` contains its number.
     fn next(&mut self) -> Result<(), Failed>
         ensures fails { IsErr result ↔ IsTrue (fails_next self.old.failing.items self.old.made) }
         ensures failing { self.new.failing ≡ self.old.failing }
-        ensures made { self.new.made ≡ one_more self.old.made }
-        ensures faults { self.new.faults ≡ (if is_err result then one_more self.old.faults else self.old.faults) }
+        ensures made { self.new.made ≡ next_count self.old.made }
+        ensures faults { self.new.faults ≡ (if is_err result then next_count self.old.faults else self.old.faults) }
     {
         self.made = self.made.saturating_add(1);
         if self.failing.contains(&self.made) {
@@ -50,13 +50,13 @@ impl Calls {
     }
 }
 
-/// Bytes that are handed out in pieces of a greatest length, for tests. This project's own rule.
+/// A source over bytes in memory, for tests. This project's own rule.
 #[derive(Drop)]
 pub struct MemSource {
     bytes: Vec<u8>,
     at: usize,
     piece: usize,
-    calls: Calls,
+    calls: CallCounter,
 }
 
 impl Model for MemSource {
@@ -65,13 +65,20 @@ impl Model for MemSource {
 
     ghost Value = { Feed };
 
-    ghost view = { λ s. record { left = drop s.at s.bytes.items; taken = s.at % 2 ^ 64; piece = s.piece; failing = s.calls.failing.items; calls = s.calls.made; faults = s.calls.faults } };
+    ghost view = { λ s. record {
+      left = drop s.at s.bytes.items;
+      taken = s.at % 2 ^ 64;
+      piece = s.piece;
+      failing = s.calls.failing.items;
+      calls = s.calls.made;
+      faults = s.calls.faults;
+    } };
 
     ghost invariant = { λ s. (s.at ≤ length s.bytes.items) × (0 < s.piece) };
 }
 
 impl MemSource {
-    /// A source of `bytes`, of which each call hands out at most `piece`. The calls whose numbers,
+    /// Makes a source of `bytes`, of which each call reads at most `piece`. The calls whose numbers,
     /// counted from 1, are in `failing` fail.
     pub fn new(bytes: Vec<u8>, piece: usize, failing: Vec<u64>) -> Self
         requires { 0 < piece }
@@ -86,7 +93,7 @@ impl MemSource {
             bytes,
             at: 0,
             piece,
-            calls: Calls::new(failing),
+            calls: CallCounter::new(failing),
         }
     }
 }
@@ -101,18 +108,19 @@ impl Source for MemSource {
     fn read(&mut self, buf: &mut [u8]) -> Result<usize, Failed>
         ensures bound { IfOk result (λ n. n ≤ length buf.new) }
         ensures bytes { IfOk result (λ n. HandsOut (Some self.old.left) (Some self.new.left) n buf.new) }
-        ensures counts { IfOk result (λ n. Counts self.old.taken self.new.taken n) }
+        ensures counts { IfOk result (λ n. CountsBytes self.old.taken self.new.taken n) }
         ensures err { OnErr result (Keeps (Some self.old.left) (Some self.new.left)) }
         ensures err_counts { OnErr result (self.new.taken ≡ self.old.taken) }
+        ensures clean { OnOk result (self.new.faults ≡ self.old.faults) }
         ensures cause { HasCause self.old.faults self.new.faults result }
 
-        // A listed call fails, and no other. Each other hands out all that it may.
+        // Exactly the listed calls fail. Each other call reads as much as it may.
         ensures fails { IsErr result ↔ IsTrue (fails_next self.old.failing self.old.calls) }
         ensures full { IfOk result (λ n. n ≡ min (length self.old.left) (min self.old.piece (length buf.old))) }
 
-        // The call is counted, and is a fault only if it failed. The rest of the plan stays.
-        ensures calls { self.new.calls ≡ one_more self.old.calls }
-        ensures fault { self.new.faults ≡ (if is_err result then one_more self.old.faults else self.old.faults) }
+        // The call is counted, and a failed one as a fault. The plan of the calls stays the same.
+        ensures calls { self.new.calls ≡ next_count self.old.calls }
+        ensures fault { self.new.faults ≡ (if is_err result then next_count self.old.faults else self.old.faults) }
         ensures plan { (self.new.piece ≡ self.old.piece) × (self.new.failing ≡ self.old.failing) }
     {
         self.calls.next()?;
@@ -124,14 +132,14 @@ impl Source for MemSource {
     }
 }
 
-/// Bytes that are collected, in pieces of a greatest length, into room that is taken at once, for
-/// tests. This project's own rule.
+/// A sink that keeps the bytes in memory, with a capacity that is allocated at once, for tests. This
+/// project's own rule.
 #[derive(Drop)]
 pub struct MemSink {
     bytes: Vec<u8>,
     room: usize,
     piece: usize,
-    calls: Calls,
+    calls: CallCounter,
 }
 
 impl Model for MemSink {
@@ -140,7 +148,14 @@ impl Model for MemSink {
 
     ghost Value = { Store };
 
-    ghost view = { λ s. record { written = s.bytes.items; room = s.room; piece = s.piece; failing = s.calls.failing.items; calls = s.calls.made; faults = s.calls.faults } };
+    ghost view = { λ s. record {
+      written = s.bytes.items;
+      room = s.room;
+      piece = s.piece;
+      failing = s.calls.failing.items;
+      calls = s.calls.made;
+      faults = s.calls.faults;
+    } };
 
     ghost invariant = { λ s. vec_len s.bytes + s.room ≤ vec_capacity s.bytes };
 }
@@ -166,11 +181,11 @@ impl MemSink {
             bytes: Vec::with_capacity(alloc, room)?,
             room,
             piece,
-            calls: Calls::new(failing),
+            calls: CallCounter::new(failing),
         })
     }
 
-    /// What was written.
+    /// Returns the bytes written so far.
     pub fn bytes(&self) -> &[u8]
         ensures { ⟦<MemSink as Sink>⟧.written self.now ≡ Some result.now }
     {
@@ -187,19 +202,21 @@ impl Sink for MemSink {
         ensures bound { IfOk result (λ n. n ≤ length piece.now) }
         ensures bytes { IfOk result (λ n. Appends (Some self.old.written) (Some self.new.written) (take n piece.now)) }
         ensures nothing { IfOk result (λ n. n ≡ 0 → 0 < length piece.now → Rose self.old.faults self.new.faults) }
+        ensures clean { IfOk result (λ n. IsTaken n (length piece.now) → self.new.faults ≡ self.old.faults) }
         ensures err { OnErr result (Keeps (Some self.old.written) (Some self.new.written)) }
         ensures cause { HasCause self.old.faults self.new.faults result }
 
-        // A listed call fails, and no other. Each other takes all that it may.
+        // Exactly the listed calls fail. Each other call writes as much as it may.
         ensures fails { IsErr result ↔ IsTrue (fails_next self.old.failing self.old.calls) }
         ensures full { IfOk result (λ n. n ≡ min (length piece.now) (min self.old.piece self.old.room)) }
         ensures room { IfOk result (λ n. self.new.room + n ≡ self.old.room) }
         ensures err_room { OnErr result (self.new.room ≡ self.old.room) }
 
-        // The call is counted, and is a fault where it failed or took nothing of a piece with bytes.
-        // The rest of the plan stays.
-        ensures calls { self.new.calls ≡ one_more self.old.calls }
-        ensures fault { self.new.faults ≡ (if is_fault result (length piece.now) then one_more self.old.faults else self.old.faults) }
+        // The call is counted, and is a fault if it failed or took no byte of a non-empty piece. The
+        // plan of the calls stays the same.
+        ensures calls { self.new.calls ≡ next_count self.old.calls }
+        ensures fault { self.new.faults
+            ≡ (if is_fault result (length piece.now) then next_count self.old.faults else self.old.faults) }
         ensures plan { (self.new.piece ≡ self.old.piece) × (self.new.failing ≡ self.old.failing) }
     {
         self.calls.next()?;

@@ -1,49 +1,51 @@
-// A source of bytes, and the reading of all that it has.
-ghost use Rattle.std.specs.Prelude.{◌≡◌, ◌+◌, ◌<◌, ◌≤◌, ◌↔◌, ℕ, List, Some, length, IfOk, OnErr};
+// Sources of bytes, and reading a whole source.
+ghost use Rattle.std.specs.Prelude.{◌≡◌, ◌+◌, ◌<◌, ◌≤◌, ◌↔◌, ℕ, List, Some, length, IfOk, OnOk, OnErr};
 ghost use Rattle.std.specs.Io.KnownBytes.{Keeps, Consumes, IsAtEnd};
 ghost use Rattle.std.specs.declared.option.Option.{Option};
-ghost use Rattle.rt_streams.specs.Streams.{Rose, HasCause, HandsOut, Counts, rise};
+ghost use Rattle.rt_streams.specs.Streams.{Rose, HasCause, HandsOut, LosesFront, CountsBytes, rise};
 
 use std::alloc::{AllocError, Global};
 use thiserror::Error;
 
-/// A read, a write or a flush failed. The cause is told by the count of faults alone.
+/// A failed read, write or flush. The count of faults of the stream records the cause.
 #[derive(Clone, Copy, Debug, PartialEq, Eq, Error)]
 #[error("a read or a write failed")]
 pub struct Failed;
 
-/// Bytes that are read in order, as standard input. This project's own edge; Compose has none.
+/// A stream of bytes to read, such as standard input. This project's own; Compose has none.
 pub trait Source {
-    /// The bytes not yet read, where the source tells them. One that reads from outside tells none.
+    /// The bytes that are left to read, if the source knows them. A source over a file or a pipe does not.
     ghost left: { Self → Option (List ℕ) };
 
-    /// How many bytes were handed out, modulo 2^64. Every source tells it.
+    /// The number of bytes read so far, modulo 2^64.
     ghost taken: { Self → ℕ };
 
-    /// How many reads failed. It never falls, and stays at 2^64 - 1 once it is there.
+    /// The number of failed reads. It stops at 2^64 - 1.
     ghost faults: { Self → ℕ };
 
-    /// Hands out the next bytes into the front of `buf`, and answers how many. Zero into a buffer
-    /// with room is the end of the input. A failed read hands out nothing.
+    /// Copies the next bytes to the start of `buf` and returns their number. Returns 0 for a non-empty
+    /// `buf` only at the end of the input. A failed read takes no byte and is counted; a successful read
+    /// leaves the count of faults as it is.
     fn read(&mut self, buf: &mut [u8]) -> Result<usize, Failed>
         ensures bound { IfOk result (λ n. n ≤ length buf.new) }
         ensures bytes { IfOk result (λ n. HandsOut (left self.old) (left self.new) n buf.new) }
-        ensures counts { IfOk result (λ n. Counts (taken self.old) (taken self.new) n) }
+        ensures counts { IfOk result (λ n. CountsBytes (taken self.old) (taken self.new) n) }
         ensures err { OnErr result (Keeps (left self.old) (left self.new)) }
         ensures err_counts { OnErr result (taken self.new ≡ taken self.old) }
+        ensures clean { OnOk result (faults self.new ≡ faults self.old) }
         ensures cause { HasCause (faults self.old) (faults self.new) result };
 }
 
-/// Why the input was not read to its end.
+/// Why `read_all` stopped before the end of the input.
 #[derive(Clone, Copy, Debug, PartialEq, Eq, Error)]
 pub enum ReadStop {
-    /// A read failed: the source's count of faults rose.
+    /// A read failed, and the source counted a fault.
     #[error("the input could not be read")]
     ReadFault,
-    /// More bytes than the limit were taken.
+    /// The input exceeds the limit.
     #[error("the input is too long")]
     TooLong,
-    /// There was no room for the bytes read.
+    /// There was no memory for the bytes read.
     #[error("out of memory")]
     NoMemory,
 }
@@ -70,11 +72,11 @@ impl From<AllocError> for ReadStop {
     }
 }
 
-// How many bytes one read of `read_all` asks for at most.
+// The size in bytes of the largest read of `read_all`.
 const PIECE: usize = 4096;
 
-// How many bytes to ask for where `room` more are within the limit: one more than that shows that the
-// input is too long.
+// Returns the number of bytes to ask for while `room` more are allowed. One byte past `room` shows that
+// the input exceeds the limit.
 fn piece_len(room: u64) -> usize
     ensures some { 0 < result }
     ensures most { result ≤ PIECE }
@@ -83,16 +85,24 @@ fn piece_len(room: u64) -> usize
     room.min(PIECE as u64 - 1) as usize + 1
 }
 
-/// Reads to the end of the input: all bytes that were left, of which there are at most `limit`.
+/// Reads all bytes that are left, up to `limit` of them.
 ///
-/// It stops at the first read that fails, and at the first byte past the limit, which is the last
-/// byte that it takes. What was taken before a stop is gone from the source. This project's own rule.
+/// Returns `ReadFault` after the first failed read and never tries again. Returns `TooLong` if the input
+/// has more than `limit` bytes, after taking at most `limit + 1` of them. Returns `NoMemory` if there is
+/// no memory for the bytes. After an error the source has lost exactly the bytes that its counter shows.
+/// This project's own rule.
 pub fn read_all<S: Source>(alloc: Global, source: &mut S, limit: u64) -> Result<Vec<u8>, ReadStop>
-    ensures bytes { IfOk result (λ v. Consumes (S.left source.old) (S.left source.new) v.items × IsAtEnd (S.left source.new)) }
-    ensures within { IfOk result (λ v. (length v.items ≤ limit) × (rise (S.taken source.old) (S.taken source.new) ≡ length v.items)) }
+    ensures bytes { IfOk result (λ v. Consumes (S.left source.old) (S.left source.new) v.items
+        × IsAtEnd (S.left source.new)) }
+    ensures within { IfOk result (λ v. (length v.items ≤ limit)
+        × (rise (S.taken source.old) (S.taken source.new) ≡ length v.items)) }
     ensures too_long { (result ≡ Err ReadStop.TooLong) ↔ (limit < rise (S.taken source.old) (S.taken source.new)) }
     ensures at_most { rise (S.taken source.old) (S.taken source.new) ≤ limit + 1 }
-    ensures told { (bytes : List ℕ) → S.left source.old ≡ Some bytes → rise (S.taken source.old) (S.taken source.new) ≤ length bytes }
+    ensures told { (bytes : List ℕ) → S.left source.old ≡ Some bytes
+        → rise (S.taken source.old) (S.taken source.new) ≤ length bytes }
+    ensures gone { LosesFront (S.left source.old) (S.left source.new) (rise (S.taken source.old) (S.taken source.new)) }
+    ensures clean { OnOk result (S.faults source.new ≡ S.faults source.old) }
+    ensures stopped { (result ≡ Err ReadStop.ReadFault → ⊥) → S.faults source.new ≡ S.faults source.old }
     ensures fault { (result ≡ Err ReadStop.ReadFault) → Rose (S.faults source.old) (S.faults source.new) }
     ensures later { S.faults source.old ≤ S.faults source.new }
 {

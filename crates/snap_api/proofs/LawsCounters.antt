@@ -1,4 +1,4 @@
--- Counters merge by adding.
+-- Proof: `Counter` merges by adding.
 use Rattle.std.proofs.Common.{◌≡◌, ℤ, ◌+ℤ◌, ◌-ℤ◌, Some, sym, ap, ◌∙◌}
 use Rattle.std.specs.Int.{int_wrap, w64}
 use Rattle.std.proofs.lemmas.Int.{int_wrap_fits, SFits-int_wrap, int_wrap-add_right}
@@ -8,7 +8,7 @@ use Rattle.rt_values.specs.declared.value.Value.TheVariants as value
 use Rattle.rt_values.specs.Operators.{number_of, sum_of, difference}
 use Rattle.snap_policy.specs.Table.{table, merge_counters}
 use Rattle.snap_policy.specs.declared.policy.BuiltIn.TheVariants.{Counter}
-use Rattle.snap_api.specs.LawsSums.{Counts}
+use Rattle.snap_api.specs.LawsSums.{MergesByAdding}
 
 wrapped : (c p a : ℤ) → int_wrap w64 (sum_of c (difference a p)) ≡ int_wrap w64 (c +ℤ (a -ℤ p))
 wrapped c p a = int_wrap_fits w64 _ (SFits-int_wrap w64 _) ∙ int_wrap-add_right w64 c (a -ℤ p)
@@ -26,5 +26,5 @@ adds (value.Bool p) c a merged given = absurd (none-some merged given)
 adds (value.Text p) c a merged given = absurd (none-some merged given)
 adds (value.Ints p) c a merged given = absurd (none-some merged given)
 
-pub counters_count : Counts table Counter number_of
+pub counters_count : MergesByAdding table Counter number_of
 counters_count = record { adds = adds }

@@ -1,4 +1,4 @@
--- A refusal leaves the world.
+-- Proof: a refusal does not change the world.
 use Rattle.std.proofs.Common.{◌≡◌, ℕ, refl}
 use Rattle.snap_policy.specs.Rules.{Rules}
 use Rattle.snap_api.proofs.LawsCases.{Did, did, refused, took, took_for, got, left, wrote, joined, gone, closed}

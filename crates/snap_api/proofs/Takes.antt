@@ -1,4 +1,4 @@
--- A snapshot that was taken for a watcher: what it shows, and that its owner can dispose it.
+-- Lemmas about a snapshot taken for a watcher: what it shows, and that its owner can dispose it.
 use Rattle.std.proofs.Common.{◌≡◌, ◌≢◌, ℕ, ◌+◌, ◌==◌, ◌<◌, nat_lt, List, [], ◌∷◌, ◌++◌, length, refl, sym, ap, ◌∙◌, subst, Some, None, Bool, true, false, not, ◌&&◌, cond, arith, inl, inr}
 use Rattle.std.proofs.Math.ListN.{get_or-append}
 use Rattle.std.proofs.Math.Seq.{get_or-append_seam}
@@ -12,40 +12,40 @@ use Rattle.rt_values.specs.declared.names.Kind.TheVariants.{Readonly}
 use Rattle.snap_policy.specs.Rules.{Rules}
 use Rattle.snap_api.proofs.Valid.{open_within}
 use Rattle.snap_api.specs.Calls.{IsOwn}
-use Rattle.snap_api.specs.Eyes.{Eyes, IsOpen}
+use Rattle.snap_api.specs.ShownMap.{ShownMap, IsOpen}
 use Rattle.snap_api.specs.Shaped.{IsShaped}
 use Rattle.snap_api.specs.Valid.{IsValid}
-use Rattle.snap_api.specs.World.{World, absent, shot_of, last_of, child_of, taken_for, with_shot, with_status, unless, call, is_closed, is_foreign, is_spent, is_live}
+use Rattle.snap_api.specs.World.{World, no_snapshot, snapshot_of, last_of, child_of, world_after_take_for, with_snapshot, with_status, refusal_or_effect, call, is_closed, is_foreign, is_spent, is_live}
 use Rattle.snap_api.specs.declared.data.Object.{Object}
 use Rattle.snap_api.specs.declared.data.Refusal.{Refusal}
 use Rattle.snap_api.specs.declared.data.Refusal.TheVariants as refusal
 use Rattle.snap_api.specs.declared.data.Reply.{Reply}
 use Rattle.snap_api.specs.declared.data.Reply.TheVariants as reply
 use Rattle.snap_api.specs.declared.data.Request.TheVariants as request
-use Rattle.snap_api.specs.declared.data.Shot.{Shot}
-use Rattle.snap_api.specs.declared.data.Status.TheVariants.{Disposed}
+use Rattle.snap_api.specs.declared.data.Snapshot.{Snapshot}
+use Rattle.snap_api.specs.declared.data.SnapshotStatus.TheVariants.{Disposed}
 
--- from world w a take for the watcher led to this world, with this name and these changed objects
+-- A take for the watcher led from world w to this world, with this number and these changed objects.
 pub record TookFor {P : Type 0} (w after : World P) (caller watcher name : ℕ) (changed : List ℕ) : Type 0 where
   pub clock : after.clock ≡ w.clock + 1
   pub objects : after.objects ≡ w.objects
-  pub named : name ≡ length w.shots
-  pub count : length after.shots ≡ name + 1
-  pub shot : shot_of after name ≡ child_of caller 0 Readonly (shot_of w 0)
-  pub other_shots : (n : ℕ) → n ≢ name → shot_of after n ≡ shot_of w n
+  pub named : name ≡ length w.snapshots
+  pub count : length after.snapshots ≡ name + 1
+  pub shot : snapshot_of after name ≡ child_of caller 0 Readonly (snapshot_of w 0)
+  pub other_shots : (n : ℕ) → n ≢ name → snapshot_of after n ≡ snapshot_of w n
   pub watchers : length after.lasts ≡ length w.lasts
   pub known : watcher < length w.lasts
-  pub listed : changed ≡ differ (last_of w watcher) (shot_of w 0).view
-  pub last : last_of after watcher ≡ Some (shot_of w 0).view
+  pub listed : changed ≡ differ (last_of w watcher) (snapshot_of w 0).view
+  pub last : last_of after watcher ≡ Some (snapshot_of w 0).view
   pub other_lasts : (n : ℕ) → n ≢ watcher → last_of after n ≡ last_of w n
 
--- no test of a call that answers with a snapshot held
+-- A call that returns a snapshot passed all tests.
 record Passed {P : Type 0} (s t : Bool) (one effect : World P × Reply) : Type 0 where
   pub second : t ≡ false
   pub is : one ≡ effect
 
 passed : {P : Type 0} (w : World P) (s t : Bool) (a b : Refusal) (effect : World P × Reply) (name : ℕ) (changed : List ℕ) →
-    reply.TakenFor name changed ≡ (unless w ((s, a) ∷ (t, b) ∷ []) effect).1 → Passed s t (unless w ((s, a) ∷ (t, b) ∷ []) effect) effect
+    reply.TakenFor name changed ≡ (refusal_or_effect w ((s, a) ∷ (t, b) ∷ []) effect).1 → Passed s t (refusal_or_effect w ((s, a) ∷ (t, b) ∷ []) effect) effect
 passed w true t a b effect name changed e = absurd cc
 passed w false true a b effect name changed e = absurd cc
 passed w false false a b effect name changed e = record { second = refl; is = refl }
@@ -55,40 +55,40 @@ not_false true e = refl
 not_false false e = absurd cc
 
 module _ {P : Type 0} (w : World P) (caller watcher : ℕ) where
-  push_other : (n : ℕ) (s : Shot) → n ≢ length w.shots → slice_index_or (w.shots ++ s ∷ []) n absent ≡ shot_of w n
-  push_other n s other = elim (cases_lt n (length w.shots)) [
-    | inl h ↦ get_or-append w.shots (s ∷ []) absent n h
-    | inr h ↦ get_or_past (w.shots ++ s ∷ []) n absent (omega (arith, h, other, length-append w.shots (s ∷ []))) ∙ sym (get_or_past w.shots n absent h)
+  push_other : (n : ℕ) (s : Snapshot) → n ≢ length w.snapshots → slice_index_or (w.snapshots ++ s ∷ []) n no_snapshot ≡ snapshot_of w n
+  push_other n s other = elim (cases_lt n (length w.snapshots)) [
+    | inl h ↦ get_or-append w.snapshots (s ∷ []) no_snapshot n h
+    | inr h ↦ get_or_past (w.snapshots ++ s ∷ []) n no_snapshot (omega (arith, h, other, length-append w.snapshots (s ∷ []))) ∙ sym (get_or_past w.snapshots n no_snapshot h)
   ]
 
-  took : watcher < length w.lasts → TookFor w (taken_for w caller watcher) caller watcher (length w.shots) (differ (last_of w watcher) (shot_of w 0).view)
+  took : watcher < length w.lasts → TookFor w (world_after_take_for w caller watcher) caller watcher (length w.snapshots) (differ (last_of w watcher) (snapshot_of w 0).view)
   took known = record {
     clock = refl;
     objects = refl;
     named = refl;
-    count = length-append w.shots (child_of caller 0 Readonly (shot_of w 0) ∷ []);
-    shot = get_or-append_seam w.shots (child_of caller 0 Readonly (shot_of w 0)) [] absent;
-    other_shots = λ n other. push_other n (child_of caller 0 Readonly (shot_of w 0)) other;
-    watchers = length-set w.lasts watcher (Some (shot_of w 0).view);
+    count = length-append w.snapshots (child_of caller 0 Readonly (snapshot_of w 0) ∷ []);
+    shot = get_or-append_seam w.snapshots (child_of caller 0 Readonly (snapshot_of w 0)) [] no_snapshot;
+    other_shots = λ n other. push_other n (child_of caller 0 Readonly (snapshot_of w 0)) other;
+    watchers = length-set w.lasts watcher (Some (snapshot_of w 0).view);
     known = known;
     listed = refl;
-    last = get_or-set_same w.lasts watcher (Some (shot_of w 0).view) None known;
-    other_lasts = λ n other. get_or-set_other w.lasts watcher n (Some (shot_of w 0).view) None other;
+    last = get_or-set_same w.lasts watcher (Some (snapshot_of w 0).view) None known;
+    other_lasts = λ n other. get_or-set_other w.lasts watcher n (Some (snapshot_of w 0).view) None other;
   }
 
--- a take for a watcher that was answered
+-- A successful take for a watcher.
 pub call-TakeFor : {P : Type 0} (rules : Rules P) (w : World P) (caller watcher name : ℕ) (changed : List ℕ) →
     reply.TakenFor name changed ≡ (call rules w caller (request.TakeFor watcher)).1 → TookFor w (call rules w caller (request.TakeFor watcher)).0 caller watcher name changed
 call-TakeFor rules w caller watcher name changed e =
-    let effect : World _ × Reply = (taken_for w caller watcher, reply.TakenFor (length w.shots) (differ (last_of w watcher) (shot_of w 0).view)) in
+    let effect : World _ × Reply = (world_after_take_for w caller watcher, reply.TakenFor (length w.snapshots) (differ (last_of w watcher) (snapshot_of w 0).view)) in
     let p = passed w (is_spent w) (not (nat_lt watcher (length w.lasts))) refusal.Spent refusal.UnknownWatcher effect name changed e in
     let told : reply.TakenFor name changed ≡ effect.1 = e ∙ ap (λ (r : World _ × Reply). r.1) p.is in
-    let named : length w.shots ≡ name = cc in
-    let listed : differ (last_of w watcher) (shot_of w 0).view ≡ changed = cc in
+    let named : length w.snapshots ≡ name = cc in
+    let listed : differ (last_of w watcher) (snapshot_of w 0).view ≡ changed = cc in
     let known : watcher < length w.lasts = ltb-true watcher (length w.lasts) (not_false _ p.second) in
     let one = took w caller watcher known in
-    let two = subst (λ n. TookFor w (taken_for w caller watcher) caller watcher n (differ (last_of w watcher) (shot_of w 0).view)) named one in
-    let three = subst (λ xs. TookFor w (taken_for w caller watcher) caller watcher name xs) listed two in
+    let two = subst (λ n. TookFor w (world_after_take_for w caller watcher) caller watcher n (differ (last_of w watcher) (snapshot_of w 0).view)) named one in
+    let three = subst (λ xs. TookFor w (world_after_take_for w caller watcher) caller watcher name xs) listed two in
     subst (λ (v : World _). TookFor w v caller watcher name changed) (sym (ap (λ (r : World _ × Reply). r.0) p.is)) three
 
 own_name : (b t : Bool) → t ≡ true → cond b false (not t) ≡ false
@@ -97,14 +97,14 @@ own_name false true e = refl
 own_name false false e = absurd cc
 
 module _ {P : Type 0} {w after : World P} {caller watcher name : ℕ} {changed : List ℕ} (t : TookFor w after caller watcher name changed) where
-  -- the caller may read in it
+  -- The caller may read the snapshot.
   pub took_opens : IsOpen after caller (Some name)
   took_opens = (
-    ap (λ (s : Shot). not (is_live s.status)) t.shot,
-    ap (λ (s : Shot). cond (name == 0) false (not (s.owner == caller))) t.shot ∙ own_name (name == 0) (caller == caller) ((Decides-eqb caller caller).1 refl),
+    ap (λ (s : Snapshot). not (is_live s.status)) t.shot,
+    ap (λ (s : Snapshot). cond (name == 0) false (not (s.owner == caller))) t.shot ∙ own_name (name == 0) (caller == caller) ((Decides-eqb caller caller).1 refl),
   )
 
-  -- and dispose it
+  -- The caller may dispose the snapshot.
   pub took_own : IsShaped w → IsOwn after caller name
   took_own v = record {
     live = took_opens.0;
@@ -112,37 +112,37 @@ module _ {P : Type 0} {w after : World P} {caller watcher name : ℕ} {changed :
     own = took_opens.1;
   }
 
-  -- what it shows is what was global
-  pub took_eyes : (rules : Rules P) (stands : World P → Type 0) → IsShaped w → IsValid rules after → stands after → Eyes rules stands caller (Some name) (shot_of w 0).view
+  -- The snapshot shows global's view.
+  pub took_eyes : (rules : Rules P) (stands : World P → Type 0) → IsShaped w → IsValid rules after → stands after → ShownMap rules stands caller (Some name) (snapshot_of w 0).view
   took_eyes rules stands v valid h = record {
     world = after;
     stands_for = h;
     valid = valid;
     opens = took_opens;
-    shows = sym (ap (λ (s : Shot). s.view) t.shot);
+    shows = sym (ap (λ (s : Snapshot). s.view) t.shot);
     full = (v.full 0 v.some).1 ∙ sym (ap (λ (os : List (Object P)). length os) t.objects);
   }
 
 dispose_passes : {P : Type 0} (w : World P) (unknown first closed foreign : Bool) (a b c : Refusal) (gone : World P × Reply) →
     unknown ≡ false → first ≡ false → closed ≡ false → foreign ≡ false →
-    unless w ((unknown, a) ∷ (first, b) ∷ (not closed && foreign, c) ∷ []) (cond closed (w, reply.Disposed) gone) ≡ gone
+    refusal_or_effect w ((unknown, a) ∷ (first, b) ∷ (not closed && foreign, c) ∷ []) (cond closed (w, reply.Disposed) gone) ≡ gone
 dispose_passes w unknown first closed foreign a b c gone h i j k = rw (h, i, j, k) refl
 
--- the owner of a live snapshot disposes it, and all else stays
+-- The owner of a live snapshot disposes it, and nothing else changes.
 pub call-Dispose : {P : Type 0} (rules : Rules P) (w : World P) (caller name : ℕ) → IsOwn w caller name →
-    call rules w caller (request.Dispose name) ≡ (with_shot w name (with_status (shot_of w name) Disposed), reply.Disposed)
+    call rules w caller (request.Dispose name) ≡ (with_snapshot w name (with_status (snapshot_of w name) Disposed), reply.Disposed)
 call-Dispose rules w caller name o =
-    let within : not (nat_lt name (length w.shots)) ≡ false = ap not (lt-ltb name (length w.shots) (open_within w name o.live)) in
-    dispose_passes w (not (nat_lt name (length w.shots))) (name == 0) (is_closed w name) (is_foreign w caller name) (refusal.Closed name) refusal.Global (refusal.NotYours (shot_of w name).owner)
-    (with_shot w name (with_status (shot_of w name) Disposed), reply.Disposed) within o.inner o.live o.own
+    let within : not (nat_lt name (length w.snapshots)) ≡ false = ap not (lt-ltb name (length w.snapshots) (open_within w name o.live)) in
+    dispose_passes w (not (nat_lt name (length w.snapshots))) (name == 0) (is_closed w name) (is_foreign w caller name) (refusal.Closed name) refusal.Global (refusal.NotYours (snapshot_of w name).owner)
+    (with_snapshot w name (with_status (snapshot_of w name) Disposed), reply.Disposed) within o.inner o.live o.own
 
-pub shot_of-with_shot : {P : Type 0} (w : World P) (name : ℕ) (s : Shot) (n : ℕ) → n ≢ name → shot_of (with_shot w name s) n ≡ shot_of w n
-shot_of-with_shot w name s n other = get_or-set_other w.shots name n s absent other
+pub snapshot_of-with_snapshot : {P : Type 0} (w : World P) (name : ℕ) (s : Snapshot) (n : ℕ) → n ≢ name → snapshot_of (with_snapshot w name s) n ≡ snapshot_of w n
+snapshot_of-with_snapshot w name s n other = get_or-set_other w.snapshots name n s no_snapshot other
 
--- a take for a watcher and the dispose of its snapshot leave all that was taken before
+-- A take for a watcher and the dispose of its snapshot change no earlier snapshot.
 pub took_disposed : {P : Type 0} (rules : Rules P) {w after : World P} {caller watcher name : ℕ} {changed : List ℕ} → TookFor w after caller watcher name changed → IsShaped w →
-    (n : ℕ) → n < length w.shots → shot_of (call rules after caller (request.Dispose name)).0 n ≡ shot_of w n
+    (n : ℕ) → n < length w.snapshots → snapshot_of (call rules after caller (request.Dispose name)).0 n ≡ snapshot_of w n
 took_disposed rules {w} {after} {caller} {watcher} {name} t v n within =
     let other : n ≢ name = omega (arith, t.named, within) in
-    let step = ap (λ (r : World _ × Reply). shot_of r.0 n) (call-Dispose rules after caller name (took_own t v)) in
-    step ∙ shot_of-with_shot after name (with_status (shot_of after name) Disposed) n other ∙ t.other_shots n other
+    let step = ap (λ (r : World _ × Reply). snapshot_of r.0 n) (call-Dispose rules after caller name (took_own t v)) in
+    step ∙ snapshot_of-with_snapshot after name (with_status (snapshot_of after name) Disposed) n other ∙ t.other_shots n other

@@ -1,4 +1,4 @@
--- The changes that calls are made of keep a world valid: another view, a status, one snapshot more, another last map.
+-- Proofs: the changes that calls make keep a world valid: another view, another status, one more snapshot, another last map.
 use Rattle.std.proofs.Common.{◌≡◌, ◌≢◌, ℕ, ◌+◌, ◌<◌, ◌≤◌, List, [], ◌∷◌, ◌++◌, length, refl, sym, ap, ◌∙◌, subst, Option, Some, None, Bool, true, false, not, ◌&&◌, arith, ◌⊎◌, inl, inr, length-append, length-set}
 use Rattle.std.proofs.Math.ListN.{get_or-append}
 use Rattle.std.proofs.Math.Seq.{get_or-append_seam}
@@ -8,86 +8,86 @@ use Rattle.std.proofs.lemmas.Bool.{cases_lt}
 use Rattle.std.specs.Option.{unwrap_or}
 use Rattle.std.specs.Prelude.{slice_set}
 use Rattle.rt_values.specs.Maps.{Map, entry_at, no_entry}
-use Rattle.rt_values.specs.declared.maps.Entry.{Entry}
+use Rattle.rt_values.specs.declared.maps.StampedValue.{StampedValue}
 use Rattle.rt_values.specs.declared.names.Kind.{Kind}
 use Rattle.snap_policy.specs.Rules.{Rules}
 use Rattle.snap_api.proofs.Valid.{open_within, shaped-set, shaped-push, shaped_watched}
 use Rattle.snap_api.proofs.ValidSteps.{each_shot-set, each_shot-push, moved_itself, moved_on, moved_from_none, Kept, Fresh, From, Copied, from_copies, stamped-from, known-from, typed-from, fits-from, agree-from}
-use Rattle.snap_api.specs.Valid.{Place, Base, View, Last, map_at, MovedOn, Wrote, IsValid, Rises}
-use Rattle.snap_api.specs.World.{World, absent, watched, taken, shot_of, last_of, with_shot, with_status, child_of, is_live, is_mutable, is_closed, clock_limit}
-use Rattle.snap_api.specs.declared.data.Shot.{Shot}
-use Rattle.snap_api.specs.declared.data.Status.{Status}
+use Rattle.snap_api.specs.Valid.{MapKey, Base, View, Last, map_at, MovedOn, Wrote, IsValid, Rises}
+use Rattle.snap_api.specs.World.{World, no_snapshot, world_after_watch, world_after_take, snapshot_of, last_of, with_snapshot, with_status, child_of, is_live, is_mutable, is_closed, clock_limit}
+use Rattle.snap_api.specs.declared.data.Snapshot.{Snapshot}
+use Rattle.snap_api.specs.declared.data.SnapshotStatus.{SnapshotStatus}
 
--- the snapshot shows another map and wrote other objects, and the clock is raised
+-- The snapshot shows another map and wrote other objects, and the clock rises.
 abbrev pub revised : {P : Type 0} → World P → ℕ → Map → List ℕ → World P
-revised w name m wrote = record (with_shot w name (record (shot_of w name) { view = m; wrote = wrote })) { clock = w.clock + 1 }
+revised w name m wrote = record (with_snapshot w name (record (snapshot_of w name) { view = m; wrote = wrote })) { clock = w.clock + 1 }
 
--- it may: each entry is one of the world or fresh, and what was written is later
+-- The map is allowed: each stamped value is the world's or fresh, and written objects are later.
 pub record Revises {P : Type 0} (w : World P) (name : ℕ) (m : Map) (more : List ℕ) : Type 0 where
   pub room : w.clock < clock_limit
-  pub there : name < length w.shots
+  pub there : name < length w.snapshots
   pub full : length m ≡ length w.objects
   pub each : (x : ℕ) → x < length m → Kept w x (entry_at m x) ⊎ Fresh w (revised w name m more) x (entry_at m x)
-  pub wrote : Wrote (shot_of w name).base m more
-  pub moved : MovedOn (shot_of w name).view m
+  pub wrote : Wrote (snapshot_of w name).base m more
+  pub moved : MovedOn (snapshot_of w name).view m
 
--- what no call changes of a snapshot
-record SameFrame (old new : Shot) : Type 0 where
+-- What no call changes in a snapshot.
+record SameFrame (old new : Snapshot) : Type 0 where
   parent : new.parent ≡ old.parent
   kind : new.kind ≡ old.kind
 
-same_frame : (s : Shot) → SameFrame s s
+same_frame : (s : Snapshot) → SameFrame s s
 same_frame s = record { parent = refl; kind = refl }
 
 module _ {P : Type 0} {rules : Rules P} {w : World P} (v : IsValid rules w) where
-  -- no stamp is above the clock, also not of an entry that is not there
-  pub stamp_in_time : (p : Place) (x : ℕ) → (entry_at (map_at w p) x).stamp ≤ w.clock
+  -- No stamp exceeds the clock, including the stamp of the default.
+  pub stamp_in_time : (p : MapKey) (x : ℕ) → (entry_at (map_at w p) x).stamp ≤ w.clock
   stamp_in_time p x = elim (cases_lt x (length (map_at w p))) [
     | inl h ↦ v.stamped p x h
-    | inr h ↦ omega (arith, ap (λ (e : Entry). e.stamp) (get_or_past (map_at w p) x no_entry h))
+    | inr h ↦ omega (arith, ap (λ (e : StampedValue). e.stamp) (get_or_past (map_at w p) x no_entry h))
   ]
 
-  -- each entry of a map of the world
-  each_kept : (p : Place) (m : Map) → m ≡ map_at w p → (x : ℕ) → x < length m → Kept w x (entry_at m x)
+  -- Each stamped value of a map of the world.
+  each_kept : (p : MapKey) (m : Map) → m ≡ map_at w p → (x : ℕ) → x < length m → Kept w x (entry_at m x)
   each_kept p m same x within = record { place = p; within = omega (arith, within, ap (λ (k : Map). length k) same); is = ap (λ (k : Map). entry_at k x) same }
 
-  -- another view
+  -- A world with another view.
   module _ (name : ℕ) (m : Map) (wrote : List ℕ) (r : Revises w name m wrote) where
     abbrev next : World P
     next = revised w name m wrote
 
-    abbrev changed : Shot
-    changed = record (shot_of w name) { view = m; wrote = wrote }
+    abbrev changed : Snapshot
+    changed = record (snapshot_of w name) { view = m; wrote = wrote }
 
-    -- what holds of the changed snapshot and of the others
-    each_shot : (Q : ℕ → Shot → Type 0) → Q name changed → ((n : ℕ) → Q n (shot_of w n)) → (n : ℕ) → Q n (shot_of next n)
-    each_shot Q one others = each_shot-set w.shots name changed Q r.there one (λ n other. others n)
+    -- What is true of the changed snapshot and of the others.
+    each_shot : (Q : ℕ → Snapshot → Type 0) → Q name changed → ((n : ℕ) → Q n (snapshot_of w n)) → (n : ℕ) → Q n (snapshot_of next n)
+    each_shot Q one others = each_shot-set w.snapshots name changed Q r.there one (λ n other. others n)
 
-    frames : (n : ℕ) → SameFrame (shot_of w n) (shot_of next n)
-    frames = each_shot (λ n s. SameFrame (shot_of w n) s) (record { parent = refl; kind = refl }) (λ n. same_frame (shot_of w n))
+    frames : (n : ℕ) → SameFrame (snapshot_of w n) (snapshot_of next n)
+    frames = each_shot (λ n s. SameFrame (snapshot_of w n) s) (record { parent = refl; kind = refl }) (λ n. same_frame (snapshot_of w n))
 
-    statuses : (n : ℕ) → (shot_of next n).status ≡ (shot_of w n).status
-    statuses = each_shot (λ n s. s.status ≡ (shot_of w n).status) refl (λ n. refl)
+    statuses : (n : ℕ) → (snapshot_of next n).status ≡ (snapshot_of w n).status
+    statuses = each_shot (λ n s. s.status ≡ (snapshot_of w n).status) refl (λ n. refl)
 
     pub rises_revised : Rises w next
-    rises_revised = each_shot (λ n s. MovedOn (shot_of w n).view s.view) r.moved (λ n. moved_itself (shot_of w n).view)
+    rises_revised = each_shot (λ n s. MovedOn (snapshot_of w n).view s.view) r.moved (λ n. moved_itself (snapshot_of w n).view)
 
-    -- an entry of the world, or that of the new view
+    -- A stamped value of the world, or of the new view.
     abbrev Comes : Map → Type 0
     Comes k = (x : ℕ) → x < length k → Kept w x (entry_at k x) ⊎ ((entry_at k x ≡ entry_at m x) × Fresh w next x (entry_at k x))
 
-    comes_old : (p : Place) → Comes (map_at w p)
+    comes_old : (p : MapKey) → Comes (map_at w p)
     comes_old p x within = inl (each_kept p (map_at w p) refl x within)
 
     comes_new : Comes m
     comes_new x within = elim (r.each x within) [ inl k ↦ inl k | inr k ↦ inr (refl, k) ]
 
-    comes : (p : Place) → Comes (map_at next p)
+    comes : (p : MapKey) → Comes (map_at next p)
     comes (Base n) = each_shot (λ n s. Comes s.base) (comes_old (Base name)) (λ n. comes_old (Base n)) n
     comes (View n) = each_shot (λ n s. Comes s.view) comes_new (λ n. comes_old (View n)) n
     comes (Last n) = comes_old (Last n)
 
-    known : (p : Place) → length (map_at next p) ≤ length w.objects
+    known : (p : MapKey) → length (map_at next p) ≤ length w.objects
     known (Base n) = each_shot (λ n s. length s.base ≤ length w.objects) (v.known (Base name)) (λ n. v.known (Base n)) n
     known (View n) = each_shot (λ n s. length s.view ≤ length w.objects) (omega (arith, r.full)) (λ n. v.known (View n)) n
     known (Last n) = v.known (Last n)
@@ -98,8 +98,8 @@ module _ {P : Type 0} {rules : Rules P} {w : World P} (v : IsValid rules w) wher
     pub valid_revised : IsValid rules next
     valid_revised = record {
       shaped = record {
-        some = omega (arith, v.shaped.some, length-set {A = Shot});
-        full = shaped-set (length w.objects) w.shots name changed v.shaped.full ((v.shaped.full name r.there).0, r.full);
+        some = omega (arith, v.shaped.some, length-set {A = Snapshot});
+        full = shaped-set (length w.objects) w.snapshots name changed v.shaped.full ((v.shaped.full name r.there).0, r.full);
       };
       open_global = (statuses 0 ∙ v.open_global.0, ap is_mutable (frames 0).kind ∙ v.open_global.1, (frames 0).parent ∙ v.open_global.2);
       in_time = omega (arith, r.room);
@@ -110,35 +110,35 @@ module _ {P : Type 0} {rules : Rules P} {w : World P} (v : IsValid rules w) wher
       agree = agree-from v from;
       wrote = each_shot (λ n s. Wrote s.base s.view s.wrote) r.wrote v.wrote;
       moved = each_shot (λ n s. MovedOn s.base s.view) (moved_on _ _ _ (v.moved name) r.moved) v.moved;
-      above = each_shot (λ n s. MovedOn s.base (shot_of next s.parent).view) (above name) above;
+      above = each_shot (λ n s. MovedOn s.base (snapshot_of next s.parent).view) (above name) above;
       seen = λ n. moved_on _ _ _ (v.seen n) (rises_revised 0);
-      parents = λ n. omega (arith, ap (λ (k : ℕ). k) (frames n).parent, v.parents n, length-set w.shots name changed);
-      tree = each_shot (λ n s. not (is_live s.status) ≡ false → is_mutable s.kind ≡ true → is_mutable (shot_of next s.parent).kind ≡ true) (tree name) tree;
+      parents = λ n. omega (arith, ap (λ (k : ℕ). k) (frames n).parent, v.parents n, length-set w.snapshots name changed);
+      tree = each_shot (λ n s. not (is_live s.status) ≡ false → is_mutable s.kind ≡ true → is_mutable (snapshot_of next s.parent).kind ≡ true) (tree name) tree;
     } where
-      above : (n : ℕ) → MovedOn (shot_of w n).base (shot_of next (shot_of w n).parent).view
-      above n = moved_on _ _ _ (v.above n) (rises_revised (shot_of w n).parent)
+      above : (n : ℕ) → MovedOn (snapshot_of w n).base (snapshot_of next (snapshot_of w n).parent).view
+      above n = moved_on _ _ _ (v.above n) (rises_revised (snapshot_of w n).parent)
 
-      tree : (n : ℕ) → is_closed w n ≡ false → is_mutable (shot_of w n).kind ≡ true → is_mutable (shot_of next (shot_of w n).parent).kind ≡ true
-      tree n live mutable = ap is_mutable (frames (shot_of w n).parent).kind ∙ v.tree n live mutable
+      tree : (n : ℕ) → is_closed w n ≡ false → is_mutable (snapshot_of w n).kind ≡ true → is_mutable (snapshot_of next (snapshot_of w n).parent).kind ≡ true
+      tree n live mutable = ap is_mutable (frames (snapshot_of w n).parent).kind ∙ v.tree n live mutable
 
-  -- a snapshot is closed
-  module _ (name : ℕ) (status : Status) (there : name < length w.shots) (inner : 0 ≢ name) (closed : is_live status ≡ false) where
+  -- A snapshot is closed.
+  module _ (name : ℕ) (status : SnapshotStatus) (there : name < length w.snapshots) (inner : 0 ≢ name) (closed : is_live status ≡ false) where
     abbrev after_close : World P
-    after_close = with_shot w name (with_status (shot_of w name) status)
+    after_close = with_snapshot w name (with_status (snapshot_of w name) status)
 
-    each_shot_closed : (Q : ℕ → Shot → Type 0) → Q name (with_status (shot_of w name) status) → ((n : ℕ) → Q n (shot_of w n)) → (n : ℕ) → Q n (shot_of after_close n)
-    each_shot_closed Q one others = each_shot-set w.shots name (with_status (shot_of w name) status) Q there one (λ n other. others n)
+    each_shot_closed : (Q : ℕ → Snapshot → Type 0) → Q name (with_status (snapshot_of w name) status) → ((n : ℕ) → Q n (snapshot_of w n)) → (n : ℕ) → Q n (snapshot_of after_close n)
+    each_shot_closed Q one others = each_shot-set w.snapshots name (with_status (snapshot_of w name) status) Q there one (λ n other. others n)
 
-    frames_closed : (n : ℕ) → SameFrame (shot_of w n) (shot_of after_close n)
-    frames_closed = each_shot_closed (λ n s. SameFrame (shot_of w n) s) (record { parent = refl; kind = refl }) (λ n. same_frame (shot_of w n))
+    frames_closed : (n : ℕ) → SameFrame (snapshot_of w n) (snapshot_of after_close n)
+    frames_closed = each_shot_closed (λ n s. SameFrame (snapshot_of w n) s) (record { parent = refl; kind = refl }) (λ n. same_frame (snapshot_of w n))
 
-    views_closed : (n : ℕ) → (shot_of after_close n).view ≡ (shot_of w n).view
-    views_closed = each_shot_closed (λ n s. s.view ≡ (shot_of w n).view) refl (λ n. refl)
+    views_closed : (n : ℕ) → (snapshot_of after_close n).view ≡ (snapshot_of w n).view
+    views_closed = each_shot_closed (λ n s. s.view ≡ (snapshot_of w n).view) refl (λ n. refl)
 
     pub rises_closed : Rises w after_close
-    rises_closed = each_shot_closed (λ n s. MovedOn (shot_of w n).view s.view) (moved_itself (shot_of w name).view) (λ n. moved_itself (shot_of w n).view)
+    rises_closed = each_shot_closed (λ n s. MovedOn (snapshot_of w n).view s.view) (moved_itself (snapshot_of w name).view) (λ n. moved_itself (snapshot_of w n).view)
 
-    copies_closed : (p : Place) → Copied w (map_at after_close p)
+    copies_closed : (p : MapKey) → Copied w (map_at after_close p)
     copies_closed (Base n) = each_shot_closed (λ n s. Copied w s.base) (record { place = Base name; is = refl }) (λ n. record { place = Base n; is = refl }) n
     copies_closed (View n) = each_shot_closed (λ n s. Copied w s.view) (record { place = View name; is = refl }) (λ n. record { place = View n; is = refl }) n
     copies_closed (Last n) = record { place = Last n; is = refl }
@@ -149,10 +149,10 @@ module _ {P : Type 0} {rules : Rules P} {w : World P} (v : IsValid rules w) wher
     pub valid_closed : IsValid rules after_close
     valid_closed = record {
       shaped = record {
-        some = omega (arith, v.shaped.some, length-set {A = Shot});
-        full = shaped-set (length w.objects) w.shots name (with_status (shot_of w name) status) v.shaped.full (v.shaped.full name there);
+        some = omega (arith, v.shaped.some, length-set {A = Snapshot});
+        full = shaped-set (length w.objects) w.snapshots name (with_status (snapshot_of w name) status) v.shaped.full (v.shaped.full name there);
       };
-      open_global = (ap (λ (s : Shot). s.status) (get_or-set_other w.shots name 0 (with_status (shot_of w name) status) absent inner) ∙ v.open_global.0, ap is_mutable (frames_closed 0).kind ∙ v.open_global.1, (frames_closed 0).parent ∙ v.open_global.2);
+      open_global = (ap (λ (s : Snapshot). s.status) (get_or-set_other w.snapshots name 0 (with_status (snapshot_of w name) status) no_snapshot inner) ∙ v.open_global.0, ap is_mutable (frames_closed 0).kind ∙ v.open_global.1, (frames_closed 0).parent ∙ v.open_global.2);
       in_time = v.in_time;
       stamped = stamped-from v from_closed;
       known = known-from v from_closed;
@@ -161,37 +161,37 @@ module _ {P : Type 0} {rules : Rules P} {w : World P} (v : IsValid rules w) wher
       agree = agree-from v from_closed;
       wrote = each_shot_closed (λ n s. Wrote s.base s.view s.wrote) (v.wrote name) v.wrote;
       moved = each_shot_closed (λ n s. MovedOn s.base s.view) (v.moved name) v.moved;
-      above = each_shot_closed (λ n s. MovedOn s.base (shot_of after_close s.parent).view) (above name) above;
+      above = each_shot_closed (λ n s. MovedOn s.base (snapshot_of after_close s.parent).view) (above name) above;
       seen = λ n. moved_on _ _ _ (v.seen n) (rises_closed 0);
-      parents = λ n. omega (arith, (frames_closed n).parent, v.parents n, length-set w.shots name (with_status (shot_of w name) status));
-      tree = each_shot_closed (λ n s. not (is_live s.status) ≡ false → is_mutable s.kind ≡ true → is_mutable (shot_of after_close s.parent).kind ≡ true) (λ live mutable. absurd cc) tree;
+      parents = λ n. omega (arith, (frames_closed n).parent, v.parents n, length-set w.snapshots name (with_status (snapshot_of w name) status));
+      tree = each_shot_closed (λ n s. not (is_live s.status) ≡ false → is_mutable s.kind ≡ true → is_mutable (snapshot_of after_close s.parent).kind ≡ true) (λ live mutable. absurd cc) tree;
     } where
-      above : (n : ℕ) → MovedOn (shot_of w n).base (shot_of after_close (shot_of w n).parent).view
-      above n = moved_on _ _ _ (v.above n) (rises_closed (shot_of w n).parent)
+      above : (n : ℕ) → MovedOn (snapshot_of w n).base (snapshot_of after_close (snapshot_of w n).parent).view
+      above n = moved_on _ _ _ (v.above n) (rises_closed (snapshot_of w n).parent)
 
-      tree : (n : ℕ) → is_closed w n ≡ false → is_mutable (shot_of w n).kind ≡ true → is_mutable (shot_of after_close (shot_of w n).parent).kind ≡ true
-      tree n live mutable = ap is_mutable (frames_closed (shot_of w n).parent).kind ∙ v.tree n live mutable
+      tree : (n : ℕ) → is_closed w n ≡ false → is_mutable (snapshot_of w n).kind ≡ true → is_mutable (snapshot_of after_close (snapshot_of w n).parent).kind ≡ true
+      tree n live mutable = ap is_mutable (frames_closed (snapshot_of w n).parent).kind ∙ v.tree n live mutable
 
-  -- one snapshot more
-  module _ (caller parent : ℕ) (kind : Kind) (room : w.clock < clock_limit) (live : is_closed w parent ≡ false) (tested : (not (is_mutable (shot_of w parent).kind) && is_mutable kind) ≡ false) where
+  -- A world with one more snapshot.
+  module _ (caller parent : ℕ) (kind : Kind) (room : w.clock < clock_limit) (live : is_closed w parent ≡ false) (tested : (not (is_mutable (snapshot_of w parent).kind) && is_mutable kind) ≡ false) where
     abbrev after_take : World P
-    after_take = taken w caller parent kind
+    after_take = world_after_take w caller parent kind
 
-    abbrev child : Shot
-    child = child_of caller parent kind (shot_of w parent)
+    abbrev child : Snapshot
+    child = child_of caller parent kind (snapshot_of w parent)
 
-    each_shot_taken : (Q : ℕ → Shot → Type 0) → Q (length w.shots) child → ((n : ℕ) → Q n (shot_of w n)) → (n : ℕ) → Q n (shot_of after_take n)
-    each_shot_taken Q one others = each_shot-push w.shots child Q one (λ n other. others n)
+    each_shot_taken : (Q : ℕ → Snapshot → Type 0) → Q (length w.snapshots) child → ((n : ℕ) → Q n (snapshot_of w n)) → (n : ℕ) → Q n (snapshot_of after_take n)
+    each_shot_taken Q one others = each_shot-push w.snapshots child Q one (λ n other. others n)
 
-    was_taken : (n : ℕ) → n < length w.shots → shot_of after_take n ≡ shot_of w n
-    was_taken n within = get_or-append w.shots (child ∷ []) absent n within
+    was_taken : (n : ℕ) → n < length w.snapshots → snapshot_of after_take n ≡ snapshot_of w n
+    was_taken n within = get_or-append w.snapshots (child ∷ []) no_snapshot n within
 
     pub rises_taken : Rises w after_take
-    rises_taken = each_shot_taken (λ n s. MovedOn (shot_of w n).view s.view)
-        (subst (λ (s : Shot). MovedOn s.view child.view) (sym (get_or_past w.shots (length w.shots) absent (omega arith))) (moved_from_none child.view))
-        (λ n. moved_itself (shot_of w n).view)
+    rises_taken = each_shot_taken (λ n s. MovedOn (snapshot_of w n).view s.view)
+        (subst (λ (s : Snapshot). MovedOn s.view child.view) (sym (get_or_past w.snapshots (length w.snapshots) no_snapshot (omega arith))) (moved_from_none child.view))
+        (λ n. moved_itself (snapshot_of w n).view)
 
-    copies_taken : (p : Place) → Copied w (map_at after_take p)
+    copies_taken : (p : MapKey) → Copied w (map_at after_take p)
     copies_taken (Base n) = each_shot_taken (λ n s. Copied w s.base) (record { place = View parent; is = refl }) (λ n. record { place = Base n; is = refl }) n
     copies_taken (View n) = each_shot_taken (λ n s. Copied w s.view) (record { place = View parent; is = refl }) (λ n. record { place = View n; is = refl }) n
     copies_taken (Last n) = record { place = Last n; is = refl }
@@ -207,10 +207,10 @@ module _ {P : Type 0} {rules : Rules P} {w : World P} (v : IsValid rules w) wher
     pub valid_taken : IsValid rules after_take
     valid_taken = record {
       shaped = record {
-        some = omega (arith, v.shaped.some, length-append w.shots (child ∷ []));
-        full = shaped-push (length w.objects) w.shots child v.shaped.full ((v.shaped.full parent there).1, (v.shaped.full parent there).1);
+        some = omega (arith, v.shaped.some, length-append w.snapshots (child ∷ []));
+        full = shaped-push (length w.objects) w.snapshots child v.shaped.full ((v.shaped.full parent there).1, (v.shaped.full parent there).1);
       };
-      open_global = (ap (λ (s : Shot). s.status) first ∙ v.open_global.0, ap (λ (s : Shot). is_mutable s.kind) first ∙ v.open_global.1, ap (λ (s : Shot). s.parent) first ∙ v.open_global.2);
+      open_global = (ap (λ (s : Snapshot). s.status) first ∙ v.open_global.0, ap (λ (s : Snapshot). is_mutable s.kind) first ∙ v.open_global.1, ap (λ (s : Snapshot). s.parent) first ∙ v.open_global.2);
       in_time = omega (arith, room);
       stamped = stamped-from v from_taken;
       known = known-from v from_taken;
@@ -218,25 +218,25 @@ module _ {P : Type 0} {rules : Rules P} {w : World P} (v : IsValid rules w) wher
       fits = fits-from v from_taken;
       agree = agree-from v from_taken;
       wrote = each_shot_taken (λ n s. Wrote s.base s.view s.wrote) (record { changed = λ x e. absurd cc; unchanged = λ x e. refl }) v.wrote;
-      moved = each_shot_taken (λ n s. MovedOn s.base s.view) (moved_itself (shot_of w parent).view) v.moved;
-      above = each_shot_taken (λ n s. MovedOn s.base (shot_of after_take s.parent).view) (rises_taken parent) (λ n. moved_on _ _ _ (v.above n) (rises_taken (shot_of w n).parent));
+      moved = each_shot_taken (λ n s. MovedOn s.base s.view) (moved_itself (snapshot_of w parent).view) v.moved;
+      above = each_shot_taken (λ n s. MovedOn s.base (snapshot_of after_take s.parent).view) (rises_taken parent) (λ n. moved_on _ _ _ (v.above n) (rises_taken (snapshot_of w n).parent));
       seen = λ n. moved_on _ _ _ (v.seen n) (rises_taken 0);
-      parents = each_shot_taken (λ n s. s.parent < length after_take.shots) (omega (arith, there, more)) (λ n. omega (arith, v.parents n, more));
-      tree = each_shot_taken (λ n s. not (is_live s.status) ≡ false → is_mutable s.kind ≡ true → is_mutable (shot_of after_take s.parent).kind ≡ true)
-          (λ open_child mutable. ap (λ (s : Shot). is_mutable s.kind) (was_taken parent there) ∙ mutable_parent (is_mutable (shot_of w parent).kind) (is_mutable kind) tested mutable)
-          (λ n open_one mutable. ap (λ (s : Shot). is_mutable s.kind) (was_taken (shot_of w n).parent (v.parents n)) ∙ v.tree n open_one mutable);
+      parents = each_shot_taken (λ n s. s.parent < length after_take.snapshots) (omega (arith, there, more)) (λ n. omega (arith, v.parents n, more));
+      tree = each_shot_taken (λ n s. not (is_live s.status) ≡ false → is_mutable s.kind ≡ true → is_mutable (snapshot_of after_take s.parent).kind ≡ true)
+          (λ open_child mutable. ap (λ (s : Snapshot). is_mutable s.kind) (was_taken parent there) ∙ mutable_parent (is_mutable (snapshot_of w parent).kind) (is_mutable kind) tested mutable)
+          (λ n open_one mutable. ap (λ (s : Snapshot). is_mutable s.kind) (was_taken (snapshot_of w n).parent (v.parents n)) ∙ v.tree n open_one mutable);
     } where
-      there : parent < length w.shots
+      there : parent < length w.snapshots
       there = open_within w parent live
 
-      more : length after_take.shots ≡ length w.shots + 1
-      more = length-append w.shots (child ∷ [])
+      more : length after_take.snapshots ≡ length w.snapshots + 1
+      more = length-append w.snapshots (child ∷ [])
 
-      first : shot_of after_take 0 ≡ shot_of w 0
+      first : snapshot_of after_take 0 ≡ snapshot_of w 0
       first = was_taken 0 v.shaped.some
 
-  -- a watcher is given global's map
-  module _ (watcher : ℕ) (there : watcher < length w.lasts) (m : Map) (is : m ≡ (shot_of w 0).view) where
+  -- A watcher's last map becomes global's view.
+  module _ (watcher : ℕ) (there : watcher < length w.lasts) (m : Map) (is : m ≡ (snapshot_of w 0).view) where
     abbrev after_last : World P
     after_last = record w { lasts = slice_set w.lasts watcher (Some m) }
 
@@ -248,7 +248,7 @@ module _ {P : Type 0} {rules : Rules P} {w : World P} (v : IsValid rules w) wher
       | inr e ↦ subst (λ (o : Option Map). Q (unwrap_or o [])) (sym (get_or-set_other w.lasts watcher n (Some m) None e.1)) (others n)
     ]
 
-    copies_last : (p : Place) → Copied w (map_at after_last p)
+    copies_last : (p : MapKey) → Copied w (map_at after_last p)
     copies_last (Base n) = record { place = Base n; is = refl }
     copies_last (View n) = record { place = View n; is = refl }
     copies_last (Last n) = each_last (λ k. Copied w k) (record { place = View 0; is = is }) (λ n. record { place = Last n; is = refl }) n
@@ -269,30 +269,30 @@ module _ {P : Type 0} {rules : Rules P} {w : World P} (v : IsValid rules w) wher
       wrote = v.wrote;
       moved = v.moved;
       above = v.above;
-      seen = each_last (λ k. MovedOn k (shot_of w 0).view) (subst (λ (k : Map). MovedOn k (shot_of w 0).view) (sym is) (moved_itself (shot_of w 0).view)) v.seen;
+      seen = each_last (λ k. MovedOn k (snapshot_of w 0).view) (subst (λ (k : Map). MovedOn k (snapshot_of w 0).view) (sym is) (moved_itself (snapshot_of w 0).view)) v.seen;
       parents = v.parents;
       tree = v.tree;
     }
 
-  -- one watcher more
-  lasts_watched : (n : ℕ) → last_of (watched w) n ≡ last_of w n
+  -- A world with one more watcher.
+  lasts_watched : (n : ℕ) → last_of (world_after_watch w) n ≡ last_of w n
   lasts_watched n = elim (cases_lt n (length w.lasts)) [
     | inl h ↦ get_or-append w.lasts (None ∷ []) None n h
     | inr h ↦ elim (eqb_tells n (length w.lasts)) [
-      | inl e ↦ ap (λ (k : ℕ). last_of (watched w) k) e.1 ∙ get_or-append_seam w.lasts None [] None ∙ sym (get_or_past w.lasts n None h)
+      | inl e ↦ ap (λ (k : ℕ). last_of (world_after_watch w) k) e.1 ∙ get_or-append_seam w.lasts None [] None ∙ sym (get_or_past w.lasts n None h)
       | inr e ↦ get_or_past (w.lasts ++ None ∷ []) n None (omega (arith, h, e.1, length-append {A = Option Map} w.lasts (None ∷ []))) ∙ sym (get_or_past w.lasts n None h)
     ]
   ]
 
-  copies_watched : (p : Place) → Copied w (map_at (watched w) p)
+  copies_watched : (p : MapKey) → Copied w (map_at (world_after_watch w) p)
   copies_watched (Base n) = record { place = Base n; is = refl }
   copies_watched (View n) = record { place = View n; is = refl }
   copies_watched (Last n) = record { place = Last n; is = ap (λ (o : Option Map). unwrap_or o []) (lasts_watched n) }
 
-  from_watched : From w (watched w) (λ x. no_entry)
+  from_watched : From w (world_after_watch w) (λ x. no_entry)
   from_watched = from_copies v refl (omega arith) copies_watched
 
-  pub valid_watched : IsValid rules (watched w)
+  pub valid_watched : IsValid rules (world_after_watch w)
   valid_watched = record {
     shaped = shaped_watched w v.shaped;
     open_global = v.open_global;
@@ -305,10 +305,10 @@ module _ {P : Type 0} {rules : Rules P} {w : World P} (v : IsValid rules w) wher
     wrote = v.wrote;
     moved = v.moved;
     above = v.above;
-    seen = λ n. subst (λ (o : Option Map). MovedOn (unwrap_or o []) (shot_of w 0).view) (sym (lasts_watched n)) (v.seen n);
+    seen = λ n. subst (λ (o : Option Map). MovedOn (unwrap_or o []) (snapshot_of w 0).view) (sym (lasts_watched n)) (v.seen n);
     parents = v.parents;
     tree = v.tree;
   }
 
-  pub rises_watched : Rises w (watched w)
-  rises_watched n = moved_itself (shot_of w n).view
+  pub rises_watched : Rises w (world_after_watch w)
+  rises_watched n = moved_itself (snapshot_of w n).view

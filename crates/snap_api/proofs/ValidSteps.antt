@@ -1,4 +1,4 @@
--- How one step carries what holds of every snapshot and every map from a world to the next.
+-- Lemmas that carry facts about every snapshot and every map from one world to the next.
 use Rattle.std.proofs.Common.{◌≡◌, ◌≢◌, ℕ, ◌==◌, ◌<◌, ◌≤◌, List, [], ◌∷◌, ◌++◌, length, refl, sym, ap, ◌∙◌, subst, Some, Bool, true, false, ◌||◌, cond, arith, ◌⊎◌, inl, inr, length-append, get_or-set_same, get_or-set_other}
 use Rattle.std.proofs.Math.ListN.{get_or-append}
 use Rattle.std.proofs.Math.Seq.{get_or-append_seam}
@@ -10,39 +10,39 @@ use Rattle.std.proofs.lemmas.Bool.{cases_lt}
 use Rattle.std.specs.Prelude.{slice_get, slice_index_or, slice_set}
 use Rattle.rt_values.specs.Maps.{Map, entry_at, no_entry, contains, with_member}
 use Rattle.rt_values.specs.Values.{type_of}
-use Rattle.rt_values.specs.declared.maps.Entry.{Entry}
+use Rattle.rt_values.specs.declared.maps.StampedValue.{StampedValue}
 use Rattle.snap_policy.specs.Rules.{Rules}
-use Rattle.snap_api.specs.Valid.{Place, map_at, MovedOn, IsValid}
-use Rattle.snap_api.specs.World.{World, absent, with_members}
+use Rattle.snap_api.specs.Valid.{MapKey, map_at, MovedOn, IsValid}
+use Rattle.snap_api.specs.World.{World, no_snapshot, with_members}
 use Rattle.snap_api.specs.declared.data.Object.{Object}
-use Rattle.snap_api.specs.declared.data.Shot.{Shot}
+use Rattle.snap_api.specs.declared.data.Snapshot.{Snapshot}
 
--- what holds of the changed snapshot and of the others holds of all
-pub each_shot-set : (shots : List Shot) (name : ℕ) (s : Shot) (Q : ℕ → Shot → Type 0) → name < length shots → Q name s →
-    ((n : ℕ) → n ≢ name → Q n (slice_index_or shots n absent)) → (n : ℕ) → Q n (slice_index_or (slice_set shots name s) n absent)
-each_shot-set shots name s Q there changed others n = elim (eqb_tells n name) [
+-- A fact about the changed snapshot and about the others is a fact about all.
+pub each_shot-set : (snapshots : List Snapshot) (name : ℕ) (s : Snapshot) (Q : ℕ → Snapshot → Type 0) → name < length snapshots → Q name s →
+    ((n : ℕ) → n ≢ name → Q n (slice_index_or snapshots n no_snapshot)) → (n : ℕ) → Q n (slice_index_or (slice_set snapshots name s) n no_snapshot)
+each_shot-set snapshots name s Q there changed others n = elim (eqb_tells n name) [
   | inl e ↦
-      let same : slice_index_or (slice_set shots name s) n absent ≡ s = ap (λ (k : ℕ). slice_index_or (slice_set shots name s) k absent) e.1 ∙ get_or-set_same shots name s absent there in
+      let same : slice_index_or (slice_set snapshots name s) n no_snapshot ≡ s = ap (λ (k : ℕ). slice_index_or (slice_set snapshots name s) k no_snapshot) e.1 ∙ get_or-set_same snapshots name s no_snapshot there in
       subst (Q n) (sym same) (subst (λ (k : ℕ). Q k s) (sym e.1) changed)
-  | inr e ↦ subst (Q n) (sym (get_or-set_other shots name n s absent e.1)) (others n e.1)
+  | inr e ↦ subst (Q n) (sym (get_or-set_other snapshots name n s no_snapshot e.1)) (others n e.1)
 ]
 
--- what holds of the new snapshot and of the others holds of all
-pub each_shot-push : (shots : List Shot) (s : Shot) (Q : ℕ → Shot → Type 0) → Q (length shots) s →
-    ((n : ℕ) → n ≢ length shots → Q n (slice_index_or shots n absent)) → (n : ℕ) → Q n (slice_index_or (shots ++ s ∷ []) n absent)
-each_shot-push shots s Q pushed others n = elim (eqb_tells n (length shots)) [
+-- A fact about the new snapshot and about the others is a fact about all.
+pub each_shot-push : (snapshots : List Snapshot) (s : Snapshot) (Q : ℕ → Snapshot → Type 0) → Q (length snapshots) s →
+    ((n : ℕ) → n ≢ length snapshots → Q n (slice_index_or snapshots n no_snapshot)) → (n : ℕ) → Q n (slice_index_or (snapshots ++ s ∷ []) n no_snapshot)
+each_shot-push snapshots s Q pushed others n = elim (eqb_tells n (length snapshots)) [
   | inl e ↦
-      let same : slice_index_or (shots ++ s ∷ []) n absent ≡ s = ap (λ (k : ℕ). slice_index_or (shots ++ s ∷ []) k absent) e.1 ∙ get_or-append_seam shots s [] absent in
+      let same : slice_index_or (snapshots ++ s ∷ []) n no_snapshot ≡ s = ap (λ (k : ℕ). slice_index_or (snapshots ++ s ∷ []) k no_snapshot) e.1 ∙ get_or-append_seam snapshots s [] no_snapshot in
       subst (Q n) (sym same) (subst (λ (k : ℕ). Q k s) (sym e.1) pushed)
   | inr e ↦
-      let same : slice_index_or (shots ++ s ∷ []) n absent ≡ slice_index_or shots n absent = elim (cases_lt n (length shots)) [
-        | inl h ↦ get_or-append shots (s ∷ []) absent n h
-        | inr h ↦ get_or_past (shots ++ s ∷ []) n absent (omega (arith, h, e.1, length-append shots (s ∷ []))) ∙ sym (get_or_past shots n absent h)
+      let same : slice_index_or (snapshots ++ s ∷ []) n no_snapshot ≡ slice_index_or snapshots n no_snapshot = elim (cases_lt n (length snapshots)) [
+        | inl h ↦ get_or-append snapshots (s ∷ []) no_snapshot n h
+        | inr h ↦ get_or_past (snapshots ++ s ∷ []) n no_snapshot (omega (arith, h, e.1, length-append snapshots (s ∷ []))) ∙ sym (get_or_past snapshots n no_snapshot h)
       ] in
       subst (Q n) (sym same) (others n e.1)
 ]
 
--- a member is there once it was put there
+-- A list contains a member that was inserted.
 pub contains-with_member_same : (x : ℕ) (xs : List ℕ) → contains x (with_member x xs) ≡ true
 contains-with_member_same x xs = of (contains x xs) refl where
   of : (b : Bool) → contains x xs ≡ b → contains x (cond b xs (xs ++ x ∷ [])) ≡ true
@@ -80,8 +80,8 @@ moved_on a b c one two = record {
 pub moved_from_none : (m : Map) → MovedOn [] m
 moved_from_none m = record { longer = omega arith; stamps = λ x within. absurd (omega (arith, within)) }
 
--- with one entry more
-pub moved_one_more : (a b : Map) (e : Entry) → length a ≡ length b → MovedOn a b → MovedOn (a ++ e ∷ []) (b ++ e ∷ [])
+-- A map with one more stamped value.
+pub moved_one_more : (a b : Map) (e : StampedValue) → length a ≡ length b → MovedOn a b → MovedOn (a ++ e ∷ []) (b ++ e ∷ [])
 moved_one_more a b e same one = record {
   longer = omega (arith, length-append a (e ∷ []), length-append b (e ∷ []), same);
   stamps = λ x within. elim (cases_lt x (length a)) [
@@ -89,77 +89,77 @@ moved_one_more a b e same one = record {
         let there : x < length b = omega (arith, h, same) in
         let first : entry_at (a ++ e ∷ []) x ≡ entry_at a x = get_or-append a (e ∷ []) no_entry x h in
         let second : entry_at (b ++ e ∷ []) x ≡ entry_at b x = get_or-append b (e ∷ []) no_entry x there in
-        omega (arith, ap (λ (f : Entry). f.stamp) first, ap (λ (f : Entry). f.stamp) second, one.stamps x h)
+        omega (arith, ap (λ (f : StampedValue). f.stamp) first, ap (λ (f : StampedValue). f.stamp) second, one.stamps x h)
     | inr h ↦
         let last : x ≡ length a = omega (arith, h, within, length-append a (e ∷ [])) in
         let too : x ≡ length b = omega (arith, last, same) in
         let first : entry_at (a ++ e ∷ []) x ≡ e = ap (λ (k : ℕ). entry_at (a ++ e ∷ []) k) last ∙ get_or-append_seam a e [] no_entry in
         let second : entry_at (b ++ e ∷ []) x ≡ e = ap (λ (k : ℕ). entry_at (b ++ e ∷ []) k) too ∙ get_or-append_seam b e [] no_entry in
-        omega (arith, ap (λ (f : Entry). f.stamp) first, ap (λ (f : Entry). f.stamp) second)
+        omega (arith, ap (λ (f : StampedValue). f.stamp) first, ap (λ (f : StampedValue). f.stamp) second)
   ];
 }
 
--- it is an entry of object x in a map of the world
-pub record Kept {P : Type 0} (w : World P) (x : ℕ) (e : Entry) : Type 0 where
-  pub place : Place
+-- A stamped value of object x in a map of the world.
+pub record Kept {P : Type 0} (w : World P) (x : ℕ) (e : StampedValue) : Type 0 where
+  pub place : MapKey
   pub within : x < length (map_at w place)
   pub is : e ≡ entry_at (map_at w place) x
 
--- it is an entry for object x that is later than all of the world
-pub record Fresh {P : Type 0} (w after : World P) (x : ℕ) (e : Entry) : Type 0 where
+-- A stamped value for object x that is later than all of the world.
+pub record Fresh {P : Type 0} (w after : World P) (x : ℕ) (e : StampedValue) : Type 0 where
   pub late : w.clock < e.stamp
   pub in_time : e.stamp ≤ after.clock
   pub typed : (o : Object P) → slice_get w.objects x ≡ Some o → type_of e.value ≡ o.ty
 
--- each entry of the second world is of the first, or the fresh one of its object
-pub record From {P : Type 0} (w after : World P) (fresh : ℕ → Entry) : Type 0 where
+-- Each stamped value of the second world is of the first, or is the fresh one of its object.
+pub record From {P : Type 0} (w after : World P) (fresh : ℕ → StampedValue) : Type 0 where
   pub objects : after.objects ≡ w.objects
   pub clock : w.clock ≤ after.clock
-  pub known : (p : Place) → length (map_at after p) ≤ length w.objects
-  pub each : (p : Place) (x : ℕ) → x < length (map_at after p) → Kept w x (entry_at (map_at after p) x) ⊎ ((entry_at (map_at after p) x ≡ fresh x) × Fresh w after x (entry_at (map_at after p) x))
+  pub known : (p : MapKey) → length (map_at after p) ≤ length w.objects
+  pub each : (p : MapKey) (x : ℕ) → x < length (map_at after p) → Kept w x (entry_at (map_at after p) x) ⊎ ((entry_at (map_at after p) x ≡ fresh x) × Fresh w after x (entry_at (map_at after p) x))
 
-module _ {P : Type 0} {rules : Rules P} {w after : World P} {fresh : ℕ → Entry} (v : IsValid rules w) (f : From w after fresh) where
-  pub stamped-from : (p : Place) (x : ℕ) → x < length (map_at after p) → (entry_at (map_at after p) x).stamp ≤ after.clock
+module _ {P : Type 0} {rules : Rules P} {w after : World P} {fresh : ℕ → StampedValue} (v : IsValid rules w) (f : From w after fresh) where
+  pub stamped-from : (p : MapKey) (x : ℕ) → x < length (map_at after p) → (entry_at (map_at after p) x).stamp ≤ after.clock
   stamped-from p x within = elim (f.each p x within) [
-    | inl k ↦ omega (arith, ap (λ (e : Entry). e.stamp) k.is, v.stamped k.place x k.within, f.clock)
+    | inl k ↦ omega (arith, ap (λ (e : StampedValue). e.stamp) k.is, v.stamped k.place x k.within, f.clock)
     | inr k ↦ k.1.in_time
   ]
 
-  pub known-from : (p : Place) → length (map_at after p) ≤ length after.objects
+  pub known-from : (p : MapKey) → length (map_at after p) ≤ length after.objects
   known-from p = omega (arith, f.known p, ap (λ (os : List (Object P)). length os) f.objects)
 
-  pub typed-from : (p : Place) (x : ℕ) (o : Object P) → x < length (map_at after p) → slice_get after.objects x ≡ Some o → type_of (entry_at (map_at after p) x).value ≡ o.ty
+  pub typed-from : (p : MapKey) (x : ℕ) (o : Object P) → x < length (map_at after p) → slice_get after.objects x ≡ Some o → type_of (entry_at (map_at after p) x).value ≡ o.ty
   typed-from p x o within there =
       let was : slice_get w.objects x ≡ Some o = ap (λ (os : List (Object P)). slice_get os x) (sym f.objects) ∙ there in
       elim (f.each p x within) [
-        | inl k ↦ ap (λ (e : Entry). type_of e.value) k.is ∙ v.typed k.place x o k.within was
+        | inl k ↦ ap (λ (e : StampedValue). type_of e.value) k.is ∙ v.typed k.place x o k.within was
         | inr k ↦ k.1.typed o was
       ]
 
   pub fits-from : (x : ℕ) (o : Object P) → slice_get after.objects x ≡ Some o → rules.fits o.policy o.ty ≡ true
   fits-from x o there = v.fits x o (ap (λ (os : List (Object P)). slice_get os x) (sym f.objects) ∙ there)
 
-  pub agree-from : (p q : Place) (x : ℕ) → x < length (map_at after p) → x < length (map_at after q) →
+  pub agree-from : (p q : MapKey) (x : ℕ) → x < length (map_at after p) → x < length (map_at after q) →
       (entry_at (map_at after p) x).stamp ≡ (entry_at (map_at after q) x).stamp → (entry_at (map_at after p) x).value ≡ (entry_at (map_at after q) x).value
   agree-from p q x hp hq same = elim (f.each p x hp) [
     | inl k ↦ elim (f.each q x hq) [
       | inl l ↦
-          let stamps : (entry_at (map_at w k.place) x).stamp ≡ (entry_at (map_at w l.place) x).stamp = omega (arith, ap (λ (e : Entry). e.stamp) k.is, ap (λ (e : Entry). e.stamp) l.is, same) in
-          ap (λ (e : Entry). e.value) k.is ∙ v.agree k.place l.place x k.within l.within stamps ∙ sym (ap (λ (e : Entry). e.value) l.is)
-      | inr l ↦ absurd (omega (arith, ap (λ (e : Entry). e.stamp) k.is, v.stamped k.place x k.within, l.1.late, same))
+          let stamps : (entry_at (map_at w k.place) x).stamp ≡ (entry_at (map_at w l.place) x).stamp = omega (arith, ap (λ (e : StampedValue). e.stamp) k.is, ap (λ (e : StampedValue). e.stamp) l.is, same) in
+          ap (λ (e : StampedValue). e.value) k.is ∙ v.agree k.place l.place x k.within l.within stamps ∙ sym (ap (λ (e : StampedValue). e.value) l.is)
+      | inr l ↦ absurd (omega (arith, ap (λ (e : StampedValue). e.stamp) k.is, v.stamped k.place x k.within, l.1.late, same))
     ]
     | inr k ↦ elim (f.each q x hq) [
-      | inl l ↦ absurd (omega (arith, ap (λ (e : Entry). e.stamp) l.is, v.stamped l.place x l.within, k.1.late, same))
-      | inr l ↦ ap (λ (e : Entry). e.value) (k.0 ∙ sym l.0)
+      | inl l ↦ absurd (omega (arith, ap (λ (e : StampedValue). e.stamp) l.is, v.stamped l.place x l.within, k.1.late, same))
+      | inr l ↦ ap (λ (e : StampedValue). e.value) (k.0 ∙ sym l.0)
     ]
   ]
 
--- each map of the second world is a map of the first
+-- Each map of the second world is a map of the first.
 pub record Copied {P : Type 0} (w : World P) (m : Map) : Type 0 where
-  pub place : Place
+  pub place : MapKey
   pub is : m ≡ map_at w place
 
-pub from_copies : {P : Type 0} {rules : Rules P} {w after : World P} → IsValid rules w → after.objects ≡ w.objects → w.clock ≤ after.clock → ((p : Place) → Copied w (map_at after p)) → From w after (λ x. no_entry)
+pub from_copies : {P : Type 0} {rules : Rules P} {w after : World P} → IsValid rules w → after.objects ≡ w.objects → w.clock ≤ after.clock → ((p : MapKey) → Copied w (map_at after p)) → From w after (λ x. no_entry)
 from_copies {w = w} {after = after} v objects clock copies = record {
   objects = objects;
   clock = clock;

@@ -1,43 +1,42 @@
-// A world that keeps a log of its calls.
+// A world that records its calls.
 ghost use Rattle.std.specs.Prelude.{◌≡◌, ◌≢◌, ◌+◌, ◌≤◌, ◌<◌, ℕ, Option, Some, None, List, [], ◌∷◌, ◌++◌, true, false, length, slice_index_or, vec_len, vec_capacity, IsOk, OnOk, OnErr, IfSome, OnSome, MatchOption};
 ghost use Rattle.rt_values.specs.Maps.{contains};
 ghost use Rattle.snap_api.specs.Calls.{Logs};
-ghost use Rattle.snap_api.specs.Recorded.{Recorded, IsGlobalAlone};
+ghost use Rattle.snap_api.specs.TracksLive.{TracksLive, OnlyGlobalIsLive};
 ghost use Rattle.snap_api.specs.Shaped.{IsShaped};
 ghost use Rattle.snap_api.specs.World.{World};
 
-use crate::{Logged, Refusal, Reply, Request, Versions};
+use crate::{Entry, Refusal, Reply, Request, Versions};
 use rt_values::{Caller, Kind, Name, NoMemory, ObjectNo, Objects, Ty, Value, WatcherNo};
 use std::alloc::Global;
 
-/// A world with a log of all calls on it so far, each with its reply; a call that is refused for memory, the
-/// world's or the log's, does not stand in it. There is always room for the dispose of each snapshot that was
-/// taken through it, so that a caller's own live snapshot is disposed without memory here too. This project's
-/// own rule.
+/// A world with a log of all calls so far, each with its reply. The log omits calls that ran out of memory, in
+/// the world or in the log. It always has capacity for the dispose of each snapshot taken through it, so disposing
+/// the caller's own live snapshot takes no memory here either. This project's own rule.
 #[derive(Drop)]
 pub struct LogWorld<V: Drop> {
     world: V,
-    entries: Vec<Logged>,
-    taken: Vec<Name>, // those not disposed since
-    ghost room: { vec_len entries + vec_len taken ≤ vec_capacity entries },
+    entries: Vec<Entry>,
+    undisposed: Vec<Name>, // the snapshots taken and not yet disposed
+    ghost room: { vec_len entries + vec_len undisposed ≤ vec_capacity entries },
 }
 
-// Room for so many entries more, beside one for each snapshot.
-fn make_room(entries: &mut Vec<Logged>, taken: usize, more: usize) -> Result<(), NoMemory>
+// Reserves capacity for `more` entries and for one entry for each snapshot of `undisposed`.
+fn make_room(entries: &mut Vec<Entry>, undisposed: usize, more: usize) -> Result<(), NoMemory>
     ensures items { entries.new.items ≡ entries.old.items }
     ensures len { vec_len entries.new ≡ vec_len entries.old }
-    ensures room { OnOk result (vec_len entries.new + taken + more ≤ vec_capacity entries.new) }
+    ensures room { OnOk result (vec_len entries.new + undisposed + more ≤ vec_capacity entries.new) }
     ensures capacity { vec_capacity entries.old ≤ vec_capacity entries.new }
 {
-    let Some(count) = taken.checked_add(more) else {
+    let Some(count) = undisposed.checked_add(more) else {
         return Err(NoMemory);
     };
     entries.reserve(count)?;
     Ok(())
 }
 
-// Puts a call with its reply at the end of the log, unless it was refused for memory.
-fn note(entries: &mut Vec<Logged>, caller: Caller, request: Request, reply: Reply)
+// Appends a call with its reply, unless the call ran out of memory.
+fn append_entry(entries: &mut Vec<Entry>, caller: Caller, request: Request, reply: Reply)
     requires { vec_len entries.old < vec_capacity entries.old }
     ensures log { Logs (Some entries.old.items) (Some entries.new.items) caller request reply }
     ensures len { vec_len entries.new ≤ vec_len entries.old + 1 }
@@ -46,7 +45,7 @@ fn note(entries: &mut Vec<Logged>, caller: Caller, request: Request, reply: Repl
     if reply.is_no_memory() {
         return;
     }
-    let Ok(()) = entries.push(Logged {
+    let Ok(()) = entries.push(Entry {
         caller,
         request,
         reply,
@@ -55,22 +54,23 @@ fn note(entries: &mut Vec<Logged>, caller: Caller, request: Request, reply: Repl
     };
 }
 
-// One name more, for which there is room.
-fn put_name(taken: &mut Vec<Name>, name: Name)
-    requires { vec_len taken.old < vec_capacity taken.old }
-    ensures items { taken.new.items ≡ taken.old.items ++ name ∷ [] }
-    ensures len { vec_len taken.new ≡ vec_len taken.old + 1 }
+// Appends `name`, for which there is capacity.
+fn append_name(undisposed: &mut Vec<Name>, name: Name)
+    requires { vec_len undisposed.old < vec_capacity undisposed.old }
+    ensures items { undisposed.new.items ≡ undisposed.old.items ++ name ∷ [] }
+    ensures len { vec_len undisposed.new ≡ vec_len undisposed.old + 1 }
 {
-    let Ok(()) = taken.push(name) else {
+    let Ok(()) = undisposed.push(name) else {
         unreachable!();
     };
 }
 
-// Where a name stands, if it is there.
-fn place_of(taken: &[Name], name: Name) -> Option<usize>
-    ensures { MatchOption result (contains name taken.now ≡ false) (λ i. (i < length taken.now) × (slice_index_or taken.now i 0 ≡ name)) }
+// Returns the index of `name`, if the list contains it.
+fn index_of(undisposed: &[Name], name: Name) -> Option<usize>
+    ensures { MatchOption result (contains name undisposed.now ≡ false) (λ i. (i < length undisposed.now)
+        × (slice_index_or undisposed.now i 0 ≡ name)) }
 {
-    for (i, other) in taken.iter().enumerate() {
+    for (i, other) in undisposed.iter().enumerate() {
         if *other == name {
             return Some(i);
         }
@@ -78,8 +78,8 @@ fn place_of(taken: &[Name], name: Name) -> Option<usize>
     None
 }
 
-// The numbers in a list that lies in other memory, if there is room for them.
-fn copied_into(mut room: Vec<ObjectNo>, objects: &Objects) -> Option<Objects>
+// Copies `objects` into `room`, if its capacity is enough.
+fn copy_into(mut room: Vec<ObjectNo>, objects: &Objects) -> Option<Objects>
     requires { room.items ≡ [] }
     ensures same { IfSome result (λ o. o ≡ objects.now) }
     ensures none { MatchOption result (vec_capacity room < length objects.now) (λ _. Unit {0}) }
@@ -91,21 +91,22 @@ fn copied_into(mut room: Vec<ObjectNo>, objects: &Objects) -> Option<Objects>
 }
 
 impl<V: Versions + Drop> LogWorld<V> {
-    /// A log without entries over this world. Where global alone is live in a plain world that it stands for,
-    /// the new world stands for that one too.
+    /// Makes an empty log over `world`. The new world represents each plain world of `world` in which only the
+    /// global snapshot is live.
     pub fn new(alloc: Global, world: V) -> Self
-        ensures stands { (w : World V.P) → V.stands world w → IsShaped w → IsGlobalAlone w → ⟦<LogWorld<V> as Versions>⟧.stands result w }
+        ensures stands { (w : World V.P) → V.stands world w → IsShaped w → OnlyGlobalIsLive w
+            → ⟦<LogWorld<V> as Versions>⟧.stands result w }
         ensures log { ⟦<LogWorld<V> as Versions>⟧.log result ≡ Some [] }
     {
         LogWorld {
             world,
             entries: Vec::new(alloc),
-            taken: Vec::new(alloc),
+            undisposed: Vec::new(alloc),
         }
     }
 
-    /// The world and the log.
-    pub fn into_parts(self) -> (V, Vec<Logged>)
+    /// Returns the world and the log.
+    pub fn into_parts(self) -> (V, Vec<Entry>)
         ensures world { (w : World V.P) → ⟦<LogWorld<V> as Versions>⟧.stands self w → V.stands result.0 w }
         ensures log { ⟦<LogWorld<V> as Versions>⟧.log self ≡ Some result.1.items }
     {
@@ -115,11 +116,11 @@ impl<V: Versions + Drop> LogWorld<V> {
 
 impl<V: Versions + Drop> Versions for LogWorld<V> {
     ghost use Rattle.std.specs.Prelude.{Some};
-    ghost use Rattle.snap_api.specs.Recorded.{Recorded};
+    ghost use Rattle.snap_api.specs.TracksLive.{TracksLive};
 
     type P = V::P;
 
-    ghost stands = { λ s w. Recorded (V.stands s.world) s.taken.items w };
+    ghost stands = { λ s w. TracksLive (V.stands s.world) s.undisposed.items w };
 
     ghost log = { λ s. Some s.entries.items };
 
@@ -161,19 +162,19 @@ impl<V: Versions + Drop> Versions for LogWorld<V> {
         parent: Name,
         kind: Kind,
     ) -> Result<Name, Refusal> {
-        make_room(&mut self.entries, self.taken.len(), 2)?;
-        let Ok(()) = self.taken.reserve(1) else {
+        make_room(&mut self.entries, self.undisposed.len(), 2)?;
+        let Ok(()) = self.undisposed.reserve(1) else {
             return Err(Refusal::NoMemory);
         };
         let request = Request::Take { parent, kind };
         match self.world.take(alloc, caller, parent, kind) {
             Ok(name) => {
-                put_name(&mut self.taken, name);
-                note(&mut self.entries, caller, request, Reply::Taken(name));
+                append_name(&mut self.undisposed, name);
+                append_entry(&mut self.entries, caller, request, Reply::Taken(name));
                 Ok(name)
             }
             Err(refusal) => {
-                note(&mut self.entries, caller, request, Reply::Refused(refusal));
+                append_entry(&mut self.entries, caller, request, Reply::Refused(refusal));
                 Err(refusal)
             }
         }
@@ -185,8 +186,8 @@ impl<V: Versions + Drop> Versions for LogWorld<V> {
         caller: Caller,
         watcher: WatcherNo,
     ) -> Result<(Name, Objects), Refusal> {
-        make_room(&mut self.entries, self.taken.len(), 2)?;
-        let Ok(()) = self.taken.reserve(1) else {
+        make_room(&mut self.entries, self.undisposed.len(), 2)?;
+        let Ok(()) = self.undisposed.reserve(1) else {
             return Err(Refusal::NoMemory);
         };
         let Ok(room) = Vec::with_capacity(alloc, self.world.objects()) else {
@@ -195,11 +196,11 @@ impl<V: Versions + Drop> Versions for LogWorld<V> {
         let request = Request::TakeFor { watcher };
         match self.world.take_for(alloc, caller, watcher) {
             Ok((name, changed)) => {
-                let Some(told) = copied_into(room, &changed) else {
-                    return Err(Refusal::NoMemory); // no more objects changed than there are
+                let Some(told) = copy_into(room, &changed) else {
+                    return Err(Refusal::NoMemory); // impossible if the world represents a plain world
                 };
-                put_name(&mut self.taken, name);
-                note(
+                append_name(&mut self.undisposed, name);
+                append_entry(
                     &mut self.entries,
                     caller,
                     request,
@@ -208,7 +209,7 @@ impl<V: Versions + Drop> Versions for LogWorld<V> {
                 Ok((name, changed))
             }
             Err(refusal) => {
-                note(&mut self.entries, caller, request, Reply::Refused(refusal));
+                append_entry(&mut self.entries, caller, request, Reply::Refused(refusal));
                 Err(refusal)
             }
         }
@@ -221,18 +222,18 @@ impl<V: Versions + Drop> Versions for LogWorld<V> {
         name: Name,
         object: ObjectNo,
     ) -> Result<Value, Refusal> {
-        make_room(&mut self.entries, self.taken.len(), 1)?;
+        make_room(&mut self.entries, self.undisposed.len(), 1)?;
         let request = Request::Read { name, object };
         match self.world.read(alloc, caller, name, object) {
             Ok(value) => {
                 let Ok(told) = value.copy(alloc) else {
-                    return Err(Refusal::NoMemory); // a read leaves the world
+                    return Err(Refusal::NoMemory); // a read does not change the world
                 };
-                note(&mut self.entries, caller, request, Reply::Got(told));
+                append_entry(&mut self.entries, caller, request, Reply::Got(told));
                 Ok(value)
             }
             Err(refusal) => {
-                note(&mut self.entries, caller, request, Reply::Refused(refusal));
+                append_entry(&mut self.entries, caller, request, Reply::Refused(refusal));
                 Err(refusal)
             }
         }
@@ -246,7 +247,7 @@ impl<V: Versions + Drop> Versions for LogWorld<V> {
         object: ObjectNo,
         value: Value,
     ) -> Result<bool, Refusal> {
-        make_room(&mut self.entries, self.taken.len(), 1)?;
+        make_room(&mut self.entries, self.undisposed.len(), 1)?;
         let Ok(told) = value.copy(alloc) else {
             return Err(Refusal::NoMemory);
         };
@@ -257,26 +258,26 @@ impl<V: Versions + Drop> Versions for LogWorld<V> {
         };
         match self.world.write(alloc, caller, name, object, value) {
             Ok(changed) => {
-                note(&mut self.entries, caller, request, Reply::Wrote { changed });
+                append_entry(&mut self.entries, caller, request, Reply::Wrote { changed });
                 Ok(changed)
             }
             Err(refusal) => {
-                note(&mut self.entries, caller, request, Reply::Refused(refusal));
+                append_entry(&mut self.entries, caller, request, Reply::Refused(refusal));
                 Err(refusal)
             }
         }
     }
 
     fn apply(&mut self, alloc: Global, caller: Caller, name: Name) -> Result<(), Refusal> {
-        make_room(&mut self.entries, self.taken.len(), 1)?;
+        make_room(&mut self.entries, self.undisposed.len(), 1)?;
         let request = Request::Apply { name };
         match self.world.apply(alloc, caller, name) {
             Ok(()) => {
-                note(&mut self.entries, caller, request, Reply::Applied);
+                append_entry(&mut self.entries, caller, request, Reply::Applied);
                 Ok(())
             }
             Err(refusal) => {
-                note(&mut self.entries, caller, request, Reply::Refused(refusal));
+                append_entry(&mut self.entries, caller, request, Reply::Refused(refusal));
                 Err(refusal)
             }
         }
@@ -284,28 +285,28 @@ impl<V: Versions + Drop> Versions for LogWorld<V> {
 
     fn dispose(&mut self, caller: Caller, name: Name) -> Result<(), Refusal> {
         let request = Request::Dispose { name };
-        let Some(place) = place_of(&self.taken, name) else {
-            make_room(&mut self.entries, self.taken.len(), 1)?;
+        let Some(place) = index_of(&self.undisposed, name) else {
+            make_room(&mut self.entries, self.undisposed.len(), 1)?;
             return match self.world.dispose(caller, name) {
                 Ok(()) => {
-                    note(&mut self.entries, caller, request, Reply::Disposed);
+                    append_entry(&mut self.entries, caller, request, Reply::Disposed);
                     Ok(())
                 }
                 Err(refusal) => {
-                    note(&mut self.entries, caller, request, Reply::Refused(refusal));
+                    append_entry(&mut self.entries, caller, request, Reply::Refused(refusal));
                     Err(refusal)
                 }
             };
         };
         match self.world.dispose(caller, name) {
             Ok(()) => {
-                let _ = self.taken.remove(place); // its room is for this entry
-                note(&mut self.entries, caller, request, Reply::Disposed);
+                let _ = self.undisposed.remove(place); // its capacity is for this entry
+                append_entry(&mut self.entries, caller, request, Reply::Disposed);
                 Ok(())
             }
             Err(refusal) => {
-                make_room(&mut self.entries, self.taken.len(), 1)?; // a refusal leaves the world
-                note(&mut self.entries, caller, request, Reply::Refused(refusal));
+                make_room(&mut self.entries, self.undisposed.len(), 1)?; // a refusal does not change the world
+                append_entry(&mut self.entries, caller, request, Reply::Refused(refusal));
                 Err(refusal)
             }
         }

@@ -1,16 +1,17 @@
-// A view of one snapshot, over a lent world.
+// A desk over a borrowed world.
 ghost use Rattle.std.specs.Prelude.{◌≡◌};
 ghost use Rattle.std.proofs.Common.{◌∙◌};
 ghost use Rattle.snap_api.specs.Desks.{Lasts, Clocks};
-ghost use Rattle.snap_api.specs.Eyes.{Eyes};
-ghost use Rattle.snap_api.specs.Keeps.{KeepsDesk, keeps_itself, keeps_on, asked_of, lasts_kept, clocks_kept};
+ghost use Rattle.snap_api.specs.ShownMap.{ShownMap};
+ghost use Rattle.snap_api.specs.DeskReads.{DeskAfterReads};
+ghost use Rattle.snap_api.specs.DeskReadsLaws.{keeps_itself, keeps_on, asked_of, lasts_kept, clocks_kept};
 
 use crate::{Desk, Refusal, Versions};
 use rt_values::{Caller, Name, NoMemory, ObjectNo, Objects, Value, View, WatcherNo};
 use std::alloc::Global;
 
-/// What a caller reads in its open snapshot of a lent world, with a lent list that gets each object asked for,
-/// as a composition's read observer does. Whoever lent both has them back when the desk is gone.
+/// A desk over a borrowed world, for one caller. It appends each object read to a borrowed list, as the read
+/// observer of a composition does. Both return to their owner when the desk is dropped.
 #[derive(Drop)]
 pub struct OwnDesk<'a, V: Versions> {
     world: &'a mut V,
@@ -20,8 +21,8 @@ pub struct OwnDesk<'a, V: Versions> {
 }
 
 impl<'a, V: Versions> OwnDesk<'a, V> {
-    /// A desk of this caller in this snapshot, which is live and the caller's own or global; without a
-    /// snapshot it shows nothing.
+    /// Makes a desk that shows snapshot `opened` to `caller`. The snapshot must be live, and global or the
+    /// caller's own; without a snapshot the desk shows nothing.
     pub fn new(
         world: &'a mut V,
         asked: &'a mut Objects,
@@ -44,19 +45,27 @@ impl<'a, V: Versions> OwnDesk<'a, V> {
 }
 
 impl<V: Versions> View for OwnDesk<'_, V> {
-    ghost shows = { λ s m. Eyes V.P.rules (V.stands s.world.now) s.caller s.opened m };
+    ghost shows = { λ s m. ShownMap V.P.rules (V.stands s.world.now) s.caller s.opened m };
 
     ghost asked = { λ s. s.asked.now };
 
-    ghost keeps = { λ s t. KeepsDesk s.world.ghost_name t.world.ghost_name s.asked.ghost_name t.asked.ghost_name (V.stands s.world.now) (V.stands t.world.now) (V.log s.world.now) (V.log t.world.now) s.caller t.caller s.opened t.opened s.asked.now t.asked.now };
+    ghost keeps = { λ s t. DeskAfterReads V.P.rules s.world.ghost_name t.world.ghost_name s.asked.ghost_name
+        t.asked.ghost_name (V.stands s.world.now) (V.stands t.world.now) (V.log s.world.now)
+        (V.log t.world.now) s.caller t.caller s.opened t.opened s.asked.now t.asked.now };
+
+    ghost reads_free = { λ s. ⊥ };
 
     ghost keeps_itself = { λ s. keeps_itself _ _ _ _ _ _ _ };
 
     ghost keeps_on = { λ r s t h k. keeps_on h k };
 
+    ghost asked_grows = { λ s t k. record { more = k.more; is = k.asks } };
+
+    ghost free_kept = { λ s t k f. f };
+
     fn read(&mut self, alloc: Global, x: ObjectNo) -> Result<Value, NoMemory> {
         let Some(name) = self.opened else {
-            return Err(NoMemory); // nothing is shown then
+            return Err(NoMemory); // the desk shows nothing
         };
         let Ok(()) = self.asked.push(x) else {
             return Err(NoMemory);
@@ -69,7 +78,7 @@ impl<V: Versions> View for OwnDesk<'_, V> {
                     self.asked.pop();
                     return Err(NoMemory);
                 }
-                Err(NoMemory) // another refusal comes only where no map is shown
+                Err(NoMemory) // any other refusal means that the desk shows nothing
             }
         }
     }
@@ -102,6 +111,8 @@ impl<V: Versions> Desk for OwnDesk<'_, V> {
 
     ghost reads_told = { λ s t k. asked_of k };
 
+    ghost reads_legal = { λ s t k. k.legal };
+
     ghost caller_kept = { λ s t k. k.same_caller };
 
     ghost opened_kept = { λ s t k. k.same_name };
@@ -124,7 +135,7 @@ impl<V: Versions> Desk for OwnDesk<'_, V> {
 
     fn dispose(&mut self) -> Result<(), Refusal> {
         let Some(name) = self.opened else {
-            return Err(Refusal::NoMemory); // nothing is shown then
+            return Err(Refusal::NoMemory); // the desk shows nothing
         };
         match self.world.dispose(self.caller, name) {
             Ok(()) => {

@@ -1,25 +1,28 @@
-// Calls made one after another.
-ghost use Rattle.std.specs.Prelude.{◌≡◌, ◌++◌, ◌∷◌, [], ℕ, take, IfOk, OnOk, OnErr};
-ghost use Rattle.snap_api.specs.World.{World};
-ghost use Rattle.snap_api.specs.InTurn.{replies_to, world_of_calls};
+// Lists of calls.
+ghost use Rattle.std.specs.Prelude.{◌≡◌, ◌<◌, ◌≤◌, ◌+◌, ◌++◌, ◌∷◌, [], IfOk, OnErr, vec_len, vec_capacity};
+ghost use Rattle.snap_api.specs.CallLists.{WereMade, WereStopped};
 
 use crate::{Reply, Request, Versions};
 use rt_values::{Caller, NoMemory};
 use std::alloc::Global;
 
-/// Makes the calls in turn, each by its caller, and gives their replies. The first call that is refused for
-/// memory ends it, as does want of memory for the list of replies; the calls before it have been made then.
-/// This project's own rule.
+/// Makes the calls in turn, each by its caller, and returns their replies.
+///
+/// Stops with `NoMemory` at the first call that runs out of memory. The calls before it have been made, with
+/// their effect and their log entries, and no other call has. This project's own rule.
 pub fn run_calls<V: Versions>(
     alloc: Global,
     world: &mut V,
     calls: &Vec<(Caller, Request)>,
 ) -> Result<Vec<Reply>, NoMemory>
-    ensures replies { IfOk result (λ rs. (w : World V.P) → V.stands world.old w → rs.items ≡ replies_to V.P.rules w calls.now.items) }
-    ensures world { OnOk result ((w : World V.P) → V.stands world.old w → V.stands world.new (world_of_calls V.P.rules w calls.now.items)) }
-    ensures before { OnErr result ((n : ℕ) × ((w : World V.P) → V.stands world.old w → V.stands world.new (world_of_calls V.P.rules w (take n calls.now.items)))) }
+    ensures made { IfOk result (λ replies. WereMade V.P.rules (V.stands world.old) (V.stands world.new)
+        (V.log world.old) (V.log world.new) calls.now.items replies.items) }
+    ensures stopped { OnErr result (WereStopped V.P.rules (V.stands world.old) (V.stands world.new)
+        (V.log world.old) (V.log world.new) calls.now.items) }
 {
-    let mut replies = Vec::new(alloc);
+    let Ok(mut replies) = Vec::with_capacity(alloc, calls.len()) else {
+        return Err(NoMemory);
+    };
     for call in calls {
         let Ok(request) = call.1.copy(alloc) else {
             return Err(NoMemory);
@@ -28,19 +31,19 @@ pub fn run_calls<V: Versions>(
         if reply.is_no_memory() {
             return Err(NoMemory);
         }
-        let Ok(()) = push_reply(&mut replies, reply) else {
-            return Err(NoMemory);
-        };
+        append_reply(&mut replies, reply);
     }
     Ok(replies)
 }
 
-// One reply more, at the end.
-fn push_reply(replies: &mut Vec<Reply>, reply: Reply) -> Result<(), NoMemory>
-    ensures { OnOk result (replies.new.items ≡ replies.old.items ++ reply ∷ []) }
+// Appends `reply`, for which there is capacity.
+fn append_reply(replies: &mut Vec<Reply>, reply: Reply)
+    requires { vec_len replies.old < vec_capacity replies.old }
+    ensures items { replies.new.items ≡ replies.old.items ++ reply ∷ [] }
+    ensures len { vec_len replies.new ≡ vec_len replies.old + 1 }
+    ensures capacity { vec_capacity replies.old ≤ vec_capacity replies.new }
 {
-    match replies.push(reply) {
-        Ok(()) => Ok(()),
-        Err(_) => Err(NoMemory),
-    }
+    let Ok(()) = replies.push(reply) else {
+        unreachable!();
+    };
 }

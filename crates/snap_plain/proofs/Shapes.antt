@@ -1,11 +1,11 @@
--- Snapshots keep an entry for each object.
+-- Lemma: each snapshot has a stamped value for each object.
 use Rattle.std.proofs.Common.{◌≡◌, ℕ, ◌+◌, List, map, sym, subst}
-use Rattle.rt_values.specs.declared.maps.Entry.{Entry}
-use Rattle.snap_api.proofs.Valid.{shaped-made}
+use Rattle.rt_values.specs.declared.maps.StampedValue.{StampedValue}
+use Rattle.snap_api.proofs.Valid.{shaped-world_after_make}
 use Rattle.snap_api.specs.Shaped.{AreShaped}
-use Rattle.snap_api.specs.World.{made_in}
-use Rattle.snap_api.specs.declared.data.Shot.{Shot}
+use Rattle.snap_api.specs.World.{with_object}
+use Rattle.snap_api.specs.declared.data.Snapshot.{Snapshot}
 
--- after a make each snapshot has an entry for one object more
-pub shaped_made : (n m : ℕ) (old new : List Shot) (e : Entry) → m ≡ n + 1 → new ≡ map (made_in e) old → AreShaped n old → AreShaped m new
-shaped_made n m old new e more is full = subst (AreShaped m) (sym is) (subst (λ k. AreShaped k (map (made_in e) old)) (sym more) (shaped-made n old e full))
+-- After a make each snapshot has a stamped value for the new object too.
+pub shaped_made : (n m : ℕ) (old new : List Snapshot) (e : StampedValue) → m ≡ n + 1 → new ≡ map (with_object e) old → AreShaped n old → AreShaped m new
+shaped_made n m old new e more is full = subst (AreShaped m) (sym is) (subst (λ k. AreShaped k (map (with_object e) old)) (sym more) (shaped-world_after_make n old e full))

@@ -1,19 +1,27 @@
--- The plain world that a `PlainWorld` keeps.
-use Rattle.std.specs.Prelude.{◌≡◌, ℕ, List, length}
-use Rattle.std.proofs.Common.{ap, sym}
-use Rattle.rt_values.specs.Maps.{Map}
+-- Trusted: the plain world that a `PlainWorld` keeps.
+use Rattle.std.specs.Prelude.{◌≡◌, ℕ}
+use Rattle.std.specs.declared.result.Result.{Result}
+use Rattle.rt_values.specs.declared.value.Ty.{Ty}
+use Rattle.rt_values.specs.declared.value.Value.{Value}
+use Rattle.snap_policy.specs.Rules.{Rules}
+use Rattle.snap_api.specs.Calls.{Calls, Makes}
 use Rattle.snap_api.specs.World.{World}
-use Rattle.snap_api.specs.declared.data.Shot.{Shot}
+use Rattle.snap_api.specs.declared.data.Refusal.{Refusal}
+use Rattle.snap_api.specs.declared.data.Reply.{Reply}
+use Rattle.snap_api.specs.declared.data.Request.{Request}
 use Rattle.snap_plain.specs.declared.world.PlainWorld.{PlainWorld}
 
--- clock, objects, snapshots and last maps are its fields
+-- The plain world that a `PlainWorld` keeps: clock, objects, snapshots and last maps are its fields.
 abbrev pub world_of : {P : Type 0} → PlainWorld P → World P
-world_of s = record { clock = s.clock; objects = s.objects.items; shots = s.shots.items; lasts = s.lasts.items }
+world_of s = record { clock = s.clock; objects = s.objects.items; snapshots = s.snapshots.items; lasts = s.lasts.items }
 
--- a snapshot with another view and other objects that were written
-abbrev pub with_view : Shot → Map → List ℕ → Shot
-with_view s m wrote = record s { view = m; wrote = wrote }
+-- A call on a `PlainWorld` has the reply and the effect of the call on its plain world.
+abbrev pub PlainCalls : {P : Type 0} → Rules P → PlainWorld P → PlainWorld P → ℕ → Request → Reply → Type 0
+PlainCalls rules before after caller asked r =
+    Calls rules (λ w. w ≡ world_of before) (λ w. w ≡ world_of after) caller asked r
 
--- its counts are those of that plain world
-pub counts_of : {P : Type 0} (s : PlainWorld P) (w : World P) → w ≡ world_of s → (length s.objects.items ≡ length w.objects) × (length s.lasts.items ≡ length w.lasts)
-counts_of s w h = (ap (λ (v : World _). length v.objects) (sym h), ap (λ (v : World _). length v.lasts) (sym h))
+-- A make on a `PlainWorld` has the result and the effect of the make on its plain world.
+abbrev pub PlainMakes : {P : Type 0} → Rules P → PlainWorld P → PlainWorld P → Ty → P → Value → Result ℕ Refusal
+    → Type 0
+PlainMakes rules before after ty policy value r =
+    Makes rules (λ w. w ≡ world_of before) (λ w. w ≡ world_of after) ty policy value r

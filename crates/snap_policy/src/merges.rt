@@ -1,13 +1,12 @@
-// Merges of two changes: from the value before both to the current one and to the one that is applied.
-ghost use Rattle.std.specs.Prelude.{◌≡◌, ◌++◌, ℤ, Option, Some, None, IfOk, if◌then◌else◌};
-ghost use Rattle.rt_values.specs.declared.value.Value.TheVariants.{Ints as ints};
-ghost use Rattle.snap_policy.specs.Table.{merge_counters, merge_largest, merge_lists, can_append, appended};
+// Merges of two changes of a previous value, to the current value and to the applied value.
+ghost use Rattle.std.specs.Prelude.{◌≡◌, None, IfOk, IsOk};
+ghost use Rattle.snap_policy.specs.Table.{merge_counters, merge_largest, merge_lists, merged_items};
 
 use rt_values::operators::{add, subtract};
 use rt_values::{IntList, NoMemory, Value};
 use std::alloc::Global;
 
-// The current number with the change from the previous to the applied one, wrapping in 64 bits.
+// Adds the change from `previous` to `applied` to `current`, wrapping in 64 bits.
 pub fn merge_counters(previous: &Value, current: &Value, applied: &Value) -> Option<Value>
     ensures { result ≡ merge_counters previous.now current.now applied.now }
 {
@@ -19,7 +18,7 @@ pub fn merge_counters(previous: &Value, current: &Value, applied: &Value) -> Opt
     }
 }
 
-// The greater of the current and the applied number.
+// Returns the greater of the current and the applied number.
 pub fn merge_largest(current: &Value, applied: &Value) -> Option<Value>
     ensures { result ≡ merge_largest current.now applied.now }
 {
@@ -29,14 +28,15 @@ pub fn merge_largest(current: &Value, applied: &Value) -> Option<Value>
     }
 }
 
-// The current list followed by what the applied one added, where both begin with the previous list.
+// Returns `current` followed by the items that `applied` added, if both begin with `previous`.
 pub fn merge_lists(
     alloc: Global,
     previous: &Value,
     current: &Value,
     applied: &Value,
 ) -> Result<Option<Value>, NoMemory>
-    ensures { IfOk result (λ m. m ≡ merge_lists previous.now current.now applied.now) }
+    ensures merged { IfOk result (λ m. m ≡ merge_lists previous.now current.now applied.now) }
+    ensures free { merge_lists previous.now current.now applied.now ≡ None → IsOk result }
 {
     match (previous, current, applied) {
         (Value::Ints(previous), Value::Ints(current), Value::Ints(applied)) => {
@@ -46,14 +46,15 @@ pub fn merge_lists(
     }
 }
 
-// The same, of the items of the lists.
+// Merges the items of the lists, as `merge_lists`.
 fn merge_items(
     alloc: Global,
     previous: &[i64],
     current: &IntList,
     applied: &[i64],
 ) -> Result<Option<Value>, NoMemory>
-    ensures { IfOk result (λ m. m ≡ (if can_append previous.now current.now applied.now then Some (ints (appended previous.now current.now applied.now)) else None)) }
+    ensures merged { IfOk result (λ m. m ≡ merged_items previous.now current.now applied.now) }
+    ensures free { merged_items previous.now current.now applied.now ≡ None → IsOk result }
 {
     if !current.items().starts_with(previous) || !applied.starts_with(previous) {
         return Ok(None);

@@ -1,26 +1,31 @@
-// What a policy answers, and the policies that programs name.
-ghost use Rattle.std.specs.Prelude.{◌≡◌, true, IfOk, Some};
+// The policy trait, and the policies that programs name.
+ghost use Rattle.std.specs.Prelude.{◌≡◌, true, IfOk, IsOk, Some};
 ghost use Rattle.rt_values.specs.declared.value.Value.{Value as value_data};
 ghost use Rattle.rt_values.specs.declared.value.Ty.{Ty as ty_data};
 ghost use Rattle.rt_values.specs.Values.{type_of};
-ghost use Rattle.snap_policy.specs.Rules.{Rules};
+ghost use Rattle.snap_policy.specs.Rules.{Rules, KeepsTypes};
 
 use crate::merges::{merge_counters, merge_largest, merge_lists};
 use rt_values::{NoMemory, Ty, Value};
 use std::alloc::Global;
 
-/// When two values of a state object count as equal, and how two changes of it are merged
+/// Decides when two values of a state object count as equal, and how two changes of the object are merged
 /// (`SnapshotMutationPolicy`).
 pub trait Policy: Drop {
-    // Which values count as equal, what a merge gives, and which types it fits.
+    // Which values count as equal, the value of a merge, and the types that the policy fits.
     ghost rules: { Rules Self };
 
-    /// Whether a write of one value over the other changes nothing (`SnapshotMutationPolicy.equivalent`).
+    // The merges of previous, current and applied values that take no memory.
+    ghost is_free_merge: { Self → value_data → value_data → value_data → Type 0 };
+
+    /// Checks whether a write of one value over the other changes nothing
+    /// (`SnapshotMutationPolicy.equivalent`).
     fn equivalent(&self, a: &Value, b: &Value) -> bool
         ensures { result ≡ rules.equiv self.now a.now b.now };
 
-    /// One value for the two changes of `previous` to `current` and to `applied`, or None where they conflict
-    /// (`SnapshotMutationPolicy.merge`). It fails for want of memory alone.
+    /// Merges two changes of `previous`, to `current` and to `applied`, into one value
+    /// (`SnapshotMutationPolicy.merge`). Returns None if the changes conflict, and fails only if it runs out
+    /// of memory.
     fn merge(
         &self,
         alloc: Global,
@@ -28,37 +33,42 @@ pub trait Policy: Drop {
         current: &Value,
         applied: &Value,
     ) -> Result<Option<Value>, NoMemory>
-        ensures { IfOk result (λ m. m ≡ rules.merge self.now previous.now current.now applied.now) };
+        ensures merged { IfOk result (λ m. m ≡ rules.merge self.now previous.now current.now applied.now) }
+        ensures free { is_free_merge self.now previous.now current.now applied.now → IsOk result };
 
-    /// Whether objects of this type may have the policy; this project's own rule.
+    /// Checks whether objects of type `ty` may have the policy. This project's own rule.
     fn fits(&self, ty: Ty) -> bool
         ensures { result ≡ rules.fits self.now ty };
 
-    // Of three values of one type that fits, a merged value has that type too.
-    ghost merge_keeps_type: { (p : Self) (t : ty_data) (previous current applied merged : value_data) → rules.fits p t ≡ true → type_of previous ≡ t → type_of current ≡ t → type_of applied ≡ t → rules.merge p previous current applied ≡ Some merged → type_of merged ≡ t };
+    // A merge of three values of one type that fits gives a value of that type.
+    ghost merge_keeps_type: { KeepsTypes rules };
 }
 
 /// The policies that programs name.
 #[derive(Clone, Copy, Debug, PartialEq, Eq)]
 pub enum BuiltIn {
-    /// `structuralEqualityPolicy`: it fits all types, equal values are equivalent, and it merges nothing.
+    /// `structuralEqualityPolicy`: fits all types, equal values are equivalent, and changes never merge.
     Structural,
-    /// `neverEqualPolicy`: it fits all types, no values are equivalent, and it merges nothing.
+    /// `neverEqualPolicy`: fits all types, no values are equivalent, and changes never merge.
     Never,
-    /// It fits Int, and adds the changes up, wrapping in 64 bits: `current + (applied - previous)`. It is the
-    /// policy of a counter that the documentation of `SnapshotMutationPolicy` shows.
+    /// Fits Int and adds the changes, wrapping in 64 bits: `current + (applied - previous)`. The
+    /// documentation of `SnapshotMutationPolicy` shows this policy for a counter.
     Counter,
-    /// It fits Int, and merges two numbers into the greater one; this project's own rule.
+    /// Fits Int and merges two numbers into the greater one. This project's own rule.
     Largest,
-    /// It fits Ints, and merges two lists that both begin with the previous one: the current list, followed by the
-    /// items that the applied one added. Lists that would be too long together conflict; this project's own rule.
+    /// Fits Ints and merges two lists that both begin with the previous list: the current list, followed by
+    /// the items that the applied list added. The changes conflict if the result exceeds the limit of a list.
+    /// This project's own rule.
     Append,
 }
 
 impl Policy for BuiltIn {
-    ghost use Rattle.snap_policy.specs.Table.{table, table_merge_keeps_type};
+    ghost use Rattle.snap_policy.specs.Table.{table, IsFreeMerge};
+    ghost use Rattle.snap_policy.specs.TableLaws.{table_merge_keeps_type};
 
     ghost rules = { table };
+
+    ghost is_free_merge = { IsFreeMerge };
 
     ghost merge_keeps_type = { table_merge_keeps_type };
 

@@ -11,6 +11,7 @@ loop-done-preserved g c =
     record {
       within = grind (arith, common_steps, c.in-Ok.ensures.bound);
       bytes = rw (take-add, ← take_rest c.args.bytes.now c.loop-done.done) (Appends-trans _ _ _ _ _ c.loop-done.invariant.bytes c.in-Ok.ensures.bytes);
+      clean = grind (arith, c.in-Ok.ensures.clean);
       later = grind (arith, c.write.ensures.cause.later);
     }
 

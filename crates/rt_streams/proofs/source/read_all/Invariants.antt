@@ -8,6 +8,7 @@ invariant-pieces g l = record {
   within : length l.all.items ≤ l.limit;
   bytes : Consumes (g.S.Source.left l.fn.source) (g.S.Source.left l.source) l.all.items;
   counts : rise (g.S.Source.taken l.fn.source) (g.S.Source.taken l.source) ≡ length l.all.items;
+  clean : g.S.Source.faults l.source ≡ g.S.Source.faults l.fn.source;
   later : g.S.Source.faults l.fn.source ≤ g.S.Source.faults l.source;
 }
 

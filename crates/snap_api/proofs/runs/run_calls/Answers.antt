@@ -1,17 +1,23 @@
-use Rattle.std.proofs.Common.{rules, arith, [], ◌∷◌, ◌++◌, ◌+◌, ◌∙◌, ap, sym}
-use Rattle.snap_api.proofs.InTurn.{one_more}
+use Rattle.std.proofs.Common.{rules, arith, [], length, ap, refl, inl, inr}
+use Rattle.std.proofs.lemmas.Bool.{cases_lt}
+use Rattle.snap_api.proofs.CallLists.{made_more, grew_none}
 use Rattle.snap_api.proofs.runs.run_calls.Goals as goal
 
-pub loop-call-preserved : goal.loop-call-preserved
-loop-call-preserved g c w h =
-    let so_far = c.loop-call.invariant w h in
-    let one = one_more c.call-item.result g.V.P.Policy.rules (g.V.Versions.stands c.loop-call.world) (g.V.Versions.stands c.call-reply.new.self) w c.deref-call-items.result.now c.args.calls.now.items c.loop-call.call-index c.call-item.result.0 c.in-Ok.request c.call-reply.result
-    c.deref-call-items.ensures.value (omega arith) (ap (λ x. x.0) c.call-item.is) (search (rules, c.in-Ok.ensures, c.call-item.is)) so_far.1 (search rules) c.call-reply.ensures.call in
-    (c.in-Ok-push_reply.ensures ∙ ap (λ rs. rs ++ c.call-reply.result ∷ []) so_far.0 ∙ sym one.1, one.0)
+pub returns-in_default-clause-stopped : goal.returns-in_default-clause-stopped
+returns-in_default-clause-stopped g c = record {
+  count = 0;
+  fewer = elim (cases_lt 0 (length c.args.calls.now.items)) [ inl some ↦ some | inr none ↦ search rules ];
+  replies = [];
+  world_after_make = record { many = refl; answers = λ w h. refl; worlds = λ w h. h; logged = grew_none (g.V.Versions.log c.args.world.now) };
+}
 
-pub returns-in_default-push_reply-clause-before : goal.returns-in_default-push_reply-clause-before
-returns-in_default-push_reply-clause-before g c = (
-  c.loop-call.call-index + 1,
-  λ w h. (one_more c.call-item.result g.V.P.Policy.rules (g.V.Versions.stands c.loop-call.world) (g.V.Versions.stands c.call-reply.new.self) w c.deref-call-items.result.now c.args.calls.now.items c.loop-call.call-index c.call-item.result.0 c.in-Ok.request c.call-reply.result
-      c.deref-call-items.ensures.value (omega arith) (ap (λ x. x.0) c.call-item.is) (search (rules, c.in-Ok.ensures, c.call-item.is)) (c.loop-call.invariant w h).1 (search rules) c.call-reply.ensures.call).0,
-)
+pub loop-call-preserved : goal.loop-call-preserved
+loop-call-preserved g c =
+    record {
+      world_after_make = made_more c.call-item.result g.V.P.Policy.rules (g.V.Versions.stands c.args.world.now) (g.V.Versions.stands c.loop-call.world) (g.V.Versions.stands c.call-reply.new.self)
+          (g.V.Versions.log c.args.world.now) (g.V.Versions.log c.loop-call.world) (g.V.Versions.log c.call-reply.new.self) c.deref-call-items.result.now c.args.calls.now.items
+          c.loop-call.replies.items c.append_reply.new.replies.items c.loop-call.call-index c.call-item.result.0 c.in-Ok-copy.request c.call-reply.result
+          c.deref-call-items.ensures.value (omega arith) (ap (λ x. x.0) c.call-item.is) (search (rules, c.in-Ok-copy.ensures, c.call-item.is)) c.loop-call.invariant.world_after_make (search rules) c.call-reply.ensures.call c.call-reply.ensures.log c.append_reply.ensures.items;
+      len = search rules;
+      room = omega (arith, c.loop-call.invariant.room, c.append_reply.ensures.capacity);
+    }

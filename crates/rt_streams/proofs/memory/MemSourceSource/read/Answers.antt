@@ -4,7 +4,7 @@ use Rattle.std.proofs.lemmas.Grind.{common_steps}
 use Rattle.std.proofs.Math.ListN.{drop_of_length-le}
 use Rattle.rt_streams.proofs.memory.MemSourceSource.read.Goals as goal
 
--- what is left at one place is the next n items, and what is left behind them
+-- The items after index `at` are the next n items and then the rest.
 handed : (items front back : List ℕ) (at n : ℕ) → n + at ≤ length items → front ≡ take n (take (length items - at) (drop at items))
     → drop at items ≡ take n (front ++ back) ++ drop (at + n) items
 handed items front back at n within e =

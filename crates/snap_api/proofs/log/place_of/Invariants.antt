@@ -1,6 +1,0 @@
-use Rattle.std.proofs.Common.{◌≡◌, take, false}
-use Rattle.rt_values.specs.Maps.{contains}
-use Rattle.snap_api.proofs.log.place_of.Given as goal
-
-abbrev pub invariant-loop-i : goal.invariant-loop-i
-invariant-loop-i l = contains l.name (take l.i l.taken) ≡ false
