@@ -1,4 +1,4 @@
--- What a program without faults has.
+-- Properties of a program without faults.
 use Rattle.std.proofs.Common.{◌≡◌, ◌<◌, ℕ, length, List, [], ◌∷◌, ◌++◌, Bool, true, false, refl}
 use Rattle.std.proofs.lemmas.Bool.{ltb-true}
 use Rattle.std.proofs.lemmas.List.{length-map}
@@ -6,15 +6,15 @@ use Rattle.lang_ast.specs.Programs.{root_number}
 use Rattle.lang_ast.specs.SyntaxView.{function_view, functions_view}
 use Rattle.lang_ast.specs.declared.program.State.{State}
 use Rattle.lang_ast.specs.declared.syntax.Function.{Function}
-use Rattle.lang_checks.specs.declared.faults.Kind.{Kind}
-use Rattle.lang_checks.specs.FaultOrder.{unless}
+use Rattle.lang_checks.specs.declared.faults.CheckKind.{CheckKind}
+use Rattle.lang_checks.specs.FaultOrder.{fault_unless}
 use Rattle.lang_checks.specs.ProgramFaults.{program_faults}
 
 none_in : {A : Type 0} (xs ys : List A) → xs ++ ys ≡ [] → (xs ≡ []) × (ys ≡ [])
 none_in [] ys h = (refl, h)
 none_in (x ∷ xs) ys h = absurd (cc)
 
-held : (b : Bool) (k : Kind) (at : ℕ) → unless b k at ≡ [] → b ≡ true
+held : (b : Bool) (k : CheckKind) (at : ℕ) → fault_unless b k at ≡ [] → b ≡ true
 held true k at h = refl
 held false k at h = absurd (cc)
 

@@ -4,3 +4,4 @@ pub mod Rows
 pub mod Steps
 pub mod Numbered
 pub mod Fine
+pub mod Capped

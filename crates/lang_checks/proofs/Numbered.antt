@@ -4,7 +4,7 @@ use Rattle.std.proofs.lemmas.List.{length-map}
 use Rattle.std.proofs.lemmas.Option.{slice_get-map}
 use Rattle.lang_ast.specs.Terms.{Named as named, Func}
 use Rattle.lang_ast.specs.SyntaxView.{function_view, functions_view, nameds_view}
-use Rattle.lang_ast.specs.declared.syntax.Name.{Name}
+use Rattle.lang_ast.specs.declared.syntax.Ident.{Ident}
 use Rattle.lang_ast.specs.declared.syntax.Named.{Named}
 use Rattle.lang_ast.specs.declared.syntax.Function.{Function}
 
@@ -13,11 +13,11 @@ function_at fs i = slice_get-map function_view fs i
 
 pub names_of : (ns : List Named) → map (λ (n : named). n.name) (nameds_view ns) ≡ map (λ (n : Named). n.name) ns
 names_of [] = refl
-names_of (n ∷ ns) = ap (λ (rest : List Name). n.name ∷ rest) (names_of ns)
+names_of (n ∷ ns) = ap (λ (rest : List Ident). n.name ∷ rest) (names_of ns)
 
 pub function_names : (fs : List Function) → map (λ (f : Func). f.name) (functions_view fs) ≡ map (λ (f : Function). f.name) fs
 function_names [] = refl
-function_names (f ∷ fs) = ap (λ (rest : List Name). f.name ∷ rest) (function_names fs)
+function_names (f ∷ fs) = ap (λ (rest : List Ident). f.name ∷ rest) (function_names fs)
 
 pub how_many_functions : (fs : List Function) → length (functions_view fs) ≡ length fs
 how_many_functions fs = length-map fs function_view

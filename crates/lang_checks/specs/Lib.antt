@@ -4,6 +4,7 @@ pub mod Operands
 pub mod Expressions
 pub mod Statements
 pub mod Chains
+pub mod CappedChains
 pub mod ProgramFaults
 pub mod Laws
 pub mod Views

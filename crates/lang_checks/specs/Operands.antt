@@ -1,4 +1,4 @@
--- The types that operators take and give.
+-- Trusted: the types of operands and of results.
 use Rattle.std.specs.Prelude.{◌&&◌, ◌||◌, List, [], ◌∷◌, Bool, true, false}
 use Rattle.std.specs.List.{list_all}
 use Rattle.rt_values.specs.declared.value.Ty.{Ty}
@@ -7,7 +7,7 @@ use Rattle.rt_values.specs.Values.{same_type}
 use Rattle.lang_ast.specs.declared.syntax.Operator.{Operator}
 use Rattle.lang_ast.specs.declared.syntax.Operator.TheVariants as operator
 
--- as many types of one list as of the other, and each the same
+-- Whether two lists of types are equal.
 abbrev pub same_types : List Ty → List Ty → Bool
 same_types [] [] = true
 same_types [] (u ∷ us) = false
@@ -17,66 +17,66 @@ same_types (t ∷ ts) (u ∷ us) = same_type t u && same_types ts us
 abbrev pub all_ints : List Ty → Bool
 all_ints ts = list_all (λ t. same_type t ty.Int) ts
 
--- two of one type
+-- Whether the types are two equal ones.
 abbrev pub is_pair : List Ty → Bool
 is_pair (a ∷ b ∷ []) = same_type a b
 is_pair _ = false
 
--- a condition, and two of one type
+-- Whether the types are a Bool and two equal ones.
 abbrev pub is_choice : List Ty → Bool
 is_choice (c ∷ ts) = same_type c ty.Bool && is_pair ts
 is_choice [] = false
 
--- a number or a truth value
+-- Whether the types are one Int or one Bool.
 abbrev pub is_plain : List Ty → Bool
 is_plain (a ∷ []) = same_type a ty.Int || same_type a ty.Bool
 is_plain _ = false
 
--- whether an operator takes operands of these types
-abbrev pub fits : Operator → List Ty → Bool
-fits operator.Add ts = same_types ts (ty.Int ∷ ty.Int ∷ [])
-fits operator.Subtract ts = same_types ts (ty.Int ∷ ty.Int ∷ [])
-fits operator.Multiply ts = same_types ts (ty.Int ∷ ty.Int ∷ [])
-fits operator.Divide ts = same_types ts (ty.Int ∷ ty.Int ∷ [])
-fits operator.Remainder ts = same_types ts (ty.Int ∷ ty.Int ∷ [])
-fits operator.Equal ts = is_pair ts
-fits operator.Less ts = same_types ts (ty.Int ∷ ty.Int ∷ [])
-fits operator.Not ts = same_types ts (ty.Bool ∷ [])
-fits operator.And ts = same_types ts (ty.Bool ∷ ty.Bool ∷ [])
-fits operator.Or ts = same_types ts (ty.Bool ∷ ty.Bool ∷ [])
-fits operator.Pick ts = is_choice ts
-fits operator.Join ts = same_types ts (ty.Text ∷ ty.Text ∷ [])
-fits operator.Text ts = is_plain ts
-fits operator.Ints ts = all_ints ts
-fits operator.Range ts = same_types ts (ty.Int ∷ ty.Int ∷ [])
-fits operator.Push ts = same_types ts (ty.Ints ∷ ty.Int ∷ [])
-fits operator.Concat ts = same_types ts (ty.Ints ∷ ty.Ints ∷ [])
-fits operator.Length ts = same_types ts (ty.Ints ∷ [])
-fits operator.At ts = same_types ts (ty.Ints ∷ ty.Int ∷ [])
+-- Whether an operator takes operands of these types.
+abbrev pub accepts_types : Operator → List Ty → Bool
+accepts_types operator.Add ts = same_types ts (ty.Int ∷ ty.Int ∷ [])
+accepts_types operator.Subtract ts = same_types ts (ty.Int ∷ ty.Int ∷ [])
+accepts_types operator.Multiply ts = same_types ts (ty.Int ∷ ty.Int ∷ [])
+accepts_types operator.Divide ts = same_types ts (ty.Int ∷ ty.Int ∷ [])
+accepts_types operator.Remainder ts = same_types ts (ty.Int ∷ ty.Int ∷ [])
+accepts_types operator.Equal ts = is_pair ts
+accepts_types operator.Less ts = same_types ts (ty.Int ∷ ty.Int ∷ [])
+accepts_types operator.Not ts = same_types ts (ty.Bool ∷ [])
+accepts_types operator.And ts = same_types ts (ty.Bool ∷ ty.Bool ∷ [])
+accepts_types operator.Or ts = same_types ts (ty.Bool ∷ ty.Bool ∷ [])
+accepts_types operator.Pick ts = is_choice ts
+accepts_types operator.Join ts = same_types ts (ty.Text ∷ ty.Text ∷ [])
+accepts_types operator.Text ts = is_plain ts
+accepts_types operator.Ints ts = all_ints ts
+accepts_types operator.Range ts = same_types ts (ty.Int ∷ ty.Int ∷ [])
+accepts_types operator.Push ts = same_types ts (ty.Ints ∷ ty.Int ∷ [])
+accepts_types operator.Concat ts = same_types ts (ty.Ints ∷ ty.Ints ∷ [])
+accepts_types operator.Length ts = same_types ts (ty.Ints ∷ [])
+accepts_types operator.At ts = same_types ts (ty.Ints ∷ ty.Int ∷ [])
 
--- the type of the second operand, Int where there is none
+-- The type of the second operand, or Int if there is none.
 abbrev pub second_type : List Ty → Ty
 second_type (t ∷ u ∷ ts) = u
 second_type _ = ty.Int
 
--- the type of an operator's value, whatever its operands are; that of a pick is its second operand's
-abbrev pub gives : Operator → List Ty → Ty
-gives operator.Add ts = ty.Int
-gives operator.Subtract ts = ty.Int
-gives operator.Multiply ts = ty.Int
-gives operator.Divide ts = ty.Int
-gives operator.Remainder ts = ty.Int
-gives operator.Equal ts = ty.Bool
-gives operator.Less ts = ty.Bool
-gives operator.Not ts = ty.Bool
-gives operator.And ts = ty.Bool
-gives operator.Or ts = ty.Bool
-gives operator.Pick ts = second_type ts
-gives operator.Join ts = ty.Text
-gives operator.Text ts = ty.Text
-gives operator.Ints ts = ty.Ints
-gives operator.Range ts = ty.Ints
-gives operator.Push ts = ty.Ints
-gives operator.Concat ts = ty.Ints
-gives operator.Length ts = ty.Int
-gives operator.At ts = ty.Int
+-- The type of an operator's result: for a pick that of its second operand, and else the same for all operands.
+abbrev pub result_type : Operator → List Ty → Ty
+result_type operator.Add ts = ty.Int
+result_type operator.Subtract ts = ty.Int
+result_type operator.Multiply ts = ty.Int
+result_type operator.Divide ts = ty.Int
+result_type operator.Remainder ts = ty.Int
+result_type operator.Equal ts = ty.Bool
+result_type operator.Less ts = ty.Bool
+result_type operator.Not ts = ty.Bool
+result_type operator.And ts = ty.Bool
+result_type operator.Or ts = ty.Bool
+result_type operator.Pick ts = second_type ts
+result_type operator.Join ts = ty.Text
+result_type operator.Text ts = ty.Text
+result_type operator.Ints ts = ty.Ints
+result_type operator.Range ts = ty.Ints
+result_type operator.Push ts = ty.Ints
+result_type operator.Concat ts = ty.Ints
+result_type operator.Length ts = ty.Int
+result_type operator.At ts = ty.Int

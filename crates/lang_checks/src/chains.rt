@@ -1,18 +1,21 @@
-// Chains of calls.
+// The lengths of chains of calls.
 ghost use Rattle.std.specs.Prelude.{◌≡◌, IfOk, [], max};
 ghost use Rattle.lang_ast.specs.SyntaxView.{stmt_view, stmts_view, function_view, functions_view};
-ghost use Rattle.lang_checks.specs.FaultOrder.{least_of};
-ghost use Rattle.lang_checks.specs.Chains.{longest, longest_in, longer, chain, chains_faults};
+ghost use Rattle.lang_checks.specs.FaultOrder.{least_fault_from};
+ghost use Rattle.lang_checks.specs.Chains.{longest, longest_in};
+ghost use Rattle.lang_checks.specs.CappedChains.{extended_chain, capped_faults};
 
-use crate::faults::{Fault, Kind, unless};
+use crate::faults::{CheckKind, ProgramFault, fault_unless};
 use lang_ast::{Function, Statement};
 use rt_values::NoMemory;
 use std::alloc::Global;
 
-// The most functions that a chain of calls has; this project's own rule, so that composing goes no deeper.
+// The most functions of a chain of calls. A rule of this project, so that composing has bounded
+// depth.
 const MOST_CHAIN: usize = 32;
 
-// The longest chain that a statement calls, by the chains of the functions before its own.
+// Returns the length of the longest chain that a statement calls. `chains` has the lengths for the
+// functions before its own.
 #[tactic(auto, using(crate::proofs::Forms::statements))]
 #[cycle(chains)]
 fn longest(chains: &[usize], s: &Statement) -> usize
@@ -48,9 +51,9 @@ fn longest_in(chains: &[usize], body: &[Statement]) -> usize
     most
 }
 
-// One function more; all chains that are too long count as the shortest of these.
-fn longer(chain: usize) -> usize
-    ensures { result ≡ longer chain }
+// Returns the chain length plus one, capped at 33: all chains over the limit have the same length.
+fn extended_chain(chain: usize) -> usize
+    ensures { result ≡ extended_chain chain }
 {
     if chain <= MOST_CHAIN {
         chain + 1
@@ -59,20 +62,21 @@ fn longer(chain: usize) -> usize
     }
 }
 
-/// The least fault so far and of functions whose longest chain is too long.
+/// Updates `least` with the functions whose chains are too long.
 #[tactic(auto, using(crate::proofs::Steps::chains_step))]
-pub fn chains_of(
+pub fn check_chains(
     alloc: Global,
     functions: &[Function],
-    least: Option<Fault>,
-) -> Result<Option<Fault>, NoMemory>
-    ensures { IfOk result (λ r. r ≡ least_of least (chains_faults [] (functions_view functions.now))) }
+    least: Option<ProgramFault>,
+) -> Result<Option<ProgramFault>, NoMemory>
+    ensures { IfOk result (λ r. r
+        ≡ least_fault_from least (capped_faults [] (functions_view functions.now))) }
 {
     let mut least = least;
     let mut chains = Vec::new(alloc);
     for function in functions {
-        let chain = longer(longest_in(&chains, &function.body));
-        least = unless(chain <= MOST_CHAIN, Kind::Order, function.at, least);
+        let chain = extended_chain(longest_in(&chains, &function.body));
+        least = fault_unless(chain <= MOST_CHAIN, CheckKind::Order, function.at, least);
         chains.push(chain)?;
     }
     Ok(least)

@@ -1,23 +1,23 @@
-// Whether a program is well formed.
+// The check of whole programs.
 ghost use Rattle.std.specs.Prelude.{◌≡◌, ◌<◌, [], length, Some, Err, IfOk, IfErr, OnOk};
 ghost use Rattle.lang_ast.specs.SyntaxView.{functions_view};
 ghost use Rattle.lang_ast.specs.Programs.{Program as program_data, program_view, root_number};
-ghost use Rattle.lang_checks.specs.declared.faults.Fault.{Fault as fault_data};
+ghost use Rattle.lang_checks.specs.declared.faults.ProgramFault.{ProgramFault as fault_data};
 ghost use Rattle.lang_checks.specs.FaultOrder.{least_fault};
 ghost use Rattle.lang_checks.specs.ProgramFaults.{program_faults};
 
-use crate::faults::Fault;
+use crate::faults::ProgramFault;
 use crate::functions::least_fault;
 use lang_ast::{Function, Program, State, root_number};
 use rt_values::NoMemory;
 use std::alloc::Global;
 
-/// Why a program is not taken.
+/// Why a program is refused.
 #[derive(Clone, Copy, Debug, PartialEq, Eq)]
 pub enum CheckStop {
-    /// The fault of the first pass that finds one, the least place of its faults.
-    Fault(Fault),
-    /// A request for memory was refused.
+    /// The fault with the least offset, of the first pass that finds any.
+    ProgramFault(ProgramFault),
+    /// Memory ran out.
     NoMemory,
 }
 
@@ -32,7 +32,7 @@ impl From<NoMemory> for CheckStop {
     }
 }
 
-/// A program without a fault.
+/// A program without faults.
 #[derive(Drop)]
 pub struct Checked {
     header: usize,
@@ -42,21 +42,21 @@ pub struct Checked {
 }
 
 impl Checked {
-    /// The place of the header in the text.
+    /// The offset of the header.
     pub fn header(&self) -> usize
         ensures { result ≡ self.now.header }
     {
         self.header
     }
 
-    /// The states, objects 0, 1, .. of the program's world.
+    /// The states: objects 0, 1, .. of the program's world.
     pub fn states(&self) -> &[State]
         ensures { result.now ≡ self.now.states.items }
     {
         &self.states
     }
 
-    /// The functions, by number. Each calls functions before it alone.
+    /// The functions, by number. Each calls only functions before it.
     pub fn functions(&self) -> &[Function]
         ensures { result.now ≡ self.now.functions.items }
     {
@@ -73,17 +73,22 @@ impl Checked {
     }
 }
 
-/// The same program, known to have no fault, or the fault of the first pass that finds one, with the least place. It
-/// fails for want of memory too.
+/// Checks a program, and returns it as one without faults.
+///
+/// Fails with the fault of the first pass that finds any, at the least offset, and if memory runs
+/// out. The rules are this project's own; the Compose compiler plugin finds such faults in Kotlin.
 #[tactic(auto, using(crate::proofs::Least::no_answer))]
 pub fn check(alloc: Global, program: Program) -> Result<Checked, CheckStop>
-    ensures same { IfOk result (λ c. (c.header ≡ program.header) × (c.states ≡ program.states) × (c.functions ≡ program.functions)) }
+    ensures same { IfOk result (λ c. (c.header ≡ program.header) × (c.states ≡ program.states)
+        × (c.functions ≡ program.functions)) }
     ensures fine { OnOk result (program_faults (program_view program) ≡ []) }
-    ensures taken { program_faults (program_view program) ≡ [] → IfErr result (λ stop. stop ≡ CheckStop.NoMemory) }
-    ensures fault { (f : fault_data) → result ≡ Err (CheckStop.Fault f) → least_fault (program_faults (program_view program)) ≡ Some f }
+    ensures taken { program_faults (program_view program) ≡ [] →
+        IfErr result (λ stop. stop ≡ CheckStop.NoMemory) }
+    ensures fault { (f : fault_data) → result ≡ Err (CheckStop.ProgramFault f) →
+        least_fault (program_faults (program_view program)) ≡ Some f }
 {
     match least_fault(alloc, &program)? {
-        Some(fault) => Err(CheckStop::Fault(fault)),
+        Some(fault) => Err(CheckStop::ProgramFault(fault)),
         None => Ok(Checked {
             header: program.header,
             states: program.states,

@@ -1,12 +1,13 @@
-// What it means that a fault answers.
+// Laws of the fault that is reported.
 ghost use Rattle.lang_checks.specs.Laws.{AnswerIsLeast, NoAnswerNoFault};
 
-/// The fault that answers for a list is one of the list, and none of the list goes before it.
+/// The fault that is reported for a list is in the list, and no fault of the list is before it. A
+/// rule of this project.
 pub fn answer_is_least()
     ensures { AnswerIsLeast }
 {}
 
-/// A list for which no fault answers has none.
+/// A list for which no fault is reported is empty. A rule of this project.
 pub fn no_answer_no_fault()
     ensures { NoAnswerNoFault }
 {}

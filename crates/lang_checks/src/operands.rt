@@ -1,11 +1,11 @@
-// The types that operators take and give.
+// The types of operands and of results.
 ghost use Rattle.std.specs.Prelude.{◌≡◌};
-ghost use Rattle.lang_checks.specs.Operands.{same_types, all_ints, is_pair, is_choice, is_plain, fits, second_type, gives};
+ghost use Rattle.lang_checks.specs.Operands.{same_types, all_ints, is_pair, is_choice, is_plain, accepts_types, second_type, result_type};
 
 use lang_ast::Operator;
 use rt_values::Ty;
 
-/// Whether there are as many types of one list as of another, and each is the same.
+/// Whether two lists of types are equal.
 pub fn same_types(types: &[Ty], others: &[Ty]) -> bool
     ensures { result ≡ same_types types.now others.now }
 {
@@ -30,7 +30,7 @@ fn all_ints(types: &[Ty]) -> bool
     types.iter().all(|ty| ty.same(Ty::Int))
 }
 
-// Two of one type.
+// Whether the types are two equal ones.
 fn is_pair(types: &[Ty]) -> bool
     ensures { result ≡ is_pair types.now }
 {
@@ -40,7 +40,7 @@ fn is_pair(types: &[Ty]) -> bool
     }
 }
 
-// A condition, and two of one type.
+// Whether the types are a Bool and two equal ones.
 fn is_choice(types: &[Ty]) -> bool
     ensures { result ≡ is_choice types.now }
 {
@@ -50,7 +50,7 @@ fn is_choice(types: &[Ty]) -> bool
     }
 }
 
-// A number or a truth value.
+// Whether the types are one Int or one Bool.
 fn is_plain(types: &[Ty]) -> bool
     ensures { result ≡ is_plain types.now }
 {
@@ -70,8 +70,8 @@ fn second_type(types: &[Ty]) -> Ty
 }
 
 /// Whether an operator takes operands of these types.
-pub fn fits(operator: Operator, types: &[Ty]) -> bool
-    ensures { result ≡ fits operator types.now }
+pub fn accepts_types(operator: Operator, types: &[Ty]) -> bool
+    ensures { result ≡ accepts_types operator types.now }
 {
     match operator {
         Operator::Add => same_types(types, &[Ty::Int, Ty::Int]),
@@ -96,9 +96,10 @@ pub fn fits(operator: Operator, types: &[Ty]) -> bool
     }
 }
 
-/// The type of an operator's value, whatever its operands are; that of a pick is its second operand's.
-pub fn gives(operator: Operator, types: &[Ty]) -> Ty
-    ensures { result ≡ gives operator types.now }
+/// Returns the type of an operator's result: for a pick that of its second operand, and else the
+/// same for all operands.
+pub fn result_type(operator: Operator, types: &[Ty]) -> Ty
+    ensures { result ≡ result_type operator types.now }
 {
     match operator {
         Operator::Add => Ty::Int,

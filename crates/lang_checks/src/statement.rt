@@ -3,37 +3,37 @@ ghost use Rattle.std.specs.Prelude.{◌≡◌, ℕ, [], ◌∷◌, ◌++◌, IfO
 ghost use Rattle.rt_values.specs.declared.value.Ty.TheVariants as ty;
 ghost use Rattle.lang_ast.specs.Terms.{Node, Call, Key, If, For, Let, Remember};
 ghost use Rattle.lang_ast.specs.SyntaxView.{expr_view, exprs_view, nameds_view, stmt_view, stmts_view};
-ghost use Rattle.lang_checks.specs.FaultOrder.{least_of};
-ghost use Rattle.lang_checks.specs.Scopes.{bound, named_function};
+ghost use Rattle.lang_checks.specs.FaultOrder.{least_fault_from};
+ghost use Rattle.lang_checks.specs.Scopes.{typed_name, named_function};
 ghost use Rattle.lang_checks.specs.Expressions.{types_of};
 ghost use Rattle.lang_checks.specs.Operands.{same_types};
-ghost use Rattle.lang_checks.specs.Statements.{plain, parameter_types, call_faults, binding, stmt_faults, stmts_faults};
-ghost use Rattle.lang_checks.specs.Views.{look_view, around_view};
+ghost use Rattle.lang_checks.specs.Statements.{plain, parameter_types, call_faults, binding_faults, stmt_faults, stmts_faults};
+ghost use Rattle.lang_checks.specs.Views.{expression_scope_view, statement_context_view};
 
-use crate::doubles::doubled;
-use crate::environment::Environment;
-use crate::expression::{Look, expression, expressions, values};
-use crate::faults::{Fault, Kind, unless};
+use crate::duplicates::duplicate_faults;
+use crate::environment::TypeEnv;
+use crate::expression::{ExpressionScope, expression, expressions, values};
+use crate::faults::{CheckKind, ProgramFault, fault_unless};
+use crate::named_parts::named_function;
 use crate::operands::same_types;
-use crate::resolved::named_function;
-use lang_ast::{Expression, Function, Name, Named, Parameter, State, Statement};
+use lang_ast::{Expression, Function, Ident, Named, Parameter, State, Statement};
 use rt_values::{NoMemory, Ty};
 use std::alloc::Global;
 
-/// The program around a statement, and the number of the function that the statement is part of.
+/// What a statement may name: the states, the functions, and the number of the function around it.
 #[derive(Clone, Copy)]
-pub struct Around<'a> {
+pub struct StatementContext<'a> {
     pub states: &'a [State],
     pub functions: &'a [Function],
     pub me: usize,
 }
 
-// How an expression of a statement sees what is around it.
-fn plain<'a>(states: &'a [State], scope: &'a Environment, none: &'a Environment) -> Look<'a>
+// The names that an expression outside calculations may use.
+fn plain<'a>(states: &'a [State], scope: &'a TypeEnv, none: &'a TypeEnv) -> ExpressionScope<'a>
     requires { none.now ≡ [] }
-    ensures { look_view result ≡ plain states.now scope.now }
+    ensures { expression_scope_view result ≡ plain states.now scope.now }
 {
-    Look {
+    ExpressionScope {
         states,
         scope,
         keys: none,
@@ -60,81 +60,91 @@ fn takes(parameters: &[Parameter], types: &[Ty]) -> bool
     right.is_empty()
 }
 
-// The least fault so far and of a call with arguments of these types.
+// Updates `least` with the faults of a call whose arguments have these types.
 #[tactic(auto, using(crate::proofs::Least::answers))]
 fn call(
-    around: &Around,
-    name: &Name,
+    around: &StatementContext,
+    name: &Ident,
     number: usize,
     at: usize,
     types: &[Ty],
-    least: Option<Fault>,
-) -> Option<Fault>
-    ensures { result ≡ least_of least (call_faults around.now.me at types.now (named_function (around_view around.now).functions name.now.text number)) }
+    least: Option<ProgramFault>,
+) -> Option<ProgramFault>
+    ensures { result ≡ least_fault_from least
+        (call_faults around.now.me at types.now
+        (named_function (statement_context_view around.now).functions name.now.text number)) }
 {
     match named_function(around.functions, name, number) {
-        None => unless(false, Kind::Unknown, at, least),
+        None => fault_unless(false, CheckKind::Unknown, at, least),
         Some((number, function)) => {
-            let least = unless(number < around.me, Kind::Order, at, least);
-            unless(takes(&function.parameters, types), Kind::Type, at, least)
+            let least = fault_unless(number < around.me, CheckKind::Order, at, least);
+            fault_unless(
+                takes(&function.parameters, types),
+                CheckKind::Type,
+                at,
+                least,
+            )
         }
     }
 }
 
-// A call, by its arguments.
+// Updates `least` with the faults of a call and its arguments.
 #[tactic(auto, using(crate::proofs::Least::answers))]
-fn call_in(
+fn check_call(
     alloc: Global,
-    around: &Around,
-    scope: &Environment,
+    around: &StatementContext,
+    scope: &TypeEnv,
     at: usize,
-    name: &Name,
+    name: &Ident,
     number: usize,
     arguments: &[Expression],
-    least: Option<Fault>,
-) -> Result<Option<Fault>, NoMemory>
-    ensures { IfOk result (λ r. r ≡ least_of least (stmt_faults (around_view around.now) scope.now (Call at 0 name.now number (exprs_view arguments.now)))) }
+    least: Option<ProgramFault>,
+) -> Result<Option<ProgramFault>, NoMemory>
+    ensures { IfOk result (λ r. r
+        ≡ least_fault_from least (stmt_faults (statement_context_view around.now) scope.now
+        (Call at 0 name.now number (exprs_view arguments.now)))) }
 {
-    let none = Environment::new(alloc);
+    let none = TypeEnv::new(alloc);
     let look = plain(around.states, scope, &none);
     let (types, least) = expressions(alloc, &look, arguments, least)?;
     Ok(call(around, name, number, at, &types, least))
 }
 
-/// The least fault so far and of a statement, where these variables are in scope.
+/// Updates `least` with the faults of a statement. `scope` has the variables in scope.
 #[tactic(auto, using(crate::proofs::Forms::statements, crate::proofs::Least::answers))]
 #[cycle(faults)]
 pub fn statement(
     alloc: Global,
-    around: &Around,
-    scope: &mut Environment,
+    around: &StatementContext,
+    scope: &mut TypeEnv,
     s: &Statement,
-    least: Option<Fault>,
-) -> Result<Option<Fault>, NoMemory>
+    least: Option<ProgramFault>,
+) -> Result<Option<ProgramFault>, NoMemory>
     ensures scope { OnOk result (scope.new ≡ scope.old) }
-    ensures least { IfOk result (λ r. r ≡ least_of least (stmt_faults (around_view around.now) scope.old (stmt_view s.now))) }
+    ensures least { IfOk result (λ r. r
+        ≡ least_fault_from least (stmt_faults (statement_context_view around.now) scope.old (stmt_view s.now))) }
 {
     match s {
         Statement::Node {
             attributes,
             body,
             ..
-        } => node(alloc, around, scope, attributes, body, least),
+        } => check_node(alloc, around, scope, attributes, body, least),
         Statement::Call {
             at,
             name,
             function,
             arguments,
             ..
-        } => call_in(alloc, around, scope, *at, name, *function, arguments, least),
-        Statement::Key { key, body, .. } => key_in(alloc, around, scope, key, body, least),
+        } => check_call(alloc, around, scope, *at, name, *function, arguments, least),
+        Statement::Key { key, body, .. } => check_key(alloc, around, scope, key, body, least),
         Statement::If {
             at,
             condition,
             then_branch,
             else_branch,
             ..
-        } => if_in(
+        } => check_if(
             alloc,
             around,
             scope,
@@ -150,196 +160,222 @@ pub fn statement(
             list,
             body,
             ..
-        } => for_in(alloc, around, scope, *at, name, list, body, least),
+        } => check_for(alloc, around, scope, *at, name, list, body, least),
         Statement::Let {
             name,
             value,
             body,
             ..
-        } => let_in(alloc, around, scope, name, value, body, least),
+        } => check_let(alloc, around, scope, name, value, body, least),
         Statement::Remember {
             name,
             keys,
             value,
             body,
             ..
-        } => remember_in(alloc, around, scope, name, keys, value, body, least),
+        } => check_remember(alloc, around, scope, name, keys, value, body, least),
     }
 }
 
-// A node: no attribute stands twice.
+// Updates `least` with the faults of a node, whose attributes have unique names.
 #[tactic(auto, using(crate::proofs::Least::answers, crate::proofs::Numbered::names_of))]
 #[cycle(faults)]
-fn node(
+fn check_node(
     alloc: Global,
-    around: &Around,
-    scope: &mut Environment,
+    around: &StatementContext,
+    scope: &mut TypeEnv,
     attributes: &[Named],
     body: &[Statement],
-    least: Option<Fault>,
-) -> Result<Option<Fault>, NoMemory>
+    least: Option<ProgramFault>,
+) -> Result<Option<ProgramFault>, NoMemory>
     ensures scope { OnOk result (scope.new ≡ scope.old) }
-    ensures least { IfOk result (λ r. r ≡ least_of least (stmt_faults (around_view around.now) scope.old (Node 0 0 (record { at = 0; text = [] }) (nameds_view attributes.now) (stmts_view body.now)))) }
+    ensures least { IfOk result (λ r. r
+        ≡ least_fault_from least (stmt_faults (statement_context_view around.now) scope.old
+        (Node 0 0 (record { at = 0; text = [] }) (nameds_view attributes.now)
+        (stmts_view body.now)))) }
 {
-    let none = Environment::new(alloc);
+    let none = TypeEnv::new(alloc);
     let look = plain(around.states, &*scope, &none);
-    let least = doubled(attributes, least);
+    let least = duplicate_faults(attributes, least);
     let (_, least) = values(alloc, &look, attributes, least)?;
     statements(alloc, around, scope, body, least)
 }
 
-// A key, and the statements under it.
+// Updates `least` with the faults of a key and its body.
 #[tactic(auto, using(crate::proofs::Least::answers))]
 #[cycle(faults)]
-fn key_in(
+fn check_key(
     alloc: Global,
-    around: &Around,
-    scope: &mut Environment,
+    around: &StatementContext,
+    scope: &mut TypeEnv,
     key: &Expression,
     body: &[Statement],
-    least: Option<Fault>,
-) -> Result<Option<Fault>, NoMemory>
+    least: Option<ProgramFault>,
+) -> Result<Option<ProgramFault>, NoMemory>
     ensures scope { OnOk result (scope.new ≡ scope.old) }
-    ensures least { IfOk result (λ r. r ≡ least_of least (stmt_faults (around_view around.now) scope.old (Key 0 0 (expr_view key.now) (stmts_view body.now)))) }
+    ensures least { IfOk result (λ r. r
+        ≡ least_fault_from least (stmt_faults (statement_context_view around.now) scope.old
+        (Key 0 0 (expr_view key.now) (stmts_view body.now)))) }
 {
-    let none = Environment::new(alloc);
+    let none = TypeEnv::new(alloc);
     let look = plain(around.states, &*scope, &none);
     let (_, least) = expression(alloc, &look, key, least)?;
     statements(alloc, around, scope, body, least)
 }
 
-// Two branches: the condition is a Bool.
+// Updates `least` with the faults of an if, whose condition is a Bool.
 #[tactic(auto, using(crate::proofs::Least::answers))]
 #[cycle(faults)]
-fn if_in(
+fn check_if(
     alloc: Global,
-    around: &Around,
-    scope: &mut Environment,
+    around: &StatementContext,
+    scope: &mut TypeEnv,
     at: usize,
     condition: &Expression,
     then_branch: &[Statement],
     else_branch: &[Statement],
-    least: Option<Fault>,
-) -> Result<Option<Fault>, NoMemory>
+    least: Option<ProgramFault>,
+) -> Result<Option<ProgramFault>, NoMemory>
     ensures scope { OnOk result (scope.new ≡ scope.old) }
-    ensures least { IfOk result (λ r. r ≡ least_of least (stmt_faults (around_view around.now) scope.old (If at 0 (expr_view condition.now) (stmts_view then_branch.now) (stmts_view else_branch.now)))) }
+    ensures least { IfOk result (λ r. r
+        ≡ least_fault_from least (stmt_faults (statement_context_view around.now) scope.old
+        (If at 0 (expr_view condition.now) (stmts_view then_branch.now)
+        (stmts_view else_branch.now)))) }
 {
-    let none = Environment::new(alloc);
+    let none = TypeEnv::new(alloc);
     let look = plain(around.states, &*scope, &none);
     let (ty, least) = expression(alloc, &look, condition, least)?;
-    let least = unless(ty.same(Ty::Bool), Kind::Type, at, least);
+    let least = fault_unless(ty.same(Ty::Bool), CheckKind::Type, at, least);
     let least = statements(alloc, around, scope, then_branch, least)?;
     statements(alloc, around, scope, else_branch, least)
 }
 
-// A loop: the list is an Ints, and the name stands for an Int.
+// Updates `least` with the faults of a for, whose list is an Ints and whose name is an Int.
 #[tactic(auto, using(crate::proofs::Least::answers))]
 #[cycle(faults)]
-fn for_in(
+fn check_for(
     alloc: Global,
-    around: &Around,
-    scope: &mut Environment,
+    around: &StatementContext,
+    scope: &mut TypeEnv,
     at: usize,
-    name: &Name,
+    name: &Ident,
     list: &Expression,
     body: &[Statement],
-    least: Option<Fault>,
-) -> Result<Option<Fault>, NoMemory>
+    least: Option<ProgramFault>,
+) -> Result<Option<ProgramFault>, NoMemory>
     ensures scope { OnOk result (scope.new ≡ scope.old) }
-    ensures least { IfOk result (λ r. r ≡ least_of least (stmt_faults (around_view around.now) scope.old (For at 0 name.now (expr_view list.now) (stmts_view body.now)))) }
+    ensures least { IfOk result (λ r. r
+        ≡ least_fault_from least (stmt_faults (statement_context_view around.now) scope.old
+        (For at 0 name.now (expr_view list.now) (stmts_view body.now)))) }
 {
-    let none = Environment::new(alloc);
+    let none = TypeEnv::new(alloc);
     let look = plain(around.states, &*scope, &none);
     let (ty, least) = expression(alloc, &look, list, least)?;
-    let least = unless(ty.same(Ty::Ints), Kind::Type, at, least);
-    bound_in(alloc, around, scope, name, Ty::Int, body, least)
+    let least = fault_unless(ty.same(Ty::Ints), CheckKind::Type, at, least);
+    check_body(alloc, around, scope, name, Ty::Int, body, least)
 }
 
-// A name for a value.
+// Updates `least` with the faults of a let.
 #[tactic(auto, using(crate::proofs::Least::answers))]
 #[cycle(faults)]
-fn let_in(
+fn check_let(
     alloc: Global,
-    around: &Around,
-    scope: &mut Environment,
-    name: &Name,
+    around: &StatementContext,
+    scope: &mut TypeEnv,
+    name: &Ident,
     value: &Expression,
     body: &[Statement],
-    least: Option<Fault>,
-) -> Result<Option<Fault>, NoMemory>
+    least: Option<ProgramFault>,
+) -> Result<Option<ProgramFault>, NoMemory>
     ensures scope { OnOk result (scope.new ≡ scope.old) }
-    ensures least { IfOk result (λ r. r ≡ least_of least (stmt_faults (around_view around.now) scope.old (Let 0 0 name.now (expr_view value.now) (stmts_view body.now)))) }
+    ensures least { IfOk result (λ r. r
+        ≡ least_fault_from least (stmt_faults (statement_context_view around.now) scope.old
+        (Let 0 0 name.now (expr_view value.now) (stmts_view body.now)))) }
 {
-    let none = Environment::new(alloc);
+    let none = TypeEnv::new(alloc);
     let look = plain(around.states, &*scope, &none);
     let (ty, least) = expression(alloc, &look, value, least)?;
-    bound_in(alloc, around, scope, name, ty, body, least)
+    check_body(alloc, around, scope, name, ty, body, least)
 }
 
-// A remember: no key stands twice, and its calculation depends on the keys alone.
+// Updates `least` with the faults of a remember, whose keys have unique names and whose calculation
+// depends only on them.
 #[tactic(auto, using(crate::proofs::Least::answers, crate::proofs::Numbered::names_of))]
 #[cycle(faults)]
-fn remember_in(
+fn check_remember(
     alloc: Global,
-    around: &Around,
-    scope: &mut Environment,
-    name: &Name,
+    around: &StatementContext,
+    scope: &mut TypeEnv,
+    name: &Ident,
     keys: &[Named],
     value: &Expression,
     body: &[Statement],
-    least: Option<Fault>,
-) -> Result<Option<Fault>, NoMemory>
+    least: Option<ProgramFault>,
+) -> Result<Option<ProgramFault>, NoMemory>
     ensures scope { OnOk result (scope.new ≡ scope.old) }
-    ensures least { IfOk result (λ r. r ≡ least_of least (stmt_faults (around_view around.now) scope.old (Remember 0 0 name.now (nameds_view keys.now) (expr_view value.now) (stmts_view body.now)))) }
+    ensures least { IfOk result (λ r. r
+        ≡ least_fault_from least (stmt_faults (statement_context_view around.now) scope.old
+        (Remember 0 0 name.now (nameds_view keys.now) (expr_view value.now)
+        (stmts_view body.now)))) }
 {
-    let none = Environment::new(alloc);
+    let none = TypeEnv::new(alloc);
     let look = plain(around.states, &*scope, &none);
-    let least = doubled(keys, least);
-    let (bound, least) = values(alloc, &look, keys, least)?;
-    let within = Look {
+    let least = duplicate_faults(keys, least);
+    let (typed_name, least) = values(alloc, &look, keys, least)?;
+    let within = ExpressionScope {
         states: around.states,
         scope: &*scope,
-        keys: &bound,
+        keys: &typed_name,
         calculating: true,
     };
     let (ty, least) = expression(alloc, &within, value, least)?;
-    bound_in(alloc, around, scope, name, ty, body, least)
+    check_body(alloc, around, scope, name, ty, body, least)
 }
 
-// The statements of a body with a name that is bound there, which is no variable in scope.
+// Updates `least` with the faults of a body in which `name` is bound. A variable in scope may not
+// be bound again.
 #[tactic(auto, using(crate::proofs::Least::answers))]
 #[cycle(faults)]
-fn bound_in(
+fn check_body(
     alloc: Global,
-    around: &Around,
-    scope: &mut Environment,
-    name: &Name,
+    around: &StatementContext,
+    scope: &mut TypeEnv,
+    name: &Ident,
     ty: Ty,
     body: &[Statement],
-    least: Option<Fault>,
-) -> Result<Option<Fault>, NoMemory>
+    least: Option<ProgramFault>,
+) -> Result<Option<ProgramFault>, NoMemory>
     ensures scope { OnOk result (scope.new ≡ scope.old) }
-    ensures least { IfOk result (λ r. r ≡ least_of least (binding scope.old name.now (stmts_faults (around_view around.now) (scope.old ++ bound name.now ty ∷ []) (stmts_view body.now)))) }
+    ensures least { IfOk result (λ r. r
+        ≡ least_fault_from least (binding_faults scope.old name.now
+        (stmts_faults (statement_context_view around.now) (scope.old
+        ++ typed_name name.now ty ∷ []) (stmts_view body.now)))) }
 {
-    let least = unless(scope.find(name).is_none(), Kind::Double, name.at, least);
+    let least = fault_unless(
+        scope.find(name).is_none(),
+        CheckKind::Double,
+        name.at,
+        least,
+    );
     scope.push(name, ty)?;
     let least = statements(alloc, around, scope, body, least)?;
     scope.pop();
     Ok(least)
 }
 
-/// The least fault so far and of statements one after another.
+/// Updates `least` with the faults of statements in order.
 #[tactic(auto, using(crate::proofs::Steps::statements_step))]
 #[cycle(faults)]
 pub fn statements(
     alloc: Global,
-    around: &Around,
-    scope: &mut Environment,
+    around: &StatementContext,
+    scope: &mut TypeEnv,
     body: &[Statement],
-    least: Option<Fault>,
-) -> Result<Option<Fault>, NoMemory>
+    least: Option<ProgramFault>,
+) -> Result<Option<ProgramFault>, NoMemory>
     ensures scope { OnOk result (scope.new ≡ scope.old) }
-    ensures least { IfOk result (λ r. r ≡ least_of least (stmts_faults (around_view around.now) scope.old (stmts_view body.now))) }
+    ensures least { IfOk result (λ r. r
+        ≡ least_fault_from least (stmts_faults (statement_context_view around.now) scope.old (stmts_view body.now))) }
 {
     let mut least = least;
     for s in body {

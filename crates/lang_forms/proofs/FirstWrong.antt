@@ -1,36 +1,36 @@
--- Where the reading stops, a text's forms stop.
+-- A text's forms stop where the parser stops.
 use Rattle.std.proofs.Common.{◌≡◌, inl, inr, ℕ, ◌∷◌, Option, Some, None, Result, Ok, Err, Bool, true, false, cond, refl, sym, ap, ◌∙◌}
 use Rattle.sexp_text.specs.Forest.{Forest, empty, atom, text, list, behind}
 use Rattle.lang_forms.specs.Sources.{Source}
 use Rattle.lang_forms.specs.Forms.{HasForms}
-use Rattle.lang_forms.specs.Seen.{Seen, seen, form, roles, is_there, header_form}
-use Rattle.lang_forms.specs.Tops.{Front, source, taken, followed, tops_of, text_of, start, sourced}
-use Rattle.lang_forms.specs.Stops.{only, first_place, IsFirstWrong}
+use Rattle.lang_forms.specs.Readings.{Seen, seen, form, roles, is_there, header_form}
+use Rattle.lang_forms.specs.TextReading.{PartialSource, source, source_with_tree, source_with_rest, tops_of, text_of, start, source_or_offset}
+use Rattle.lang_forms.specs.FirstWrong.{only, first_place, IsFirstWrong}
 use Rattle.lang_forms.proofs.TextIsRead.{text_read}
 use Rattle.lang_forms.proofs.TextHasForms.{source_found}
 
--- the trees that are taken, and the first that is not
-record Stopped (end : ℕ) (f : Forest) (p : Front) (at : ℕ) : Type 0 where
+-- the trees that the parser takes, and the first that it does not
+record Stopped (end : ℕ) (f : Forest) (p : PartialSource) (at : ℕ) : Type 0 where
   front : Forest
   wrong : Forest
   is : f ≡ behind front wrong
   place : at ≡ first_place end wrong
-  last : Front
+  last : PartialSource
   before : tops_of p (seen front) ≡ Ok last
   stuck : tops_of p (seen (behind front (only wrong))) ≡ Err at
 
-abbrev wrong_at : ℕ → Result Front ℕ
+abbrev wrong_at : ℕ → Result PartialSource ℕ
 wrong_at y = Err y
 
 err_is : (a b : ℕ) → wrong_at a ≡ wrong_at b → a ≡ b
 err_is a b e = cc
 
-err_same : (p : Front) (s : Seen) (at x : ℕ) (go : Front → Result Front ℕ) → taken p s ≡ None → followed x (taken p s) go ≡ Err at → at ≡ x
-err_same p s at x go none h = err_is at x (sym h ∙ ap (λ o. followed x o go) none)
+err_same : (p : PartialSource) (s : Seen) (at x : ℕ) (go : PartialSource → Result PartialSource ℕ) → source_with_tree p s ≡ None → source_with_rest x (source_with_tree p s) go ≡ Err at → at ≡ x
+err_same p s at x go none h = err_is at x (sym h ∙ ap (λ o. source_with_rest x o go) none)
 
--- a first tree that is not taken
-stuck_here : (end at x : ℕ) (f g : Forest) (s : Seen) (p : Front) → seen f ≡ s ∷ seen g → seen (only f) ≡ s ∷ seen empty → first_place end f ≡ x → taken p s ≡ None → followed x (taken p s) (λ q. tops_of q (seen g)) ≡ Err at
-    → tops_of p (s ∷ seen empty) ≡ followed x (taken p s) (λ q. tops_of q (seen empty)) → Stopped end f p at
+-- a first tree that the parser does not take
+stuck_here : (end at x : ℕ) (f g : Forest) (s : Seen) (p : PartialSource) → seen f ≡ s ∷ seen g → seen (only f) ≡ s ∷ seen empty → first_place end f ≡ x → source_with_tree p s ≡ None → source_with_rest x (source_with_tree p s) (λ q. tops_of q (seen g)) ≡ Err at
+    → tops_of p (s ∷ seen empty) ≡ source_with_rest x (source_with_tree p s) (λ q. tops_of q (seen empty)) → Stopped end f p at
 unfolding tops_of
 stuck_here end at x f g s p is alone place none h step =
     let here : at ≡ x = err_same p s at x (λ q. tops_of q (seen g)) none h in
@@ -41,44 +41,44 @@ stuck_here end at x f g s p is alone place none h step =
       place = here ∙ sym place;
       last = p;
       before = refl;
-      stuck = ap (tops_of p) alone ∙ step ∙ ap (λ o. followed x o (λ q. tops_of q (seen empty))) none ∙ ap (λ (y : ℕ). Err y) (sym here);
+      stuck = ap (tops_of p) alone ∙ step ∙ ap (λ o. source_with_rest x o (λ q. tops_of q (seen empty))) none ∙ ap (λ (y : ℕ). Err y) (sym here);
     }
 
--- a list, with what it can be read as
-abbrev listed : ℕ → Forest → Seen
+-- a list, with what it can be parsed as
+abbrev pub listed : ℕ → Forest → Seen
 listed x i = form x (roles x (seen i))
 
-stopped : (end at : ℕ) (f : Forest) (p : Front) → tops_of p (seen f) ≡ Err at → Stopped end f p at
+stopped : (end at : ℕ) (f : Forest) (p : PartialSource) → tops_of p (seen f) ≡ Err at → Stopped end f p at
 unfolding tops_of
 stopped end at empty p h = absurd (cc)
 stopped end at (atom x a f) p h = stuck_here end at x (atom x a f) f _ p refl refl refl refl h refl
 stopped end at (text x s f) p h = stuck_here end at x (text x s f) f _ p refl refl refl refl h refl
-stopped end at (list x i f) p h = by (λ q. stopped end at f q) (taken p (listed x i)) refl
+stopped end at (list x i f) p h = by (λ q. stopped end at f q) (source_with_tree p (listed x i)) refl
   where
-    by : ((q : Front) → tops_of q (seen f) ≡ Err at → Stopped end f q at) → (o : Option Front) → taken p (listed x i) ≡ o → Stopped end (list x i f) p at
+    by : ((q : PartialSource) → tops_of q (seen f) ≡ Err at → Stopped end f q at) → (o : Option PartialSource) → source_with_tree p (listed x i) ≡ o → Stopped end (list x i f) p at
     by go None e = stuck_here end at x (list x i f) f (listed x i) p refl refl refl e h refl
     by go (Some q) e =
-        let more = go q (sym (ap (λ o. followed x o (λ r. tops_of r (seen f))) e) ∙ h) in
+        let more = go q (sym (ap (λ o. source_with_rest x o (λ r. tops_of r (seen f))) e) ∙ h) in
         record {
           front = list x i more.front;
           wrong = more.wrong;
           is = ap (list x i) more.is;
           place = more.place;
           last = more.last;
-          before = ap (λ o. followed x o (λ r. tops_of r (seen more.front))) e ∙ more.before;
-          stuck = ap (λ o. followed x o (λ r. tops_of r (seen (behind more.front (only more.wrong))))) e ∙ more.stuck;
+          before = ap (λ o. source_with_rest x o (λ r. tops_of r (seen more.front))) e ∙ more.before;
+          stuck = ap (λ o. source_with_rest x o (λ r. tops_of r (seen (behind more.front (only more.wrong))))) e ∙ more.stuck;
         }
 
 abbrev refusal : ℕ → Result Source ℕ
 refusal x = Err x
 
 refused : (end at : ℕ) (f : Forest) (t : Source) → text_of end (seen f) ≡ Err at → ¬ HasForms f t
-refused end at f t h has = apart (sym (ap sourced h) ∙ text_read end f t has)
+refused end at f t h has = apart (sym (ap source_or_offset h) ∙ text_read end f t has)
   where
     apart : refusal at ≡ Ok t → ⊥
     apart e = cc
 
--- no header in front
+-- a first tree that is no header
 no_header : (end at : ℕ) (f : Forest) → text_of end (seen f) ≡ Err at → at ≡ first_place end f → ((x : ℕ) × (text_of end (seen (only f)) ≡ Err x)) → IsFirstWrong end f at
 no_header end at f h place alone = record {
   front = empty;
@@ -108,7 +108,7 @@ first_wrong end at (list x i f) h = by (is_there (header_form (seen i))) refl h
           wrong = s.wrong;
           is = ap (list x i) s.is;
           place = s.place;
-          before = inr (source s.last, source_found end (list x i s.front) (source s.last) (ap sourced front));
+          before = inr (source s.last, source_found end (list x i s.front) (source s.last) (ap source_or_offset front));
           none = λ t. refused end at (list x i (behind s.front (only s.wrong))) t stuck;
           nor_all = λ t. refused end at (list x i f) t h;
         }

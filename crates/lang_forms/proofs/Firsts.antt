@@ -1,4 +1,4 @@
--- The first forms of a program, which are as many as it may have.
+-- The first forms of a program, as many as it may have.
 use Rattle.std.proofs.Common.{◌≡◌, ◌∙◌, ℕ, min, List, length, take, map, ap, sym}
 use Rattle.std.proofs.Math.Nat.{min_comm}
 use Rattle.std.proofs.lemmas.List.{take_min, take-map}

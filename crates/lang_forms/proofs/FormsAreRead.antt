@@ -1,4 +1,4 @@
--- What has the forms of something is read as it.
+-- Trees with the forms of a part are parsed as it.
 use Rattle.std.proofs.Common.{◌≡◌, ℕ, suc, ◌+◌, List, [], ◌∷◌, length, Option, Some, None, Bool, true, false, true≢false, ℤ, refl, sym, ap, ◌∙◌, subst, codes}
 use Rattle.std.specs.Fmt.{signed_decimal}
 use Rattle.std.proofs.lemmas.Bool.{and_parts}
@@ -9,18 +9,18 @@ use Rattle.rt_values.specs.declared.value.Value.{Value}
 use Rattle.rt_values.specs.declared.value.Value.TheVariants as value
 use Rattle.rt_values.specs.Values.{truth_text}
 use Rattle.lang_ast.specs.Terms.{Expr, Literal, Variable, Get, Apply, Exprs, none, more, Named, Stmt, Node, Call, Key, If, For, Let, Remember, Stmts, done, next, exprs, stmts}
-use Rattle.lang_ast.specs.declared.syntax.Name.{Name}
+use Rattle.lang_ast.specs.declared.syntax.Ident.{Ident}
 use Rattle.lang_ast.specs.declared.syntax.Operator.{Operator}
 use Rattle.lang_ast.specs.declared.syntax.Operator.TheVariants as operator
 use Rattle.lang_limits.specs.Tokens.{fits}
 use Rattle.lang_forms.specs.Names.{is_name, all_fit, is_string, is_list_long, number_of}
-use Rattle.lang_forms.specs.Words.{type_word, operator_word, takes, type_named, number_operator, truth_operator, list_operator, operator_named}
+use Rattle.lang_forms.specs.Words.{type_word, operator_word, takes, type_for_word, number_operator, truth_operator, list_operator, operator_for_word}
 use Rattle.lang_forms.specs.Sketch.{Sketch, nothing, Fits}
-use Rattle.lang_forms.specs.Forms.{numbers, literal, expr_forms, exprs_forms, pairs_forms, stmt_forms, stmts_forms, literal_fits, how_many, Known, Spelled, AllSpelled, SpelledPairs, after, after_all, SpelledStmt, SpelledStmts}
-use Rattle.lang_forms.specs.Seen.{Seen, seen, form, roles, word_of, name_of, type_of, operator_of, truth_of, plain_of, string_of, ints_of, literal_form, literal_at, literal_of, leaf_of, expr_at, expr_of, exprs_of, get_form, apply_form, expr_form, pair_form, pairs_form, stmt_at, stmts_of, block_of, node_form, call_form, key_form, if_form, for_form, let_form, remember_form, stmt_form}
+use Rattle.lang_forms.specs.Forms.{numbers, literal, expr_forms, exprs_forms, pairs_forms, stmt_forms, stmts_forms, literal_fits, operand_count, KnownNames, Spelled, AllSpelled, SpelledPairs, site_after, site_after_all, SpelledStmt, SpelledStmts}
+use Rattle.lang_forms.specs.Readings.{Seen, seen, form, roles, word_of, name_of, type_of, operator_of, truth_of, plain_of, string_of, ints_of, literal_form, literal_at, literal_of, leaf_of, expr_at, expr_of, exprs_of, get_form, apply_form, expr_form, pair_form, pairs_form, stmt_at, stmts_of, block_of, binding_of, named_pairs_of, node_form, call_form, key_form, if_form, for_form, let_form, remember_form, stmt_form}
 use Rattle.lang_forms.proofs.Ints.{int-decimal, letters_no_int, decimal_no_name}
 
--- one tree that is read as something, and the rest
+-- a first tree that is parsed as a part, and the trees after it
 pub record First {A : Type 0} (f : Forest) (read : Seen → Option A) (a : A) (g : Sketch) : Type 0 where
   pub tree : Seen
   pub rest : Forest
@@ -28,34 +28,34 @@ pub record First {A : Type 0} (f : Forest) (read : Seen → Option A) (a : A) (g
   pub as_read : read tree ≡ Some a
   pub behind : Fits rest g
 
--- a list with these trees inside is the first
+-- a first tree that is a list of these trees
 pub one_list : {A : Type 0} (read : Seen → Option A) (at p : ℕ) (f i r : Forest) (a : A) (g : Sketch) → f ≡ list at i r → at ≡ p → read (form p (roles p (seen i))) ≡ Some a → Fits r g → First f read a g
 one_list read at p f i r a g is told h rest =
     subst (λ (x : Forest). First x read a g) (sym is) (record { tree = form at (roles at (seen i)); rest = r; is = refl; as_read = ap (λ (q : ℕ). read (form q (roles q (seen i)))) told ∙ h; behind = rest })
 
--- an atom is the first
+-- a first tree that is an atom
 one_atom : {A : Type 0} (read : Seen → Option A) (at p : ℕ) (f r : Forest) (w : List ℕ) (a : A) (g : Sketch) → f ≡ atom at w r → at ≡ p → read (Seen.word p w) ≡ Some a → Fits r g → First f read a g
 one_atom read at p f r w a g is told h rest =
     subst (λ (x : Forest). First x read a g) (sym is) (record { tree = Seen.word at w; rest = r; is = refl; as_read = ap (λ (q : ℕ). read (Seen.word q w)) told ∙ h; behind = rest })
 
--- a string is the first
+-- a first tree that is a string
 one_string : {A : Type 0} (read : Seen → Option A) (at p : ℕ) (f r : Forest) (s : List ℕ) (a : A) (g : Sketch) → f ≡ text at s r → at ≡ p → read (Seen.chars p s) ≡ Some a → Fits r g → First f read a g
 one_string read at p f r s a g is told h rest =
     subst (λ (x : Forest). First x read a g) (sym is) (record { tree = Seen.chars at s; rest = r; is = refl; as_read = ap (λ (q : ℕ). read (Seen.chars q s)) told ∙ h; behind = rest })
 
-pub name_there : (n : Name) (r : Forest) → is_name n.text ≡ true → name_of (seen (atom n.at n.text r)) ≡ Some (n, seen r)
+pub name_there : (n : Ident) (r : Forest) → is_name n.text ≡ true → name_of (seen (atom n.at n.text r)) ≡ Some (n, seen r)
 unfolding name_of
 name_there n r h = rw h
 
 pub type_there : (t : Ty) (a : ℕ) (r : Forest) → type_of (seen (atom a (type_word t) r)) ≡ Some (t, seen r)
-unfolding type_of type_named
+unfolding type_of type_for_word
 type_there ty.Int a r = refl
 type_there ty.Bool a r = refl
 type_there ty.Text a r = refl
 type_there ty.Ints a r = refl
 
 operator_there : (o : Operator) (a : ℕ) (r : Forest) → operator_of (seen (atom a (operator_word o) r)) ≡ Some (o, seen r)
-unfolding operator_of operator_named number_operator truth_operator list_operator
+unfolding operator_of operator_for_word number_operator truth_operator list_operator
 operator_there operator.Add a r = refl
 operator_there operator.Subtract a r = refl
 operator_there operator.Multiply a r = refl
@@ -124,7 +124,7 @@ list_read : (zs : List ℤ) (a : ℕ) (f : Forest) → is_list_long (length zs) 
 unfolding literal_form word_of
 list_read zs a f h r = rw (r, h)
 
--- a literal in front, wherever it stands
+-- a first tree that is a literal, at any offset
 pub literal_read : (v : Value) (f : Forest) (g : Sketch) → literal_fits v ≡ true → Fits f (literal None v g) → First f literal_at v g
 literal_read (value.Int z) f g s h = one_atom literal_at h.0 h.0 f h.1 _ (value.Int z) g h.2 refl (int_read z s) h.4
 literal_read (value.Bool b) f g s h = one_atom literal_at h.0 h.0 f h.1 _ (value.Bool b) g h.2 refl (truth_read b) h.4
@@ -145,7 +145,7 @@ pub record ReadsAll (m : List (List ℕ)) (f : Forest) (es : Exprs) : Type 0 whe
   pub read : exprs_of m (seen f) ≡ Some found
   pub is : exprs found ≡ es
 
-variable_read : (n : Name) → is_name n.text ≡ true → leaf_of n.at n.text ≡ Some (Variable n)
+variable_read : (n : Ident) → is_name n.text ≡ true → leaf_of n.at n.text ≡ Some (Variable n)
 unfolding leaf_of
 variable_read n h = rw h
 
@@ -158,18 +158,18 @@ unfolding leaf_of
 truth_leaf at true = rw (truth_read true)
 truth_leaf at false = rw (truth_read false)
 
-get_read : (m : List (List ℕ)) (at a : ℕ) (n : Name) → is_name n.text ≡ true → expr_form m at (seen (atom a (codes "get") (atom n.at n.text empty))) ≡ Some (Get at n (number_of n.text m))
+get_read : (m : List (List ℕ)) (at a : ℕ) (n : Ident) → is_name n.text ≡ true → expr_form m at (seen (atom a (codes "get") (atom n.at n.text empty))) ≡ Some (Get at n (number_of n.text m))
 unfolding expr_form get_form word_of
 get_read m at a n h = rw (name_there n empty h)
 
-count_is : (es : List Expr) → how_many (exprs es) ≡ length es
+count_is : (es : List Expr) → operand_count (exprs es) ≡ length es
 count_is [] = refl
 count_is (e ∷ es) = ap suc (count_is es)
 
-apply_read : (m : List (List ℕ)) (at a : ℕ) (o : Operator) (es : Exprs) (f : Forest) → takes o (how_many es) ≡ true → ReadsAll m f es → expr_form m at (seen (atom a (operator_word o) f)) ≡ Some (Apply at o es)
+apply_read : (m : List (List ℕ)) (at a : ℕ) (o : Operator) (es : Exprs) (f : Forest) → takes o (operand_count es) ≡ true → ReadsAll m f es → expr_form m at (seen (atom a (operator_word o) f)) ≡ Some (Apply at o es)
 unfolding expr_form apply_form
 apply_read m at a o es f h r =
-    let enough : takes o (length r.found) ≡ true = ap (takes o) (sym (count_is r.found) ∙ ap how_many r.is) ∙ h in
+    let enough : takes o (length r.found) ≡ true = ap (takes o) (sym (count_is r.found) ∙ ap operand_count r.is) ∙ h in
     rw (operator_no_get o a f, operator_there o a f, r.read, enough, r.is)
 
 none_read : (m : List (List ℕ)) (f : Forest) → f ≡ empty → ReadsAll m f none
@@ -184,9 +184,9 @@ more_read m f e es one r = record {
   is = ap (more e) r.is;
 }
 
--- the word and the name in front of a form
-pub headed : (i j r : Forest) (a b : ℕ) (w : List ℕ) (n : Name) → i ≡ atom a w j → j ≡ atom b n.text r → b ≡ n.at → i ≡ atom a w (atom n.at n.text r)
-headed i j r a b w n e f g = e ∙ ap (atom a w) (f ∙ ap (λ (p : ℕ). atom p n.text r) g)
+-- the keyword and the name at the beginning of a form
+pub list_with_word : (i j r : Forest) (a b : ℕ) (w : List ℕ) (n : Ident) → i ≡ atom a w j → j ≡ atom b n.text r → b ≡ n.at → i ≡ atom a w (atom n.at n.text r)
+list_with_word i j r a b w n e f g = e ∙ ap (atom a w) (f ∙ ap (λ (p : ℕ). atom p n.text r) g)
 
 mutual
   expr_read : (m : List (List ℕ)) (e : Expr) (f : Forest) (g : Sketch) → Spelled m e → Fits f (expr_forms e g) → First f (expr_at m) e g
@@ -198,7 +198,7 @@ mutual
   expr_read m (Get at n number) f g s h =
       let w = h.5 in
       let k = w.4 in
-      let is : h.1 ≡ atom w.0 (codes "get") (atom n.at n.text empty) = headed h.1 w.1 k.1 w.0 k.0 (codes "get") n w.2 k.2 k.3 ∙ ap (λ (x : Forest). atom w.0 (codes "get") (atom n.at n.text x)) k.4 in
+      let is : h.1 ≡ atom w.0 (codes "get") (atom n.at n.text empty) = list_with_word h.1 w.1 k.1 w.0 k.0 (codes "get") n w.2 k.2 k.3 ∙ ap (λ (x : Forest). atom w.0 (codes "get") (atom n.at n.text x)) k.4 in
       let read : expr_form m at (seen h.1) ≡ Some (Get at n number) = ap (λ (i : Forest). expr_form m at (seen i)) is ∙ get_read m at w.0 n s.0 ∙ ap (λ (x : ℕ). Some (Get at n x)) (sym s.1) in
       one_list (expr_at m) h.0 at f h.1 h.2 (Get at n number) g h.3 h.4 read h.6
   expr_read m (Apply at o es) f g s h =
@@ -215,7 +215,7 @@ mutual
 expr_there : (m : List (List ℕ)) (f : Forest) (e : Expr) (g : Sketch) → (one : First f (expr_at m) e g) → expr_of m (seen f) ≡ Some (e, seen one.rest)
 expr_there m f e g one = ap (expr_of m) one.is ∙ rw one.as_read
 
-pair_read : (m : List (List ℕ)) (n : Name) (e : Expr) (f : Forest) → is_name n.text ≡ true → First f (expr_at m) e nothing → pair_form m (seen (atom n.at n.text f)) ≡ Some (record { name = n; value = e })
+pair_read : (m : List (List ℕ)) (n : Ident) (e : Expr) (f : Forest) → is_name n.text ≡ true → First f (expr_at m) e nothing → pair_form m (seen (atom n.at n.text f)) ≡ Some (record { name = n; value = e })
 unfolding pair_form
 pair_read m n e f h one = rw (name_there n f h, expr_there m f e nothing one, one.behind)
 
@@ -230,20 +230,20 @@ pairs_read m (k ∷ ks) f s h =
 
 -- Statements.
 
-pub record ReadsBody (m : Known) (k : ℕ) (f : Forest) (b : Stmts) : Type 0 where
+pub record ReadsBody (m : KnownNames) (k : ℕ) (f : Forest) (b : Stmts) : Type 0 where
   pub found : List Stmt
-  pub read : stmts_of m k (seen f) ≡ Some (found, after_all k b)
+  pub read : stmts_of m k (seen f) ≡ Some (found, site_after_all k b)
   pub is : stmts found ≡ b
 
--- a statement in front, and the number behind it
-abbrev pub ReadsStmt : Known → ℕ → Forest → Stmt → Sketch → Type 0
-ReadsStmt m k f t g = First f (stmt_at m k) (t, after k t) g
+-- a first tree that is a statement, and the number of the next
+abbrev pub ReadsStmt : KnownNames → ℕ → Forest → Stmt → Sketch → Type 0
+ReadsStmt m k f t g = First f (stmt_at m k) (t, site_after k t) g
 
-done_read : (m : Known) (k : ℕ) (f : Forest) → f ≡ empty → ReadsBody m k f done
+done_read : (m : KnownNames) (k : ℕ) (f : Forest) → f ≡ empty → ReadsBody m k f done
 unfolding stmts_of
 done_read m k f h = subst (λ (x : Forest). ReadsBody m k x done) (sym h) (record { found = []; read = refl; is = refl })
 
-next_read : (m : Known) (k : ℕ) (f : Forest) (t : Stmt) (ts : Stmts) → (one : ReadsStmt m k f t (stmts_forms ts)) → ReadsBody m (after k t) one.rest ts → ReadsBody m k f (next t ts)
+next_read : (m : KnownNames) (k : ℕ) (f : Forest) (t : Stmt) (ts : Stmts) → (one : ReadsStmt m k f t (stmts_forms ts)) → ReadsBody m (site_after k t) one.rest ts → ReadsBody m k f (next t ts)
 unfolding stmts_of
 next_read m k f t ts one r = record {
   found = t ∷ r.found;
@@ -251,66 +251,66 @@ next_read m k f t ts one r = record {
   is = ap (next t) r.is;
 }
 
-node_read : (m : Known) (k at a p : ℕ) (n : Name) (ns : List Named) (b : Stmts) (i f : Forest) → is_name n.text ≡ true → pairs_form m.states (seen i) ≡ Some ns → ReadsBody m (k + 1) f b →
-    stmt_form m k at (seen (atom a (codes "node") (atom n.at n.text (list p i f)))) ≡ Some (Node at k n ns b, after_all (k + 1) b)
-unfolding stmt_form node_form word_of
+node_read : (m : KnownNames) (k at a p : ℕ) (n : Ident) (ns : List Named) (b : Stmts) (i f : Forest) → is_name n.text ≡ true → pairs_form m.states (seen i) ≡ Some ns → ReadsBody m (k + 1) f b →
+    stmt_form m k at (seen (atom a (codes "node") (atom n.at n.text (list p i f)))) ≡ Some (Node at k n ns b, site_after_all (k + 1) b)
+unfolding stmt_form node_form named_pairs_of word_of
 node_read m k at a p n ns b i f h read r = rw (name_there n (list p i f) h, read, r.read, r.is)
 
-call_read : (m : Known) (k at a : ℕ) (n : Name) (es : Exprs) (f : Forest) → is_name n.text ≡ true → ReadsAll m.states f es →
+call_read : (m : KnownNames) (k at a : ℕ) (n : Ident) (es : Exprs) (f : Forest) → is_name n.text ≡ true → ReadsAll m.states f es →
     stmt_form m k at (seen (atom a (codes "call") (atom n.at n.text f))) ≡ Some (Call at k n (number_of n.text m.functions) es, k + 1)
 unfolding stmt_form call_form word_of
 call_read m k at a n es f h r = rw (name_there n f h, r.read, r.is)
 
-key_read : (m : Known) (k at a : ℕ) (e : Expr) (b : Stmts) (f : Forest) (g : Sketch) → (one : First f (expr_at m.states) e g) → ReadsBody m (k + 1) one.rest b →
-    stmt_form m k at (seen (atom a (codes "key") f)) ≡ Some (Key at k e b, after_all (k + 1) b)
+key_read : (m : KnownNames) (k at a : ℕ) (e : Expr) (b : Stmts) (f : Forest) (g : Sketch) → (one : First f (expr_at m.states) e g) → ReadsBody m (k + 1) one.rest b →
+    stmt_form m k at (seen (atom a (codes "key") f)) ≡ Some (Key at k e b, site_after_all (k + 1) b)
 unfolding stmt_form key_form word_of
 key_read m k at a e b f g one r = rw (expr_there m.states f e g one, r.read, r.is)
 
--- the statements of a list in front
-block_there : (m : Known) (k p : ℕ) (f i r : Forest) (b : Stmts) → f ≡ list p i r → (all : ReadsBody m k i b) → block_of m k (seen f) ≡ Some ((all.found, after_all k b), seen r)
+-- the statements of a first tree that is a list
+block_there : (m : KnownNames) (k p : ℕ) (f i r : Forest) (b : Stmts) → f ≡ list p i r → (all : ReadsBody m k i b) → block_of m k (seen f) ≡ Some ((all.found, site_after_all k b), seen r)
 block_there m k p f i r b is all = ap (λ (x : Forest). block_of m k (seen x)) is ∙ rw all.read
 
-if_read : (m : Known) (k at w p q : ℕ) (e : Expr) (a b : Stmts) (f i j r : Forest) (g : Sketch) → (one : First f (expr_at m.states) e g) → one.rest ≡ list p i r → r ≡ list q j empty →
-    ReadsBody m (k + 1) i a → ReadsBody m (after_all (k + 1) a) j b →
-    stmt_form m k at (seen (atom w (codes "if") f)) ≡ Some (If at k e a b, after_all (after_all (k + 1) a) b)
+if_read : (m : KnownNames) (k at w p q : ℕ) (e : Expr) (a b : Stmts) (f i j r : Forest) (g : Sketch) → (one : First f (expr_at m.states) e g) → one.rest ≡ list p i r → r ≡ list q j empty →
+    ReadsBody m (k + 1) i a → ReadsBody m (site_after_all (k + 1) a) j b →
+    stmt_form m k at (seen (atom w (codes "if") f)) ≡ Some (If at k e a b, site_after_all (site_after_all (k + 1) a) b)
 unfolding stmt_form if_form word_of
 if_read m k at w p q e a b f i j r g one x y s t =
-    rw (expr_there m.states f e g one, block_there m (k + 1) p one.rest i r a x s, block_there m (after_all (k + 1) a) q r j empty b y t, s.is, t.is)
+    rw (expr_there m.states f e g one, block_there m (k + 1) p one.rest i r a x s, block_there m (site_after_all (k + 1) a) q r j empty b y t, s.is, t.is)
 
-for_read : (m : Known) (k at a : ℕ) (n : Name) (e : Expr) (b : Stmts) (f : Forest) (g : Sketch) → is_name n.text ≡ true → (one : First f (expr_at m.states) e g) → ReadsBody m (k + 1) one.rest b →
-    stmt_form m k at (seen (atom a (codes "for") (atom n.at n.text f))) ≡ Some (For at k n e b, after_all (k + 1) b)
-unfolding stmt_form for_form word_of
+for_read : (m : KnownNames) (k at a : ℕ) (n : Ident) (e : Expr) (b : Stmts) (f : Forest) (g : Sketch) → is_name n.text ≡ true → (one : First f (expr_at m.states) e g) → ReadsBody m (k + 1) one.rest b →
+    stmt_form m k at (seen (atom a (codes "for") (atom n.at n.text f))) ≡ Some (For at k n e b, site_after_all (k + 1) b)
+unfolding stmt_form for_form binding_of word_of
 for_read m k at a n e b f g h one r = rw (name_there n f h, expr_there m.states f e g one, r.read, r.is)
 
-let_read : (m : Known) (k at a : ℕ) (n : Name) (e : Expr) (b : Stmts) (f : Forest) (g : Sketch) → is_name n.text ≡ true → (one : First f (expr_at m.states) e g) → ReadsBody m (k + 1) one.rest b →
-    stmt_form m k at (seen (atom a (codes "let") (atom n.at n.text f))) ≡ Some (Let at k n e b, after_all (k + 1) b)
-unfolding stmt_form let_form word_of
+let_read : (m : KnownNames) (k at a : ℕ) (n : Ident) (e : Expr) (b : Stmts) (f : Forest) (g : Sketch) → is_name n.text ≡ true → (one : First f (expr_at m.states) e g) → ReadsBody m (k + 1) one.rest b →
+    stmt_form m k at (seen (atom a (codes "let") (atom n.at n.text f))) ≡ Some (Let at k n e b, site_after_all (k + 1) b)
+unfolding stmt_form let_form binding_of word_of
 let_read m k at a n e b f g h one r = rw (name_there n f h, expr_there m.states f e g one, r.read, r.is)
 
-remember_read : (m : Known) (k at a p : ℕ) (n : Name) (ks : List Named) (e : Expr) (b : Stmts) (i f : Forest) (g : Sketch) → is_name n.text ≡ true → pairs_form m.states (seen i) ≡ Some ks →
+remember_read : (m : KnownNames) (k at a p : ℕ) (n : Ident) (ks : List Named) (e : Expr) (b : Stmts) (i f : Forest) (g : Sketch) → is_name n.text ≡ true → pairs_form m.states (seen i) ≡ Some ks →
     (one : First f (expr_at m.states) e g) → ReadsBody m (k + 1) one.rest b →
-    stmt_form m k at (seen (atom a (codes "remember") (atom n.at n.text (list p i f)))) ≡ Some (Remember at k n ks e b, after_all (k + 1) b)
-unfolding stmt_form remember_form word_of
+    stmt_form m k at (seen (atom a (codes "remember") (atom n.at n.text (list p i f)))) ≡ Some (Remember at k n ks e b, site_after_all (k + 1) b)
+unfolding stmt_form remember_form named_pairs_of word_of
 remember_read m k at a p n ks e b i f g h read one r = rw (name_there n (list p i f) h, read, expr_there m.states f e g one, r.read, r.is)
 
--- a list that is read as a statement, which has its number
-one_stmt : (m : Known) (k site at p x : ℕ) (f i r : Forest) (t : ℕ → Stmt) (g : Sketch) → site ≡ k → f ≡ list at i r → at ≡ p → stmt_form m k p (seen i) ≡ Some (t k, x) → Fits r g → First f (stmt_at m k) (t site, x) g
+-- a list that is parsed as a statement, with its number
+one_stmt : (m : KnownNames) (k site at p x : ℕ) (f i r : Forest) (t : ℕ → Stmt) (g : Sketch) → site ≡ k → f ≡ list at i r → at ≡ p → stmt_form m k p (seen i) ≡ Some (t k, x) → Fits r g → First f (stmt_at m k) (t site, x) g
 one_stmt m k site at p x f i r t g same is told h rest =
     one_list (stmt_at m k) at p f i r (t site, x) g is told (h ∙ ap (λ (j : ℕ). Some (t j, x)) (sym same)) rest
 
 mutual
-  stmt_read : (m : Known) (k : ℕ) (t : Stmt) (f : Forest) (g : Sketch) → SpelledStmt m k t → Fits f (stmt_forms t g) → ReadsStmt m k f t g
+  stmt_read : (m : KnownNames) (k : ℕ) (t : Stmt) (f : Forest) (g : Sketch) → SpelledStmt m k t → Fits f (stmt_forms t g) → ReadsStmt m k f t g
   stmt_read m k (Node at site n ns b) f g s h =
       let w = h.5 in
       let v = w.4 in
       let l = v.4 in
-      let is = headed h.1 w.1 v.1 w.0 v.0 (codes "node") n w.2 v.2 v.3 ∙ ap (λ (i : Forest). atom w.0 (codes "node") (atom n.at n.text i)) l.3 in
+      let is = list_with_word h.1 w.1 v.1 w.0 v.0 (codes "node") n w.2 v.2 v.3 ∙ ap (λ (i : Forest). atom w.0 (codes "node") (atom n.at n.text i)) l.3 in
       one_stmt m k site h.0 at _ f h.1 h.2 (λ j. Node at j n ns b) g s.0 h.3 h.4
       (ap (λ (i : Forest). stmt_form m k at (seen i)) is ∙ node_read m k at w.0 l.0 n ns b l.1 l.2 s.1 (pairs_read m.states ns l.1 s.2 l.5) (stmts_read m (k + 1) b l.2 s.3 l.6)) h.6
   stmt_read m k (Call at site n function es) f g s h =
       let w = h.5 in
       let v = w.4 in
-      let is = headed h.1 w.1 v.1 w.0 v.0 (codes "call") n w.2 v.2 v.3 in
+      let is = list_with_word h.1 w.1 v.1 w.0 v.0 (codes "call") n w.2 v.2 v.3 in
       one_stmt m k site h.0 at _ f h.1 h.2 (λ j. Call at j n function es) g s.0 h.3 h.4
       (ap (λ (i : Forest). stmt_form m k at (seen i)) is ∙ call_read m k at w.0 n es v.1 s.1 (exprs_read m.states es v.1 s.3 v.4) ∙ ap (λ (c : ℕ). Some (Call at k n c es, k + 1)) (sym s.2)) h.6
   stmt_read m k (Key at site e b) f g s h =
@@ -325,18 +325,18 @@ mutual
       let y = x.6 in
       one_stmt m k site h.0 at _ f h.1 h.2 (λ j. If at j e a b) g s.0 h.3 h.4
       (ap (λ (i : Forest). stmt_form m k at (seen i)) w.2
-      ∙ if_read m k at w.0 x.0 y.0 e a b w.1 x.1 y.1 x.2 _ one x.3 (y.3 ∙ ap (list y.0 y.1) y.6) (stmts_read m (k + 1) a x.1 s.2 x.5) (stmts_read m (after_all (k + 1) a) b y.1 s.3 y.5)) h.6
+      ∙ if_read m k at w.0 x.0 y.0 e a b w.1 x.1 y.1 x.2 _ one x.3 (y.3 ∙ ap (list y.0 y.1) y.6) (stmts_read m (k + 1) a x.1 s.2 x.5) (stmts_read m (site_after_all (k + 1) a) b y.1 s.3 y.5)) h.6
   stmt_read m k (For at site n e b) f g s h =
       let w = h.5 in
       let v = w.4 in
-      let is = headed h.1 w.1 v.1 w.0 v.0 (codes "for") n w.2 v.2 v.3 in
+      let is = list_with_word h.1 w.1 v.1 w.0 v.0 (codes "for") n w.2 v.2 v.3 in
       let one = expr_read m.states e v.1 (stmts_forms b) s.2 v.4 in
       one_stmt m k site h.0 at _ f h.1 h.2 (λ j. For at j n e b) g s.0 h.3 h.4
       (ap (λ (i : Forest). stmt_form m k at (seen i)) is ∙ for_read m k at w.0 n e b v.1 (stmts_forms b) s.1 one (stmts_read m (k + 1) b one.rest s.3 one.behind)) h.6
   stmt_read m k (Let at site n e b) f g s h =
       let w = h.5 in
       let v = w.4 in
-      let is = headed h.1 w.1 v.1 w.0 v.0 (codes "let") n w.2 v.2 v.3 in
+      let is = list_with_word h.1 w.1 v.1 w.0 v.0 (codes "let") n w.2 v.2 v.3 in
       let one = expr_read m.states e v.1 (stmts_forms b) s.2 v.4 in
       one_stmt m k site h.0 at _ f h.1 h.2 (λ j. Let at j n e b) g s.0 h.3 h.4
       (ap (λ (i : Forest). stmt_form m k at (seen i)) is ∙ let_read m k at w.0 n e b v.1 (stmts_forms b) s.1 one (stmts_read m (k + 1) b one.rest s.3 one.behind)) h.6
@@ -344,14 +344,14 @@ mutual
       let w = h.5 in
       let v = w.4 in
       let l = v.4 in
-      let is = headed h.1 w.1 v.1 w.0 v.0 (codes "remember") n w.2 v.2 v.3 ∙ ap (λ (i : Forest). atom w.0 (codes "remember") (atom n.at n.text i)) l.3 in
+      let is = list_with_word h.1 w.1 v.1 w.0 v.0 (codes "remember") n w.2 v.2 v.3 ∙ ap (λ (i : Forest). atom w.0 (codes "remember") (atom n.at n.text i)) l.3 in
       let one = expr_read m.states e l.2 (stmts_forms b) s.3 l.6 in
       one_stmt m k site h.0 at _ f h.1 h.2 (λ j. Remember at j n ks e b) g s.0 h.3 h.4
       (ap (λ (i : Forest). stmt_form m k at (seen i)) is
       ∙ remember_read m k at w.0 l.0 n ks e b l.1 l.2 (stmts_forms b) s.1 (pairs_read m.states ks l.1 s.2 l.5) one (stmts_read m (k + 1) b one.rest s.4 one.behind)) h.6
 
-  pub stmts_read : (m : Known) (k : ℕ) (b : Stmts) (f : Forest) → SpelledStmts m k b → Fits f (stmts_forms b) → ReadsBody m k f b
+  pub stmts_read : (m : KnownNames) (k : ℕ) (b : Stmts) (f : Forest) → SpelledStmts m k b → Fits f (stmts_forms b) → ReadsBody m k f b
   stmts_read m k done f s h = done_read m k f h
   stmts_read m k (next t ts) f s h =
       let one = stmt_read m k t f (stmts_forms ts) s.0 h in
-      next_read m k f t ts one (stmts_read m (after k t) ts one.rest s.1 one.behind)
+      next_read m k f t ts one (stmts_read m (site_after k t) ts one.rest s.1 one.behind)

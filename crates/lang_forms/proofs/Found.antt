@@ -1,4 +1,4 @@
--- What is read in front of trees stands there.
+-- The first trees that are parsed have the forms.
 use Rattle.std.proofs.Common.{◌≡◌, ◌⊎◌, inl, inr, ℕ, List, ◌∷◌, length, Option, Some, None, Bool, true, false, cond, ℤ, refl, sym, ap, ◌∙◌, subst, codes}
 use Rattle.std.specs.Option.{option_map}
 use Rattle.std.specs.Str.{bytes_eq}
@@ -11,15 +11,15 @@ use Rattle.rt_values.specs.declared.value.Ty.TheVariants as ty
 use Rattle.rt_values.specs.declared.value.Value.{Value}
 use Rattle.rt_values.specs.declared.value.Value.TheVariants as value
 use Rattle.rt_values.specs.Values.{truth_text}
-use Rattle.lang_ast.specs.declared.syntax.Name.{Name}
+use Rattle.lang_ast.specs.declared.syntax.Ident.{Ident}
 use Rattle.lang_ast.specs.declared.syntax.Operator.{Operator}
 use Rattle.lang_ast.specs.declared.syntax.Operator.TheVariants as operator
 use Rattle.lang_limits.specs.Tokens.{fits}
 use Rattle.lang_forms.specs.Names.{is_name, all_fit, is_string, is_list_long}
-use Rattle.lang_forms.specs.Words.{type_word, operator_word, named, or_else, type_named, number_operator, truth_operator, list_operator, operator_named}
-use Rattle.lang_forms.specs.Sketch.{Sketch, Fits, Told}
+use Rattle.lang_forms.specs.Words.{type_word, operator_word, named, or_else, type_for_word, number_operator, truth_operator, list_operator, operator_for_word}
+use Rattle.lang_forms.specs.Sketch.{Sketch, Fits, IsAtOffset}
 use Rattle.lang_forms.specs.Forms.{numbers, literal, literal_fits, plain_fits}
-use Rattle.lang_forms.specs.Seen.{◌>>=◌, choose, Seen, seen, is_end, word_of, name_of, type_of, operator_of, int_of, truth_of, plain_of, string_of, ints_of, literal_form, literal_of}
+use Rattle.lang_forms.specs.Readings.{◌>>=◌, choose, Seen, seen, is_end, word_of, name_of, type_of, operator_of, int_of, truth_of, plain_of, string_of, ints_of, literal_form, literal_of}
 use Rattle.lang_forms.proofs.Ints.{decimal-int}
 
 pub inject : {A : Type 0} {a b : A} → Some a ≡ Some b → a ≡ b
@@ -42,7 +42,7 @@ choose_some (Some x) f other y h = inl (x, refl, h)
 bytes_same : (a b : List ℕ) → bytes_eq a b ≡ true → a ≡ b
 bytes_same a b h = (bytes_eq-Decides a b).0 h
 
--- a word, and what stands behind it
+-- a first tree that is a keyword, and the trees after it
 pub record Worded (i : Forest) (w : List ℕ) (ss : List Seen) : Type 0 where
   pub at : ℕ
   pub rest : Forest
@@ -58,30 +58,30 @@ word_found w (atom b v r) ss h =
 word_found w (text b v r) ss h = absurd (cc)
 word_found w (list b j r) ss h = absurd (cc)
 
--- the same behind trees that are seen already
+-- the same for trees that are seen already
 pub word_next : (w : List ℕ) (i : Forest) (rs ss : List Seen) → rs ≡ seen i → word_of w rs ≡ Some ss → Worded i w ss
 word_next w i rs ss is h = word_found w i ss (ap (word_of w) (sym is) ∙ h)
 
--- a name, and what stands behind it
-pub record NamedBy (i : Forest) (n : Name × List Seen) : Type 0 where
+-- a first tree that is a name, and the trees after it
+pub record NamedBy (i : Forest) (n : Ident × List Seen) : Type 0 where
   pub rest : Forest
   pub is : i ≡ atom n.0.at n.0.text rest
   pub behind : n.1 ≡ seen rest
   pub good : is_name n.0.text ≡ true
 
-name_found : (i : Forest) (n : Name × List Seen) → name_of (seen i) ≡ Some n → NamedBy i n
+name_found : (i : Forest) (n : Ident × List Seen) → name_of (seen i) ≡ Some n → NamedBy i n
 unfolding name_of
 name_found empty n h = absurd (cc)
 name_found (atom b v r) n h =
     let c = cond_some (is_name v) (record { at = b; text = v }, seen r) n h in
-    subst (λ (m : Name × List Seen). NamedBy (atom b v r) m) c.1 (record { rest = r; is = refl; behind = refl; good = c.0 })
+    subst (λ (m : Ident × List Seen). NamedBy (atom b v r) m) c.1 (record { rest = r; is = refl; behind = refl; good = c.0 })
 name_found (text b v r) n h = absurd (cc)
 name_found (list b j r) n h = absurd (cc)
 
-pub name_next : (i : Forest) (rs : List Seen) (n : Name × List Seen) → rs ≡ seen i → name_of rs ≡ Some n → NamedBy i n
+pub name_next : (i : Forest) (rs : List Seen) (n : Ident × List Seen) → rs ≡ seen i → name_of rs ≡ Some n → NamedBy i n
 name_next i rs n is h = name_found i n (ap name_of (sym is) ∙ h)
 
--- the word of something, or of something else
+-- the keyword of one value, or of another
 named_some : {A : Type 0} (word : A → List ℕ) (a b : A) (w : List ℕ) (other : Option A) → (other ≡ Some b → w ≡ word b) → named (word a) a w other ≡ Some b → w ≡ word b
 named_some word a b w other rest h = by (bytes_eq w (word a)) refl h
   where
@@ -92,8 +92,8 @@ named_some word a b w other rest h = by (bytes_eq w (word a)) refl h
 no_word : {A : Type 0} (word : A → List ℕ) (b : A) (w : List ℕ) → None ≡ Some b → w ≡ word b
 no_word word b w h = absurd (cc)
 
-type_found : (w : List ℕ) (t : Ty) → type_named w ≡ Some t → w ≡ type_word t
-unfolding type_named
+type_found : (w : List ℕ) (t : Ty) → type_for_word w ≡ Some t → w ≡ type_word t
+unfolding type_for_word
 type_found w t = named_some type_word ty.Int t w _ (named_some type_word ty.Bool t w _ (named_some type_word ty.Text t w _ (named_some type_word ty.Ints t w _ (no_word type_word t w))))
 
 number_operator_found : (w : List ℕ) (o : Operator) → number_operator w ≡ Some o → w ≡ operator_word o
@@ -119,8 +119,8 @@ or_else_some : {A : Type 0} (o other : Option A) (a : A) → or_else o other ≡
 or_else_some None other a h = inr h
 or_else_some (Some b) other a h = inl h
 
-operator_word_found : (w : List ℕ) (o : Operator) → operator_named w ≡ Some o → w ≡ operator_word o
-unfolding operator_named
+operator_word_found : (w : List ℕ) (o : Operator) → operator_for_word w ≡ Some o → w ≡ operator_word o
+unfolding operator_for_word
 operator_word_found w o h = elim (or_else_some (number_operator w) _ o h) [
   | inl x ↦ number_operator_found w o x
   | inr x ↦ elim (or_else_some (truth_operator w) (list_operator w) o x) [
@@ -129,7 +129,7 @@ operator_word_found w o h = elim (or_else_some (number_operator w) _ o h) [
   ]
 ]
 
--- a type, and what stands behind it
+-- a first tree that is a type, and the trees after it
 pub record Typed (i : Forest) (t : Ty × List Seen) : Type 0 where
   pub at : ℕ
   pub rest : Forest
@@ -140,13 +140,13 @@ pub type_next : (i : Forest) (rs : List Seen) (t : Ty × List Seen) → rs ≡ s
 unfolding type_of
 type_next empty rs t is h = absurd (cc (ap type_of (sym is) ∙ h))
 type_next (atom b v r) rs t is h =
-    let c = bind_some (type_named v) (λ x. Some (x, seen r)) t (ap type_of (sym is) ∙ h) in
+    let c = bind_some (type_for_word v) (λ x. Some (x, seen r)) t (ap type_of (sym is) ∙ h) in
     let same : (c.0, seen r) ≡ t = inject c.2 in
     subst (λ (m : Ty × List Seen). Typed (atom b v r) m) same (record { at = b; rest = r; is = ap (λ (x : List ℕ). atom b x r) (type_found v c.0 c.1); behind = refl })
 type_next (text b v r) rs t is h = absurd (cc (ap type_of (sym is) ∙ h))
 type_next (list b j r) rs t is h = absurd (cc (ap type_of (sym is) ∙ h))
 
--- an operator, and what stands behind it
+-- a first tree that is an operator, and the trees after it
 pub record Operated (i : Forest) (o : Operator × List Seen) : Type 0 where
   pub at : ℕ
   pub rest : Forest
@@ -157,7 +157,7 @@ pub operator_found : (i : Forest) (o : Operator × List Seen) → operator_of (s
 unfolding operator_of
 operator_found empty o h = absurd (cc)
 operator_found (atom b v r) o h =
-    let c = bind_some (operator_named v) (λ x. Some (x, seen r)) o h in
+    let c = bind_some (operator_for_word v) (λ x. Some (x, seen r)) o h in
     let same : (c.0, seen r) ≡ o = inject c.2 in
     subst (λ (m : Operator × List Seen). Operated (atom b v r) m) same (record { at = b; rest = r; is = ap (λ (x : List ℕ). atom b x r) (operator_word_found v c.0 c.1); behind = refl })
 operator_found (text b v r) o h = absurd (cc)
@@ -176,7 +176,7 @@ end_next i rs is h = end_found i (ap is_end (sym is) ∙ h)
 
 -- an atom that is a literal
 pub record Plain (a : List ℕ) (v : Value) : Type 0 where
-  pub fit : (p : Option ℕ) (at : ℕ) (r : Forest) (g : Sketch) → Told p at → Fits r g → Fits (atom at a r) (literal p v g)
+  pub fit : (p : Option ℕ) (at : ℕ) (r : Forest) (g : Sketch) → IsAtOffset p at → Fits r g → Fits (atom at a r) (literal p v g)
   pub plain : plain_fits v ≡ true
   pub whole : literal_fits v ≡ true
 
@@ -239,14 +239,14 @@ list_found i v h =
     subst (λ (x : Value). Listed i x) c.1
     (record { fit = λ at r g rest. (at, i, r, refl, tt, (word.at, word.rest, word.is, tt, all.0), rest); whole = and_from (is_list_long (length zs.0)) (all_fit zs.0) c.0 all.1 })
 
--- the trees behind the first
+-- the trees after the first
 abbrev pub tail : Forest → Forest
 tail empty = empty
 tail (atom at a f) = f
 tail (text at s f) = f
 tail (list at i f) = f
 
--- a literal in front, and what stands behind it
+-- a first tree that is a literal, and the trees after it
 pub record LiteralFirst (f : Forest) (v : Value × List Seen) : Type 0 where
   pub behind : v.1 ≡ seen (tail f)
   pub fit : (g : Sketch) → Fits (tail f) g → Fits f (literal None v.0 g)

@@ -7,6 +7,9 @@ pub mod Found
 pub mod ReadHasForms
 pub mod TextHasForms
 pub mod FirstWrong
+pub mod Unlimited
 pub mod Written
 pub mod Limits
 pub mod Firsts
+pub mod ByForms
+pub mod Bindings

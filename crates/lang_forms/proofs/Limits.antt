@@ -1,28 +1,28 @@
--- What the limits make of a text that was read.
+-- The effect of the limits on a parsed text.
 use Rattle.std.proofs.Common.{◌≡◌, ℕ, [], Option, Some, None, Result, Ok, Err, IfOk, refl, ap, ◌∙◌, subst}
 use Rattle.sexp_text.specs.Forest.{Forest}
-use Rattle.lang_limits.specs.Least.{least}
-use Rattle.lang_limits.specs.Tokens.{beyond, program_trees, script_limits}
+use Rattle.lang_limits.specs.LeastOffset.{least}
+use Rattle.lang_limits.specs.Tokens.{beyond, program_trees, oversized_script_offsets}
 use Rattle.lang_limits.specs.Sizes.{program_limits}
-use Rattle.lang_limits.specs.Within.{within}
+use Rattle.lang_limits.specs.Clamped.{within}
 use Rattle.lang_limits.proofs.Copies.{within_stays}
 use Rattle.lang_limits.proofs.Lesser.{no_least}
 use Rattle.lang_forms.specs.declared.stop.FormStop.{FormStop}
 use Rattle.lang_forms.specs.declared.stop.FormStop.TheVariants.{Form, Limit}
-use Rattle.lang_forms.specs.Answers.{Answers, answered, unless_beyond, text_answer}
+use Rattle.lang_forms.specs.TextAnswers.{answered, unless_beyond, text_answer}
 use Rattle.lang_forms.specs.Sources.{Source}
 use Rattle.lang_forms.specs.Forms.{HasForms}
-use Rattle.lang_forms.specs.Seen.{seen}
-use Rattle.lang_forms.specs.Stops.{IsFirstWrong}
-use Rattle.lang_forms.specs.Tops.{Front, sourced, text_of, source_of}
+use Rattle.lang_forms.specs.Readings.{seen}
+use Rattle.lang_forms.specs.FirstWrong.{IsFirstWrong, Answers}
+use Rattle.lang_forms.specs.TextReading.{PartialSource, source_or_offset, text_of, source_of}
 use Rattle.lang_forms.proofs.TextHasForms.{source_found}
 use Rattle.lang_forms.proofs.FirstWrong.{first_wrong}
 
--- Where no place is the least, of the program nor of the script, the trees are within the limits.
-pub all_within : (f : Forest) → least (beyond (program_trees f)) ≡ None → least (script_limits f) ≡ None → within f ≡ f
+-- Trees without oversized tokens, in the program and in the script, stay as they are.
+pub all_within : (f : Forest) → least (beyond (program_trees f)) ≡ None → least (oversized_script_offsets f) ≡ None → within f ≡ f
 all_within f h k = within_stays f (no_least _ h) (no_least _ k)
 
--- What an answer says.
+-- The content of an answer.
 
 abbrev answer : Source → Result Source FormStop
 answer t = Ok t
@@ -33,7 +33,7 @@ refusal stop = Err stop
 abbrev stopped_at : ℕ → Result Source ℕ
 stopped_at at = Err at
 
-abbrev front_stopped : ℕ → Result Front ℕ
+abbrev front_stopped : ℕ → Result PartialSource ℕ
 front_stopped at = Err at
 
 abbrev read_as : Source → Result Source ℕ
@@ -48,7 +48,7 @@ form_same x at h = cc
 limit_same : (x at : ℕ) → refusal (Limit x) ≡ refusal (Limit at) → x ≡ at
 limit_same x at h = cc
 
--- a text that answers was read, and nothing of its program is beyond a limit
+-- a text that is the answer was parsed, and its program exceeds no limit
 text_told : (f : Forest) (r : Result Source ℕ) (t : Source) → answered f r ≡ answer t → (r ≡ read_as t) × (least (program_limits f t.program) ≡ None)
 text_told f (Ok u) t h = by (least (program_limits f u.program)) refl h
   where
@@ -57,7 +57,7 @@ text_told f (Ok u) t h = by (least (program_limits f u.program)) refl h
     by (Some at) e k = absurd (cc)
 text_told f (Err at) t h = absurd (cc)
 
--- a form that answers stopped the reading
+-- a form that is the answer stopped the parser
 form_told : (f : Forest) (r : Result Source ℕ) (at : ℕ) → answered f r ≡ refusal (Form at) → r ≡ stopped_at at
 form_told f (Ok u) at h = absurd (no_form (least (program_limits f u.program)) h)
   where
@@ -66,7 +66,7 @@ form_told f (Ok u) at h = absurd (no_form (least (program_limits f u.program)) h
     no_form (Some x) k = absurd (cc)
 form_told f (Err x) at h = form_same x at h
 
--- a text is beyond the limit that answers
+-- a limit that is the answer is exceeded by a text
 limit_told : (f : Forest) (r : Result Source ℕ) (at : ℕ) → answered f r ≡ refusal (Limit at) → (t : Source) × (r ≡ read_as t) × (least (program_limits f t.program) ≡ Some at)
 limit_told f (Ok u) at h = by (least (program_limits f u.program)) refl h
   where
@@ -83,14 +83,14 @@ pub small_answers : {X : Type 0} (view : X → Source) (end : ℕ) (f : Forest) 
 small_answers view end f (Ok r) h = no_least _ (text_told f (source_of end (seen (within f))) (view r) h).1
 small_answers view end f (Err e) h = tt
 
--- the place that stops the reading
-stop_read : (end at : ℕ) (f : Forest) → source_of end (seen f) ≡ stopped_at at → IsFirstWrong end f at
+-- the offset where the parser stops
+pub stop_read : (end at : ℕ) (f : Forest) → source_of end (seen f) ≡ stopped_at at → IsFirstWrong end f at
 stop_read end at f h = by (text_of end (seen f)) refl h
   where
-    again : (x y : ℕ) → sourced (Err x) ≡ stopped_at y → front_stopped x ≡ front_stopped y
+    again : (x y : ℕ) → source_or_offset (Err x) ≡ stopped_at y → front_stopped x ≡ front_stopped y
     again x y e = cc
 
-    by : (r : Result Front ℕ) → text_of end (seen f) ≡ r → sourced r ≡ stopped_at at → IsFirstWrong end f at
+    by : (r : Result PartialSource ℕ) → text_of end (seen f) ≡ r → source_or_offset r ≡ stopped_at at → IsFirstWrong end f at
     by (Ok q) e k = absurd (cc)
     by (Err x) e k = first_wrong end at f (e ∙ again x at k)
 

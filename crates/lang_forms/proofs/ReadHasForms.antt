@@ -1,4 +1,4 @@
--- What is read as expressions and statements has their forms.
+-- Trees that are parsed as expressions and statements have their forms.
 use Rattle.std.proofs.Common.{◌≡◌, inl, inr, ℕ, suc, ◌+◌, List, [], ◌∷◌, length, Option, Some, None, Bool, true, false, cond, refl, sym, ap, ◌∙◌, subst, codes}
 use Rattle.std.specs.Option.{option_map}
 use Rattle.std.proofs.lemmas.Option.{cond_some}
@@ -6,27 +6,28 @@ use Rattle.sexp_text.specs.Forest.{Forest, empty, atom, text, list}
 use Rattle.rt_values.specs.declared.value.Value.{Value}
 use Rattle.rt_values.specs.declared.value.Value.TheVariants as value
 use Rattle.lang_ast.specs.Terms.{Expr, Literal, Variable, Get, Apply, Named, Stmt, If, exprs, stmts}
-use Rattle.lang_ast.specs.declared.syntax.Name.{Name}
+use Rattle.lang_ast.specs.declared.syntax.Ident.{Ident}
 use Rattle.lang_forms.specs.Names.{is_name, number_of}
 use Rattle.lang_forms.specs.Words.{takes}
 use Rattle.lang_forms.specs.Sketch.{Sketch, nothing, Fits}
-use Rattle.lang_forms.specs.Forms.{name, expr_forms, exprs_forms, pairs_forms, stmt_forms, stmts_forms, how_many, Known, Spelled, AllSpelled, SpelledPairs, after, after_all, SpelledStmt, SpelledStmts, plain_fits}
-use Rattle.lang_forms.specs.Seen.{choose, Seen, seen, is_end, word_of, name_of, plain_of, string_of, leaf_of, expr_at, expr_of, exprs_of, get_form, apply_form, expr_form, pair_form, pairs_form, pairs_of, stmts_of, block_of, node_form, call_form, key_form, if_form, for_form, let_form, remember_form, stmt_form, operator_of}
+use Rattle.lang_forms.specs.Forms.{name, expr_forms, exprs_forms, pairs_forms, stmt_forms, stmts_forms, operand_count, KnownNames, Spelled, AllSpelled, SpelledPairs, site_after, site_after_all, SpelledStmt, SpelledStmts, plain_fits}
+use Rattle.lang_forms.specs.Readings.{choose, Seen, seen, is_end, word_of, name_of, plain_of, string_of, leaf_of, expr_at, expr_of, exprs_of, get_form, apply_form, expr_form, pair_form, pairs_form, pairs_of, stmts_of, block_of, node_form, call_form, key_form, if_form, for_form, let_form, remember_form, stmt_form, operator_of}
+use Rattle.lang_forms.proofs.Bindings.{node_is, for_is, let_is, remember_is}
 use Rattle.lang_forms.proofs.Found.{inject, bind_some, map_some, choose_some, Worded, word_found, name_next, operator_found, end_next, plain_found, string_found, tail}
 
--- what is said of statements that are read
-pub record BodyFits (m : Known) (k : ℕ) (f : Forest) (b : List Stmt × ℕ) : Type 0 where
+-- the forms of statements that are parsed
+pub record BodyFits (m : KnownNames) (k : ℕ) (f : Forest) (b : List Stmt × ℕ) : Type 0 where
   pub fits : Fits f (stmts_forms (stmts b.0))
   pub spelled : SpelledStmts m k (stmts b.0)
-  pub next : b.1 ≡ after_all k (stmts b.0)
+  pub next : b.1 ≡ site_after_all k (stmts b.0)
 
--- what is said of all trees of a forest
+-- the forms of all trees of a forest
 pub record Claims (f : Forest) : Type 0 where
   pub exprs_fit : (m : List (List ℕ)) (es : List Expr) → exprs_of m (seen f) ≡ Some es → Fits f (exprs_forms (exprs es)) × AllSpelled m (exprs es)
   pub pairs_fit : (m : List (List ℕ)) (ks : List Named) → pairs_form m (seen f) ≡ Some ks → Fits f (pairs_forms ks) × SpelledPairs m ks
-  pub stmts_fit : (m : Known) (k : ℕ) (b : List Stmt × ℕ) → stmts_of m k (seen f) ≡ Some b → BodyFits m k f b
+  pub stmts_fit : (m : KnownNames) (k : ℕ) (b : List Stmt × ℕ) → stmts_of m k (seen f) ≡ Some b → BodyFits m k f b
 
--- of those behind its trees and of those inside them
+-- the forms of the trees after each tree and of those inside it
 abbrev pub Good : Forest → Type 0
 Good empty = Unit {0}
 Good (atom at a f) = Claims f × Good f
@@ -43,14 +44,14 @@ unfolding pairs_form
 no_pairs m [] h = (refl, tt)
 no_pairs m (k ∷ ks) h = absurd (cc)
 
-no_stmts : (m : Known) (k : ℕ) (b : List Stmt × ℕ) → stmts_of m k [] ≡ Some b → BodyFits m k empty b
+no_stmts : (m : KnownNames) (k : ℕ) (b : List Stmt × ℕ) → stmts_of m k [] ≡ Some b → BodyFits m k empty b
 unfolding stmts_of
 no_stmts m k b h = subst (λ (c : List Stmt × ℕ). BodyFits m k empty c) (inject h) (record { fits = refl; spelled = tt; next = refl })
 
 nothing_claimed : Claims empty
 nothing_claimed = record { exprs_fit = no_exprs; pairs_fit = no_pairs; stmts_fit = no_stmts }
 
--- what is known of a forest's tail
+-- the forms of the trees after the first
 tail_claims : (f : Forest) → Good f → Claims (tail f)
 tail_claims empty good = nothing_claimed
 tail_claims (atom at a f) good = good.0
@@ -63,7 +64,7 @@ tail_good (atom at a f) good = good.1
 tail_good (text at s f) good = good.1
 tail_good (list at i f) good = good.3
 
--- and of what stands behind an atom
+-- the forms of the trees after an atom
 pub behind_good : (i : Forest) (a : ℕ) (w : List ℕ) (r : Forest) → i ≡ atom a w r → Good i → Good r
 behind_good i a w r is good = let all : Good (atom a w r) = subst Good is good in all.1
 
@@ -72,7 +73,7 @@ behind_claims i a w r is good = let all : Good (atom a w r) = subst Good is good
 
 -- Expressions.
 
--- an expression in front, and what stands behind it
+-- a first tree that is an expression, and the trees after it
 record ExprFirst (m : List (List ℕ)) (f : Forest) (e : Expr × List Seen) : Type 0 where
   behind : e.1 ≡ seen (tail f)
   fit : (g : Sketch) → Fits (tail f) g → Fits f (expr_forms e.0 g)
@@ -83,7 +84,7 @@ record ListExpr (m : List (List ℕ)) (at : ℕ) (i : Forest) (e : Expr) : Type 
   fit : (r : Forest) (g : Sketch) → Fits r g → Fits (list at i r) (expr_forms e g)
   spelled : Spelled m e
 
-count_is : (es : List Expr) → how_many (exprs es) ≡ length es
+count_is : (es : List Expr) → operand_count (exprs es) ≡ length es
 count_is [] = refl
 count_is (e ∷ es) = ap suc (count_is es)
 
@@ -200,7 +201,7 @@ pairs_claim (list at i f) good m ks h =
     let one = pair_found m i k.0 good.1 k.1 in
     subst (λ (l : List Named). Fits (list at i f) (pairs_forms l) × SpelledPairs m l) rest.2 ((at, i, f, refl, tt, one.fits, all.0), (one.good, one.spelled, all.1))
 
--- a list of pairs in front
+-- a first tree that is a list of pairs
 record PairsFirst (m : List (List ℕ)) (f : Forest) (k : List Named × List Seen) : Type 0 where
   at : ℕ
   inner : Forest
@@ -227,20 +228,20 @@ pairs_next m f rs k good is h = pairs_found m f k good (ap (pairs_of m) (sym is)
 
 -- Statements.
 
--- statements behind what was read
-body_next : (m : Known) (k : ℕ) (f : Forest) (rs : List Seen) (b : List Stmt × ℕ) → Claims f → rs ≡ seen f → stmts_of m k rs ≡ Some b → BodyFits m k f b
+-- statements after the parsed trees
+body_next : (m : KnownNames) (k : ℕ) (f : Forest) (rs : List Seen) (b : List Stmt × ℕ) → Claims f → rs ≡ seen f → stmts_of m k rs ≡ Some b → BodyFits m k f b
 body_next m k f rs b claims is h = claims.stmts_fit m k b (ap (stmts_of m k) (sym is) ∙ h)
 
 -- a list that is a statement
-record StmtFits (m : Known) (k at : ℕ) (i : Forest) (t : Stmt × ℕ) : Type 0 where
+record StmtFits (m : KnownNames) (k at : ℕ) (i : Forest) (t : Stmt × ℕ) : Type 0 where
   fit : (r : Forest) (g : Sketch) → Fits r g → Fits (list at i r) (stmt_forms t.0 g)
   spelled : SpelledStmt m k t.0
-  next : t.1 ≡ after k t.0
+  next : t.1 ≡ site_after k t.0
 
-node_found : (m : Known) (k at : ℕ) (i : Forest) (t : Stmt × ℕ) (ss : List Seen) → Good i → Worded i (codes "node") ss → node_form m k at ss ≡ Some t → StmtFits m k at i t
-unfolding node_form
+node_found : (m : KnownNames) (k at : ℕ) (i : Forest) (t : Stmt × ℕ) (ss : List Seen) → Good i → Worded i (codes "node") ss → node_form m k at ss ≡ Some t → StmtFits m k at i t
 node_found m k at i t ss good w h =
-    let n = bind_some (name_of ss) _ t h in
+    let long = node_is m k at ss ∙ h in
+    let n = bind_some (name_of ss) _ t long in
     let x = name_next w.rest ss n.0 w.behind n.1 in
     let ns = bind_some (pairs_of m.states n.0.1) _ t n.2 in
     let l = pairs_next m.states x.rest n.0.1 ns.0 (behind_good w.rest _ _ x.rest x.is (behind_good i _ _ w.rest w.is good)) x.behind ns.1 in
@@ -252,7 +253,7 @@ node_found m k at i t ss good w h =
       next = body.next;
     })
 
-call_found : (m : Known) (k at : ℕ) (i : Forest) (t : Stmt × ℕ) (ss : List Seen) → Good i → Worded i (codes "call") ss → call_form m k at ss ≡ Some t → StmtFits m k at i t
+call_found : (m : KnownNames) (k at : ℕ) (i : Forest) (t : Stmt × ℕ) (ss : List Seen) → Good i → Worded i (codes "call") ss → call_form m k at ss ≡ Some t → StmtFits m k at i t
 unfolding call_form
 call_found m k at i t ss good w h =
     let n = bind_some (name_of ss) _ t h in
@@ -265,7 +266,7 @@ call_found m k at i t ss good w h =
       next = refl;
     })
 
-key_found : (m : Known) (k at : ℕ) (i : Forest) (t : Stmt × ℕ) (ss : List Seen) → Good i → Worded i (codes "key") ss → key_form m k at ss ≡ Some t → StmtFits m k at i t
+key_found : (m : KnownNames) (k at : ℕ) (i : Forest) (t : Stmt × ℕ) (ss : List Seen) → Good i → Worded i (codes "key") ss → key_form m k at ss ≡ Some t → StmtFits m k at i t
 unfolding key_form
 key_found m k at i t ss good w h =
     let inside = behind_good i _ _ w.rest w.is good in
@@ -279,8 +280,8 @@ key_found m k at i t ss good w h =
       next = body.next;
     })
 
--- a list of statements in front
-record BlockFirst (m : Known) (k : ℕ) (f : Forest) (b : (List Stmt × ℕ) × List Seen) : Type 0 where
+-- a first tree that is a list of statements
+record BlockFirst (m : KnownNames) (k : ℕ) (f : Forest) (b : (List Stmt × ℕ) × List Seen) : Type 0 where
   at : ℕ
   inner : Forest
   rest : Forest
@@ -289,7 +290,7 @@ record BlockFirst (m : Known) (k : ℕ) (f : Forest) (b : (List Stmt × ℕ) × 
   body : BodyFits m k inner b.0
   good : Good rest
 
-block_found : (m : Known) (k : ℕ) (f : Forest) (b : (List Stmt × ℕ) × List Seen) → Good f → block_of m k (seen f) ≡ Some b → BlockFirst m k f b
+block_found : (m : KnownNames) (k : ℕ) (f : Forest) (b : (List Stmt × ℕ) × List Seen) → Good f → block_of m k (seen f) ≡ Some b → BlockFirst m k f b
 block_found m k empty b good h = absurd (cc)
 block_found m k (atom at a f) b good h = absurd (cc)
 block_found m k (text at a f) b good h = absurd (cc)
@@ -298,10 +299,10 @@ block_found m k (list at i f) b good h =
     subst (λ (p : (List Stmt × ℕ) × List Seen). BlockFirst m k (list at i f) p) x.2
     (record { at = at; inner = i; rest = f; is = refl; behind = refl; body = good.0.stmts_fit m k x.0 x.1; good = good.3 })
 
-block_next : (m : Known) (k : ℕ) (f : Forest) (rs : List Seen) (b : (List Stmt × ℕ) × List Seen) → Good f → rs ≡ seen f → block_of m k rs ≡ Some b → BlockFirst m k f b
+block_next : (m : KnownNames) (k : ℕ) (f : Forest) (rs : List Seen) (b : (List Stmt × ℕ) × List Seen) → Good f → rs ≡ seen f → block_of m k rs ≡ Some b → BlockFirst m k f b
 block_next m k f rs b good is h = block_found m k f b good (ap (block_of m k) (sym is) ∙ h)
 
-if_found : (m : Known) (k at : ℕ) (i : Forest) (t : Stmt × ℕ) (ss : List Seen) → Good i → Worded i (codes "if") ss → if_form m k at ss ≡ Some t → StmtFits m k at i t
+if_found : (m : KnownNames) (k at : ℕ) (i : Forest) (t : Stmt × ℕ) (ss : List Seen) → Good i → Worded i (codes "if") ss → if_form m k at ss ≡ Some t → StmtFits m k at i t
 unfolding if_form
 if_found m k at i t ss good w h =
     let inside = behind_good i _ _ w.rest w.is good in
@@ -316,18 +317,18 @@ if_found m k at i t ss good w h =
     subst (λ (d : Stmt × ℕ). StmtFits m k at i d) c.1 (record {
       fit = λ r g y. (at, i, r, refl, refl, (w.at, w.rest, w.is, tt, first.fit _ (yes.at, yes.inner, yes.rest, yes.is, tt, yes.body.fits, (other.at, other.inner, other.rest, other.is, tt, other.body.fits, over))), y);
       spelled = (refl, first.spelled, yes.body.spelled, subst (λ (j : ℕ). SpelledStmts m j (stmts b.0.0.0)) yes.body.next other.body.spelled);
-      next = other.body.next ∙ ap (λ (j : ℕ). after_all j (stmts b.0.0.0)) yes.body.next;
+      next = other.body.next ∙ ap (λ (j : ℕ). site_after_all j (stmts b.0.0.0)) yes.body.next;
     })
 
 -- NAME EXPR STMT..
-record BindingFits (m : Known) (k : ℕ) (f : Forest) (n : Name) (e : Expr) (b : List Stmt × ℕ) : Type 0 where
+record BindingFits (m : KnownNames) (k : ℕ) (f : Forest) (n : Ident) (e : Expr) (b : List Stmt × ℕ) : Type 0 where
   fits : Fits f (name n (expr_forms e (stmts_forms (stmts b.0))))
   good : is_name n.text ≡ true
   spelled : Spelled m.states e
   body : SpelledStmts m (k + 1) (stmts b.0)
-  next : b.1 ≡ after_all (k + 1) (stmts b.0)
+  next : b.1 ≡ site_after_all (k + 1) (stmts b.0)
 
-binding_found : (m : Known) (k : ℕ) (f : Forest) (ss : List Seen) (n : Name × List Seen) (e : Expr × List Seen) (b : List Stmt × ℕ) → Good f → ss ≡ seen f
+binding_found : (m : KnownNames) (k : ℕ) (f : Forest) (ss : List Seen) (n : Ident × List Seen) (e : Expr × List Seen) (b : List Stmt × ℕ) → Good f → ss ≡ seen f
     → name_of ss ≡ Some n → expr_of m.states n.1 ≡ Some e → stmts_of m (k + 1) e.1 ≡ Some b → BindingFits m k f n.0 e.0 b
 binding_found m k f ss n e b good is hn he hb =
     let x = name_next f ss n is hn in
@@ -336,30 +337,30 @@ binding_found m k f ss n e b good is hn he hb =
     let body = body_next m (k + 1) (tail x.rest) e.1 b (tail_claims x.rest inside) first.behind hb in
     record { fits = (n.0.at, x.rest, x.is, refl, first.fit (stmts_forms (stmts b.0)) body.fits); good = x.good; spelled = first.spelled; body = body.spelled; next = body.next }
 
-for_found : (m : Known) (k at : ℕ) (i : Forest) (t : Stmt × ℕ) (ss : List Seen) → Good i → Worded i (codes "for") ss → for_form m k at ss ≡ Some t → StmtFits m k at i t
-unfolding for_form
+for_found : (m : KnownNames) (k at : ℕ) (i : Forest) (t : Stmt × ℕ) (ss : List Seen) → Good i → Worded i (codes "for") ss → for_form m k at ss ≡ Some t → StmtFits m k at i t
 for_found m k at i t ss good w h =
-    let n = bind_some (name_of ss) _ t h in
+    let long = for_is m k at ss ∙ h in
+    let n = bind_some (name_of ss) _ t long in
     let e = bind_some (expr_of m.states n.0.1) _ t n.2 in
     let b = bind_some (stmts_of m (k + 1) e.0.1) _ t e.2 in
     let all = binding_found m k w.rest ss n.0 e.0 b.0 (behind_good i _ _ w.rest w.is good) w.behind n.1 e.1 b.1 in
     subst (λ (d : Stmt × ℕ). StmtFits m k at i d) (inject b.2)
     (record { fit = λ r g y. (at, i, r, refl, refl, (w.at, w.rest, w.is, tt, all.fits), y); spelled = (refl, all.good, all.spelled, all.body); next = all.next })
 
-let_found : (m : Known) (k at : ℕ) (i : Forest) (t : Stmt × ℕ) (ss : List Seen) → Good i → Worded i (codes "let") ss → let_form m k at ss ≡ Some t → StmtFits m k at i t
-unfolding let_form
+let_found : (m : KnownNames) (k at : ℕ) (i : Forest) (t : Stmt × ℕ) (ss : List Seen) → Good i → Worded i (codes "let") ss → let_form m k at ss ≡ Some t → StmtFits m k at i t
 let_found m k at i t ss good w h =
-    let n = bind_some (name_of ss) _ t h in
+    let long = let_is m k at ss ∙ h in
+    let n = bind_some (name_of ss) _ t long in
     let e = bind_some (expr_of m.states n.0.1) _ t n.2 in
     let b = bind_some (stmts_of m (k + 1) e.0.1) _ t e.2 in
     let all = binding_found m k w.rest ss n.0 e.0 b.0 (behind_good i _ _ w.rest w.is good) w.behind n.1 e.1 b.1 in
     subst (λ (d : Stmt × ℕ). StmtFits m k at i d) (inject b.2)
     (record { fit = λ r g y. (at, i, r, refl, refl, (w.at, w.rest, w.is, tt, all.fits), y); spelled = (refl, all.good, all.spelled, all.body); next = all.next })
 
-remember_found : (m : Known) (k at : ℕ) (i : Forest) (t : Stmt × ℕ) (ss : List Seen) → Good i → Worded i (codes "remember") ss → remember_form m k at ss ≡ Some t → StmtFits m k at i t
-unfolding remember_form
+remember_found : (m : KnownNames) (k at : ℕ) (i : Forest) (t : Stmt × ℕ) (ss : List Seen) → Good i → Worded i (codes "remember") ss → remember_form m k at ss ≡ Some t → StmtFits m k at i t
 remember_found m k at i t ss good w h =
-    let n = bind_some (name_of ss) _ t h in
+    let long = remember_is m k at ss ∙ h in
+    let n = bind_some (name_of ss) _ t long in
     let x = name_next w.rest ss n.0 w.behind n.1 in
     let ks = bind_some (pairs_of m.states n.0.1) _ t n.2 in
     let l = pairs_next m.states x.rest n.0.1 ks.0 (behind_good w.rest _ _ x.rest x.is (behind_good i _ _ w.rest w.is good)) x.behind ks.1 in
@@ -378,7 +379,7 @@ pub either : {A B : Type 0} (C : Type 0) (o : Option A) (f : A → Option B) (ot
 either C None f other y h one two = two h
 either C (Some x) f other y h one two = one x refl h
 
-stmt_found : (m : Known) (k at : ℕ) (i : Forest) (t : Stmt × ℕ) → Good i → stmt_form m k at (seen i) ≡ Some t → StmtFits m k at i t
+stmt_found : (m : KnownNames) (k at : ℕ) (i : Forest) (t : Stmt × ℕ) → Good i → stmt_form m k at (seen i) ≡ Some t → StmtFits m k at i t
 unfolding stmt_form
 stmt_found m k at i t good h =
     let C = StmtFits m k at i t in
@@ -391,7 +392,7 @@ stmt_found m k at i t good h =
     either C (word_of (codes "remember") (seen i)) (remember_form m k at) None t h6 (λ ss w x. remember_found m k at i t ss good (word_found (codes "remember") i ss w) x) (λ h7.
     absurd (cc (h7)))))))))
 
-stmts_claim : (f : Forest) → Good f → (m : Known) (k : ℕ) (b : List Stmt × ℕ) → stmts_of m k (seen f) ≡ Some b → BodyFits m k f b
+stmts_claim : (f : Forest) → Good f → (m : KnownNames) (k : ℕ) (b : List Stmt × ℕ) → stmts_of m k (seen f) ≡ Some b → BodyFits m k f b
 unfolding stmts_of
 stmts_claim empty good m k b h = no_stmts m k b h
 stmts_claim (atom at a f) good m k b h = absurd (cc)
@@ -404,7 +405,7 @@ stmts_claim (list at i f) good m k b h =
     subst (λ (c : List Stmt × ℕ). BodyFits m k (list at i f) c) rest.2 (record {
       fits = one.fit f (stmts_forms (stmts rest.0.0)) all.fits;
       spelled = (one.spelled, subst (λ (j : ℕ). SpelledStmts m j (stmts rest.0.0)) one.next all.spelled);
-      next = all.next ∙ ap (λ (j : ℕ). after_all j (stmts rest.0.0)) one.next;
+      next = all.next ∙ ap (λ (j : ℕ). site_after_all j (stmts rest.0.0)) one.next;
     })
 
 claims : (f : Forest) → Good f → Claims f
@@ -416,6 +417,6 @@ all_good (atom at a f) = (claims f (all_good f), all_good f)
 all_good (text at a f) = (claims f (all_good f), all_good f)
 all_good (list at i f) = (claims i (all_good i), all_good i, claims f (all_good f), all_good f)
 
--- What is read as a body has its forms.
-pub body_found : (m : Known) (k : ℕ) (f : Forest) (rs : List Seen) (b : List Stmt × ℕ) → rs ≡ seen f → stmts_of m k rs ≡ Some b → BodyFits m k f b
+-- Trees that are parsed as a body have its forms.
+pub body_found : (m : KnownNames) (k : ℕ) (f : Forest) (rs : List Seen) (b : List Stmt × ℕ) → rs ≡ seen f → stmts_of m k rs ≡ Some b → BodyFits m k f b
 body_found m k f rs b is h = body_next m k f rs b (claims f (all_good f)) is h

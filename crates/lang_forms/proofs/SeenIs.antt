@@ -1,11 +1,11 @@
--- What trees in memory can be read as, through their forest.
+-- The views of trees in memory, through their forest.
 use Rattle.std.proofs.Common.{◌≡◌, List, [], ◌∷◌, ◌++◌, map, refl, sym, subst, ap, ◌∙◌}
 use Rattle.sexp_text.specs.Forest.{Forest, empty, atom, text, list, behind}
-use Rattle.sexp_text.specs.View.{joined, tree_view, view_step, forest_view}
+use Rattle.sexp_text.specs.View.{forest_concat, tree_view, view_step, forest_view}
 use Rattle.sexp_text.specs.declared.tree.Tree.{Tree}
 use Rattle.sexp_text.specs.declared.tree.Tree.TheOpen.{Tree-F}
 use Rattle.sexp_text.specs.declared.tree.Tree.TheFolds.{fold-roll-Tree, map-Tree, ind-Tree}
-use Rattle.lang_forms.specs.Seen.{Seen, seen, word, chars, form, roles}
+use Rattle.lang_forms.specs.Readings.{Seen, seen, word, chars, form, roles}
 use Rattle.lang_forms.specs.Views.{seen_tree, seen_step, seen_all}
 
 pub seen-behind : (f g : Forest) → seen (behind f g) ≡ seen f ++ seen g
@@ -17,10 +17,10 @@ seen-behind (list at i f) g = ap (λ l. form at (roles at (seen i)) ∷ l) (seen
 abbrev One : Tree → Type 0
 One t = seen (tree_view t) ≡ seen_tree t ∷ []
 
--- trees, each with a proof beside it
-rows : (ts : List ((t : Tree) × One t)) → seen (joined (map tree_view (map (λ e. e.0) ts))) ≡ map seen_tree (map (λ e. e.0) ts)
+-- trees, each with its proof
+rows : (ts : List ((t : Tree) × One t)) → seen (forest_concat (map tree_view (map (λ e. e.0) ts))) ≡ map seen_tree (map (λ e. e.0) ts)
 rows [] = refl
-rows (e ∷ ts) = seen-behind (tree_view e.0) _ ∙ ap (λ l. l ++ seen (joined (map tree_view (map (λ e. e.0) ts)))) e.1 ∙ ap (λ l. seen_tree e.0 ∷ l) (rows ts)
+rows (e ∷ ts) = seen-behind (tree_view e.0) _ ∙ ap (λ l. l ++ seen (forest_concat (map tree_view (map (λ e. e.0) ts)))) e.1 ∙ ap (λ l. seen_tree e.0 ∷ l) (rows ts)
 
 abbrev Proved : Type 0
 Proved = (t : Tree) × One t

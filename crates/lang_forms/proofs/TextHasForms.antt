@@ -1,4 +1,4 @@
--- What is read as a text has its forms.
+-- Trees that are parsed as a text have its forms.
 use Rattle.std.proofs.Common.{◌≡◌, ℕ, List, [], ◌∷◌, ◌++◌, map, Option, Some, None, Result, Ok, Err, Bool, true, false, true≢false, cond, refl, sym, ap, ◌∙◌, subst, codes, ◌&&◌}
 use Rattle.std.specs.Option.{option_map}
 use Rattle.std.proofs.lemmas.Bool.{and_parts}
@@ -8,15 +8,15 @@ use Rattle.sexp_text.specs.Forest.{Forest, empty, atom, text, list}
 use Rattle.lang_ast.specs.Terms.{Func}
 use Rattle.lang_ast.specs.declared.syntax.Parameter.{Parameter}
 use Rattle.lang_ast.specs.declared.program.State.{State}
-use Rattle.lang_forms.specs.declared.rest.StepForm.{StepForm}
-use Rattle.lang_forms.specs.declared.rest.StepForm.TheVariants.{Write, Frame}
-use Rattle.lang_forms.specs.declared.rest.DoForm.{DoForm}
+use Rattle.lang_forms.specs.declared.script_forms.StepForm.{StepForm}
+use Rattle.lang_forms.specs.declared.script_forms.StepForm.TheVariants.{Write, Frame}
+use Rattle.lang_forms.specs.declared.script_forms.DoForm.{DoForm}
 use Rattle.lang_forms.specs.Names.{is_name, number_of}
 use Rattle.lang_forms.specs.Sketch.{Sketch, nothing, Fits}
 use Rattle.lang_forms.specs.Sources.{Source}
-use Rattle.lang_forms.specs.Forms.{is_of_actor, AreOfActor, parameters_forms, state_forms, function_forms, do_forms, steps_forms, top_forms, Known, after_all, state_name, function_name, literal_fits, SpelledStmts, SpelledParameters, SpelledStates, SpelledFunctions, SpelledSteps, SpelledScripts, HasForms}
-use Rattle.lang_forms.specs.Seen.{when, Top, StateTop, FunctionTop, DoTop, Seen, seen, is_end, word_of, name_of, type_of, literal_of, step_form, write_form, steps_of, parameter_form, parameters_form, parameters_of, stmts_of, state_form, function_form, do_form, top_form, header_form, is_there}
-use Rattle.lang_forms.specs.Tops.{Front, known, source, is_none, placed, followed, tops_of, text_of, start, source_of, sourced}
+use Rattle.lang_forms.specs.Forms.{is_of_actor, AreOfActor, parameters_forms, state_forms, function_forms, do_forms, steps_forms, top_forms, KnownNames, site_after_all, state_name, function_name, literal_fits, SpelledStmts, SpelledParameters, SpelledStates, SpelledFunctions, SpelledSteps, SpelledScripts, HasForms}
+use Rattle.lang_forms.specs.Readings.{when, Top, StateTop, FunctionTop, DoTop, Seen, seen, is_end, word_of, name_of, type_of, literal_of, step_form, write_form, steps_of, parameter_form, parameters_form, parameters_of, stmts_of, state_form, function_form, do_form, top_form, header_form, is_there}
+use Rattle.lang_forms.specs.TextReading.{PartialSource, known, source, is_none, source_with_form, source_with_rest, tops_of, text_of, start, source_of, source_or_offset}
 use Rattle.lang_forms.proofs.Found.{inject, bind_some, map_some, Worded, word_found, word_next, name_next, type_next, literal_next, end_next, tail}
 use Rattle.lang_forms.proofs.ReadHasForms.{either, body_found}
 
@@ -52,7 +52,7 @@ parameters_found (list at i f) ps h =
     let one = parameter_found i p.0 p.1 in
     subst (λ (l : List Parameter). Fits (list at i f) (parameters_forms l) × SpelledParameters l) rest.2 (one.fits at f rest.0 all.0, (one.good, all.1))
 
--- a list of parameters in front
+-- a first tree that is a list of parameters
 record ParametersFirst (f : Forest) (ps : List Parameter × List Seen) : Type 0 where
   at : ℕ
   inner : Forest
@@ -72,7 +72,7 @@ parameters_first (list at i f) ps h =
     subst (λ (p : List Parameter × List Seen). ParametersFirst (list at i f) p) x.2
     (record { at = at; inner = i; rest = f; is = refl; behind = refl; fits = all.0; spelled = all.1 })
 
--- a step with those behind it
+-- a step, and those after it
 record StepFits (m : List (List ℕ)) (at : ℕ) (i : Forest) (t : StepForm) : Type 0 where
   fits : (f : Forest) (ts : List StepForm) → Fits f (steps_forms ts) → Fits (list at i f) (steps_forms (t ∷ ts))
   spelled : (ts : List StepForm) → SpelledSteps m ts → SpelledSteps m (t ∷ ts)
@@ -121,17 +121,17 @@ steps_found m (list at i f) ts h =
 
 -- Top forms.
 
--- what is said of a state, a function and a script with the number of the next statement
-abbrev TopFits : Known → ℕ → ℕ → Forest → Top → ℕ → Type 0
+-- the forms of a state, a function and a script, with the number of the next statement
+abbrev TopFits : KnownNames → ℕ → ℕ → Forest → Top → ℕ → Type 0
 TopFits m k at i (StateTop s) x = ((f : Forest) (g : Sketch) → Fits f g → Fits (list at i f) (state_forms s g)) × (is_name s.name.text ≡ true) × (literal_fits s.initial ≡ true) × (x ≡ k)
 TopFits m k at i (FunctionTop c) x =
-    ((f : Forest) (g : Sketch) → Fits f g → Fits (list at i f) (function_forms c g)) × (is_name c.name.text ≡ true) × SpelledParameters c.parameters × SpelledStmts m k c.body × (x ≡ after_all k c.body)
+    ((f : Forest) (g : Sketch) → Fits f g → Fits (list at i f) (function_forms c g)) × (is_name c.name.text ≡ true) × SpelledParameters c.parameters × SpelledStmts m k c.body × (x ≡ site_after_all k c.body)
 TopFits m k at i (DoTop d) x = ((f : Forest) (g : Sketch) → Fits f g → Fits (list at i f) (do_forms d g)) × (is_name d.actor.text ≡ true) × SpelledSteps m.states d.steps × (x ≡ k)
 
-abbrev Topped : Known → ℕ → ℕ → Forest → Top × ℕ → Type 0
+abbrev Topped : KnownNames → ℕ → ℕ → Forest → Top × ℕ → Type 0
 Topped m k at i t = TopFits m k at i t.0 t.1
 
-state_found : (m : Known) (k at : ℕ) (i : Forest) (s : State) (ss : List Seen) → Worded i (codes "state") ss → state_form at ss ≡ Some s → TopFits m k at i (StateTop s) k
+state_found : (m : KnownNames) (k at : ℕ) (i : Forest) (s : State) (ss : List Seen) → Worded i (codes "state") ss → state_form at ss ≡ Some s → TopFits m k at i (StateTop s) k
 unfolding state_form
 state_found m k at i s ss w h =
     let n = bind_some (name_of ss) _ s h in
@@ -148,7 +148,7 @@ state_found m k at i s ss w h =
     subst (λ (q : State). TopFits m k at i (StateTop q) k) c.1
     ((λ f g rest. (at, i, f, refl, refl, (w.at, w.rest, w.is, tt, (n.0.0.at, x.rest, x.is, refl, (y.at, y.rest, y.is, tt, (p.at, p.rest, p.is, tt, z.fit nothing over)))), rest)), x.good, z.whole, refl)
 
-function_found : (m : Known) (k at : ℕ) (i : Forest) (c : Func × ℕ) (ss : List Seen) → Worded i (codes "fun") ss → function_form m k at ss ≡ Some c → TopFits m k at i (FunctionTop c.0) c.1
+function_found : (m : KnownNames) (k at : ℕ) (i : Forest) (c : Func × ℕ) (ss : List Seen) → Worded i (codes "fun") ss → function_form m k at ss ≡ Some c → TopFits m k at i (FunctionTop c.0) c.1
 unfolding function_form
 function_found m k at i c ss w h =
     let n = bind_some (name_of ss) _ c h in
@@ -160,7 +160,7 @@ function_found m k at i c ss w h =
     subst (λ (q : Func × ℕ). TopFits m k at i (FunctionTop q.0) q.1) (inject b.2)
     ((λ f g rest. (at, i, f, refl, refl, (w.at, w.rest, w.is, tt, (n.0.0.at, x.rest, x.is, refl, (l.at, l.inner, l.rest, l.is, tt, l.fits, body.fits))), rest)), x.good, l.spelled, body.spelled, body.next)
 
-do_found : (m : Known) (k at : ℕ) (i : Forest) (d : DoForm) (ss : List Seen) → Worded i (codes "do") ss → do_form m.states at ss ≡ Some d → TopFits m k at i (DoTop d) k
+do_found : (m : KnownNames) (k at : ℕ) (i : Forest) (d : DoForm) (ss : List Seen) → Worded i (codes "do") ss → do_form m.states at ss ≡ Some d → TopFits m k at i (DoTop d) k
 unfolding do_form
 do_found m k at i d ss w h =
     let n = bind_some (name_of ss) _ d h in
@@ -170,7 +170,7 @@ do_found m k at i d ss w h =
     subst (λ (q : DoForm). TopFits m k at i (DoTop q) k) (inject ts.2)
     ((λ f g rest. (at, i, f, refl, refl, (w.at, w.rest, w.is, tt, (n.0.0.at, x.rest, x.is, refl, all.0)), rest)), x.good, all.1, refl)
 
-top_found : (m : Known) (k at : ℕ) (i : Forest) (t : Top × ℕ) → top_form m k at (seen i) ≡ Some t → Topped m k at i t
+top_found : (m : KnownNames) (k at : ℕ) (i : Forest) (t : Top × ℕ) → top_form m k at (seen i) ≡ Some t → Topped m k at i t
 unfolding top_form
 top_found m k at i t h =
     let C = Topped m k at i t in
@@ -182,10 +182,10 @@ top_found m k at i t h =
     (λ ss w x. let d = map_some (do_form m.states at ss) (λ (d : DoForm). (DoTop d, k)) t x in subst (Topped m k at i) d.2 (do_found m k at i d.0 ss (word_found (codes "do") i ss w) d.1))
     (λ h3. absurd (cc (h3)))))
 
--- The top forms behind what was read.
+-- The top forms after the parsed ones.
 
--- what stands in the trees that lead from p to q
-record Leads (f : Forest) (p q : Front) : Type 0 where
+-- the forms of the trees that lead from p to q
+record Leads (f : Forest) (p q : PartialSource) : Type 0 where
   states : List State
   functions : List Func
   script : List DoForm
@@ -201,8 +201,8 @@ record Leads (f : Forest) (p q : Front) : Type 0 where
   no_states : is_none p.functions && is_none p.script ≡ false → states ≡ []
   no_functions : is_none p.script ≡ false → functions ≡ []
 
-nothing_more : (p q : Front) → p ≡ q → Leads empty p q
-nothing_more p q is = subst (λ (x : Front). Leads empty p x) is (record {
+nothing_more : (p q : PartialSource) → p ≡ q → Leads empty p q
+nothing_more p q is = subst (λ (x : PartialSource). Leads empty p x) is (record {
   states = [];
   functions = [];
   script = [];
@@ -230,13 +230,13 @@ no_more b c x y h = true≢false (sym (and_true b c x y) ∙ h)
     and_true true c x y = y
     and_true false c x y = absurd (cc)
 
--- a state, and what stands behind it
-state_leads : (at : ℕ) (i f : Forest) (p q r : Front) (s : State) (k : ℕ) → TopFits (known p) p.site at i (StateTop s) k → placed p (StateTop s) k ≡ Some r → Leads f r q → Leads (list at i f) p q
+-- a state, and the trees after it
+state_leads : (at : ℕ) (i f : Forest) (p q r : PartialSource) (s : State) (k : ℕ) → TopFits (known p) p.site at i (StateTop s) k → source_with_form p (StateTop s) k ≡ Some r → Leads f r q → Leads (list at i f) p q
 state_leads at i f p q r s k top put more =
-    let made : Front = record { header = p.header; states = p.states ++ s ∷ []; functions = p.functions; script = p.script; site = k } in
+    let made : PartialSource = record { header = p.header; states = p.states ++ s ∷ []; functions = p.functions; script = p.script; site = k } in
     let c = cond_some (is_none p.functions && is_none p.script) made r put in
     let early = and_parts (is_none p.functions) (is_none p.script) c.0 in
-    let rest : Leads f made q = subst (λ (x : Front). Leads f x q) (sym c.1) more in
+    let rest : Leads f made q = subst (λ (x : PartialSource). Leads f x q) (sym c.1) more in
     record {
       states = s ∷ rest.states;
       functions = rest.functions;
@@ -254,17 +254,17 @@ state_leads at i f p q r s k top put more =
       no_functions = rest.no_functions;
     }
 
--- a function, and what stands behind it
-function_leads : (at : ℕ) (i f : Forest) (p q r : Front) (c : Func) (k : ℕ) → TopFits (known p) p.site at i (FunctionTop c) k → placed p (FunctionTop c) k ≡ Some r → Leads f r q → Leads (list at i f) p q
+-- a function, and the trees after it
+function_leads : (at : ℕ) (i f : Forest) (p q r : PartialSource) (c : Func) (k : ℕ) → TopFits (known p) p.site at i (FunctionTop c) k → source_with_form p (FunctionTop c) k ≡ Some r → Leads f r q → Leads (list at i f) p q
 function_leads at i f p q r c k top put more =
-    let made : Front = record { header = p.header; states = p.states; functions = p.functions ++ c ∷ []; script = p.script; site = k } in
+    let made : PartialSource = record { header = p.header; states = p.states; functions = p.functions ++ c ∷ []; script = p.script; site = k } in
     let t = cond_some (is_none p.script) made r put in
-    let rest : Leads f made q = subst (λ (x : Front). Leads f x q) (sym t.1) more in
+    let rest : Leads f made q = subst (λ (x : PartialSource). Leads f x q) (sym t.1) more in
     let alone : rest.states ≡ [] = rest.no_states (ap (λ (b : Bool). b && is_none p.script) (some_there p.functions c)) in
     let same_states : p.states ≡ q.states = sym (append-nil p.states) ∙ ap (λ (l : List State). p.states ++ l) (sym alone) ∙ rest.all_states in
-    let m : Known = record { states = map state_name q.states; functions = map function_name p.functions } in
+    let m : KnownNames = record { states = map state_name q.states; functions = map function_name p.functions } in
     let body : SpelledStmts m p.site c.body = subst (λ (l : List State). SpelledStmts (record { states = map state_name l; functions = map function_name p.functions }) p.site c.body) same_states top.3 in
-    let behind : SpelledFunctions (record { states = map state_name q.states; functions = map function_name p.functions ++ function_name c ∷ [] }) (after_all p.site c.body) rest.functions =
+    let behind : SpelledFunctions (record { states = map state_name q.states; functions = map function_name p.functions ++ function_name c ∷ [] }) (site_after_all p.site c.body) rest.functions =
     subst (λ (j : ℕ). SpelledFunctions (record { states = map state_name q.states; functions = map function_name p.functions ++ function_name c ∷ [] }) j rest.functions) top.4
     (subst (λ (ns : List (List ℕ)). SpelledFunctions (record { states = map state_name q.states; functions = ns }) k rest.functions) (map-append function_name p.functions (c ∷ [])) rest.good_functions) in
     record {
@@ -284,12 +284,12 @@ function_leads at i f p q r c k top put more =
       no_functions = λ h. absurd (true≢false (sym t.0 ∙ h));
     }
 
--- a script, and what stands behind it
-do_leads : (at : ℕ) (i f : Forest) (p q r : Front) (d : DoForm) (k : ℕ) → TopFits (known p) p.site at i (DoTop d) k → placed p (DoTop d) k ≡ Some r → Leads f r q → Leads (list at i f) p q
+-- a script, and the trees after it
+do_leads : (at : ℕ) (i f : Forest) (p q r : PartialSource) (d : DoForm) (k : ℕ) → TopFits (known p) p.site at i (DoTop d) k → source_with_form p (DoTop d) k ≡ Some r → Leads f r q → Leads (list at i f) p q
 do_leads at i f p q r d k top put more =
-    let made : Front = record { header = p.header; states = p.states; functions = p.functions; script = p.script ++ d ∷ []; site = k } in
+    let made : PartialSource = record { header = p.header; states = p.states; functions = p.functions; script = p.script ++ d ∷ []; site = k } in
     let t = cond_some (is_of_actor p.script d) made r put in
-    let rest : Leads f made q = subst (λ (x : Front). Leads f x q) (sym t.1) more in
+    let rest : Leads f made q = subst (λ (x : PartialSource). Leads f x q) (sym t.1) more in
     let late : is_none (p.script ++ d ∷ []) ≡ false = some_there p.script d in
     let no_states : rest.states ≡ [] = rest.no_states (and_false (is_none p.functions) _ late) in
     let no_functions : rest.functions ≡ [] = rest.no_functions late in
@@ -318,12 +318,12 @@ do_leads at i f p q r d k top put more =
     and_false true c h = h
     and_false false c h = refl
 
-top_leads : (at : ℕ) (i f : Forest) (p q r : Front) (t : Top) (k : ℕ) → TopFits (known p) p.site at i t k → placed p t k ≡ Some r → Leads f r q → Leads (list at i f) p q
+top_leads : (at : ℕ) (i f : Forest) (p q r : PartialSource) (t : Top) (k : ℕ) → TopFits (known p) p.site at i t k → source_with_form p t k ≡ Some r → Leads f r q → Leads (list at i f) p q
 top_leads at i f p q r (StateTop s) k top put more = state_leads at i f p q r s k top put more
 top_leads at i f p q r (FunctionTop c) k top put more = function_leads at i f p q r c k top put more
 top_leads at i f p q r (DoTop d) k top put more = do_leads at i f p q r d k top put more
 
-followed_ok : (at : ℕ) (o : Option Front) (go : Front → Result Front ℕ) (q : Front) → followed at o go ≡ Ok q → (r : Front) × (o ≡ Some r) × (go r ≡ Ok q)
+followed_ok : (at : ℕ) (o : Option PartialSource) (go : PartialSource → Result PartialSource ℕ) (q : PartialSource) → source_with_rest at o go ≡ Ok q → (r : PartialSource) × (o ≡ Some r) × (go r ≡ Ok q)
 followed_ok at None go q h = absurd (cc)
 followed_ok at (Some r) go q h = (r, refl, h)
 
@@ -333,14 +333,14 @@ good a = Ok a
 pub ok_same : {A : Type 0} (a b : A) → good a ≡ good b → a ≡ b
 ok_same a b h = cc
 
-tops_found : (f : Forest) (p q : Front) → tops_of p (seen f) ≡ Ok q → Leads f p q
+tops_found : (f : Forest) (p q : PartialSource) → tops_of p (seen f) ≡ Ok q → Leads f p q
 unfolding tops_of
 tops_found empty p q h = nothing_more p q (ok_same p q h)
 tops_found (atom at a f) p q h = absurd (cc)
 tops_found (text at s f) p q h = absurd (cc)
 tops_found (list at i f) p q h =
     let r = followed_ok at _ (λ x. tops_of x (seen f)) q h in
-    let t = bind_some (top_form (known p) p.site at (seen i)) (λ x. placed p x.0 x.1) r.0 r.1 in
+    let t = bind_some (top_form (known p) p.site at (seen i)) (λ x. source_with_form p x.0 x.1) r.0 r.1 in
     top_leads at i f p q r.0 t.0.0 t.0.1 (top_found (known p) p.site at i t.0 t.1) t.2 (tops_found f r.0 q r.2)
 
 -- compose 1
@@ -365,7 +365,7 @@ header_found i h = by (header_form (seen i)) refl h
         let d = cond_some (is_end o.0) o.0 ss o.2 in
         record { at = w.at; rest = w.rest; is = w.is; one = v.at; one_is = v.is ∙ ap (atom v.at (codes "1")) (end_next v.rest o.0 v.behind d.0) }
 
-whole : (at : ℕ) (i f : Forest) (q : Front) → Headed i → Leads f (start at) q → HasForms (list at i f) (source q)
+whole : (at : ℕ) (i f : Forest) (q : PartialSource) → Headed i → Leads f (start at) q → HasForms (list at i f) (source q)
 whole at i f q head all =
     let t : Source = record { program = record { header = at; states = all.states; functions = all.functions }; script = all.script } in
     let is : source q ≡ t = rw (all.header, ← all.all_states, ← all.all_functions, ← all.all_script) in
@@ -379,7 +379,7 @@ whole at i f q head all =
       };
     })
 
-text_found : (end : ℕ) (f : Forest) (q : Front) → text_of end (seen f) ≡ Ok q → HasForms f (source q)
+text_found : (end : ℕ) (f : Forest) (q : PartialSource) → text_of end (seen f) ≡ Ok q → HasForms f (source q)
 unfolding text_of
 text_found end empty q h = absurd (cc)
 text_found end (atom at a f) q h = absurd (cc)
@@ -390,10 +390,10 @@ text_found end (list at i f) q h = by (is_there (header_form (seen i))) refl h
     by true e k = whole at i f q (header_found i e) (tops_found f (start at) q k)
     by false e k = absurd (cc)
 
--- What is read as a text has its forms.
+-- Trees that are parsed as a text have its forms.
 pub source_found : (end : ℕ) (f : Forest) (t : Source) → source_of end (seen f) ≡ Ok t → HasForms f t
 source_found end f t h = by (text_of end (seen f)) refl h
   where
-    by : (r : Result Front ℕ) → text_of end (seen f) ≡ r → sourced r ≡ Ok t → HasForms f t
+    by : (r : Result PartialSource ℕ) → text_of end (seen f) ≡ r → source_or_offset r ≡ Ok t → HasForms f t
     by (Ok q) e k = subst (HasForms f) (ok_same (source q) t k) (text_found end f q e)
     by (Err at) e k = absurd (cc)

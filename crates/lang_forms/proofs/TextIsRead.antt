@@ -1,23 +1,23 @@
--- What has the forms of a text is read as it.
+-- Trees with the forms of a text are parsed as it.
 use Rattle.std.proofs.Common.{Bool, true, ◌≡◌, ℕ, List, [], ◌∷◌, ◌++◌, map, Some, Ok, refl, sym, ap, ◌∙◌, subst, codes}
 use Rattle.std.proofs.lemmas.List.{append-nil, append_assoc, map-append}
 use Rattle.sexp_text.specs.Forest.{Forest, empty, atom, list}
 use Rattle.rt_values.specs.declared.value.Value.{Value}
 use Rattle.lang_ast.specs.Terms.{Func}
-use Rattle.lang_ast.specs.declared.syntax.Name.{Name}
+use Rattle.lang_ast.specs.declared.syntax.Ident.{Ident}
 use Rattle.lang_ast.specs.declared.syntax.Parameter.{Parameter}
 use Rattle.lang_ast.specs.declared.program.State.{State}
-use Rattle.lang_forms.specs.declared.rest.StepForm.{StepForm}
-use Rattle.lang_forms.specs.declared.rest.StepForm.TheVariants.{Write, Frame}
-use Rattle.lang_forms.specs.declared.rest.DoForm.{DoForm}
+use Rattle.lang_forms.specs.declared.script_forms.StepForm.{StepForm}
+use Rattle.lang_forms.specs.declared.script_forms.StepForm.TheVariants.{Write, Frame}
+use Rattle.lang_forms.specs.declared.script_forms.DoForm.{DoForm}
 use Rattle.lang_forms.specs.Names.{is_name, number_of}
 use Rattle.lang_forms.specs.Words.{type_word}
 use Rattle.lang_forms.specs.Sketch.{Sketch, nothing, Fits}
 use Rattle.lang_forms.specs.Sources.{Source}
-use Rattle.lang_forms.specs.Forms.{parameters_forms, steps_forms, states_forms, functions_forms, scripts_forms, Known, after_all, state_name, function_name, SpelledParameters, SpelledStates, SpelledFunctions, SpelledSteps, SpelledScripts, AreOfActor, HasForms}
-use Rattle.lang_forms.specs.Seen.{when, Top, StateTop, FunctionTop, DoTop, seen, word_of, literal_at, step_form, write_form, steps_of, parameter_form, parameters_form, state_form, function_form, do_form, top_form, header_form}
-use Rattle.lang_forms.specs.Tops.{Front, known, placed, tops_of, text_of, start, source_of, sourced}
-use Rattle.lang_forms.proofs.FormsAreRead.{First, ReadsBody, name_there, type_there, literal_read, literal_there, stmts_read, headed}
+use Rattle.lang_forms.specs.Forms.{parameters_forms, steps_forms, states_forms, functions_forms, scripts_forms, KnownNames, site_after_all, state_name, function_name, SpelledParameters, SpelledStates, SpelledFunctions, SpelledSteps, SpelledScripts, AreOfActor, HasForms}
+use Rattle.lang_forms.specs.Readings.{when, Top, StateTop, FunctionTop, DoTop, seen, word_of, literal_at, step_form, write_form, steps_of, parameter_form, parameters_form, state_form, function_form, do_form, top_form, header_form}
+use Rattle.lang_forms.specs.TextReading.{PartialSource, known, source_with_form, tops_of, text_of, start, source_of, source_or_offset}
+use Rattle.lang_forms.proofs.FormsAreRead.{First, ReadsBody, name_there, type_there, literal_read, literal_there, stmts_read, list_with_word}
 
 -- Parameters, states, functions and scripts.
 
@@ -41,22 +41,22 @@ state_inside : (b c : ℕ) (s : State) (f : Forest) → is_name s.name.text ≡ 
 unfolding state_form word_of
 state_inside b c s f h one = rw (name_there s.name _ h, type_there s.ty b _, literal_there s.initial f nothing one, one.behind)
 
-state_read : (m : Known) (k a b c : ℕ) (s : State) (f : Forest) → is_name s.name.text ≡ true → First f literal_at s.initial nothing →
+state_read : (m : KnownNames) (k a b c : ℕ) (s : State) (f : Forest) → is_name s.name.text ≡ true → First f literal_at s.initial nothing →
     top_form m k s.at (seen (atom a (codes "state") (atom s.name.at s.name.text (atom b (type_word s.ty) (atom c (codes "Structural") f))))) ≡ Some (StateTop s, k)
 unfolding top_form word_of
 state_read m k a b c s f h one = rw (state_inside b c s f h one)
 
-function_inside : (m : Known) (k q : ℕ) (c : Func) (i f : Forest) → is_name c.name.text ≡ true → parameters_form (seen i) ≡ Some c.parameters → ReadsBody m k f c.body →
-    function_form m k c.at (seen (atom c.name.at c.name.text (list q i f))) ≡ Some (c, after_all k c.body)
+function_inside : (m : KnownNames) (k q : ℕ) (c : Func) (i f : Forest) → is_name c.name.text ≡ true → parameters_form (seen i) ≡ Some c.parameters → ReadsBody m k f c.body →
+    function_form m k c.at (seen (atom c.name.at c.name.text (list q i f))) ≡ Some (c, site_after_all k c.body)
 unfolding function_form
 function_inside m k q c i f h ps r = rw (name_there c.name _ h, ps, r.read, r.is)
 
-function_read : (m : Known) (k a q : ℕ) (c : Func) (i f : Forest) → is_name c.name.text ≡ true → parameters_form (seen i) ≡ Some c.parameters → ReadsBody m k f c.body →
-    top_form m k c.at (seen (atom a (codes "fun") (atom c.name.at c.name.text (list q i f)))) ≡ Some (FunctionTop c, after_all k c.body)
+function_read : (m : KnownNames) (k a q : ℕ) (c : Func) (i f : Forest) → is_name c.name.text ≡ true → parameters_form (seen i) ≡ Some c.parameters → ReadsBody m k f c.body →
+    top_form m k c.at (seen (atom a (codes "fun") (atom c.name.at c.name.text (list q i f)))) ≡ Some (FunctionTop c, site_after_all k c.body)
 unfolding top_form word_of
 function_read m k a q c i f h ps r = rw (function_inside m k q c i f h ps r)
 
-write_read : (m : List (List ℕ)) (at a b : ℕ) (n : Name) (v : Value) (f : Forest) → is_name n.text ≡ true → First f literal_at v nothing →
+write_read : (m : List (List ℕ)) (at a b : ℕ) (n : Ident) (v : Value) (f : Forest) → is_name n.text ≡ true → First f literal_at v nothing →
     step_form m at (seen (atom a (codes "write") (atom b (codes "global") (atom n.at n.text f)))) ≡ Some (Write at n (number_of n.text m) v)
 unfolding step_form write_form word_of
 write_read m at a b n v f h one = rw (name_there n f h, literal_there v f nothing one, one.behind)
@@ -73,7 +73,7 @@ steps_read m (Write at n number v ∷ ss) f s h =
     let g = w.4 in
     let x = g.4 in
     let one = literal_read v x.1 nothing s.2 x.4 in
-    let is : h.1 ≡ atom w.0 (codes "write") (atom g.0 (codes "global") (atom n.at n.text x.1)) = w.2 ∙ ap (atom w.0 (codes "write")) (headed w.1 g.1 x.1 g.0 x.0 (codes "global") n g.2 x.2 x.3) in
+    let is : h.1 ≡ atom w.0 (codes "write") (atom g.0 (codes "global") (atom n.at n.text x.1)) = w.2 ∙ ap (atom w.0 (codes "write")) (list_with_word w.1 g.1 x.1 g.0 x.0 (codes "global") n g.2 x.2 x.3) in
     let read : step_form m h.0 (seen h.1) ≡ Some (Write at n number v) =
     ap (λ (i : Forest). step_form m h.0 (seen i)) is ∙ ap (λ (q : ℕ). step_form m q (seen (atom w.0 (codes "write") (atom g.0 (codes "global") (atom n.at n.text x.1))))) h.4
     ∙ write_read m at w.0 g.0 n v x.1 s.0 one ∙ ap (λ (c : ℕ). Some (Write at n c v)) (sym s.1) in
@@ -89,29 +89,29 @@ do_inside : (m : List (List ℕ)) (d : DoForm) (f : Forest) → is_name d.actor.
 unfolding do_form
 do_inside m d f h r = rw (name_there d.actor _ h, r)
 
-do_read : (m : Known) (k a : ℕ) (d : DoForm) (f : Forest) → is_name d.actor.text ≡ true → steps_of m.states (seen f) ≡ Some d.steps →
+do_read : (m : KnownNames) (k a : ℕ) (d : DoForm) (f : Forest) → is_name d.actor.text ≡ true → steps_of m.states (seen f) ≡ Some d.steps →
     top_form m k d.at (seen (atom a (codes "do") (atom d.actor.at d.actor.text f))) ≡ Some (DoTop d, k)
 unfolding top_form word_of
 do_read m k a d f h r = rw (do_inside m.states d f h r)
 
--- The top forms behind what was read.
+-- The top forms after the parsed ones.
 
--- the reading goes on behind some trees
-record GoesOn (f : Forest) (p q : Front) (g : Sketch) : Type 0 where
+-- the parser after some trees
+record GoesOn (f : Forest) (p q : PartialSource) (g : Sketch) : Type 0 where
   rest : Forest
   fits : Fits rest g
   same : tops_of p (seen f) ≡ tops_of q (seen rest)
 
 -- a list that is a top form is taken
-one_top : (f i r : Forest) (at x : ℕ) (p q : Front) (t : Top) (k : ℕ) → f ≡ list at i r → at ≡ x → top_form (known p) p.site x (seen i) ≡ Some (t, k) → placed p t k ≡ Some q →
+one_top : (f i r : Forest) (at x : ℕ) (p q : PartialSource) (t : Top) (k : ℕ) → f ≡ list at i r → at ≡ x → top_form (known p) p.site x (seen i) ≡ Some (t, k) → source_with_form p t k ≡ Some q →
     tops_of p (seen f) ≡ tops_of q (seen r)
 unfolding tops_of
 one_top f i r at x p q t k is told read put =
     let here : top_form (known p) p.site at (seen i) ≡ Some (t, k) = ap (λ (y : ℕ). top_form (known p) p.site y (seen i)) told ∙ read in
     ap (λ (y : Forest). tops_of p (seen y)) is ∙ rw (here, put)
 
--- what was read so far
-abbrev so_far : ℕ → List State → List Func → List DoForm → ℕ → Front
+-- the parsed part
+abbrev so_far : ℕ → List State → List Func → List DoForm → ℕ → PartialSource
 so_far at ss cs ds k = record { header = at; states = ss; functions = cs; script = ds; site = k }
 
 states_read : (at k : ℕ) (front ss : List State) (f : Forest) (g : Sketch) → SpelledStates ss → Fits f (states_forms ss g) → GoesOn f (so_far at front [] [] k) (so_far at (front ++ ss) [] [] k) g
@@ -123,7 +123,7 @@ states_read at k front (t ∷ ss) f g s h =
     let p = y.4 in
     let one = literal_read t.initial p.1 nothing s.1 p.4 in
     let is : h.1 ≡ atom w.0 (codes "state") (atom t.name.at t.name.text (atom y.0 (type_word t.ty) (atom p.0 (codes "Structural") p.1))) =
-    headed h.1 w.1 n.1 w.0 n.0 (codes "state") t.name w.2 n.2 n.3 ∙ ap (λ (x : Forest). atom w.0 (codes "state") (atom t.name.at t.name.text x)) (y.2 ∙ ap (atom y.0 (type_word t.ty)) p.2) in
+    list_with_word h.1 w.1 n.1 w.0 n.0 (codes "state") t.name w.2 n.2 n.3 ∙ ap (λ (x : Forest). atom w.0 (codes "state") (atom t.name.at t.name.text x)) (y.2 ∙ ap (atom y.0 (type_word t.ty)) p.2) in
     let before = so_far at front [] [] k in
     let read : top_form (known before) k t.at (seen h.1) ≡ Some (StateTop t, k) = ap (λ (i : Forest). top_form (known before) k t.at (seen i)) is ∙ state_read (known before) k w.0 y.0 p.0 t p.1 s.0 one in
     let next = so_far at (front ++ t ∷ []) [] [] k in
@@ -135,10 +135,10 @@ states_read at k front (t ∷ ss) f g s h =
           ∙ ap (λ (l : List State). tops_of (so_far at l [] [] k) (seen more.rest)) (append_assoc front (t ∷ []) ss);
     }
 
--- the number behind the statements of functions
+-- the number of the statement after those of functions
 abbrev behind_all : ℕ → List Func → ℕ
 behind_all k [] = k
-behind_all k (c ∷ cs) = behind_all (after_all k c.body) cs
+behind_all k (c ∷ cs) = behind_all (site_after_all k c.body) cs
 
 functions_read : (at k : ℕ) (ss : List State) (front cs : List Func) (f : Forest) (g : Sketch)
     → SpelledFunctions (record { states = map state_name ss; functions = map function_name front }) k cs → Fits f (functions_forms cs g)
@@ -150,19 +150,19 @@ functions_read at k ss front (c ∷ cs) f g s h =
     let l = n.4 in
     let before = so_far at ss front [] k in
     let is : h.1 ≡ atom w.0 (codes "fun") (atom c.name.at c.name.text (list l.0 l.1 l.2)) =
-    headed h.1 w.1 n.1 w.0 n.0 (codes "fun") c.name w.2 n.2 n.3 ∙ ap (λ (x : Forest). atom w.0 (codes "fun") (atom c.name.at c.name.text x)) l.3 in
-    let read : top_form (known before) k c.at (seen h.1) ≡ Some (FunctionTop c, after_all k c.body) =
+    list_with_word h.1 w.1 n.1 w.0 n.0 (codes "fun") c.name w.2 n.2 n.3 ∙ ap (λ (x : Forest). atom w.0 (codes "fun") (atom c.name.at c.name.text x)) l.3 in
+    let read : top_form (known before) k c.at (seen h.1) ≡ Some (FunctionTop c, site_after_all k c.body) =
     ap (λ (i : Forest). top_form (known before) k c.at (seen i)) is
     ∙ function_read (known before) k w.0 l.0 c l.1 l.2 s.0 (parameters_read c.parameters l.1 s.1 l.5) (stmts_read (known before) k c.body l.2 s.2 l.6) in
-    let next = so_far at ss (front ++ c ∷ []) [] (after_all k c.body) in
-    let spelled : SpelledFunctions (known next) (after_all k c.body) cs =
-    subst (λ (ns : List (List ℕ)). SpelledFunctions (record { states = map state_name ss; functions = ns }) (after_all k c.body) cs) (sym (map-append function_name front (c ∷ []))) s.3 in
-    let more = functions_read at (after_all k c.body) ss (front ++ c ∷ []) cs h.2 g spelled h.6 in
+    let next = so_far at ss (front ++ c ∷ []) [] (site_after_all k c.body) in
+    let spelled : SpelledFunctions (known next) (site_after_all k c.body) cs =
+    subst (λ (ns : List (List ℕ)). SpelledFunctions (record { states = map state_name ss; functions = ns }) (site_after_all k c.body) cs) (sym (map-append function_name front (c ∷ []))) s.3 in
+    let more = functions_read at (site_after_all k c.body) ss (front ++ c ∷ []) cs h.2 g spelled h.6 in
     record {
       rest = more.rest;
       fits = more.fits;
-      same = one_top f h.1 h.2 h.0 c.at before next (FunctionTop c) (after_all k c.body) h.3 h.4 read refl ∙ more.same
-          ∙ ap (λ (x : List Func). tops_of (so_far at ss x [] (behind_all (after_all k c.body) cs)) (seen more.rest)) (append_assoc front (c ∷ []) cs);
+      same = one_top f h.1 h.2 h.0 c.at before next (FunctionTop c) (site_after_all k c.body) h.3 h.4 read refl ∙ more.same
+          ∙ ap (λ (x : List Func). tops_of (so_far at ss x [] (behind_all (site_after_all k c.body) cs)) (seen more.rest)) (append_assoc front (c ∷ []) cs);
     }
 
 scripts_read : (at k : ℕ) (ss : List State) (cs : List Func) (front ds : List DoForm) (f : Forest) → SpelledScripts (map state_name ss) ds → AreOfActor front ds → Fits f (scripts_forms ds)
@@ -173,7 +173,7 @@ scripts_read at k ss cs front (d ∷ ds) f s a h =
     let w = h.5 in
     let n = w.4 in
     let before = so_far at ss cs front k in
-    let is = headed h.1 w.1 n.1 w.0 n.0 (codes "do") d.actor w.2 n.2 n.3 in
+    let is = list_with_word h.1 w.1 n.1 w.0 n.0 (codes "do") d.actor w.2 n.2 n.3 in
     let read : top_form (known before) k d.at (seen h.1) ≡ Some (DoTop d, k) =
     ap (λ (i : Forest). top_form (known before) k d.at (seen i)) is ∙ do_read (known before) k w.0 d n.1 s.0 (steps_read (map state_name ss) d.steps n.1 s.1 n.4) in
     one_top f h.1 h.2 h.0 d.at before (so_far at ss cs (front ++ d ∷ []) k) (DoTop d) k h.3 h.4 read (ap (λ (b : Bool). when b (so_far at ss cs (front ++ d ∷ []) k)) a.0)
@@ -183,7 +183,7 @@ header_read : (end at x a b : ℕ) (f i r : Forest) → f ≡ list at i r → at
 unfolding text_of header_form word_of
 header_read end at x a b f i r is told inner = rw (is, told, inner)
 
--- What has the forms of a text is read as that text, whatever the length of the input.
+-- Trees with the forms of a text are parsed as that text, whatever the length of the input.
 pub text_read : (end : ℕ) (f : Forest) (t : Source) → HasForms f t → source_of end (seen f) ≡ Ok t
 text_read end f t h =
     let g = h.fits in
@@ -194,4 +194,4 @@ text_read end f t h =
     let ss = states_read p.header 1 [] p.states g.2 _ h.spelled.states g.6 in
     let cs = functions_read p.header 1 p.states [] p.functions ss.rest _ h.spelled.functions ss.fits in
     let ds = scripts_read p.header (behind_all 1 p.functions) p.states p.functions [] t.script cs.rest h.spelled.script h.spelled.one_actor cs.fits in
-    ap sourced (head ∙ ss.same ∙ cs.same ∙ ds)
+    ap source_or_offset (head ∙ ss.same ∙ cs.same ∙ ds)

@@ -1,7 +1,7 @@
 -- Trees and syntax in memory, level by level.
 use Rattle.std.proofs.Common.{◌≡◌, ℕ, Vec, Global, rules}
 use Rattle.lang_ast.proofs.Views.{view-Literal, view-Variable, view-Get, view-Apply, view-Node, view-Call, view-Key, view-If, view-For, view-Let, view-Remember}
-use Rattle.lang_forms.specs.Seen.{word, chars, form, roles}
+use Rattle.lang_forms.specs.Readings.{word, chars, form, roles}
 use Rattle.lang_forms.specs.Views.{seen_tree, seen_all}
 use Rattle.sexp_text.specs.declared.tree.Tree.{Tree, Atom, Text, List as TreeList, the_lemmas}
 
@@ -14,8 +14,8 @@ seen-Text at codes = search (rules, the_lemmas)
 pub seen-List : (at : ℕ) (trees : Vec Tree Global) → seen_tree (TreeList at trees) ≡ form at (roles at (seen_all trees.items))
 seen-List at trees = search (rules, the_lemmas)
 
--- what each kind of tree can be read as
+-- the view of each kind of tree
 pub ruleset trees = (seen-Atom, seen-Text, seen-List)
 
--- what each form in memory stands for
+-- the view of each form in memory
 pub ruleset syntax = (view-Literal, view-Variable, view-Get, view-Apply, view-Node, view-Call, view-Key, view-If, view-For, view-Let, view-Remember)

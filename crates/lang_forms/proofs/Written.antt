@@ -1,13 +1,14 @@
 -- Forests that grow at their end.
 use Rattle.std.proofs.Common.{◌≡◌, ℕ, suc, ◌+◌, ◌≤◌, ◌<◌, List, [], length, get_or, drop, sym, ap, ◌∙◌, drop-cons, add-one, arith, codes, None}
 use Rattle.std.proofs.lemmas.Grind.{common_steps}
-use Rattle.sexp_text.specs.Forest.{Forest, empty, atom, text, list, behind, unplaced}
+use Rattle.std.specs.Fmt.{signed_decimal}
+use Rattle.sexp_text.specs.Forest.{Forest, empty, atom, text, list, behind, without_offsets}
 use Rattle.sexp_text.proofs.Trees.{behind-empty, behind_assoc, forest_view-push, view-Atom, view-Text, view-List}
 use Rattle.lang_ast.specs.Terms.{Expr, Stmts, If, more, next}
 use Rattle.lang_ast.specs.SyntaxView.{expr_view, exprs_view, stmt_view, stmts_view}
 use Rattle.lang_ast.specs.declared.syntax.Expression.{Expression}
 use Rattle.lang_ast.specs.declared.syntax.Statement.{Statement}
-use Rattle.lang_forms.specs.Sketch.{Sketch, nothing, leaf, string, group, Fits, unplaced_sketch}
+use Rattle.lang_forms.specs.Sketch.{Sketch, nothing, leaf, numeral, string, group, sequence, Fits, unplaced_sketch}
 use Rattle.lang_forms.specs.Forms.{expr_forms, exprs_forms, stmt_forms, stmts_forms}
 
 -- what a walk that adds trees needs
@@ -30,18 +31,20 @@ stmts_step ss i s h is =
 past_none : {A : Type 0} (xs : List A) (i : ℕ) → length xs ≤ i → drop i xs ≡ []
 past_none xs i h = grind (arith, common_steps)
 
--- where all are there, nothing is left to come
+-- no tree is left to append
 pub all_there : {A : Type 0} (trees : List A → Forest) → trees [] ≡ empty → (f r : Forest) (xs : List A) (i : ℕ) → length xs ≤ i → behind f (trees (drop i xs)) ≡ r → f ≡ r
 all_there trees none f r xs i h was = sym (ap (behind f) (ap trees (past_none xs i h) ∙ none) ∙ behind-empty f) ∙ was
 
--- What fits a sketch is its trees, places apart.
-pub fits_unplaced : (f : Forest) (s : Sketch) → Fits f s → unplaced f ≡ unplaced_sketch s
-fits_unplaced f nothing h = ap unplaced h
-fits_unplaced f (leaf p a g) h = ap unplaced h.2 ∙ ap (atom 0 a) (fits_unplaced h.1 g h.4)
-fits_unplaced f (string p s g) h = ap unplaced h.2 ∙ ap (text 0 s) (fits_unplaced h.1 g h.4)
-fits_unplaced f (group p i g) h = ap unplaced h.3 ∙ ap (λ (x : Forest). list 0 x (unplaced h.2)) (fits_unplaced h.1 i h.5) ∙ ap (list 0 (unplaced_sketch i)) (fits_unplaced h.2 g h.6)
+-- The trees of a forest that fits a sketch, except for offsets.
+pub fits_unplaced : (f : Forest) (s : Sketch) → Fits f s → without_offsets f ≡ unplaced_sketch s
+fits_unplaced f nothing h = ap without_offsets h
+fits_unplaced f (leaf p a g) h = ap without_offsets h.2 ∙ ap (atom 0 a) (fits_unplaced h.1 g h.4)
+fits_unplaced f (numeral p z g) h = ap without_offsets h.2 ∙ ap (atom 0 (signed_decimal z)) (fits_unplaced h.1 g h.4)
+fits_unplaced f (string p s g) h = ap without_offsets h.2 ∙ ap (text 0 s) (fits_unplaced h.1 g h.4)
+fits_unplaced f (group p i g) h = ap without_offsets h.3 ∙ ap (λ (x : Forest). list 0 x (without_offsets h.2)) (fits_unplaced h.1 i h.5) ∙ ap (list 0 (unplaced_sketch i)) (fits_unplaced h.2 g h.6)
+fits_unplaced f (sequence p i g) h = ap without_offsets h.3 ∙ ap (λ (x : Forest). list 0 x (without_offsets h.2)) (fits_unplaced h.1 i h.5) ∙ ap (list 0 (unplaced_sketch i)) (fits_unplaced h.2 g h.6)
 
--- where no item is left, all are there
+-- no item is left to append
 pub none_left : {A : Type 0} (trees : List A → Forest) → trees [] ≡ empty → (f r : Forest) (xs : List A) → length xs ≡ 0 → behind f (trees xs) ≡ r → f ≡ r
 none_left trees none f r xs h was = all_there trees none f r xs 0 (omega (arith, h)) was
 

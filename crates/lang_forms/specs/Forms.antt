@@ -1,101 +1,109 @@
--- The forms of a program and a script: the trees that each part has, and what the parts may be.
--- A word of a form has no place of its own, nor has a list of pairs, of parameters or of a branch.
+-- Trusted: the forms of a program and a script, that is the trees of each part and what the parts may be. Keywords
+-- have no offset of their own in a program, nor have lists of pairs, of parameters or of a branch.
 use Rattle.std.specs.Prelude.{◌≡◌, ℕ, suc, ◌+◌, ◌&&◌, List, [], ◌∷◌, ◌++◌, length, map, Option, Some, None, Bool, true, false, codes, ℤ}
-use Rattle.std.specs.Fmt.{signed_decimal}
 use Rattle.std.specs.Str.{bytes_eq}
 use Rattle.sexp_text.specs.Forest.{Forest}
 use Rattle.rt_values.specs.Values.{truth_text}
 use Rattle.rt_values.specs.declared.value.Value.{Value}
 use Rattle.rt_values.specs.declared.value.Value.TheVariants as value
 use Rattle.lang_ast.specs.Terms.{Expr, Literal, Variable, Get, Apply, Exprs, none, more, Named, Stmt, Node, Call, Key, If, For, Let, Remember, Stmts, done, next, Func}
-use Rattle.lang_ast.specs.declared.syntax.Name.{Name}
+use Rattle.lang_ast.specs.declared.syntax.Ident.{Ident}
 use Rattle.lang_ast.specs.declared.syntax.Parameter.{Parameter}
 use Rattle.lang_ast.specs.declared.program.State.{State}
-use Rattle.lang_forms.specs.declared.rest.StepForm.{StepForm}
-use Rattle.lang_forms.specs.declared.rest.StepForm.TheVariants.{Write, Frame}
-use Rattle.lang_forms.specs.declared.rest.DoForm.{DoForm}
+use Rattle.lang_forms.specs.declared.script_forms.StepForm.{StepForm}
+use Rattle.lang_forms.specs.declared.script_forms.StepForm.TheVariants.{Write, Frame}
+use Rattle.lang_forms.specs.declared.script_forms.DoForm.{DoForm}
 use Rattle.lang_limits.specs.Tokens.{fits}
 use Rattle.lang_forms.specs.Names.{is_name, all_fit, is_string, is_list_long, number_of}
 use Rattle.lang_forms.specs.Words.{type_word, operator_word, takes}
-use Rattle.lang_forms.specs.Sketch.{Sketch, nothing, leaf, string, group, Fits}
+use Rattle.lang_forms.specs.Sketch.{Sketch, nothing, leaf, numeral, string, group, sequence, Fits, FitsUnlimited}
 use Rattle.lang_forms.specs.Sources.{Source}
 
--- The trees. The last argument is what stands behind.
+-- The trees of each part. The last argument has the trees after it.
 
--- a word of a form, wherever it stands
+-- A keyword, at any offset.
 abbrev pub word : List ℕ → Sketch → Sketch
 word w f = leaf None w f
 
--- a name, at its place
-abbrev pub name : Name → Sketch → Sketch
+-- A name, at its offset.
+abbrev pub name : Ident → Sketch → Sketch
 name n f = leaf (Some n.at) n.text f
 
--- numbers in their decimals
+-- Numbers in their decimals.
 abbrev pub numbers : List ℤ → Sketch
 numbers [] = nothing
-numbers (z ∷ zs) = word (signed_decimal z) (numbers zs)
+numbers (z ∷ zs) = numeral None z (numbers zs)
 
--- a literal: INT, true, false, a string, or (ints INT..)
+-- A literal: `INT`, `true`, `false`, a string, or `(ints INT..)`.
 abbrev pub literal : Option ℕ → Value → Sketch → Sketch
-literal p (value.Int z) f = leaf p (signed_decimal z) f
+literal p (value.Int z) f = numeral p z f
 literal p (value.Bool b) f = leaf p (truth_text b) f
 literal p (value.Text cs) f = string p cs f
-literal p (value.Ints zs) f = group p (word (codes "ints") (numbers zs)) f
+literal p (value.Ints zs) f = sequence p (word (codes "ints") (numbers zs)) f
 
--- a literal, a variable's name, (get NAME), or (OPERATOR EXPR..)
+-- An expression: a literal, a variable's name, `(get NAME)`, or `(OPERATOR EXPR..)`.
 abbrev mutual
   pub expr_forms : Expr → Sketch → Sketch
   expr_forms (Literal at v) f = literal (Some at) v f
   expr_forms (Variable n) f = name n f
   expr_forms (Get at n number) f = group (Some at) (word (codes "get") (name n nothing)) f
-  expr_forms (Apply at operator es) f = group (Some at) (word (operator_word operator) (exprs_forms es)) f
+  expr_forms (Apply at operator es) f = sequence (Some at) (word (operator_word operator) (exprs_forms es)) f
 
   pub exprs_forms : Exprs → Sketch
   exprs_forms none = nothing
   exprs_forms (more e es) = expr_forms e (exprs_forms es)
 
--- (NAME EXPR) for each
+-- `(NAME EXPR)` for each pair.
 abbrev pub pairs_forms : List Named → Sketch
 pairs_forms [] = nothing
 pairs_forms (k ∷ ks) = group None (name k.name (expr_forms k.value nothing)) (pairs_forms ks)
 
--- (node NAME ((NAME EXPR)..) STMT..), (call NAME EXPR..), (key EXPR STMT..), (if EXPR (STMT..) (STMT..)),
--- (for NAME EXPR STMT..), (let NAME EXPR STMT..), (remember NAME ((NAME EXPR)..) EXPR STMT..)
+-- A statement: `(node NAME ((NAME EXPR)..) STMT..)`, `(call NAME EXPR..)`, `(key EXPR STMT..)`, `(if EXPR (STMT..)
+-- (STMT..))`, `(for NAME EXPR STMT..)`, `(let NAME EXPR STMT..)`, or `(remember NAME ((NAME EXPR)..) EXPR STMT..)`.
 abbrev mutual
   pub stmt_forms : Stmt → Sketch → Sketch
-  stmt_forms (Node at site n ns body) f = group (Some at) (word (codes "node") (name n (group None (pairs_forms ns) (stmts_forms body)))) f
+  stmt_forms (Node at site n ns body) f = group (Some at)
+      (word (codes "node") (name n (group None (pairs_forms ns) (stmts_forms body)))) f
   stmt_forms (Call at site n function es) f = group (Some at) (word (codes "call") (name n (exprs_forms es))) f
   stmt_forms (Key at site e body) f = group (Some at) (word (codes "key") (expr_forms e (stmts_forms body))) f
-  stmt_forms (If at site e a b) f = group (Some at) (word (codes "if") (expr_forms e (group None (stmts_forms a) (group None (stmts_forms b) nothing)))) f
-  stmt_forms (For at site n e body) f = group (Some at) (word (codes "for") (name n (expr_forms e (stmts_forms body)))) f
-  stmt_forms (Let at site n e body) f = group (Some at) (word (codes "let") (name n (expr_forms e (stmts_forms body)))) f
+  stmt_forms (If at site e a b) f = group (Some at)
+      (word (codes "if") (expr_forms e (group None (stmts_forms a) (group None (stmts_forms b) nothing)))) f
+  stmt_forms (For at site n e body) f = group (Some at)
+      (word (codes "for") (name n (expr_forms e (stmts_forms body)))) f
+  stmt_forms (Let at site n e body) f = group (Some at)
+      (word (codes "let") (name n (expr_forms e (stmts_forms body)))) f
   stmt_forms (Remember at site n ks e body) f =
-      group (Some at) (word (codes "remember") (name n (group None (pairs_forms ks) (expr_forms e (stmts_forms body))))) f
+      group (Some at) (word (codes "remember")
+      (name n (group None (pairs_forms ks) (expr_forms e (stmts_forms body))))) f
 
   pub stmts_forms : Stmts → Sketch
   stmts_forms done = nothing
   stmts_forms (next s ss) = stmt_forms s (stmts_forms ss)
 
--- (NAME TYPE) for each
+-- `(NAME TYPE)` for each parameter.
 abbrev pub parameters_forms : List Parameter → Sketch
 parameters_forms [] = nothing
 parameters_forms (p ∷ ps) = group None (name p.name (word (type_word p.ty) nothing)) (parameters_forms ps)
 
--- (state NAME TYPE Structural LITERAL)
+-- `(state NAME TYPE Structural LITERAL)`
 abbrev pub state_forms : State → Sketch → Sketch
-state_forms s f = group (Some s.at) (word (codes "state") (name s.name (word (type_word s.ty) (word (codes "Structural") (literal None s.initial nothing))))) f
+state_forms s f = group (Some s.at)
+    (word (codes "state") (name s.name
+    (word (type_word s.ty) (word (codes "Structural") (literal None s.initial nothing))))) f
 
--- (fun NAME ((NAME TYPE)..) STMT..)
+-- `(fun NAME ((NAME TYPE)..) STMT..)`
 abbrev pub function_forms : Func → Sketch → Sketch
-function_forms c f = group (Some c.at) (word (codes "fun") (name c.name (group None (parameters_forms c.parameters) (stmts_forms c.body)))) f
+function_forms c f = group (Some c.at)
+    (word (codes "fun") (name c.name (group None (parameters_forms c.parameters) (stmts_forms c.body)))) f
 
--- (write global NAME LITERAL) and (frame)
+-- `(write global NAME LITERAL)` and `(frame)`
 abbrev pub steps_forms : List StepForm → Sketch
 steps_forms [] = nothing
-steps_forms (Write at n number v ∷ ss) = group (Some at) (word (codes "write") (word (codes "global") (name n (literal None v nothing)))) (steps_forms ss)
+steps_forms (Write at n number v ∷ ss) = group (Some at)
+    (word (codes "write") (word (codes "global") (name n (literal None v nothing)))) (steps_forms ss)
 steps_forms (Frame at ∷ ss) = group (Some at) (word (codes "frame") nothing) (steps_forms ss)
 
--- (do NAME STEP..)
+-- `(do NAME STEP..)`
 abbrev pub do_forms : DoForm → Sketch → Sketch
 do_forms d f = group (Some d.at) (word (codes "do") (name d.actor (steps_forms d.steps))) f
 
@@ -111,47 +119,48 @@ abbrev pub scripts_forms : List DoForm → Sketch
 scripts_forms [] = nothing
 scripts_forms (d ∷ ds) = do_forms d (scripts_forms ds)
 
--- the states, the functions and the scripts
+-- The states, the functions and the scripts.
 abbrev pub top_forms : List State → List Func → List DoForm → Sketch
 top_forms ss cs ds = states_forms ss (functions_forms cs (scripts_forms ds))
 
--- (compose 1) at its place, and behind it the states, the functions and the scripts
+-- `(compose 1)` at its offset, and then the states, the functions and the scripts.
 abbrev pub text_forms : Source → Sketch
-text_forms t = group (Some t.program.header) (word (codes "compose") (word (codes "1") nothing)) (top_forms t.program.states t.program.functions t.script)
+text_forms t = group (Some t.program.header) (word (codes "compose") (word (codes "1") nothing))
+    (top_forms t.program.states t.program.functions t.script)
 
--- What the parts may be: names are names, numbers and strings are within their limits, operators have their operands, a state
--- and a function have the number of their name, and statements are numbered in the order of the text.
+-- What the parts may be: names are names, numbers and strings are within their limits, operators have their operands,
+-- a state and a function have the number of their name, and statements are numbered in the order of the text.
 
--- a literal within the limits
+-- A literal within its limits.
 abbrev pub literal_fits : Value → Bool
 literal_fits (value.Int z) = fits z
 literal_fits (value.Bool b) = true
 literal_fits (value.Text cs) = is_string cs
 literal_fits (value.Ints zs) = is_list_long (length zs) && all_fit zs
 
--- in an expression (ints ..) is the operator's
+-- The same in an expression, where `(ints ..)` is an operator.
 abbrev pub plain_fits : Value → Bool
 plain_fits (value.Int z) = fits z
 plain_fits (value.Bool b) = true
 plain_fits (value.Text cs) = is_string cs
 plain_fits (value.Ints zs) = false
 
-abbrev pub how_many : Exprs → ℕ
-how_many none = 0
-how_many (more e es) = suc (how_many es)
+abbrev pub operand_count : Exprs → ℕ
+operand_count none = 0
+operand_count (more e es) = suc (operand_count es)
 
--- the names of the states, and of the functions that stand before
-pub record Known : Type 0 where
+-- The names of the states, and of the functions before a form.
+pub record KnownNames : Type 0 where
   pub states : List (List ℕ)
   pub functions : List (List ℕ)
 
--- expressions, by the names of the states
+-- Expressions, by the names of the states.
 abbrev mutual
   pub Spelled : List (List ℕ) → Expr → Type 0
   Spelled m (Literal at v) = plain_fits v ≡ true
   Spelled m (Variable n) = is_name n.text ≡ true
   Spelled m (Get at n number) = (is_name n.text ≡ true) × (number ≡ number_of n.text m)
-  Spelled m (Apply at operator es) = (takes operator (how_many es) ≡ true) × AllSpelled m es
+  Spelled m (Apply at operator es) = (takes operator (operand_count es) ≡ true) × AllSpelled m es
 
   pub AllSpelled : List (List ℕ) → Exprs → Type 0
   AllSpelled m none = Unit {0}
@@ -161,36 +170,42 @@ abbrev pub SpelledPairs : List (List ℕ) → List Named → Type 0
 SpelledPairs m [] = Unit {0}
 SpelledPairs m (k ∷ ks) = (is_name k.name.text ≡ true) × Spelled m k.value × SpelledPairs m ks
 
--- the number of the statement behind one that has the number k, and behind statements that begin with k
+-- The number of the statement after one with the number k, and after statements that begin with k.
 abbrev mutual
-  pub after : ℕ → Stmt → ℕ
-  after k (Node at site n ns body) = after_all (k + 1) body
-  after k (Call at site n function es) = k + 1
-  after k (Key at site e body) = after_all (k + 1) body
-  after k (If at site e a b) = after_all (after_all (k + 1) a) b
-  after k (For at site n e body) = after_all (k + 1) body
-  after k (Let at site n e body) = after_all (k + 1) body
-  after k (Remember at site n ks e body) = after_all (k + 1) body
+  pub site_after : ℕ → Stmt → ℕ
+  site_after k (Node at site n ns body) = site_after_all (k + 1) body
+  site_after k (Call at site n function es) = k + 1
+  site_after k (Key at site e body) = site_after_all (k + 1) body
+  site_after k (If at site e a b) = site_after_all (site_after_all (k + 1) a) b
+  site_after k (For at site n e body) = site_after_all (k + 1) body
+  site_after k (Let at site n e body) = site_after_all (k + 1) body
+  site_after k (Remember at site n ks e body) = site_after_all (k + 1) body
 
-  pub after_all : ℕ → Stmts → ℕ
-  after_all k done = k
-  after_all k (next s ss) = after_all (after k s) ss
+  pub site_after_all : ℕ → Stmts → ℕ
+  site_after_all k done = k
+  site_after_all k (next s ss) = site_after_all (site_after k s) ss
 
--- a statement with the number k, and statements that begin with k
+-- A statement with the number k, and statements that begin with k.
 abbrev mutual
-  pub SpelledStmt : Known → ℕ → Stmt → Type 0
-  SpelledStmt m k (Node at site n ns body) = (site ≡ k) × (is_name n.text ≡ true) × SpelledPairs m.states ns × SpelledStmts m (k + 1) body
-  SpelledStmt m k (Call at site n function es) = (site ≡ k) × (is_name n.text ≡ true) × (function ≡ number_of n.text m.functions) × AllSpelled m.states es
+  pub SpelledStmt : KnownNames → ℕ → Stmt → Type 0
+  SpelledStmt m k (Node at site n ns body) = (site ≡ k) × (is_name n.text ≡ true) × SpelledPairs m.states ns
+      × SpelledStmts m (k + 1) body
+  SpelledStmt m k (Call at site n function es) = (site ≡ k) × (is_name n.text ≡ true)
+      × (function ≡ number_of n.text m.functions) × AllSpelled m.states es
   SpelledStmt m k (Key at site e body) = (site ≡ k) × Spelled m.states e × SpelledStmts m (k + 1) body
-  SpelledStmt m k (If at site e a b) = (site ≡ k) × Spelled m.states e × SpelledStmts m (k + 1) a × SpelledStmts m (after_all (k + 1) a) b
-  SpelledStmt m k (For at site n e body) = (site ≡ k) × (is_name n.text ≡ true) × Spelled m.states e × SpelledStmts m (k + 1) body
-  SpelledStmt m k (Let at site n e body) = (site ≡ k) × (is_name n.text ≡ true) × Spelled m.states e × SpelledStmts m (k + 1) body
+  SpelledStmt m k (If at site e a b) = (site ≡ k) × Spelled m.states e × SpelledStmts m (k + 1) a
+      × SpelledStmts m (site_after_all (k + 1) a) b
+  SpelledStmt m k (For at site n e body) = (site ≡ k) × (is_name n.text ≡ true) × Spelled m.states e
+      × SpelledStmts m (k + 1) body
+  SpelledStmt m k (Let at site n e body) = (site ≡ k) × (is_name n.text ≡ true) × Spelled m.states e
+      × SpelledStmts m (k + 1) body
   SpelledStmt m k (Remember at site n ks e body) =
-      (site ≡ k) × (is_name n.text ≡ true) × SpelledPairs m.states ks × Spelled m.states e × SpelledStmts m (k + 1) body
+      (site ≡ k) × (is_name n.text ≡ true) × SpelledPairs m.states ks × Spelled m.states e
+      × SpelledStmts m (k + 1) body
 
-  pub SpelledStmts : Known → ℕ → Stmts → Type 0
+  pub SpelledStmts : KnownNames → ℕ → Stmts → Type 0
   SpelledStmts m k done = Unit {0}
-  SpelledStmts m k (next s ss) = SpelledStmt m k s × SpelledStmts m (after k s) ss
+  SpelledStmts m k (next s ss) = SpelledStmt m k s × SpelledStmts m (site_after k s) ss
 
 abbrev pub SpelledParameters : List Parameter → Type 0
 SpelledParameters [] = Unit {0}
@@ -206,40 +221,51 @@ state_name s = s.name.text
 abbrev pub function_name : Func → List ℕ
 function_name f = f.name.text
 
--- functions behind those of these names, the first statement numbered k
-abbrev pub SpelledFunctions : Known → ℕ → List Func → Type 0
+-- Functions after those with these names. Their first statement has the number k.
+abbrev pub SpelledFunctions : KnownNames → ℕ → List Func → Type 0
 SpelledFunctions m k [] = Unit {0}
 SpelledFunctions m k (c ∷ cs) =
     (is_name c.name.text ≡ true) × SpelledParameters c.parameters × SpelledStmts m k c.body
-    × SpelledFunctions (record { states = m.states; functions = m.functions ++ function_name c ∷ [] }) (after_all k c.body) cs
+    × SpelledFunctions (record {
+      states = m.states;
+      functions = m.functions
+          ++ function_name c ∷ [];
+    }) (site_after_all k c.body) cs
 
 abbrev pub SpelledSteps : List (List ℕ) → List StepForm → Type 0
 SpelledSteps m [] = Unit {0}
-SpelledSteps m (Write at n number v ∷ ss) = (is_name n.text ≡ true) × (number ≡ number_of n.text m) × (literal_fits v ≡ true) × SpelledSteps m ss
+SpelledSteps m (Write at n number v ∷ ss) = (is_name n.text ≡ true) × (number ≡ number_of n.text m)
+    × (literal_fits v ≡ true) × SpelledSteps m ss
 SpelledSteps m (Frame at ∷ ss) = SpelledSteps m ss
 
 abbrev pub SpelledScripts : List (List ℕ) → List DoForm → Type 0
 SpelledScripts m [] = Unit {0}
 SpelledScripts m (d ∷ ds) = (is_name d.actor.text ≡ true) × SpelledSteps m d.steps × SpelledScripts m ds
 
--- a script has one actor, that of the first form
+-- Whether a form has the actor of the first form.
 abbrev pub is_of_actor : List DoForm → DoForm → Bool
 is_of_actor [] d = true
 is_of_actor (first ∷ ds) d = bytes_eq d.actor.text first.actor.text
 
--- forms behind those that stand before them
+-- All forms have the actor of those before them.
 abbrev pub AreOfActor : List DoForm → List DoForm → Type 0
 AreOfActor front [] = Unit {0}
 AreOfActor front (d ∷ ds) = (is_of_actor front d ≡ true) × AreOfActor (front ++ d ∷ []) ds
 
--- all parts of a text
+-- All parts of a text are what they may be.
 pub record SpelledSource (t : Source) : Type 0 where
   pub states : SpelledStates t.program.states
-  pub functions : SpelledFunctions (record { states = map state_name t.program.states; functions = [] }) 1 t.program.functions
+  pub functions : SpelledFunctions (record { states = map state_name t.program.states; functions = [] }) 1
+      t.program.functions
   pub script : SpelledScripts (map state_name t.program.states) t.script
   pub one_actor : AreOfActor [] t.script
 
--- The forest is that of the text, at the places that its parts keep, and its parts are what they may be.
+-- The forest has the trees of the text, at the offsets that its parts keep, and its parts are what they may be.
 pub record HasForms (f : Forest) (t : Source) : Type 0 where
   pub fits : Fits f (text_forms t)
+  pub spelled : SpelledSource t
+
+-- The same without the limits of literals.
+pub record HasUnlimitedForms (f : Forest) (t : Source) : Type 0 where
+  pub fits : FitsUnlimited f (text_forms t)
   pub spelled : SpelledSource t

@@ -3,8 +3,9 @@ pub mod Words
 pub mod Sketch
 pub mod Sources
 pub mod Forms
-pub mod Seen
-pub mod Tops
+pub mod Readings
+pub mod TextReading
 pub mod Views
-pub mod Stops
-pub mod Answers
+pub mod FirstWrong
+pub mod TextAnswers
+pub mod Appends

@@ -1,4 +1,4 @@
--- The words of types and operators, and how many operands an operator has.
+-- Trusted: the keywords of types and operators, and how many operands an operator has.
 use Rattle.std.specs.Prelude.{ℕ, ◌==◌, List, Bool, true, Option, Some, None, codes, if◌then◌else◌}
 use Rattle.std.specs.Str.{bytes_eq}
 use Rattle.rt_values.specs.declared.value.Ty.{Ty}
@@ -6,14 +6,14 @@ use Rattle.rt_values.specs.declared.value.Ty.TheVariants as ty
 use Rattle.lang_ast.specs.declared.syntax.Operator.{Operator}
 use Rattle.lang_ast.specs.declared.syntax.Operator.TheVariants as operator
 
--- the word of a type
+-- The keyword of a type.
 abbrev pub type_word : Ty → List ℕ
 type_word ty.Int = codes "Int"
 type_word ty.Bool = codes "Bool"
 type_word ty.Text = codes "Text"
 type_word ty.Ints = codes "Ints"
 
--- the word of an operator
+-- The keyword of an operator.
 abbrev pub operator_word : Operator → List ℕ
 operator_word operator.Add = codes "+"
 operator_word operator.Subtract = codes "-"
@@ -35,7 +35,7 @@ operator_word operator.Concat = codes "concat"
 operator_word operator.Length = codes "len"
 operator_word operator.At = codes "at"
 
--- whether an operator has so many operands
+-- Whether an operator has n operands.
 abbrev pub takes : Operator → ℕ → Bool
 takes operator.Add n = n == 2
 takes operator.Subtract n = n == 2
@@ -57,38 +57,41 @@ takes operator.Concat n = n == 2
 takes operator.Length n = n == 1
 takes operator.At n = n == 2
 
--- what stands for this word, or what else is found
+-- A value if the word is c, and else another.
 abbrev pub named : {A : Type 0} → List ℕ → A → List ℕ → Option A → Option A
 named c a w other = if bytes_eq w c then Some a else other
 
--- the type of this word
-unfoldable pub type_named : List ℕ → Option Ty
-type_named w = named (codes "Int") ty.Int w (named (codes "Bool") ty.Bool w (named (codes "Text") ty.Text w (named (codes "Ints") ty.Ints w None)))
+-- The type of a keyword.
+unfoldable pub type_for_word : List ℕ → Option Ty
+type_for_word w = named (codes "Int") ty.Int w
+    (named (codes "Bool") ty.Bool w (named (codes "Text") ty.Text w (named (codes "Ints") ty.Ints w None)))
 
--- operators that compute with numbers
+-- The operators on numbers.
 unfoldable pub number_operator : List ℕ → Option Operator
 number_operator w =
     named (codes "+") operator.Add w (named (codes "-") operator.Subtract w (named (codes "*") operator.Multiply w (
     named (codes "/") operator.Divide w (named (codes "%") operator.Remainder w None))))
 
--- operators that compare and choose
+-- The operators that compare and choose.
 unfoldable pub truth_operator : List ℕ → Option Operator
 truth_operator w =
     named (codes "=") operator.Equal w (named (codes "<") operator.Less w (named (codes "not") operator.Not w (
-    named (codes "and") operator.And w (named (codes "or") operator.Or w (named (codes "pick") operator.Pick w None)))))
+    named (codes "and") operator.And w
+    (named (codes "or") operator.Or w (named (codes "pick") operator.Pick w None)))))
 
--- operators of texts and lists
+-- The operators on texts and lists.
 unfoldable pub list_operator : List ℕ → Option Operator
 list_operator w =
     named (codes "join") operator.Join w (named (codes "text") operator.Text w (named (codes "ints") operator.Ints w (
-    named (codes "range") operator.Range w (named (codes "push") operator.Push w (named (codes "concat") operator.Concat w (
+    named (codes "range") operator.Range w
+    (named (codes "push") operator.Push w (named (codes "concat") operator.Concat w (
     named (codes "len") operator.Length w (named (codes "at") operator.At w None)))))))
 
--- the first that is found
+-- The first value, if there is one, and else the other.
 abbrev pub or_else : {A : Type 0} → Option A → Option A → Option A
 or_else None other = other
 or_else (Some a) other = Some a
 
--- the operator of this word
-unfoldable pub operator_named : List ℕ → Option Operator
-operator_named w = or_else (number_operator w) (or_else (truth_operator w) (list_operator w))
+-- The operator of a keyword.
+unfoldable pub operator_for_word : List ℕ → Option Operator
+operator_for_word w = or_else (number_operator w) (or_else (truth_operator w) (list_operator w))

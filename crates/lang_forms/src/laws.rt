@@ -1,32 +1,44 @@
 // Laws of the forms, each the contract of a function that does nothing.
-ghost use Rattle.std.specs.Prelude.{◌≡◌, ℕ, Ok};
-ghost use Rattle.sexp_text.specs.Forest.{Forest, unplaced};
+ghost use Rattle.std.specs.Prelude.{◌≡◌, ℕ, Result};
+ghost use Rattle.sexp_text.specs.Forest.{Forest, without_offsets};
 ghost use Rattle.lang_forms.specs.Sources.{Source};
-ghost use Rattle.lang_forms.specs.Forms.{HasForms, text_forms};
+ghost use Rattle.lang_forms.specs.Forms.{HasForms, HasUnlimitedForms, text_forms};
+ghost use Rattle.lang_limits.specs.Clamped.{within};
+ghost use Rattle.lang_forms.specs.FirstWrong.{IsAnswerFor};
+ghost use Rattle.lang_forms.specs.declared.stop.FormStop.{FormStop};
 ghost use Rattle.lang_forms.specs.Sketch.{unplaced_sketch};
-ghost use Rattle.lang_forms.specs.Seen.{seen};
-ghost use Rattle.lang_forms.specs.Tops.{source_of};
 
-/// No trees have the forms of two texts: a program and its script can be told from the trees.
+/// Trees have the forms of at most one program and script.
 ///
-/// This project's own rule; the function does nothing, and its contract is the law.
+/// A rule of this project. The function does nothing: its contract is the law.
 pub fn forms_of_one_text()
     ensures { (f : Forest) → (t : Source) → (u : Source) → HasForms f t → HasForms f u → t ≡ u }
 {}
 
-/// What has the forms of a text is read as that text, and what is read as a text has its forms, whatever the
-/// length of the input.
+/// The trees that `forms_of` returns for a program are those that it was parsed from, except for
+/// offsets and for the script.
 ///
-/// This project's own rule; the function does nothing, and its contract is the law.
-pub fn forms_are_what_is_read()
-    ensures read { (end : ℕ) → (f : Forest) → (t : Source) → HasForms f t → source_of end (seen f) ≡ Ok t }
-    ensures forms { (end : ℕ) → (f : Forest) → (t : Source) → source_of end (seen f) ≡ Ok t → HasForms f t }
+/// A rule of this project. The function does nothing: its contract is the law.
+pub fn forms_are_those_read()
+    ensures { (f : Forest) → (t : Source) → HasForms f t →
+        without_offsets f ≡ unplaced_sketch (text_forms t) }
 {}
 
-/// The trees that `forms_of` gives for a program are those that it was read from, places apart, where no script
-/// stands behind it.
+/// Clamping all tokens of a source text to their limits changes only literals.
 ///
-/// This project's own rule; the function does nothing, and its contract is the law.
-pub fn forms_are_those_read()
-    ensures { (f : Forest) → (t : Source) → HasForms f t → unplaced f ≡ unplaced_sketch (text_forms t) }
+/// Clamped trees have the forms of a text exactly if the trees themselves have them without the
+/// limits of literals. A rule of this project. The function does nothing: its contract is the law.
+pub fn limits_keep_the_forms()
+    ensures unlimited { (f : Forest) → (t : Source) → HasForms (within f) t →
+        HasUnlimitedForms f t }
+    ensures clamped { (f : Forest) → (t : Source) → HasUnlimitedForms f t → HasForms (within f) t }
+{}
+
+/// The forms of trees define one answer: their text, or the offset where they are refused.
+///
+/// A rule of this project. The function does nothing: its contract is the law.
+pub fn forms_have_one_answer()
+    ensures some { (end : ℕ) → (f : Forest) → (a : Result Source FormStop) × IsAnswerFor end f a }
+    ensures one { (end : ℕ) → (f : Forest) → (a : Result Source FormStop) →
+        (b : Result Source FormStop) → IsAnswerFor end f a → IsAnswerFor end f b → a ≡ b }
 {}

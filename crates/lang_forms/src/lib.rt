@@ -1,36 +1,32 @@
-//! Programs and scripts in the forms of their notation: the trees of a text read as a program with the script
-//! behind it.
+//! The forms of programs and scripts: parses trees as a program with its script, and writes the
+//! trees of a program.
 //!
-//! `specs/Forms.antt` writes down, form by form, which trees a program and a script have; that is all there is
-//! to believe. The notation is this project's own: it stands in place of Kotlin's composable functions and of
-//! the test code that drives a composition.
-//! Promises: `program`, which the layer above calls, gives a program and a script where the trees, brought within
-//! the limits of `lang_limits`, have their forms and nothing of the program is beyond a limit; it refuses all other
-//! trees with the place of the first that does not belong, or else of the first thing that is beyond; no trees have
-//! the forms of two texts.
+//! `specs/Forms.antt` lists, form by form, which trees a program and a script have. The notation is
+//! this project's own. It takes the place of Kotlin's composable functions and of the test code
+//! that drives a composition. `program` returns a program and a script if the trees, clamped to the
+//! limits of `lang_limits`, have their forms and no part of the program exceeds a limit. It refuses
+//! all other trees at the first top form that is wrong, or else at the first part that exceeds a
+//! limit. Trees have the forms of at most one text.
 #![tactic(auto)]
 
+mod cursor;
 mod expressions;
-mod front;
-mod items;
-mod known;
+mod keywords;
+mod known_names;
 mod laws;
 mod literals;
-mod putting;
-mod reading;
-mod rest;
+mod parse_program;
+mod partial_source;
 mod script;
+mod script_forms;
 mod statements;
 mod stop;
-mod tops;
-mod words;
-mod writing;
+mod top_forms;
+mod write_expressions;
+mod write_program;
 
-pub use laws::{forms_are_those_read, forms_are_what_is_read, forms_of_one_text};
-pub use reading::program;
-pub use rest::{DoForm, Rest, StepForm, Steps};
+pub use laws::{forms_are_those_read, forms_of_one_text, limits_keep_the_forms};
+pub use parse_program::program;
+pub use script_forms::{DoForm, Rest, StepForm, StepForms};
 pub use stop::FormStop;
-pub use writing::forms_of;
-
-#[cfg(test)]
-mod tests;
+pub use write_program::forms_of;

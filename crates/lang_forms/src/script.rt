@@ -1,34 +1,34 @@
-// The steps of a script.
+// The parser of scripts.
 ghost use Rattle.std.specs.Prelude.{◌≡◌, Bool, List, codes};
-ghost use Rattle.lang_forms.specs.Seen.{write_form, step_form, step_at, steps_of, do_form};
+ghost use Rattle.lang_forms.specs.Readings.{write_form, step_form, step_at, steps_of, do_form};
 ghost use Rattle.lang_forms.specs.Views.{seen_tree, seen_all, state_names, Reads};
 
-use crate::items::{is_over, name_in, word_in};
-use crate::known::state_number;
-use crate::literals::literal_in;
-use crate::rest::{DoForm, StepForm, Steps};
-use crate::stop::ReadStop;
+use crate::cursor::{is_at_end, parse_name, skip_keyword};
+use crate::known_names::state_number;
+use crate::literals::parse_literal;
+use crate::script_forms::{DoForm, StepForm, StepForms};
+use crate::stop::ParseStop;
 use lang_ast::State;
 use sexp_text::Tree;
 use std::alloc::Global;
 
-// global NAME LITERAL behind the word write.
-#[tactic(auto, unfolding(crate::specs::Seen::write_form))]
-fn write_in(
+// Parses `global NAME LITERAL` after the word `write`.
+#[tactic(auto, unfolding(crate::specs::Readings::write_form))]
+fn parse_write(
     alloc: Global,
     states: &[State],
     at: usize,
     trees: &[Tree],
-) -> Result<StepForm, ReadStop>
+) -> Result<StepForm, ParseStop>
     ensures { Reads (λ s. s) result (write_form (state_names states.now) at (seen_all trees.now)) }
 {
-    let Some(rest) = word_in(b"global", trees) else {
-        return Err(ReadStop::NoForm);
+    let Some(rest) = skip_keyword(b"global", trees) else {
+        return Err(ParseStop::NoForm);
     };
-    let (state, rest) = name_in(alloc, rest)?;
-    let (value, rest) = literal_in(alloc, rest)?;
-    if !is_over(rest) {
-        return Err(ReadStop::NoForm);
+    let (state, rest) = parse_name(alloc, rest)?;
+    let (value, rest) = parse_literal(alloc, rest)?;
+    if !is_at_end(rest) {
+        return Err(ParseStop::NoForm);
     }
     let number = state_number(states, &state.text) as u64;
     Ok(StepForm::Write {
@@ -39,60 +39,70 @@ fn write_in(
     })
 }
 
-// A list as a step.
-#[tactic(auto, unfolding(crate::specs::Seen::step_form))]
-fn list_in(alloc: Global, states: &[State], at: usize, trees: &[Tree]) -> Result<StepForm, ReadStop>
+// Parses a list as a step.
+#[tactic(auto, unfolding(crate::specs::Readings::step_form))]
+fn parse_step_list(
+    alloc: Global,
+    states: &[State],
+    at: usize,
+    trees: &[Tree],
+) -> Result<StepForm, ParseStop>
     ensures { Reads (λ s. s) result (step_form (state_names states.now) at (seen_all trees.now)) }
 {
-    if let Some(rest) = word_in(b"write", trees) {
-        return write_in(alloc, states, at, rest);
+    if let Some(rest) = skip_keyword(b"write", trees) {
+        return parse_write(alloc, states, at, rest);
     }
-    match word_in(b"frame", trees) {
+    match skip_keyword(b"frame", trees) {
         Some(rest) => {
-            if is_over(rest) {
+            if is_at_end(rest) {
                 Ok(StepForm::Frame { at })
             } else {
-                Err(ReadStop::NoForm)
+                Err(ParseStop::NoForm)
             }
         }
-        None => Err(ReadStop::NoForm),
+        None => Err(ParseStop::NoForm),
     }
 }
 
-// A tree as a step.
+// Parses a tree as a step.
 #[tactic(auto, using(crate::proofs::Trees::trees))]
-fn step_in(alloc: Global, states: &[State], tree: &Tree) -> Result<StepForm, ReadStop>
+fn parse_step(alloc: Global, states: &[State], tree: &Tree) -> Result<StepForm, ParseStop>
     ensures { Reads (λ s. s) result (step_at (state_names states.now) (seen_tree tree.now)) }
 {
     match tree {
-        Tree::List(at, inner) => list_in(alloc, states, *at, inner),
-        Tree::Atom(..) => Err(ReadStop::NoForm),
-        Tree::Text(..) => Err(ReadStop::NoForm),
+        Tree::List(at, inner) => parse_step_list(alloc, states, *at, inner),
+        Tree::Atom(..) => Err(ParseStop::NoForm),
+        Tree::Text(..) => Err(ParseStop::NoForm),
     }
 }
 
-// Each of the trees as a step.
-#[tactic(auto, unfolding(crate::specs::Seen::steps_of))]
-fn steps_in(alloc: Global, states: &[State], trees: &[Tree]) -> Result<Vec<StepForm>, ReadStop>
+// Parses each of the trees as a step.
+#[tactic(auto, unfolding(crate::specs::Readings::steps_of))]
+fn parse_steps(alloc: Global, states: &[State], trees: &[Tree]) -> Result<Vec<StepForm>, ParseStop>
     ensures { Reads (λ v. v.items) result (steps_of (state_names states.now) (seen_all trees.now)) }
 {
     let mut steps = Vec::new(alloc);
     for tree in trees {
-        steps.push(step_in(alloc, states, tree)?)?;
+        steps.push(parse_step(alloc, states, tree)?)?;
     }
     Ok(steps)
 }
 
-// NAME STEP.. behind the word do.
-#[tactic(auto, unfolding(crate::specs::Seen::do_form))]
-pub fn do_in(alloc: Global, states: &[State], at: usize, trees: &[Tree]) -> Result<DoForm, ReadStop>
+// Parses `NAME STEP..` after the word `do`.
+#[tactic(auto, unfolding(crate::specs::Readings::do_form))]
+pub fn parse_do_form(
+    alloc: Global,
+    states: &[State],
+    at: usize,
+    trees: &[Tree],
+) -> Result<DoForm, ParseStop>
     ensures { Reads (λ d. d) result (do_form (state_names states.now) at (seen_all trees.now)) }
 {
-    let (actor, rest) = name_in(alloc, trees)?;
-    let steps = steps_in(alloc, states, rest)?;
+    let (actor, rest) = parse_name(alloc, trees)?;
+    let steps = parse_steps(alloc, states, rest)?;
     Ok(DoForm {
         at,
         actor,
-        steps: Steps::of(steps),
+        steps: StepForms::of(steps),
     })
 }

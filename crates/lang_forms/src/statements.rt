@@ -1,42 +1,46 @@
-// Statements.
+// The parser of statements.
 ghost use Rattle.std.specs.Prelude.{◌≡◌, ◌≢◌, ◌+◌, ◌≤◌, Err, IfOk, codes, map};
 ghost use Rattle.lang_ast.specs.SyntaxView.{stmt_view};
-ghost use Rattle.lang_forms.specs.Seen.{stmt_at, stmts_of, block_of, node_form, call_form, key_form, if_form, for_form, let_form, remember_form, stmt_form};
-ghost use Rattle.lang_forms.specs.Views.{widest, seen_tree, seen_all, known_view, Reads};
+ghost use Rattle.lang_forms.specs.Readings.{stmt_at, stmts_of, block_of, node_form, call_form, key_form, if_form, for_form, let_form, remember_form, stmt_form};
+ghost use Rattle.lang_forms.specs.Views.{widest, seen_tree, seen_all, known_names_view, Reads};
 
-use crate::expressions::{exprs_in, first_in, pairs_in};
-use crate::items::{is_over, name_in, word_in};
-use crate::known::{Known, function_number};
-use crate::stop::ReadStop;
+use crate::cursor::{is_at_end, parse_name, skip_keyword};
+use crate::expressions::{
+    parse_binding, parse_expressions, parse_first_expression, parse_named_pairs,
+};
+use crate::known_names::{KnownNames, function_number};
+use crate::stop::ParseStop;
 use lang_ast::Statement;
 use sexp_text::Tree;
 use std::alloc::Global;
 
-// The number behind a statement's. No text has so many statements that there is none.
-fn after(site: u32) -> Result<u32, ReadStop>
+// Returns the next statement number. Fails with `NoMemory` at `u32::MAX`, which no 1 MiB input
+// reaches.
+fn site_after(site: u32) -> Result<u32, ParseStop>
     ensures next { IfOk result (λ n. n ≡ site + 1) }
-    ensures form { result ≢ Err ReadStop.NoForm }
+    ensures form { result ≢ Err ParseStop.NoForm }
 {
     match site.checked_add(1) {
         Some(next) => Ok(next),
-        None => Err(ReadStop::NoMemory),
+        None => Err(ParseStop::NoMemory),
     }
 }
 
-// NAME EXPR.. behind the word call.
-#[tactic(auto, unfolding(crate::specs::Seen::call_form), using(crate::proofs::Trees::syntax))]
-fn call_in(
+// Parses `NAME EXPR..` after the word `call`.
+#[tactic(auto, unfolding(crate::specs::Readings::call_form), using(crate::proofs::Trees::syntax))]
+fn parse_call(
     alloc: Global,
-    known: &Known,
+    known: &KnownNames,
     site: u32,
     at: usize,
     trees: &[Tree],
-) -> Result<(Statement, u32), ReadStop>
-    ensures { Reads (λ p. (stmt_view p.0, p.1)) result (call_form (known_view known.now) site at (seen_all trees.now)) }
+) -> Result<(Statement, u32), ParseStop>
+    ensures { Reads (λ p. (stmt_view p.0, p.1)) result
+        (call_form (known_names_view known.now) site at (seen_all trees.now)) }
 {
-    let (name, rest) = name_in(alloc, trees)?;
-    let next = after(site)?;
-    let arguments = exprs_in(alloc, known.states, rest)?;
+    let (name, rest) = parse_name(alloc, trees)?;
+    let next = site_after(site)?;
+    let arguments = parse_expressions(alloc, known.states, rest)?;
     let function = function_number(known.functions, &name.text);
     Ok((
         Statement::Call {
@@ -50,76 +54,77 @@ fn call_in(
     ))
 }
 
-// A tree as a statement, and the number of the next one.
+// Parses a tree as a statement, and returns the number of the next statement.
 #[tactic(auto, using(crate::proofs::Trees::trees))]
 #[cycle(statements)]
-fn stmt_in(
+fn parse_statement(
     alloc: Global,
-    known: &Known,
+    known: &KnownNames,
     site: u32,
     tree: &Tree,
-) -> Result<(Statement, u32), ReadStop>
-    ensures { Reads (λ p. (stmt_view p.0, p.1)) result (stmt_at (known_view known.now) site (seen_tree tree.now)) }
+) -> Result<(Statement, u32), ParseStop>
+    ensures { Reads (λ p. (stmt_view p.0, p.1)) result
+        (stmt_at (known_names_view known.now) site (seen_tree tree.now)) }
 {
     match tree {
-        Tree::List(at, inner) => list_in(alloc, known, site, *at, inner),
-        Tree::Atom(..) => Err(ReadStop::NoForm),
-        Tree::Text(..) => Err(ReadStop::NoForm),
+        Tree::List(at, inner) => parse_statement_list(alloc, known, site, *at, inner),
+        Tree::Atom(..) => Err(ParseStop::NoForm),
+        Tree::Text(..) => Err(ParseStop::NoForm),
     }
 }
 
-// A list as a statement.
-#[tactic(auto, unfolding(crate::specs::Seen::stmt_form))]
+// Parses a list as a statement, and returns the number of the next statement.
+#[tactic(auto, unfolding(crate::specs::Readings::stmt_form))]
 #[cycle(statements)]
-fn list_in(
+fn parse_statement_list(
     alloc: Global,
-    known: &Known,
+    known: &KnownNames,
     site: u32,
     at: usize,
     trees: &[Tree],
-) -> Result<(Statement, u32), ReadStop>
-    ensures { Reads (λ p. (stmt_view p.0, p.1)) result (stmt_form (known_view known.now) site at (seen_all trees.now)) }
+) -> Result<(Statement, u32), ParseStop>
+    ensures { Reads (λ p. (stmt_view p.0, p.1)) result
+        (stmt_form (known_names_view known.now) site at (seen_all trees.now)) }
 {
-    if let Some(rest) = word_in(b"node", trees) {
-        return node_in(alloc, known, site, at, rest);
+    if let Some(rest) = skip_keyword(b"node", trees) {
+        return parse_node(alloc, known, site, at, rest);
     }
-    if let Some(rest) = word_in(b"call", trees) {
-        return call_in(alloc, known, site, at, rest);
+    if let Some(rest) = skip_keyword(b"call", trees) {
+        return parse_call(alloc, known, site, at, rest);
     }
-    if let Some(rest) = word_in(b"key", trees) {
-        return key_in(alloc, known, site, at, rest);
+    if let Some(rest) = skip_keyword(b"key", trees) {
+        return parse_key(alloc, known, site, at, rest);
     }
-    if let Some(rest) = word_in(b"if", trees) {
-        return if_in(alloc, known, site, at, rest);
+    if let Some(rest) = skip_keyword(b"if", trees) {
+        return parse_if(alloc, known, site, at, rest);
     }
-    if let Some(rest) = word_in(b"for", trees) {
-        return for_in(alloc, known, site, at, rest);
+    if let Some(rest) = skip_keyword(b"for", trees) {
+        return parse_for(alloc, known, site, at, rest);
     }
-    if let Some(rest) = word_in(b"let", trees) {
-        return let_in(alloc, known, site, at, rest);
+    if let Some(rest) = skip_keyword(b"let", trees) {
+        return parse_let(alloc, known, site, at, rest);
     }
-    if let Some(rest) = word_in(b"remember", trees) {
-        return remember_in(alloc, known, site, at, rest);
+    if let Some(rest) = skip_keyword(b"remember", trees) {
+        return parse_remember(alloc, known, site, at, rest);
     }
-    Err(ReadStop::NoForm)
+    Err(ParseStop::NoForm)
 }
 
-// NAME ((NAME EXPR)..) STMT.. behind the word node.
-#[tactic(auto, unfolding(crate::specs::Seen::node_form), using(crate::proofs::Trees::syntax))]
+// Parses `NAME ((NAME EXPR)..) STMT..` after the word `node`.
+#[tactic(auto, unfolding(crate::specs::Readings::node_form), using(crate::proofs::Trees::syntax))]
 #[cycle(statements)]
-fn node_in(
+fn parse_node(
     alloc: Global,
-    known: &Known,
+    known: &KnownNames,
     site: u32,
     at: usize,
     trees: &[Tree],
-) -> Result<(Statement, u32), ReadStop>
-    ensures { Reads (λ p. (stmt_view p.0, p.1)) result (node_form (known_view known.now) site at (seen_all trees.now)) }
+) -> Result<(Statement, u32), ParseStop>
+    ensures { Reads (λ p. (stmt_view p.0, p.1)) result
+        (node_form (known_names_view known.now) site at (seen_all trees.now)) }
 {
-    let (kind, rest) = name_in(alloc, trees)?;
-    let (attributes, rest) = pairs_in(alloc, known.states, rest)?;
-    let inner = after(site)?;
-    let (body, next) = stmts_in(alloc, known, inner, rest)?;
+    let (kind, attributes, rest) = parse_named_pairs(alloc, known.states, trees)?;
+    let (body, next) = parse_body(alloc, known, site, rest)?;
     Ok((
         Statement::Node {
             at,
@@ -132,21 +137,21 @@ fn node_in(
     ))
 }
 
-// EXPR STMT.. behind the word key.
-#[tactic(auto, unfolding(crate::specs::Seen::key_form), using(crate::proofs::Trees::syntax))]
+// Parses `EXPR STMT..` after the word `key`.
+#[tactic(auto, unfolding(crate::specs::Readings::key_form), using(crate::proofs::Trees::syntax))]
 #[cycle(statements)]
-fn key_in(
+fn parse_key(
     alloc: Global,
-    known: &Known,
+    known: &KnownNames,
     site: u32,
     at: usize,
     trees: &[Tree],
-) -> Result<(Statement, u32), ReadStop>
-    ensures { Reads (λ p. (stmt_view p.0, p.1)) result (key_form (known_view known.now) site at (seen_all trees.now)) }
+) -> Result<(Statement, u32), ParseStop>
+    ensures { Reads (λ p. (stmt_view p.0, p.1)) result
+        (key_form (known_names_view known.now) site at (seen_all trees.now)) }
 {
-    let (key, rest) = first_in(alloc, known.states, trees)?;
-    let inner = after(site)?;
-    let (body, next) = stmts_in(alloc, known, inner, rest)?;
+    let (key, rest) = parse_first_expression(alloc, known.states, trees)?;
+    let (body, next) = parse_body(alloc, known, site, rest)?;
     Ok((
         Statement::Key {
             at,
@@ -158,24 +163,25 @@ fn key_in(
     ))
 }
 
-// EXPR (STMT..) (STMT..) behind the word if.
-#[tactic(auto, unfolding(crate::specs::Seen::if_form), using(crate::proofs::Trees::syntax))]
+// Parses `EXPR (STMT..) (STMT..)` after the word `if`.
+#[tactic(auto, unfolding(crate::specs::Readings::if_form), using(crate::proofs::Trees::syntax))]
 #[cycle(statements)]
-fn if_in(
+fn parse_if(
     alloc: Global,
-    known: &Known,
+    known: &KnownNames,
     site: u32,
     at: usize,
     trees: &[Tree],
-) -> Result<(Statement, u32), ReadStop>
-    ensures { Reads (λ p. (stmt_view p.0, p.1)) result (if_form (known_view known.now) site at (seen_all trees.now)) }
+) -> Result<(Statement, u32), ParseStop>
+    ensures { Reads (λ p. (stmt_view p.0, p.1)) result
+        (if_form (known_names_view known.now) site at (seen_all trees.now)) }
 {
-    let (condition, rest) = first_in(alloc, known.states, trees)?;
-    let inner = after(site)?;
-    let (then_branch, next, rest) = block_in(alloc, known, inner, rest)?;
-    let (else_branch, next, rest) = block_in(alloc, known, next, rest)?;
-    if !is_over(rest) {
-        return Err(ReadStop::NoForm);
+    let (condition, rest) = parse_first_expression(alloc, known.states, trees)?;
+    let inner = site_after(site)?;
+    let (then_branch, next, rest) = parse_block(alloc, known, inner, rest)?;
+    let (else_branch, next, rest) = parse_block(alloc, known, next, rest)?;
+    if !is_at_end(rest) {
+        return Err(ParseStop::NoForm);
     }
     Ok((
         Statement::If {
@@ -189,22 +195,21 @@ fn if_in(
     ))
 }
 
-// NAME EXPR STMT.. behind the word for.
-#[tactic(auto, unfolding(crate::specs::Seen::for_form), using(crate::proofs::Trees::syntax))]
+// Parses `NAME EXPR STMT..` after the word `for`.
+#[tactic(auto, unfolding(crate::specs::Readings::for_form), using(crate::proofs::Trees::syntax))]
 #[cycle(statements)]
-fn for_in(
+fn parse_for(
     alloc: Global,
-    known: &Known,
+    known: &KnownNames,
     site: u32,
     at: usize,
     trees: &[Tree],
-) -> Result<(Statement, u32), ReadStop>
-    ensures { Reads (λ p. (stmt_view p.0, p.1)) result (for_form (known_view known.now) site at (seen_all trees.now)) }
+) -> Result<(Statement, u32), ParseStop>
+    ensures { Reads (λ p. (stmt_view p.0, p.1)) result
+        (for_form (known_names_view known.now) site at (seen_all trees.now)) }
 {
-    let (name, rest) = name_in(alloc, trees)?;
-    let (list, rest) = first_in(alloc, known.states, rest)?;
-    let inner = after(site)?;
-    let (body, next) = stmts_in(alloc, known, inner, rest)?;
+    let (name, list, rest) = parse_binding(alloc, known.states, trees)?;
+    let (body, next) = parse_body(alloc, known, site, rest)?;
     Ok((
         Statement::For {
             at,
@@ -217,22 +222,21 @@ fn for_in(
     ))
 }
 
-// NAME EXPR STMT.. behind the word let.
-#[tactic(auto, unfolding(crate::specs::Seen::let_form), using(crate::proofs::Trees::syntax))]
+// Parses `NAME EXPR STMT..` after the word `let`.
+#[tactic(auto, unfolding(crate::specs::Readings::let_form), using(crate::proofs::Trees::syntax))]
 #[cycle(statements)]
-fn let_in(
+fn parse_let(
     alloc: Global,
-    known: &Known,
+    known: &KnownNames,
     site: u32,
     at: usize,
     trees: &[Tree],
-) -> Result<(Statement, u32), ReadStop>
-    ensures { Reads (λ p. (stmt_view p.0, p.1)) result (let_form (known_view known.now) site at (seen_all trees.now)) }
+) -> Result<(Statement, u32), ParseStop>
+    ensures { Reads (λ p. (stmt_view p.0, p.1)) result
+        (let_form (known_names_view known.now) site at (seen_all trees.now)) }
 {
-    let (name, rest) = name_in(alloc, trees)?;
-    let (value, rest) = first_in(alloc, known.states, rest)?;
-    let inner = after(site)?;
-    let (body, next) = stmts_in(alloc, known, inner, rest)?;
+    let (name, value, rest) = parse_binding(alloc, known.states, trees)?;
+    let (body, next) = parse_body(alloc, known, site, rest)?;
     Ok((
         Statement::Let {
             at,
@@ -245,23 +249,22 @@ fn let_in(
     ))
 }
 
-// NAME ((NAME EXPR)..) EXPR STMT.. behind the word remember.
-#[tactic(auto, unfolding(crate::specs::Seen::remember_form), using(crate::proofs::Trees::syntax))]
+// Parses `NAME ((NAME EXPR)..) EXPR STMT..` after the word `remember`.
+#[tactic(auto, unfolding(crate::specs::Readings::remember_form), using(crate::proofs::Trees::syntax))]
 #[cycle(statements)]
-fn remember_in(
+fn parse_remember(
     alloc: Global,
-    known: &Known,
+    known: &KnownNames,
     site: u32,
     at: usize,
     trees: &[Tree],
-) -> Result<(Statement, u32), ReadStop>
-    ensures { Reads (λ p. (stmt_view p.0, p.1)) result (remember_form (known_view known.now) site at (seen_all trees.now)) }
+) -> Result<(Statement, u32), ParseStop>
+    ensures { Reads (λ p. (stmt_view p.0, p.1)) result
+        (remember_form (known_names_view known.now) site at (seen_all trees.now)) }
 {
-    let (name, rest) = name_in(alloc, trees)?;
-    let (keys, rest) = pairs_in(alloc, known.states, rest)?;
-    let (value, rest) = first_in(alloc, known.states, rest)?;
-    let inner = after(site)?;
-    let (body, next) = stmts_in(alloc, known, inner, rest)?;
+    let (name, keys, rest) = parse_named_pairs(alloc, known.states, trees)?;
+    let (value, rest) = parse_first_expression(alloc, known.states, rest)?;
+    let (body, next) = parse_body(alloc, known, site, rest)?;
     Ok((
         Statement::Remember {
             at,
@@ -275,44 +278,63 @@ fn remember_in(
     ))
 }
 
-// A list of statements in front, the number behind them, and the trees behind it.
+// Parses the first tree as a list of statements. Returns the number of the next statement and the
+// trees after the first.
 #[tactic(auto, using(crate::proofs::Trees::trees))]
 #[cycle(statements)]
-fn block_in<'a>(
+fn parse_block<'a>(
     alloc: Global,
-    known: &Known,
+    known: &KnownNames,
     site: u32,
     trees: &'a [Tree],
-) -> Result<(Vec<Statement>, u32, &'a [Tree]), ReadStop>
-    ensures seen { Reads (λ p. ((map stmt_view p.0.items, p.1), seen_all p.2.now)) result (block_of (known_view known.now) site (seen_all trees.now)) }
+) -> Result<(Vec<Statement>, u32, &'a [Tree]), ParseStop>
+    ensures seen { Reads (λ p. ((map stmt_view p.0.items, p.1), seen_all p.2.now)) result
+        (block_of (known_names_view known.now) site (seen_all trees.now)) }
     ensures within { IfOk result (λ p. widest p.2.now ≤ widest trees.now) }
 {
     match trees.split_first() {
         Some((Tree::List(_, inner), rest)) => {
-            let (stmts, next) = stmts_in(alloc, known, site, inner)?;
+            let (stmts, next) = parse_statements(alloc, known, site, inner)?;
             Ok((stmts, next, rest))
         }
-        _ => Err(ReadStop::NoForm),
+        _ => Err(ParseStop::NoForm),
     }
 }
 
-// Each of the trees as a statement, and the number behind them.
-#[tactic(auto, unfolding(crate::specs::Seen::stmts_of))]
+// Parses the statements inside the statement with the number `site`, and returns the number of the
+// next statement.
 #[cycle(statements)]
-pub fn stmts_in(
+fn parse_body(
     alloc: Global,
-    known: &Known,
+    known: &KnownNames,
     site: u32,
     trees: &[Tree],
-) -> Result<(Vec<Statement>, u32), ReadStop>
-    ensures { Reads (λ p. (map stmt_view p.0.items, p.1)) result (stmts_of (known_view known.now) site (seen_all trees.now)) }
+) -> Result<(Vec<Statement>, u32), ParseStop>
+    ensures { Reads (λ p. (map stmt_view p.0.items, p.1)) result
+        (stmts_of (known_names_view known.now) (site + 1) (seen_all trees.now)) }
+{
+    let first = site_after(site)?;
+    parse_statements(alloc, known, first, trees)
+}
+
+// Parses each of the trees as a statement, and returns the number of the next statement.
+#[tactic(auto, unfolding(crate::specs::Readings::stmts_of))]
+#[cycle(statements)]
+pub fn parse_statements(
+    alloc: Global,
+    known: &KnownNames,
+    site: u32,
+    trees: &[Tree],
+) -> Result<(Vec<Statement>, u32), ParseStop>
+    ensures { Reads (λ p. (map stmt_view p.0.items, p.1)) result
+        (stmts_of (known_names_view known.now) site (seen_all trees.now)) }
 {
     let mut stmts = Vec::new(alloc);
     let mut next = site;
     for tree in trees {
-        let (stmt, after) = stmt_in(alloc, known, next, tree)?;
+        let (stmt, site_after) = parse_statement(alloc, known, next, tree)?;
         stmts.push(stmt)?;
-        next = after;
+        next = site_after;
     }
     Ok((stmts, next))
 }

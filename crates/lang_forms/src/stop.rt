@@ -1,23 +1,23 @@
-// Why trees are refused.
+// The refusals of the parser.
 use rt_values::NoMemory;
 use std::alloc::{AllocError, AllocFailed};
 
-/// Why no program and script was read. This project's own rule.
+/// Why trees are no program with a script. A rule of this project.
 #[derive(Clone, Copy, Debug, PartialEq, Eq)]
 pub enum FormStop {
-    /// At `at` stands the first top form that is none of the language, or that stands out of order; or the input
-    /// ends there without a header.
+    /// The first top form that is wrong or out of order is at `at`, or the input ends at `at`
+    /// without a header.
     Form { at: usize },
-    /// The forms are those of a text, and at `at` stands the first thing of the program that is beyond a limit.
+    /// The forms are right, and `at` is the first offset of the program that exceeds a limit.
     Limit { at: usize },
     /// Memory ran out.
     NoMemory,
 }
 
-/// Why a part of a text was not read.
+/// Why trees are no part of a program.
 #[derive(Clone, Copy, Debug, PartialEq, Eq)]
-pub enum ReadStop {
-    /// It has not the form of the part.
+pub enum ParseStop {
+    /// The trees do not have the form.
     NoForm,
     /// Memory ran out.
     NoMemory,
@@ -34,35 +34,35 @@ impl From<NoMemory> for FormStop {
     }
 }
 
-impl From<AllocError> for ReadStop {
+impl From<AllocError> for ParseStop {
     ghost use Rattle.std.specs.Prelude.{◌≡◌};
-    ghost use Rattle.lang_forms.specs.declared.stop.ReadStop.TheVariants.{NoMemory};
+    ghost use Rattle.lang_forms.specs.declared.stop.ParseStop.TheVariants.{NoMemory};
 
     ghost from_gives = { λ _ e. e ≡ NoMemory };
 
     fn from(_: AllocError) -> Self {
-        ReadStop::NoMemory
+        ParseStop::NoMemory
     }
 }
 
-impl<T: Drop> From<AllocFailed<T>> for ReadStop {
+impl<T: Drop> From<AllocFailed<T>> for ParseStop {
     ghost use Rattle.std.specs.Prelude.{◌≡◌};
-    ghost use Rattle.lang_forms.specs.declared.stop.ReadStop.TheVariants.{NoMemory};
+    ghost use Rattle.lang_forms.specs.declared.stop.ParseStop.TheVariants.{NoMemory};
 
     ghost from_gives = { λ _ e. e ≡ NoMemory };
 
     fn from(_: AllocFailed<T>) -> Self {
-        ReadStop::NoMemory
+        ParseStop::NoMemory
     }
 }
 
-impl From<NoMemory> for ReadStop {
+impl From<NoMemory> for ParseStop {
     ghost use Rattle.std.specs.Prelude.{◌≡◌};
-    ghost use Rattle.lang_forms.specs.declared.stop.ReadStop.TheVariants.{NoMemory as no_memory};
+    ghost use Rattle.lang_forms.specs.declared.stop.ParseStop.TheVariants.{NoMemory as no_memory};
 
     ghost from_gives = { λ _ e. e ≡ no_memory };
 
     fn from(_: NoMemory) -> Self {
-        ReadStop::NoMemory
+        ParseStop::NoMemory
     }
 }

@@ -1,4 +1,4 @@
--- Numbers as they are written.
+-- Numbers in decimals.
 use Rattle.std.proofs.Common.{arith, ◌≡◌, ◌≢◌, ◌∙◌, ◌<◌, ◌==◌, ◌&&◌, ◌||◌, not, ◌^◌, ℕ, suc, zero, nat_le, List, [], ◌∷◌, Bool, true, false, ℤ, pos, negsuc, refl, sym, ap, subst, true≢false, Result, Ok, Err}
 use Rattle.std.specs.Prelude.{FitsSigned, codes, if◌then◌else◌}
 use Rattle.std.specs.Int.{w64, IsInRange}
@@ -47,7 +47,7 @@ counting_digits (b ∷ bs) h =
     let q = and_parts (is_digit b) (not (b == 48)) p.0 in
     rw (q.0, p.1) refl
 
--- what a number is behind its sign, where it has one
+-- a number after its sign, if it has one
 data Written : List ℕ → Type 0 where
   negative : (bs : List ℕ) → IsNumeral 10 bs → IsAscii bs → Written (45 ∷ bs)
   plain : (b : ℕ) (bs : List ℕ) → b ≢ 45 → b ≢ 43 → IsNumeral 10 (b ∷ bs) → IsAscii (b ∷ bs) → Written (b ∷ bs)
@@ -93,7 +93,7 @@ fits_from : (z : ℤ) → FitsSigned w64 z → fits z ≡ true
 fits_from (pos n) f = let lt : n < 2 ^ 63 = omega (arith, ints) in lt-ltb n (2 ^ 63) lt
 fits_from (negsuc n) f = let lt : n < 2 ^ 63 = omega (arith, ints) in lt-ltb n (2 ^ 63) lt
 
--- a number is parsed exactly where it fits
+-- a number is parsed exactly if it fits
 pub parsed : {E : Type 0} (a : List ℕ) (r : Result ℤ E) → is_int a ≡ true → ParsesSigned w64 10 a r → is_ok r ≡ fits (signed_digits_value 10 a)
 parsed a (Ok z) h p = sym (fits_from _ p.0.1)
 parsed a (Err e) h p = sym (false_from_ne_true _ (λ t. p (written_numeral a (written a h), fits-true _ t)))

@@ -1,15 +1,15 @@
--- The least place of several lists.
+-- The least offset of several lists.
 use Rattle.std.proofs.Common.{arith, ◌≡◌, ◌⊎◌, ◌≤◌, ℕ, inl, inr, suc, min, All, Contains, nat_lt, List, [], ◌∷◌, ◌++◌, Option, Some, false, refl}
 use Rattle.std.proofs.lemmas.Bool.Decides.{nat_tests}
 use Rattle.std.proofs.lemmas.List.Elements.{All-cons, All-nil}
-use Rattle.lang_limits.specs.Least.{lesser, least_of}
+use Rattle.lang_limits.specs.LeastOffset.{lesser_offset, least_offset_from}
 use Rattle.lang_limits.specs.Laws.{LeastIsLeast, NoLeastNoPlace}
 
-pub least_append : (o : Option ℕ) (xs ys : List ℕ) → least_of o (xs ++ ys) ≡ least_of (least_of o xs) ys
+pub least_append : (o : Option ℕ) (xs ys : List ℕ) → least_offset_from o (xs ++ ys) ≡ least_offset_from (least_offset_from o xs) ys
 least_append o [] ys = refl
-least_append o (x ∷ xs) ys = least_append (lesser o x) xs ys
+least_append o (x ∷ xs) ys = least_append (lesser_offset o x) xs ys
 
--- the answer where a place is kept: no more than that, among all, and no place before it
+-- the least offset from a first one: at most that, one of all, and no offset before it
 Least : List ℕ → ℕ → ℕ → Type 0
 Least places kept at = ((kept ≡ at) ⊎ Contains places at) × (at ≤ kept) × All (λ other. nat_lt other at ≡ false) places
 
@@ -31,7 +31,7 @@ lesser_is kept p = grind arith
 not_before : (other at : ℕ) → at ≤ other → nat_lt other at ≡ false
 not_before other at h = grind (arith, nat_tests)
 
-least_from : (places : List ℕ) (kept at : ℕ) → least_of (Some kept) places ≡ Some at → Least places kept at
+least_from : (places : List ℕ) (kept at : ℕ) → least_offset_from (Some kept) places ≡ Some at → Least places kept at
 unfolding Least
 least_from [] kept at h = (inl (inject h), omega (arith, inject h), All-nil (λ (other : ℕ). nat_lt other at ≡ false))
 least_from (p ∷ ps) kept at h = by (least_from ps (min kept p) at h) (lesser_is kept p)
@@ -50,11 +50,11 @@ least_is_least (p ∷ ps) at h =
     let l = least_from ps p at h in
     (first p at ps l.0, All-cons (λ (other : ℕ). nat_lt other at ≡ false) p ps (not_before p at l.1) l.2)
 
-kept : (places : List ℕ) (at : ℕ) → (least : ℕ) × (least_of (Some at) places ≡ Some least)
+kept : (places : List ℕ) (at : ℕ) → (least : ℕ) × (least_offset_from (Some at) places ≡ Some least)
 kept [] at = (at, refl)
 kept (p ∷ ps) at = kept ps (min at p)
 
--- where none is least there is none
+-- no least offset of no offsets
 pub no_least : NoLeastNoPlace
 no_least [] h = refl
 no_least (p ∷ ps) h = let k = kept ps p in absurd (cc (k.1))

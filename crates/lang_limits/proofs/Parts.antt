@@ -1,4 +1,4 @@
--- Parts of programs, one after another.
+-- Parts of programs, in order.
 use Rattle.std.proofs.Common.{arith, ◌≡◌, ◌∙◌, ◌≤◌, ◌<◌, ◌+◌, ℕ, suc, add-one, max, min, leb, nat_lt, length, get_or, drop, drop-cons, List, [], ◌∷◌, ◌++◌, map, slice_get, option_map, Option, None, Some, Bool, true, false, ◌||◌, refl, sym, ap, append_assoc}
 use Rattle.std.proofs.lemmas.Bool.{lt-ltb, leb-true, leb-false}
 use Rattle.std.proofs.lemmas.List.{append-nil, length-map}
@@ -11,14 +11,14 @@ use Rattle.lang_ast.specs.declared.syntax.Expression.{Expression}
 use Rattle.lang_ast.specs.declared.syntax.Statement.{Statement}
 use Rattle.lang_ast.specs.declared.syntax.Function.{Function}
 use Rattle.lang_ast.specs.declared.syntax.Named as named
-use Rattle.lang_limits.specs.Least.{over, least_of}
+use Rattle.lang_limits.specs.LeastOffset.{offset_if, least_offset_from}
 use Rattle.lang_limits.specs.Sizes.{most_parts, nesting, deepest, expr_sizes, exprs_sizes, named_sizes, stmt_sizes, stmts_sizes, function_sizes, functions_sizes, state_place, function_place}
 use Rattle.lang_limits.proofs.Lesser.{least_append}
 
--- what each form in memory stands for, and the least of one list behind another
+-- the view of each form in memory, and the least of one list after another
 pub ruleset parts = (view-Literal, view-Variable, view-Get, view-Apply, view-Node, view-Call, view-Key, view-If, view-For, view-Let, view-Remember, least_append, append-nil)
 
--- the item at a place, and what stands behind it
+-- the item at an index, and those after it
 drop_item : {A : Type 0} (xs : List A) (i : ℕ) (x : A) → i < length xs → x ≡ get_or xs i x → drop i xs ≡ x ∷ drop (i + 1) xs
 drop_item {A} xs i x h is = drop-cons xs i x h ∙ ap (λ (y : A). y ∷ drop (suc i) xs) (sym is) ∙ ap (λ (k : ℕ). x ∷ drop k xs) (sym (add-one i))
 
@@ -27,33 +27,33 @@ pub deepest_step : (es : List Expression) (i : ℕ) (e : Expression) → i < len
 deepest_step es i e h is = ap (λ (l : List Expression). deepest (exprs_view l)) (drop_item es i e h is)
 
 pub exprs_step : (es : List Expression) (i : ℕ) (e : Expression) (o : Option ℕ) → i < length es → e ≡ get_or es i e →
-    least_of o (exprs_sizes (exprs_view (drop i es))) ≡ least_of (least_of o (expr_sizes (expr_view e))) (exprs_sizes (exprs_view (drop (i + 1) es)))
+    least_offset_from o (exprs_sizes (exprs_view (drop i es))) ≡ least_offset_from (least_offset_from o (expr_sizes (expr_view e))) (exprs_sizes (exprs_view (drop (i + 1) es)))
 exprs_step es i e o h is =
-    ap (λ (l : List Expression). least_of o (exprs_sizes (exprs_view l))) (drop_item es i e h is)
+    ap (λ (l : List Expression). least_offset_from o (exprs_sizes (exprs_view l))) (drop_item es i e h is)
     ∙ least_append o (expr_sizes (expr_view e)) (exprs_sizes (exprs_view (drop (i + 1) es)))
 
 pub named_step : (ns : List named.Named) (i : ℕ) (n : named.Named) (o : Option ℕ) → i < length ns → n ≡ get_or ns i n →
-    least_of o (named_sizes (nameds_view (drop i ns))) ≡ least_of (least_of o (expr_sizes (expr_view n.value))) (named_sizes (nameds_view (drop (i + 1) ns)))
+    least_offset_from o (named_sizes (nameds_view (drop i ns))) ≡ least_offset_from (least_offset_from o (expr_sizes (expr_view n.value))) (named_sizes (nameds_view (drop (i + 1) ns)))
 named_step ns i n o h is =
-    ap (λ (l : List named.Named). least_of o (named_sizes (nameds_view l))) (drop_item ns i n h is)
+    ap (λ (l : List named.Named). least_offset_from o (named_sizes (nameds_view l))) (drop_item ns i n h is)
     ∙ least_append o (expr_sizes (expr_view n.value)) (named_sizes (nameds_view (drop (i + 1) ns)))
 
 pub stmts_step : (d : ℕ) (ss : List Statement) (i : ℕ) (s : Statement) (o : Option ℕ) → i < length ss → s ≡ get_or ss i s →
-    least_of o (stmts_sizes d (stmts_view (drop i ss))) ≡ least_of (least_of o (stmt_sizes d (stmt_view s))) (stmts_sizes d (stmts_view (drop (i + 1) ss)))
+    least_offset_from o (stmts_sizes d (stmts_view (drop i ss))) ≡ least_offset_from (least_offset_from o (stmt_sizes d (stmt_view s))) (stmts_sizes d (stmts_view (drop (i + 1) ss)))
 stmts_step d ss i s o h is =
-    ap (λ (l : List Statement). least_of o (stmts_sizes d (stmts_view l))) (drop_item ss i s h is)
+    ap (λ (l : List Statement). least_offset_from o (stmts_sizes d (stmts_view l))) (drop_item ss i s h is)
     ∙ least_append o (stmt_sizes d (stmt_view s)) (stmts_sizes d (stmts_view (drop (i + 1) ss)))
 
 pub functions_step : (fs : List Function) (i : ℕ) (f : Function) (o : Option ℕ) → i < length fs → f ≡ get_or fs i f →
-    least_of o (functions_sizes (functions_view (drop i fs))) ≡ least_of (least_of o (function_sizes (function_view f))) (functions_sizes (functions_view (drop (i + 1) fs)))
+    least_offset_from o (functions_sizes (functions_view (drop i fs))) ≡ least_offset_from (least_offset_from o (function_sizes (function_view f))) (functions_sizes (functions_view (drop (i + 1) fs)))
 functions_step fs i f o h is =
-    ap (λ (l : List Function). least_of o (functions_sizes (functions_view l))) (drop_item fs i f h is)
+    ap (λ (l : List Function). least_offset_from o (functions_sizes (functions_view l))) (drop_item fs i f h is)
     ∙ least_append o (function_sizes (function_view f)) (functions_sizes (functions_view (drop (i + 1) fs)))
 
 pub state_at : (ss : List State) (i : ℕ) → slice_get (map state_place ss) i ≡ option_map state_place (slice_get ss i)
 state_at ss i = slice_get-map state_place ss i
 
--- the places of functions in memory
+-- the offsets of functions in memory
 pub function_places : (fs : List Function) → map function_place (functions_view fs) ≡ map (λ (f : Function). f.at) fs
 function_places [] = refl
 function_places (f ∷ fs) = ap (λ (rest : List ℕ). f.at ∷ rest) (function_places fs)
@@ -61,13 +61,13 @@ function_places (f ∷ fs) = ap (λ (rest : List ℕ). f.at ∷ rest) (function_
 pub function_at : (fs : List Function) (i : ℕ) → slice_get (map (λ (f : Function). f.at) fs) i ≡ option_map (λ (f : Function). f.at) (slice_get fs i)
 function_at fs i = slice_get-map (λ (f : Function). f.at) fs i
 
-over_same : (d e at : ℕ) → most_parts < d → most_parts < e → over (nat_lt most_parts d) at ≡ over (nat_lt most_parts e) at
+over_same : (d e at : ℕ) → most_parts < d → most_parts < e → offset_if (nat_lt most_parts d) at ≡ offset_if (nat_lt most_parts e) at
 over_same d e at h k = rw (lt-ltb most_parts d h, lt-ltb most_parts e k) refl
 
 deeper : (d : ℕ) → most_parts < d → most_parts < d + 1
 deeper d h = omega arith
 
--- all statements that stand too deep have the same
+-- statements that are nested too deep have the same oversized parts at each depth
 mutual
   stmt_same : (s : Stmt) (d e : ℕ) → most_parts < d → most_parts < e → stmt_sizes d s ≡ stmt_sizes e s
   stmt_same (Node at site n ns body) d e h k = rw (over_same d e at h k, stmts_same body (d + 1) (e + 1) (deeper d h) (deeper e k)) refl
@@ -83,7 +83,7 @@ mutual
   stmts_same done d e h k = refl
   stmts_same (next s ss) d e h k = rw (stmt_same s d e h k, stmts_same ss d e h k) refl
 
--- a depth counts no further than the first that is too deep
+-- a depth counts only to the first that is too deep
 pub too_deep : (d : ℕ) (ss : Stmts) → stmts_sizes (min d most_parts + 1) ss ≡ stmts_sizes (d + 1) ss
 too_deep d ss = by (leb d most_parts) refl
   where

@@ -1,5 +1,5 @@
-pub mod Least
+pub mod LeastOffset
 pub mod Tokens
 pub mod Sizes
-pub mod Within
+pub mod Clamped
 pub mod Laws

@@ -1,17 +1,17 @@
 // Laws of the limits, each the contract of a function that does nothing.
 ghost use Rattle.lang_limits.specs.Laws.{LeastIsLeast, NoLeastNoPlace, WithinStays};
 
-/// The least place is one of them, and none is before it. This project's own rule.
+/// The least offset is one of the offsets, and no offset is before it. A rule of this project.
 pub fn least_is_least()
     ensures { LeastIsLeast }
 {}
 
-/// Where none is the least, there is no place. This project's own rule.
+/// If there is no least offset, there are no offsets. A rule of this project.
 pub fn no_least_no_place()
     ensures { NoLeastNoPlace }
 {}
 
-/// A forest stays as it is where nothing of it is beyond its limit. This project's own rule.
+/// A forest without oversized tokens stays as it is. A rule of this project.
 pub fn within_stays()
     ensures { WithinStays }
 {}

@@ -1,10 +1,10 @@
-// The least of some places.
+// The least of several offsets.
 ghost use Rattle.std.specs.Prelude.{◌≡◌};
-ghost use Rattle.lang_limits.specs.Least.{over, least_of};
+ghost use Rattle.lang_limits.specs.LeastOffset.{offset_if, least_offset_from};
 
-/// The least place so far, where something at this place is too much or is not.
+/// Returns the lesser of `least` and `at` if `is_over`, and else `least`.
 pub fn note(is_over: bool, at: usize, least: Option<usize>) -> Option<usize>
-    ensures { result ≡ least_of least (over is_over at) }
+    ensures { result ≡ least_offset_from least (offset_if is_over at) }
 {
     if !is_over {
         return least;

@@ -1,8 +1,8 @@
-// Numbers as they are written, and those that have not room in 64 bits.
+// Numbers in decimals, and those that do not fit into 64 bits.
 ghost use Rattle.std.specs.Prelude.{◌≡◌, true};
 ghost use Rattle.std.specs.List.{list_all};
 ghost use Rattle.std.specs.Str.Parse.{signed_digits_value};
-ghost use Rattle.lang_limits.specs.Tokens.{fits, is_digit, is_counting, is_int, is_int_beyond};
+ghost use Rattle.lang_limits.specs.Tokens.{fits, is_digit, is_counting, is_int, is_oversized_int};
 
 // Whether a byte is a digit.
 fn is_digit(b: u8) -> bool
@@ -11,7 +11,7 @@ fn is_digit(b: u8) -> bool
     b'0' <= b && b <= b'9'
 }
 
-// Whether all of the bytes are digits.
+// Whether all bytes are digits.
 fn are_digits(bytes: &[u8]) -> bool
     ensures { result ≡ list_all is_digit bytes.now }
 {
@@ -28,7 +28,7 @@ fn is_counting(bytes: &[u8]) -> bool
     }
 }
 
-/// Whether the bytes are a number as it is written.
+/// Whether the bytes are a number of the notation.
 pub fn is_int(bytes: &[u8]) -> bool
     ensures { result ≡ is_int bytes.now }
 {
@@ -39,7 +39,7 @@ pub fn is_int(bytes: &[u8]) -> bool
     }
 }
 
-// Whether a number has room in 64 bits.
+// Whether a number fits into 64 bits with a sign.
 fn fits(digits: &[u8]) -> bool
     requires { is_int digits.now ≡ true }
     ensures { result ≡ fits (signed_digits_value 10 digits.now) }
@@ -50,9 +50,9 @@ fn fits(digits: &[u8]) -> bool
     }
 }
 
-/// Whether the bytes are a number that has not room in 64 bits.
-pub fn is_int_beyond(bytes: &[u8]) -> bool
-    ensures { result ≡ is_int_beyond bytes.now }
+/// Whether the bytes are a number that does not fit into 64 bits.
+pub fn is_oversized_int(bytes: &[u8]) -> bool
+    ensures { result ≡ is_oversized_int bytes.now }
 {
     is_int(bytes) && !fits(bytes)
 }

@@ -1,25 +1,25 @@
-// The parts of a program that are too many or too deep.
+// The parts of a program that are too many or nested too deep.
 ghost use Rattle.std.specs.Prelude.{◌≡◌, ◌+◌, ◌++◌, nat_lt, map, length};
 ghost use Rattle.lang_ast.specs.SyntaxView.{expr_view, exprs_view, nameds_view, stmt_view, stmts_view, function_view, functions_view};
 ghost use Rattle.lang_ast.specs.Programs.{program_view};
 ghost use Rattle.lang_ast.specs.declared.syntax.Function.{Function as function_data};
-ghost use Rattle.lang_limits.specs.Least.{over, least_of};
-ghost use Rattle.lang_limits.specs.Sizes.{most_parts, nesting, deepest, expr_sizes, exprs_sizes, named_sizes, stmt_sizes, stmts_sizes, function_sizes, functions_sizes, one_too_many, state_place, program_sizes};
+ghost use Rattle.lang_limits.specs.LeastOffset.{offset_if, least_offset_from};
+ghost use Rattle.lang_limits.specs.Sizes.{most_parts, nesting, deepest, expr_sizes, exprs_sizes, named_sizes, stmt_sizes, stmts_sizes, function_sizes, functions_sizes, first_excess, state_place, program_sizes};
 
 use crate::least::note;
 use lang_ast::{Expression, Function, Named, Program, State, Statement};
 
-// The most states of a program, and the most functions.
-const MOST_FORMS: usize = 256;
+/// The most states of a program, and the most functions. A rule of this project.
+pub const MOST_FORMS: usize = 256;
 
-// The most parameters of a function, attributes of a node and keys of a remember, and the deepest that a statement
-// stands.
+// The most parameters of a function, attributes of a node and keys of a remember, and the most
+// nested blocks.
 const MOST_PARTS: usize = 16;
 
-// The deepest that expressions stand in one another.
+// The most nested expressions.
 const MOST_NESTING: usize = 64;
 
-// Whether an expression has more nesting than this.
+// Whether an expression nests deeper than `most`.
 #[tactic(auto, using(crate::proofs::Parts::parts))]
 #[cycle(nestings)]
 fn is_deeper(most: usize, e: &Expression) -> bool
@@ -33,7 +33,7 @@ fn is_deeper(most: usize, e: &Expression) -> bool
     }
 }
 
-// Whether one of the expressions has more nesting than this.
+// Whether one of the expressions nests deeper than `most`.
 #[tactic(auto, using(crate::proofs::Parts::deepest_step))]
 #[cycle(nestings)]
 fn has_deeper(most: usize, es: &[Expression]) -> bool
@@ -47,17 +47,17 @@ fn has_deeper(most: usize, es: &[Expression]) -> bool
     false
 }
 
-// The least place so far and of an outermost expression, where it is too deep.
+// Updates `least` with the offset of an outermost expression if it nests too deep.
 fn expression(e: &Expression, least: Option<usize>) -> Option<usize>
-    ensures { result ≡ least_of least (expr_sizes (expr_view e.now)) }
+    ensures { result ≡ least_offset_from least (expr_sizes (expr_view e.now)) }
 {
     note(is_deeper(MOST_NESTING, e), e.place(), least)
 }
 
-// The least place so far and of outermost expressions that are too deep.
+// Updates `least` with the offsets of the outermost expressions that nest too deep.
 #[tactic(auto, using(crate::proofs::Parts::exprs_step))]
 fn expressions(es: &[Expression], least: Option<usize>) -> Option<usize>
-    ensures { result ≡ least_of least (exprs_sizes (exprs_view es.now)) }
+    ensures { result ≡ least_offset_from least (exprs_sizes (exprs_view es.now)) }
 {
     let mut least = least;
     for e in es {
@@ -66,10 +66,10 @@ fn expressions(es: &[Expression], least: Option<usize>) -> Option<usize>
     least
 }
 
-// The least place so far and of named expressions that are too deep.
+// Updates `least` with the offsets of the named expressions that nest too deep.
 #[tactic(auto, using(crate::proofs::Parts::named_step))]
 fn values(all: &[Named], least: Option<usize>) -> Option<usize>
-    ensures { result ≡ least_of least (named_sizes (nameds_view all.now)) }
+    ensures { result ≡ least_offset_from least (named_sizes (nameds_view all.now)) }
 {
     let mut least = least;
     for named in all {
@@ -78,11 +78,11 @@ fn values(all: &[Named], least: Option<usize>) -> Option<usize>
     least
 }
 
-// The least place so far and of a statement of this block nesting.
+// Updates `least` with the oversized parts of a statement in `depth` blocks.
 #[tactic(auto, using(crate::proofs::Parts::parts))]
 #[cycle(blocks)]
 fn statement(depth: usize, s: &Statement, least: Option<usize>) -> Option<usize>
-    ensures { result ≡ least_of least (stmt_sizes depth (stmt_view s.now)) }
+    ensures { result ≡ least_offset_from least (stmt_sizes depth (stmt_view s.now)) }
 {
     match s {
         Statement::Node {
@@ -119,7 +119,7 @@ fn statement(depth: usize, s: &Statement, least: Option<usize>) -> Option<usize>
     }
 }
 
-// An expression, and the statements under it.
+// Updates `least` with the oversized parts of a statement with an expression and a body.
 #[tactic(auto, using(crate::proofs::Parts::parts))]
 #[cycle(blocks)]
 fn block(
@@ -129,14 +129,15 @@ fn block(
     body: &[Statement],
     least: Option<usize>,
 ) -> Option<usize>
-    ensures { result ≡ least_of least (over (nat_lt most_parts depth) at ++ expr_sizes (expr_view e.now) ++ stmts_sizes (depth + 1) (stmts_view body.now)) }
+    ensures { result ≡ least_offset_from least (offset_if (nat_lt most_parts depth) at
+        ++ expr_sizes (expr_view e.now) ++ stmts_sizes (depth + 1) (stmts_view body.now)) }
 {
     let least = note(depth > MOST_PARTS, at, least);
     let least = expression(e, least);
     inside(depth, body, least)
 }
 
-// A node.
+// Updates `least` with the oversized parts of a node.
 #[tactic(auto, using(crate::proofs::Parts::parts))]
 #[cycle(blocks)]
 fn node(
@@ -146,7 +147,10 @@ fn node(
     body: &[Statement],
     least: Option<usize>,
 ) -> Option<usize>
-    ensures { result ≡ least_of least (over (nat_lt most_parts depth) at ++ over (nat_lt most_parts (length attributes.now)) at ++ named_sizes (nameds_view attributes.now) ++ stmts_sizes (depth + 1) (stmts_view body.now)) }
+    ensures { result ≡ least_offset_from least (offset_if (nat_lt most_parts depth) at
+        ++ offset_if (nat_lt most_parts (length attributes.now)) at
+        ++ named_sizes (nameds_view attributes.now)
+        ++ stmts_sizes (depth + 1) (stmts_view body.now)) }
 {
     let least = note(depth > MOST_PARTS, at, least);
     let least = note(attributes.len() > MOST_PARTS, at, least);
@@ -154,7 +158,7 @@ fn node(
     inside(depth, body, least)
 }
 
-// Two branches.
+// Updates `least` with the oversized parts of an if.
 #[tactic(auto, using(crate::proofs::Parts::parts))]
 #[cycle(blocks)]
 fn if_in(
@@ -165,13 +169,16 @@ fn if_in(
     else_branch: &[Statement],
     least: Option<usize>,
 ) -> Option<usize>
-    ensures { result ≡ least_of least (over (nat_lt most_parts depth) at ++ expr_sizes (expr_view condition.now) ++ stmts_sizes (depth + 1) (stmts_view then_branch.now) ++ stmts_sizes (depth + 1) (stmts_view else_branch.now)) }
+    ensures { result ≡ least_offset_from least (offset_if (nat_lt most_parts depth) at
+        ++ expr_sizes (expr_view condition.now)
+        ++ stmts_sizes (depth + 1) (stmts_view then_branch.now)
+        ++ stmts_sizes (depth + 1) (stmts_view else_branch.now)) }
 {
     let least = block(depth, at, condition, then_branch, least);
     inside(depth, else_branch, least)
 }
 
-// A remember.
+// Updates `least` with the oversized parts of a remember.
 #[tactic(auto, using(crate::proofs::Parts::parts))]
 #[cycle(blocks)]
 fn remember(
@@ -182,7 +189,9 @@ fn remember(
     body: &[Statement],
     least: Option<usize>,
 ) -> Option<usize>
-    ensures { result ≡ least_of least (over (nat_lt most_parts depth) at ++ over (nat_lt most_parts (length keys.now)) at ++ named_sizes (nameds_view keys.now) ++ expr_sizes (expr_view value.now) ++ stmts_sizes (depth + 1) (stmts_view body.now)) }
+    ensures { result ≡ least_offset_from least (offset_if (nat_lt most_parts depth) at
+        ++ offset_if (nat_lt most_parts (length keys.now)) at ++ named_sizes (nameds_view keys.now)
+        ++ expr_sizes (expr_view value.now) ++ stmts_sizes (depth + 1) (stmts_view body.now)) }
 {
     let least = note(depth > MOST_PARTS, at, least);
     let least = note(keys.len() > MOST_PARTS, at, least);
@@ -191,21 +200,21 @@ fn remember(
     inside(depth, body, least)
 }
 
-// The least place so far and of the statements in one of this block nesting. All that stand too deep count as the
-// first of them.
+// Updates `least` with the oversized parts of the body of a statement in `depth` blocks. All bodies
+// that are nested too deep count as the first of them.
 #[tactic(auto, using(crate::proofs::Parts::too_deep))]
 #[cycle(blocks)]
 fn inside(depth: usize, body: &[Statement], least: Option<usize>) -> Option<usize>
-    ensures { result ≡ least_of least (stmts_sizes (depth + 1) (stmts_view body.now)) }
+    ensures { result ≡ least_offset_from least (stmts_sizes (depth + 1) (stmts_view body.now)) }
 {
     statements(depth.min(MOST_PARTS) + 1, body, least)
 }
 
-// The least place so far and of statements of this block nesting.
+// Updates `least` with the oversized parts of statements in `depth` blocks.
 #[tactic(auto, using(crate::proofs::Parts::stmts_step))]
 #[cycle(blocks)]
 fn statements(depth: usize, body: &[Statement], least: Option<usize>) -> Option<usize>
-    ensures { result ≡ least_of least (stmts_sizes depth (stmts_view body.now)) }
+    ensures { result ≡ least_offset_from least (stmts_sizes depth (stmts_view body.now)) }
 {
     let mut least = least;
     for s in body {
@@ -214,19 +223,19 @@ fn statements(depth: usize, body: &[Statement], least: Option<usize>) -> Option<
     least
 }
 
-// The least place so far and of a function.
+// Updates `least` with the oversized parts of a function.
 #[tactic(auto, using(crate::proofs::Parts::parts))]
 fn function(function: &Function, least: Option<usize>) -> Option<usize>
-    ensures { result ≡ least_of least (function_sizes (function_view function.now)) }
+    ensures { result ≡ least_offset_from least (function_sizes (function_view function.now)) }
 {
     let least = note(function.parameters.len() > MOST_PARTS, function.at, least);
     statements(1, &function.body, least)
 }
 
-// The least place so far and of functions.
+// Updates `least` with the oversized parts of functions.
 #[tactic(auto, using(crate::proofs::Parts::functions_step))]
 fn functions(all: &[Function], least: Option<usize>) -> Option<usize>
-    ensures { result ≡ least_of least (functions_sizes (functions_view all.now)) }
+    ensures { result ≡ least_offset_from least (functions_sizes (functions_view all.now)) }
 {
     let mut least = least;
     for one in all {
@@ -235,10 +244,10 @@ fn functions(all: &[Function], least: Option<usize>) -> Option<usize>
     least
 }
 
-// The least place so far and of the first state that is one too many.
+// Updates `least` with the offset of the first state over the limit.
 #[tactic(auto, using(crate::proofs::Parts::state_at))]
 fn states_too_many(states: &[State], least: Option<usize>) -> Option<usize>
-    ensures { result ≡ least_of least (one_too_many (map state_place states.now)) }
+    ensures { result ≡ least_offset_from least (first_excess (map state_place states.now)) }
 {
     match states.get(MOST_FORMS) {
         Some(state) => note(true, state.at, least),
@@ -246,10 +255,11 @@ fn states_too_many(states: &[State], least: Option<usize>) -> Option<usize>
     }
 }
 
-// The least place so far and of the first function that is one too many.
+// Updates `least` with the offset of the first function over the limit.
 #[tactic(auto, using(crate::proofs::Parts::function_at))]
 fn functions_too_many(functions: &[Function], least: Option<usize>) -> Option<usize>
-    ensures { result ≡ least_of least (one_too_many (map (λ (f : function_data). f.at) functions.now)) }
+    ensures { result ≡ least_offset_from least
+        (first_excess (map (λ (f : function_data). f.at) functions.now)) }
 {
     match functions.get(MOST_FORMS) {
         Some(function) => note(true, function.at, least),
@@ -257,13 +267,13 @@ fn functions_too_many(functions: &[Function], least: Option<usize>) -> Option<us
     }
 }
 
-/// The least of a place that is kept and of the places in a program where there are too many states, functions,
-/// parameters, attributes or keys, or where expressions or statements stand too deep in one another.
+/// Returns the least of `least` and the offsets of a program's oversized parts.
 ///
-/// This project's own rule.
+/// Those are too many states, functions, parameters, attributes or keys, and expressions or
+/// statements that nest too deep. A rule of this project.
 #[tactic(auto, using(crate::proofs::Parts::parts, crate::proofs::Parts::function_places))]
 pub fn size_limit(program: &Program, least: Option<usize>) -> Option<usize>
-    ensures { result ≡ least_of least (program_sizes (program_view program.now)) }
+    ensures { result ≡ least_offset_from least (program_sizes (program_view program.now)) }
 {
     let least = states_too_many(&program.states, least);
     let least = functions_too_many(&program.functions, least);

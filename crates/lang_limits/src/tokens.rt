@@ -1,44 +1,44 @@
-// Tokens that are beyond their limits.
+// Tokens that exceed their limits.
 ghost use Rattle.std.specs.Prelude.{◌≡◌};
 ghost use Rattle.sexp_text.specs.View.{tree_view, forest_view};
-ghost use Rattle.lang_limits.specs.Least.{least_of, least};
-ghost use Rattle.lang_limits.specs.Tokens.{is_atom_beyond, is_string_beyond, is_list_beyond, is_do, is_script, beyond, program_trees, script_trees, script_limits};
+ghost use Rattle.lang_limits.specs.LeastOffset.{least_offset_from, least};
+ghost use Rattle.lang_limits.specs.Tokens.{is_oversized_atom, is_oversized_string, is_oversized_list, is_do, is_script, beyond, program_trees, script_trees, oversized_script_offsets};
 
 use crate::least::note;
-use crate::numbers::is_int_beyond;
+use crate::numbers::is_oversized_int;
 use rt_values::{IntList, Txt};
 use sexp_text::Tree;
 
 // The most bytes of a name.
 const MOST_NAME_BYTES: usize = 64;
 
-/// Where the first token stands that is beyond its limit, in the program and in the script.
+/// The offsets of the first oversized tokens of the program and of the script.
 #[derive(Clone, Copy, Debug, PartialEq, Eq)]
 pub struct TokenLimits {
-    /// Before the script.
+    /// The first oversized token before the script, if any.
     pub program: Option<usize>,
-    /// In the script.
+    /// The first oversized token in the script, if any.
     pub script: Option<usize>,
 }
 
-// Whether an atom is a name that is too long, or a number that has not room.
-fn is_atom_beyond(atom: &[u8]) -> bool
-    ensures { result ≡ is_atom_beyond atom.now }
+// Whether an atom is a name that is too long, or a number that does not fit into 64 bits.
+fn is_oversized_atom(atom: &[u8]) -> bool
+    ensures { result ≡ is_oversized_atom atom.now }
 {
-    atom.len() > MOST_NAME_BYTES || is_int_beyond(atom)
+    atom.len() > MOST_NAME_BYTES || is_oversized_int(atom)
 }
 
 /// Whether a string is too long.
-pub fn is_string_beyond(chars: &[u8]) -> bool
-    ensures { result ≡ is_string_beyond chars.now }
+pub fn is_oversized_string(chars: &[u8]) -> bool
+    ensures { result ≡ is_oversized_string chars.now }
 {
     chars.len() > Txt::MOST_BYTES
 }
 
-/// Whether these are the trees of a list of numbers with too many items.
+/// Whether a list is an `ints` list with too many items.
 #[tactic(auto, using(crate::proofs::Walks::walks))]
-pub fn is_list_beyond(trees: &[Tree]) -> bool
-    ensures { result ≡ is_list_beyond (forest_view trees.now) }
+pub fn is_oversized_list(trees: &[Tree]) -> bool
+    ensures { result ≡ is_oversized_list (forest_view trees.now) }
 {
     match trees.split_first() {
         None => false,
@@ -50,27 +50,27 @@ pub fn is_list_beyond(trees: &[Tree]) -> bool
     }
 }
 
-// The least place so far and of what is beyond its limit in a tree.
+// Updates `least` with the offsets of the oversized tokens of a tree.
 #[tactic(auto, using(crate::proofs::Walks::walks))]
 #[cycle(tokens)]
 fn tree_limit(tree: &Tree, least: Option<usize>) -> Option<usize>
-    ensures { result ≡ least_of least (beyond (tree_view tree.now)) }
+    ensures { result ≡ least_offset_from least (beyond (tree_view tree.now)) }
 {
     match tree {
-        Tree::Atom(at, atom) => note(is_atom_beyond(atom), *at, least),
-        Tree::Text(at, chars) => note(is_string_beyond(chars), *at, least),
+        Tree::Atom(at, atom) => note(is_oversized_atom(atom), *at, least),
+        Tree::Text(at, chars) => note(is_oversized_string(chars), *at, least),
         Tree::List(at, trees) => {
-            let least = note(is_list_beyond(trees), *at, least);
+            let least = note(is_oversized_list(trees), *at, least);
             trees_limit(trees, least)
         }
     }
 }
 
-// The least place so far and of what is beyond its limit in trees.
+// Updates `least` with the offsets of the oversized tokens of trees.
 #[tactic(auto, using(crate::proofs::Walks::beyond_step))]
 #[cycle(tokens)]
 fn trees_limit(trees: &[Tree], least: Option<usize>) -> Option<usize>
-    ensures { result ≡ least_of least (beyond (forest_view trees.now)) }
+    ensures { result ≡ least_offset_from least (beyond (forest_view trees.now)) }
 {
     let mut least = least;
     for tree in trees {
@@ -79,7 +79,7 @@ fn trees_limit(trees: &[Tree], least: Option<usize>) -> Option<usize>
     least
 }
 
-// Whether the word of a part of the script stands first.
+// Whether the first tree is the word `do`.
 #[tactic(auto, using(crate::proofs::Walks::walks))]
 fn is_do(trees: &[Tree]) -> bool
     ensures { result ≡ is_do (forest_view trees.now) }
@@ -104,7 +104,7 @@ fn is_script(tree: &Tree) -> bool
     }
 }
 
-// The least place of what is beyond its limit before the script, and the trees of the script.
+// Returns the least offset of the oversized tokens before the script, and the trees of the script.
 #[tactic(auto, using(crate::proofs::Walks::splits))]
 fn before_script(trees: &[Tree]) -> (Option<usize>, &[Tree])
     ensures program { result.0 ≡ least (beyond (program_trees (forest_view trees.now))) }
@@ -122,13 +122,13 @@ fn before_script(trees: &[Tree]) -> (Option<usize>, &[Tree])
     (least, rest)
 }
 
-/// The least places of a name of more than 64 bytes, of a number beyond 64 bits with a sign, of a string of more than
-/// 4,096 bytes, and of an `ints` list of more than 4,096 items: before the script, and in it.
+/// Returns the offsets of the first oversized tokens of the program and of the script.
 ///
-/// This project's own rule.
+/// Oversized are a name of more than 64 bytes, a number beyond 64 bits with a sign, a string of
+/// more than 4,096 bytes, and an `ints` list of more than 4,096 items. A rule of this project.
 pub fn token_limits(trees: &[Tree]) -> TokenLimits
     ensures program { result.program ≡ least (beyond (program_trees (forest_view trees.now))) }
-    ensures script { result.script ≡ least (script_limits (forest_view trees.now)) }
+    ensures script { result.script ≡ least (oversized_script_offsets (forest_view trees.now)) }
 {
     let (program, script) = before_script(trees);
     TokenLimits {

@@ -1,4 +1,4 @@
--- Each refusal has its cause, and bytes have at most one.
+-- Each refusal has its cause, and bytes have at most one cause.
 use Rattle.std.proofs.Common.{subst, ◌≡◌, ◌≢◌, ◌⊎◌, inl, inr, ◌≤◌, ◌<◌, ℕ, suc, List, [], ◌∷◌, ◌++◌, Some, None, Ok, Err, refl, sym, ap, ◌∙◌, length, take, drop, get_or, arith, append_assoc}
 use Rattle.std.proofs.Math.Nat.{eq-or-lt_of_le}
 use Rattle.std.proofs.Math.Seq.{take-suc}
@@ -13,8 +13,8 @@ use Rattle.sexp_text.specs.declared.stop.TextStop.{TextStop}
 use Rattle.sexp_text.specs.declared.stop.TextStop.TheVariants as stops
 use Rattle.sexp_text.specs.Forest.{Forest, nesting}
 use Rattle.sexp_text.specs.Grammar.{Spells}
-use Rattle.sexp_text.specs.Places.{Begins, BeginsShallow, IsBadAt, IsTooDeepAt, Cause}
-use Rattle.sexp_text.specs.Machine.{State, next, run, at_first, state_at, reached, IsShallow, Fails, GoesDeep, Refuses}
+use Rattle.sexp_text.specs.TextFaults.{IsTextFront, IsShallowTextFront, IsBadAt, IsTooDeepAt, Cause}
+use Rattle.sexp_text.specs.Machine.{State, next, run, first_state, state_at, depth_reached, IsShallow, Fails, GoesDeep, Refuses}
 use Rattle.sexp_text.proofs.Walks.{walk_on}
 use Rattle.sexp_text.proofs.Complete.{whole-spells}
 use Rattle.sexp_text.proofs.Refusals.{none_whole, deep_whole}
@@ -34,18 +34,18 @@ reached_of : (o : Option State) (P : State → Type 0) → IsSomeAnd o P → Rea
 reached_of None P h = absurd h
 reached_of (Some s) P h = record { state = s; is = refl; holds = h }
 
-shallow_front : (bytes : List ℕ) (depth : ℕ) → Completed bytes depth → depth ≤ 100 → BeginsShallow bytes
+shallow_front : (bytes : List ℕ) (depth : ℕ) → Completed bytes depth → depth ≤ 100 → IsShallowTextFront bytes
 shallow_front bytes depth c le = record { more = c.more; forest = c.forest; spells = c.spells; shallow = omega (arith, c.deep) }
 
--- nothing begins where the machine is stuck
-none_begins : (front : List ℕ) → run at_first 0 front ≡ None → ¬ Begins front
+-- no prefix of a text on which the machine has no state
+none_begins : (front : List ℕ) → run first_state 0 front ≡ None → ¬ IsTextFront front
 none_begins front e b = let is = whole-spells (front ++ b.more) b.forest b.spells in let other = none_whole front b.more e in cc
 
--- nothing shallow begins where the machine is deep
-none_shallow : (front : List ℕ) → IsSomeAnd (run at_first 0 front) (λ s. 100 < reached s.1 s.2) → ¬ BeginsShallow front
+-- no shallow text on which the machine goes deep
+none_shallow : (front : List ℕ) → IsSomeAnd (run first_state 0 front) (λ s. 100 < depth_reached s.1 s.2) → ¬ IsShallowTextFront front
 none_shallow front h b = omega (arith, b.shallow, deep_whole front b.more b.forest h (whole-spells (front ++ b.more) b.forest b.spells))
 
--- the byte where the machine is stuck
+-- the byte on which the machine has no state
 stuck_next : (bytes : List ℕ) (at : ℕ) (s : State) → at < length bytes → state_at bytes at ≡ Some s → state_at bytes (suc at) ≡ None → next s at (get_or bytes at 0) ≡ None
 stuck_next bytes at s lt e n = sym (walk_on bytes at s (next s at (get_or bytes at 0)) lt e refl) ∙ n
 
@@ -66,14 +66,14 @@ bad_cause bytes at utf8 r =
       unfinished = λ e f t. let is = whole-spells bytes f t in let other = r.unfinished e in cc;
     }
 
--- the front of a text with one byte more
+-- a prefix of a text, one byte longer
 front_more : (bytes : List ℕ) (at : ℕ) → at < length bytes → IsUtf8 (take at bytes) → get_or bytes at 0 ≡ 40 → IsUtf8 (take (suc at) bytes)
 front_more bytes at lt utf8 e = subst IsUtf8 (sym (take-suc bytes at 0 lt ∙ ap (λ b. take at bytes ++ b ∷ []) e)) (IsUtf8-append (take at bytes) (40 ∷ []) utf8 (ascii_one 40 (omega arith)))
 
 deep_cause : (bytes : List ℕ) (at : ℕ) → IsUtf8 bytes → GoesDeep bytes at → IsTooDeepAt bytes at
 deep_cause bytes at utf8 r =
     let s = reached_of (state_at bytes at) IsShallow r.before in
-    let t = reached_of (state_at bytes (suc at)) (λ u. 100 < reached u.1 u.2) r.deep in
+    let t = reached_of (state_at bytes (suc at)) (λ u. 100 < depth_reached u.1 u.2) r.deep in
     let front = front_utf8 bytes at s.state utf8 r.within s.is (inr r.opens) in
     let c = completed (take (suc at) bytes) t.state (front_more bytes at r.within front r.opens) t.is in
     record {
@@ -92,11 +92,11 @@ refuses_cause bytes (stops.NotUtf8 at) utf8 r = absurd r
 refuses_cause bytes (stops.Bad at) utf8 r = bad_cause bytes at utf8 r
 refuses_cause bytes (stops.TooDeep at) utf8 r = deep_cause bytes at utf8 r
 
--- a text begins with its front
-front_begins : (bytes : List ℕ) (n : ℕ) (f : Forest) → Spells bytes f → nesting f ≤ 100 → BeginsShallow (take n bytes)
+-- a text begins with each of its prefixes
+front_begins : (bytes : List ℕ) (n : ℕ) (f : Forest) → Spells bytes f → nesting f ≤ 100 → IsShallowTextFront (take n bytes)
 front_begins bytes n f s le = record { more = drop n bytes; forest = f; spells = subst (λ (l : List ℕ). Spells l f) (sym (take-append-drop n bytes)) s; shallow = le }
 
-begins : (bytes : List ℕ) → BeginsShallow bytes → Begins bytes
+begins : (bytes : List ℕ) → IsShallowTextFront bytes → IsTextFront bytes
 begins bytes b = record { more = b.more; forest = b.forest; spells = b.spells }
 
 -- a shallow text has no cause of a refusal
@@ -109,8 +109,8 @@ no_cause bytes (stops.Bad at) f r n s le = elim (eq-or-lt_of_le r.within) [
 ]
 no_cause bytes (stops.TooDeep at) f r n s le = r.deep (front_begins bytes (suc at) f s le)
 
--- shorter fronts of a front that begins a text
-shorter : (bytes : List ℕ) (m n : ℕ) → m ≤ n → BeginsShallow (take n bytes) → BeginsShallow (take m bytes)
+-- shorter prefixes of a prefix of a text
+shorter : (bytes : List ℕ) (m n : ℕ) → m ≤ n → IsShallowTextFront (take n bytes) → IsShallowTextFront (take m bytes)
 shorter bytes m n le b =
     let front : take n bytes ≡ take m bytes ++ drop m (take n bytes) = sym (take-append-drop m (take n bytes)) ∙ ap (λ l. l ++ drop m (take n bytes)) (take-take m n bytes le) in
     record {
@@ -121,10 +121,10 @@ shorter bytes m n le b =
     }
 
 -- bytes are refused at no place before one up to which they are good
-bad_least : (bytes : List ℕ) (p q : ℕ) → IsBadAt bytes p → BeginsShallow (take q bytes) → q ≤ length bytes → p < q → ⊥
+bad_least : (bytes : List ℕ) (p q : ℕ) → IsBadAt bytes p → IsShallowTextFront (take q bytes) → q ≤ length bytes → p < q → ⊥
 bad_least bytes p q r b le lt = r.stuck (omega arith) (begins (take (suc p) bytes) (shorter bytes (suc p) q lt b))
 
-deep_least : (bytes : List ℕ) (p q : ℕ) → IsTooDeepAt bytes p → BeginsShallow (take q bytes) → p < q → ⊥
+deep_least : (bytes : List ℕ) (p q : ℕ) → IsTooDeepAt bytes p → IsShallowTextFront (take q bytes) → p < q → ⊥
 deep_least bytes p q r b lt = r.deep (shorter bytes (suc p) q lt b)
 
 -- bad and too deep at once
@@ -132,7 +132,7 @@ bad_deep : (bytes : List ℕ) (p q : ℕ) → IsBadAt bytes p → IsTooDeepAt by
 bad_deep bytes p q r d = elim (lt_eq_or_gt p q) [
   | inl lt ↦ bad_least bytes p q r d.before (omega (arith, d.within)) lt
   | inr h ↦ elim h [
-    | inl e ↦ r.stuck (omega (arith, d.within)) (subst (λ (n : ℕ). Begins (take (suc n) bytes)) (sym e) d.begins)
+    | inl e ↦ r.stuck (omega (arith, d.within)) (subst (λ (n : ℕ). IsTextFront (take (suc n) bytes)) (sym e) d.begins)
     | inr gt ↦ deep_least bytes q p d r.before gt
   ]
 ]
@@ -156,7 +156,7 @@ same_cause bytes (stops.TooDeep p) (stops.NotUtf8 q) r s n m = absurd (s.0 r.utf
 same_cause bytes (stops.TooDeep p) (stops.Bad q) r s n m = absurd (bad_deep bytes q p s r)
 same_cause bytes (stops.TooDeep p) (stops.TooDeep q) r s n m = ap stops.TooDeep (same_place p q (deep_least bytes p q r s.before) (deep_least bytes q p s r.before))
 
--- what the machine answers has its cause
+-- a refusal of the machine has its cause
 pub caused : {V : Type 0} (bytes : List ℕ) (r : Result V TextStop) → IsUtf8 bytes → IfErr r (Refuses bytes) → IfErr r (Cause bytes)
 caused bytes (Ok v) utf8 h = tt
 caused bytes (Err stop) utf8 h = refuses_cause bytes stop utf8 h

@@ -7,8 +7,8 @@ use Rattle.std.proofs.Math.Bool.{or-false, ◌||◌}
 use Rattle.std.specs.List.{list_all}
 use Rattle.std.specs.Option.{option_and_then}
 use Rattle.sexp_text.specs.Forest.{Forest, empty, atom, text, list, behind}
-use Rattle.sexp_text.specs.Grammar.{is_blank, is_atom_byte, is_char, is_name, is_comment, is_tail, escape, escaped, Spelling, nothing, blank, comment, word, quoted, parens, written, begins_with_word, is_well_spelled, forest_at, Spells}
-use Rattle.sexp_text.specs.Machine.{Mode, gap, in_comment, in_word, in_text, in_escape, Around, State, start, step, run, finish, finished, whole}
+use Rattle.sexp_text.specs.Grammar.{is_blank, is_atom_byte, is_char, is_name, is_comment, is_tail, escape, escaped_string, Spelling, nothing, blank, comment, word, quoted, parens, written, begins_with_word, is_well_spelled, forest_at, Spells}
+use Rattle.sexp_text.specs.Machine.{Mode, gap, in_comment, in_word, in_text, in_escape, OpenLists, State, start, step, run, finish, forest_at_end, whole}
 use Rattle.sexp_text.proofs.Trees.{behind-empty, behind_assoc}
 use Rattle.sexp_text.proofs.Walks.{run_on}
 
@@ -38,8 +38,8 @@ settled (in_word from name) f = behind f (atom from name empty)
 settled (in_text from chars) f = f
 settled (in_escape from chars) f = f
 
--- a byte that is no atom's begins anew
-pub begins : (m : Mode) (os : Around) (f : Forest) (at b : ℕ) → IsBetween m → is_atom_byte b ≡ false → step m os f at b ≡ start at b os (settled m f)
+-- a byte that is not an atom's begins a token
+pub begins : (m : Mode) (os : OpenLists) (f : Forest) (at b : ℕ) → IsBetween m → is_atom_byte b ≡ false → step m os f at b ≡ start at b os (settled m f)
 begins gap os f at b h e = refl
 begins in_comment os f at b h e = absurd h
 begins (in_word from name) os f at b h e = ap (λ w. cond w (Some (in_word from (name ++ b ∷ []), os, f)) (start at b os (behind f (atom from name empty)))) e
@@ -67,11 +67,11 @@ not_blank : (b : ℕ) → is_atom_byte b ≡ true → is_blank b ≡ false
 not_blank b e = false_from_ne_true (is_blank b) (λ s. let p : is_atom_byte b ≡ false = blank_no_atom b s in cc)
 
 -- an atom begins
-start_word : (at b : ℕ) (os : Around) (f : Forest) → is_atom_byte b ≡ true → start at b os f ≡ Some (in_word at (b ∷ []), os, f)
+start_word : (at b : ℕ) (os : OpenLists) (f : Forest) → is_atom_byte b ≡ true → start at b os f ≡ Some (in_word at (b ∷ []), os, f)
 start_word at b os f e = rw (not_blank b e, other_than b 59 e refl, other_than b 40 e refl, other_than b 41 e refl, other_than b 34 e refl, e) refl
 
--- the bytes of an atom go on with it
-pub name_on : (bs : List ℕ) (from : ℕ) (name : List ℕ) (os : Around) (f : Forest) (at : ℕ) → list_all is_atom_byte bs ≡ true
+-- the bytes of an atom continue it
+pub name_on : (bs : List ℕ) (from : ℕ) (name : List ℕ) (os : OpenLists) (f : Forest) (at : ℕ) → list_all is_atom_byte bs ≡ true
     → run (in_word from name, os, f) at bs ≡ Some (in_word from (name ++ bs), os, f)
 name_on [] from name os f at h = ap (λ l. Some (in_word from l, os, f)) (sym (append-nil name))
 name_on (b ∷ bs) from name os f at h =
@@ -80,8 +80,8 @@ name_on (b ∷ bs) from name os f at h =
     ∙ name_on bs from (name ++ b ∷ []) os f (at + 1) p.1
     ∙ ap (λ l. Some (in_word from l, os, f)) (append_assoc name (b ∷ []) bs)
 
--- a comment goes on until LF
-pub comment_on : (bs : List ℕ) (os : Around) (f : Forest) (at : ℕ) → is_comment bs ≡ true → run (in_comment, os, f) at bs ≡ Some (in_comment, os, f)
+-- a comment continues until LF
+pub comment_on : (bs : List ℕ) (os : OpenLists) (f : Forest) (at : ℕ) → is_comment bs ≡ true → run (in_comment, os, f) at bs ≡ Some (in_comment, os, f)
 comment_on [] os f at h = refl
 comment_on (b ∷ bs) os f at h =
     let p = both (not (b == 10)) (is_comment bs) h in
@@ -89,7 +89,7 @@ comment_on (b ∷ bs) os f at h =
     ∙ comment_on bs os f (at + 1) p.1
 
 -- a character of a string is read from its spelling
-pub escape_on : (c : ℕ) (from : ℕ) (chars : List ℕ) (os : Around) (f : Forest) (at : ℕ) → is_char c ≡ true
+pub escape_on : (c : ℕ) (from : ℕ) (chars : List ℕ) (os : OpenLists) (f : Forest) (at : ℕ) → is_char c ≡ true
     → run (in_text from chars, os, f) at (escape c) ≡ Some (in_text from (chars ++ c ∷ []), os, f)
 escape_on c from chars os f at h = by (c == 34) (c == 92) (c == 10) refl refl refl where
   by : (u v w : Bool) → c == 34 ≡ u → c == 92 ≡ v → c == 10 ≡ w → run (in_text from chars, os, f) at (escape c) ≡ Some (in_text from (chars ++ c ∷ []), os, f)
@@ -102,25 +102,25 @@ escape_on c from chars os f at h = by (c == 34) (c == 92) (c == 10) refl refl re
       ap (run (in_text from chars, os, f) at) plain ∙ rw (e1, e2, k) refl
 
 -- the characters of a string are read from their spelling
-pub chars_on : (cs : List ℕ) (from : ℕ) (chars : List ℕ) (os : Around) (f : Forest) (at : ℕ) → list_all is_char cs ≡ true
-    → run (in_text from chars, os, f) at (escaped cs) ≡ Some (in_text from (chars ++ cs), os, f)
+pub chars_on : (cs : List ℕ) (from : ℕ) (chars : List ℕ) (os : OpenLists) (f : Forest) (at : ℕ) → list_all is_char cs ≡ true
+    → run (in_text from chars, os, f) at (escaped_string cs) ≡ Some (in_text from (chars ++ cs), os, f)
 chars_on [] from chars os f at h = ap (λ l. Some (in_text from l, os, f)) (sym (append-nil chars))
 chars_on (c ∷ cs) from chars os f at h =
     let p = both (is_char c) (list_all is_char cs) h in
-    run_on (escape c) (escaped cs) (in_text from chars, os, f) (in_text from (chars ++ c ∷ []), os, f) at (escape_on c from chars os f at p.0)
+    run_on (escape c) (escaped_string cs) (in_text from chars, os, f) (in_text from (chars ++ c ∷ []), os, f) at (escape_on c from chars os f at p.0)
     ∙ chars_on cs from (chars ++ c ∷ []) os f (at + length (escape c)) p.1
     ∙ ap (λ l. Some (in_text from l, os, f)) (append_assoc chars (c ∷ []) cs)
 
--- where the machine stands behind a spelling, and what it has read there
+-- the mode and the trees after a spelling
 abbrev pub behind_it : Mode → Forest → ℕ → Spelling → Mode × Forest
 behind_it m f at nothing = (m, f)
 behind_it m f at (blank b s) = behind_it gap (settled m f) (at + 1) s
 behind_it m f at (comment cs s) = behind_it gap (settled m f) (at + length cs + 2) s
 behind_it m f at (word name s) = behind_it (in_word at name) (settled m f) (at + length name) s
-behind_it m f at (quoted chars s) = behind_it gap (behind (settled m f) (text at chars empty)) (at + length (escaped chars) + 2) s
+behind_it m f at (quoted chars s) = behind_it gap (behind (settled m f) (text at chars empty)) (at + length (escaped_string chars) + 2) s
 behind_it m f at (parens inner s) = behind_it gap (behind (settled m f) (list at (forest_at (at + 1) inner) empty)) (at + length (written inner) + 2) s
 
--- no atom stands right behind an atom
+-- no atom comes directly after an atom
 abbrev pub IsApart : Mode → Spelling → Type 0
 IsApart gap s = Unit {0}
 IsApart in_comment s = ⊥
@@ -141,10 +141,10 @@ behind-between nothing m f at h = h
 behind-between (blank b s) m f at h = behind-between s gap (settled m f) (at + 1) tt
 behind-between (comment cs s) m f at h = behind-between s gap (settled m f) (at + length cs + 2) tt
 behind-between (word name s) m f at h = behind-between s (in_word at name) (settled m f) (at + length name) tt
-behind-between (quoted chars s) m f at h = behind-between s gap (behind (settled m f) (text at chars empty)) (at + length (escaped chars) + 2) tt
+behind-between (quoted chars s) m f at h = behind-between s gap (behind (settled m f) (text at chars empty)) (at + length (escaped_string chars) + 2) tt
 behind-between (parens inner s) m f at h = behind-between s gap (behind (settled m f) (list at (forest_at (at + 1) inner) empty)) (at + length (written inner) + 2) tt
 
--- the trees of the spelling stand there behind those before it
+-- the trees of the spelling come after those before it
 pub behind-settled : (s : Spelling) (m : Mode) (f : Forest) (at : ℕ) → settled (behind_it m f at s).0 (behind_it m f at s).1 ≡ behind (settled m f) (forest_at at s)
 behind-settled nothing m f at = sym (behind-empty (settled m f))
 behind-settled (blank b s) m f at = behind-settled s gap (settled m f) (at + 1)
@@ -153,24 +153,24 @@ behind-settled (word name s) m f at =
     behind-settled s (in_word at name) (settled m f) (at + length name)
     ∙ behind_assoc (settled m f) (atom at name empty) (forest_at (at + length name) s)
 behind-settled (quoted chars s) m f at =
-    behind-settled s gap (behind (settled m f) (text at chars empty)) (at + length (escaped chars) + 2)
-    ∙ behind_assoc (settled m f) (text at chars empty) (forest_at (at + length (escaped chars) + 2) s)
+    behind-settled s gap (behind (settled m f) (text at chars empty)) (at + length (escaped_string chars) + 2)
+    ∙ behind_assoc (settled m f) (text at chars empty) (forest_at (at + length (escaped_string chars) + 2) s)
 behind-settled (parens inner s) m f at =
     behind-settled s gap (behind (settled m f) (list at (forest_at (at + 1) inner) empty)) (at + length (written inner) + 2)
     ∙ behind_assoc (settled m f) (list at (forest_at (at + 1) inner) empty) (forest_at (at + length (written inner) + 2) s)
 
 -- a state with the mode and the trees of a pair
-abbrev pub beside : Around → Mode × Forest → State
+abbrev pub beside : OpenLists → Mode × Forest → State
 beside os p = (p.0, os, p.1)
 
 -- the first byte of a token
-pub begins_on : (m : Mode) (os : Around) (f : Forest) (at b : ℕ) (bs : List ℕ) (t : State) → IsBetween m → is_atom_byte b ≡ false → start at b os (settled m f) ≡ Some t
+pub begins_on : (m : Mode) (os : OpenLists) (f : Forest) (at b : ℕ) (bs : List ℕ) (t : State) → IsBetween m → is_atom_byte b ≡ false → start at b os (settled m f) ≡ Some t
     → run (m, os, f) at (b ∷ bs) ≡ run t (at + 1) bs
 begins_on m os f at b bs t h e k = ap (option_and_then (λ u. run u (at + 1) bs)) (begins m os f at b h e ∙ k)
 
 -- where an atom may begin
 abbrev pub IsReady : Mode → Type 0
-IsReady m = (os : Around) (f : Forest) (at b : ℕ) → step m os f at b ≡ start at b os (settled m f)
+IsReady m = (os : OpenLists) (f : Forest) (at b : ℕ) → step m os f at b ≡ start at b os (settled m f)
 
 word_ready : (m : Mode) (name : List ℕ) (s : Spelling) → IsApart m (word name s) → IsReady m
 word_ready gap name s k = λ os f at b. refl
@@ -180,7 +180,7 @@ word_ready (in_text from chars) name s k = absurd k
 word_ready (in_escape from chars) name s k = absurd k
 
 -- the first byte of an atom
-word_begins : (m : Mode) (os : Around) (f : Forest) (at b : ℕ) (bs : List ℕ) → IsReady m → is_atom_byte b ≡ true
+word_begins : (m : Mode) (os : OpenLists) (f : Forest) (at b : ℕ) (bs : List ℕ) → IsReady m → is_atom_byte b ≡ true
     → run (m, os, f) at (b ∷ bs) ≡ run (in_word at (b ∷ []), os, settled m f) (at + 1) bs
 word_begins m os f at b bs ready e = ap (option_and_then (λ u. run u (at + 1) bs)) (ready os f at b ∙ start_word at b os (settled m f) e)
 
@@ -191,8 +191,8 @@ finish-between (in_word from name) f h = refl
 finish-between (in_text from chars) f h = absurd h
 finish-between (in_escape from chars) f h = absurd h
 
--- the machine goes over a spelling to where it stands behind it
-pub spelling_on : (s : Spelling) (m : Mode) (os : Around) (f : Forest) (at : ℕ) (rest : List ℕ) → is_well_spelled s ≡ true → IsApart m s
+-- the machine after a spelling
+pub spelling_on : (s : Spelling) (m : Mode) (os : OpenLists) (f : Forest) (at : ℕ) (rest : List ℕ) → is_well_spelled s ≡ true → IsApart m s
     → run (m, os, f) at (written s ++ rest) ≡ run (beside os (behind_it m f at s)) (at + length (written s)) rest
 spelling_on nothing m os f at rest h k = ap (λ n. run (m, os, f) n rest) (omega arith)
 spelling_on (blank b s) m os f at rest h k =
@@ -225,15 +225,15 @@ spelling_on (quoted chars s) m os f at rest h k =
     let p = both (list_all is_char chars) (is_well_spelled s) h in
     let o : State = (in_text at [], os, settled m f) in
     let g : Forest = behind (settled m f) (text at chars empty) in
-    begins_on m os f at 34 ((escaped chars ++ 34 ∷ written s) ++ rest) o (between-apart m (quoted chars s) k) refl refl
-    ∙ ap (run o (at + 1)) (append_assoc (escaped chars) (34 ∷ written s) rest)
-    ∙ run_on (escaped chars) (34 ∷ written s ++ rest) o (in_text at chars, os, settled m f) (at + 1) (chars_on chars at [] os (settled m f) (at + 1) p.0)
+    begins_on m os f at 34 ((escaped_string chars ++ 34 ∷ written s) ++ rest) o (between-apart m (quoted chars s) k) refl refl
+    ∙ ap (run o (at + 1)) (append_assoc (escaped_string chars) (34 ∷ written s) rest)
+    ∙ run_on (escaped_string chars) (34 ∷ written s ++ rest) o (in_text at chars, os, settled m f) (at + 1) (chars_on chars at [] os (settled m f) (at + 1) p.0)
     ∙ ap (λ n. run (gap, os, g) n (written s ++ rest)) (omega arith)
-    ∙ spelling_on s gap os g (at + length (escaped chars) + 2) rest p.1 tt
-    ∙ ap (λ n. run (beside os (behind_it gap g (at + length (escaped chars) + 2) s)) n rest) (omega (arith, length-append (escaped chars) (34 ∷ written s)))
+    ∙ spelling_on s gap os g (at + length (escaped_string chars) + 2) rest p.1 tt
+    ∙ ap (λ n. run (beside os (behind_it gap g (at + length (escaped_string chars) + 2) s)) n rest) (omega (arith, length-append (escaped_string chars) (34 ∷ written s)))
 spelling_on (parens inner s) m os f at rest h k =
     let p = both (is_well_spelled inner) (is_well_spelled s) h in
-    let around : Around = (at, settled m f) ∷ os in
+    let around : OpenLists = (at, settled m f) ∷ os in
     let t : Mode × Forest = behind_it gap empty (at + 1) inner in
     let g : Forest = behind (settled m f) (list at (forest_at (at + 1) inner) empty) in
     begins_on m os f at 40 ((written inner ++ 41 ∷ written s) ++ rest) (gap, around, empty) (between-apart m (parens inner s) k) refl refl
@@ -245,13 +245,13 @@ spelling_on (parens inner s) m os f at rest h k =
     ∙ spelling_on s gap os g (at + length (written inner) + 2) rest p.1 tt
     ∙ ap (λ n. run (beside os (behind_it gap g (at + length (written inner) + 2) s)) n rest) (omega (arith, length-append (written inner) (41 ∷ written s)))
 
--- a comment that the end of the input ends, or nothing, changes no tree
-pub tail_on : (tail : List ℕ) (m : Mode) (f : Forest) (at : ℕ) → IsBetween m → is_tail tail ≡ true → option_and_then finished (run (m, [], f) at tail) ≡ Some (settled m f)
+-- a comment that the end of the input ends changes no tree
+pub tail_on : (tail : List ℕ) (m : Mode) (f : Forest) (at : ℕ) → IsBetween m → is_tail tail ≡ true → option_and_then forest_at_end (run (m, [], f) at tail) ≡ Some (settled m f)
 tail_on [] m f at h e = finish-between m f h
 tail_on (b ∷ bs) m f at h e =
     let p = both (b == 59) (is_comment bs) e in
-    subst (λ (x : ℕ). option_and_then finished (run (m, [], f) at (x ∷ bs)) ≡ Some (settled m f)) (sym (eqb-true b 59 p.0))
-    (ap (option_and_then finished)
+    subst (λ (x : ℕ). option_and_then forest_at_end (run (m, [], f) at (x ∷ bs)) ≡ Some (settled m f)) (sym (eqb-true b 59 p.0))
+    (ap (option_and_then forest_at_end)
     (begins_on m [] f at 59 bs (in_comment, [], settled m f) h refl refl ∙ comment_on bs [] (settled m f) (at + 1) p.1))
 
 -- the machine reads a text as the forest that it spells
@@ -259,7 +259,7 @@ pub whole-spells : (bytes : List ℕ) (f : Forest) → Spells bytes f → whole 
 whole-spells bytes f s =
     let t : Mode × Forest = behind_it gap empty 0 s.spelling in
     ap whole s.bytes_are
-    ∙ ap (option_and_then finished) (spelling_on s.spelling gap [] empty 0 s.tail s.well_spelled tt)
+    ∙ ap (option_and_then forest_at_end) (spelling_on s.spelling gap [] empty 0 s.tail s.well_spelled tt)
     ∙ tail_on s.tail t.0 t.1 (0 + length (written s.spelling)) (behind-between s.spelling gap empty 0 tt) s.ends
     ∙ ap Some (behind-settled s.spelling gap empty 0)
     ∙ ap Some (sym s.forest_is)

@@ -1,4 +1,4 @@
--- Where the machine has come so far, the bytes so far begin a text.
+-- The bytes before a state of the machine are a prefix of a text.
 use Rattle.std.proofs.Common.{subst, ◌≡◌, ◌⊎◌, inl, inr, ◌≤◌, ◌<◌, ℕ, ◌+◌, ◌==◌, zero, suc, Bool, true, false, cond, ◌&&◌, List, [], ◌∷◌, ◌++◌, Some, None, refl, sym, ap, ◌∙◌, length, take, get_or, arith, nat_le}
 use Rattle.std.proofs.Math.Bool.{◌||◌}
 use Rattle.std.proofs.Math.Seq.{take-suc}
@@ -9,28 +9,28 @@ use Rattle.std.specs.declared.option.Option.{Option}
 use Rattle.std.specs.Option.{option_and_then, IfSome}
 use Rattle.sexp_text.specs.Forest.{Forest, empty, atom, text, list, behind, nesting}
 use Rattle.sexp_text.specs.Grammar.{is_blank, is_atom_byte, Spells}
-use Rattle.sexp_text.specs.Machine.{Mode, gap, in_comment, in_word, in_text, in_escape, Around, State, closed, start, step, next, run, at_first, finished, state_at, reached}
-use Rattle.sexp_text.proofs.Walks.{tested, run_none, run_on, walk_on, reached-behind, reached_same, length_le-reached}
+use Rattle.sexp_text.specs.Machine.{Mode, gap, in_comment, in_word, in_text, in_escape, OpenLists, State, closed, start, step, next, run, first_state, forest_at_end, state_at, depth_reached}
+use Rattle.sexp_text.proofs.Walks.{tested, run_none, run_on, walk_on, depth_reached-behind, reached_same, length_le-depth_reached}
 use Rattle.sexp_text.proofs.Complete.{both}
 use Rattle.sexp_text.proofs.Sound.{spells-whole}
 
 -- the parentheses that close the open lists, and the forest that they make
-abbrev closing : Around → List ℕ
+abbrev closing : OpenLists → List ℕ
 closing [] = []
 closing (o ∷ os) = 41 ∷ closing os
 
-abbrev closes : Around → Forest → Forest
+abbrev closes : OpenLists → Forest → Forest
 closes [] f = f
 closes (o ∷ os) f = closes os (behind o.1 (list o.0 f empty))
 
-closing_on : (os : Around) (f : Forest) (at : ℕ) → run (gap, os, f) at (closing os) ≡ Some (gap, [], closes os f)
+closing_on : (os : OpenLists) (f : Forest) (at : ℕ) → run (gap, os, f) at (closing os) ≡ Some (gap, [], closes os f)
 closing_on [] f at = refl
 closing_on (o ∷ os) f at = closing_on os (behind o.1 (list o.0 f empty)) (at + 1)
 
-nesting-closes : (os : Around) (f : Forest) → nesting (closes os f) ≡ reached os f
+nesting-closes : (os : OpenLists) (f : Forest) → nesting (closes os f) ≡ depth_reached os f
 nesting-closes [] f = refl
 nesting-closes (o ∷ os) f =
-    omega (arith, nesting-closes os (behind o.1 (list o.0 f empty)), reached-behind os o.1 (list o.0 f empty), length_le-reached os o.1)
+    omega (arith, nesting-closes os (behind o.1 (list o.0 f empty)), depth_reached-behind os o.1 (list o.0 f empty), length_le-depth_reached os o.1)
 
 -- what ends a comment or a string, and the trees then
 abbrev ending : Mode → List ℕ
@@ -47,24 +47,24 @@ ended (in_word from name) f = behind f (atom from name empty)
 ended (in_text from chars) f = behind f (text from chars empty)
 ended (in_escape from chars) f = behind f (text from (chars ++ 34 ∷ []) empty)
 
-word_closes : (from : ℕ) (name : List ℕ) (os : Around) (f : Forest) (at : ℕ)
-    → option_and_then finished (run (in_word from name, os, f) at (closing os)) ≡ Some (closes os (behind f (atom from name empty)))
+word_closes : (from : ℕ) (name : List ℕ) (os : OpenLists) (f : Forest) (at : ℕ)
+    → option_and_then forest_at_end (run (in_word from name, os, f) at (closing os)) ≡ Some (closes os (behind f (atom from name empty)))
 word_closes from name [] f at = refl
-word_closes from name (o ∷ os) f at = ap (option_and_then finished) (closing_on os (behind o.1 (list o.0 (behind f (atom from name empty)) empty)) (at + 1))
+word_closes from name (o ∷ os) f at = ap (option_and_then forest_at_end) (closing_on os (behind o.1 (list o.0 (behind f (atom from name empty)) empty)) (at + 1))
 
-completes : (m : Mode) (os : Around) (f : Forest) (at : ℕ) → option_and_then finished (run (m, os, f) at (ending m ++ closing os)) ≡ Some (closes os (ended m f))
-completes gap os f at = ap (option_and_then finished) (closing_on os f at)
-completes in_comment os f at = ap (option_and_then finished) (closing_on os f (at + 1))
+completes : (m : Mode) (os : OpenLists) (f : Forest) (at : ℕ) → option_and_then forest_at_end (run (m, os, f) at (ending m ++ closing os)) ≡ Some (closes os (ended m f))
+completes gap os f at = ap (option_and_then forest_at_end) (closing_on os f at)
+completes in_comment os f at = ap (option_and_then forest_at_end) (closing_on os f (at + 1))
 completes (in_word from name) os f at = word_closes from name os f at
-completes (in_text from chars) os f at = ap (option_and_then finished) (closing_on os (behind f (text from chars empty)) (at + 1))
-completes (in_escape from chars) os f at = ap (option_and_then finished) (closing_on os (behind f (text from (chars ++ 34 ∷ []) empty)) (at + 1 + 1))
+completes (in_text from chars) os f at = ap (option_and_then forest_at_end) (closing_on os (behind f (text from chars empty)) (at + 1))
+completes (in_escape from chars) os f at = ap (option_and_then forest_at_end) (closing_on os (behind f (text from (chars ++ 34 ∷ []) empty)) (at + 1 + 1))
 
-reached-ended : (m : Mode) (os : Around) (f : Forest) → reached os (ended m f) ≡ reached os f
-reached-ended gap os f = refl
-reached-ended in_comment os f = refl
-reached-ended (in_word from name) os f = reached_same os f (atom from name empty) refl
-reached-ended (in_text from chars) os f = reached_same os f (text from chars empty) refl
-reached-ended (in_escape from chars) os f = reached_same os f (text from (chars ++ 34 ∷ []) empty) refl
+depth_reached-ended : (m : Mode) (os : OpenLists) (f : Forest) → depth_reached os (ended m f) ≡ depth_reached os f
+depth_reached-ended gap os f = refl
+depth_reached-ended in_comment os f = refl
+depth_reached-ended (in_word from name) os f = reached_same os f (atom from name empty) refl
+depth_reached-ended (in_text from chars) os f = reached_same os f (text from chars empty) refl
+depth_reached-ended (in_escape from chars) os f = reached_same os f (text from (chars ++ 34 ∷ []) empty) refl
 
 -- a byte that is a character
 pub ascii_one : (b : ℕ) → b < 128 → IsUtf8 (b ∷ [])
@@ -73,7 +73,7 @@ ascii_one b lt = IsUtf8-from_ascii (b ∷ []) (each b lt) where
   each b lt zero = lt
   each b lt (suc i) = omega arith
 
-closing_utf8 : (os : Around) → IsUtf8 (closing os)
+closing_utf8 : (os : OpenLists) → IsUtf8 (closing os)
 closing_utf8 [] = ([], (refl, refl))
 closing_utf8 (o ∷ os) = IsUtf8-append (41 ∷ []) (closing os) (ascii_one 41 (omega arith)) (closing_utf8 os)
 
@@ -84,15 +84,15 @@ ending_utf8 (in_word from name) = ([], (refl, refl))
 ending_utf8 (in_text from chars) = ascii_one 34 (omega arith)
 ending_utf8 (in_escape from chars) = IsUtf8-append (34 ∷ []) (34 ∷ []) (ascii_one 34 (omega arith)) (ascii_one 34 (omega arith))
 
--- a text that bytes begin, as deep as the machine has been
+-- a text that begins with the bytes, as deep as the machine has been
 pub record Completed (bytes : List ℕ) (depth : ℕ) : Type 0 where
   pub more : List ℕ
   pub forest : Forest
   pub spells : Spells (bytes ++ more) forest
   pub deep : nesting forest ≡ depth
 
--- bytes that lead to a state begin a text
-pub completed : (bytes : List ℕ) (s : State) → IsUtf8 bytes → run at_first 0 bytes ≡ Some s → Completed bytes (reached s.1 s.2)
+-- bytes that lead to a state are a prefix of a text
+pub completed : (bytes : List ℕ) (s : State) → IsUtf8 bytes → run first_state 0 bytes ≡ Some s → Completed bytes (depth_reached s.1 s.2)
 completed bytes s utf8 e =
     let more = ending s.0 ++ closing s.1 in
     let f = closes s.1 (ended s.0 s.2) in
@@ -100,8 +100,8 @@ completed bytes s utf8 e =
       more = more;
       forest = f;
       spells = spells-whole (bytes ++ more) f (IsUtf8-append bytes more utf8 (IsUtf8-append (ending s.0) (closing s.1) (ending_utf8 s.0) (closing_utf8 s.1)))
-          (ap (option_and_then finished) (run_on bytes more at_first s 0 e) ∙ completes s.0 s.1 s.2 (0 + length bytes));
-      deep = nesting-closes s.1 (ended s.0 s.2) ∙ reached-ended s.0 s.1 s.2;
+          (ap (option_and_then forest_at_end) (run_on bytes more first_state s 0 e) ∙ completes s.0 s.1 s.2 (0 + length bytes));
+      deep = nesting-closes s.1 (ended s.0 s.2) ∙ depth_reached-ended s.0 s.1 s.2;
     }
 
 -- one or the other of two tests
@@ -148,11 +148,11 @@ IsSharp (in_escape from chars) = Unit {0}
 abbrev SharpAscii : ℕ → State → Type 0
 SharpAscii b t = IsSharp t.0 → b < 128
 
-closed_ascii : (b : ℕ) (os : Around) (f : Forest) → b < 128 → IfSome (closed os f) (SharpAscii b)
+closed_ascii : (b : ℕ) (os : OpenLists) (f : Forest) → b < 128 → IfSome (closed os f) (SharpAscii b)
 closed_ascii b [] f lt = tt
 closed_ascii b (o ∷ os) f lt = λ _. lt
 
-start_ascii : (at b : ℕ) (os : Around) (f : Forest) → IfSome (start at b os f) (SharpAscii b)
+start_ascii : (at b : ℕ) (os : OpenLists) (f : Forest) → IfSome (start at b os f) (SharpAscii b)
 start_ascii at b os f =
     let P = (λ (o : Option State). IfSome o (SharpAscii b)) in
     tested P (is_blank b) _ _ (λ e _. blank_ascii b e)
@@ -166,7 +166,7 @@ comment_ascii : (w : Bool) (b : ℕ) → b == 10 ≡ w → IsSharp (cond w gap i
 comment_ascii true b e sharp = is_ascii b 10 (omega arith) e
 comment_ascii false b e sharp = absurd sharp
 
-step_ascii : (m : Mode) (os : Around) (f : Forest) (at b : ℕ) → IfSome (step m os f at b) (SharpAscii b)
+step_ascii : (m : Mode) (os : OpenLists) (f : Forest) (at b : ℕ) → IfSome (step m os f at b) (SharpAscii b)
 step_ascii gap os f at b = start_ascii at b os f
 step_ascii in_comment os f at b = comment_ascii (b == 10) b refl
 step_ascii (in_word from name) os f at b =
@@ -187,14 +187,14 @@ sharp_boundary : (bytes : List ℕ) (i : ℕ) (s : State) → IsUtf8 bytes → i
 sharp_boundary bytes zero s utf8 le e sharp = IsCharBoundary-start bytes utf8
 sharp_boundary bytes (suc j) s utf8 le e sharp = from (state_at bytes j) refl where
   from : (o : Option State) → state_at bytes j ≡ o → IsCharBoundary bytes (suc j)
-  from None n = let stuck : state_at bytes (suc j) ≡ None = ap (run at_first 0) (take-suc bytes j 0 le) ∙ run_none (take j bytes) (get_or bytes j 0 ∷ []) at_first 0 n in cc
+  from None n = let stuck : state_at bytes (suc j) ≡ None = ap (run first_state 0) (take-suc bytes j 0 le) ∙ run_none (take j bytes) (get_or bytes j 0 ∷ []) first_state 0 n in cc
   from (Some t) n =
       let moved : next t j (get_or bytes j 0) ≡ Some s = sym (walk_on bytes j t (next t j (get_or bytes j 0)) le n refl) ∙ e in
       let ascii : get_or bytes j 0 < 128 = subst (λ (o : Option State). IfSome o (SharpAscii (get_or bytes j 0))) moved (step_ascii t.0 t.1 t.2 j (get_or bytes j 0)) sharp in
       subst (IsCharBoundary bytes) (omega arith) (IsCharBoundary-after_ascii bytes j utf8 le ascii)
 
 -- a byte that is not taken begins a character
-stuck_boundary : (m : Mode) (os : Around) (f : Forest) (at b : ℕ) → step m os f at b ≡ None → (IsSharp m) ⊎ (b < 128)
+stuck_boundary : (m : Mode) (os : OpenLists) (f : Forest) (at b : ℕ) → step m os f at b ≡ None → (IsSharp m) ⊎ (b < 128)
 stuck_boundary gap os f at b e = inl tt
 stuck_boundary in_comment os f at b e = cc
 stuck_boundary (in_word from name) os f at b e = inl tt
@@ -204,7 +204,7 @@ stuck_boundary (in_text from chars) os f at b e =
     (λ lt _. let below : b < 32 = leb-false 32 b lt in omega arith))) e)
 stuck_boundary (in_escape from chars) os f at b e = inl tt
 
--- a byte that is not taken, or a parenthesis, stands behind whole characters
+-- a byte that is not taken, or a parenthesis, comes after whole characters
 boundary : (bytes : List ℕ) (i : ℕ) (s : State) → IsUtf8 bytes → i < length bytes → state_at bytes i ≡ Some s → (next s i (get_or bytes i 0) ≡ None) ⊎ (get_or bytes i 0 ≡ 40)
     → IsCharBoundary bytes i
 boundary bytes i s utf8 lt e (inr k) = (omega arith, λ _ large. absurd (omega (arith, k, large)))

@@ -8,3 +8,4 @@ pub mod Causes
 pub mod Layouts
 pub mod Utf8
 pub mod Printed
+pub mod Sames

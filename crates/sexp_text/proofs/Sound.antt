@@ -9,25 +9,25 @@ use Rattle.std.specs.Str.{IsUtf8}
 use Rattle.std.specs.declared.option.Option.{Option}
 use Rattle.std.specs.Option.{option_and_then, IfSome}
 use Rattle.sexp_text.specs.Forest.{Forest, empty, atom, text, list, behind}
-use Rattle.sexp_text.specs.Grammar.{is_blank, is_atom_byte, is_char, is_name, is_comment, is_tail, escape, escaped, Spelling, nothing, blank, comment, word, quoted, parens, written, begins_with_word, is_well_spelled, forest_at, Spells}
-use Rattle.sexp_text.specs.Machine.{Mode, gap, in_comment, in_word, in_text, in_escape, Around, State, closed, start, step, next, run, at_first, finish, finished, all_closed, whole}
+use Rattle.sexp_text.specs.Grammar.{is_blank, is_atom_byte, is_char, is_name, is_comment, is_tail, escape, escaped_string, Spelling, nothing, blank, comment, word, quoted, parens, written, begins_with_word, is_well_spelled, forest_at, Spells}
+use Rattle.sexp_text.specs.Machine.{Mode, gap, in_comment, in_word, in_text, in_escape, OpenLists, State, closed, start, step, next, run, first_state, finish, forest_at_end, all_closed, whole}
 use Rattle.sexp_text.proofs.Trees.{behind-empty, behind_assoc}
 use Rattle.sexp_text.proofs.Walks.{tested}
 use Rattle.sexp_text.proofs.Complete.{both}
 
--- What remains of the input between tokens: the trees up to the parenthesis that closes the innermost list,
--- and what remains behind it; or the last trees.
-abbrev pub Remains : Around → Forest → ℕ → List ℕ → Forest → Type 0
+-- The rest of the input between tokens: the trees up to the parenthesis that closes the innermost list, and the rest
+-- after it; or the last trees.
+abbrev pub Remains : OpenLists → Forest → ℕ → List ℕ → Forest → Type 0
 Remains [] f at bs g = (s : Spelling) × (tail : List ℕ) × (is_well_spelled s ≡ true) × (is_tail tail ≡ true) × (bs ≡ written s ++ tail) × (g ≡ behind f (forest_at at s))
 Remains (o ∷ os) f at bs g = (s : Spelling) × (more : List ℕ) × (is_well_spelled s ≡ true) × (bs ≡ written s ++ 41 ∷ more)
     × Remains os (behind o.1 (list o.0 (behind f (forest_at at s)) empty)) (at + length (written s) + 1) more g
 
--- something more at the front of what remains
+-- a further part at the beginning of the rest
 prepend : (p : Spelling → Spelling) (at : ℕ) (front : List ℕ) (trees : Forest) (bs : List ℕ)
     → ((s : Spelling) → written (p s) ≡ front ++ written s)
     → ((s : Spelling) → forest_at at (p s) ≡ behind trees (forest_at (at + length front) s))
     → ((s : Spelling) (rest : List ℕ) → is_well_spelled s ≡ true → bs ≡ written s ++ rest → is_well_spelled (p s) ≡ true)
-    → (os : Around) (f g : Forest) → Remains os (behind f trees) (at + length front) bs g → Remains os f at (front ++ bs) g
+    → (os : OpenLists) (f g : Forest) → Remains os (behind f trees) (at + length front) bs g → Remains os f at (front ++ bs) g
 prepend p at front trees bs writes reads fits [] f g r = (
   p r.0,
   r.1,
@@ -49,16 +49,16 @@ prepend p at front trees bs writes reads fits (o ∷ os) f g r =
           (subst (λ (h : Forest). Remains os (behind o.1 (list o.0 h empty)) (at + length front + length (written r.0) + 1) r.1 g) trees_are r.4),
     )
 
--- what remains, at the same place and forest otherwise written
-moved : (os : Around) (f h : Forest) (at to : ℕ) (bs : List ℕ) (g : Forest) → f ≡ h → at ≡ to → Remains os f at bs g → Remains os h to bs g
+-- the rest, at the same offset and forest otherwise written
+moved : (os : OpenLists) (f h : Forest) (at to : ℕ) (bs : List ℕ) (g : Forest) → f ≡ h → at ≡ to → Remains os f at bs g → Remains os h to bs g
 moved os f h at to bs g e k r = subst (λ (n : ℕ). Remains os h n bs g) k (subst (λ (x : Forest). Remains os x at bs g) e r)
 
-blank_before : (b at : ℕ) (bs : List ℕ) (os : Around) (f g : Forest) → is_blank b ≡ true → Remains os f (at + 1) bs g → Remains os f at (b ∷ bs) g
+blank_before : (b at : ℕ) (bs : List ℕ) (os : OpenLists) (f g : Forest) → is_blank b ≡ true → Remains os f (at + 1) bs g → Remains os f at (b ∷ bs) g
 blank_before b at bs os f g e r =
     prepend (blank b) at (b ∷ []) empty bs (λ s. refl) (λ s. refl) (λ s rest h _. rw (e, h) refl) os f g
     (moved os f (behind f empty) (at + 1) (at + 1) bs g (sym (behind-empty f)) refl r)
 
-comment_before : (cs : List ℕ) (at : ℕ) (bs : List ℕ) (os : Around) (f g : Forest) → is_comment cs ≡ true → Remains os f (at + length cs + 2) bs g
+comment_before : (cs : List ℕ) (at : ℕ) (bs : List ℕ) (os : OpenLists) (f g : Forest) → is_comment cs ≡ true → Remains os f (at + length cs + 2) bs g
     → Remains os f at (59 ∷ cs ++ 10 ∷ bs) g
 comment_before cs at bs os f g e r =
     subst (λ (l : List ℕ). Remains os f at l g) (ap (λ l. 59 ∷ l) (append_assoc cs (10 ∷ []) bs))
@@ -66,7 +66,7 @@ comment_before cs at bs os f g e r =
     (λ s. ap (λ n. forest_at n s) (omega (arith, length-append cs (10 ∷ [])))) (λ s rest h _. rw (e, h) refl) os f g
     (moved os f (behind f empty) (at + length cs + 2) (at + length (59 ∷ cs ++ 10 ∷ [])) bs g (sym (behind-empty f)) (omega (arith, length-append cs (10 ∷ []))) r))
 
-open_before : (at : ℕ) (bs : List ℕ) (os : Around) (f g : Forest) → Remains ((at, f) ∷ os) empty (at + 1) bs g → Remains os f at (40 ∷ bs) g
+open_before : (at : ℕ) (bs : List ℕ) (os : OpenLists) (f g : Forest) → Remains ((at, f) ∷ os) empty (at + 1) bs g → Remains os f at (40 ∷ bs) g
 open_before at bs os f g r =
     let inner = written r.0 in
     subst (λ (l : List ℕ). Remains os f at l g) (ap (λ l. 40 ∷ l) (append_assoc inner (41 ∷ []) r.1 ∙ sym r.3))
@@ -76,7 +76,7 @@ open_before at bs os f g r =
     (moved os (behind f (list at (forest_at (at + 1) r.0) empty)) (behind f (list at (forest_at (at + 1) r.0) empty)) (at + 1 + length inner + 1)
     (at + length (40 ∷ inner ++ 41 ∷ [])) r.1 g refl (omega (arith, length-append inner (41 ∷ []))) r.4))
 
-close_before : (o : ℕ × Forest) (at : ℕ) (bs : List ℕ) (os : Around) (f g : Forest) → Remains os (behind o.1 (list o.0 f empty)) (at + 1) bs g → Remains (o ∷ os) f at (41 ∷ bs) g
+close_before : (o : ℕ × Forest) (at : ℕ) (bs : List ℕ) (os : OpenLists) (f g : Forest) → Remains os (behind o.1 (list o.0 f empty)) (at + 1) bs g → Remains (o ∷ os) f at (41 ∷ bs) g
 close_before o at bs os f g r = (
   nothing,
   bs,
@@ -86,14 +86,14 @@ close_before o at bs os f g r = (
       (ap (λ h. behind o.1 (list o.0 h empty)) (sym (behind-empty f))) (omega arith) r,
 )
 
-text_before : (cs : List ℕ) (at : ℕ) (bs : List ℕ) (os : Around) (f g : Forest) → list_all is_char cs ≡ true
-    → Remains os (behind f (text at cs empty)) (at + length (escaped cs) + 2) bs g → Remains os f at (34 ∷ escaped cs ++ 34 ∷ bs) g
+text_before : (cs : List ℕ) (at : ℕ) (bs : List ℕ) (os : OpenLists) (f g : Forest) → list_all is_char cs ≡ true
+    → Remains os (behind f (text at cs empty)) (at + length (escaped_string cs) + 2) bs g → Remains os f at (34 ∷ escaped_string cs ++ 34 ∷ bs) g
 text_before cs at bs os f g e r =
-    subst (λ (l : List ℕ). Remains os f at l g) (ap (λ l. 34 ∷ l) (append_assoc (escaped cs) (34 ∷ []) bs))
-    (prepend (quoted cs) at (34 ∷ escaped cs ++ 34 ∷ []) (text at cs empty) bs (λ s. ap (λ l. 34 ∷ l) (sym (append_assoc (escaped cs) (34 ∷ []) (written s))))
-    (λ s. ap (λ n. text at cs (forest_at n s)) (omega (arith, length-append (escaped cs) (34 ∷ [])))) (λ s rest h _. rw (e, h) refl) os f g
-    (moved os (behind f (text at cs empty)) (behind f (text at cs empty)) (at + length (escaped cs) + 2) (at + length (34 ∷ escaped cs ++ 34 ∷ [])) bs g
-    refl (omega (arith, length-append (escaped cs) (34 ∷ []))) r))
+    subst (λ (l : List ℕ). Remains os f at l g) (ap (λ l. 34 ∷ l) (append_assoc (escaped_string cs) (34 ∷ []) bs))
+    (prepend (quoted cs) at (34 ∷ escaped_string cs ++ 34 ∷ []) (text at cs empty) bs (λ s. ap (λ l. 34 ∷ l) (sym (append_assoc (escaped_string cs) (34 ∷ []) (written s))))
+    (λ s. ap (λ n. text at cs (forest_at n s)) (omega (arith, length-append (escaped_string cs) (34 ∷ [])))) (λ s rest h _. rw (e, h) refl) os f g
+    (moved os (behind f (text at cs empty)) (behind f (text at cs empty)) (at + length (escaped_string cs) + 2) (at + length (34 ∷ escaped_string cs ++ 34 ∷ [])) bs g
+    refl (omega (arith, length-append (escaped_string cs) (34 ∷ []))) r))
 
 abbrev starts_atom : List ℕ → Bool
 starts_atom [] = false
@@ -114,24 +114,24 @@ no_word (word (b ∷ name) s) rest bs h e k =
 no_word (quoted cs s) rest bs h e k = refl
 no_word (parens inner s) rest bs h e k = refl
 
-word_before : (name : List ℕ) (at : ℕ) (bs : List ℕ) (os : Around) (f g : Forest) → is_name name ≡ true → starts_atom bs ≡ false
+word_before : (name : List ℕ) (at : ℕ) (bs : List ℕ) (os : OpenLists) (f g : Forest) → is_name name ≡ true → starts_atom bs ≡ false
     → Remains os (behind f (atom at name empty)) (at + length name) bs g → Remains os f at (name ++ bs) g
 word_before name at bs os f g e k r =
     prepend (word name) at name (atom at name empty) bs (λ s. refl) (λ s. refl)
     (λ s rest h i. rw (e, no_word s rest bs h i k, h) refl) os f g r
 
 -- the last trees of the input, where no list is open
-abbrev Last : Around → Forest → Forest → Type 0
+abbrev Last : OpenLists → Forest → Forest → Type 0
 Last [] f g = g ≡ f
 Last (o ∷ os) f g = ⊥
 
--- what remains of a string that began at a place and holds characters already
-abbrev TextRemains : ℕ → List ℕ → Around → Forest → ℕ → List ℕ → Forest → Type 0
-TextRemains from chars os f at bs g = (cs : List ℕ) × (more : List ℕ) × (list_all is_char cs ≡ true) × (bs ≡ escaped cs ++ 34 ∷ more)
-    × Remains os (behind f (text from (chars ++ cs) empty)) (at + length (escaped cs) + 1) more g
+-- the rest of a string that began at an offset and has characters already
+abbrev TextRemains : ℕ → List ℕ → OpenLists → Forest → ℕ → List ℕ → Forest → Type 0
+TextRemains from chars os f at bs g = (cs : List ℕ) × (more : List ℕ) × (list_all is_char cs ≡ true) × (bs ≡ escaped_string cs ++ 34 ∷ more)
+    × Remains os (behind f (text from (chars ++ cs) empty)) (at + length (escaped_string cs) + 1) more g
 
--- what remains of the input, wherever a byte stands
-abbrev pub Follows : Mode → Around → Forest → ℕ → List ℕ → Forest → Type 0
+-- the rest of the input in each mode
+abbrev pub Follows : Mode → OpenLists → Forest → ℕ → List ℕ → Forest → Type 0
 Follows gap os f at bs g = Remains os f at bs g
 Follows in_comment os f at bs g = (cs : List ℕ) × (is_comment cs ≡ true)
     × (((more : List ℕ) × (bs ≡ cs ++ 10 ∷ more) × Remains os f (at + length cs + 1) more g) ⊎ ((bs ≡ cs) × Last os f g))
@@ -145,35 +145,35 @@ Follows (in_escape from chars) os f at bs g = (c : ℕ) × (b : ℕ) × (more : 
 abbrev FollowsIn : ℕ → List ℕ → Forest → State → Type 0
 FollowsIn at bs g t = Follows t.0 t.1 t.2 at bs g
 
-last_comment : (at : ℕ) (bs : List ℕ) (os : Around) (f g : Forest) → is_comment bs ≡ true → Last os f g → Remains os f at (59 ∷ bs) g
+last_comment : (at : ℕ) (bs : List ℕ) (os : OpenLists) (f g : Forest) → is_comment bs ≡ true → Last os f g → Remains os f at (59 ∷ bs) g
 last_comment at bs [] f g e l = (nothing, 59 ∷ bs, refl, e, refl, l ∙ sym (behind-empty f))
 last_comment at bs (o ∷ os) f g e l = absurd l
 
-comment_follows : (at : ℕ) (bs : List ℕ) (os : Around) (f g : Forest) → Follows in_comment os f (at + 1) bs g → Remains os f at (59 ∷ bs) g
+comment_follows : (at : ℕ) (bs : List ℕ) (os : OpenLists) (f g : Forest) → Follows in_comment os f (at + 1) bs g → Remains os f at (59 ∷ bs) g
 comment_follows at bs os f g r = elim (r.2) [
   | inl h ↦ subst (λ (l : List ℕ). Remains os f at (59 ∷ l) g) (sym h.1)
       (comment_before r.0 at h.0 os f g r.1 (moved os f f (at + 1 + length r.0 + 1) (at + length r.0 + 2) h.0 g refl (omega arith) h.2))
   | inr h ↦ last_comment at bs os f g (ap is_comment h.0 ∙ r.1) h.1
 ]
 
-word_follows : (at b : ℕ) (bs : List ℕ) (os : Around) (f g : Forest) → is_atom_byte b ≡ true → Follows (in_word at (b ∷ [])) os f (at + 1) bs g → Remains os f at (b ∷ bs) g
+word_follows : (at b : ℕ) (bs : List ℕ) (os : OpenLists) (f g : Forest) → is_atom_byte b ≡ true → Follows (in_word at (b ∷ [])) os f (at + 1) bs g → Remains os f at (b ∷ bs) g
 word_follows at b bs os f g e r =
     subst (λ (l : List ℕ). Remains os f at (b ∷ l) g) (sym r.3)
     (word_before (b ∷ r.0) at r.1 os f g (rw (e, r.2) refl) r.4
     (moved os (behind f (atom at (b ∷ r.0) empty)) (behind f (atom at (b ∷ r.0) empty)) (at + 1 + length r.0) (at + length (b ∷ r.0)) r.1 g refl (omega arith) r.5))
 
-text_follows : (at : ℕ) (bs : List ℕ) (os : Around) (f g : Forest) → TextRemains at [] os f (at + 1) bs g → Remains os f at (34 ∷ bs) g
+text_follows : (at : ℕ) (bs : List ℕ) (os : OpenLists) (f g : Forest) → TextRemains at [] os f (at + 1) bs g → Remains os f at (34 ∷ bs) g
 text_follows at bs os f g r =
     subst (λ (l : List ℕ). Remains os f at (34 ∷ l) g) (sym r.3)
     (text_before r.0 at r.1 os f g r.2
-    (moved os (behind f (text at r.0 empty)) (behind f (text at r.0 empty)) (at + 1 + length (escaped r.0) + 1) (at + length (escaped r.0) + 2) r.1 g refl (omega arith) r.4))
+    (moved os (behind f (text at r.0 empty)) (behind f (text at r.0 empty)) (at + 1 + length (escaped_string r.0) + 1) (at + length (escaped_string r.0) + 2) r.1 g refl (omega arith) r.4))
 
-closed_follows : (at : ℕ) (bs : List ℕ) (os : Around) (f g : Forest) → IfSome (closed os f) (λ t. FollowsIn (at + 1) bs g t → Remains os f at (41 ∷ bs) g)
+closed_follows : (at : ℕ) (bs : List ℕ) (os : OpenLists) (f g : Forest) → IfSome (closed os f) (λ t. FollowsIn (at + 1) bs g t → Remains os f at (41 ∷ bs) g)
 closed_follows at bs [] f g = tt
 closed_follows at bs (o ∷ os) f g = close_before o at bs os f g
 
--- a byte between tokens stands before what follows it
-start_follows : (at b : ℕ) (bs : List ℕ) (os : Around) (f g : Forest) → IfSome (start at b os f) (λ t. FollowsIn (at + 1) bs g t → Remains os f at (b ∷ bs) g)
+-- a byte between tokens, and the rest after it
+start_follows : (at b : ℕ) (bs : List ℕ) (os : OpenLists) (f g : Forest) → IfSome (start at b os f) (λ t. FollowsIn (at + 1) bs g t → Remains os f at (b ∷ bs) g)
 start_follows at b bs os f g =
     let P = (λ (o : Option State). IfSome o (λ t. FollowsIn (at + 1) bs g t → Remains os f at (b ∷ bs) g)) in
     tested P (is_blank b) _ _ (λ e. blank_before b at bs os f g e)
@@ -188,7 +188,7 @@ start_follows at b bs os f g =
     as_byte k e r = subst (λ (x : ℕ). Remains os f at (x ∷ bs) g) (sym (eqb-true b k e)) r
 
 -- a byte of a comment
-comment_step : (w : Bool) (at b : ℕ) (bs : List ℕ) (os : Around) (f g : Forest) → b == 10 ≡ w → Follows (cond w gap in_comment) os f (at + 1) bs g
+comment_step : (w : Bool) (at b : ℕ) (bs : List ℕ) (os : OpenLists) (f g : Forest) → b == 10 ≡ w → Follows (cond w gap in_comment) os f (at + 1) bs g
     → Follows in_comment os f at (b ∷ bs) g
 comment_step true at b bs os f g e r =
     ([], refl, inl (bs, ap (λ x. x ∷ bs) (eqb-true b 10 e), moved os f f (at + 1) (at + 0 + 1) bs g refl (omega arith) r))
@@ -201,21 +201,21 @@ comment_step false at b bs os f g e r = (
   ],
 )
 
--- a character of a string before what remains of it
-char_before : (c : ℕ) (front : List ℕ) (from : ℕ) (chars : List ℕ) (os : Around) (f : Forest) (at : ℕ) (bs : List ℕ) (g : Forest) → escape c ≡ front → is_char c ≡ true
+-- a character of a string, and the rest of the string
+char_before : (c : ℕ) (front : List ℕ) (from : ℕ) (chars : List ℕ) (os : OpenLists) (f : Forest) (at : ℕ) (bs : List ℕ) (g : Forest) → escape c ≡ front → is_char c ≡ true
     → TextRemains from (chars ++ c ∷ []) os f (at + length front) bs g → TextRemains from chars os f at (front ++ bs) g
 char_before c front from chars os f at bs g e k r =
-    let long : length (escaped (c ∷ r.0)) ≡ length front + length (escaped r.0) = length-append (escape c) (escaped r.0) ∙ ap (λ l. length l + length (escaped r.0)) e in (
+    let long : length (escaped_string (c ∷ r.0)) ≡ length front + length (escaped_string r.0) = length-append (escape c) (escaped_string r.0) ∙ ap (λ l. length l + length (escaped_string r.0)) e in (
       c ∷ r.0,
       r.1,
       rw (k, r.2) refl,
-      ap (λ l. front ++ l) r.3 ∙ sym (append_assoc front (escaped r.0) (34 ∷ r.1)) ∙ ap (λ l. (l ++ escaped r.0) ++ 34 ∷ r.1) (sym e),
-      moved os (behind f (text from ((chars ++ c ∷ []) ++ r.0) empty)) (behind f (text from (chars ++ c ∷ r.0) empty)) (at + length front + length (escaped r.0) + 1)
-          (at + length (escaped (c ∷ r.0)) + 1) r.1 g (ap (λ l. behind f (text from l empty)) (append_assoc chars (c ∷ []) r.0)) (omega arith) r.4,
+      ap (λ l. front ++ l) r.3 ∙ sym (append_assoc front (escaped_string r.0) (34 ∷ r.1)) ∙ ap (λ l. (l ++ escaped_string r.0) ++ 34 ∷ r.1) (sym e),
+      moved os (behind f (text from ((chars ++ c ∷ []) ++ r.0) empty)) (behind f (text from (chars ++ c ∷ r.0) empty)) (at + length front + length (escaped_string r.0) + 1)
+          (at + length (escaped_string (c ∷ r.0)) + 1) r.1 g (ap (λ l. behind f (text from l empty)) (append_assoc chars (c ∷ []) r.0)) (omega arith) r.4,
     )
 
 -- the last quote of a string
-quote_before : (b from : ℕ) (chars : List ℕ) (os : Around) (f : Forest) (at : ℕ) (bs : List ℕ) (g : Forest) → b ≡ 34 → Remains os (behind f (text from chars empty)) (at + 1) bs g
+quote_before : (b from : ℕ) (chars : List ℕ) (os : OpenLists) (f : Forest) (at : ℕ) (bs : List ℕ) (g : Forest) → b ≡ 34 → Remains os (behind f (text from chars empty)) (at + 1) bs g
     → TextRemains from chars os f at (b ∷ bs) g
 quote_before b from chars os f at bs g e r = (
   [],
@@ -226,30 +226,30 @@ quote_before b from chars os f at bs g e r = (
       (ap (λ l. behind f (text from l empty)) (sym (append-nil chars))) (omega arith) r,
 )
 
--- a backslash before what it escapes
-backslash_before : (b from : ℕ) (chars : List ℕ) (os : Around) (f : Forest) (at : ℕ) (bs : List ℕ) (g : Forest) → b ≡ 92 → Follows (in_escape from chars) os f (at + 1) bs g
+-- a backslash, and what it escapes
+backslash_before : (b from : ℕ) (chars : List ℕ) (os : OpenLists) (f : Forest) (at : ℕ) (bs : List ℕ) (g : Forest) → b ≡ 92 → Follows (in_escape from chars) os f (at + 1) bs g
     → TextRemains from chars os f at (b ∷ bs) g
 backslash_before b from chars os f at bs g e r =
     subst (λ (l : List ℕ). TextRemains from chars os f at l g) (sym (ap (λ x. x ∷ bs) e ∙ ap (λ l. 92 ∷ l) r.5))
     (char_before r.0 (92 ∷ r.1 ∷ []) from chars os f at r.2 g r.3 r.4
     (subst (λ (n : ℕ). TextRemains from (chars ++ r.0 ∷ []) os f n r.2 g) (omega arith) r.6))
 
--- a byte that stands in a string as it is
+-- a byte of a string that needs no escape
 plain_escape : (b : ℕ) → b == 34 ≡ false → b == 92 ≡ false → nat_le 32 b ≡ true → escape b ≡ b ∷ []
 plain_escape b e1 e2 k = let e3 : b == 10 ≡ false = false_from_ne_true (b == 10) (λ s. let n : nat_le 32 b ≡ false = ap (nat_le 32) (eqb-true b 10 s) in cc) in rw (e1, e2, e3) refl
 
-plain_before : (b from : ℕ) (chars : List ℕ) (os : Around) (f : Forest) (at : ℕ) (bs : List ℕ) (g : Forest) → b == 34 ≡ false → b == 92 ≡ false → nat_le 32 b ≡ true
+plain_before : (b from : ℕ) (chars : List ℕ) (os : OpenLists) (f : Forest) (at : ℕ) (bs : List ℕ) (g : Forest) → b == 34 ≡ false → b == 92 ≡ false → nat_le 32 b ≡ true
     → TextRemains from (chars ++ b ∷ []) os f (at + 1) bs g → TextRemains from chars os f at (b ∷ bs) g
 plain_before b from chars os f at bs g e1 e2 k r =
     char_before b (b ∷ []) from chars os f at bs g (plain_escape b e1 e2 k) (ap (λ w. w || b == 10) k) r
 
--- a byte behind a backslash
-escape_step : (c b from : ℕ) (chars : List ℕ) (os : Around) (f : Forest) (at : ℕ) (bs : List ℕ) (g : Forest) → escape c ≡ 92 ∷ b ∷ [] → is_char c ≡ true
+-- a byte after a backslash
+escape_step : (c b from : ℕ) (chars : List ℕ) (os : OpenLists) (f : Forest) (at : ℕ) (bs : List ℕ) (g : Forest) → escape c ≡ 92 ∷ b ∷ [] → is_char c ≡ true
     → TextRemains from (chars ++ c ∷ []) os f (at + 1) bs g → Follows (in_escape from chars) os f at (b ∷ bs) g
 escape_step c b from chars os f at bs g e k r = (c, b, bs, e, k, refl, r)
 
--- a byte behind an atom
-word_ends : (from : ℕ) (name : List ℕ) (os : Around) (f : Forest) (at b : ℕ) (bs : List ℕ) (g : Forest) → is_atom_byte b ≡ false
+-- a byte after an atom
+word_ends : (from : ℕ) (name : List ℕ) (os : OpenLists) (f : Forest) (at b : ℕ) (bs : List ℕ) (g : Forest) → is_atom_byte b ≡ false
     → Remains os (behind f (atom from name empty)) at (b ∷ bs) g → Follows (in_word from name) os f at (b ∷ bs) g
 word_ends from name os f at b bs g e r = (
   [],
@@ -261,7 +261,7 @@ word_ends from name os f at b bs g e r = (
       (ap (λ l. behind f (atom from l empty)) (sym (append-nil name))) (omega arith) r,
 )
 
-word_goes_on : (from : ℕ) (name : List ℕ) (os : Around) (f : Forest) (at b : ℕ) (bs : List ℕ) (g : Forest) → is_atom_byte b ≡ true
+word_goes_on : (from : ℕ) (name : List ℕ) (os : OpenLists) (f : Forest) (at b : ℕ) (bs : List ℕ) (g : Forest) → is_atom_byte b ≡ true
     → Follows (in_word from (name ++ b ∷ [])) os f (at + 1) bs g → Follows (in_word from name) os f at (b ∷ bs) g
 word_goes_on from name os f at b bs g e r = (
   b ∷ r.0,
@@ -273,8 +273,8 @@ word_goes_on from name os f at b bs g e r = (
       (ap (λ l. behind f (atom from l empty)) (append_assoc name (b ∷ []) r.0)) (omega arith) r.5,
 )
 
--- a byte stands before what follows it
-step_follows : (m : Mode) (os : Around) (f : Forest) (at b : ℕ) (bs : List ℕ) (g : Forest) → IfSome (step m os f at b) (λ t. FollowsIn (at + 1) bs g t → Follows m os f at (b ∷ bs) g)
+-- a byte, and the rest after it
+step_follows : (m : Mode) (os : OpenLists) (f : Forest) (at b : ℕ) (bs : List ℕ) (g : Forest) → IfSome (step m os f at b) (λ t. FollowsIn (at + 1) bs g t → Follows m os f at (b ∷ bs) g)
 step_follows gap os f at b bs g = start_follows at b bs os f g
 step_follows in_comment os f at b bs g = comment_step (b == 10) at b bs os f g refl
 step_follows (in_word from name) os f at b bs g =
@@ -293,16 +293,16 @@ step_follows (in_escape from chars) os f at b bs g =
     (λ _. tested P (b == 92) _ _ (λ e. escape_step 92 b from chars os f at bs g (ap (λ x. 92 ∷ x ∷ []) (sym (eqb-true b 92 e))) refl)
     (λ _. tested P (b == 110) _ _ (λ e. escape_step 10 b from chars os f at bs g (ap (λ x. 92 ∷ x ∷ []) (sym (eqb-true b 110 e))) refl) (λ _. tt)))
 
--- at the end of the input nothing remains
-closed_last : (os : Around) (f g : Forest) → all_closed os f ≡ Some g → Last os f g
+-- nothing remains at the end of the input
+closed_last : (os : OpenLists) (f g : Forest) → all_closed os f ≡ Some g → Last os f g
 closed_last [] f g e = sym (same_Some f g e)
 closed_last (o ∷ os) f g e = cc
 
-nothing_remains : (os : Around) (f : Forest) (at : ℕ) (g : Forest) → Last os f g → Remains os f at [] g
+nothing_remains : (os : OpenLists) (f : Forest) (at : ℕ) (g : Forest) → Last os f g → Remains os f at [] g
 nothing_remains [] f at g l = (nothing, [], refl, refl, refl, l ∙ sym (behind-empty f))
 nothing_remains (o ∷ os) f at g l = absurd l
 
-finish_follows : (m : Mode) (os : Around) (f : Forest) (at : ℕ) (g : Forest) → finish m os f ≡ Some g → Follows m os f at [] g
+finish_follows : (m : Mode) (os : OpenLists) (f : Forest) (at : ℕ) (g : Forest) → finish m os f ≡ Some g → Follows m os f at [] g
 finish_follows gap os f at g e = nothing_remains os f at g (closed_last os f g e)
 finish_follows in_comment os f at g e = ([], refl, inr (refl, closed_last os f g e))
 finish_follows (in_word from name) os f at g e = (
@@ -317,18 +317,18 @@ finish_follows (in_word from name) os f at g e = (
 finish_follows (in_text from chars) os f at g e = cc
 finish_follows (in_escape from chars) os f at g e = cc
 
--- what the machine goes over is what follows
-run_follows : (bs : List ℕ) (s : State) (at : ℕ) (g : Forest) → option_and_then finished (run s at bs) ≡ Some g → FollowsIn at bs g s
+-- the bytes that the machine takes are the rest
+run_follows : (bs : List ℕ) (s : State) (at : ℕ) (g : Forest) → option_and_then forest_at_end (run s at bs) ≡ Some g → FollowsIn at bs g s
 run_follows [] s at g e = finish_follows s.0 s.1 s.2 at g e
 run_follows (b ∷ bs) s at g e =
     from (next s at b) e (step_follows s.0 s.1 s.2 at b bs g) (λ t. run_follows bs t (at + 1) g) where
-      from : (o : Option State) → option_and_then finished (option_and_then (λ t. run t (at + 1) bs) o) ≡ Some g → IfSome o (λ t. FollowsIn (at + 1) bs g t → FollowsIn at (b ∷ bs) g s)
-          → ((t : State) → option_and_then finished (run t (at + 1) bs) ≡ Some g → FollowsIn (at + 1) bs g t) → FollowsIn at (b ∷ bs) g s
+      from : (o : Option State) → option_and_then forest_at_end (option_and_then (λ t. run t (at + 1) bs) o) ≡ Some g → IfSome o (λ t. FollowsIn (at + 1) bs g t → FollowsIn at (b ∷ bs) g s)
+          → ((t : State) → option_and_then forest_at_end (run t (at + 1) bs) ≡ Some g → FollowsIn (at + 1) bs g t) → FollowsIn at (b ∷ bs) g s
       from None e h k = cc
       from (Some t) e h k = h (k t e)
 
 -- the machine reads bytes as a forest that they spell
 pub spells-whole : (bytes : List ℕ) (f : Forest) → IsUtf8 bytes → whole bytes ≡ Some f → Spells bytes f
 spells-whole bytes f u e =
-    let r = run_follows bytes at_first 0 f e in
+    let r = run_follows bytes first_state 0 f e in
     record { utf8 = u; spelling = r.0; tail = r.1; well_spelled = r.2; ends = r.3; bytes_are = r.4; forest_is = r.5 }

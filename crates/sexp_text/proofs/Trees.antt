@@ -4,9 +4,10 @@ use Rattle.std.proofs.lemmas.List.{map-append}
 use Rattle.std.proofs.lemmas.Grind.{common_steps}
 use Rattle.std.specs.declared.alloc.Global.{Global}
 use Rattle.sexp_text.specs.Forest.{Forest, empty, atom, text, list, behind}
-use Rattle.sexp_text.specs.View.{joined, tree_view, forest_view}
+use Rattle.sexp_text.specs.View.{forest_concat, view_step, tree_view, forest_view}
 use Rattle.sexp_text.specs.Machine.{around_view}
-use Rattle.sexp_text.specs.declared.tree.Tree.{Tree, Atom, Text, List as TreeList, the_lemmas}
+use Rattle.sexp_text.specs.declared.tree.Tree.{Tree, Atom, Text, List as TreeList, fold_out-Tree, the_lemmas}
+use Rattle.sexp_text.specs.declared.tree.Tree.TheOpen.{Tree-F}
 
 pub behind-empty : (f : Forest) → behind f empty ≡ f
 behind-empty empty = refl
@@ -20,13 +21,13 @@ behind_assoc (atom at a f) g h = ap (atom at a) (behind_assoc f g h)
 behind_assoc (text at s f) g h = ap (text at s) (behind_assoc f g h)
 behind_assoc (list at i f) g h = ap (list at i) (behind_assoc f g h)
 
-joined-push : (fs : List Forest) (f : Forest) → joined (fs ++ f ∷ []) ≡ behind (joined fs) f
-joined-push [] f = behind-empty f
-joined-push (g ∷ fs) f = ap (behind g) (joined-push fs f) ∙ sym (behind_assoc g (joined fs) f)
+forest_concat-push : (fs : List Forest) (f : Forest) → forest_concat (fs ++ f ∷ []) ≡ behind (forest_concat fs) f
+forest_concat-push [] f = behind-empty f
+forest_concat-push (g ∷ fs) f = ap (behind g) (forest_concat-push fs f) ∙ sym (behind_assoc g (forest_concat fs) f)
 
--- one tree more
+-- a further tree
 pub forest_view-push : (ts : List Tree) (t : Tree) → forest_view (ts ++ t ∷ []) ≡ behind (forest_view ts) (tree_view t)
-forest_view-push ts t = ap joined (map-append tree_view ts (t ∷ [])) ∙ joined-push (map tree_view ts) (tree_view t)
+forest_view-push ts t = ap forest_concat (map-append tree_view ts (t ∷ [])) ∙ forest_concat-push (map tree_view ts) (tree_view t)
 
 pub view-Atom : (at : ℕ) (name : Vec ℕ Global) → tree_view (Atom at name) ≡ atom at name.items empty
 view-Atom at name = search (rules, the_lemmas)
@@ -37,12 +38,26 @@ view-Text at chars = search (rules, the_lemmas)
 pub view-List : (at : ℕ) (trees : Vec Tree Global) → tree_view (TreeList at trees) ≡ list at (forest_view trees.items) empty
 view-List at trees = search (rules, the_lemmas)
 
--- what each variant of a tree stands for
+-- the forest of each kind of tree
 pub ruleset views = (view-Atom, view-Text, view-List)
 
--- one list more that is open
+-- a further open list
 pub around_view-push : (os : List (ℕ × Vec Tree Global)) (at : ℕ) (trees : Vec Tree Global) → around_view (os ++ (at, trees) ∷ []) ≡ (at, forest_view trees.items) ∷ around_view os
 around_view-push os at trees = grind (arith, common_steps)
 
 -- what a walk that grows a forest needs
 pub ruleset pushes = (forest_view-push, around_view-push, view-Atom, view-Text, view-List)
+
+-- a single tree
+pub data OneTree : Forest → Type 0 where
+  one_atom : (at : ℕ) (name : List ℕ) → OneTree (atom at name empty)
+  one_text : (at : ℕ) (chars : List ℕ) → OneTree (text at chars empty)
+  one_list : (at : ℕ) (inner : Forest) → OneTree (list at inner empty)
+
+one_step : (x : Tree-F Forest) → OneTree (view_step x)
+one_step (Tree-F.Atom at name) = one_atom at name.items
+one_step (Tree-F.Text at chars) = one_text at chars.items
+one_step (Tree-F.List at trees) = one_list at (forest_concat trees.items)
+
+pub one_tree : (t : Tree) → OneTree (tree_view t)
+one_tree t = rw (fold_out-Tree Forest view_step t) (one_step _)

@@ -9,25 +9,25 @@ use Rattle.sexp_text.specs.declared.stop.TextStop.{TextStop}
 use Rattle.sexp_text.specs.declared.stop.TextStop.TheVariants as stops
 use Rattle.sexp_text.specs.Forest.{Forest, empty, atom, text, list, behind, nesting}
 use Rattle.sexp_text.specs.Grammar.{is_blank, is_atom_byte}
-use Rattle.sexp_text.specs.Machine.{finish, finished, all_closed, IsShallow, Stops, Refuses, Fails, GoesDeep, Mode, gap, in_comment, in_word, in_text, in_escape, Around, State, closed, start, step, next, run, at_first, state_at, reached, whole}
+use Rattle.sexp_text.specs.Machine.{finish, forest_at_end, all_closed, IsShallow, Stops, Refuses, Fails, GoesDeep, Mode, gap, in_comment, in_word, in_text, in_escape, OpenLists, State, closed, start, step, next, run, first_state, state_at, depth_reached, whole}
 
--- one step and then more, in two ways
+-- one step and the steps after it, in two ways
 onward : (o : Option State) (f g h : State → Option State) → ((t : State) → f t ≡ option_and_then g (h t)) → option_and_then f o ≡ option_and_then g (option_and_then h o)
 onward None f g h e = refl
 onward (Some t) f g h e = e t
 
--- bytes in front of bytes
+-- bytes before bytes
 pub run-append : (xs ys : List ℕ) (s : State) (at : ℕ) → run s at (xs ++ ys) ≡ option_and_then (λ t. run t (at + length xs) ys) (run s at xs)
 run-append [] ys s at = ap (λ k. run s k ys) (omega arith)
 run-append (x ∷ xs) ys s at =
     onward (next s at x) (λ t. run t (at + 1) (xs ++ ys)) (λ t. run t (at + suc (length xs)) ys) (λ t. run t (at + 1) xs)
     (λ t. run-append xs ys t (at + 1) ∙ ap (λ k. option_and_then (λ u. run u k ys) (run t (at + 1) xs)) (omega arith))
 
--- bytes behind those that lead to a state
+-- bytes after those that lead to a state
 pub run_on : (xs ys : List ℕ) (s t : State) (at : ℕ) → run s at xs ≡ Some t → run s at (xs ++ ys) ≡ run t (at + length xs) ys
 run_on xs ys s t at e = run-append xs ys s at ∙ ap (option_and_then (λ t. run t (at + length xs) ys)) e
 
--- bytes behind those that lead to none
+-- bytes after those that lead to none
 pub run_none : (xs ys : List ℕ) (s : State) (at : ℕ) → run s at xs ≡ None → run s at (xs ++ ys) ≡ None
 run_none xs ys s at e = run-append xs ys s at ∙ ap (option_and_then (λ t. run t (at + length xs) ys)) e
 
@@ -35,13 +35,13 @@ and_then-Some : (o : Option State) → option_and_then (λ t. Some t) o ≡ o
 and_then-Some None = refl
 and_then-Some (Some t) = refl
 
--- one byte behind the others
+-- one byte after the others
 pub walk_on : (bytes : List ℕ) (i : ℕ) (s : State) (o : Option State) → i < length bytes → state_at bytes i ≡ Some s → next s i (get_or bytes i 0) ≡ o
     → state_at bytes (suc i) ≡ o
 walk_on bytes i s o lt here e =
     let l : 0 + length (take i bytes) ≡ i = omega (arith, length-take i bytes) in
-    ap (run at_first 0) (take-suc bytes i 0 lt)
-    ∙ run_on (take i bytes) (get_or bytes i 0 ∷ []) at_first s 0 here
+    ap (run first_state 0) (take-suc bytes i 0 lt)
+    ∙ run_on (take i bytes) (get_or bytes i 0 ∷ []) first_state s 0 here
     ∙ and_then-Some (next s (0 + length (take i bytes)) (get_or bytes i 0))
     ∙ ap (λ k. next s k (get_or bytes i 0)) l
     ∙ e
@@ -57,29 +57,29 @@ nesting-behind (atom at a f) g = nesting-behind f g
 nesting-behind (text at s f) g = nesting-behind f g
 nesting-behind (list at i f) g = omega (arith, nesting-behind f g)
 
-pub reached-behind : (os : Around) (f g : Forest) → reached os (behind f g) ≡ max (reached os f) (length os + nesting g)
-reached-behind [] f g = omega (arith, nesting-behind f g)
-reached-behind (o ∷ os) f g = omega (arith, nesting-behind f g)
+pub depth_reached-behind : (os : OpenLists) (f g : Forest) → depth_reached os (behind f g) ≡ max (depth_reached os f) (length os + nesting g)
+depth_reached-behind [] f g = omega (arith, nesting-behind f g)
+depth_reached-behind (o ∷ os) f g = omega (arith, nesting-behind f g)
 
-pub length_le-reached : (os : Around) (f : Forest) → length os ≤ reached os f
-length_le-reached [] f = omega arith
-length_le-reached (o ∷ os) f = omega arith
+pub length_le-depth_reached : (os : OpenLists) (f : Forest) → length os ≤ depth_reached os f
+length_le-depth_reached [] f = omega arith
+length_le-depth_reached (o ∷ os) f = omega arith
 
--- a state deepens by the list that it opens alone
-abbrev Deepens : Around → Forest → State → Type 0
-Deepens os f t = reached t.1 t.2 ≡ max (reached os f) (length t.1)
+-- a state deepens only by the list that it opens
+abbrev Deepens : OpenLists → Forest → State → Type 0
+Deepens os f t = depth_reached t.1 t.2 ≡ max (depth_reached os f) (length t.1)
 
-kept : (m : Mode) (os : Around) (f : Forest) → Deepens os f (m, os, f)
-kept m os f = omega (arith, length_le-reached os f)
+kept : (m : Mode) (os : OpenLists) (f : Forest) → Deepens os f (m, os, f)
+kept m os f = omega (arith, length_le-depth_reached os f)
 
-grown : (os : Around) (f g : Forest) → nesting g ≡ 0 → Deepens os f (gap, os, behind f g)
-grown os f g e = omega (arith, reached-behind os f g, length_le-reached os f)
+grown : (os : OpenLists) (f g : Forest) → nesting g ≡ 0 → Deepens os f (gap, os, behind f g)
+grown os f g e = omega (arith, depth_reached-behind os f g, length_le-depth_reached os f)
 
-closed_deepens : (os : Around) (f : Forest) → IfSome (closed os f) (Deepens os f)
+closed_deepens : (os : OpenLists) (f : Forest) → IfSome (closed os f) (Deepens os f)
 closed_deepens [] f = tt
-closed_deepens (o ∷ os) f = omega (arith, reached-behind os o.1 (list o.0 f empty), length_le-reached os o.1)
+closed_deepens (o ∷ os) f = omega (arith, depth_reached-behind os o.1 (list o.0 f empty), length_le-depth_reached os o.1)
 
-start_deepens : (at b : ℕ) (os : Around) (f : Forest) → IfSome (start at b os f) (Deepens os f)
+start_deepens : (at b : ℕ) (os : OpenLists) (f : Forest) → IfSome (start at b os f) (Deepens os f)
 start_deepens at b os f =
     let P = (λ (o : Option State). IfSome o (Deepens os f)) in
     tested P (is_blank b) _ _ (λ _. kept gap os f)
@@ -90,16 +90,16 @@ start_deepens at b os f =
     (λ _. tested P (is_atom_byte b) _ _ (λ _. kept (in_word at (b ∷ [])) os f) (λ _. tt))))))
 
 -- an atom or a string deepens nothing
-pub reached_same : (os : Around) (f g : Forest) → nesting g ≡ 0 → reached os (behind f g) ≡ reached os f
-reached_same os f g e = omega (arith, reached-behind os f g, length_le-reached os f)
+pub reached_same : (os : OpenLists) (f g : Forest) → nesting g ≡ 0 → depth_reached os (behind f g) ≡ depth_reached os f
+reached_same os f g e = omega (arith, depth_reached-behind os f g, length_le-depth_reached os f)
 
-start_deepens_behind : (at b : ℕ) (os : Around) (f g : Forest) → nesting g ≡ 0 → IfSome (start at b os (behind f g)) (Deepens os f)
+start_deepens_behind : (at b : ℕ) (os : OpenLists) (f g : Forest) → nesting g ≡ 0 → IfSome (start at b os (behind f g)) (Deepens os f)
 start_deepens_behind at b os f g e =
-    subst (λ (k : ℕ). IfSome (start at b os (behind f g)) (λ t. reached t.1 t.2 ≡ max k (length t.1))) (reached_same os f g e) (start_deepens at b os (behind f g))
+    subst (λ (k : ℕ). IfSome (start at b os (behind f g)) (λ t. depth_reached t.1 t.2 ≡ max k (length t.1))) (reached_same os f g e) (start_deepens at b os (behind f g))
 
-step_deepens : (m : Mode) (os : Around) (f : Forest) (at b : ℕ) → IfSome (step m os f at b) (Deepens os f)
+step_deepens : (m : Mode) (os : OpenLists) (f : Forest) (at b : ℕ) → IfSome (step m os f at b) (Deepens os f)
 step_deepens gap os f at b = start_deepens at b os f
-step_deepens in_comment os f at b = omega (arith, length_le-reached os f)
+step_deepens in_comment os f at b = omega (arith, length_le-depth_reached os f)
 step_deepens (in_word from name) os f at b =
     tested (λ (o : Option State). IfSome o (Deepens os f)) (is_atom_byte b) _ _ (λ _. kept (in_word from (name ++ b ∷ [])) os f)
     (λ _. start_deepens_behind at b os f (atom from name empty) refl)
@@ -115,15 +115,15 @@ step_deepens (in_escape from chars) os f at b =
     (λ _. tested P (b == 110) _ _ (λ _. kept (in_text from (chars ++ 10 ∷ [])) os f) (λ _. tt)))
 
 -- how deep the next state is
-pub next_deepens : (s t : State) (at b : ℕ) → next s at b ≡ Some t → reached t.1 t.2 ≡ max (reached s.1 s.2) (length t.1)
+pub next_deepens : (s t : State) (at b : ℕ) → next s at b ≡ Some t → depth_reached t.1 t.2 ≡ max (depth_reached s.1 s.2) (length t.1)
 next_deepens s t at b e = subst (λ (o : Option State). IfSome o (Deepens s.1 s.2)) e (step_deepens s.0 s.1 s.2 at b)
 
-all_closed_reaches : (os : Around) (f g : Forest) → all_closed os f ≡ Some g → reached os f ≡ nesting g
+all_closed_reaches : (os : OpenLists) (f g : Forest) → all_closed os f ≡ Some g → depth_reached os f ≡ nesting g
 all_closed_reaches [] f g e = ap nesting (same_Some f g e)
 all_closed_reaches (o ∷ os) f g e = cc
 
 -- how deep the whole forest is
-pub finish_reaches : (m : Mode) (os : Around) (f g : Forest) → finish m os f ≡ Some g → reached os f ≡ nesting g
+pub finish_reaches : (m : Mode) (os : OpenLists) (f g : Forest) → finish m os f ≡ Some g → depth_reached os f ≡ nesting g
 finish_reaches gap os f g e = all_closed_reaches os f g e
 finish_reaches in_comment os f g e = all_closed_reaches os f g e
 finish_reaches (in_word from name) os f g e =
@@ -132,9 +132,9 @@ finish_reaches (in_text from chars) os f g e = cc
 finish_reaches (in_escape from chars) os f g e = cc
 
 -- the state at the end of the input is that of the whole input
-pub whole_is : (bytes : List ℕ) (i : ℕ) (s : State) → length bytes ≤ i → state_at bytes i ≡ Some s → whole bytes ≡ finished s
+pub whole_is : (bytes : List ℕ) (i : ℕ) (s : State) → length bytes ≤ i → state_at bytes i ≡ Some s → whole bytes ≡ forest_at_end s
 whole_is bytes i s le e =
-    ap (option_and_then finished) (ap (run at_first 0) (sym (take_all i bytes le)) ∙ e)
+    ap (option_and_then forest_at_end) (ap (run first_state 0) (sym (take_all i bytes le)) ∙ e)
 
 -- a byte behind which lists are open too deep
 goes_deep : (bytes : List ℕ) (i : ℕ) (s : State) (o : Option State) → i < length bytes → state_at bytes i ≡ Some s → IsShallow s
@@ -144,7 +144,7 @@ goes_deep bytes i s (Some t) lt here shallow e k h = record {
   before = rw here shallow;
   within = lt;
   opens = k;
-  deep = rw (walk_on bytes i s (Some t) lt here e) (omega (arith, length_le-reached t.1 t.2));
+  deep = rw (walk_on bytes i s (Some t) lt here e) (omega (arith, length_le-depth_reached t.1 t.2));
 }
 
 -- a byte that is not taken

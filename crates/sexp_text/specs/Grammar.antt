@@ -1,37 +1,39 @@
--- The grammar of texts: which bytes spell which forest.
+-- Trusted: the grammar, that is which bytes spell which forest.
 use Rattle.std.specs.Prelude.{◌≡◌, ℕ, ◌+◌, ◌==◌, Bool, true, false, ◌&&◌, ◌||◌, not, nat_le, if◌then◌else◌, List, [], ◌∷◌, ◌++◌, length}
 use Rattle.std.specs.List.{list_all}
 use Rattle.std.specs.Str.{IsUtf8}
 use Rattle.sexp_text.specs.Forest.{Forest, empty, atom, text, list}
 
--- white space: blank, TAB, LF and CR
+-- White space: blank, TAB, LF and CR.
 abbrev pub is_blank : ℕ → Bool
 is_blank b = b == 32 || b == 9 || b == 10 || b == 13
 
--- what an atom is made of: letters, digits and + - * / % < > = ! ? _
+-- The bytes of atoms: letters, digits and + - * / % < > = ! ? _
 abbrev pub is_atom_byte : ℕ → Bool
 is_atom_byte b =
     (nat_le 97 b && nat_le b 122) || (nat_le 65 b && nat_le b 90) || (nat_le 48 b && nat_le b 57)
-    || b == 43 || b == 45 || b == 42 || b == 47 || b == 37 || b == 60 || b == 62 || b == 61 || b == 33 || b == 63 || b == 95
+    || b == 43 || b == 45 || b == 42 || b == 47 || b == 37 || b == 60 || b == 62 || b == 61 || b == 33 || b == 63
+    || b == 95
 
--- what a string may hold: anything but the characters below blank, of which it may hold LF
+-- The bytes of strings: all from blank on, and LF.
 abbrev pub is_char : ℕ → Bool
 is_char c = nat_le 32 c || c == 10
 
--- one or more bytes of an atom
+-- An atom: one or more of its bytes.
 abbrev pub is_name : List ℕ → Bool
 is_name [] = false
 is_name (b ∷ bs) = is_atom_byte b && list_all is_atom_byte bs
 
--- how a byte of a string is written: \" and \\ and \n for those three, else as it is
+-- The spelling of a byte of a string: `\"`, `\\` and `\n` for those three, and else the byte itself.
 abbrev pub escape : ℕ → List ℕ
-escape c = if c == 34 then 92 ∷ 34 ∷ [] else if c == 92 then 92 ∷ 92 ∷ [] else if c == 10 then 92 ∷ 110 ∷ [] else c ∷ []
+escape c = if c == 34 then 92 ∷ 34 ∷ [] else if c == 92 then 92 ∷ 92 ∷ [] else if c == 10 then 92 ∷ 110 ∷ []
+    else c ∷ []
 
-abbrev pub escaped : List ℕ → List ℕ
-escaped [] = []
-escaped (c ∷ cs) = escape c ++ escaped cs
+abbrev pub escaped_string : List ℕ → List ℕ
+escaped_string [] = []
+escaped_string (c ∷ cs) = escape c ++ escaped_string cs
 
--- A spelling of a forest: its trees one after another, with the white space and the comments around them.
+-- A spelling of a forest: its trees in order, with the white space and the comments between them.
 pub data Spelling : Type 0 where
   nothing : Spelling
   blank : (byte : ℕ) → (rest : Spelling) → Spelling
@@ -40,16 +42,16 @@ pub data Spelling : Type 0 where
   quoted : (chars : List ℕ) → (rest : Spelling) → Spelling
   parens : (inner rest : Spelling) → Spelling
 
--- its bytes: a comment is `;` to its LF, a string stands in quotes, a list in parentheses
+-- The bytes of a spelling: a comment is from `;` to LF, a string is in quotes, a list in parentheses.
 abbrev pub written : Spelling → List ℕ
 written nothing = []
 written (blank b s) = b ∷ written s
 written (comment cs s) = 59 ∷ cs ++ 10 ∷ written s
 written (word name s) = name ++ written s
-written (quoted chars s) = 34 ∷ escaped chars ++ 34 ∷ written s
+written (quoted chars s) = 34 ∷ escaped_string chars ++ 34 ∷ written s
 written (parens inner s) = 40 ∷ written inner ++ 41 ∷ written s
 
--- whether an atom stands first, with nothing before it
+-- Whether a spelling begins with an atom.
 abbrev pub begins_with_word : Spelling → Bool
 begins_with_word nothing = false
 begins_with_word (blank b s) = false
@@ -58,11 +60,11 @@ begins_with_word (word name s) = true
 begins_with_word (quoted chars s) = false
 begins_with_word (parens inner s) = false
 
--- a comment has no LF but that which ends it
+-- A comment has no LF except the one that ends it.
 abbrev pub is_comment : List ℕ → Bool
 is_comment cs = list_all (λ c. not (c == 10)) cs
 
--- Each part is made of its own bytes, and no atom stands right behind an atom: tokens need no separation but these two.
+-- Each part has bytes of its kind, and no atom comes directly after an atom: other tokens need no separation.
 abbrev pub is_well_spelled : Spelling → Bool
 is_well_spelled nothing = true
 is_well_spelled (blank b s) = is_blank b && is_well_spelled s
@@ -71,21 +73,22 @@ is_well_spelled (word name s) = is_name name && not (begins_with_word s) && is_w
 is_well_spelled (quoted chars s) = list_all is_char chars && is_well_spelled s
 is_well_spelled (parens inner s) = is_well_spelled inner && is_well_spelled s
 
--- The forest that a spelling at a place spells: a tree's place is that of its first byte.
+-- The forest of a spelling that begins at an offset. A tree's offset is that of its first byte.
 abbrev pub forest_at : ℕ → Spelling → Forest
 forest_at at nothing = empty
 forest_at at (blank b s) = forest_at (at + 1) s
 forest_at at (comment cs s) = forest_at (at + length cs + 2) s
 forest_at at (word name s) = atom at name (forest_at (at + length name) s)
-forest_at at (quoted chars s) = text at chars (forest_at (at + length (escaped chars) + 2) s)
+forest_at at (quoted chars s) = text at chars (forest_at (at + length (escaped_string chars) + 2) s)
 forest_at at (parens inner s) = list at (forest_at (at + 1) inner) (forest_at (at + length (written inner) + 2) s)
 
--- nothing, or a comment that the end of the input ends
+-- Nothing, or a comment that the end of the input ends.
 abbrev pub is_tail : List ℕ → Bool
 is_tail [] = true
 is_tail (b ∷ bs) = b == 59 && is_comment bs
 
--- The bytes spell the forest: they are UTF-8, and those of a spelling of it, behind which a last comment may be open.
+-- The bytes spell the forest: they are UTF-8, and the bytes of a spelling of it, perhaps with an unfinished comment
+-- at the end.
 pub record Spells (bytes : List ℕ) (f : Forest) : Type 0 where
   pub utf8 : IsUtf8 bytes
   pub spelling : Spelling

@@ -1,6 +1,7 @@
 pub mod Forest
 pub mod View
 pub mod Grammar
-pub mod Places
+pub mod TextFaults
 pub mod Layout
 pub mod Machine
+pub mod Same

@@ -1,13 +1,13 @@
-// Trees as text.
+// Printing of trees.
 ghost use Rattle.std.specs.Prelude.{◌≡◌, ◌++◌, ◌∷◌, [], false, IfOk, OnOk};
 ghost use Rattle.sexp_text.specs.View.{tree_view, forest_view};
-ghost use Rattle.sexp_text.specs.Grammar.{escape, escaped};
-ghost use Rattle.sexp_text.specs.Layout.{spaced, row, lines, CanBeSpelled, SpellsUnplaced};
+ghost use Rattle.sexp_text.specs.Grammar.{escape, escaped_string};
+ghost use Rattle.sexp_text.specs.Layout.{separator, inline_form, lines, CanBeSpelled, SpellsUnplaced};
 
 use crate::Tree;
 use std::alloc::{AllocError, Global};
 
-// A byte of a string, escaped where it needs to be.
+// Appends a byte of a string, escaped if it needs to be.
 fn print_char(out: &mut Vec<u8>, c: u8) -> Result<(), AllocError>
     ensures { OnOk result (out.new.items ≡ out.old.items ++ escape c) }
 {
@@ -19,10 +19,10 @@ fn print_char(out: &mut Vec<u8>, c: u8) -> Result<(), AllocError>
     }
 }
 
-// A string in its quotes.
+// Appends a string in its quotes.
 #[tactic(auto, using(crate::proofs::Layouts::quotes))]
 fn print_text(out: &mut Vec<u8>, chars: &[u8]) -> Result<(), AllocError>
-    ensures { OnOk result (out.new.items ≡ out.old.items ++ 34 ∷ escaped chars.now ++ 34 ∷ []) }
+    ensures { OnOk result (out.new.items ≡ out.old.items ++ 34 ∷ escaped_string chars.now ++ 34 ∷ []) }
 {
     out.push(b'"')?;
     for c in chars {
@@ -32,9 +32,9 @@ fn print_text(out: &mut Vec<u8>, chars: &[u8]) -> Result<(), AllocError>
     Ok(())
 }
 
-// A blank where one is due.
+// Appends a blank if `due`.
 fn print_blank(out: &mut Vec<u8>, due: bool) -> Result<(), AllocError>
-    ensures { OnOk result (out.new.items ≡ out.old.items ++ spaced due) }
+    ensures { OnOk result (out.new.items ≡ out.old.items ++ separator due) }
 {
     if due {
         out.push(b' ')?;
@@ -42,11 +42,11 @@ fn print_blank(out: &mut Vec<u8>, due: bool) -> Result<(), AllocError>
     Ok(())
 }
 
-// A tree on one line.
+// Appends a tree on one line.
 #[cycle(print_trees)]
 #[tactic(auto, using(crate::proofs::Trees::views))]
 fn print_tree(out: &mut Vec<u8>, tree: &Tree) -> Result<(), AllocError>
-    ensures ok { OnOk result (out.new.items ≡ out.old.items ++ row false (tree_view tree.now)) }
+    ensures ok { OnOk result (out.new.items ≡ out.old.items ++ inline_form false (tree_view tree.now)) }
 {
     match tree {
         Tree::Atom(_, name) => out.extend_from_slice(name),
@@ -60,10 +60,11 @@ fn print_tree(out: &mut Vec<u8>, tree: &Tree) -> Result<(), AllocError>
     }
 }
 
-// The trees of a list, with one blank between two.
+// Appends the trees of a list, separated by one blank.
 #[cycle(print_trees)]
 fn print_row(out: &mut Vec<u8>, trees: &Vec<Tree>) -> Result<(), AllocError>
-    ensures ok { OnOk result (out.new.items ≡ out.old.items ++ row false (forest_view trees.now.items)) }
+    ensures ok { OnOk result (out.new.items ≡ out.old.items
+        ++ inline_form false (forest_view trees.now.items)) }
 {
     for (i, tree) in trees.iter().enumerate() {
         print_blank(out, i > 0)?;
@@ -72,13 +73,15 @@ fn print_row(out: &mut Vec<u8>, trees: &Vec<Tree>) -> Result<(), AllocError>
     Ok(())
 }
 
-/// The trees as text: each on a line of its own that LF ends, with one blank between the trees of a list and
-/// none inside its parentheses, and with escapes in strings where they are needed and nowhere else.
+/// Prints trees, each on a line of its own that LF ends.
 ///
-/// This project's own rule. It fails only where memory runs out; its stack grows with the nesting of the trees.
+/// The trees of a list are separated by one blank, with none inside the parentheses. Strings have
+/// escapes only where they need them. A rule of this project. Fails only if memory runs out. The
+/// stack grows with the nesting of the trees.
 pub fn print(alloc: Global, trees: &[Tree]) -> Result<Vec<u8>, AllocError>
     ensures text { IfOk result (λ v. v.items ≡ lines (forest_view trees.now)) }
-    ensures spells { IfOk result (λ v. CanBeSpelled (forest_view trees.now) → SpellsUnplaced v.items (forest_view trees.now)) }
+    ensures spells { IfOk result (λ v. CanBeSpelled (forest_view trees.now) →
+        SpellsUnplaced v.items (forest_view trees.now)) }
 {
     let mut out = Vec::new(alloc);
     for tree in trees {

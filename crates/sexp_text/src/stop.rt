@@ -1,18 +1,19 @@
-// Why a text was not read.
+// The refusals of the parser.
 ghost use Rattle.std.specs.Prelude.{◌≡◌};
 
 use std::alloc::{AllocError, AllocFailed};
 
-/// Why a text was not read, with the place in it, counted in bytes from 0.
+/// The reason why bytes are no source text, with the offset in bytes from 0.
 ///
-/// This project's own rule. A text that is not UTF-8 is refused for that, whatever else is wrong with it.
+/// A rule of this project. Bytes that are not UTF-8 are refused for that, whatever else is wrong.
 #[derive(Clone, Copy, Debug, PartialEq, Eq)]
 pub enum TextStop {
-    /// The bytes are not UTF-8; `at` is the length of their longest front that is.
+    /// The bytes are not UTF-8. `at` is the length of the longest prefix that is UTF-8.
     NotUtf8 { at: usize },
-    /// No text goes on as this one does at `at`, or the text ends there too soon.
+    /// No source text has this byte at `at` after the bytes before it, or the text ends there too
+    /// early.
     Bad { at: usize },
-    /// The parenthesis at `at` opens a list that stands within 100 others.
+    /// The parenthesis at `at` opens a list inside 100 others.
     TooDeep { at: usize },
     /// Memory ran out.
     NoMemory,

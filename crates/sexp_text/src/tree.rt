@@ -1,14 +1,14 @@
-// The trees of a text.
+// The trees of a source text.
 
-/// A tree of a text, with the place of its first byte, counted in bytes from 0.
+/// A tree of a source text, with the offset of its first byte, counted in bytes from 0.
 ///
-/// This project's own notation for programs and scripts; Compose has no text of its own.
+/// A notation of this project for programs and scripts. Compose has none.
 #[derive(Drop)]
 pub enum Tree {
-    /// An atom: its place, and its bytes, one or more.
+    /// An atom: its offset, and its bytes, at least one.
     Atom(usize, Vec<u8>),
-    /// A string: the place of its first quote, and its bytes with the escapes read.
+    /// A string: the offset of its first quote, and its bytes with the escapes resolved.
     Text(usize, Vec<u8>),
-    /// A list: the place of its `(`, and the trees in it.
+    /// A list: the offset of its `(`, and its trees.
     List(usize, Vec<Tree>),
 }

@@ -2,12 +2,12 @@ use Rattle.std.proofs.Common.{◌≡◌, ◌+◌, ◌*◌, max, drop}
 use denote.Param.Weighed.{most}
 use Rattle.lang_ast.specs.SyntaxView.{stmts_view}
 use Rattle.lang_ast.proofs.syntax.Statement.TheLaws.{the_size}
-use Rattle.lang_limits.specs.Least.{least_of}
+use Rattle.lang_limits.specs.LeastOffset.{least_offset_from}
 use Rattle.lang_limits.specs.Sizes.{stmts_sizes}
 use Rattle.lang_limits.proofs.sizes.+blocks.Given as goal
 
 abbrev pub invariant-statements-loop-s : goal.invariant-statements-loop-s
-invariant-statements-loop-s l = least_of l.least (stmts_sizes l.depth (stmts_view (drop l.s-index l.body))) ≡ least_of l.initial.least (stmts_sizes l.depth (stmts_view l.body))
+invariant-statements-loop-s l = least_offset_from l.least (stmts_sizes l.depth (stmts_view (drop l.s-index l.body))) ≡ least_offset_from l.initial.least (stmts_sizes l.depth (stmts_view l.body))
 
 abbrev pub decreases-statement : goal.decreases-statement
 decreases-statement l = 5 * the_size l.s.now

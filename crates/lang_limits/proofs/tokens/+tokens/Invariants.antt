@@ -1,8 +1,8 @@
 use Rattle.std.proofs.Common.{◌≡◌, drop}
 use Rattle.sexp_text.specs.View.{forest_view}
-use Rattle.lang_limits.specs.Least.{least_of}
+use Rattle.lang_limits.specs.LeastOffset.{least_offset_from}
 use Rattle.lang_limits.specs.Tokens.{beyond}
 use Rattle.lang_limits.proofs.tokens.+tokens.Given as goal
 
 abbrev pub invariant-trees_limit-loop-tree : goal.invariant-trees_limit-loop-tree
-invariant-trees_limit-loop-tree l = least_of l.least (beyond (forest_view (drop l.tree-index l.trees))) ≡ least_of l.initial.least (beyond (forest_view l.trees))
+invariant-trees_limit-loop-tree l = least_offset_from l.least (beyond (forest_view (drop l.tree-index l.trees))) ≡ least_offset_from l.initial.least (beyond (forest_view l.trees))

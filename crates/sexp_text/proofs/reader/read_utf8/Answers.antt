@@ -1,6 +1,6 @@
 use Rattle.std.proofs.lemmas.Result.{IfOk-weaker, IfErr-at_err}
 use Rattle.sexp_text.specs.View.{forest_view}
-use Rattle.sexp_text.specs.Places.{Cause}
+use Rattle.sexp_text.specs.TextFaults.{Cause}
 use Rattle.sexp_text.proofs.Sound.{spells-whole}
 use Rattle.sexp_text.proofs.Causes.{no_cause, caused, answered}
 use Rattle.sexp_text.proofs.reader.read_utf8.Goals as goal

@@ -1,8 +1,0 @@
-use Rattle.std.proofs.Common.{◌≡◌, ◌++◌, drop}
-use Rattle.std.specs.Option.{option_map}
-use Rattle.lang_forms.specs.Views.{seen_all, state_names}
-use Rattle.lang_forms.specs.Seen.{steps_of}
-use Rattle.lang_forms.proofs.script.steps_in.Given as goal
-
-abbrev pub invariant-loop-tree : goal.invariant-loop-tree
-invariant-loop-tree l = option_map (λ more. l.steps.items ++ more) (steps_of (state_names l.states) (seen_all (drop l.tree-index l.trees))) ≡ steps_of (state_names l.states) (seen_all l.trees)

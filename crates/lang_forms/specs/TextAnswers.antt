@@ -1,0 +1,25 @@
+-- Internal: the answer for a forest, that is its text within the limits or the offset where it is refused.
+use Rattle.std.specs.Prelude.{ℕ, Option, Some, None, Result, Ok, Err}
+use Rattle.sexp_text.specs.Forest.{Forest}
+use Rattle.lang_limits.specs.LeastOffset.{least}
+use Rattle.lang_limits.specs.Sizes.{program_limits}
+use Rattle.lang_limits.specs.Clamped.{within}
+use Rattle.lang_forms.specs.declared.stop.FormStop.{FormStop}
+use Rattle.lang_forms.specs.declared.stop.FormStop.TheVariants.{Form, Limit}
+use Rattle.lang_forms.specs.Sources.{Source}
+use Rattle.lang_forms.specs.Readings.{seen}
+use Rattle.lang_forms.specs.TextReading.{source_of}
+
+-- The text, or the offset that exceeds a limit.
+abbrev pub unless_beyond : Option ℕ → Source → Result Source FormStop
+unless_beyond None t = Ok t
+unless_beyond (Some at) t = Err (Limit at)
+
+-- The answer for a forest whose clamped trees were parsed: a wrong form comes before all limits.
+abbrev pub answered : Forest → Result Source ℕ → Result Source FormStop
+answered f (Ok t) = unless_beyond (least (program_limits f t.program)) t
+answered f (Err at) = Err (Form at)
+
+-- The answer for a forest in an input of length `end`: its trees are clamped to the limits and parsed.
+abbrev pub text_answer : ℕ → Forest → Result Source FormStop
+text_answer end f = answered f (source_of end (seen (within f)))

@@ -1,0 +1,19 @@
+-- Trusted: the least of several offsets.
+use Rattle.std.specs.Prelude.{ℕ, min, List, [], ◌∷◌, Bool, Option, Some, None, if◌then◌else◌}
+
+-- The offset, if something exceeds a limit there.
+abbrev pub offset_if : Bool → ℕ → List ℕ
+offset_if is_over at = if is_over then at ∷ [] else []
+
+-- The lesser of an offset, if there is one, and a further offset.
+abbrev pub lesser_offset : Option ℕ → ℕ → Option ℕ
+lesser_offset None at = Some at
+lesser_offset (Some kept) at = Some (min kept at)
+
+-- The least of an offset, if there is one, and further offsets.
+abbrev pub least_offset_from : Option ℕ → List ℕ → Option ℕ
+least_offset_from kept [] = kept
+least_offset_from kept (at ∷ more) = least_offset_from (lesser_offset kept at) more
+
+abbrev pub least : List ℕ → Option ℕ
+least places = least_offset_from None places

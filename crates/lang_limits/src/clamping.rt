@@ -1,0 +1,113 @@
+// Trees clamped to the limits.
+ghost use Rattle.std.specs.Prelude.{◌≡◌, IfOk, OnOk};
+ghost use Rattle.sexp_text.specs.Forest.{behind};
+ghost use Rattle.sexp_text.specs.View.{tree_view, forest_view};
+ghost use Rattle.lang_limits.specs.Clamped.{clamped_atom, clamped_string, are_ints, is_oversized_ints, clamped_list, within};
+
+use crate::numbers::{is_int, is_oversized_int};
+use crate::tokens::{is_oversized_list, is_oversized_string};
+use rt_values::NoMemory;
+use sexp_text::Tree;
+use std::alloc::Global;
+
+// Copies an atom, or returns `0` for a number that does not fit into 64 bits.
+fn clamped_atom(alloc: Global, atom: &[u8]) -> Result<Vec<u8>, NoMemory>
+    ensures { IfOk result (λ v. v.items ≡ clamped_atom atom.now) }
+{
+    let kept: &[u8] = if is_oversized_int(atom) { b"0" } else { atom };
+    Ok(kept.to_vec(alloc)?)
+}
+
+// Copies a string, or returns the empty string for one that is too long.
+fn clamped_string(alloc: Global, chars: &[u8]) -> Result<Vec<u8>, NoMemory>
+    ensures { IfOk result (λ v. v.items ≡ clamped_string chars.now) }
+{
+    if is_oversized_string(chars) {
+        return Ok(Vec::new(alloc));
+    }
+    Ok(chars.to_vec(alloc)?)
+}
+
+// Whether a tree is a number.
+#[tactic(auto, using(crate::proofs::Walks::walks))]
+fn is_int_tree(tree: &Tree) -> bool
+    ensures { result ≡ are_ints (tree_view tree.now) }
+{
+    match tree {
+        Tree::Atom(_, atom) => is_int(atom),
+        Tree::Text(..) => false,
+        Tree::List(..) => false,
+    }
+}
+
+// Whether all trees are numbers.
+#[tactic(auto, using(crate::proofs::Copies::numbers))]
+fn are_ints(trees: &[Tree]) -> bool
+    ensures { result ≡ are_ints (forest_view trees.now) }
+{
+    let mut rest = trees;
+    while let Some((tree, more)) = rest.split_first() {
+        if !is_int_tree(tree) {
+            return false;
+        }
+        rest = more;
+    }
+    true
+}
+
+// Whether a list is an `ints` list of too many numbers and nothing else.
+#[tactic(auto, using(crate::proofs::Walks::walks))]
+fn is_oversized_ints(trees: &[Tree]) -> bool
+    ensures { result ≡ is_oversized_ints (forest_view trees.now) }
+{
+    match trees.split_first() {
+        None => false,
+        Some((Tree::Atom(..), rest)) => is_oversized_list(trees) && are_ints(rest),
+        Some((Tree::Text(..), _)) => false,
+        Some((Tree::List(..), _)) => false,
+    }
+}
+
+// Returns the trees of a list, or the word and the first two numbers if they are an `ints` list of
+// too many numbers.
+#[tactic(auto, using(crate::proofs::Copies::numbers))]
+fn clamped_list(mut trees: Vec<Tree>) -> Vec<Tree>
+    ensures { forest_view result.items ≡ clamped_list (forest_view trees.items) }
+{
+    if is_oversized_ints(&trees) {
+        trees.truncate(3);
+    }
+    trees
+}
+
+// Appends a clamped copy of a tree.
+#[tactic(auto, using(crate::proofs::Copies::copies))]
+#[cycle(copies)]
+fn put_tree(alloc: Global, tree: &Tree, out: &mut Vec<Tree>) -> Result<(), NoMemory>
+    ensures { OnOk result (forest_view out.new.items
+        ≡ behind (forest_view out.old.items) (within (tree_view tree.now))) }
+{
+    let kept = match tree {
+        Tree::Atom(at, atom) => Tree::Atom(*at, clamped_atom(alloc, atom)?),
+        Tree::Text(at, chars) => Tree::Text(*at, clamped_string(alloc, chars)?),
+        Tree::List(at, trees) => Tree::List(*at, clamped_list(within(alloc, trees)?)),
+    };
+    out.push(kept)?;
+    Ok(())
+}
+
+/// Copies trees and clamps each oversized token.
+///
+/// A number becomes 0, a string the empty string, and an `ints` list of too many numbers the list
+/// of the first two. Names stay as they are. A rule of this project. Fails if memory runs out.
+#[tactic(auto, using(crate::proofs::Copies::within_step, crate::proofs::Copies::copies))]
+#[cycle(copies)]
+pub fn within(alloc: Global, trees: &[Tree]) -> Result<Vec<Tree>, NoMemory>
+    ensures { IfOk result (λ v. forest_view v.items ≡ within (forest_view trees.now)) }
+{
+    let mut out = Vec::new(alloc);
+    for tree in trees {
+        put_tree(alloc, tree, &mut out)?;
+    }
+    Ok(out)
+}
