@@ -1,9 +1,6 @@
 pub mod Programs
-pub mod Frame
 pub mod Terms
 pub mod SyntaxView
-pub mod Places
-pub mod Readings
+pub mod Offsets
+pub mod ResultsWithReads
 pub mod Evaluation
-pub mod Composing
-pub mod SmallPrograms

@@ -1,4 +1,4 @@
--- What composables in memory stand for: the same without pointers.
+-- Trusted: the expressions and statements that values in memory represent, without their pointers.
 use Rattle.std.specs.Prelude.{List, map}
 use Rattle.lang_ast.specs.Terms.{Expr, Literal, Variable, Get, Apply, Exprs, Named, Stmt, Node, Call, Key, If, For, Let, Remember, Stmts, Func, exprs, stmts}
 use Rattle.lang_ast.specs.declared.syntax.Expression.{Expression, fold-Expression}
@@ -8,7 +8,7 @@ use Rattle.lang_ast.specs.declared.syntax.Statement.{Statement, fold-Statement}
 use Rattle.lang_ast.specs.declared.syntax.Statement.TheOpen.{Statement-F}
 use Rattle.lang_ast.specs.declared.syntax.Function.{Function}
 
--- one level of an expression
+-- One level of an expression.
 abbrev pub expr_step : Expression-F Expr → Expr
 expr_step (Expression-F.Literal at value) = Literal at value
 expr_step (Expression-F.Variable name) = Variable name
@@ -27,15 +27,18 @@ named_view n = record { name = n.name; value = expr_view n.value }
 abbrev pub nameds_view : List named.Named → List Named
 nameds_view ns = map named_view ns
 
--- one level of a statement
+-- One level of a statement.
 abbrev pub stmt_step : Statement-F Stmt → Stmt
-stmt_step (Statement-F.Node at site kind attributes body) = Node at site kind (nameds_view attributes.items) (stmts body.items)
+stmt_step (Statement-F.Node at site kind attributes body) =
+    Node at site kind (nameds_view attributes.items) (stmts body.items)
 stmt_step (Statement-F.Call at site name function arguments) = Call at site name function (exprs_view arguments.items)
 stmt_step (Statement-F.Key at site key body) = Key at site (expr_view key) (stmts body.items)
-stmt_step (Statement-F.If at site condition then_branch else_branch) = If at site (expr_view condition) (stmts then_branch.items) (stmts else_branch.items)
+stmt_step (Statement-F.If at site condition then_branch else_branch) =
+    If at site (expr_view condition) (stmts then_branch.items) (stmts else_branch.items)
 stmt_step (Statement-F.For at site name list body) = For at site name (expr_view list) (stmts body.items)
 stmt_step (Statement-F.Let at site name value body) = Let at site name (expr_view value) (stmts body.items)
-stmt_step (Statement-F.Remember at site name keys value body) = Remember at site name (nameds_view keys.items) (expr_view value) (stmts body.items)
+stmt_step (Statement-F.Remember at site name keys value body) =
+    Remember at site name (nameds_view keys.items) (expr_view value) (stmts body.items)
 
 abbrev pub stmt_view : Statement → Stmt
 stmt_view = fold-Statement Stmt stmt_step

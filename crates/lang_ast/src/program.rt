@@ -1,22 +1,22 @@
-// A program, and where its root is.
+// Programs, and the index of the root function.
 ghost use Rattle.std.specs.Prelude.{◌≡◌};
 ghost use Rattle.lang_ast.specs.SyntaxView.{functions_view};
 ghost use Rattle.lang_ast.specs.Programs.{root_number};
 
-use crate::{Function, Name};
+use crate::{Function, Ident};
 use rt_values::{Ty, Value};
 
 /// A state object that the program declares (`mutableStateOf` with `structuralEqualityPolicy`), with its type and
-/// its first value. The states of a program are objects 0, 1, .. in the order in which they stand.
+/// its initial value. The states of a program are objects 0, 1, .. in source order.
 #[derive(Drop)]
 pub struct State {
     pub at: usize,
-    pub name: Name,
+    pub name: Ident,
     pub ty: Ty,
     pub initial: Value,
 }
 
-/// A program: the place of its header, its states, and its functions, of which the first named `root` is the
+/// A program: the offset of its header, its states, and its functions. The first function with the name `root` is the
 /// content of the composition (`setContent`).
 #[derive(Drop)]
 pub struct Program {
@@ -25,7 +25,7 @@ pub struct Program {
     pub functions: Vec<Function>,
 }
 
-/// The number of the function `root`, or how many functions there are where none has this name.
+/// Returns the index of the first function with the name `root`, or the number of functions if there is none.
 pub fn root_number(functions: &[Function]) -> usize
     ensures { result ≡ root_number (functions_view functions.now) }
 {

@@ -1,79 +1,79 @@
-// The parts of a composable: expressions, statements and functions. Each part has its place in the text, the
-// bytes before it.
+// The parts of a composable: expressions, statements and functions. Each part has its offset in the source text.
 
 use rt_values::{ObjectNo, Ty, Value, Word};
 
-/// A name where it stands in the text: of a state, a function, a variable, a node's kind or an attribute.
+/// An identifier with its offset in the source text: the name of a state, a function, a variable, a node's kind or an
+/// attribute.
 #[derive(Drop)]
-pub struct Name {
+pub struct Ident {
     pub at: usize,
     pub text: Word,
 }
 
-/// An operator of expressions. None fails, whatever the types of its operands. The operators are this project's
-/// own; they stand for what a composable computes in Kotlin.
+/// An operator of expressions. No operator fails, whatever the types of its operands. The operators are this
+/// project's own and represent what a composable computes in Kotlin.
 #[derive(Clone, Copy, Debug, PartialEq, Eq)]
 pub enum Operator {
-    /// `+`: the sum of two numbers, wrapping in 64 bits.
+    /// `+`: the sum of two numbers, wrapped to 64 bits.
     Add,
-    /// `-`: the difference of two numbers, wrapping in 64 bits.
+    /// `-`: the difference of two numbers, wrapped to 64 bits.
     Subtract,
-    /// `*`: the product of two numbers, wrapping in 64 bits.
+    /// `*`: the product of two numbers, wrapped to 64 bits.
     Multiply,
-    /// `/`: the quotient of two numbers towards 0, or 0 by 0.
+    /// `/`: the quotient of two numbers, rounded towards 0, or 0 for the divisor 0.
     Divide,
-    /// `%`: the remainder of two numbers with the sign of the first, or 0 by 0.
+    /// `%`: the remainder of two numbers with the sign of the first, or 0 for the divisor 0.
     Remainder,
     /// `=`: whether two values are equal (`structuralEqualityPolicy`).
     Equal,
     /// `<`: whether the first number is less.
     Less,
-    /// `not`: the other truth value.
+    /// `not`: the opposite truth value.
     Not,
     /// `and`: whether both are true; both are evaluated.
     And,
-    /// `or`: whether one is true; both are evaluated.
+    /// `or`: whether at least one is true; both are evaluated.
     Or,
-    /// `pick`: the second operand where the first is true, else the third; the other one is not evaluated.
+    /// `pick`: the second operand if the first is true, else the third. The remaining operand is not evaluated.
     Pick,
-    /// `join`: one text and then the other, as many whole characters as a text may have.
+    /// `join`: two texts in sequence, cut to as many whole characters as a text can have.
     Join,
     /// `text`: the printed form of a number or a truth value.
     Text,
     /// `ints`: the list of the numbers.
     Ints,
-    /// `range`: the numbers from the first on below the second, as many as a list may have.
+    /// `range`: the numbers from the first to before the second, as many as a list can have.
     Range,
-    /// `push`: a list and then a number; the list itself where it has as many as it may.
+    /// `push`: a list with a number appended, or the list itself if it is full.
     Push,
-    /// `concat`: one list and then the other, as many items as a list may have.
+    /// `concat`: two lists in sequence, cut to as many items as a list can have.
     Concat,
-    /// `len`: how many items a list has.
+    /// `len`: the number of items of a list.
     Length,
-    /// `at`: the item of a list at a place from 0, or 0 where there is none.
+    /// `at`: the item of a list at an index, or 0 if there is no such index.
     At,
 }
 
 /// An expression.
 #[derive(Drop)]
 pub enum Expression {
-    /// The value itself.
+    /// A constant.
     Literal {
         at: usize,
         value: Value,
     },
-    /// What the variable is bound to.
+    /// The value of a variable.
     Variable {
-        name: Name,
+        name: Ident,
     },
-    /// The value of a state object, which is one read of it (`State.value`). Its number is the state's, or how
-    /// many states there are where none has this name.
+    /// The value of a state object, which counts as a read of it (`State.value`). `number` is the number of the first
+    /// state with this name, or the number of states if no state has it.
     Get {
         at: usize,
-        name: Name,
+        name: Ident,
         number: ObjectNo,
     },
-    /// An operator's value. Operands are evaluated from left to right, all of them but for `Operator::Pick`.
+    /// The result of an operator. All operands are evaluated, from left to right, except for `Operator::Pick`.
     Apply {
         at: usize,
         operator: Operator,
@@ -81,43 +81,42 @@ pub enum Expression {
     },
 }
 
-/// A name and the expression that it stands for: an attribute of a node, or a key of a remember.
+/// A name with an expression: an attribute of a node, or a key of a `remember`.
 #[derive(Drop)]
 pub struct Named {
-    pub name: Name,
+    pub name: Ident,
     pub value: Expression,
 }
 
-/// A statement of a composable. Statements are numbered from 1 in the order of the text over the whole program;
-/// this number is the site of the groups that they make, as the positional key that the compiler plugin gives.
+/// A statement of a composable. Statements are numbered from 1 in source order over the whole program. This number is
+/// the site of the groups that the statement makes, as the positional key that the compiler plugin gives.
 #[derive(Drop)]
 pub enum Statement {
-    /// A node of this kind with these attributes; the statements of the body make its children (`ComposeNode`).
+    /// A node of this kind with these attributes. The statements of the body make its children (`ComposeNode`).
     Node {
         at: usize,
         site: u32,
-        kind: Name,
+        kind: Ident,
         attributes: Vec<Named>,
         body: Vec<Statement>,
     },
-    /// A call of a composable, whose body makes the children of its group (`startRestartGroup`). The function's
-    /// number is its place among the functions of the program, or how many stand before this one where none of
-    /// them has this name.
+    /// A call of a composable, whose body makes the children of its group (`startRestartGroup`). `function` is the
+    /// index of an earlier function with this name, or the number of earlier functions if none of them has it.
     Call {
         at: usize,
         site: u32,
-        name: Name,
+        name: Ident,
         function: usize,
         arguments: Vec<Expression>,
     },
-    /// The statements of the body under a key of their own (`key`).
+    /// The statements of the body inside a group with a key (`key`).
     Key {
         at: usize,
         site: u32,
         key: Expression,
         body: Vec<Statement>,
     },
-    /// One of two lists of statements; it makes no group.
+    /// One of two lists of statements. An `if` makes no group.
     If {
         at: usize,
         site: u32,
@@ -125,29 +124,29 @@ pub enum Statement {
         then_branch: Vec<Statement>,
         else_branch: Vec<Statement>,
     },
-    /// The statements of the body once for each number of a list, in order, with the name bound to it; it makes
-    /// no group.
+    /// The statements of the body once for each number of a list, in order, with a variable of this value. A `for`
+    /// makes no group.
     For {
         at: usize,
         site: u32,
-        name: Name,
+        name: Ident,
         list: Expression,
         body: Vec<Statement>,
     },
-    /// The statements of the body with the name bound to a value; it makes no group.
+    /// The statements of the body with a variable of this value. A `let` makes no group.
     Let {
         at: usize,
         site: u32,
-        name: Name,
+        name: Ident,
         value: Expression,
         body: Vec<Statement>,
     },
-    /// A cell that keeps a value as long as its keys are equal (`remember`), and behind it the statements of the
-    /// body with the name bound to that value. In the calculation the names of the keys alone are bound.
+    /// A cell that keeps a value as long as its keys are equal (`remember`), and after it the statements of the body
+    /// with a variable of this value. The calculation of the value can use only the names of the keys.
     Remember {
         at: usize,
         site: u32,
-        name: Name,
+        name: Ident,
         keys: Vec<Named>,
         value: Expression,
         body: Vec<Statement>,
@@ -157,15 +156,15 @@ pub enum Statement {
 /// A parameter of a composable.
 #[derive(Drop)]
 pub struct Parameter {
-    pub name: Name,
+    pub name: Ident,
     pub ty: Ty,
 }
 
-/// A composable. It calls functions that stand before it in the program alone (a function marked `@Composable`).
+/// A composable (a function marked `@Composable`). It calls only functions that are declared earlier in the program.
 #[derive(Drop)]
 pub struct Function {
     pub at: usize,
-    pub name: Name,
+    pub name: Ident,
     pub parameters: Vec<Parameter>,
     pub body: Vec<Statement>,
 }

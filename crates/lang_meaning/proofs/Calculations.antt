@@ -1,9 +1,9 @@
--- An expression without a get reads nothing.
+-- An expression without a `Get` reads nothing.
 use Rattle.std.proofs.Common.{ℕ, zero, suc, List, [], ◌∷◌, ◌++◌, ◌≡◌, refl, ap, ◌∙◌, sym, subst, Bool, true, false, ◌||◌, if◌then◌else◌}
 use Rattle.rt_values.specs.Maps.{Map}
 use Rattle.lang_ast.specs.Terms.{Expr, Literal, Variable, Get, Apply, Exprs, none, more}
-use Rattle.lang_ast.specs.Readings.{Reading, mapped, with}
-use Rattle.lang_ast.specs.Evaluation.{Env, apply, is_pick, taken, eval, eval_all, eval_nth}
+use Rattle.lang_ast.specs.ResultsWithReads.{Reading, mapped_reading, with}
+use Rattle.lang_ast.specs.Evaluation.{Bindings, apply, is_pick, operand_taken, eval, eval_all, eval_nth}
 use Rattle.lang_meaning.specs.Skipping.{Agree, has_get, have_get, CellsMayBeKept}
 use Rattle.lang_meaning.proofs.Agreeing.{eval_agree}
 
@@ -19,20 +19,20 @@ choice_none true x y f g = f
 choice_none false x y f g = g
 
 mutual
-  reads_none : (m : Map) (e : Expr) (env : Env) → has_get e ≡ false → (eval m e env).reads ≡ []
+  reads_none : (m : Map) (e : Expr) (env : Bindings) → has_get e ≡ false → (eval m e env).reads ≡ []
   reads_none m (Literal at v) env h = refl
   reads_none m (Variable name) env h = refl
   reads_none m (Get at name number) env h = absurd cc
   reads_none m (Apply at op es) env h =
-      choice_none (is_pick op) (with (eval_nth m es 0 env) (λ c. eval_nth m es (taken c) env)) (mapped (apply op) (eval_all m es env))
-      (with_none (eval_nth m es 0 env) (λ c. eval_nth m es (taken c) env) (nth_reads_none m es 0 env h) (λ c. nth_reads_none m es (taken c) env h)) (all_reads_none m es env h)
+      choice_none (is_pick op) (with (eval_nth m es 0 env) (λ c. eval_nth m es (operand_taken c) env)) (mapped_reading (apply op) (eval_all m es env))
+      (with_none (eval_nth m es 0 env) (λ c. eval_nth m es (operand_taken c) env) (nth_reads_none m es 0 env h) (λ c. nth_reads_none m es (operand_taken c) env h)) (all_reads_none m es env h)
 
-  all_reads_none : (m : Map) (es : Exprs) (env : Env) → have_get es ≡ false → (eval_all m es env).reads ≡ []
+  all_reads_none : (m : Map) (es : Exprs) (env : Bindings) → have_get es ≡ false → (eval_all m es env).reads ≡ []
   all_reads_none m none env h = refl
   all_reads_none m (more e es) env h =
-      with_none (eval m e env) (λ v. mapped (λ vs. v ∷ vs) (eval_all m es env)) (reads_none m e env (or_false (has_get e) (have_get es) h).0) (λ v. all_reads_none m es env (or_false (has_get e) (have_get es) h).1)
+      with_none (eval m e env) (λ v. mapped_reading (λ vs. v ∷ vs) (eval_all m es env)) (reads_none m e env (or_false (has_get e) (have_get es) h).0) (λ v. all_reads_none m es env (or_false (has_get e) (have_get es) h).1)
 
-  nth_reads_none : (m : Map) (es : Exprs) (n : ℕ) (env : Env) → have_get es ≡ false → (eval_nth m es n env).reads ≡ []
+  nth_reads_none : (m : Map) (es : Exprs) (n : ℕ) (env : Bindings) → have_get es ≡ false → (eval_nth m es n env).reads ≡ []
   nth_reads_none m none n env h = refl
   nth_reads_none m (more e es) zero env h = reads_none m e env (or_false (has_get e) (have_get es) h).0
   nth_reads_none m (more e es) (suc n) env h = nth_reads_none m es n env (or_false (has_get e) (have_get es) h).1

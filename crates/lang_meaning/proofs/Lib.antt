@@ -1,10 +1,11 @@
 pub mod Agreeing
 pub mod Calculations
-pub mod Arms
+pub mod StatementCases
+pub mod Flats
 pub mod Grows
 pub mod Lookups
 pub mod Meanings
 pub mod Operands
 pub mod Sizes
 pub mod Skips
-pub mod Ways
+pub mod ForestSteps

@@ -1,10 +1,10 @@
--- The meaning of a function of a program, by its number.
+-- The meaning of a function of a program, by its index.
 use Rattle.std.proofs.Common.{ℕ, zero, suc, ◌+◌, ◌<◌, ◌≤◌, ◌++◌, List, [], ◌∷◌, ◌≡◌, refl, ◌∙◌, arith, length, length-append, take, get_or}
 use Rattle.rt_values.specs.declared.value.Value.{Value}
 use Rattle.rt_values.specs.Maps.{Map}
-use Rattle.rt_values.specs.Trail.{End}
+use Rattle.rt_groups.specs.GroupForest.{End}
 use Rattle.lang_ast.specs.Terms.{Func}
-use Rattle.lang_ast.specs.Composing.{Meaning, meaning, meaning_at, meanings_from, meanings}
+use Rattle.compose_model.specs.Composing.{Meaning, meaning, meaning_at, meanings_from, meanings}
 use Rattle.lang_meaning.specs.Skipping.{CallsReachEarlierFunctions}
 
 at_front : (xs ys : List Meaning) (i : ℕ) (args : List Value) → i < length xs → meaning_at (xs ++ ys) i args ≡ meaning_at xs i args

@@ -1,4 +1,4 @@
--- How much statements and functions hold, which falls from one part of composing to the next.
+-- The sizes of statements and functions, which decrease in each recursive call of composing.
 use Rattle.std.proofs.Common.{ℕ, zero, suc, ◌+◌, ◌*◌, ◌<◌, ◌≤◌, ◌≡◌, List, [], ◌∷◌, length, get_or, take, ap, ◌∙◌, arith}
 use Rattle.std.specs.List.{sum_by}
 use Rattle.std.proofs.lemmas.List.Sums.{sum_by_more_le}
@@ -27,13 +27,13 @@ body_size body = stmts_size (stmts_view body)
 abbrev pub weight : List Function → ℕ
 weight fs = sum_by (λ f. body_size f.body.items + 1) fs
 
--- a statement holds at most what its list holds
+-- A statement is at most as large as its list.
 pub size_at : (body : List Statement) (i : ℕ) (s : Statement) → i < length body → s ≡ get_or body i s → stmt_size (stmt_view s) ≤ body_size body
 size_at [] i s below is = absurd (omega arith)
 size_at (x ∷ body) zero s below is = let e = ap (λ (y : Statement). stmt_size (stmt_view y)) is in omega (arith, e)
 size_at (x ∷ body) (suc i) s below is = let h = size_at body i s (omega arith) is in omega (arith, h)
 
--- the functions before one hold less than it and they
+-- The functions before a function are smaller than all of them with it.
 pub falls_at : (fs : List Function) (i : ℕ) (f : Function) (slice : List Statement) → i < length fs → f ≡ get_or fs i f → slice ≡ f.body.items →
     8 * weight (take i fs) + 8 * body_size slice + 4 < 8 * weight fs + 2
 falls_at fs i f slice below is items =

@@ -1,3 +1,4 @@
+pub mod Flatness
 pub mod Operands
-pub mod Ran
+pub mod ComposesForest
 pub mod Skipping

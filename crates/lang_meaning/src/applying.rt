@@ -1,9 +1,9 @@
-// What an operator makes of the values of its operands.
-ghost use Rattle.std.specs.Prelude.{◌≡◌, ◌∷◌, [], Bool, false, IfOk, pos, length};
-ghost use Rattle.rt_values.specs.Values.{no_value};
-ghost use Rattle.rt_values.specs.Operators.{joined_text, pushed, concatenated, item_at, text_of, items_of};
-ghost use Rattle.lang_ast.specs.Evaluation.{is_pick, taken, apply};
-ghost use Rattle.lang_meaning.specs.Operands.{is_list, pair, placed};
+// Applying operators to the values of their operands.
+ghost use Rattle.std.specs.Prelude.{◌≡◌, ◌∷◌, [], true, false, IfOk, OnErr, pos, length};
+ghost use Rattle.rt_values.specs.Values.{no_value, is_flat};
+ghost use Rattle.rt_values.specs.Operators.{joined_text, list_with_item, concatenation, item_at, text_of, items_of};
+ghost use Rattle.lang_ast.specs.Evaluation.{is_pick, operand_taken, apply};
+ghost use Rattle.lang_meaning.specs.Operands.{is_list, is_plain, makes_list, pair, pair_with};
 
 use lang_ast::Operator;
 use rt_values::{IntList, NoMemory, Txt, Value, operators};
@@ -17,7 +17,7 @@ pub struct Pair {
 }
 
 impl Pair {
-    /// Two operands that are not there.
+    /// Returns a pair of missing operands, which count as 0.
     pub fn none() -> Self
         ensures { result ≡ pair no_value no_value }
     {
@@ -27,9 +27,9 @@ impl Pair {
         }
     }
 
-    /// With the value of the operand at a place; only the first two are kept.
+    /// Returns the pair with the operand at index `place` replaced. Operands after the first two are discarded.
     pub fn with(self, place: usize, value: Value) -> Self
-        ensures { result ≡ placed self place value }
+        ensures { result ≡ pair_with self place value }
     {
         match place {
             0 => Pair {
@@ -45,29 +45,46 @@ impl Pair {
     }
 }
 
-/// Whether the operator takes one of its operands and does not evaluate the others.
+/// Returns whether the operator evaluates only some of its operands.
 pub fn is_pick(operator: Operator) -> bool
     ensures { result ≡ is_pick operator }
 {
     matches!(operator, Operator::Pick)
 }
 
-/// Which operand of a pick is taken, by its condition.
-pub fn taken(condition: &Value) -> usize
-    ensures { result ≡ taken condition.now }
+/// Returns the index of the operand that a `pick` evaluates, by its condition.
+pub fn choose_operand(condition: &Value) -> usize
+    ensures { result ≡ operand_taken condition.now }
 {
     if condition.is_true() { 1 } else { 2 }
 }
 
-/// Whether the operator takes any number of operands.
+/// Returns whether the operator takes any number of operands.
 pub fn is_list(operator: Operator) -> bool
     ensures { result ≡ is_list operator }
 {
     matches!(operator, Operator::Ints)
 }
 
-/// What an operator of one or two operands makes of them; the first one's memory is used anew. The operators on
-/// numbers and truth values take no memory.
+/// Returns whether the operator makes a number or a truth value of its operands without reading a list or a text.
+pub fn is_plain(operator: Operator) -> bool
+    ensures { result ≡ is_plain operator }
+{
+    !matches!(
+        operator,
+        Operator::Join
+            | Operator::Text
+            | Operator::Ints
+            | Operator::Range
+            | Operator::Push
+            | Operator::Concat
+            | Operator::Length
+            | Operator::At
+    )
+}
+
+/// Applies an operator of one or two operands, using the memory of the first operand again. An operator that gives a
+/// number or a truth value takes no memory.
 pub fn apply(
     alloc: Global,
     operator: Operator,
@@ -75,59 +92,90 @@ pub fn apply(
     second: Value,
 ) -> Result<Value, NoMemory>
     requires { is_list operator ≡ false }
-    ensures { IfOk result (λ v. v ≡ apply operator (first ∷ second ∷ [])) }
+    ensures value { IfOk result (λ v. v ≡ apply operator (first ∷ second ∷ [])) }
+    ensures free { is_flat (apply operator (first ∷ second ∷ [])) ≡ true → OnErr result ⊥ }
+{
+    if is_plain(operator) {
+        return Ok(apply_plain(operator, &first, &second));
+    }
+    match operator {
+        Operator::Join => Ok(Value::Text(join(alloc, first, second)?)),
+        Operator::Text => Ok(Value::Text(first.to_text(alloc)?)),
+        _ => apply_to_list(alloc, operator, first, second),
+    }
+}
+
+// Applies an operator on numbers, truth values or any values. Takes no memory.
+fn apply_plain(operator: Operator, first: &Value, second: &Value) -> Value
+    requires { is_plain operator ≡ true }
+    ensures { result ≡ apply operator (first.now ∷ second.now ∷ []) }
 {
     let a = first.number();
     let b = second.number();
     match operator {
-        Operator::Add => Ok(Value::Int(operators::add(a, b))),
-        Operator::Subtract => Ok(Value::Int(operators::subtract(a, b))),
-        Operator::Multiply => Ok(Value::Int(operators::multiply(a, b))),
-        Operator::Divide => Ok(Value::Int(operators::divide(a, b))),
-        Operator::Remainder => Ok(Value::Int(operators::remainder(a, b))),
-        Operator::Equal => Ok(Value::Bool(first.same(&second))),
-        Operator::Less => Ok(Value::Bool(operators::is_less(a, b))),
-        Operator::Not => Ok(Value::Bool(!first.is_true())),
-        Operator::And => Ok(Value::Bool(first.is_true() & second.is_true())),
-        Operator::Or => Ok(Value::Bool(first.is_true() | second.is_true())),
-        Operator::Pick => Ok(Value::Int(0)),
-        Operator::Join => Ok(Value::Text(join(alloc, first, second)?)),
-        Operator::Text => Ok(Value::Text(first.to_text(alloc)?)),
-        Operator::Ints => unreachable!(),
-        Operator::Range => Ok(Value::Ints(IntList::range(alloc, a, b)?)),
+        Operator::Add => Value::Int(operators::add(a, b)),
+        Operator::Subtract => Value::Int(operators::subtract(a, b)),
+        Operator::Multiply => Value::Int(operators::multiply(a, b)),
+        Operator::Divide => Value::Int(operators::divide(a, b)),
+        Operator::Remainder => Value::Int(operators::remainder(a, b)),
+        Operator::Equal => Value::Bool(first.same(second)),
+        Operator::Less => Value::Bool(operators::is_less(a, b)),
+        Operator::Not => Value::Bool(!first.is_true()),
+        Operator::And => Value::Bool(first.is_true() & second.is_true()),
+        Operator::Or => Value::Bool(first.is_true() | second.is_true()),
+        Operator::Pick => Value::Int(0),
+        _ => unreachable!(),
+    }
+}
+
+// Applies an operator that takes or makes a list.
+fn apply_to_list(
+    alloc: Global,
+    operator: Operator,
+    first: Value,
+    second: Value,
+) -> Result<Value, NoMemory>
+    requires { makes_list operator ≡ true }
+    ensures value { IfOk result (λ v. v ≡ apply operator (first ∷ second ∷ [])) }
+    ensures free { is_flat (apply operator (first ∷ second ∷ [])) ≡ true → OnErr result ⊥ }
+{
+    let b = second.number();
+    match operator {
+        Operator::Range => Ok(Value::Ints(IntList::range(alloc, first.number(), b)?)),
         Operator::Push => Ok(Value::Ints(push(alloc, first, b)?)),
         Operator::Concat => Ok(Value::Ints(concat(alloc, first, &second)?)),
         Operator::Length => Ok(Value::Int(length(&first.into_list(alloc)))),
         Operator::At => Ok(Value::Int(first.into_list(alloc).at(b))),
+        _ => unreachable!(),
     }
 }
 
-// One text and then the other.
+// Joins two texts.
 fn join(alloc: Global, first: Value, second: Value) -> Result<Txt, NoMemory>
     ensures { IfOk result (λ t. t ≡ joined_text (text_of first) (text_of second)) }
 {
     Txt::join(alloc, &first.into_text(alloc), &second.into_text(alloc))
 }
 
-// A list with a number at its end.
+// Appends a number to a list.
 fn push(alloc: Global, list: Value, number: i64) -> Result<IntList, NoMemory>
-    ensures { IfOk result (λ l. l ≡ pushed (items_of list) number) }
+    ensures { IfOk result (λ l. l ≡ list_with_item (items_of list) number) }
 {
     let mut list = list.into_list(alloc);
     list.push(number)?;
     Ok(list)
 }
 
-// One list and then the other.
+// Concatenates two lists.
 fn concat(alloc: Global, first: Value, second: &Value) -> Result<IntList, NoMemory>
-    ensures { IfOk result (λ l. l ≡ concatenated (items_of first) (items_of second.now)) }
+    ensures { IfOk result (λ l. l ≡ concatenation (items_of first) (items_of second.now)) }
 {
     let mut list = first.into_list(alloc);
     list.extend(second.items())?;
     Ok(list)
 }
 
-// How many items a list has.
+// Returns the number of items of a list.
 fn length(list: &IntList) -> i64
     ensures { result ≡ pos (length list.now) }
 {

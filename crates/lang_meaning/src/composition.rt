@@ -1,32 +1,35 @@
 // Composing from scratch.
-ghost use Rattle.std.specs.Prelude.{◌≡◌, ◌≤◌, ◌<◌, ◌++◌, ◌∷◌, [], ℕ, List, Err, length, IfOk, OnOk, OnErr};
+ghost use Rattle.std.specs.Prelude.{◌≡◌, ◌≤◌, ◌<◌, ◌++◌, ◌∷◌, [], Err, length, IfOk, OnOk, OnErr};
 ghost use Rattle.rt_values.specs.Maps.{Map};
 ghost use Rattle.rt_values.specs.Views.{Grew};
-ghost use Rattle.rt_values.specs.Trail.{asks, how_many};
-ghost use Rattle.rt_values.specs.Flat.{entry, flat};
-ghost use Rattle.rt_values.specs.Frames.{most_groups};
+ghost use Rattle.rt_groups.specs.GroupForest.{asks, how_many};
+ghost use Rattle.rt_groups.specs.PreorderGroups.{flat_group, preorder};
+ghost use Rattle.rt_groups.specs.Frames.{most_groups};
 ghost use Rattle.lang_ast.specs.Terms.{Node, Key, If, For, Let, Remember};
 ghost use Rattle.lang_ast.specs.SyntaxView.{expr_view, exprs_view, nameds_view, stmt_view, stmts_view, functions_view};
-ghost use Rattle.lang_ast.specs.Evaluation.{bound, eval_all};
-ghost use Rattle.lang_ast.specs.Composing.{after, forest};
-ghost use Rattle.lang_meaning.specs.Ran.{Ran, made_by, made_by_all, called, turned};
+ghost use Rattle.lang_ast.specs.Evaluation.{new_binding, eval_all};
+ghost use Rattle.compose_model.specs.Composing.{forest_after, forest};
+ghost use Rattle.lang_meaning.specs.ComposesForest.{Composes, HasRoom, statement_at, body_at, call_at, loop_at};
 
 use crate::arguments::{bind, evaluate_all, evaluate_attributes, evaluate_keys};
-use crate::evaluation::evaluate;
-use crate::scope::Scope;
-use lang_ast::{Expression, Function, Name, Named, Statement};
-use rt_values::{Group, Groups, NoMemory, Objects, Value, Values, View, What};
+use crate::evaluation::eval_noting;
+use crate::scope::Env;
+use lang_ast::{Expression, Function, Ident, Named, Statement};
+use rt_groups::{Group, GroupKind, Groups, Values};
+use rt_values::{NoMemory, Objects, Value, View};
 use std::alloc::Global;
+use std::mem;
 
 /// Why a program was not composed.
 #[derive(Clone, Copy, Debug, PartialEq, Eq)]
 pub enum ScratchStop {
-    /// The forest has more than 1,000,000 groups.
+    /// The composition has more than 1,000,000 groups.
     TooManyGroups,
+    /// Out of memory.
     NoMemory,
 }
 
-// More groups are refused.
+// The maximum number of groups.
 const MOST_GROUPS: usize = 1000000;
 
 impl From<NoMemory> for ScratchStop {
@@ -40,7 +43,7 @@ impl From<NoMemory> for ScratchStop {
     }
 }
 
-// One group more, as long as there are few enough.
+// Appends `group`. Fails if there are 1,000,000 groups already.
 fn add_group(groups: &mut Groups, group: Group) -> Result<(), ScratchStop>
     requires { length groups.old ≤ most_groups }
     ensures added { OnOk result (groups.new ≡ groups.old ++ group ∷ []) }
@@ -54,68 +57,68 @@ fn add_group(groups: &mut Groups, group: Group) -> Result<(), ScratchStop>
     Ok(())
 }
 
-// A group that keeps no reads.
-fn group(alloc: Global, depth: u32, site: u32, what: What) -> Group
-    ensures { result ≡ entry depth site 0 what [] }
-{
-    Group {
-        depth,
-        site,
-        number: 0,
-        what,
-        reads: Objects::new(alloc),
+/// Where statements are composed: the functions that their calls reach, and the depth of their groups.
+#[derive(Clone, Copy)]
+pub struct Level<'a> {
+    pub alloc: Global,
+    pub functions: &'a [Function],
+    pub depth: u32,
+}
+
+/// What composing has made so far: the variables in scope, the reads of the innermost call, and the groups.
+#[derive(Drop)]
+pub struct Progress {
+    pub scope: Env,
+    pub reads: Objects,
+    pub groups: Groups,
+}
+
+impl Level<'_> {
+    // Returns a group without reads at this depth.
+    fn group(&self, site: u32, what: GroupKind) -> Group
+        ensures { result ≡ flat_group self.now.depth site 0 what [] }
+    {
+        Group {
+            depth: self.depth,
+            site,
+            number: 0,
+            what,
+            reads: Objects::new(self.alloc),
+        }
     }
 }
 
-// Statements one after another.
+// Composes statements in order.
 #[cycle(run)]
 fn run_all<V: View>(
-    alloc: Global,
-    functions: &[Function],
-    depth: u32,
+    level: &Level,
     body: &[Statement],
-    scope: &mut Scope,
+    made: &mut Progress,
     view: &mut V,
-    reads: &mut Objects,
-    groups: &mut Groups,
 ) -> Result<(), ScratchStop>
-    requires deep { depth ≤ length groups.old }
-    requires room { length groups.old ≤ most_groups }
-    ensures longer { OnOk result (length groups.old ≤ length groups.new) }
-    ensures fits { OnOk result (length groups.new ≤ most_groups) }
-    ensures keeps { V.keeps view.old view.new }
-    ensures same { (m : Map) → V.shows view.old m → V.shows view.new m }
-    ensures bound { OnOk result (scope.new ≡ scope.old) }
-    ensures ran { (m : Map) → V.shows view.old m → Ran depth (made_by_all m functions.now (stmts_view body.now) scope.old) groups.old groups.new (V.asked view.old) (V.asked view.new) reads.old reads.new result }
+    requires { HasRoom level.now made.old }
+    ensures { Composes V.shows V.asked V.keeps level.now.depth
+        (body_at level.now (stmts_view body.now) made.old.scope)
+        view.old view.new made.old made.new result }
 {
     for statement in body {
-        run_one(
-            alloc, functions, depth, statement, scope, view, reads, groups,
-        )?;
+        run_one(level, statement, made, view)?;
     }
     Ok(())
 }
 
-// One statement.
+// Composes one statement.
 #[cycle(run)]
 fn run_one<V: View>(
-    alloc: Global,
-    functions: &[Function],
-    depth: u32,
+    level: &Level,
     statement: &Statement,
-    scope: &mut Scope,
+    made: &mut Progress,
     view: &mut V,
-    reads: &mut Objects,
-    groups: &mut Groups,
 ) -> Result<(), ScratchStop>
-    requires deep { depth ≤ length groups.old }
-    requires room { length groups.old ≤ most_groups }
-    ensures longer { OnOk result (length groups.old ≤ length groups.new) }
-    ensures fits { OnOk result (length groups.new ≤ most_groups) }
-    ensures keeps { V.keeps view.old view.new }
-    ensures same { (m : Map) → V.shows view.old m → V.shows view.new m }
-    ensures bound { OnOk result (scope.new ≡ scope.old) }
-    ensures ran { (m : Map) → V.shows view.old m → Ran depth (made_by m functions.now (stmt_view statement.now) scope.old) groups.old groups.new (V.asked view.old) (V.asked view.new) reads.old reads.new result }
+    requires { HasRoom level.now made.old }
+    ensures { Composes V.shows V.asked V.keeps level.now.depth
+        (statement_at level.now (stmt_view statement.now) made.old.scope)
+        view.old view.new made.old made.new result }
 {
     match statement {
         Statement::Node {
@@ -124,58 +127,37 @@ fn run_one<V: View>(
             attributes,
             body,
             ..
-        } => run_node(
-            alloc, functions, depth, *site, kind, attributes, body, scope, view, reads, groups,
-        ),
+        } => run_node(level, *site, kind, attributes, body, made, view),
         Statement::Call {
             site,
             function,
             arguments,
             ..
-        } => run_arguments(
-            alloc, functions, depth, *site, *function, arguments, scope, view, reads, groups,
-        ),
+        } => run_arguments(level, *site, *function, arguments, made, view),
         Statement::Key {
             site,
             key,
             body,
             ..
-        } => run_key(
-            alloc, functions, depth, *site, key, body, scope, view, reads, groups,
-        ),
+        } => run_key(level, *site, key, body, made, view),
         Statement::If {
             condition,
             then_branch,
             else_branch,
             ..
-        } => run_if(
-            alloc,
-            functions,
-            depth,
-            condition,
-            then_branch,
-            else_branch,
-            scope,
-            view,
-            reads,
-            groups,
-        ),
+        } => run_if(level, condition, then_branch, else_branch, made, view),
         Statement::For {
             name,
             list,
             body,
             ..
-        } => run_for(
-            alloc, functions, depth, name, list, body, scope, view, reads, groups,
-        ),
+        } => run_for(level, name, list, body, made, view),
         Statement::Let {
             name,
             value,
             body,
             ..
-        } => run_let(
-            alloc, functions, depth, name, value, body, scope, view, reads, groups,
-        ),
+        } => run_let(level, name, value, body, made, view),
         Statement::Remember {
             site,
             name,
@@ -183,397 +165,285 @@ fn run_one<V: View>(
             value,
             body,
             ..
-        } => run_remember(
-            alloc, functions, depth, *site, name, keys, value, body, scope, view, reads, groups,
-        ),
+        } => run_remember(level, *site, name, keys, value, body, made, view),
     }
 }
 
-// A node: its attributes, and then what stands inside it.
+// Composes a node: evaluates its attributes, appends its group, and composes its children.
 #[cycle(run)]
 fn run_node<V: View>(
-    alloc: Global,
-    functions: &[Function],
-    depth: u32,
+    level: &Level,
     site: u32,
-    kind: &Name,
+    kind: &Ident,
     attributes: &[Named],
     body: &[Statement],
-    scope: &mut Scope,
+    made: &mut Progress,
     view: &mut V,
-    reads: &mut Objects,
-    groups: &mut Groups,
 ) -> Result<(), ScratchStop>
-    requires deep { depth ≤ length groups.old }
-    requires room { length groups.old ≤ most_groups }
-    ensures longer { OnOk result (length groups.old ≤ length groups.new) }
-    ensures fits { OnOk result (length groups.new ≤ most_groups) }
-    ensures keeps { V.keeps view.old view.new }
-    ensures same { (m : Map) → V.shows view.old m → V.shows view.new m }
-    ensures bound { OnOk result (scope.new ≡ scope.old) }
-    ensures ran { (m : Map) → V.shows view.old m → Ran depth (made_by m functions.now (Node 0 site kind.now (nameds_view attributes.now) (stmts_view body.now)) scope.old) groups.old groups.new (V.asked view.old) (V.asked view.new) reads.old reads.new result }
+    requires { HasRoom level.now made.old }
+    ensures { Composes V.shows V.asked V.keeps level.now.depth
+        (statement_at level.now
+        (Node 0 site kind.now (nameds_view attributes.now) (stmts_view body.now)) made.old.scope)
+        view.old view.new made.old made.new result }
 {
-    let room = groups.spare_attributes(alloc, attributes.len())?;
-    let attributes = evaluate_attributes(alloc, room, attributes, scope, view, reads)?;
-    let kind = kind.text.copy()?;
-    let node = What::Node { kind, attributes };
-    add_group(groups, group(alloc, depth, site, node))?;
-    run_all(
-        alloc,
-        functions,
-        depth + 1,
-        body,
-        scope,
+    let room = made
+        .groups
+        .take_spare_attributes(level.alloc, attributes.len())?;
+    let attributes = evaluate_attributes(
+        level.alloc,
+        room,
+        attributes,
+        &made.scope,
         view,
-        reads,
-        groups,
-    )
+        &mut made.reads,
+    )?;
+    let kind = kind.text.copy()?;
+    let node = GroupKind::Node { kind, attributes };
+    add_group(&mut made.groups, level.group(site, node))?;
+    let inside = Level {
+        alloc: level.alloc,
+        functions: level.functions,
+        depth: level.depth + 1,
+    };
+    run_all(&inside, body, made, view)
 }
 
-// A key: its value, and then what stands under it.
+// Composes a key: evaluates it, appends its group, and composes the body inside the group.
 #[cycle(run)]
 fn run_key<V: View>(
-    alloc: Global,
-    functions: &[Function],
-    depth: u32,
+    level: &Level,
     site: u32,
     key: &Expression,
     body: &[Statement],
-    scope: &mut Scope,
+    made: &mut Progress,
     view: &mut V,
-    reads: &mut Objects,
-    groups: &mut Groups,
 ) -> Result<(), ScratchStop>
-    requires deep { depth ≤ length groups.old }
-    requires room { length groups.old ≤ most_groups }
-    ensures longer { OnOk result (length groups.old ≤ length groups.new) }
-    ensures fits { OnOk result (length groups.new ≤ most_groups) }
-    ensures keeps { V.keeps view.old view.new }
-    ensures same { (m : Map) → V.shows view.old m → V.shows view.new m }
-    ensures bound { OnOk result (scope.new ≡ scope.old) }
-    ensures ran { (m : Map) → V.shows view.old m → Ran depth (made_by m functions.now (Key 0 site (expr_view key.now) (stmts_view body.now)) scope.old) groups.old groups.new (V.asked view.old) (V.asked view.new) reads.old reads.new result }
+    requires { HasRoom level.now made.old }
+    ensures { Composes V.shows V.asked V.keeps level.now.depth
+        (statement_at level.now (Key 0 site (expr_view key.now) (stmts_view body.now)) made.old.scope)
+        view.old view.new made.old made.new result }
 {
-    let key = evaluate(alloc, key, scope, view, reads)?;
-    add_group(groups, group(alloc, depth, site, What::Key(key)))?;
-    run_all(
-        alloc,
-        functions,
-        depth + 1,
-        body,
-        scope,
-        view,
-        reads,
-        groups,
-    )
+    let key = eval_noting(level.alloc, key, &made.scope, view, &mut made.reads)?;
+    add_group(&mut made.groups, level.group(site, GroupKind::Key(key)))?;
+    let inside = Level {
+        alloc: level.alloc,
+        functions: level.functions,
+        depth: level.depth + 1,
+    };
+    run_all(&inside, body, made, view)
 }
 
-// One of two lists of statements.
+// Evaluates the condition and composes one of two lists of statements.
 #[cycle(run)]
 fn run_if<V: View>(
-    alloc: Global,
-    functions: &[Function],
-    depth: u32,
+    level: &Level,
     condition: &Expression,
     then_branch: &[Statement],
     else_branch: &[Statement],
-    scope: &mut Scope,
+    made: &mut Progress,
     view: &mut V,
-    reads: &mut Objects,
-    groups: &mut Groups,
 ) -> Result<(), ScratchStop>
-    requires deep { depth ≤ length groups.old }
-    requires room { length groups.old ≤ most_groups }
-    ensures longer { OnOk result (length groups.old ≤ length groups.new) }
-    ensures fits { OnOk result (length groups.new ≤ most_groups) }
-    ensures keeps { V.keeps view.old view.new }
-    ensures same { (m : Map) → V.shows view.old m → V.shows view.new m }
-    ensures bound { OnOk result (scope.new ≡ scope.old) }
-    ensures ran { (m : Map) → V.shows view.old m → Ran depth (made_by m functions.now (If 0 0 (expr_view condition.now) (stmts_view then_branch.now) (stmts_view else_branch.now)) scope.old) groups.old groups.new (V.asked view.old) (V.asked view.new) reads.old reads.new result }
+    requires { HasRoom level.now made.old }
+    ensures { Composes V.shows V.asked V.keeps level.now.depth
+        (statement_at level.now
+        (If 0 0 (expr_view condition.now) (stmts_view then_branch.now) (stmts_view else_branch.now)) made.old.scope)
+        view.old view.new made.old made.new result }
 {
-    let condition = evaluate(alloc, condition, scope, view, reads)?;
+    let condition = eval_noting(level.alloc, condition, &made.scope, view, &mut made.reads)?;
     if condition.is_true() {
-        return run_all(
-            alloc,
-            functions,
-            depth,
-            then_branch,
-            scope,
-            view,
-            reads,
-            groups,
-        );
+        return run_all(level, then_branch, made, view);
     }
-    run_all(
-        alloc,
-        functions,
-        depth,
-        else_branch,
-        scope,
-        view,
-        reads,
-        groups,
-    )
+    run_all(level, else_branch, made, view)
 }
 
-// Statements with one name more in scope.
+// Composes statements with a new variable in scope, which is removed afterwards.
 #[cycle(run)]
 fn run_bound<V: View>(
-    alloc: Global,
-    functions: &[Function],
-    depth: u32,
-    name: &Name,
+    level: &Level,
+    name: &Ident,
     value: Value,
     body: &[Statement],
-    scope: &mut Scope,
+    made: &mut Progress,
     view: &mut V,
-    reads: &mut Objects,
-    groups: &mut Groups,
 ) -> Result<(), ScratchStop>
-    requires deep { depth ≤ length groups.old }
-    requires room { length groups.old ≤ most_groups }
-    ensures longer { OnOk result (length groups.old ≤ length groups.new) }
-    ensures fits { OnOk result (length groups.new ≤ most_groups) }
-    ensures keeps { V.keeps view.old view.new }
-    ensures same { (m : Map) → V.shows view.old m → V.shows view.new m }
-    ensures bound { OnOk result (scope.new ≡ scope.old) }
-    ensures ran { (m : Map) → V.shows view.old m → Ran depth (made_by_all m functions.now (stmts_view body.now) (scope.old ++ bound name.now.text value ∷ [])) groups.old groups.new (V.asked view.old) (V.asked view.new) reads.old reads.new result }
+    requires { HasRoom level.now made.old }
+    ensures { Composes V.shows V.asked V.keeps level.now.depth
+        (body_at level.now (stmts_view body.now) (made.old.scope ++ new_binding name.now.text value ∷ []))
+        view.old view.new made.old made.new result }
 {
     let name = name.text.copy()?;
-    scope.push(name, value)?;
-    run_all(alloc, functions, depth, body, scope, view, reads, groups)?;
-    scope.pop();
+    made.scope.push(name, value)?;
+    run_all(level, body, made, view)?;
+    made.scope.pop();
     Ok(())
 }
 
-// Statements with a name bound to a value.
+// Evaluates an expression and composes statements with a variable of this value.
 #[cycle(run)]
 fn run_let<V: View>(
-    alloc: Global,
-    functions: &[Function],
-    depth: u32,
-    name: &Name,
+    level: &Level,
+    name: &Ident,
     value: &Expression,
     body: &[Statement],
-    scope: &mut Scope,
+    made: &mut Progress,
     view: &mut V,
-    reads: &mut Objects,
-    groups: &mut Groups,
 ) -> Result<(), ScratchStop>
-    requires deep { depth ≤ length groups.old }
-    requires room { length groups.old ≤ most_groups }
-    ensures longer { OnOk result (length groups.old ≤ length groups.new) }
-    ensures fits { OnOk result (length groups.new ≤ most_groups) }
-    ensures keeps { V.keeps view.old view.new }
-    ensures same { (m : Map) → V.shows view.old m → V.shows view.new m }
-    ensures bound { OnOk result (scope.new ≡ scope.old) }
-    ensures ran { (m : Map) → V.shows view.old m → Ran depth (made_by m functions.now (Let 0 0 name.now (expr_view value.now) (stmts_view body.now)) scope.old) groups.old groups.new (V.asked view.old) (V.asked view.new) reads.old reads.new result }
+    requires { HasRoom level.now made.old }
+    ensures { Composes V.shows V.asked V.keeps level.now.depth
+        (statement_at level.now (Let 0 0 name.now (expr_view value.now) (stmts_view body.now)) made.old.scope)
+        view.old view.new made.old made.new result }
 {
-    let value = evaluate(alloc, value, scope, view, reads)?;
-    run_bound(
-        alloc, functions, depth, name, value, body, scope, view, reads, groups,
-    )
+    let value = eval_noting(level.alloc, value, &made.scope, view, &mut made.reads)?;
+    run_bound(level, name, value, body, made, view)
 }
 
-// Statements once for each number of a list.
+// Evaluates a list and composes statements for each of its numbers.
 #[cycle(run)]
 fn run_for<V: View>(
-    alloc: Global,
-    functions: &[Function],
-    depth: u32,
-    name: &Name,
+    level: &Level,
+    name: &Ident,
     list: &Expression,
     body: &[Statement],
-    scope: &mut Scope,
+    made: &mut Progress,
     view: &mut V,
-    reads: &mut Objects,
-    groups: &mut Groups,
 ) -> Result<(), ScratchStop>
-    requires deep { depth ≤ length groups.old }
-    requires room { length groups.old ≤ most_groups }
-    ensures longer { OnOk result (length groups.old ≤ length groups.new) }
-    ensures fits { OnOk result (length groups.new ≤ most_groups) }
-    ensures keeps { V.keeps view.old view.new }
-    ensures same { (m : Map) → V.shows view.old m → V.shows view.new m }
-    ensures bound { OnOk result (scope.new ≡ scope.old) }
-    ensures ran { (m : Map) → V.shows view.old m → Ran depth (made_by m functions.now (For 0 0 name.now (expr_view list.now) (stmts_view body.now)) scope.old) groups.old groups.new (V.asked view.old) (V.asked view.new) reads.old reads.new result }
+    requires { HasRoom level.now made.old }
+    ensures { Composes V.shows V.asked V.keeps level.now.depth
+        (statement_at level.now (For 0 0 name.now (expr_view list.now) (stmts_view body.now)) made.old.scope)
+        view.old view.new made.old made.new result }
 {
-    let list = evaluate(alloc, list, scope, view, reads)?;
-    run_turns(
-        alloc,
-        functions,
-        depth,
-        name,
-        list.items(),
-        body,
-        scope,
-        view,
-        reads,
-        groups,
-    )
+    let list = eval_noting(level.alloc, list, &made.scope, view, &mut made.reads)?;
+    run_turns(level, name, list.items(), body, made, view)
 }
 
-// The turns of a loop.
+// Composes statements once for each number, in order, with a variable of this value.
 #[cycle(run)]
 fn run_turns<V: View>(
-    alloc: Global,
-    functions: &[Function],
-    depth: u32,
-    name: &Name,
+    level: &Level,
+    name: &Ident,
     items: &[i64],
     body: &[Statement],
-    scope: &mut Scope,
+    made: &mut Progress,
     view: &mut V,
-    reads: &mut Objects,
-    groups: &mut Groups,
 ) -> Result<(), ScratchStop>
-    requires deep { depth ≤ length groups.old }
-    requires room { length groups.old ≤ most_groups }
-    ensures longer { OnOk result (length groups.old ≤ length groups.new) }
-    ensures fits { OnOk result (length groups.new ≤ most_groups) }
-    ensures keeps { V.keeps view.old view.new }
-    ensures same { (m : Map) → V.shows view.old m → V.shows view.new m }
-    ensures bound { OnOk result (scope.new ≡ scope.old) }
-    ensures ran { (m : Map) → V.shows view.old m → Ran depth (turned m functions.now name.now.text (stmts_view body.now) scope.old items.now) groups.old groups.new (V.asked view.old) (V.asked view.new) reads.old reads.new result }
+    requires { HasRoom level.now made.old }
+    ensures { Composes V.shows V.asked V.keeps level.now.depth
+        (loop_at level.now name.now.text (stmts_view body.now) made.old.scope items.now)
+        view.old view.new made.old made.new result }
 {
     for item in items {
-        run_bound(
-            alloc,
-            functions,
-            depth,
-            name,
-            Value::Int(*item),
-            body,
-            scope,
-            view,
-            reads,
-            groups,
-        )?;
+        run_bound(level, name, Value::Int(*item), body, made, view)?;
     }
     Ok(())
 }
 
-// A cell, with its keys and its value, and then the statements behind it.
+// Composes a cell: evaluates its keys and its value, appends its group, and composes the statements after it.
 #[cycle(run)]
 fn run_remember<V: View>(
-    alloc: Global,
-    functions: &[Function],
-    depth: u32,
+    level: &Level,
     site: u32,
-    name: &Name,
+    name: &Ident,
     keys: &[Named],
     value: &Expression,
     body: &[Statement],
-    scope: &mut Scope,
+    made: &mut Progress,
     view: &mut V,
-    reads: &mut Objects,
-    groups: &mut Groups,
 ) -> Result<(), ScratchStop>
-    requires deep { depth ≤ length groups.old }
-    requires room { length groups.old ≤ most_groups }
-    ensures longer { OnOk result (length groups.old ≤ length groups.new) }
-    ensures fits { OnOk result (length groups.new ≤ most_groups) }
-    ensures keeps { V.keeps view.old view.new }
-    ensures same { (m : Map) → V.shows view.old m → V.shows view.new m }
-    ensures bound { OnOk result (scope.new ≡ scope.old) }
-    ensures ran { (m : Map) → V.shows view.old m → Ran depth (made_by m functions.now (Remember 0 site name.now (nameds_view keys.now) (expr_view value.now) (stmts_view body.now)) scope.old) groups.old groups.new (V.asked view.old) (V.asked view.new) reads.old reads.new result }
+    requires { HasRoom level.now made.old }
+    ensures { Composes V.shows V.asked V.keeps level.now.depth
+        (statement_at level.now
+        (Remember 0 site name.now (nameds_view keys.now) (expr_view value.now) (stmts_view body.now)) made.old.scope)
+        view.old view.new made.old made.new result }
 {
-    let keys = evaluate_keys(alloc, keys, scope, view, reads)?;
-    let value = evaluate(alloc, value, &keys, view, reads)?;
-    let keys = keys.into_values(alloc)?;
-    let kept = value.copy(alloc)?;
-    let cell = What::Cell { keys, value: kept };
-    add_group(groups, group(alloc, depth, site, cell))?;
-    run_bound(
-        alloc, functions, depth, name, value, body, scope, view, reads, groups,
-    )
+    let keys = evaluate_keys(level.alloc, keys, &made.scope, view, &mut made.reads)?;
+    let value = eval_noting(level.alloc, value, &keys, view, &mut made.reads)?;
+    let keys = keys.into_values(level.alloc)?;
+    let copy = value.copy(level.alloc)?;
+    let cell = GroupKind::Cell { keys, value: copy };
+    add_group(&mut made.groups, level.group(site, cell))?;
+    run_bound(level, name, value, body, made, view)
 }
 
-// A call: its arguments, which its caller reads, and then what it makes.
+// Composes a call: evaluates its arguments, which its caller reads, and composes the function with them.
 #[cycle(run)]
 fn run_arguments<V: View>(
-    alloc: Global,
-    functions: &[Function],
-    depth: u32,
+    level: &Level,
     site: u32,
     function: usize,
     arguments: &[Expression],
-    scope: &mut Scope,
+    made: &mut Progress,
     view: &mut V,
-    reads: &mut Objects,
-    groups: &mut Groups,
 ) -> Result<(), ScratchStop>
-    requires deep { depth ≤ length groups.old }
-    requires room { length groups.old ≤ most_groups }
-    ensures longer { OnOk result (length groups.old ≤ length groups.new) }
-    ensures fits { OnOk result (length groups.new ≤ most_groups) }
-    ensures keeps { V.keeps view.old view.new }
-    ensures same { (m : Map) → V.shows view.old m → V.shows view.new m }
-    ensures bound { OnOk result (scope.new ≡ scope.old) }
-    ensures ran { (m : Map) → V.shows view.old m → Ran depth (after (eval_all m (exprs_view arguments.now) scope.old) (λ vs. called m functions.now site function vs)) groups.old groups.new (V.asked view.old) (V.asked view.new) reads.old reads.new result }
+    requires { HasRoom level.now made.old }
+    ensures { Composes V.shows V.asked V.keeps level.now.depth
+        (λ m. forest_after (eval_all m (exprs_view arguments.now) made.old.scope)
+        (λ vs. call_at level.now site function vs m))
+        view.old view.new made.old made.new result }
 {
-    let arguments = evaluate_all(alloc, arguments, scope, view, reads)?;
-    run_call(
-        alloc, functions, depth, site, function, arguments, view, groups,
-    )
+    let arguments = evaluate_all(level.alloc, arguments, &made.scope, view, &mut made.reads)?;
+    run_call(level, site, function, arguments, made, view)
 }
 
-// What a call makes: its group with its own reads, and what the body of its function makes, if that is an earlier one.
+// Appends the group of a call and composes the body of its function. The group gets the reads of the call itself. A
+// call of a function that is not an earlier one makes an empty group.
 #[cycle(run)]
 fn run_call<V: View>(
-    alloc: Global,
-    functions: &[Function],
-    depth: u32,
+    level: &Level,
     site: u32,
     function: usize,
     arguments: Values,
+    made: &mut Progress,
     view: &mut V,
-    groups: &mut Groups,
 ) -> Result<(), ScratchStop>
-    requires deep { depth ≤ length groups.old }
-    requires room { length groups.old ≤ most_groups }
-    ensures longer { OnOk result (length groups.old ≤ length groups.new) }
-    ensures fits { OnOk result (length groups.new ≤ most_groups) }
-    ensures keeps { V.keeps view.old view.new }
-    ensures same { (m : Map) → V.shows view.old m → V.shows view.new m }
-    ensures ran { (m : Map) → V.shows view.old m → (reads : List ℕ) → Ran depth (called m functions.now site function arguments) groups.old groups.new (V.asked view.old) (V.asked view.new) reads reads result }
+    requires { HasRoom level.now made.old }
+    ensures { Composes V.shows V.asked V.keeps level.now.depth
+        (call_at level.now site function arguments)
+        view.old view.new made.old made.new result }
 {
-    if function >= functions.len() {
-        let what = What::Call {
+    if function >= level.functions.len() {
+        let call = GroupKind::Call {
             function,
             arguments,
         };
-        add_group(groups, group(alloc, depth, site, what))?;
+        add_group(&mut made.groups, level.group(site, call))?;
         return Ok(());
     }
-    let callee = &functions[function];
-    let mut scope = bind(alloc, &callee.parameters, &arguments)?;
-    let mut reads = Objects::new(alloc);
-    let place = groups.len();
-    let what = What::Call {
+    let callee = &level.functions[function];
+    let scope = bind(level.alloc, &callee.parameters, &arguments)?;
+    let reads = Objects::new(level.alloc);
+    let groups = mem::replace(&mut made.groups, Groups::new(level.alloc));
+    let mut inner = Progress {
+        scope,
+        reads,
+        groups,
+    };
+    let place = inner.groups.len();
+    let call = GroupKind::Call {
         function,
         arguments,
     };
-    add_group(groups, group(alloc, depth, site, what))?;
-    run_all(
-        alloc,
-        &functions[..function],
-        depth + 1,
-        &callee.body,
-        &mut scope,
-        view,
-        &mut reads,
-        groups,
-    )?;
-    groups.set_reads(place, reads);
+    add_group(&mut inner.groups, level.group(site, call))?;
+    let inside = Level {
+        alloc: level.alloc,
+        functions: &level.functions[..function],
+        depth: level.depth + 1,
+    };
+    run_all(&inside, &callee.body, &mut inner, view)?;
+    let own_reads = inner.reads;
+    let mut groups = inner.groups;
+    groups.set_reads(place, own_reads);
+    made.groups = groups;
     Ok(())
 }
 
-/// Composes a program from scratch: the groups that a call of the function `root` without arguments makes, in
-/// preorder, where each call keeps its own reads (what `Composer.composeContent` does in an empty slot table). A call of a
-/// function that does not stand before its own makes nothing, this project's own rule. Refused where there are more
-/// than 1,000,000 groups, as soon as that many were made, or where memory runs out; a first part of the reads was then
-/// asked for. The groups are made in the room of others, which are let go.
-pub fn compose<V: View>(
+/// Composes a program from scratch (`Composer.composeContent` in an empty slot table). Returns the groups that a call
+/// of the function `root` without arguments makes, in preorder, each call with its own reads. By a rule of this project
+/// a call of a function that is not declared earlier makes nothing.
+///
+/// Fails if there are more than 1,000,000 groups, as soon as it would append the next one, or out of memory. The view
+/// was then asked for a first part of the reads. `room` is a scratch buffer: its groups are discarded, and its capacity
+/// is used.
+pub fn scratch<V: View>(
     alloc: Global,
     functions: &[Function],
     root: usize,
@@ -582,15 +452,31 @@ pub fn compose<V: View>(
 ) -> Result<Groups, ScratchStop>
     ensures keeps { V.keeps view.old view.new }
     ensures same { (m : Map) → V.shows view.old m → V.shows view.new m }
-    ensures groups { (m : Map) → V.shows view.old m → IfOk result (λ g. g ≡ flat 0 (forest (functions_view functions.now) root m)) }
-    ensures fits { (m : Map) → V.shows view.old m → OnOk result (how_many (forest (functions_view functions.now) root m) ≤ most_groups) }
-    ensures many { (m : Map) → V.shows view.old m → result ≡ Err ScratchStop.TooManyGroups → most_groups < how_many (forest (functions_view functions.now) root m) }
-    ensures asks { (m : Map) → V.shows view.old m → OnOk result (V.asked view.new ≡ V.asked view.old ++ asks (forest (functions_view functions.now) root m)) }
-    ensures part { (m : Map) → V.shows view.old m → OnErr result (Grew (V.asked view.old) (V.asked view.new) (asks (forest (functions_view functions.now) root m))) }
+    ensures groups { (m : Map) → V.shows view.old m →
+        IfOk result (λ g. g ≡ preorder 0 (forest (functions_view functions.now) root m)) }
+    ensures fits { (m : Map) → V.shows view.old m →
+        OnOk result (how_many (forest (functions_view functions.now) root m) ≤ most_groups) }
+    ensures many { (m : Map) → V.shows view.old m → result ≡ Err ScratchStop.TooManyGroups →
+        most_groups < how_many (forest (functions_view functions.now) root m) }
+    ensures asks { (m : Map) → V.shows view.old m →
+        OnOk result (V.asked view.new ≡
+        V.asked view.old ++ asks (forest (functions_view functions.now) root m)) }
+    ensures part { (m : Map) → V.shows view.old m →
+        OnErr result (Grew (V.asked view.old) (V.asked view.new)
+        (asks (forest (functions_view functions.now) root m))) }
 {
+    let level = Level {
+        alloc,
+        functions,
+        depth: 0,
+    };
+    let mut made = Progress {
+        scope: Env::new(alloc),
+        reads: Objects::new(alloc),
+        groups: room,
+    };
+    made.groups.clear();
     let arguments = Values::new(alloc);
-    let mut groups = room;
-    groups.clear();
-    run_call(alloc, functions, 0, 0, root, arguments, view, &mut groups)?;
-    Ok(groups)
+    run_call(&level, 0, root, arguments, &mut made, view)?;
+    Ok(made.groups)
 }

@@ -1,45 +1,107 @@
 // The value of an expression.
-ghost use Rattle.std.specs.Prelude.{◌≡◌, ◌++◌, map, take, IfOk, OnOk, OnErr};
+ghost use Rattle.std.specs.Prelude.{◌≡◌, ◌++◌, map, take, true, false, IfOk, OnOk, OnErr};
 ghost use Rattle.rt_values.specs.Limits.{most_items};
 ghost use Rattle.rt_values.specs.Operators.{number_of};
 ghost use Rattle.rt_values.specs.Maps.{Map};
 ghost use Rattle.rt_values.specs.Views.{Grew};
 ghost use Rattle.lang_ast.specs.Evaluation.{eval, eval_all, eval_nth, first, second};
 ghost use Rattle.lang_ast.specs.SyntaxView.{expr_view, exprs_view};
+ghost use Rattle.lang_meaning.specs.Flatness.{is_flat_expr, are_flat, is_flat_nth};
 
-use crate::applying::{Pair, apply, is_list, is_pick, taken};
-use crate::scope::Scope;
+use crate::applying::{Pair, apply, choose_operand, is_list, is_pick};
+use crate::scope::Env;
 use lang_ast::Expression;
 use rt_values::{IntList, NoMemory, Objects, Value, View};
 use std::alloc::Global;
 
-/// The value of an expression in the map that the view shows, with what its variables are bound to. Each object
-/// that is read for it is noted in `reads` too, as a read of the composable that evaluates it
-/// (`Snapshot.readObservers` and the current recompose scope). Expressions are total: an operand of another type,
-/// an operand or an object that is not there and a name that is not bound stand for 0, for false or for nothing.
-/// After want of memory a first part was asked for, and `reads` has no meaning.
-#[tactic(auto, using(crate::proofs::Operands::evaluation))]
-#[cycle(evaluate)]
-pub fn evaluate<V: View>(
+/// Returns the value of an expression in the map that the view shows, with the variables in `scope`. The view is
+/// asked for each object that the expression reads (`Snapshot.readObservers`).
+///
+/// Expressions are total: an operand of another type, a missing operand or object and an unbound name count as 0,
+/// false or nothing. After `NoMemory` the view was asked for a first part of the reads. An expression whose parts are
+/// all numbers or truth values takes no memory, if the view's reads of such values take none.
+pub fn eval<V: View>(
     alloc: Global,
     expression: &Expression,
-    scope: &Scope,
+    scope: &Env,
+    view: &mut V,
+) -> Result<Value, NoMemory>
+    ensures keeps { V.keeps view.old view.new }
+    ensures same { (m : Map) → V.shows view.old m → V.shows view.new m }
+    ensures value { (m : Map) → V.shows view.old m →
+        IfOk result (λ v. v ≡ (eval m (expr_view expression.now) scope.now).value) }
+    ensures asks { (m : Map) → V.shows view.old m →
+        OnOk result (V.asked view.new ≡
+        V.asked view.old ++ (eval m (expr_view expression.now) scope.now).reads) }
+    ensures part { (m : Map) → V.shows view.old m →
+        OnErr result (Grew (V.asked view.old) (V.asked view.new)
+        (eval m (expr_view expression.now) scope.now).reads) }
+    ensures free { (m : Map) → V.shows view.old m → V.reads_free view.old →
+        is_flat_expr m (expr_view expression.now) scope.now ≡ true → OnErr result ⊥ }
+{
+    let mut reads = Objects::new(alloc);
+    eval_part(alloc, expression, scope, view, &mut reads, false)
+}
+
+// Evaluates an expression as `eval` does, and appends its reads to `reads`, the reads of the call that evaluates it
+// (the current recompose scope). After `NoMemory` the list of reads has no meaning.
+pub fn eval_noting<V: View>(
+    alloc: Global,
+    expression: &Expression,
+    scope: &Env,
     view: &mut V,
     reads: &mut Objects,
 ) -> Result<Value, NoMemory>
     ensures keeps { V.keeps view.old view.new }
     ensures same { (m : Map) → V.shows view.old m → V.shows view.new m }
-    ensures value { (m : Map) → V.shows view.old m → IfOk result (λ v. v ≡ (eval m (expr_view expression.now) scope.now).value) }
-    ensures asks { (m : Map) → V.shows view.old m → OnOk result (V.asked view.new ≡ V.asked view.old ++ (eval m (expr_view expression.now) scope.now).reads) }
-    ensures reads { (m : Map) → V.shows view.old m → OnOk result (reads.new ≡ reads.old ++ (eval m (expr_view expression.now) scope.now).reads) }
-    ensures part { (m : Map) → V.shows view.old m → OnErr result (Grew (V.asked view.old) (V.asked view.new) (eval m (expr_view expression.now) scope.now).reads) }
+    ensures value { (m : Map) → V.shows view.old m →
+        IfOk result (λ v. v ≡ (eval m (expr_view expression.now) scope.now).value) }
+    ensures asks { (m : Map) → V.shows view.old m →
+        OnOk result (V.asked view.new ≡
+        V.asked view.old ++ (eval m (expr_view expression.now) scope.now).reads) }
+    ensures reads { (m : Map) → V.shows view.old m →
+        OnOk result (reads.new ≡ reads.old ++ (eval m (expr_view expression.now) scope.now).reads) }
+    ensures part { (m : Map) → V.shows view.old m →
+        OnErr result (Grew (V.asked view.old) (V.asked view.new)
+        (eval m (expr_view expression.now) scope.now).reads) }
+{
+    eval_part(alloc, expression, scope, view, reads, true)
+}
+
+// Evaluates an expression. Appends its reads to `reads` if `is_noting` is true.
+#[tactic(auto, using(crate::proofs::Operands::evaluation))]
+#[cycle(evaluate)]
+fn eval_part<V: View>(
+    alloc: Global,
+    expression: &Expression,
+    scope: &Env,
+    view: &mut V,
+    reads: &mut Objects,
+    is_noting: bool,
+) -> Result<Value, NoMemory>
+    ensures keeps { V.keeps view.old view.new }
+    ensures same { (m : Map) → V.shows view.old m → V.shows view.new m }
+    ensures value { (m : Map) → V.shows view.old m →
+        IfOk result (λ v. v ≡ (eval m (expr_view expression.now) scope.now).value) }
+    ensures asks { (m : Map) → V.shows view.old m →
+        OnOk result (V.asked view.new ≡
+        V.asked view.old ++ (eval m (expr_view expression.now) scope.now).reads) }
+    ensures reads { is_noting ≡ true → (m : Map) → V.shows view.old m →
+        OnOk result (reads.new ≡ reads.old ++ (eval m (expr_view expression.now) scope.now).reads) }
+    ensures part { (m : Map) → V.shows view.old m →
+        OnErr result (Grew (V.asked view.old) (V.asked view.new)
+        (eval m (expr_view expression.now) scope.now).reads) }
+    ensures free { is_noting ≡ false → (m : Map) → V.shows view.old m → V.reads_free view.old →
+        is_flat_expr m (expr_view expression.now) scope.now ≡ true → OnErr result ⊥ }
 {
     match expression {
         Expression::Literal { value, .. } => Ok(value.copy(alloc)?),
         Expression::Variable { name } => Ok(scope.value_of(alloc, &name.text)?),
         Expression::Get { number, .. } => {
             let value = view.read(alloc, *number)?;
-            reads.push(*number)?;
+            if is_noting {
+                reads.push(*number)?;
+            }
             Ok(value)
         }
         Expression::Apply {
@@ -48,88 +110,125 @@ pub fn evaluate<V: View>(
             ..
         } => {
             if is_pick(*operator) {
-                let condition = operand(alloc, operands, 0, scope, view, reads)?;
-                Ok(operand(alloc, operands, taken(&condition), scope, view, reads)?)
+                let condition = eval_operand(alloc, operands, 0, scope, view, reads, is_noting)?;
+                Ok(eval_operand(
+                    alloc,
+                    operands,
+                    choose_operand(&condition),
+                    scope,
+                    view,
+                    reads,
+                    is_noting,
+                )?)
             } else if is_list(*operator) {
-                let list = numbers(alloc, operands, scope, view, reads)?;
+                let list = eval_numbers(alloc, operands, scope, view, reads, is_noting)?;
                 Ok(Value::Ints(list))
             } else {
-                let pair = two(alloc, operands, scope, view, reads)?;
+                let pair = eval_pair(alloc, operands, scope, view, reads, is_noting)?;
                 Ok(apply(alloc, *operator, pair.first, pair.second)?)
             }
         }
     }
 }
 
-// The value of the operand at a place; the others are not evaluated.
+// Returns the value of the operand at index `place`, or 0 if there is none. The other operands are not evaluated.
 #[tactic(auto, using(crate::proofs::Operands::evaluation, crate::proofs::Operands::one_operand))]
 #[cycle(evaluate)]
-fn operand<V: View>(
+fn eval_operand<V: View>(
     alloc: Global,
     operands: &[Expression],
     place: usize,
-    scope: &Scope,
+    scope: &Env,
     view: &mut V,
     reads: &mut Objects,
+    is_noting: bool,
 ) -> Result<Value, NoMemory>
     ensures keeps { V.keeps view.old view.new }
     ensures same { (m : Map) → V.shows view.old m → V.shows view.new m }
-    ensures value { (m : Map) → V.shows view.old m → IfOk result (λ v. v ≡ (eval_nth m (exprs_view operands.now) place scope.now).value) }
-    ensures asks { (m : Map) → V.shows view.old m → OnOk result (V.asked view.new ≡ V.asked view.old ++ (eval_nth m (exprs_view operands.now) place scope.now).reads) }
-    ensures reads { (m : Map) → V.shows view.old m → OnOk result (reads.new ≡ reads.old ++ (eval_nth m (exprs_view operands.now) place scope.now).reads) }
-    ensures part { (m : Map) → V.shows view.old m → OnErr result (Grew (V.asked view.old) (V.asked view.new) (eval_nth m (exprs_view operands.now) place scope.now).reads) }
+    ensures value { (m : Map) → V.shows view.old m →
+        IfOk result (λ v. v ≡ (eval_nth m (exprs_view operands.now) place scope.now).value) }
+    ensures asks { (m : Map) → V.shows view.old m →
+        OnOk result (V.asked view.new ≡
+        V.asked view.old ++ (eval_nth m (exprs_view operands.now) place scope.now).reads) }
+    ensures reads { is_noting ≡ true → (m : Map) → V.shows view.old m →
+        OnOk result (reads.new ≡ reads.old ++ (eval_nth m (exprs_view operands.now) place scope.now).reads) }
+    ensures part { (m : Map) → V.shows view.old m →
+        OnErr result (Grew (V.asked view.old) (V.asked view.new)
+        (eval_nth m (exprs_view operands.now) place scope.now).reads) }
+    ensures free { is_noting ≡ false → (m : Map) → V.shows view.old m → V.reads_free view.old →
+        is_flat_nth m (exprs_view operands.now) place scope.now ≡ true → OnErr result ⊥ }
 {
     match operands.get(place) {
-        Some(expression) => Ok(evaluate(alloc, expression, scope, view, reads)?),
+        Some(expression) => Ok(eval_part(alloc, expression, scope, view, reads, is_noting)?),
         None => Ok(Value::Int(0)),
     }
 }
 
-// The first two values of operands. The operands are evaluated from left to right, all of them.
+// Evaluates all operands from left to right. Returns the first two values.
 #[tactic(auto, using(crate::proofs::Operands::evaluation, crate::proofs::Operands::all_part))]
 #[cycle(evaluate)]
-fn two<V: View>(
+fn eval_pair<V: View>(
     alloc: Global,
     operands: &[Expression],
-    scope: &Scope,
+    scope: &Env,
     view: &mut V,
     reads: &mut Objects,
+    is_noting: bool,
 ) -> Result<Pair, NoMemory>
     ensures keeps { V.keeps view.old view.new }
     ensures same { (m : Map) → V.shows view.old m → V.shows view.new m }
-    ensures first { (m : Map) → V.shows view.old m → IfOk result (λ p. p.first ≡ first (eval_all m (exprs_view operands.now) scope.now).value) }
-    ensures second { (m : Map) → V.shows view.old m → IfOk result (λ p. p.second ≡ second (eval_all m (exprs_view operands.now) scope.now).value) }
-    ensures asks { (m : Map) → V.shows view.old m → OnOk result (V.asked view.new ≡ V.asked view.old ++ (eval_all m (exprs_view operands.now) scope.now).reads) }
-    ensures reads { (m : Map) → V.shows view.old m → OnOk result (reads.new ≡ reads.old ++ (eval_all m (exprs_view operands.now) scope.now).reads) }
-    ensures part { (m : Map) → V.shows view.old m → OnErr result (Grew (V.asked view.old) (V.asked view.new) (eval_all m (exprs_view operands.now) scope.now).reads) }
+    ensures first { (m : Map) → V.shows view.old m →
+        IfOk result (λ p. p.first ≡ first (eval_all m (exprs_view operands.now) scope.now).value) }
+    ensures second { (m : Map) → V.shows view.old m →
+        IfOk result (λ p. p.second ≡ second (eval_all m (exprs_view operands.now) scope.now).value) }
+    ensures asks { (m : Map) → V.shows view.old m →
+        OnOk result (V.asked view.new ≡
+        V.asked view.old ++ (eval_all m (exprs_view operands.now) scope.now).reads) }
+    ensures reads { is_noting ≡ true → (m : Map) → V.shows view.old m →
+        OnOk result (reads.new ≡ reads.old ++ (eval_all m (exprs_view operands.now) scope.now).reads) }
+    ensures part { (m : Map) → V.shows view.old m →
+        OnErr result (Grew (V.asked view.old) (V.asked view.new)
+        (eval_all m (exprs_view operands.now) scope.now).reads) }
+    ensures free { is_noting ≡ false → (m : Map) → V.shows view.old m → V.reads_free view.old →
+        are_flat m (exprs_view operands.now) scope.now ≡ true → OnErr result ⊥ }
 {
     let mut pair = Pair::none();
     for (place, expression) in operands.iter().enumerate() {
-        pair = pair.with(place, evaluate(alloc, expression, scope, view, reads)?);
+        pair = pair.with(
+            place,
+            eval_part(alloc, expression, scope, view, reads, is_noting)?,
+        );
     }
     Ok(pair)
 }
 
-// The numbers of operands, as many as a list may have. The operands are evaluated from left to right, all of them.
+// Evaluates all operands from left to right. Returns their numbers, as many as a list can have.
 #[tactic(auto, using(crate::proofs::Operands::evaluation, crate::proofs::Operands::all_part))]
 #[cycle(evaluate)]
-fn numbers<V: View>(
+fn eval_numbers<V: View>(
     alloc: Global,
     operands: &[Expression],
-    scope: &Scope,
+    scope: &Env,
     view: &mut V,
     reads: &mut Objects,
+    is_noting: bool,
 ) -> Result<IntList, NoMemory>
     ensures keeps { V.keeps view.old view.new }
     ensures same { (m : Map) → V.shows view.old m → V.shows view.new m }
-    ensures value { (m : Map) → V.shows view.old m → IfOk result (λ l. l ≡ take most_items (map number_of (eval_all m (exprs_view operands.now) scope.now).value)) }
-    ensures asks { (m : Map) → V.shows view.old m → OnOk result (V.asked view.new ≡ V.asked view.old ++ (eval_all m (exprs_view operands.now) scope.now).reads) }
-    ensures reads { (m : Map) → V.shows view.old m → OnOk result (reads.new ≡ reads.old ++ (eval_all m (exprs_view operands.now) scope.now).reads) }
-    ensures part { (m : Map) → V.shows view.old m → OnErr result (Grew (V.asked view.old) (V.asked view.new) (eval_all m (exprs_view operands.now) scope.now).reads) }
+    ensures value { (m : Map) → V.shows view.old m →
+        IfOk result (λ l. l ≡ take most_items (map number_of (eval_all m (exprs_view operands.now) scope.now).value)) }
+    ensures asks { (m : Map) → V.shows view.old m →
+        OnOk result (V.asked view.new ≡
+        V.asked view.old ++ (eval_all m (exprs_view operands.now) scope.now).reads) }
+    ensures reads { is_noting ≡ true → (m : Map) → V.shows view.old m →
+        OnOk result (reads.new ≡ reads.old ++ (eval_all m (exprs_view operands.now) scope.now).reads) }
+    ensures part { (m : Map) → V.shows view.old m →
+        OnErr result (Grew (V.asked view.old) (V.asked view.new)
+        (eval_all m (exprs_view operands.now) scope.now).reads) }
 {
     let mut list = IntList::new(alloc);
     for expression in operands {
-        let value = evaluate(alloc, expression, scope, view, reads)?;
+        let value = eval_part(alloc, expression, scope, view, reads, is_noting)?;
         list.push(value.number())?;
     }
     Ok(list)

@@ -1,21 +1,23 @@
 // The variables in scope.
-ghost use Rattle.std.specs.Prelude.{◌≡◌, ◌++◌, ◌∷◌, [], List, IfOk, OnOk, OnErr, map};
-ghost use Rattle.lang_ast.specs.Evaluation.{bound, lookup};
+ghost use Rattle.std.specs.Prelude.{◌≡◌, ◌++◌, ◌∷◌, [], List, true, IfOk, OnOk, OnErr, map};
+ghost use Rattle.rt_values.specs.Values.{is_flat};
+ghost use Rattle.lang_ast.specs.Evaluation.{new_binding, lookup};
 ghost use Rattle.lang_ast.specs.declared.binding.Binding.{Binding};
 
 use lang_ast::Binding;
-use rt_values::{NoMemory, Value, Values, Word};
+use rt_groups::Values;
+use rt_values::{NoMemory, Value, Word};
 use std::alloc::Global;
 use std::marker::Model;
 
-/// The variables in scope with their values, the latest last: the parameters of a composable, and the names that
-/// the statements around bind. A name that is bound again hides the earlier one, as in Kotlin.
+/// The variables in scope with their values, the latest last: the parameters of a composable, and the variables of
+/// the enclosing statements. A later variable hides an earlier one of the same name, as in Kotlin.
 #[derive(Drop)]
-pub struct Scope {
+pub struct Env {
     bindings: Vec<Binding>,
 }
 
-impl Model for Scope {
+impl Model for Env {
     ghost use Rattle.std.specs.Prelude.{List};
     ghost use Rattle.lang_ast.specs.declared.binding.Binding.{Binding};
 
@@ -24,37 +26,38 @@ impl Model for Scope {
     ghost view = { λ s. s.bindings.items };
 }
 
-impl Scope {
-    /// No variable.
+impl Env {
+    /// Returns the scope without variables.
     pub fn new(alloc: Global) -> Self
         ensures { result ≡ [] }
     {
-        Scope {
+        Env {
             bindings: Vec::new(alloc),
         }
     }
 
-    /// One variable more. Where memory runs out the scope stays as it is.
+    /// Appends a variable. After `NoMemory` the scope is unchanged.
     pub fn push(&mut self, name: Word, value: Value) -> Result<(), NoMemory>
-        ensures ok { OnOk result (self.new ≡ self.old ++ bound name value ∷ []) }
+        ensures ok { OnOk result (self.new ≡ self.old ++ new_binding name value ∷ []) }
         ensures err { OnErr result (self.new ≡ self.old) }
     {
         self.bindings.push(Binding { name, value })?;
         Ok(())
     }
 
-    /// Without the latest variable, if there is one.
+    /// Removes the latest variable.
     pub fn pop(&mut self)
         ensures { (bindings : List Binding) (b : Binding) → self.old ≡ bindings ++ b ∷ [] → self.new ≡ bindings }
     {
         let _ = self.bindings.pop();
     }
 
-    /// What a variable is bound to, the latest where it is bound more than once; a name that is not bound has the
-    /// number 0, as a state that is not there.
+    /// Returns a copy of the value of the latest variable with this name, or the number 0 if there is none. Copying a
+    /// number or a truth value takes no memory.
     #[tactic(auto, using(crate::proofs::Lookups::lookup_last))]
     pub fn value_of(&self, alloc: Global, name: &Word) -> Result<Value, NoMemory>
-        ensures { IfOk result (λ v. v ≡ lookup self.now name.now) }
+        ensures value { IfOk result (λ v. v ≡ lookup self.now name.now) }
+        ensures free { is_flat (lookup self.now name.now) ≡ true → OnErr result ⊥ }
     {
         let mut rest = self.bindings.as_slice();
         while let Some((binding, before)) = rest.split_last() {
@@ -66,7 +69,7 @@ impl Scope {
         Ok(Value::Int(0))
     }
 
-    /// The values of the variables, in order; their names are let go.
+    /// Returns the values of the variables, in order, and discards their names.
     pub fn into_values(self, alloc: Global) -> Result<Values, NoMemory>
         ensures { IfOk result (λ vs. vs ≡ map (λ b. b.value) self) }
     {

@@ -1,5 +1,5 @@
 use Rattle.std.proofs.Common.{◌≡◌, ◌++◌, drop}
-use Rattle.lang_ast.specs.Composing.{bind}
+use Rattle.compose_model.specs.Composing.{bind}
 use Rattle.lang_meaning.proofs.arguments.bind.Given as goal
 
 abbrev pub invariant-loop-parameter : goal.invariant-loop-parameter

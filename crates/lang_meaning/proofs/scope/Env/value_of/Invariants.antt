@@ -1,6 +1,6 @@
 use Rattle.std.proofs.Common.{◌≡◌, length}
 use Rattle.lang_ast.specs.Evaluation.{lookup}
-use Rattle.lang_meaning.proofs.scope.Scope.value_of.Given as goal
+use Rattle.lang_meaning.proofs.scope.Env.value_of.Given as goal
 
 abbrev pub invariant-loop-binding : goal.invariant-loop-binding
 invariant-loop-binding l = lookup l.rest l.name ≡ lookup l.self l.name

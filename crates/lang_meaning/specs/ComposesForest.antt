@@ -1,0 +1,89 @@
+-- Internal: the contract of the functions that compose a part of a program.
+use Rattle.std.specs.Prelude.{ℕ, ℤ, ◌++◌, ◌≡◌, ◌<◌, ◌≤◌, List, [], ◌∷◌, length, Result, Err, OnOk, OnErr}
+use Rattle.rt_values.specs.declared.value.Value.{Value}
+use Rattle.rt_values.specs.declared.value.Value.TheVariants as value
+use Rattle.rt_values.specs.Maps.{Map}
+use Rattle.rt_values.specs.Views.{Grew}
+use Rattle.rt_groups.specs.GroupForest.{GroupForest, asks, own}
+use Rattle.rt_groups.specs.GroupForest as trail
+use Rattle.rt_groups.specs.PreorderGroups.{preorder}
+use Rattle.rt_groups.specs.Frames.{most_groups}
+use Rattle.rt_groups.specs.declared.groups.Group.{Group}
+use Rattle.lang_ast.specs.declared.syntax.Function.{Function}
+use Rattle.lang_ast.specs.Terms.{Stmt, Stmts}
+use Rattle.lang_ast.specs.SyntaxView.{functions_view}
+use Rattle.lang_ast.specs.Evaluation.{Bindings, new_binding}
+use Rattle.compose_model.specs.Composing.{group, meaning_at, meanings, run, run_all, turns}
+use Rattle.lang_meaning.specs.declared.composition.Level.{Level}
+use Rattle.lang_meaning.specs.declared.composition.Progress.{Progress}
+use Rattle.lang_meaning.specs.declared.composition.ScratchStop.{ScratchStop}
+use Rattle.lang_meaning.specs.declared.composition.ScratchStop.TheVariants.{TooManyGroups}
+
+-- The effect of composing a forest at a depth on the groups, on the list of reads that the view was asked for and on
+-- the reads of the innermost call. A good result appends everything that the forest contains. Else the view was asked
+-- for a first part of the reads, and there are too many groups if the result says so.
+pub record ComposesForest (depth : ℕ) (t : GroupForest) (groups groups' : List Group) (asked asked' reads reads' : List ℕ)
+    {U : Type 0} (result : Result U ScratchStop) : Type 0 where
+  pub made : OnOk result (groups' ≡ groups ++ preorder depth t)
+  pub came : OnOk result (asked' ≡ asked ++ asks t)
+  pub charged : OnOk result (reads' ≡ reads ++ asks (own t))
+  pub part : OnErr result (Grew asked asked' (asks t))
+  pub many : result ≡ Err TooManyGroups → most_groups < length (groups ++ preorder depth t)
+
+-- The state of a loop that composes the forest t, where `rest` is the part that remains.
+pub record LoopProgress (depth : ℕ) (rest t : GroupForest) (groups groups' : List Group) (asked asked' reads reads' : List ℕ)
+    : Type 0 where
+  pub made : groups' ++ preorder depth rest ≡ groups ++ preorder depth t
+  pub came : asked' ++ asks rest ≡ asked ++ asks t
+  pub charged : reads' ++ asks (own rest) ≡ reads ++ asks (own t)
+
+-- The forest of a statement, where `functions` are those that it can call.
+abbrev pub statement_forest : Map → List Function → Stmt → Bindings → GroupForest
+statement_forest m functions s env = run m (meanings m (functions_view functions)) s env
+
+abbrev pub body_forest : Map → List Function → Stmts → Bindings → GroupForest
+body_forest m functions body env = run_all m (meanings m (functions_view functions)) body env
+
+-- The forest of a call, with its own group.
+abbrev pub call_forest : Map → List Function → ℕ → ℕ → List Value → GroupForest
+call_forest m functions site function arguments =
+    group site (trail.Call function arguments)
+    (meaning_at (meanings m (functions_view functions)) function arguments)
+
+-- The forest of a loop: its body once for each number.
+abbrev pub loop_forest : Map → List Function → List ℕ → Stmts → Bindings → List ℤ → GroupForest
+loop_forest m functions name body env items =
+    turns (λ i. body_forest m functions body (env ++ new_binding name (value.Int i) ∷ [])) items
+
+-- The forests of statements and calls at a level, as functions of the map.
+
+abbrev pub statement_at : Level → Stmt → Bindings → Map → GroupForest
+statement_at level s env m = statement_forest m level.functions.now s env
+
+abbrev pub body_at : Level → Stmts → Bindings → Map → GroupForest
+body_at level body env m = body_forest m level.functions.now body env
+
+abbrev pub call_at : Level → ℕ → ℕ → List Value → Map → GroupForest
+call_at level site function arguments m = call_forest m level.functions.now site function arguments
+
+abbrev pub loop_at : Level → List ℕ → Stmts → Bindings → List ℤ → Map → GroupForest
+loop_at level name body env items m = loop_forest m level.functions.now name body env items
+
+-- `HasRoom level made`: the depth is possible after these groups, and there are not more groups than the limit.
+abbrev pub HasRoom : Level → Progress → Type 0
+HasRoom level made = (level.depth ≤ length made.groups) × (length made.groups ≤ most_groups)
+
+-- The contract of composing a part of a program: `t m` is the forest of the part in the map `m`. The view and the
+-- progress before are `view` and `made`, those after are `view'` and `made'`. The view changes only by reads, and it
+-- shows the same maps. The variables in scope are the same, and the effect is that of the forest in each map that the
+-- view shows.
+pub record Composes {W : Type 0} (shown : W → Map → Type 0) (asked : W → List ℕ) (kept : W → W → Type 0)
+    (depth : ℕ) (t : Map → GroupForest) (view view' : W) (made made' : Progress)
+    {U : Type 0} (result : Result U ScratchStop) : Type 0 where
+  pub keeps : kept view view'
+  pub same : (m : Map) → shown view m → shown view' m
+  pub same_scope : OnOk result (made'.scope ≡ made.scope)
+  pub longer : OnOk result (length made.groups ≤ length made'.groups)
+  pub fits : OnOk result (length made'.groups ≤ most_groups)
+  pub ran : (m : Map) → shown view m →
+      ComposesForest depth (t m) made.groups made'.groups (asked view) (asked view') made.reads made'.reads result
