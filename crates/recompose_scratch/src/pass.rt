@@ -1,16 +1,16 @@
-// Going once over the new groups, beside the old ones.
+// One pass over the new groups, which compares them with the old groups.
 ghost use Rattle.std.specs.Prelude.{◌≡◌, ◌+◌, take, IfOk, OnOk};
-ghost use Rattle.recompose_scratch.specs.Passing.{other_keys, call_runs, runs_in, one_group, counted, both, no_report, given, number_of, innermost, outer, found_for, opened, step, at_first, marked, passed};
+ghost use Rattle.recompose_scratch.specs.Passing.{Pass, other_keys, call_runs, runs_in, one_group, group_report, report_sum, no_report, given, number_of, innermost, outer, found_for, pending_after, state_after_group, initial_pass, numbered_groups, state_after_groups};
 
 use crate::compared::{is_kept_for, meet, same_calls};
 use crate::pending::{KeyInfo, Pending, siblings, siblings_inside};
-use rt_values::{Group, Groups, NoMemory, Objects, Report, Value, What};
+use rt_groups::{Group, GroupKind, Groups, Report};
+use rt_values::{NoMemory, Objects, Value};
 use std::alloc::Global;
 use std::collections::VecDeque;
 
-// Whether a call runs: no old group was found, or its arguments differ there, or its own reads there meet the owed
-// objects.
-fn call_is_run(owed: &Objects, found: &Option<KeyInfo>, what: &What) -> bool
+// Whether a call runs: it has no old group, its arguments differ, or its own reads include an owed object.
+fn call_is_run(owed: &Objects, found: &Option<KeyInfo>, what: &GroupKind) -> bool
     ensures { result ≡ call_runs owed.now found.now what.now }
 {
     let Some(info) = found else {
@@ -19,12 +19,12 @@ fn call_is_run(owed: &Objects, found: &Option<KeyInfo>, what: &What) -> bool
     !same_calls(&info.group().what, what) || meet(&info.group().reads, owed)
 }
 
-// Whether the innermost call around what stands in a group runs: the group itself where it is a call.
-fn is_running(owed: &Objects, running: bool, found: &Option<KeyInfo>, what: &What) -> bool
+// Whether the innermost call around the contents of a group runs: the group itself if it is a call.
+fn is_running(owed: &Objects, running: bool, found: &Option<KeyInfo>, what: &GroupKind) -> bool
     ensures { result ≡ runs_in owed.now running found.now what.now }
 {
     match what {
-        What::Call { .. } => call_is_run(owed, found, what),
+        GroupKind::Call { .. } => call_is_run(owed, found, what),
         _ => running,
     }
 }
@@ -39,8 +39,8 @@ fn has_other_keys(found: &Option<KeyInfo>, keys: &[Value]) -> bool
     }
 }
 
-// A report of one group.
-fn of_one(ran: u64, calculated: u64, reads: u64, nodes: u64) -> Report
+// Creates the report of one group.
+fn one_group_report(ran: u64, calculated: u64, reads: u64, nodes: u64) -> Report
     ensures { result ≡ one_group ran calculated reads nodes }
 {
     Report {
@@ -52,33 +52,33 @@ fn of_one(ran: u64, calculated: u64, reads: u64, nodes: u64) -> Report
     }
 }
 
-// What a group adds to the report. A call that runs counts with its own reads, and a cell in a call that runs
-// counts where it is calculated.
+// Returns what a group adds to the report. A call that runs counts with its own reads, and a cell in a call
+// that runs counts if it is calculated.
 fn report_of(runs: bool, found: &Option<KeyInfo>, group: &Group) -> Report
-    ensures { result ≡ counted runs found.now group.now.what group.now.reads }
+    ensures { result ≡ group_report runs found.now group.now.what group.now.reads }
 {
     match &group.what {
-        What::Call { .. } => {
+        GroupKind::Call { .. } => {
             if runs {
-                of_one(1, 0, group.reads.numbers().len() as u64, 0)
+                one_group_report(1, 0, group.reads.numbers().len() as u64, 0)
             } else {
-                of_one(0, 0, 0, 0)
+                one_group_report(0, 0, 0, 0)
             }
         }
-        What::Node { .. } => of_one(0, 0, 0, 1),
-        What::Key(_) => of_one(0, 0, 0, 0),
-        What::Cell { keys, .. } => {
+        GroupKind::Node { .. } => one_group_report(0, 0, 0, 1),
+        GroupKind::Key(_) => one_group_report(0, 0, 0, 0),
+        GroupKind::Cell { keys, .. } => {
             if runs && has_other_keys(found, keys.items()) {
-                of_one(0, 1, 0, 0)
+                one_group_report(0, 1, 0, 0)
             } else {
-                of_one(0, 0, 0, 0)
+                one_group_report(0, 0, 0, 0)
             }
         }
     }
 }
 
-// The report of no group.
-fn of_none() -> Report
+// Creates the report of no group.
+fn empty_report() -> Report
     ensures { result ≡ no_report }
 {
     Report {
@@ -90,9 +90,9 @@ fn of_none() -> Report
     }
 }
 
-// Two reports in one, where each count stops at 2^64 - 1.
-fn added(one: Report, other: Report) -> Report
-    ensures { result ≡ both one other }
+// Adds two reports. Each count stops at 2^64 - 1.
+fn add_reports(one: Report, other: Report) -> Report
+    ensures { result ≡ report_sum one other }
 {
     Report {
         ran: one.ran.saturating_add(other.ran),
@@ -103,8 +103,8 @@ fn added(one: Report, other: Report) -> Report
     }
 }
 
-// The number of a node, and the number of the next new one: that of the old group, or the next. After 2^64 - 1
-// nodes there is no next number; no memory has room for so many.
+// Returns the number of a node and the next unused number: the number of the old group, or the next one.
+// Returns `NoMemory` at 2^64 - 1 nodes, which no memory can hold.
 fn node_number(found: &Option<KeyInfo>, next: u64) -> Result<(u64, u64), NoMemory>
     ensures { IfOk result (λ n. n ≡ given found.now next) }
 {
@@ -119,17 +119,21 @@ fn node_number(found: &Option<KeyInfo>, next: u64) -> Result<(u64, u64), NoMemor
     }
 }
 
-// The number of a group, and the number of the next new node.
-fn group_number(what: &What, found: &Option<KeyInfo>, next: u64) -> Result<(u64, u64), NoMemory>
+// Returns the number of a group and the next unused node number.
+fn group_number(
+    what: &GroupKind,
+    found: &Option<KeyInfo>,
+    next: u64,
+) -> Result<(u64, u64), NoMemory>
     ensures { IfOk result (λ n. n ≡ number_of what.now found.now next) }
 {
     match what {
-        What::Node { .. } => node_number(found, next),
+        GroupKind::Node { .. } => node_number(found, next),
         _ => Ok((0, next)),
     }
 }
 
-// Leaves the open group that a group at a depth stands in: the last that is not deeper.
+// Closes the groups that do not contain a group at `depth`, and returns the innermost open one.
 fn close_to<'a>(alloc: Global, depth: u32, pending: &mut Vec<Pending<'a>>) -> Pending<'a>
     ensures innermost { result ≡ innermost (take (depth + 1) pending.old.items) }
     ensures outer { pending.new.items ≡ outer (take (depth + 1) pending.old.items) }
@@ -141,8 +145,8 @@ fn close_to<'a>(alloc: Global, depth: u32, pending: &mut Vec<Pending<'a>>) -> Pe
     }
 }
 
-// Goes over one group: it is matched with an old one, numbered and counted, and is then open itself.
-fn go_over<'a>(
+// Processes one group: matches it with an old group, numbers and counts it, and opens it.
+fn process_group<'a>(
     alloc: Global,
     owed: &Objects,
     pending: &mut Vec<Pending<'a>>,
@@ -150,22 +154,23 @@ fn go_over<'a>(
     report: &mut Report,
     group: &Group,
 ) -> Result<(u64, u64), NoMemory>
-    ensures open { OnOk result (pending.new.items ≡ opened owed.now pending.old.items group.now) }
+    ensures open { OnOk result (pending.new.items ≡ pending_after owed.now pending.old.items group.now) }
     ensures number { IfOk result (λ n. n ≡ number_of group.now.what (found_for pending.old.items group.now) next) }
-    ensures report { OnOk result (report.new ≡ (step owed.now (record { pending = pending.old.items; next = next; report = report.old }) group.now).report) }
+    ensures report { let before : Pass = record { pending = pending.old.items; next = next; report = report.old } in
+        OnOk result (report.new ≡ (state_after_group owed.now before group.now).report) }
 {
     let mut around = close_to(alloc, group.depth, pending);
     let found = around.take(group);
     let runs = is_running(owed, around.running(), &found, &group.what);
-    *report = added(*report, report_of(runs, &found, group));
+    *report = add_reports(*report, report_of(runs, &found, group));
     let inside = siblings_inside(alloc, group.depth as usize + 1, &found)?;
     pending.push(around)?;
     pending.push(Pending::new(inside, runs))?;
     group_number(&group.what, &found, next)
 }
 
-// Numbers the new groups and counts what they owe, beside the old ones: the report, and the number of the next new
-// node.
+// Numbers the new groups and counts what they owe by comparison with the old groups. Returns the next unused
+// node number and the report.
 pub fn number_all(
     alloc: Global,
     old: &[Group],
@@ -173,17 +178,18 @@ pub fn number_all(
     first: u64,
     groups: &mut Groups,
 ) -> Result<(u64, Report), NoMemory>
-    ensures groups { OnOk result (groups.new ≡ marked owed.now (at_first old.now first) groups.old) }
-    ensures told { IfOk result (λ r. (r.0 ≡ (passed owed.now (at_first old.now first) groups.old).next) × (r.1 ≡ (passed owed.now (at_first old.now first) groups.old).report)) }
+    ensures groups { OnOk result (groups.new ≡ numbered_groups owed.now (initial_pass old.now first) groups.old) }
+    ensures told { let after = state_after_groups owed.now (initial_pass old.now first) groups.old in
+        IfOk result (λ r. (r.0 ≡ after.next) × (r.1 ≡ after.report)) }
 {
     let mut next = first;
-    let mut report = of_none();
+    let mut report = empty_report();
     let mut pending = Vec::new(alloc);
     pending.push(Pending::new(siblings(alloc, 0, old)?, true))?;
     let mut place = 0;
     while place < groups.len() {
         let group = &groups.items()[place];
-        let (number, more) = go_over(alloc, owed, &mut pending, next, &mut report, group)?;
+        let (number, more) = process_group(alloc, owed, &mut pending, next, &mut report, group)?;
         groups.set_number(place, number);
         next = more;
         place += 1;

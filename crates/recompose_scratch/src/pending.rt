@@ -1,14 +1,15 @@
-// Old groups that wait for a new one.
+// Old groups that wait for a new group.
 ghost use Rattle.std.specs.Prelude.{◌≡◌, ◌++◌, ◌∷◌, [], ℕ, List, IfOk, OnOk, OnErr};
-ghost use Rattle.recompose_scratch.specs.Matching.{KeyInfo as key_info, sibling, siblings_at, first_of, without, inside_at, place_of, begins_with};
+ghost use Rattle.recompose_scratch.specs.Matching.{KeyInfo as key_info, sibling, siblings_at, first_of, pending_without, inside_at, index_of_match, begins_with};
 
 use crate::compared::same_siblings;
-use rt_values::{Group, NoMemory};
+use rt_groups::Group;
+use rt_values::NoMemory;
 use std::alloc::Global;
 use std::collections::VecDeque;
 use std::marker::Model;
 
-// An old group that a new one may be matched with, and the old groups behind it in preorder, those inside it first
+// An old group that a new one may be matched with, and the old groups after it in preorder, its contents first
 // (`KeyInfo`).
 #[derive(Drop)]
 pub struct KeyInfo<'a> {
@@ -31,14 +32,14 @@ impl<'a> KeyInfo<'a> {
         KeyInfo { group, behind }
     }
 
-    // The group itself.
+    // Returns the group.
     pub fn group(&self) -> &Group
         ensures { result.now ≡ self.now.group }
     {
         self.group
     }
 
-    // The groups behind it.
+    // Returns the groups after it in preorder.
     fn behind(&self) -> &'a [Group]
         ensures { result.now ≡ self.now.behind }
     {
@@ -46,8 +47,8 @@ impl<'a> KeyInfo<'a> {
     }
 }
 
-// What an open group waits for (`Pending`): the old groups in it that no new one was matched with yet, in order,
-// and whether the innermost call around what stands in it runs.
+// The unmatched old groups inside an open group, in order (`Pending`), and whether the innermost call around
+// its contents runs.
 #[derive(Drop)]
 pub struct Pending<'a> {
     left: VecDeque<KeyInfo<'a>>,
@@ -63,37 +64,37 @@ impl<'a> Model for Pending<'a> {
 }
 
 impl<'a> Pending<'a> {
-    // An open group with these old groups.
+    // Creates an open group with these old groups.
     pub fn new(left: VecDeque<KeyInfo<'a>>, running: bool) -> Pending<'a>
         ensures { result ≡ record { left = left.entry.items; running = running } }
     {
         Pending { left, running }
     }
 
-    // Whether the innermost call around what stands in it runs.
+    // Returns whether the innermost call around its contents runs.
     pub fn running(&self) -> bool
         ensures { result ≡ self.now.running }
     {
         self.running
     }
 
-    // Takes the first old group that has the site and the key of a new one (`getNext`): the one at its path, since
-    // those that earlier new ones were matched with are gone. As long as groups come in the old order it is the
-    // first that is left, which leaves at once; else it is searched among all that are left, and where a few moved
-    // or are gone it is one of the first few.
+    // Removes and returns the first unmatched old group with the same site and key (`getNext`). It has the new
+    // group's path, since earlier matches were removed. Constant time while siblings keep their order, else
+    // linear in the unmatched groups.
     pub fn take(&mut self, group: &Group) -> Option<KeyInfo<'a>>
         ensures found { result ≡ first_of (sibling group.now) self.old.left }
-        ensures left { self.new ≡ record { left = without (sibling group.now) self.old.left; running = self.old.running } }
+        ensures left { self.new
+            ≡ record { left = pending_without (sibling group.now) self.old.left; running = self.old.running } }
     {
         if is_first(&self.left, group) {
             return self.left.pop_front();
         }
-        let place = place_among(&self.left, group);
+        let place = find_match(&self.left, group);
         self.left.remove(place)
     }
 }
 
-// Whether the first of them has the site and the key of a group.
+// Whether the first unmatched group has the site and the key of `group`.
 fn is_first(left: &VecDeque<KeyInfo>, group: &Group) -> bool
     ensures { result ≡ begins_with (sibling group.now) left.now.items }
 {
@@ -103,10 +104,11 @@ fn is_first(left: &VecDeque<KeyInfo>, group: &Group) -> bool
     }
 }
 
-// The place of the first that has the site and the key of a group, or how many there are.
+// Index of the first unmatched group with the site and the key of `group`, or the count of groups if there is
+// none.
 #[tactic(auto, using(crate::proofs::Places::place_found, crate::proofs::Places::place_passed, crate::proofs::Places::place_ended))]
-fn place_among(left: &VecDeque<KeyInfo>, group: &Group) -> usize
-    ensures { result ≡ place_of (sibling group.now) left.now.items }
+fn find_match(left: &VecDeque<KeyInfo>, group: &Group) -> usize
+    ensures { result ≡ index_of_match (sibling group.now) left.now.items }
 {
     let mut place = 0;
     while place < left.len() {
@@ -118,7 +120,7 @@ fn place_among(left: &VecDeque<KeyInfo>, group: &Group) -> usize
     place
 }
 
-// The old groups at a depth, up to the first that is less deep.
+// Collects the old groups at a depth, up to the first group that is less deep.
 pub fn siblings<'a>(
     alloc: Global,
     depth: usize,
@@ -141,7 +143,7 @@ pub fn siblings<'a>(
     Ok(left)
 }
 
-// The old groups at a depth inside the one that was found.
+// Collects the old groups at a depth inside the group that was found.
 pub fn siblings_inside<'a>(
     alloc: Global,
     depth: usize,

@@ -1,5 +1,5 @@
 use Rattle.std.proofs.Common.{◌≡◌, drop}
-use Rattle.rt_values.specs.Frames.{meets}
+use Rattle.rt_groups.specs.Frames.{meets}
 use Rattle.recompose_scratch.proofs.compared.meet.Given as goal
 
 abbrev pub invariant-loop-x : goal.invariant-loop-x

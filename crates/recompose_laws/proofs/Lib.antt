@@ -1,0 +1,14 @@
+pub mod Apart
+pub mod Beside
+pub mod Idles
+pub mod Numbers
+pub mod Orders
+pub mod Owed
+pub mod Plain
+pub mod Refreshes
+pub mod Renewals
+pub mod Selves
+pub mod Skipped
+pub mod Sites
+pub mod Walks
+pub mod Works

@@ -1,5 +1,0 @@
-use Rattle.recompose_walk.proofs.Idles.{idle_frame}
-use Rattle.recompose_walk.proofs.idle.nothing_owed_nothing_done.Goals as goal
-
-pub returns : goal.returns
-returns c = idle_frame

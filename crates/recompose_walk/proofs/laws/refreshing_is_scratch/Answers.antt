@@ -1,5 +1,0 @@
-use Rattle.recompose_walk.proofs.Refreshes.{refreshing_is_scratch}
-use Rattle.recompose_walk.proofs.laws.refreshing_is_scratch.Goals as goal
-
-pub returns : goal.returns
-returns c = refreshing_is_scratch

@@ -1,5 +1,0 @@
-use Rattle.recompose_walk.proofs.Walks.{walk_does_the_frame}
-use Rattle.recompose_walk.proofs.laws.walk_does_the_frame.Goals as goal
-
-pub returns : goal.returns
-returns c = walk_does_the_frame

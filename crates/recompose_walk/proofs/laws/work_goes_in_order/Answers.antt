@@ -1,5 +1,0 @@
-use Rattle.recompose_walk.proofs.Orders.{work_goes_in_order}
-use Rattle.recompose_walk.proofs.laws.work_goes_in_order.Goals as goal
-
-pub returns : goal.returns
-returns c = work_goes_in_order
