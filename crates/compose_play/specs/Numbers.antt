@@ -1,9 +1,9 @@
--- The numbers with which the process ends.
+-- Trusted: The exit status of the process.
 use Rattle.std.specs.Prelude.{ℕ}
 use Rattle.play_core.specs.declared.top.Status.{Status}
 use Rattle.play_core.specs.declared.top.Status.TheVariants.{Done, Usage, BadInput, ReadFault, WriteFault, NoMemory, TooLong}
 
--- 0 says that the command was done; 1 is nobody's, since it is what shells and tools answer for faults of their own
+-- 0 means that the command was done. 1 is not used: shells and tools report it for their own faults.
 abbrev pub number : Status → ℕ
 number Done = 0
 number Usage = 2

@@ -10,3 +10,6 @@ pub mod Uniques
 pub mod TreeLines
 pub mod Refusals
 pub mod Plays
+mod OneFault
+mod Parses
+mod Total

@@ -3,14 +3,14 @@ use Rattle.std.proofs.Common.{ℕ, zero, suc, ◌+◌, ◌<◌, ◌≤◌, ◌==
 use Rattle.std.specs.Option.{unwrap_or}
 use Rattle.std.proofs.lemmas.Bool.Decides.{eqb_tells}
 use Rattle.std.proofs.lemmas.Option.{slice_get_cases, slice_get_past, get_or_from_slice_get}
-use Rattle.rt_values.specs.declared.maps.Entry.{Entry}
+use Rattle.rt_values.specs.declared.maps.StampedValue.{StampedValue}
 use Rattle.rt_values.specs.Maps.{Map, no_entry, entry_at, differs, differ, differ_from, contains}
-use Rattle.rt_values.specs.Trail.{Trail}
+use Rattle.rt_groups.specs.GroupForest.{GroupForest}
 use Rattle.lang_ast.specs.Terms.{Func}
 use Rattle.snap_api.specs.Valid.{MovedOn}
 use Rattle.snap_api.specs.World.{with_members}
-use Rattle.recompose_walk.proofs.Refreshes.{split_at}
-use Rattle.play_core.specs.Owing.{IsKept, Follows, Owes}
+use Rattle.recompose_laws.proofs.Refreshes.{split_at}
+use Rattle.play_core.specs.OwedObjects.{IsKept, MapFollows, Owes}
 use Rattle.play_core.proofs.Members.{any-with_members}
 
 other : (x y : ℕ) → x < y → (x == y) ≡ false
@@ -22,8 +22,8 @@ without true k y rest h later =
     ap (λ b. b || contains y rest) apart ∙ later
 without false k y rest h later = later
 
--- no object is listed before the first number
-not-before : (m : Map) (k y : ℕ) (now : List Entry) → y < k → contains y (differ_from m k now) ≡ false
+-- No object before the first number is in the list.
+not-before : (m : Map) (k y : ℕ) (now : List StampedValue) → y < k → contains y (differ_from m k now) ≡ false
 not-before m k y [] h = refl
 not-before m k y (e ∷ now) h = without (differs (slice_get m k) e) k y (differ_from m (k + 1) now) h (not-before m (k + 1) y now (omega (arith, h)))
 
@@ -35,8 +35,8 @@ rest-in : (b : Bool) (k j : ℕ) (rest : List ℕ) → k < j → contains j (con
 rest-in true k j rest h = ap (λ b. b || contains j rest) (other k j h)
 rest-in false k j rest h = refl
 
--- an object is listed where its stamp differs
-listed-from : (m : Map) (k x : ℕ) (now : List Entry) → x < length now → contains (k + x) (differ_from m k now) ≡ differs (slice_get m (k + x)) (entry_at now x)
+-- An object is in the list if its stamp differs.
+listed-from : (m : Map) (k x : ℕ) (now : List StampedValue) → x < length now → contains (k + x) (differ_from m k now) ≡ differs (slice_get m (k + x)) (entry_at now x)
 listed-from m k x [] h = absurd (omega (arith, h))
 listed-from m k zero (e ∷ now) h =
     let z : k + 0 ≡ k = omega arith in
@@ -50,7 +50,7 @@ listed-from m k (suc x) (e ∷ now) h =
     ∙ listed-from m (k + 1) x now (omega (arith, h))
     ∙ ap (λ j. differs (slice_get m j) (entry_at now x)) (sym z)
 
-past-from : (m : Map) (k x : ℕ) (now : List Entry) → length now ≤ x → contains (k + x) (differ_from m k now) ≡ false
+past-from : (m : Map) (k x : ℕ) (now : List StampedValue) → length now ≤ x → contains (k + x) (differ_from m k now) ≡ false
 past-from m k x [] h = refl
 past-from m k zero (e ∷ now) h = absurd (omega (arith, h))
 past-from m k (suc x) (e ∷ now) h =
@@ -73,7 +73,7 @@ here-at m x h = elim (slice_get_cases m x).1 [
   | inr c ↦ let past = c.0 in absurd (omega (arith, h, past))
 ]
 
--- stamps that rise differ over two steps where they differ over one
+-- Rising stamps differ over two steps if they differ over one.
 stamps-differ : (a b c : ℕ) → a ≤ b → b ≤ c → not (a == b) || not (b == c) ≡ not (a == c)
 stamps-differ a b c h i = elim (eqb_tells a c) [
   | inl e ↦
@@ -87,7 +87,7 @@ stamps-differ a b c h i = elim (eqb_tells a c) [
   ]
 ]
 
--- what differs between two maps and then between the second and a third differs between the first and the third, where stamps rise
+-- Two maps differ from a third where one of them differs from the next, if stamps rise.
 moved-members : (m n p : Map) (x : ℕ) → MovedOn m n → MovedOn n p → contains x (differ (Some m) n) || contains x (differ (Some n) p) ≡ contains x (differ (Some m) p)
 moved-members m n p x h i =
     let longer = h.longer in
@@ -130,7 +130,7 @@ moved-trans m n p h i =
       stamps = λ x old. let a = h.stamps x old in let b = i.stamps x (omega (arith, longer, old)) in omega (arith, a, b);
     }
 
-follows-trans : (m n p : Map) → Follows m n → Follows n p → Follows m p
+follows-trans : (m n p : Map) → MapFollows m n → MapFollows n p → MapFollows m p
 follows-trans m n p h i =
     let longer = h.moved.longer in
     record {
@@ -141,8 +141,8 @@ follows-trans m n p h i =
           h.stamps x old (omega (arith, a, b, same)) ∙ i.stamps x (omega (arith, longer, old)) (omega (arith, a, b, same));
     }
 
--- what changed since the last take is owed too
-pub owes-more : (functions : List Func) (seen : Option Map) (trail : Trail) (last : Option Map) (now : Map) (owed changed : List ℕ) → Owes functions seen trail last owed → Follows (unwrap_or last []) now → changed ≡ differ last now →
+-- What changed since the last take is owed too.
+pub owes-more : (functions : List Func) (seen : Option Map) (trail : GroupForest) (last : Option Map) (now : Map) (owed changed : List ℕ) → Owes functions seen trail last owed → MapFollows (unwrap_or last []) now → changed ≡ differ last now →
     Owes functions seen trail (Some now) (with_members changed owed)
 owes-more functions None trail last now owed changed h after is = h
 owes-more functions (Some m) trail None now owed changed h after is = absurd h
@@ -152,8 +152,8 @@ owes-more functions (Some m) trail (Some n) now owed changed h after is = (
   h.2,
 )
 
--- a good frame owes nothing
-pub owes-nothing : (functions : List Func) (m : Map) (trail : Trail) → IsKept functions m trail → Owes functions (Some m) trail (Some m) []
+-- After a good frame nothing is owed.
+pub owes-nothing : (functions : List Func) (m : Map) (trail : GroupForest) → IsKept functions m trail → Owes functions (Some m) trail (Some m) []
 owes-nothing functions m trail kept = (record { moved = record { longer = omega arith; stamps = λ x h. omega arith }; stamps = λ x h same. refl }, λ x. sym (nothing x), kept)
   where
     nothing : (x : ℕ) → contains x (differ (Some m) m) ≡ false

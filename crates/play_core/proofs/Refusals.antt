@@ -1,30 +1,32 @@
--- The fault of a refused text, both ways.
-use Rattle.std.proofs.Common.{◌≡◌, ◌≢◌, ◌⊎◌, ◌≤◌, ℕ, List, Bool, true, false, Option, Some, None, refl, ap, ◌∙◌, subst, length, Ok, Err, OnOk, inl, inr}
+-- The fault of rejected bytes, both ways.
+use Rattle.std.proofs.Common.{◌≡◌, ◌≢◌, ◌⊎◌, ◌≤◌, ℕ, List, Bool, true, false, Option, Some, None, refl, ap, ◌∙◌, subst, length, Ok, Err, OnOk, inl, inr, sym}
 use Rattle.std.specs.Option.{option_map}
 use Rattle.std.specs.declared.result.Result.{Result}
 use Rattle.sexp_text.specs.Forest.{Forest, nesting}
 use Rattle.sexp_text.specs.Grammar.{Spells}
 use Rattle.sexp_text.proofs.Complete.{spells_one}
-use Rattle.sexp_text.specs.Places.{Cause}
+use Rattle.sexp_text.specs.TextFaults.{Cause}
 use Rattle.sexp_text.specs.declared.stop.TextStop.{TextStop}
 use Rattle.sexp_text.specs.declared.stop.TextStop.TheVariants as stop
 use Rattle.lang_forms.specs.Sources.{Source}
-use Rattle.lang_limits.specs.Least.{least}
-use Rattle.lang_limits.specs.Tokens.{script_limits}
-use Rattle.lang_forms.specs.Answers.{text_answer}
+use Rattle.lang_limits.specs.LeastOffset.{least}
+use Rattle.lang_limits.specs.Tokens.{oversized_script_offsets}
+use Rattle.lang_forms.specs.TextAnswers.{text_answer}
+use Rattle.lang_forms.proofs.ByForms.{answer_is, answer_one}
 use Rattle.lang_forms.specs.declared.stop.FormStop.{FormStop}
 use Rattle.lang_forms.specs.declared.stop.FormStop.TheVariants as form
 use Rattle.lang_checks.specs.FaultOrder.{least_fault}
 use Rattle.lang_checks.specs.ProgramFaults.{program_faults}
-use Rattle.lang_checks.specs.declared.faults.Kind.{Kind}
-use Rattle.lang_checks.specs.declared.faults.Kind.TheVariants as kind
-use Rattle.lang_checks.specs.declared.faults.Fault as checks
+use Rattle.lang_checks.specs.declared.faults.CheckKind.{CheckKind}
+use Rattle.lang_checks.specs.declared.faults.CheckKind.TheVariants as kind
+use Rattle.lang_checks.specs.declared.faults.ProgramFault as checks
 use Rattle.lang_checks.specs.declared.checks.CheckStop.TheVariants as check
-use Rattle.script_lang.specs.Scripts.{or_else, script_refusal}
+use Rattle.script_lang.specs.Scripts.{script_refusal}
 use Rattle.script_lang.specs.declared.script.ScriptStop.{ScriptStop}
 use Rattle.script_lang.specs.declared.script.ScriptStop.TheVariants as script
-use Rattle.play_core.specs.Ends.{text_end, check_kind, check_end, script_end}
-use Rattle.play_core.specs.Faults.{IsFaultAt, IsFault, IsRefused, reading_refusal, refusal}
+use Rattle.play_core.specs.StageFaults.{text_end, check_kind, check_end, script_end}
+use Rattle.play_core.specs.Faults.{or_else, IsFaultAt, IsFault, IsRefused, reading_refusal}
+use Rattle.play_core.specs.ParserRefusal.{refusal}
 use Rattle.play_core.specs.Texts.{IsNoText}
 use Rattle.play_core.specs.declared.fault.Fault.{Fault}
 use Rattle.play_core.specs.declared.fault.FaultKind.{FaultKind}
@@ -38,18 +40,18 @@ ended (stop.Bad at) never = absurd (never (λ e. absurd cc))
 ended (stop.TooDeep at) never = absurd (never (λ e. absurd cc))
 ended stop.NoMemory never = refl
 
--- the cause of a stop is the fault that it ends with
+-- The cause of a stop is the fault that it reports.
 pub cause-fault : (bytes : List ℕ) (t : TextStop) → Cause bytes t → (fault : Fault) → text_end t ≡ Bad fault → IsFault bytes fault
 cause-fault bytes (stop.NotUtf8 at) cause fault e = let same : record { kind = Utf8; at = at } ≡ fault = cc in subst (IsFault bytes) same cause
 cause-fault bytes (stop.Bad at) cause fault e = let same : record { kind = Text; at = at } ≡ fault = cc in subst (IsFault bytes) same cause
 cause-fault bytes (stop.TooDeep at) cause fault e = let same : record { kind = Deep; at = at } ≡ fault = cc in subst (IsFault bytes) same cause
 cause-fault bytes stop.NoMemory cause fault e = absurd cc
 
--- what is refused for its text is no text
+-- Bytes that the tree parser rejects are not a source text.
 pub stop-none : (bytes : List ℕ) (t : TextStop) → (t ≢ stop.NoMemory → (f : Forest) → Spells bytes f → nesting f ≤ 100 → ⊥) → (fault : Fault) → text_end t ≡ Bad fault → IsNoText bytes
 stop-none bytes t never fault e p text = never (λ (same : t ≡ stop.NoMemory). let memory : NoMemory ≡ Bad fault = subst (λ s. text_end s ≡ Bad fault) same e in absurd cc) text.forest text.spelled text.shallow
 
--- whether a kind is one of faults of the text
+-- Whether the tree parser reports faults of a kind.
 abbrev is_texts : FaultKind → Bool
 is_texts Utf8 = true
 is_texts Text = true
@@ -62,11 +64,11 @@ is_texts Order = false
 is_texts «Type» = false
 is_texts Remember = false
 
--- a fault that is none of the text's, where there is one
+-- A fault of a later stage, if there is one.
 abbrev IsLater : Option TextEnd → Type 0
 IsLater o = (fault : Fault) → o ≡ Some (Bad fault) → is_texts fault.kind ≡ false
 
-later-kind : (k : Kind) → is_texts (check_kind k) ≡ false
+later-kind : (k : CheckKind) → is_texts (check_kind k) ≡ false
 later-kind kind.Double = refl
 later-kind kind.Unknown = refl
 later-kind kind.Order = refl
@@ -82,7 +84,7 @@ later-script (Some (script.Limit at)) fault e = later-bad (record { kind = Limit
 later-script (Some (script.Unknown at)) fault e = later-bad (record { kind = Unknown; at = at }) fault refl e
 later-script (Some script.NoMemory) fault e = absurd cc
 
-later-check : (o : Option checks.Fault) (p : Option ScriptStop) → IsLater (or_else (option_map (λ f. check_end (check.Fault f)) o) (option_map script_end p))
+later-check : (o : Option checks.ProgramFault) (p : Option ScriptStop) → IsLater (or_else (option_map (λ f. check_end (check.ProgramFault f)) o) (option_map script_end p))
 later-check None p fault e = later-script p fault e
 later-check (Some f) p fault e = later-bad (record { kind = check_kind f.kind; at = f.at }) fault (later-kind f.kind) e
 
@@ -104,10 +106,14 @@ later-at bytes Order at e h = h
 later-at bytes «Type» at e h = h
 later-at bytes Remember at e h = h
 
--- a forest that is refused is refused with a fault
+-- The refusal of a refused forest, as the parser computes it.
+pub refused_is : (bytes : List ℕ) (fault : Fault) (h : IsRefused bytes fault) → refusal (length bytes) h.forest ≡ Some (Bad fault)
+refused_is bytes fault h = ap (reading_refusal (least (oversized_script_offsets h.forest))) (sym (answer_one (length bytes) h.forest h.answer h.by_forms)) ∙ h.refused
+
+-- A rejected forest is rejected with a fault of the bytes.
 pub refused-fault : (bytes : List ℕ) (f : Forest) (fault : Fault) → Spells bytes f → nesting f ≤ 100 → refusal (length bytes) f ≡ Some (Bad fault) → IsFault bytes fault
 refused-fault bytes f fault spelled shallow e =
-    later-at bytes fault.kind fault.at (later-reading (least (script_limits f)) (text_answer (length bytes) f) fault e) (record { forest = f; spelled = spelled; shallow = shallow; refused = e })
+    later-at bytes fault.kind fault.at (later-reading (least (oversized_script_offsets f)) (text_answer (length bytes) f) fault e) (record { forest = f; spelled = spelled; shallow = shallow; answer = text_answer (length bytes) f; by_forms = answer_is (length bytes) f; refused = e })
 
 module _ {T : Type 0} (bytes : List ℕ) (r : Result T TextStop) (told : (s : TextStop) → s ≢ stop.NoMemory → Cause bytes s → (r ≡ Err s) ⊎ (r ≡ Err stop.NoMemory)) where
   told-as : (t s : TextStop) → r ≡ Err t → s ≢ stop.NoMemory → Cause bytes s → (text_end t ≡ text_end s) ⊎ (text_end t ≡ NoMemory)
@@ -132,7 +138,7 @@ module _ {T : Type 0} (bytes : List ℕ) (r : Result T TextStop) (told : (s : Te
   stopped-at t is never «Type» at h = unread t _ never h
   stopped-at t is never Remember at h = unread t _ never h
 
-  -- where the reader stopped, any fault is the one that it ends with, but for memory
+  -- If the tree parser stopped, any fault is the one that it reports, unless it is out of memory.
   pub stopped : (t : TextStop) → r ≡ Err t → (t ≢ stop.NoMemory → (f : Forest) → Spells bytes f → nesting f ≤ 100 → ⊥) → (fault : Fault) → IsFault bytes fault →
       (text_end t ≡ Bad fault) ⊎ (text_end t ≡ NoMemory)
   stopped t is never fault h = stopped-at t is never fault.kind fault.at h
@@ -149,13 +155,13 @@ module _ {T : Type 0} (bytes : List ℕ) (r : Result T TextStop) (told : (s : Te
   read-at x is «Type» at h = h
   read-at x is Remember at h = h
 
-  -- where trees were read, any fault is that with which their forest is refused
+  -- If the bytes were parsed into trees, any fault is that of their forest.
   pub read-fault : (x : T) → r ≡ Ok x → (f : Forest) → Spells bytes f → (fault : Fault) → IsFault bytes fault → refusal (length bytes) f ≡ Some (Bad fault)
   read-fault x is f spelled fault h =
       let refused = read-at x is fault.kind fault.at h in
-      ap (refusal (length bytes)) (spells_one bytes f refused.forest spelled refused.spelled) ∙ refused.refused
+      ap (refusal (length bytes)) (spells_one bytes f refused.forest spelled refused.spelled) ∙ refused_is bytes fault refused
 
--- a refusal that answers is the one that there is, but for memory
+-- The reported fault is the fault of the forest, unless the process is out of memory.
 pub answered : {T : Type 0} (r : Result T TextEnd) (o : Option TextEnd) (fault : Fault) → OnOk r (o ≡ None) → ((g : Fault) → r ≡ Err (Bad g) → o ≡ Some (Bad g)) → o ≡ Some (Bad fault) →
     (r ≡ Err (Bad fault)) ⊎ (r ≡ Err NoMemory)
 answered (Ok x) o fault fine bad e = absurd cc

@@ -5,15 +5,15 @@ use Rattle.std.specs.Io.KnownBytes.{Appends}
 use Rattle.std.proofs.KnownBytes.{Appends-trans}
 use Rattle.rt_streams.specs.Streams.{AppendsPart}
 use Rattle.rt_streams.proofs.Parts.{part-behind, part-front}
-use Rattle.rt_values.specs.declared.groups.Group.{Group}
-use Rattle.script_lang.specs.Listing.{listed, group_line, opened}
-use Rattle.play_core.specs.Standing.{Says}
+use Rattle.rt_groups.specs.declared.groups.Group.{Group}
+use Rattle.script_lang.specs.GroupLines.{group_lines, group_line, open_after}
+use Rattle.play_core.specs.RunState.{WritesBytes}
 
--- some bytes were written, then a part of the next piece
+-- Some bytes were written, then a part of the next piece.
 pub part_next : (a b c : Option (List ℕ)) (said piece more all : List ℕ) → said ++ (piece ++ more) ≡ all → Appends a b said → AppendsPart b c piece → AppendsPart a c all
 part_next a b c said piece more all e done part = subst (AppendsPart a c) e (part-behind a b c said (piece ++ more) done (part-front b c piece more part))
 
--- some bytes were written, then the next piece
+-- Some bytes were written, then the next piece.
 pub record Next (a c : Option (List ℕ)) (said piece more all : List ℕ) : Type 0 where
   pub split : (said ++ piece) ++ more ≡ all
   pub wrote : Appends a c (said ++ piece)
@@ -21,32 +21,32 @@ pub record Next (a c : Option (List ℕ)) (said piece more all : List ℕ) : Typ
 pub all_next : (a b c : Option (List ℕ)) (said piece more all : List ℕ) → said ++ (piece ++ more) ≡ all → Appends a b said → Appends b c piece → Next a c said piece more all
 all_next a b c said piece more all e done whole = record { split = append_assoc said piece more ∙ e; wrote = Appends-trans a b c said piece done whole }
 
--- a piece was written, then what is said of the rest
-pub says_behind : {T E : Type 0} (r : Result T E) (a b c : Option (List ℕ)) (xs ys : List ℕ) → Appends a b xs → Says b c ys r → Says a c (xs ++ ys) r
+-- One piece was written, then the rest as `Says` states it.
+pub says_behind : {T E : Type 0} (r : Result T E) (a b c : Option (List ℕ)) (xs ys : List ℕ) → Appends a b xs → WritesBytes b c ys r → WritesBytes a c (xs ++ ys) r
 says_behind (Ok x) a b c xs ys done says = record { all = Appends-trans a b c xs ys done says.all; part = tt }
 says_behind (Err e) a b c xs ys done says = record { all = tt; part = part-behind a b c xs ys done says.part }
 
--- a part of the front is a part of all
-pub says_front : {T U E F : Type 0} (e : E) (f : F) (a b : Option (List ℕ)) (xs ys : List ℕ) → Says {T = T} {E = E} a b xs (Err e) → Says {T = U} {E = F} a b (xs ++ ys) (Err f)
+-- A part of the first bytes is a part of all bytes.
+pub says_front : {T U E F : Type 0} (e : E) (f : F) (a b : Option (List ℕ)) (xs ys : List ℕ) → WritesBytes {T = T} {E = E} a b xs (Err e) → WritesBytes {T = U} {E = F} a b (xs ++ ys) (Err f)
 says_front e f a b xs ys says = record { all = tt; part = part-front a b xs ys says.part }
 
--- what holds anyway holds after Ok
+-- A fact that is always true is true after Ok.
 pub anyway : {T E P : Type 0} (r : Result T E) → P → OnOk r P
 anyway (Ok x) p = p
 anyway (Err e) p = tt
 
--- the same bytes
+-- Equal bytes.
 pub appends_same : (a b : Option (List ℕ)) (xs ys : List ℕ) → xs ≡ ys → Appends a b xs → Appends a b ys
 appends_same a b xs ys e h = subst (Appends a b) e h
 
-pub says_same : {T E : Type 0} (r : Result T E) (a b : Option (List ℕ)) (xs ys : List ℕ) → xs ≡ ys → Says a b xs r → Says a b ys r
-says_same r a b xs ys e h = subst (λ l. Says a b l r) e h
+pub says_same : {T E : Type 0} (r : Result T E) (a b : Option (List ℕ)) (xs ys : List ℕ) → xs ≡ ys → WritesBytes a b xs r → WritesBytes a b ys r
+says_same r a b xs ys e h = subst (λ l. WritesBytes a b l r) e h
 
--- what follows from three facts after Ok
+-- A consequence of three facts after Ok.
 pub three_ok : {T E P Q R S : Type 0} (r : Result T E) → (P → Q → R → S) → OnOk r P → OnOk r Q → OnOk r R → OnOk r S
 three_ok (Ok x) f p q s = f p q s
 three_ok (Err e) f p q s = tt
 
--- the line of the first group, then those of the others
-pub listed-next : (before : List Bool) (g : Group) (more all : List Group) → all ≡ g ∷ more → listed before all ≡ group_line before g ++ listed (opened before g) more
-listed-next before g more all e = ap (listed before) e
+-- The line of the first group, then those of the others.
+pub group_lines-next : (before : List Bool) (g : Group) (more all : List Group) → all ≡ g ∷ more → group_lines before all ≡ group_line before g ++ group_lines (open_after before g) more
+group_lines-next before g more all e = ap (group_lines before) e

@@ -1,38 +1,35 @@
-// Trees in their canonical text.
+// Canonical text of trees.
 ghost use Rattle.std.specs.Prelude.{◌≡◌, ◌≤◌, List, ℕ, Err};
-ghost use Rattle.rt_streams.specs.Streams.{Rose};
 ghost use Rattle.sexp_text.specs.Layout.{lines};
 ghost use Rattle.sexp_text.specs.View.{forest_view};
-ghost use Rattle.play_core.specs.Standing.{Says};
+ghost use Rattle.play_core.specs.RunState.{WritesBytes, FaultsAfter};
 
-use crate::say::{Stop, say};
+use crate::write_lines::{Stop, write_piece};
 use rt_streams::Sink;
 use sexp_text::{Tree, print};
 use std::alloc::Global;
 
-// The lines of some trees, as one piece.
-fn say_trees<K: Sink>(alloc: Global, trees: &[Tree], sink: &mut K) -> Result<(), Stop>
-    ensures says { Says (K.written sink.old) (K.written sink.new) (lines (forest_view trees.now)) result }
-    ensures fault { result ≡ Err Stop.WriteFault → Rose (K.faults sink.old) (K.faults sink.new) }
-    ensures later { K.faults sink.old ≤ K.faults sink.new }
+// Writes the lines of some trees, as one piece.
+fn write_tree_lines<K: Sink>(alloc: Global, trees: &[Tree], sink: &mut K) -> Result<(), Stop>
+    ensures says { WritesBytes (K.written sink.old) (K.written sink.new) (lines (forest_view trees.now)) result }
+    ensures faults { FaultsAfter (K.faults sink.old) (K.faults sink.new) result }
 {
     let Ok(text) = print(alloc, trees) else {
         return Err(Stop::NoMemory);
     };
-    say(sink, &text)
+    write_piece(sink, &text)
 }
 
-/// Writes each tree on a line of its own, the line with its LF as one piece. The text of one line at a time is in
-/// memory. This project's own rule.
-pub fn say_canonical<K: Sink>(alloc: Global, trees: &[Tree], sink: &mut K) -> Result<(), Stop>
-    ensures says { Says (K.written sink.old) (K.written sink.new) (lines (forest_view trees.now)) result }
-    ensures fault { result ≡ Err Stop.WriteFault → Rose (K.faults sink.old) (K.faults sink.new) }
-    ensures later { K.faults sink.old ≤ K.faults sink.new }
+/// Writes each tree on its own line, each line with its LF as one piece. Only one line at a time is in memory.
+/// A rule of this project. Returns `Stop` if the sink fails or the process is out of memory.
+pub fn write_canonical<K: Sink>(alloc: Global, trees: &[Tree], sink: &mut K) -> Result<(), Stop>
+    ensures says { WritesBytes (K.written sink.old) (K.written sink.new) (lines (forest_view trees.now)) result }
+    ensures faults { FaultsAfter (K.faults sink.old) (K.faults sink.new) result }
 {
     let mut rest = trees;
     while !rest.is_empty() {
         let (first, more) = rest.split_at(1);
-        match say_trees(alloc, first, sink) {
+        match write_tree_lines(alloc, first, sink) {
             Ok(()) => rest = more,
             Err(stop) => return Err(stop),
         }

@@ -1,38 +1,38 @@
-// Why an input is refused, and the line that says so.
+// Faults of an input, and the line of each.
 ghost use Rattle.std.specs.Prelude.{◌≡◌, ◌++◌, OnOk};
 ghost use Rattle.play_core.specs.Faults.{kind_word, fault_line};
 
 use itoa::Buffer;
 use rt_values::NoMemory;
 
-/// What is wrong with an input.
+/// The kind of a fault.
 #[derive(Clone, Copy, Debug, PartialEq, Eq)]
 pub enum FaultKind {
-    /// It is not UTF-8.
+    /// The input is not UTF-8.
     Utf8,
-    /// It is no text of atoms, strings and lists.
+    /// The bytes are not a sequence of atoms, strings and lists.
     Text,
-    /// A list stands within 100 others.
+    /// A list is nested more than 100 deep.
     Deep,
-    /// A top form is none of the language, or stands out of order.
+    /// A top form is not a form of the language, or is out of order.
     Form,
     /// Something is too long, too many or too deep.
     Limit,
-    /// A name stands twice.
+    /// A name is defined twice.
     Double,
-    /// A name stands for nothing.
+    /// A name is not defined.
     Unknown,
-    /// A call is not of an earlier function, or a chain of calls is too long.
+    /// A call names a later function, or a chain of calls is too long.
     Order,
-    /// A value has another type than it must have.
+    /// A value has the wrong type.
     Type,
-    /// What is remembered is not calculated from its keys alone.
+    /// A remembered value depends on something other than its keys.
     Remember,
 }
 
-/// Why an input is refused, and where, in bytes from 0.
+/// Why an input is rejected, with the offset in bytes.
 ///
-/// This project's own rule. It is the fault of the first stage or pass that finds one, the least place of its faults.
+/// A rule of this project. The first stage or pass that finds a fault reports the fault with the least offset.
 #[derive(Clone, Copy, Debug, PartialEq, Eq)]
 pub struct Fault {
     pub kind: FaultKind,
@@ -40,7 +40,7 @@ pub struct Fault {
 }
 
 impl FaultKind {
-    // The word for it.
+    // Returns the word for the kind.
     fn word(self) -> &'static [u8]
         ensures { result.now ≡ kind_word self }
     {
@@ -60,7 +60,7 @@ impl FaultKind {
 }
 
 impl Fault {
-    /// Adds the one line that is written for it to the end of a text.
+    /// Appends the one line that reports the fault.
     pub fn put(self, text: &mut Vec<u8>) -> Result<(), NoMemory>
         ensures { OnOk result (text.new.items ≡ text.old.items ++ fault_line self) }
     {

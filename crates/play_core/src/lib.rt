@@ -1,25 +1,26 @@
-//! The program `compose_play` as a library: `play` reads a program with its script from a source. `run` makes the
-//! script's steps on a world of snapshots, composes each frame in its snapshot, and writes each line; `check` writes
-//! the canonical text of what was read.
+//! The program `compose_play` as a library. `play` reads a program with its script from a source. The command
+//! `run` makes the script's steps on a world of snapshots, composes each frame in its snapshot, and writes each
+//! line. The command `check` writes the canonical text of the input.
 //!
-//! It joins what `Recomposer` and its caller do in Compose: it takes a frame's snapshot, has the program composed
-//! in it, disposes it and keeps what is owed. `compose_play` hands in the world and the real streams.
-//! Promises: what `run` wrote is what plain copied maps and composing from scratch give, line by line; what `check`
-//! wrote is the trees of the forms of the program and the script, each on a line; each status has its cause in
-//! `play`'s own clauses; after a fault or want of memory a first part was written.
+//! In Compose this is the work of `Recomposer` and its caller: take a frame's snapshot, compose the program in
+//! it, dispose it, and keep what the next frame owes. `compose_play` passes the world and the real streams.
+//! Promises: `run` writes exactly the lines that plain copied maps and composing from scratch give; `check`
+//! writes the trees of the forms of the program and the script, one a line; each status has its cause; after a
+//! fault, or out of memory, what was written is a first part of this.
 #![tactic(auto)]
 
+mod calls;
 mod canonical;
-mod entries;
 mod fault;
+mod fault_laws;
 mod frame;
 mod open;
-mod say;
 mod steps;
 mod text;
 mod top;
+mod write_lines;
 
+pub use fault_laws::{
+    bytes_are_a_text_or_have_a_fault, bytes_have_one_fault, faulty_bytes_are_no_text,
+};
 pub use top::{Status, play, play_alone};
-
-#[cfg(test)]
-mod tests;

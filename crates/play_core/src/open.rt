@@ -3,11 +3,11 @@ ghost use Rattle.std.specs.Prelude.{◌≡◌, ◌<◌, ◌≤◌, [], IfOk, OnO
 ghost use Rattle.snap_policy.specs.declared.policy.BuiltIn.{BuiltIn as built_in};
 ghost use Rattle.snap_policy.specs.declared.policy.BuiltIn.TheVariants as policy;
 ghost use Rattle.rt_values.specs.Values.{type_of};
-ghost use Rattle.snap_api.specs.World.{World, start, made};
-ghost use Rattle.script_lang.specs.Steps.{opening, with_states};
-ghost use Rattle.play_core.specs.Turns.{at_first};
-ghost use Rattle.lang_ast.specs.SyntaxView.{functions_view};
-ghost use Rattle.play_core.specs.Standing.{Stands};
+ghost use Rattle.snap_api.specs.World.{World, start, world_after_make};
+ghost use Rattle.script_lang.specs.StepCalls.{opening_world, with_states};
+ghost use Rattle.play_core.specs.StepOutput.{state_before_steps};
+ghost use Rattle.script_lang.specs.Lines.{functions_of};
+ghost use Rattle.play_core.specs.RunState.{IsBetweenSteps};
 
 use crate::frame::Kept;
 use lang_ast::State;
@@ -17,14 +17,15 @@ use snap_api::Versions;
 use snap_policy::BuiltIn;
 use std::alloc::Global;
 
-// Makes a state, with its initial value.
+// Makes a state with its initial value.
 fn make_state<V: Versions<P = BuiltIn>>(
     alloc: Global,
     state: &State,
     world: &mut V,
 ) -> Result<(), NoMemory>
     requires { V.object_count world.old < 65536 }
-    ensures { (w : World built_in) → V.stands world.old w → OnOk result (V.stands world.new (made w (type_of state.now.initial) policy.Structural state.now.initial)) }
+    ensures { (w : World built_in) → V.stands world.old w →
+        OnOk result (V.stands world.new (world_after_make w (type_of state.now.initial) policy.Structural state.now.initial)) }
 {
     let initial = state.initial.copy(alloc)?;
     match world.make(alloc, state.initial.ty(), BuiltIn::Structural, initial) {
@@ -56,7 +57,7 @@ fn make_states<V: Versions<P = BuiltIn>>(
     Ok(())
 }
 
-// The states and the watcher.
+// Makes the states and the watcher.
 fn open_world<V: Versions<P = BuiltIn>>(
     alloc: Global,
     states: &[State],
@@ -64,7 +65,7 @@ fn open_world<V: Versions<P = BuiltIn>>(
 ) -> Result<(), NoMemory>
     requires start { V.stands world.old (start 0) }
     requires few { length states.now ≤ 256 }
-    ensures { OnOk result (V.stands world.new (opening states.now)) }
+    ensures { OnOk result (V.stands world.new (opening_world states.now)) }
 {
     make_states(alloc, states, world)?;
     match world.watch(alloc) {
@@ -73,16 +74,17 @@ fn open_world<V: Versions<P = BuiltIn>>(
     }
 }
 
-/// Makes a program's states and the watcher of its frames in a new world, and a composition before its first
+/// Makes a program's states and the watcher of its frames in a new world. Returns what is kept before the first
 /// frame.
-pub fn begin<V: Versions<P = BuiltIn>>(
+pub fn set_up_world<V: Versions<P = BuiltIn>>(
     alloc: Global,
     program: &Checked,
     world: &mut V,
 ) -> Result<Kept, NoMemory>
     requires start { V.stands world.old (start 0) }
     requires few { length program.now.states.items ≤ 256 }
-    ensures { IfOk result (λ kept. Stands (functions_view program.now.functions.items) V.stands world.new kept (at_first program.now.states.items)) }
+    ensures { let b = state_before_steps program.now.states.items in
+        IfOk result (λ kept. IsBetweenSteps (functions_of program.now) V.stands world.new kept b) }
 {
     open_world(alloc, program.states(), world)?;
     Ok(Kept::new(alloc))

@@ -1,30 +1,41 @@
-// From the bytes of a text to a program without a fault and its script.
+// Parsing of a source text into a checked program and its script.
 ghost use Rattle.std.specs.Prelude.{◌≡◌, ◌⊎◌, ◌≤◌, [], ℕ, List, Some, None, Err, IfOk, OnOk, length};
 ghost use Rattle.sexp_text.specs.Forest.{nesting};
 ghost use Rattle.sexp_text.specs.Grammar.{Spells};
 ghost use Rattle.sexp_text.specs.View.{forest_view};
 ghost use Rattle.play_core.specs.declared.fault.Fault.{Fault as fault_data};
+ghost use Rattle.lang_ast.specs.Programs.{program_view};
+ghost use Rattle.lang_limits.specs.LeastOffset.{least};
+ghost use Rattle.lang_limits.specs.Sizes.{program_limits};
+ghost use Rattle.lang_limits.specs.Tokens.{oversized_script_offsets};
+ghost use Rattle.lang_limits.specs.Clamped.{within};
+ghost use Rattle.lang_forms.specs.TextAnswers.{text_answer};
+ghost use Rattle.lang_forms.specs.Forms.{HasForms};
+ghost use Rattle.lang_forms.specs.Sources.{parsed_source_view};
+ghost use Rattle.lang_forms.specs.FirstWrong.{Answers};
 ghost use Rattle.play_core.specs.Texts.{IsInput, IsNoText};
-ghost use Rattle.play_core.specs.Faults.{IsFault, refusal};
+ghost use Rattle.play_core.specs.Faults.{IsFault};
+ghost use Rattle.play_core.specs.ParserRefusal.{refusal};
 
 use crate::fault::{Fault, FaultKind};
-use lang_checks::{CheckStop, Checked, Kind, check};
-use lang_forms::FormStop;
+use lang_ast::Program;
+use lang_checks::{CheckKind, CheckStop, Checked, check};
+use lang_forms::{FormStop, Rest};
 use script_lang::{Script, ScriptStop, script_of};
 use sexp_text::{TextStop, Tree, read};
 use std::alloc::Global;
 
-/// Why a text was not taken.
+/// Why an input is rejected.
 #[derive(Clone, Copy, Debug, PartialEq, Eq)]
 pub enum TextEnd {
-    /// It is no text of a program with a script.
+    /// The input is not a source text.
     Bad(Fault),
     NoMemory,
 }
 
 impl From<TextStop> for TextEnd {
     ghost use Rattle.std.specs.Prelude.{◌≡◌};
-    ghost use Rattle.play_core.specs.Ends.{text_end};
+    ghost use Rattle.play_core.specs.StageFaults.{text_end};
 
     ghost from_gives = { λ stop end. end ≡ text_end stop };
 
@@ -41,7 +52,7 @@ impl From<TextStop> for TextEnd {
 
 impl From<FormStop> for TextEnd {
     ghost use Rattle.std.specs.Prelude.{◌≡◌};
-    ghost use Rattle.play_core.specs.Ends.{form_end};
+    ghost use Rattle.play_core.specs.StageFaults.{form_end};
 
     ghost from_gives = { λ stop end. end ≡ form_end stop };
 
@@ -55,32 +66,32 @@ impl From<FormStop> for TextEnd {
     }
 }
 
-impl From<Kind> for FaultKind {
+impl From<CheckKind> for FaultKind {
     ghost use Rattle.std.specs.Prelude.{◌≡◌};
-    ghost use Rattle.play_core.specs.Ends.{check_kind};
+    ghost use Rattle.play_core.specs.StageFaults.{check_kind};
 
     ghost from_gives = { λ kind same. same ≡ check_kind kind };
 
-    fn from(kind: Kind) -> Self {
+    fn from(kind: CheckKind) -> Self {
         match kind {
-            Kind::Double => FaultKind::Double,
-            Kind::Unknown => FaultKind::Unknown,
-            Kind::Order => FaultKind::Order,
-            Kind::Type => FaultKind::Type,
-            Kind::Remember => FaultKind::Remember,
+            CheckKind::Double => FaultKind::Double,
+            CheckKind::Unknown => FaultKind::Unknown,
+            CheckKind::Order => FaultKind::Order,
+            CheckKind::Type => FaultKind::Type,
+            CheckKind::Remember => FaultKind::Remember,
         }
     }
 }
 
 impl From<CheckStop> for TextEnd {
     ghost use Rattle.std.specs.Prelude.{◌≡◌};
-    ghost use Rattle.play_core.specs.Ends.{check_end};
+    ghost use Rattle.play_core.specs.StageFaults.{check_end};
 
     ghost from_gives = { λ stop end. end ≡ check_end stop };
 
     fn from(stop: CheckStop) -> Self {
         match stop {
-            CheckStop::Fault(fault) => TextEnd::Bad(Fault {
+            CheckStop::ProgramFault(fault) => TextEnd::Bad(Fault {
                 kind: FaultKind::from(fault.kind),
                 at: fault.at,
             }),
@@ -91,7 +102,7 @@ impl From<CheckStop> for TextEnd {
 
 impl From<ScriptStop> for TextEnd {
     ghost use Rattle.std.specs.Prelude.{◌≡◌};
-    ghost use Rattle.play_core.specs.Ends.{script_end};
+    ghost use Rattle.play_core.specs.StageFaults.{script_end};
 
     ghost from_gives = { λ stop end. end ≡ script_end stop };
 
@@ -105,32 +116,49 @@ impl From<ScriptStop> for TextEnd {
     }
 }
 
-/// What was read of an input: its trees, and the program and the script that they are the forms of.
+/// A checked program with its script.
 #[derive(Drop)]
-pub struct Input {
-    pub trees: Vec<Tree>,
+pub struct Job {
     pub program: Checked,
     pub script: Script,
 }
 
-// The trees with the program and the script that they are the forms of, in an input of this length.
-fn program_in(alloc: Global, trees: Vec<Tree>, end: usize) -> Result<Input, TextEnd>
-    ensures ok { (bytes : List ℕ) → Spells bytes (forest_view trees.items) → nesting (forest_view trees.items) ≤ 100 → IfOk result (λ input. IsInput bytes input) }
-    ensures fine { OnOk result (refusal end (forest_view trees.items) ≡ None) }
-    ensures bad { (fault : fault_data) → result ≡ Err (TextEnd.Bad fault) → refusal end (forest_view trees.items) ≡ Some (TextEnd.Bad fault) }
+/// A parsed input: its trees, and the program and the script whose forms they are.
+#[derive(Drop)]
+pub struct Input {
+    pub trees: Vec<Tree>,
+    pub job: Job,
+}
+
+// Parses trees, with the answer of the parser in its clauses.
+fn parse_trees(alloc: Global, trees: &[Tree], end: usize) -> Result<(Program, Rest), FormStop>
+    ensures read { Answers parsed_source_view result (text_answer end (forest_view trees.now)) }
+    ensures forms { IfOk result (λ r. HasForms (within (forest_view trees.now)) (parsed_source_view r)) }
+    ensures small { IfOk result (λ r. program_limits (forest_view trees.now) (program_view r.0) ≡ []) }
+    ensures beyond { IfOk result (λ r. r.1.beyond ≡ least (oversized_script_offsets (forest_view trees.now))) }
 {
-    let (program, rest) = lang_forms::program(alloc, &trees, end)?;
+    lang_forms::program(alloc, trees, end)
+}
+
+// Parses the program and the script from the trees of an input of `end` bytes.
+fn parse_forms(alloc: Global, trees: Vec<Tree>, end: usize) -> Result<Input, TextEnd>
+    ensures ok { (bytes : List ℕ) → Spells bytes (forest_view trees.items) → nesting (forest_view trees.items) ≤ 100 →
+        IfOk result (λ input. IsInput bytes input) }
+    ensures fine { OnOk result (refusal end (forest_view trees.items) ≡ None) }
+    ensures bad { (fault : fault_data) → result ≡ Err (TextEnd.Bad fault) →
+        refusal end (forest_view trees.items) ≡ Some (TextEnd.Bad fault) }
+{
+    let (program, rest) = parse_trees(alloc, &trees, end)?;
     let program = check(alloc, program)?;
     let script = script_of(alloc, &rest, &program)?;
     Ok(Input {
         trees,
-        program,
-        script,
+        job: Job { program, script },
     })
 }
 
-/// The trees that the bytes spell, with the program and the script that the bytes are a text of.
-pub fn read_text(alloc: Global, bytes: &[u8]) -> Result<Input, TextEnd>
+/// Parses a source text: its trees, its program and its script.
+pub fn parse_input(alloc: Global, bytes: &[u8]) -> Result<Input, TextEnd>
     ensures ok { IfOk result (λ input. IsInput bytes.now input) }
     ensures bad { (fault : fault_data) → result ≡ Err (TextEnd.Bad fault) → IsNoText bytes.now × IsFault bytes.now fault }
     ensures told { (fault : fault_data) → IsFault bytes.now fault → (result ≡ Err (TextEnd.Bad fault)) ⊎ (result ≡ Err TextEnd.NoMemory) }
@@ -139,5 +167,5 @@ pub fn read_text(alloc: Global, bytes: &[u8]) -> Result<Input, TextEnd>
         Ok(trees) => trees,
         Err(stop) => return Err(TextEnd::from(stop)),
     };
-    program_in(alloc, trees, bytes.len())
+    parse_forms(alloc, trees, bytes.len())
 }

@@ -1,4 +1,4 @@
 pub mod Scripts
-pub mod Steps
+pub mod StepCalls
 pub mod Lines
-pub mod Listing
+pub mod GroupLines

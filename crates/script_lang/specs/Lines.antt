@@ -1,4 +1,5 @@
--- The lines that are printed of a history: one for each call, and behind the dispose of a frame's snapshot what the frame tells.
+-- Trusted: The lines that are printed of a history: one for each call, and the report and the tree after the dispose
+-- of a frame's snapshot.
 use Rattle.std.specs.Prelude.{ℕ, zero, suc, ◌+◌, ◌-◌, ◌^◌, ◌==◌, not, List, [], ◌∷◌, ◌++◌, Bool, true, false, codes, Option, Some, None, if◌then◌else◌, slice_get}
 use Rattle.std.specs.List.{flat_map, filter}
 use Rattle.std.specs.Option.{option_map_or}
@@ -9,14 +10,16 @@ use Rattle.rt_values.specs.declared.names.Kind.{Kind}
 use Rattle.rt_values.specs.declared.names.Kind.TheVariants.{Mutable, Readonly}
 use Rattle.rt_values.specs.Values.{value_text}
 use Rattle.rt_values.specs.Maps.{contains}
-use Rattle.rt_values.specs.Trail.{Attribute}
-use Rattle.rt_values.specs.Nodes.{Nodes, Branch, nodes}
-use Rattle.rt_values.specs.Nodes as tree
-use Rattle.rt_values.specs.Frames.{Composed, unseen}
-use Rattle.rt_values.specs.declared.report.Report.{Report}
+use Rattle.rt_groups.specs.GroupForest.{Attribute}
+use Rattle.rt_groups.specs.Nodes.{Nodes, Branch, nodes}
+use Rattle.rt_groups.specs.Nodes as tree
+use Rattle.rt_groups.specs.Frames.{LastFrame, no_last_frame}
+use Rattle.rt_groups.specs.declared.report.Report.{Report}
 use Rattle.lang_ast.specs.declared.program.State.{State}
 use Rattle.lang_ast.specs.Terms.{Func}
-use Rattle.lang_ast.specs.Frame.{Good, frame}
+use Rattle.lang_ast.specs.SyntaxView.{functions_view}
+use Rattle.lang_checks.specs.declared.checks.Checked.{Checked}
+use Rattle.compose_model.specs.Frame.{FrameResult, frame}
 use Rattle.snap_policy.specs.declared.policy.BuiltIn.{BuiltIn}
 use Rattle.snap_policy.specs.Table.{table}
 use Rattle.snap_api.specs.declared.data.Request.{Request}
@@ -25,29 +28,42 @@ use Rattle.snap_api.specs.declared.data.Reply.{Reply}
 use Rattle.snap_api.specs.declared.data.Reply.TheVariants as reply
 use Rattle.snap_api.specs.declared.data.Refusal.{Refusal}
 use Rattle.snap_api.specs.declared.data.Refusal.TheVariants as refusal
-use Rattle.snap_api.specs.declared.data.Logged.{Logged}
-use Rattle.snap_api.specs.World.{World, History, call, shot_of}
+use Rattle.snap_api.specs.declared.data.Entry.{Entry}
+use Rattle.snap_api.specs.World.{World, History, call, snapshot_of}
 use Rattle.script_lang.specs.declared.script.Step.{Step}
-use Rattle.script_lang.specs.Steps.{opening, sequential}
+use Rattle.script_lang.specs.declared.script.Script.{Script}
+use Rattle.script_lang.specs.StepCalls.{opening_world, sequential}
 
--- the names that lines have: those of the states by number, and the actor's
+-- The names in lines: those of the states and those of the actors, by number.
 pub record Titles : Type 0 where
   pub states : List State
-  pub actor : List ℕ
+  pub actors : List (List ℕ)
 
--- a line ends with LF
+-- The names that the lines of a script on a program have.
+abbrev pub titles_of : Checked → Script → Titles
+titles_of program script = record { states = program.states.items; actors = script.actors.items }
+
+-- The functions of a checked program.
+abbrev pub functions_of : Checked → List Func
+functions_of program = functions_view program.functions.items
+
+-- The name of the actor with this number; empty if there is none.
+abbrev pub actor_name : List (List ℕ) → ℕ → List ℕ
+actor_name actors number = option_map_or (λ name. name) (slice_get actors number) []
+
+-- A line ends with LF.
 abbrev pub line : List ℕ → List ℕ
 line t = t ++ 10 ∷ []
 
 abbrev pub state_name : List State → ℕ → List ℕ
 state_name states x = option_map_or (λ s. s.name.text) (slice_get states x) []
 
--- a blank and the name of each
+-- The name of each state, each after a blank.
 abbrev pub state_names : List State → List ℕ → List ℕ
 state_names states [] = []
 state_names states (x ∷ xs) = 32 ∷ state_name states x ++ state_names states xs
 
--- a snapshot is @ and its number, and @- where it was never taken
+-- A snapshot is printed as @ and its number, or as @- for a number that is never assigned.
 abbrev pub never_taken : ℕ
 never_taken = 2 ^ 64 - 1
 
@@ -76,7 +92,7 @@ abbrev pub refusal_text : Titles → Refusal → List ℕ
 refusal_text t refusal.Spent = codes "spent"
 refusal_text t (refusal.Closed name) = codes "closed"
 refusal_text t refusal.Global = codes "global"
-refusal_text t (refusal.NotYours owner) = codes "owned by " ++ t.actor
+refusal_text t (refusal.NotYours owner) = codes "owned by " ++ actor_name t.actors owner
 refusal_text t refusal.UnknownObject = codes "unknown object"
 refusal_text t refusal.UnknownWatcher = codes "unknown watcher"
 refusal_text t refusal.ReadOnly = codes "read only"
@@ -96,31 +112,31 @@ reply_text t reply.Applied = codes "applied"
 reply_text t reply.Disposed = codes "disposed"
 reply_text t (reply.Refused r) = refusal_text t r
 
--- the line of a call: A: REQUEST = REPLY
-abbrev pub entry_line : Titles → Logged → List ℕ
-entry_line t e = line (t.actor ++ codes ": " ++ request_text t.states e.request ++ codes " = " ++ reply_text t e.reply)
+-- The line of a call: ACTOR: REQUEST = REPLY.
+abbrev pub entry_line : Titles → Entry → List ℕ
+entry_line t e = line (actor_name t.actors e.caller ++ codes ": " ++ request_text t.states e.request ++ codes " = " ++ reply_text t e.reply)
 
--- a word and a number
+-- A word and a number.
 unfoldable pub count_text : List ℕ → ℕ → List ℕ
 count_text word count = word ++ decimal count
 
--- what ran
+-- The counts of what ran.
 abbrev pub work_text : ℕ → ℕ → ℕ → List ℕ
 work_text ran calculated reads = count_text (codes "report: ran ") ran ++ (count_text (codes ", calculated ") calculated ++ count_text (codes ", reads ") reads)
 
--- what there is
+-- The counts of the groups and the nodes.
 abbrev pub size_text : ℕ → ℕ → List ℕ
 size_text groups nodes = count_text (codes ", groups ") groups ++ count_text (codes ", nodes ") nodes
 
 abbrev pub report_line : Report → List ℕ
 report_line r = line (work_text r.ran r.calculated r.reads ++ size_text r.groups r.nodes)
 
--- two blanks for each level
+-- Two blanks for each level.
 abbrev pub margin : ℕ → List ℕ
 margin zero = []
 margin (suc depth) = 32 ∷ 32 ∷ margin depth
 
--- a blank, the name, = and the value of each
+-- Each attribute: a blank, the name, = and the value.
 abbrev pub attributes_text : List Attribute → List ℕ
 attributes_text [] = []
 attributes_text (a ∷ more) = 32 ∷ a.name ++ 61 ∷ value_text a.value ++ attributes_text more
@@ -128,71 +144,72 @@ attributes_text (a ∷ more) = 32 ∷ a.name ++ 61 ∷ value_text a.value ++ att
 abbrev pub node_line : ℕ → ℕ → List ℕ → List Attribute → List ℕ
 node_line depth number kind attributes = line (margin depth ++ 35 ∷ decimal number ++ 32 ∷ kind ++ attributes_text attributes)
 
--- a line for each node in preorder
+-- One line for each node, in preorder.
 abbrev pub tree_lines : ℕ → Nodes → List (List ℕ)
 tree_lines depth tree.None = []
 tree_lines depth (Branch number kind attributes children rest) =
     node_line depth number kind attributes ∷ (tree_lines (depth + 1) children ++ tree_lines depth rest)
 
--- a good frame tells its report and its tree
-abbrev pub frame_lines : Option Good → List (List ℕ)
+-- A good frame prints its report and its tree.
+abbrev pub frame_lines : Option FrameResult → List (List ℕ)
 frame_lines None = line (codes "refused: too many groups") ∷ []
 frame_lines (Some good) = report_line good.told ∷ tree_lines 0 (nodes good.left.trail)
 
--- Where a walk along a history stands: the plain world, what is kept of the last good frame, and the snapshots of frames that are not disposed yet.
+-- The state of a walk along a history: the plain world, what is kept of the last good frame, and the snapshots of
+-- frames that are not disposed yet.
 pub record Standing : Type 0 where
   pub world : World BuiltIn
-  pub kept : Composed
+  pub kept : LastFrame
   pub frames : List ℕ
 
--- what is kept after a frame: a refused one leaves it
-abbrev pub kept_after : Composed → Option Good → Composed
+-- What is kept after a frame. A refused frame changes nothing.
+abbrev pub kept_after : LastFrame → Option FrameResult → LastFrame
 kept_after k None = k
 kept_after k (Some good) = good.left
 
--- whether a call ends a frame
+-- Whether a call ends a frame.
 abbrev pub ends_frame : List ℕ → Request → Bool
 ends_frame frames (request.Dispose name) = contains name frames
 ends_frame frames _ = false
 
--- the name that a call is about
+-- The snapshot number of a dispose.
 abbrev pub name_in : Request → ℕ
 name_in (request.Dispose name) = name
 name_in _ = 0
 
--- the snapshot that a call takes for a frame
+-- The snapshot that a call takes for a frame.
 abbrev pub frame_taken : Request → Reply → List ℕ
 frame_taken (request.TakeFor watcher) (reply.TakenFor name changed) = name ∷ []
 frame_taken _ _ = []
 
--- the frame that a call ends is composed in the view of its snapshot
-abbrev pub frame_at : List Func → Standing → Logged → Option Good
-frame_at functions s e = frame functions s.kept (shot_of s.world (name_in e.request)).view
+-- The outcome of the frame that a call ends: it is composed in the view of its snapshot.
+abbrev pub frame_at : List Func → Standing → Entry → Option FrameResult
+frame_at functions s e = frame functions s.kept (snapshot_of s.world (name_in e.request)).view
 
-abbrev pub lines_at : Titles → List Func → Standing → Logged → List (List ℕ)
+abbrev pub lines_at : Titles → List Func → Standing → Entry → List (List ℕ)
 lines_at t functions s e = entry_line t e ∷ (if ends_frame s.frames e.request then frame_lines (frame_at functions s e) else [])
 
-abbrev pub next : List Func → Standing → Logged → Standing
+abbrev pub next : List Func → Standing → Entry → Standing
 next functions s e =
     let world = (call table s.world e.caller e.request).0 in
     if ends_frame s.frames e.request
     then record { world = world; kept = kept_after s.kept (frame_at functions s e); frames = filter (λ n. not (n == name_in e.request)) s.frames }
     else record { world = world; kept = s.kept; frames = s.frames ++ frame_taken e.request e.reply }
 
--- the lines of a history, from where the walk stands
+-- The lines of a history, from a state of the walk.
 abbrev pub lines : Titles → List Func → Standing → History → List (List ℕ)
 lines t functions s [] = []
 lines t functions s (e ∷ es) = lines_at t functions s e ++ lines t functions (next functions s e) es
 
--- where the walk stands behind a history
+-- The state of the walk after a history.
 abbrev pub standing_after : List Func → Standing → History → Standing
 standing_after functions s [] = s
 standing_after functions s (e ∷ es) = standing_after functions (next functions s e) es
 
--- a walk begins in the opening world, before any frame
-abbrev pub beginning : List State → Standing
-beginning states = record { world = opening states; kept = unseen; frames = [] }
+-- The state before the first call: the opening world, before any frame.
+abbrev pub initial_standing : List State → Standing
+initial_standing states = record { world = opening_world states; kept = no_last_frame; frames = [] }
 
 -- All that a run prints: the lines of the history that the steps make one after the other.
 unfoldable pub run_text : Titles → List Func → List Step → List ℕ
-run_text t functions steps = flat_map (λ l. l) (lines t functions (beginning t.states) (sequential (opening t.states) steps))
+run_text t functions steps = flat_map (λ l. l) (lines t functions (initial_standing t.states) (sequential (opening_world t.states) steps))

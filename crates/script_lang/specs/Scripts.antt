@@ -1,65 +1,85 @@
--- The scripts that forms stand for, and the faults that scripts have.
-use Rattle.std.specs.Prelude.{ℕ, ◌+◌, min, List, [], ◌∷◌, ◌++◌, nat_le, nat_lt, map, length, Option, Some, None, if◌then◌else◌}
-use Rattle.std.specs.Option.{option_map}
-use Rattle.lang_forms.specs.declared.rest.StepForm.{StepForm}
-use Rattle.lang_forms.specs.declared.rest.StepForm.TheVariants as form
-use Rattle.lang_forms.specs.declared.rest.DoForm.{DoForm}
+-- Trusted: The script that do forms represent, and the faults of scripts.
+use Rattle.std.specs.Prelude.{ℕ, ◌-◌, List, [], ◌∷◌, ◌++◌, nat_lt, Bool, true, false, map, length, Option, Some, None, if◌then◌else◌}
+use Rattle.lang_forms.specs.declared.script_forms.StepForm.{StepForm}
+use Rattle.lang_forms.specs.declared.script_forms.StepForm.TheVariants as form
+use Rattle.lang_forms.specs.declared.script_forms.DoForm.{DoForm}
 use Rattle.script_lang.specs.declared.script.Step.{Step}
 use Rattle.script_lang.specs.declared.script.Step.TheVariants.{Write, Frame}
 use Rattle.script_lang.specs.declared.script.ScriptStop.{ScriptStop}
 use Rattle.script_lang.specs.declared.script.ScriptStop.TheVariants.{Limit, Unknown}
 
-abbrev pub actor_of : List DoForm → List ℕ
-actor_of [] = []
-actor_of (d ∷ more) = d.actor.text
+-- The names of the actors by number. All forms of a script have the actor of the first.
+abbrev pub actors_of : List DoForm → List (List ℕ)
+actors_of [] = []
+actors_of (d ∷ more) = d.actor.text ∷ []
 
 abbrev pub step_of : StepForm → Step
-step_of (form.Write at name number v) = Write number v
+step_of (form.Write at name number v) = Write name.text number v
 step_of (form.Frame at) = Frame
 
 abbrev pub steps_of : List StepForm → List Step
 steps_of forms = map step_of forms
 
--- the steps of all forms, in order
+-- The steps of all forms, in order.
 abbrev pub all_steps : List DoForm → List Step
 all_steps [] = []
 all_steps (d ∷ more) = steps_of d.steps ++ all_steps more
 
--- more steps are refused
+-- The greatest number of steps.
 abbrev pub most_steps : ℕ
 most_steps = 65536
 
--- the place of the form that passes the limit, where so many steps stand before these
-abbrev pub too_many_at : ℕ → List DoForm → Option ℕ
-too_many_at before [] = None
-too_many_at before (d ∷ more) = if nat_le (before + length d.steps) most_steps then too_many_at (before + length d.steps) more else Some d.at
+-- The fault of the first token of the script that exceeds its limit, if there is one.
+abbrev pub oversized : Option ℕ → List ScriptStop
+oversized None = []
+oversized (Some at) = Limit at ∷ []
 
--- the one, or else the other
-abbrev pub or_else : {A : Type 0} → Option A → Option A → Option A
-or_else None other = other
-or_else (Some a) other = Some a
+-- The fault of a form with more steps than may still come.
+abbrev pub long_form : ℕ → DoForm → List ScriptStop
+long_form room d = if nat_lt room (length d.steps) then Limit d.at ∷ [] else []
 
--- the place of a step on a state that is none of so many
-abbrev pub unknown_step : ℕ → StepForm → Option ℕ
-unknown_step states (form.Write at name number v) = if nat_lt number states then None else Some at
-unknown_step states (form.Frame at) = None
+-- The faults of the forms that contain a step after the first `room` steps.
+abbrev pub long_forms : ℕ → List DoForm → List ScriptStop
+long_forms room [] = []
+long_forms room (d ∷ more) = long_form room d ++ long_forms (room - length d.steps) more
 
--- the place of the first such step
-abbrev pub unknown_in : ℕ → List StepForm → Option ℕ
-unknown_in states [] = None
-unknown_in states (s ∷ more) = or_else (unknown_step states s) (unknown_in states more)
+-- The fault of a step that names an undeclared state. `states` is the number of declared states.
+abbrev pub unknown_step : ℕ → StepForm → List ScriptStop
+unknown_step states (form.Write at name number v) = if nat_lt number states then [] else Unknown at ∷ []
+unknown_step states (form.Frame at) = []
 
-abbrev pub unknown_at : ℕ → List DoForm → Option ℕ
-unknown_at states [] = None
-unknown_at states (d ∷ more) = or_else (unknown_in states d.steps) (unknown_at states more)
+-- The faults of the steps that name undeclared states.
+abbrev pub unknown_steps : ℕ → List StepForm → List ScriptStop
+unknown_steps states [] = []
+unknown_steps states (s ∷ more) = unknown_step states s ++ unknown_steps states more
 
--- the lesser of two places, where there are two
-abbrev pub lesser : Option ℕ → Option ℕ → Option ℕ
-lesser None other = other
-lesser (Some a) None = Some a
-lesser (Some a) (Some b) = Some (min a b)
+-- The same faults of all forms.
+abbrev pub unknown_forms : ℕ → List DoForm → List ScriptStop
+unknown_forms states [] = []
+unknown_forms states (d ∷ more) = unknown_steps states d.steps ++ unknown_forms states more
 
--- Why a script of a program with so many states is refused: something in it that is beyond its limit, the first of which stands at this place,
--- or too many steps; or else a step on a state that is nowhere. The least place answers.
+-- All faults of a script, for a program with this number of states. `beyond` is the offset of the first token that
+-- exceeds its limit.
+abbrev pub script_faults : Option ℕ → ℕ → List DoForm → List ScriptStop
+script_faults beyond states forms = oversized beyond ++ (long_forms most_steps forms ++ unknown_forms states forms)
+
+-- A limit goes before an undeclared state; of two faults of one kind the lesser offset goes first.
+abbrev pub goes_before : ScriptStop → ScriptStop → Bool
+goes_before (Limit a) (Limit b) = nat_lt a b
+goes_before (Limit a) _ = true
+goes_before (Unknown a) (Unknown b) = nat_lt a b
+goes_before _ _ = false
+
+-- The fault that goes first, of an earlier one and `f`.
+unfoldable pub first_fault : Option ScriptStop → ScriptStop → Option ScriptStop
+first_fault None f = Some f
+first_fault (Some g) f = if goes_before f g then Some f else Some g
+
+-- The fault that goes first, of an earlier one and a list.
+abbrev pub first_of_faults : Option ScriptStop → List ScriptStop → Option ScriptStop
+first_of_faults o [] = o
+first_of_faults o (f ∷ fs) = first_of_faults (first_fault o f) fs
+
+-- Why a script is rejected: its fault that goes first.
 abbrev pub script_refusal : Option ℕ → ℕ → List DoForm → Option ScriptStop
-script_refusal beyond states forms = or_else (option_map Limit (lesser beyond (too_many_at 0 forms))) (option_map Unknown (unknown_at states forms))
+script_refusal beyond states forms = first_of_faults None (script_faults beyond states forms)

@@ -1,8 +1,8 @@
-// What holds of the lines of every frame.
-ghost use Rattle.script_lang.specs.Listing.{GroupsTellTheTree};
+// Laws of the lines of every frame.
+ghost use Rattle.script_lang.specs.GroupLines.{GroupsTellTheTree};
 
-/// The lines of a composition's groups, taken in preorder, are the lines of its node tree: calls, keys and cells
-/// are left out, and what stands in them stands in their place. It does nothing; its promise is the law.
+/// Law: the lines of a composition's groups in preorder are the lines of its node tree. Calls, keys and cells
+/// have no line; their contents take their place.
 pub fn groups_tell_the_tree()
     ensures { GroupsTellTheTree }
 {}

@@ -1,17 +1,17 @@
-// The lines of calls.
+// Lines of calls.
 ghost use Rattle.std.specs.Prelude.{◌≡◌, ◌++◌, ◌∷◌, [], List, ℕ, OnOk, codes};
 ghost use Rattle.std.specs.Fmt.{decimal};
 ghost use Rattle.rt_values.specs.Values.{value_text};
-ghost use Rattle.script_lang.specs.Lines.{Titles, state_name, state_names, snapshot, kind_text, type_text, request_text, refusal_text, reply_text, entry_line, line};
+ghost use Rattle.script_lang.specs.Lines.{Titles, titles_of, actor_name, state_name, state_names, snapshot, kind_text, type_text, request_text, refusal_text, reply_text, entry_line, line};
 
 use crate::Script;
 use itoa::Buffer;
 use lang_ast::State;
 use lang_checks::Checked;
-use rt_values::{Kind, Name, NoMemory, ObjectNo, Ty, Value};
-use snap_api::{Logged, Refusal, Reply, Request};
+use rt_values::{Caller, Kind, Name, NoMemory, ObjectNo, Ty, Value, Word};
+use snap_api::{Entry, Refusal, Reply, Request};
 
-// A piece at the end of a text.
+// Appends `piece`.
 pub fn add(text: &mut Vec<u8>, piece: &[u8]) -> Result<(), NoMemory>
     ensures { OnOk result (text.new.items ≡ text.old.items ++ piece.now) }
 {
@@ -19,7 +19,7 @@ pub fn add(text: &mut Vec<u8>, piece: &[u8]) -> Result<(), NoMemory>
     Ok(())
 }
 
-// The decimals of a number at the end of a text.
+// Appends the decimal digits of `number`.
 pub fn add_number(text: &mut Vec<u8>, number: u64) -> Result<(), NoMemory>
     ensures { OnOk result (text.new.items ≡ text.old.items ++ decimal number) }
 {
@@ -36,7 +36,17 @@ fn add_state(text: &mut Vec<u8>, states: &[State], x: ObjectNo) -> Result<(), No
     }
 }
 
-// A blank and the name of each of the states.
+// Appends the name of an actor.
+fn add_actor(text: &mut Vec<u8>, actors: &[Word], number: Caller) -> Result<(), NoMemory>
+    ensures { OnOk result (text.new.items ≡ text.old.items ++ actor_name actors.now number) }
+{
+    match actors.get(number as usize) {
+        Some(name) => add(text, name.bytes()),
+        None => Ok(()),
+    }
+}
+
+// Appends the names of the states, each after a blank.
 #[tactic(auto, using(crate::proofs::Texts::joins))]
 fn add_states(text: &mut Vec<u8>, states: &[State], numbers: &[ObjectNo]) -> Result<(), NoMemory>
     ensures { OnOk result (text.new.items ≡ text.old.items ++ state_names states.now numbers.now) }
@@ -50,7 +60,7 @@ fn add_states(text: &mut Vec<u8>, states: &[State], numbers: &[ObjectNo]) -> Res
     Ok(())
 }
 
-// A name that is never handed out.
+// A snapshot number that is never assigned.
 const NEVER_TAKEN: Name = 18446744073709551615;
 
 #[tactic(auto, using(crate::proofs::Texts::joins))]
@@ -103,7 +113,8 @@ fn add_request(text: &mut Vec<u8>, states: &[State], request: &Request) -> Resul
 
 #[tactic(auto, using(crate::proofs::Texts::joins))]
 fn add_take(text: &mut Vec<u8>, parent: Name, kind: Kind) -> Result<(), NoMemory>
-    ensures { OnOk result (text.new.items ≡ text.old.items ++ (codes "take " ++ kind_text kind ++ 32 ∷ snapshot parent)) }
+    ensures { let words = codes "take " ++ kind_text kind ++ 32 ∷ snapshot parent in
+        OnOk result (text.new.items ≡ text.old.items ++ words) }
 {
     add(text, b"take ")?;
     add(text, kind_word(kind))?;
@@ -111,7 +122,7 @@ fn add_take(text: &mut Vec<u8>, parent: Name, kind: Kind) -> Result<(), NoMemory
     add_snapshot(text, parent)
 }
 
-// A word and a snapshot.
+// Appends a word and a snapshot.
 #[tactic(auto, using(crate::proofs::Texts::joins))]
 fn add_named(text: &mut Vec<u8>, word: &[u8], name: Name) -> Result<(), NoMemory>
     ensures { OnOk result (text.new.items ≡ text.old.items ++ (word.now ++ snapshot name)) }
@@ -127,7 +138,8 @@ fn add_read(
     name: Name,
     object: ObjectNo,
 ) -> Result<(), NoMemory>
-    ensures { OnOk result (text.new.items ≡ text.old.items ++ (codes "read " ++ snapshot name ++ 32 ∷ state_name states.now object)) }
+    ensures { let words = codes "read " ++ snapshot name ++ 32 ∷ state_name states.now object in
+        OnOk result (text.new.items ≡ text.old.items ++ words) }
 {
     add_named(text, b"read ", name)?;
     add(text, b" ")?;
@@ -142,7 +154,8 @@ fn add_write(
     object: ObjectNo,
     value: &Value,
 ) -> Result<(), NoMemory>
-    ensures { OnOk result (text.new.items ≡ text.old.items ++ (codes "write " ++ snapshot name ++ 32 ∷ state_name states.now object ++ 32 ∷ value_text value.now)) }
+    ensures { let words = codes "write " ++ snapshot name ++ 32 ∷ state_name states.now object ++ 32 ∷ value_text value.now in
+        OnOk result (text.new.items ≡ text.old.items ++ words) }
 {
     add_named(text, b"write ", name)?;
     add(text, b" ")?;
@@ -154,10 +167,11 @@ fn add_write(
 fn add_reply(
     text: &mut Vec<u8>,
     states: &[State],
-    actor: &[u8],
+    actors: &[Word],
     reply: &Reply,
 ) -> Result<(), NoMemory>
-    ensures { OnOk result (text.new.items ≡ text.old.items ++ reply_text (record { states = states.now; actor = actor.now }) reply.now) }
+    ensures { let titles : Titles = record { states = states.now; actors = actors.now } in
+        OnOk result (text.new.items ≡ text.old.items ++ reply_text titles reply.now) }
 {
     match reply {
         Reply::Taken(name) => add_snapshot(text, *name),
@@ -172,7 +186,7 @@ fn add_reply(
         }
         Reply::Applied => add(text, b"applied"),
         Reply::Disposed => add(text, b"disposed"),
-        Reply::Refused(refusal) => add_refusal(text, states, actor, *refusal),
+        Reply::Refused(refusal) => add_refusal(text, states, actors, *refusal),
     }
 }
 
@@ -183,7 +197,8 @@ fn add_taken(
     name: Name,
     changed: &[ObjectNo],
 ) -> Result<(), NoMemory>
-    ensures { OnOk result (text.new.items ≡ text.old.items ++ (snapshot name ++ codes " changed" ++ state_names states.now changed.now)) }
+    ensures { let words = snapshot name ++ codes " changed" ++ state_names states.now changed.now in
+        OnOk result (text.new.items ≡ text.old.items ++ words) }
 {
     add_snapshot(text, name)?;
     add(text, b" changed")?;
@@ -193,16 +208,17 @@ fn add_taken(
 fn add_refusal(
     text: &mut Vec<u8>,
     states: &[State],
-    actor: &[u8],
+    actors: &[Word],
     refusal: Refusal,
 ) -> Result<(), NoMemory>
-    ensures { OnOk result (text.new.items ≡ text.old.items ++ refusal_text (record { states = states.now; actor = actor.now }) refusal) }
+    ensures { let titles : Titles = record { states = states.now; actors = actors.now } in
+        OnOk result (text.new.items ≡ text.old.items ++ refusal_text titles refusal) }
 {
     match refusal {
         Refusal::Spent => add(text, b"spent"),
         Refusal::Closed { name: _ } => add(text, b"closed"),
         Refusal::Global => add(text, b"global"),
-        Refusal::NotYours { owner: _ } => add_two(text, b"owned by ", actor),
+        Refusal::NotYours { owner } => add_owner(text, actors, owner),
         Refusal::UnknownObject => add(text, b"unknown object"),
         Refusal::UnknownWatcher => add(text, b"unknown watcher"),
         Refusal::ReadOnly => add(text, b"read only"),
@@ -222,6 +238,15 @@ fn add_two(text: &mut Vec<u8>, first: &[u8], second: &[u8]) -> Result<(), NoMemo
     add(text, second)
 }
 
+// Appends the words for a snapshot of another actor.
+#[tactic(auto, using(crate::proofs::Texts::joins))]
+fn add_owner(text: &mut Vec<u8>, actors: &[Word], owner: Caller) -> Result<(), NoMemory>
+    ensures { OnOk result (text.new.items ≡ text.old.items ++ (codes "owned by " ++ actor_name actors.now owner)) }
+{
+    add(text, b"owned by ")?;
+    add_actor(text, actors, owner)
+}
+
 #[tactic(auto, using(crate::proofs::Texts::joins))]
 fn add_conflict(text: &mut Vec<u8>, states: &[State], object: ObjectNo) -> Result<(), NoMemory>
     ensures { OnOk result (text.new.items ≡ text.old.items ++ (codes "conflict " ++ state_name states.now object)) }
@@ -230,22 +255,23 @@ fn add_conflict(text: &mut Vec<u8>, states: &[State], object: ObjectNo) -> Resul
     add_state(text, states, object)
 }
 
-/// Adds the line of a call and its reply: the actor, what was asked for and what was answered, ended by LF.
+/// Appends the line of a call and its reply: the actor, the request and the reply, with LF at the end. Returns
+/// `NoMemory` if the process is out of memory.
 #[tactic(auto, using(crate::proofs::Texts::joins))]
 pub fn add_line(
     text: &mut Vec<u8>,
     program: &Checked,
     script: &Script,
-    entry: &Logged,
+    entry: &Entry,
 ) -> Result<(), NoMemory>
-    ensures { OnOk result (text.new.items ≡ text.old.items ++ entry_line (record { states = program.now.states.items; actor = script.now.actor }) entry.now) }
+    ensures { OnOk result (text.new.items ≡ text.old.items ++ entry_line (titles_of program.now script.now) entry.now) }
 {
     let states = program.states();
-    let actor = script.actor.bytes();
-    add(text, actor)?;
+    let actors = script.actors.as_slice();
+    add_actor(text, actors, entry.caller)?;
     add(text, b": ")?;
     add_request(text, states, &entry.request)?;
     add(text, b" = ")?;
-    add_reply(text, states, actor, &entry.reply)?;
+    add_reply(text, states, actors, &entry.reply)?;
     add(text, b"\n")
 }

@@ -1,15 +1,16 @@
-// The lines of frames.
+// Lines of frames.
 ghost use Rattle.std.specs.Prelude.{◌≡◌, ◌++◌, ◌∷◌, [], List, ℕ, Bool, false, OnOk, codes, map};
 ghost use Rattle.std.specs.Fmt.{decimal};
 ghost use Rattle.script_lang.specs.Lines.{report_line, count_text, work_text, size_text, margin, node_line, attributes_text, line};
-ghost use Rattle.script_lang.specs.Listing.{shown, level, line_of, around, opened, group_line};
+ghost use Rattle.script_lang.specs.GroupLines.{plain_attribute, node_depth, line_of, open_around, open_after, group_line};
 
 use crate::line::{add, add_number};
-use rt_values::{Attribute, Attributes, Group, NoMemory, Report, What, Word};
+use rt_groups::{Attribute, Attributes, Group, GroupKind, Report};
+use rt_values::{NoMemory, Word};
 use std::alloc::Global;
 use std::marker::Model;
 
-// A word and a number.
+// Appends a word and a number.
 #[tactic(auto, unfolding(crate::specs::Lines::count_text), using(crate::proofs::Texts::joins))]
 fn add_count(text: &mut Vec<u8>, word: &[u8], count: u64) -> Result<(), NoMemory>
     ensures { OnOk result (text.new.items ≡ text.old.items ++ count_text word.now count) }
@@ -34,7 +35,7 @@ fn add_size(text: &mut Vec<u8>, groups: u64, nodes: u64) -> Result<(), NoMemory>
     add_count(text, b", nodes ", nodes)
 }
 
-/// Adds the line of a frame's report.
+/// Appends the line of a frame's report.
 #[tactic(auto, using(crate::proofs::Texts::joins))]
 pub fn add_report(text: &mut Vec<u8>, report: &Report) -> Result<(), NoMemory>
     ensures { OnOk result (text.new.items ≡ text.old.items ++ report_line report.now) }
@@ -44,7 +45,7 @@ pub fn add_report(text: &mut Vec<u8>, report: &Report) -> Result<(), NoMemory>
     add(text, b"\n")
 }
 
-/// Adds the line of a frame that was refused for its size.
+/// Appends the line of a frame that was refused because it has too many groups.
 #[tactic(auto, using(crate::proofs::Texts::joins))]
 pub fn add_refused(text: &mut Vec<u8>) -> Result<(), NoMemory>
     ensures { OnOk result (text.new.items ≡ text.old.items ++ line (codes "refused: too many groups")) }
@@ -53,10 +54,10 @@ pub fn add_refused(text: &mut Vec<u8>) -> Result<(), NoMemory>
     add(text, b"\n")
 }
 
-// A blank, the name, = and the value of each.
+// Appends each attribute: a blank, the name, = and the value.
 #[tactic(auto, using(crate::proofs::Texts::joins))]
 fn add_attributes(text: &mut Vec<u8>, attributes: &[Attribute]) -> Result<(), NoMemory>
-    ensures { OnOk result (text.new.items ≡ text.old.items ++ attributes_text (map shown attributes.now)) }
+    ensures { OnOk result (text.new.items ≡ text.old.items ++ attributes_text (map plain_attribute attributes.now)) }
 {
     let mut rest = attributes;
     while let Some((attribute, more)) = rest.split_first() {
@@ -69,10 +70,10 @@ fn add_attributes(text: &mut Vec<u8>, attributes: &[Attribute]) -> Result<(), No
     Ok(())
 }
 
-// Two blanks for each node among the groups that stand open.
+// Appends two blanks for each node among the open groups.
 #[tactic(auto, using(crate::proofs::Texts::joins))]
 fn add_margin(text: &mut Vec<u8>, outer: &[bool]) -> Result<(), NoMemory>
-    ensures { OnOk result (text.new.items ≡ text.old.items ++ margin (level outer.now)) }
+    ensures { OnOk result (text.new.items ≡ text.old.items ++ margin (node_depth outer.now)) }
 {
     let mut rest = outer;
     while let Some((is_node, more)) = rest.split_first() {
@@ -84,7 +85,7 @@ fn add_margin(text: &mut Vec<u8>, outer: &[bool]) -> Result<(), NoMemory>
     Ok(())
 }
 
-// The line of a node: two blanks for each node that it stands in, its number, its kind and its attributes.
+// Appends the line of a node: two blanks for each enclosing node, its number, its kind and its attributes.
 #[tactic(auto, using(crate::proofs::Texts::joins))]
 fn add_node(
     text: &mut Vec<u8>,
@@ -93,7 +94,8 @@ fn add_node(
     kind: &Word,
     attributes: &Attributes,
 ) -> Result<(), NoMemory>
-    ensures { OnOk result (text.new.items ≡ text.old.items ++ node_line (level outer.now) number kind.now (map shown attributes.now)) }
+    ensures { let this = node_line (node_depth outer.now) number kind.now (map plain_attribute attributes.now) in
+        OnOk result (text.new.items ≡ text.old.items ++ this) }
 {
     add_margin(text, outer)?;
     text.push(b'#')?;
@@ -105,8 +107,8 @@ fn add_node(
     Ok(())
 }
 
-/// Which of the groups that stand open at a place of a composition are nodes; it tells how far in a node's line
-/// stands. This project's own rule.
+/// The open groups at a point of a composition, outermost first: true for a node. Their nodes are the indent of
+/// a node's line. A rule of this project.
 #[derive(Drop)]
 pub struct OpenGroups {
     nodes: Vec<bool>,
@@ -121,7 +123,7 @@ impl Model for OpenGroups {
 }
 
 impl OpenGroups {
-    /// Before the first group none stands open.
+    /// Creates the state before the first group: no group is open.
     pub fn new(alloc: Global) -> Self
         ensures { result ≡ [] }
     {
@@ -130,26 +132,26 @@ impl OpenGroups {
         }
     }
 
-    /// Adds the line of the next group in preorder, where it is a node; the group then stands open. Where memory runs
-    /// out part of the line may have been added.
+    /// Appends the line of the next group in preorder if it is a node, and opens the group. If the process is
+    /// out of memory, a first part of the line is appended.
     pub fn add_group(&mut self, text: &mut Vec<u8>, group: &Group) -> Result<(), NoMemory>
         ensures text { OnOk result (text.new.items ≡ text.old.items ++ group_line self.old group.now) }
-        ensures opened { OnOk result (self.new ≡ opened self.old group.now) }
+        ensures opened { OnOk result (self.new ≡ open_after self.old group.now) }
     {
         self.nodes.truncate(group.depth as usize);
         match &group.what {
-            What::Node { kind, attributes } => {
+            GroupKind::Node { kind, attributes } => {
                 add_node(text, &self.nodes, group.number, kind, attributes)?;
                 self.nodes.push(true)?;
                 Ok(())
             }
-            What::Call { .. } => self.open(),
-            What::Key(_) => self.open(),
-            What::Cell { .. } => self.open(),
+            GroupKind::Call { .. } => self.open(),
+            GroupKind::Key(_) => self.open(),
+            GroupKind::Cell { .. } => self.open(),
         }
     }
 
-    // One group more stands open, which is no node.
+    // Opens a group that is not a node.
     fn open(&mut self) -> Result<(), NoMemory>
         ensures { OnOk result (self.new ≡ self.old ++ false ∷ []) }
     {

@@ -1,17 +1,16 @@
-use Rattle.std.proofs.Common.{◌≡◌, ◌++◌, ◌≤◌, length, List, ℕ}
+use Rattle.std.proofs.Common.{◌≡◌, ◌++◌, length, List, ℕ}
 use Rattle.std.specs.Io.KnownBytes.{Appends}
-use Rattle.lang_ast.specs.SyntaxView.{functions_view}
-use Rattle.play_core.specs.Turns.{Between, turns}
-use Rattle.play_core.specs.Standing.{Stands, flat}
+use Rattle.play_core.specs.StepOutput.{Between, turns, job_titles, job_functions}
+use Rattle.play_core.specs.RunState.{IsBetweenSteps, flat}
 use Rattle.play_core.proofs.steps.run_steps.Given as goal
 
--- From each start: where the run stands now, and what was written with what is to come.
+-- From each start: the state of the run now, and what was written with what is still to come.
 abbrev pub invariant-loop-step : goal.invariant-loop-step
 invariant-loop-step g l = record {
-  later : g.K.Sink.faults l.fn.sink ≤ g.K.Sink.faults l.sink;
-  run : (o : Between) → Stands (functions_view l.program.functions.items) g.V.Versions.stands l.fn.world l.fn.kept o →
-      (n : Between) × (said : List ℕ) × Stands (functions_view l.program.functions.items) g.V.Versions.stands l.world l.kept n
-      × (said ++ flat (turns (record { states = l.program.states.items; actor = l.script.actor }) (functions_view l.program.functions.items) n l.rest) ≡ flat (turns (record { states = l.program.states.items; actor = l.script.actor }) (functions_view l.program.functions.items) o l.script.steps.items))
+  faults : g.K.Sink.faults l.sink ≡ g.K.Sink.faults l.fn.sink;
+  run : (o : Between) → IsBetweenSteps (job_functions l.job) g.V.Versions.stands l.fn.world l.fn.kept o →
+      (n : Between) × (said : List ℕ) × IsBetweenSteps (job_functions l.job) g.V.Versions.stands l.world l.kept n
+      × (said ++ flat (turns (job_titles l.job) (job_functions l.job) n l.rest) ≡ flat (turns (job_titles l.job) (job_functions l.job) o l.job.script.steps.items))
       × Appends (g.K.Sink.written l.fn.sink) (g.K.Sink.written l.sink) said;
 }
 

@@ -7,7 +7,7 @@ use Rattle.play_core.proofs.steps.run_write.Goals as goal
 pub returns-clause-says : goal.returns-clause-says
 returns-clause-says g c b h =
     let told = c.in-Ok.ensures b.world h.world_stands in
-    one-line _ _ _ _ (says_same _ _ _ _ _ (ap (entry_line _) told.0) c.say_entry.ensures.says)
+    one-line _ _ _ _ (says_same _ _ _ _ _ (ap (entry_line _) told.0) c.write_call_line.ensures.says)
 
 pub returns-clause-left : goal.returns-clause-left
 returns-clause-left g c b h =

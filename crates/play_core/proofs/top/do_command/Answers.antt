@@ -1,8 +1,8 @@
-use Rattle.std.proofs.Common.{sym, ap, ◌∙◌, subst}
+use Rattle.std.proofs.Common.{refl, sym, ap, ◌∙◌, subst}
 use Rattle.sexp_text.specs.Layout.{lines}
 use Rattle.sexp_text.specs.View.{forest_view}
-use Rattle.play_core.specs.Standing.{Says}
-use Rattle.play_core.specs.Texts.{output}
+use Rattle.play_core.specs.RunState.{SaysOutput}
+use Rattle.play_core.specs.Texts.{run_output, check_output}
 use Rattle.play_core.proofs.TreeLines.{check-is}
 use Rattle.play_core.proofs.Plays.{run-is}
 use Rattle.play_core.proofs.Written.{says_same}
@@ -10,10 +10,10 @@ use Rattle.play_core.proofs.top.do_command.Goals as goal
 
 pub returns-in-Run-clause-says : goal.returns-in-Run-clause-says
 returns-in-Run-clause-says g c bytes p read text =
-    subst (λ k. Says (g.K.Sink.written c.args.sink.now) (g.K.Sink.written c.run_script.new.sink) (output k p) c.run_script.result) (sym c.in-Run.is)
-    (says_same _ _ _ _ _ (run-is read.read p text) c.run_script.ensures.says)
+    subst (λ k. SaysOutput (g.K.Sink.written c.args.sink.now) (g.K.Sink.written c.run_script.new.sink) k p c.run_script.result) (sym c.in-Run.is)
+    (run_output p, refl, says_same _ _ _ _ _ (run-is read.read p text) c.run_script.ensures.says)
 
 pub returns-in-Check-clause-says : goal.returns-in-Check-clause-says
 returns-in-Check-clause-says g c bytes p read text =
-    subst (λ k. Says (g.K.Sink.written c.args.sink.now) (g.K.Sink.written c.say_canonical.new.sink) (output k p) c.say_canonical.result) (sym c.in-Check.is)
-    (says_same _ _ _ _ _ (ap (λ ts. lines (forest_view ts)) c.deref.ensures.value ∙ check-is bytes c.args.input.trees.items p read.spelled text) c.say_canonical.ensures.says)
+    subst (λ k. SaysOutput (g.K.Sink.written c.args.sink.now) (g.K.Sink.written c.write_canonical.new.sink) k p c.write_canonical.result) (sym c.in-Check.is)
+    (check_output p, refl, says_same _ _ _ _ _ (ap (λ ts. lines (forest_view ts)) c.deref.ensures.value ∙ check-is bytes c.args.input.trees.items p read.spelled text) c.write_canonical.ensures.says)

@@ -1,20 +1,33 @@
-use Rattle.std.proofs.Common.{◌≤◌, length, subst}
-use Rattle.std.specs.Io.KnownBytes.{IsAtEnd, Appends}
-use Rattle.std.proofs.KnownBytes.{Consumes-whole}
-use Rattle.play_core.specs.Faults.{IsFault, fault_line}
-use Rattle.play_core.specs.Texts.{IsNoText, input_limit}
-use Rattle.play_core.specs.declared.fault.Fault.{Fault}
-use Rattle.play_core.proofs.Plays.{nothing-part}
+use Rattle.std.proofs.Common.{◌∙◌, ap, Err, subst}
+use Rattle.rt_streams.specs.declared.source.ReadStop.TheVariants as stop
+use Rattle.play_core.specs.Faults.{WritesPart}
+use Rattle.play_core.specs.Promise.{streams, WritesOutput, WritesFault}
+use Rattle.play_core.proofs.Plays.{memory-meets, read-fault-meets, long-meets, read-meets, not-long}
 use Rattle.play_core.proofs.top.play_input.Goals as goal
 
-pub returns-in-Err-NoMemory-clause-part : goal.returns-in-Err-NoMemory-clause-part
-returns-in-Err-NoMemory-clause-part g c few e = nothing-part _ _ _
+pub returns-in-Err-NoMemory-clause-meets : goal.returns-in-Err-NoMemory-clause-meets
+returns-in-Err-NoMemory-clause-meets g c =
+    memory-meets c.args.command _ _ _ _ _ _ _ _ (not-long c.read_all.result stop.NoMemory stop.TooLong _ (c.in-Err-NoMemory.is ∙ ap Err c.in-Err-NoMemory.field-0-is) (λ e. absurd cc) c.read_all.ensures.too_long.1)
 
-pub returns-in-Ok-clause-bad_input : goal.returns-in-Ok-clause-bad_input
-returns-in-Ok-clause-bad_input g c e =
-    let bad = c.play_bytes.ensures.bad_input e in
-    let none = subst IsNoText c.deref.ensures.value bad.0 in
-    let why = subst (λ bytes. IsFault bytes bad.1.0) c.deref.ensures.value bad.1.1 in
-    Consumes-whole _ _ c.in-Ok.bytes.items
-    (λ bytes. IsAtEnd (g.S.Source.left c.read_all.new.source) × (length bytes ≤ input_limit) × IsNoText bytes × ((fault : Fault) × IsFault bytes fault × Appends (g.K.Sink.written c.args.sink.now) (g.K.Sink.written c.play_bytes.new.sink) (fault_line fault)))
-    c.in-Ok.ensures.bytes.0 c.in-Ok.ensures.bytes.1 (c.in-Ok.ensures.bytes.1, c.in-Ok.ensures.within.0, none, (bad.1.0, why, bad.1.2))
+pub returns-in-Err-ReadFault-clause-meets : goal.returns-in-Err-ReadFault-clause-meets
+returns-in-Err-ReadFault-clause-meets g c =
+    read-fault-meets c.args.command _ _ _ _ _ _ _ _ (not-long c.read_all.result stop.ReadFault stop.TooLong _ (c.in-Err-ReadFault.is ∙ ap Err c.in-Err-ReadFault.field-0-is) (λ e. absurd cc) c.read_all.ensures.too_long.1)
+    (c.read_all.ensures.fault (c.in-Err-ReadFault.is ∙ ap Err c.in-Err-ReadFault.field-0-is))
+
+pub returns-in-Err-TooLong-clause-meets : goal.returns-in-Err-TooLong-clause-meets
+returns-in-Err-TooLong-clause-meets g c =
+    let said = c.write_status_line.ensures in
+    long-meets c.args.command _ _ c.write_status_line.result said.answers said.all said.part said.fault (c.read_all.ensures.too_long.0 (c.in-Err-TooLong.is ∙ ap Err c.in-Err-TooLong.field-0-is)) c.read_all.ensures.at_most c.read_all.ensures.told
+
+pub returns-in-Ok-clause-meets : goal.returns-in-Ok-clause-meets
+returns-in-Ok-clause-meets g c =
+    let shown = streams g.S.Source.left g.S.Source.taken g.S.Source.faults g.K.Sink.written g.K.Sink.faults in
+    let before = shown c.args.source.now c.args.sink.now in
+    let after = shown c.read_all.new.source c.play_bytes.new.sink in
+    let bytes = c.deref.ensures.value in
+    let played = c.play_bytes.ensures in
+    read-meets c.args.command _ _ c.play_bytes.result c.in-Ok.bytes.items c.in-Ok.ensures.bytes.0 c.in-Ok.ensures.bytes.1 c.in-Ok.ensures.within.0 c.in-Ok.ensures.within.1
+    (λ e. subst (WritesOutput c.args.command before after) bytes (played.done e))
+    (λ e. subst (WritesFault before after) bytes (played.bad_input e))
+    (λ e. subst (λ bs. WritesPart c.args.command bs before.written after.written) bytes (played.part e))
+    played.write_fault played.others

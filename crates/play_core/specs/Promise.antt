@@ -1,0 +1,121 @@
+-- Trusted: The promise of `play`: what each status means, and when it comes.
+use Rattle.std.specs.Prelude.{◌≡◌, ◌≢◌, ◌⊎◌, ◌<◌, ◌≤◌, ◌+◌, ℕ, List, length, Option, Some, None, IfSome}
+use Rattle.std.specs.Io.KnownBytes.{Appends, Keeps, IsAtEnd}
+use Rattle.rt_streams.specs.Streams.{Rose, AppendsPart, rise}
+use Rattle.lang_forms.specs.Sources.{Source}
+use Rattle.play_args.specs.CommandWords.{command_of_args}
+use Rattle.play_args.specs.declared.command.Command.{Command}
+use Rattle.play_args.specs.declared.command.Command.TheVariants.{Check}
+use Rattle.play_core.specs.Texts.{IsText, IsNoText, IsOutput, usage_line, long_line, input_limit}
+use Rattle.play_core.specs.Faults.{IsFault, WritesPart, fault_line}
+use Rattle.play_core.specs.declared.fault.Fault.{Fault}
+use Rattle.play_core.specs.declared.top.Status.{Status}
+use Rattle.play_core.specs.declared.top.Status.TheVariants as status
+
+-- What the source and the sink show at one time.
+pub record Streams : Type 0 where
+  -- The bytes that the source will still give, if the source shows them.
+  pub left : Option (List ℕ)
+  -- The number of bytes that were taken from the source, modulo 2^64.
+  pub taken : ℕ
+  -- The number of reads that failed.
+  pub read_faults : ℕ
+  -- The bytes that the sink was given, if the sink shows them.
+  pub written : Option (List ℕ)
+  -- The number of writes that failed.
+  pub write_faults : ℕ
+
+-- What a source and a sink show, by their own measures.
+abbrev pub streams : {S K : Type 0} → (S → Option (List ℕ)) → (S → ℕ) → (S → ℕ) →
+    (K → Option (List ℕ)) → (K → ℕ) → S → K → Streams
+streams left taken read_faults written write_faults source sink = record {
+  left = left source;
+  taken = taken source;
+  read_faults = read_faults source;
+  written = written sink;
+  write_faults = write_faults sink;
+}
+
+-- The call failed for a reason outside the input: out of memory, or a read or a write failed and was counted.
+abbrev pub HasFailed : Streams → Streams → Status → Type 0
+HasFailed before after result =
+    (result ≡ status.NoMemory)
+    ⊎ (((result ≡ status.ReadFault) × Rose before.read_faults after.read_faults)
+    ⊎ ((result ≡ status.WriteFault) × Rose before.write_faults after.write_faults))
+
+-- The command wrote its output for the source text `bytes`.
+abbrev pub WritesOutput : Command → Streams → Streams → List ℕ → Type 0
+WritesOutput c before after bytes =
+    (t : Source) × IsText bytes t × ((out : List ℕ) × IsOutput c (Some t) out × Appends before.written after.written out)
+
+-- The bytes are not a source text, and the line of their fault was written.
+abbrev pub WritesFault : Streams → Streams → List ℕ → Type 0
+WritesFault before after bytes =
+    IsNoText bytes
+    × ((fault : Fault) × IsFault bytes fault × Appends before.written after.written (fault_line fault))
+
+-- The promise for a command: it ended with `result`, and the streams showed `before` at its start and `after` at its
+-- end.
+pub record CommandMeets (c : Command) (before after : Streams) (result : Status) : Type 0 where
+  -- A command is never answered with the usage line.
+  pub not_usage : result ≢ status.Usage
+  -- Done: the whole input was read and is a source text, and the command's output was written.
+  pub done : result ≡ status.Done →
+      IfSome before.left (λ bytes. IsAtEnd after.left × (length bytes ≤ input_limit) × WritesOutput c before after bytes)
+  -- BadInput: the whole input was read and is not a source text, and the line of its fault was written.
+  pub bad_input : result ≡ status.BadInput →
+      IfSome before.left (λ bytes. IsAtEnd after.left × (length bytes ≤ input_limit) × WritesFault before after bytes)
+  -- TooLong: more than `input_limit` bytes were taken, and the line for it was written.
+  pub too_long : result ≡ status.TooLong →
+      (input_limit < rise before.taken after.taken) × Appends before.written after.written long_line
+  -- If more than `input_limit` bytes were taken, the result is TooLong, or the sink failed while that line was
+  -- written.
+  pub long_told : input_limit < rise before.taken after.taken →
+      (result ≡ status.TooLong) ⊎ ((result ≡ status.WriteFault) × AppendsPart before.written after.written long_line)
+  -- ReadFault: a read failed, and nothing was written.
+  pub read_fault : result ≡ status.ReadFault →
+      Rose before.read_faults after.read_faults × Keeps before.written after.written
+  -- WriteFault: a write failed.
+  pub write_fault : result ≡ status.WriteFault → Rose before.write_faults after.write_faults
+  -- WriteFault or NoMemory, if the input is not too long: a first part of what the command writes for the input was
+  -- written.
+  pub part : rise before.taken after.taken ≤ input_limit →
+      (result ≡ status.WriteFault) ⊎ (result ≡ status.NoMemory) →
+      IfSome before.left (λ bytes. WritesPart c bytes before.written after.written)
+  -- A source text within the limit is done, unless the call failed.
+  pub complete : (bytes : List ℕ) (t : Source) → before.left ≡ Some bytes → length bytes ≤ input_limit →
+      IsText bytes t →
+      (result ≡ status.Done) ⊎ HasFailed before after result
+  -- Other bytes within the limit are rejected, unless the call failed.
+  pub refused : (bytes : List ℕ) → before.left ≡ Some bytes → length bytes ≤ input_limit → IsNoText bytes →
+      (result ≡ status.BadInput) ⊎ HasFailed before after result
+  -- Bytes within the limit that have a fault are rejected with exactly the line of that fault, unless the call
+  -- failed.
+  pub faulty : (bytes : List ℕ) (fault : Fault) → before.left ≡ Some bytes → length bytes ≤ input_limit →
+      IsFault bytes fault →
+      ((result ≡ status.BadInput) × Appends before.written after.written (fault_line fault)) ⊎ HasFailed before after result
+  -- At most one byte more than the limit is taken from the source.
+  pub at_most : rise before.taken after.taken ≤ input_limit + 1
+
+-- The promise of `play` for these arguments.
+pub record PlayMeets (words : List (List ℕ)) (before after : Streams) (result : Status) : Type 0 where
+  -- If the arguments ask for no command, the usage line is written, unless the sink fails or the process is out of
+  -- memory.
+  pub no_command : command_of_args words ≡ None →
+      ((result ≡ status.Usage) × Appends before.written after.written usage_line)
+      ⊎ (((result ≡ status.WriteFault) × Rose before.write_faults after.write_faults
+      × AppendsPart before.written after.written usage_line)
+      ⊎ ((result ≡ status.NoMemory) × Keeps before.written after.written))
+  -- If the arguments ask for a command, the result is that of the command.
+  pub command : (c : Command) → command_of_args words ≡ Some c → CommandMeets c before after result
+  -- No read failed, unless the result is ReadFault.
+  pub reads : result ≢ status.ReadFault → after.read_faults ≡ before.read_faults
+  -- No write failed, unless the result is WriteFault.
+  pub writes : result ≢ status.WriteFault → after.write_faults ≡ before.write_faults
+
+-- The cases in which the world is unchanged: no command, `check`, and every rejected input.
+abbrev pub LeavesWorld : Option Command → Status → Type 0
+LeavesWorld o result =
+    (o ≡ None)
+    ⊎ ((o ≡ Some Check)
+    ⊎ ((result ≡ status.Usage) ⊎ ((result ≡ status.BadInput) ⊎ ((result ≡ status.TooLong) ⊎ (result ≡ status.ReadFault)))))
