@@ -1,0 +1,138 @@
+// Limits of tokens at their edges, and trees that are cut to the limits.
+use lang_limits::{token_limits, within};
+use std::alloc::Global;
+use std::test::Fail;
+
+// Repeats `part` between two other parts.
+fn repeated(
+    alloc: Global,
+    before: &[u8],
+    part: &[u8],
+    times: usize,
+    after: &[u8],
+) -> Result<Vec<u8>, Fail> {
+    let mut text = Vec::from_slice(alloc, before)?;
+    for _ in 0..times {
+        text.extend_from_slice(part)?;
+    }
+    text.extend_from_slice(after)?;
+    Ok(text)
+}
+
+// The offsets of the first oversized tokens: before the script, and in it.
+fn limits_of(alloc: Global, text: &[u8]) -> Result<(Option<usize>, Option<usize>), Fail> {
+    let limits = token_limits(&sexp_text::read(alloc, text)?);
+    Ok((limits.program, limits.script))
+}
+
+#[test]
+fn numbers_have_64_bits(rt: HostRuntime) -> Result<(), Fail> {
+    let rows: [(&[u8], Option<usize>, Option<usize>); 9] = [
+        (b"9223372036854775807 -9223372036854775808", None, None),
+        (b" 9223372036854775808", Some(1), None),
+        (b"-9223372036854775809", Some(0), None),
+        (
+            b"-0 007 09223372036854775808 -09223372036854775809",
+            None,
+            None,
+        ),
+        (b"+9223372036854775808 - 0 9223372036854775808a", None, None),
+        (
+            b"(f (99999999999999999999) 9223372036854775808) (do)",
+            Some(4),
+            None,
+        ),
+        (
+            b"(f) (do (w 9223372036854775808)) 9223372036854775808",
+            None,
+            Some(11),
+        ),
+        (
+            b"9223372036854775808 (f (do 1)) (do 9223372036854775808)",
+            Some(0),
+            Some(35),
+        ),
+        (b"(f (do 9223372036854775808)) (doo) do", Some(7), None),
+    ];
+    for (text, program, script) in rows {
+        assert_eq!(rt; limits_of(rt.alloc(), text)?, (program, script), "{text:?}");
+    }
+    Ok(())
+}
+
+#[test]
+fn names_strings_and_lists_have_limits(rt: HostRuntime) -> Result<(), Fail> {
+    let alloc = rt.alloc();
+    let rows: [(&[u8], &[u8], usize, &[u8], Option<usize>); 9] = [
+        (b" ", b"n", 64, b"", None),
+        (b" ", b"n", 65, b"", Some(1)),
+        (b"(a \"", b"s", 4096, b"\")", None),
+        (b"(a \"", b"s", 4097, b"\")", Some(3)),
+        (b"(a \"", b"\\n", 4096, b"\")", None),
+        (b"(a (ints", b" 1", 4096, b"))", None),
+        (b"(a (ints", b" 1", 4097, b"))", Some(3)),
+        (b"(a (ints x", b" 1", 4096, b"))", Some(3)),
+        (b"(a (intS", b" 1", 4097, b"))", None),
+    ];
+    for (before, part, times, after, offset) in rows {
+        let text = repeated(alloc, before, part, times, after)?;
+        assert_eq!(rt;
+            limits_of(alloc, &text)?,
+            (offset, None),
+            "{before:?} {times}"
+        );
+    }
+    Ok(())
+}
+
+#[test]
+fn oversized_tokens_are_clamped(rt: HostRuntime) -> Result<(), Fail> {
+    let alloc = rt.alloc();
+    let rows: [(&[u8], &[u8], usize, &[u8], &[u8]); 6] = [
+        (
+            b"(a 9223372036854775808 ",
+            b"n",
+            65,
+            b")",
+            b"(a 0 nnnnnnnnnnnnnnnnnnnnnnnnnnnnnnnnnnnnnnnnnnnnnnnnnnnnnnnnnnnnnnnnn)\n",
+        ),
+        (b"(a \"", b"s", 4097, b"\" 1)", b"(a \"\" 1)\n"),
+        (
+            b"(a (ints 9223372036854775808",
+            b" 1",
+            4096,
+            b") 2)",
+            b"(a (ints 0 1) 2)\n",
+        ),
+        (
+            b"(a -0 \"s\" (ints",
+            b" 1",
+            3,
+            b"))",
+            b"(a -0 \"s\" (ints 1 1 1))\n",
+        ),
+        (
+            b"(a",
+            b"",
+            0,
+            b" (ints x 9223372036854775808))",
+            b"(a (ints x 0))\n",
+        ),
+        (b"(ints", b" 2", 4097, b")", b"(ints 2 2)\n"),
+    ];
+    for (before, part, times, after, expected) in rows {
+        let text = repeated(alloc, before, part, times, after)?;
+        let trees = within(alloc, &sexp_text::read(alloc, &text)?)?;
+        assert_eq!(rt; sexp_text::print(alloc, &trees)?.as_slice(), expected);
+    }
+    Ok(())
+}
+
+#[test]
+fn a_long_list_with_another_item_is_not_clamped(rt: HostRuntime) -> Result<(), Fail> {
+    let alloc = rt.alloc();
+    let text = repeated(alloc, b"(ints", b" 1", 4096, b" 007)\n")?;
+    let trees = within(alloc, &sexp_text::read(alloc, &text)?)?;
+    assert!(rt; sexp_text::print(alloc, &trees)? == text);
+    Ok(())
+}

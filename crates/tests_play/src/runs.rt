@@ -1,0 +1,261 @@
+// Runs of `play` over a source and a sink in memory.
+ghost use Rattle.std.specs.Prelude.{◌<◌};
+
+use play_core::{Status, play};
+use rt_streams::{MemSink, MemSource, OpenGate};
+use snap_plain::PlainWorld;
+use snap_policy::BuiltIn;
+use std::alloc::Global;
+use std::sync::Wait;
+use std::test::Fail;
+use std::thread::Threads;
+
+const COUNTER: &[u8] = b"(compose 1)
+(state count Int Structural 0)
+(fun root () (node Text ((value (get count)))))
+(do main (frame) (write global count 1) (frame))
+";
+
+const COUNTER_LINES: [&[u8]; 9] = [
+    b"main: frame = @1 changed count\n",
+    b"main: dispose @1 = disposed\n",
+    b"report: ran 1, calculated 0, reads 1, groups 2, nodes 1\n",
+    b"#1 Text value=0\n",
+    b"main: write @0 count 1 = changed\n",
+    b"main: frame = @2 changed count\n",
+    b"main: dispose @2 = disposed\n",
+    b"report: ran 1, calculated 0, reads 1, groups 2, nodes 1\n",
+    b"#1 Text value=1\n",
+];
+
+// How source and sink behave: the source hands out at most `piece` bytes a call and fails at the read with number
+// `read_fault`, from 1 (0 for none). The sink takes at most `most` bytes a call and fails at the write `write_fault`.
+#[derive(Clone, Copy)]
+struct Streams {
+    piece: usize,
+    read_fault: u64,
+    most: usize,
+    write_fault: u64,
+}
+
+// Streams without a fault, in large pieces.
+const SOUND: Streams = Streams {
+    piece: 4096,
+    read_fault: 0,
+    most: 4096,
+    write_fault: 0,
+};
+
+// Runs `play` on `input`. Returns the status and the bytes written.
+fn run<R: Threads + Wait + Sync>(
+    rt: &R,
+    alloc: Global,
+    arguments: &[&str],
+    input: Vec<u8>,
+    streams: Streams,
+) -> Result<(Status, Vec<u8>), Fail>
+    requires { 0 < streams.piece }
+{
+    let mut words = Vec::new(alloc);
+    for word in arguments {
+        words.push(word.to_string(alloc)?)?;
+    }
+    let mut world = PlainWorld::<BuiltIn>::new(alloc)?;
+    let mut source = MemSource::new(input, streams.piece, [streams.read_fault].to_vec(alloc)?);
+    let mut sink = MemSink::new(
+        alloc,
+        4096,
+        streams.most,
+        [streams.write_fault].to_vec(alloc)?,
+    )?;
+    let status = play(
+        rt,
+        alloc,
+        &words,
+        &mut world,
+        &mut source,
+        &mut sink,
+        &OpenGate,
+    );
+    Ok((status, sink.bytes().to_vec(alloc)?))
+}
+
+// Concatenates the first lines of a run.
+fn first_lines(alloc: Global, lines: &[&[u8]], count: usize) -> Result<Vec<u8>, Fail> {
+    let mut text = Vec::new(alloc);
+    for line in lines.iter().take(count) {
+        text.extend_from_slice(line)?;
+    }
+    Ok(text)
+}
+
+#[test]
+fn a_write_between_two_frames_shows_in_the_second(rt: HostRuntime) -> Result<(), Fail> {
+    let alloc = rt.alloc();
+    let (status, written) = run(&rt, alloc, &["run"], COUNTER.to_vec(alloc)?, SOUND)?;
+    assert!(rt; status == Status::Done);
+    assert_eq!(rt; written, first_lines(alloc, &COUNTER_LINES, 9)?);
+    let (status, written) = run(
+        &rt,
+        alloc,
+        &["run"],
+        COUNTER.to_vec(alloc)?,
+        Streams {
+            piece: 1,
+            most: 1,
+            ..SOUND
+        },
+    )?;
+    assert!(rt; status == Status::Done);
+    assert_eq!(rt; written, first_lines(alloc, &COUNTER_LINES, 9)?);
+    Ok(())
+}
+
+// The counter with blanks and comments.
+const LOOSE_COUNTER: &[u8] = b"; counts
+(compose 1)(state  count Int Structural 0 )
+(fun root ()
+  (node Text ((value (get count))))) ; no more
+(do main (frame)(write global count 1)(frame))";
+
+#[test]
+fn check_writes_the_canonical_text(rt: HostRuntime) -> Result<(), Fail> {
+    let alloc = rt.alloc();
+    let loose = LOOSE_COUNTER.to_vec(alloc)?;
+    let (status, written) = run(&rt, alloc, &["check"], loose, SOUND)?;
+    assert!(rt; status == Status::Done);
+    assert_eq!(rt; written.as_slice(), COUNTER);
+    let loose = LOOSE_COUNTER.to_vec(alloc)?;
+    let (status, written) = run(
+        &rt,
+        alloc,
+        &["check"],
+        loose,
+        Streams {
+            write_fault: 3,
+            ..SOUND
+        },
+    )?;
+    assert!(rt; status == Status::WriteFault);
+    assert_eq!(rt;
+        written.as_slice(),
+        b"(compose 1)\n(state count Int Structural 0)\n".as_slice()
+    );
+    Ok(())
+}
+
+#[test]
+fn a_failing_write_leaves_the_lines_before_it(rt: HostRuntime) -> Result<(), Fail> {
+    let alloc = rt.alloc();
+    for line in 0..9usize {
+        let fault = line as u64 + 1;
+        let (status, written) = run(
+            &rt,
+            alloc,
+            &["run"],
+            COUNTER.to_vec(alloc)?,
+            Streams {
+                write_fault: fault,
+                ..SOUND
+            },
+        )?;
+        assert!(rt; status == Status::WriteFault);
+        assert_eq!(rt; written, first_lines(alloc, &COUNTER_LINES, line)?);
+    }
+    Ok(())
+}
+
+#[test]
+fn a_failing_read_writes_nothing(rt: HostRuntime) -> Result<(), Fail> {
+    let alloc = rt.alloc();
+    for fault in 1..9u64 {
+        let (status, written) = run(
+            &rt,
+            alloc,
+            &["run"],
+            COUNTER.to_vec(alloc)?,
+            Streams {
+                piece: 20,
+                read_fault: fault,
+                ..SOUND
+            },
+        )?;
+        assert!(rt; status == Status::ReadFault);
+        assert!(rt; written.is_empty());
+    }
+    Ok(())
+}
+
+// Pads a text with blanks to a length.
+fn filled(alloc: Global, text: &[u8], length: usize) -> Result<Vec<u8>, Fail> {
+    let mut bytes = text.to_vec(alloc)?;
+    bytes.resize(length, b' ')?;
+    Ok(bytes)
+}
+
+#[test]
+fn the_input_has_at_most_1048576_bytes(rt: HostRuntime) -> Result<(), Fail> {
+    let alloc = rt.alloc();
+    let full = filled(alloc, COUNTER, 1048576)?;
+    let (status, written) = run(
+        &rt,
+        alloc,
+        &["run"],
+        full,
+        Streams {
+            piece: 65536,
+            ..SOUND
+        },
+    )?;
+    assert!(rt; status == Status::Done);
+    assert_eq!(rt; written, first_lines(alloc, &COUNTER_LINES, 9)?);
+    let over = filled(alloc, COUNTER, 1048577)?;
+    let (status, written) = run(
+        &rt,
+        alloc,
+        &["run"],
+        over,
+        Streams {
+            piece: 65536,
+            ..SOUND
+        },
+    )?;
+    assert!(rt; status == Status::TooLong);
+    assert_eq!(rt; written.as_slice(), b"too long\n".as_slice());
+    Ok(())
+}
+
+#[test]
+fn other_arguments_print_the_usage_line(rt: HostRuntime) -> Result<(), Fail> {
+    let alloc = rt.alloc();
+    let usage = b"usage: compose_play run|threads [--json] [--ops] | check | gen NUMBER SIZE\n";
+    let others: [&[&str]; 4] = [&[], &["--help"], &["--"], &["check", "run"]];
+    for words in others {
+        let input = COUNTER.to_vec(alloc)?;
+        let (status, written) = run(
+            &rt,
+            alloc,
+            words,
+            input,
+            Streams {
+                read_fault: 1,
+                ..SOUND
+            },
+        )?;
+        assert!(rt; status == Status::Usage);
+        assert_eq!(rt; written.as_slice(), usage.as_slice());
+    }
+    let input = COUNTER.to_vec(alloc)?;
+    let (status, written) = run(
+        &rt,
+        alloc,
+        &["--help"],
+        input,
+        Streams {
+            write_fault: 1,
+            ..SOUND
+        },
+    )?;
+    assert!(rt; status == Status::WriteFault && written.is_empty());
+    Ok(())
+}

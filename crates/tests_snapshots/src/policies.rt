@@ -1,0 +1,127 @@
+// The table of policies, row by row.
+ghost use Rattle.std.specs.Prelude.{◌≤◌, length};
+ghost use Rattle.rt_values.specs.Limits.{most_items};
+
+use rt_values::{IntList, NoMemory, Ty, Value};
+use snap_policy::{BuiltIn, Policy};
+use std::alloc::Global;
+use std::test::Fail;
+
+const ALL: [BuiltIn; 5] = [
+    BuiltIn::Structural,
+    BuiltIn::Never,
+    BuiltIn::Counter,
+    BuiltIn::Largest,
+    BuiltIn::Append,
+];
+
+fn ints(alloc: Global, items: &[i64]) -> Result<Value, NoMemory>
+    requires { length items.now ≤ most_items }
+{
+    Ok(Value::Ints(IntList::of(alloc, items)?))
+}
+
+// The merged number, or None where the changes conflict.
+fn merged_number(
+    alloc: Global,
+    policy: BuiltIn,
+    previous: i64,
+    current: i64,
+    applied: i64,
+) -> Result<Option<i64>, NoMemory> {
+    let merged = policy.merge(
+        alloc,
+        &Value::Int(previous),
+        &Value::Int(current),
+        &Value::Int(applied),
+    )?;
+    Ok(match merged {
+        Some(Value::Int(number)) => Some(number),
+        _ => None,
+    })
+}
+
+#[test]
+fn policies_fit_their_types(rt: HostRuntime) -> Result<(), Fail> {
+    let rows = [
+        (Ty::Int, [true, true, true, true, false]),
+        (Ty::Bool, [true, true, false, false, false]),
+        (Ty::Text, [true, true, false, false, false]),
+        (Ty::Ints, [true, true, false, false, true]),
+    ];
+    for (ty, fits) in &rows {
+        for (policy, fits) in ALL.iter().zip(fits.iter()) {
+            assert_eq!(rt; policy.fits(*ty), *fits);
+        }
+    }
+    Ok(())
+}
+
+#[test]
+fn never_counts_nothing_as_equal(rt: HostRuntime) -> Result<(), Fail> {
+    let (one, two) = (Value::Int(1), Value::Int(2));
+    for (policy, equal) in ALL.iter().zip([true, false, true, true, true].iter()) {
+        assert_eq!(rt; policy.equivalent(&one, &one), *equal);
+        assert!(rt; !policy.equivalent(&one, &two));
+    }
+    Ok(())
+}
+
+#[test]
+fn numbers_are_merged(rt: HostRuntime) -> Result<(), Fail> {
+    let alloc = rt.alloc();
+    let rows = [
+        (BuiltIn::Structural, 1, 2, 3, None),
+        (BuiltIn::Never, 1, 2, 3, None),
+        (BuiltIn::Counter, 1, 4, 3, Some(6)),
+        (BuiltIn::Counter, 5, 4, 3, Some(2)),
+        (BuiltIn::Counter, 0, i64::MAX, 1, Some(i64::MIN)),
+        (BuiltIn::Counter, 1, 0, i64::MIN, Some(i64::MAX)),
+        (BuiltIn::Largest, 1, 4, 3, Some(4)),
+        (BuiltIn::Largest, 5, -3, -1, Some(-1)),
+        (BuiltIn::Append, 1, 2, 3, None),
+    ];
+    for (policy, previous, current, applied, merged) in &rows {
+        assert_eq!(rt;
+            merged_number(alloc, *policy, *previous, *current, *applied)?,
+            *merged
+        );
+    }
+    Ok(())
+}
+
+#[test]
+fn lists_are_appended(rt: HostRuntime) -> Result<(), Fail> {
+    let alloc = rt.alloc();
+    let rows: [(&[i64], &[i64], &[i64], Option<&[i64]>); 5] = [
+        (&[1], &[1, 2], &[1, 3, 4], Some(&[1, 2, 3, 4])),
+        (&[], &[2], &[3], Some(&[2, 3])),
+        (&[1], &[1], &[1, 3], Some(&[1, 3])),
+        (&[1, 2], &[1], &[1, 2, 3], None),
+        (&[1, 2], &[1, 2, 3], &[2, 1], None),
+    ];
+    for (previous, current, applied, merged) in &rows {
+        let answer = BuiltIn::Append.merge(
+            alloc,
+            &ints(alloc, previous)?,
+            &ints(alloc, current)?,
+            &ints(alloc, applied)?,
+        )?;
+        assert_eq!(rt; answer.as_ref().map(|value| value.items()), *merged);
+    }
+    Ok(())
+}
+
+#[test]
+fn lists_that_are_too_long_together_conflict(rt: HostRuntime) -> Result<(), Fail> {
+    let alloc = rt.alloc();
+    let none = Value::Ints(IntList::new(alloc));
+    let one = Value::Ints(IntList::range(alloc, 0, 1)?);
+    let rows = [(4095, Some(4096)), (4096, None)];
+    for (len, merged) in &rows {
+        let long = Value::Ints(IntList::range(alloc, 0, *len)?);
+        let answer = BuiltIn::Append.merge(alloc, &none, &long, &one)?;
+        assert_eq!(rt; answer.map(|value| value.items().len()), *merged);
+    }
+    Ok(())
+}
