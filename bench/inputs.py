@@ -1,21 +1,21 @@
 #!/usr/bin/env python3
-"""Writes texts of about 1 MB, well formed or with a fault at their end, that ask much of the reading: checked.py NAME [FAULT]
+"""Writes inputs of about 1 MB, well formed or with a fault at their end, that are hard to check: inputs.py NAME [FAULT]
 
-    statements   statements in one block, as many as there is room for
-    calls        calls in one block
-    chains       256 functions in chains of 32, each with calls of the one before
-    names        states, functions and variables with names of 64 bytes that differ in their last bytes alone
-    deep         expressions in which 64 stand in one another
-    blocks       statements that stand in 15 others
+    statements   as many statements in one block as fit
+    calls        as many calls in one block as fit
+    chains       256 functions in chains of 32, each with calls of the function before
+    names        states, functions and variables with names of 64 bytes that differ only in their last bytes
+    deep         expressions nested 64 deep
+    blocks       statements nested in 15 others
     lists        lists of 4,096 numbers in expressions
-    states       more states than a program may have, and reads of none of them
-    functions    more functions than a program may have, and calls of none of them
+    states       more states than a program may have, and reads of others
+    functions    more functions than a program may have, and calls of others
 
-FAULT is form, limit, double, unknown, order, type or remember: one more statement, at the end, has that fault.
+FAULT is form, limit, double, unknown, order, type or remember: a statement with that fault is appended.
 """
 import sys
 
-ROOM = 1045000
+LENGTH = 1045000
 FAULTS = {
     "form": "(node N)",
     "limit": "(key 9223372036854775808)",
@@ -27,14 +27,14 @@ FAULTS = {
 }
 
 
-def text(front, block, fault, behind=""):
-    """A text whose root has a block, with a fault at its end or not."""
-    return "(compose 1)\n%s(fun root () %s%s)\n%s" % (front, block, FAULTS[fault] if fault else "", behind)
+def text(front, block, fault, end=""):
+    """Returns an input whose root has a block, with or without a fault at its end."""
+    return "(compose 1)\n%s(fun root () %s%s)\n%s" % (front, block, FAULTS[fault] if fault else "", end)
 
 
 def filled(part, used=0):
-    """As many copies as there is room for."""
-    return part * ((ROOM - used) // len(part))
+    """Returns as many copies of `part` as fit."""
+    return part * ((LENGTH - used) // len(part))
 
 
 def statements(fault):
@@ -48,7 +48,7 @@ def calls(fault):
 
 def chains(fault):
     functions = []
-    each = (ROOM // 255 - 20) // len("(call f100)")
+    each = (LENGTH // 255 - 20) // len("(call f100)")
     for n in range(255):
         called = "(call f%d)" % (n - 1) * each if n % 31 else ""
         functions.append("(fun f%d () %s)\n" % (n, called))
@@ -86,10 +86,10 @@ def functions(fault):
     return text(front, filled("(call zzzzzz)", len(front)), fault)
 
 
-TEXTS = {"statements": statements, "calls": calls, "chains": chains, "names": names, "deep": deep, "blocks": blocks,
+INPUTS = {"statements": statements, "calls": calls, "chains": chains, "names": names, "deep": deep, "blocks": blocks,
          "lists": lists, "states": states, "functions": functions}
-# what these have a fault of their own in, before any other but a wrong form
+# Inputs that have a fault of their own, which only a wrong form precedes.
 LARGE = "states", "functions"
 
 if __name__ == "__main__":
-    sys.stdout.write(TEXTS[sys.argv[1]](sys.argv[2] if len(sys.argv) > 2 else None))
+    sys.stdout.write(INPUTS[sys.argv[1]](sys.argv[2] if len(sys.argv) > 2 else None))

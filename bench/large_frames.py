@@ -1,21 +1,21 @@
 #!/usr/bin/env python3
-"""Writes texts for `compose_play run` that ask much of a frame: whole.py forest|changing|turns|keyed
+"""Writes inputs for `compose_play run` with large frames: large_frames.py forest|changing|turns|keyed
 
-    forest   a forest of 200,000 nodes, shown in five frames
-    changing the same, where each frame changes all of the nodes
-    turns    a frame whose loops want 16 million groups, which is refused, and a small frame behind it
-    keyed    a list of 4,000 rows with keys, turned round, and turned round again
+    forest    a forest of 200,000 nodes, printed in five frames
+    changing  the same forest, where each frame changes all nodes
+    turns     a refused frame whose loops want 16 million groups, and a small frame after it
+    keyed     a list of 4,000 rows with keys, reversed twice
 """
 import sys
 
 
 def program(states, functions, steps):
-    """A text, as bytes."""
+    """Returns an input, as bytes."""
     return "\n".join(["(compose 1)"] + states + functions + ["(do main", "\n".join(steps), ")\n"]).encode()
 
 
 def forest(steps=("(frame)",) * 5, rows=400, cells=499):
-    """Rows of cells, each cell with the state's value: rows * (cells + 1) nodes."""
+    """Returns rows of cells, each with the value of the state: rows * (cells + 1) nodes."""
     return program(
         ["(state n Int Structural 0)"],
         ["(fun root () (let n (get n)",
@@ -24,12 +24,12 @@ def forest(steps=("(frame)",) * 5, rows=400, cells=499):
 
 
 def changing(frames=5):
-    """The forest, with another value of the state in each frame."""
+    """Returns the forest with another value of the state in each frame."""
     return forest(["(write global n %d) (frame)" % (n + 1) for n in range(frames)])
 
 
 def turns(side=4000):
-    """Loops of side * side turns with a group in each, and then of one."""
+    """Returns loops of side * side turns with a group in each, and then of one turn."""
     return program(
         ["(state side Int Structural %d)" % side],
         ["(fun root () (for y (range 0 (get side)) (for x (range 0 (get side)) (key x (node Cell ((x x)))))))"],
@@ -37,7 +37,7 @@ def turns(side=4000):
 
 
 def keyed(rows=4000, frames=2):
-    """A list of rows with keys, turned round before each frame but the first."""
+    """Returns a list of rows with keys, reversed before each frame except the first."""
     items = " ".join(map(str, range(rows)))
     back = " ".join(map(str, reversed(range(rows))))
     steps = ["(frame)"]
@@ -50,7 +50,7 @@ def keyed(rows=4000, frames=2):
         steps)
 
 
-TEXTS = {"forest": forest, "changing": changing, "turns": turns, "keyed": keyed}
+INPUTS = {"forest": forest, "changing": changing, "turns": turns, "keyed": keyed}
 
 if __name__ == "__main__":
-    sys.stdout.buffer.write(TEXTS[sys.argv[1]]())
+    sys.stdout.buffer.write(INPUTS[sys.argv[1]]())
