@@ -77,6 +77,7 @@ fn both_operands_of_and_are_read(rt: HostRuntime) -> Result<(), Fail> {
         "(compose 1) (state l Ints Structural (ints)) (state a Bool Structural true) (state b Bool Structural true)
 (fun root () (key (and (get a) (get b))))",
     )?;
+    assert_eq!(rt; program.functions.len(), 1);
     let mut view = view_of(alloc, &[], &[0, 1])?;
     if let Some(Statement::Key { key, .. }) = program.functions[0].body.first() {
         let value = eval(alloc, key, &Env::new(alloc), &mut view)?;

@@ -36,6 +36,7 @@ fn scripts_are_resolved(rt: HostRuntime) -> Result<(), Fail> {
     let script = "(do a (write global count 1) (frame)) (do a (write global step 1) (frame))";
     let (program, rest) = parsed(alloc, script)?;
     let resolved = script_of(alloc, &rest, &program)?;
+    assert_eq!(rt; resolved.actors.len(), 1);
     assert_eq!(rt; resolved.actors[0].bytes(), b"a".as_slice());
     assert_eq!(rt; resolved.steps.len(), 4);
     assert!(rt; is_write(&resolved.steps[0], 0) && is_write(&resolved.steps[2], 1));
