@@ -3,9 +3,16 @@ ghost use Rattle.std.specs.Prelude.{◌≡◌, ◌<◌, ◌++◌, ◌∷◌, [],
 ghost use Rattle.rt_groups.specs.PreorderGroups.{flat_group};
 ghost use Rattle.rt_groups.specs.declared.groups.Group.{Group as group_data};
 
-use rt_values::{Items, NoMemory, Objects, Value, Word};
+use rt_values::{Items, NoMemory, ObjectNo, Objects, Value, Word};
 use std::alloc::Global;
 use std::marker::Model;
+
+/// What a call depends on: the number of a state object. A rule of this project; other kinds of values that a call
+/// can read may join later.
+pub type Dep = ObjectNo;
+
+/// The dependencies of a call in the order of its reads, repeats included.
+pub type Deps = Objects;
 
 /// A list of values: the arguments of a call, or the keys of a cell.
 pub type Values = Items<Value>;
@@ -44,9 +51,9 @@ pub struct Group {
     /// The number of a node, or 0 if the group has no number yet.
     pub number: u64,
     pub what: GroupKind,
-    /// The state objects that a call read itself, in order, repeats included (what its `RecomposeScope`
-    /// observes). The list is empty for the other kinds.
-    pub reads: Objects,
+    /// What a call read itself, in order, repeats included (what its `RecomposeScope` observes). The list is empty
+    /// for the other kinds.
+    pub reads: Deps,
 }
 
 // Returns the attributes of a node, whose memory can be used again. Discards everything else.

@@ -10,5 +10,5 @@
 mod groups;
 mod report;
 
-pub use groups::{Attribute, Attributes, Group, GroupKind, Groups, Values};
+pub use groups::{Attribute, Attributes, Dep, Deps, Group, GroupKind, Groups, Values};
 pub use report::Report;
