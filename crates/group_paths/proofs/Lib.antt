@@ -1,0 +1,4 @@
+pub mod Indexes
+pub mod SiblingMatches
+pub mod FoundPaths
+pub mod IndexedGroups

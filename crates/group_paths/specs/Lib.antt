@@ -1,0 +1,2 @@
+pub mod GroupPaths
+pub mod SiblingEquality

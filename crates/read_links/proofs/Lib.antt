@@ -1,0 +1,4 @@
+mod Laws
+mod Spares
+mod Entries
+mod Removals

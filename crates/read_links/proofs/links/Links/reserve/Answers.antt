@@ -1,0 +1,16 @@
+use Rattle.std.proofs.Common.{◌-◌, vec_len, vec_capacity, arith}
+use Rattle.indexmap.specs.IndexMap.{spare}
+use Rattle.read_links.proofs.Spares.{spare_is}
+use Rattle.read_links.proofs.links.Links.reserve.Goals as goal
+
+pub returns-clause-room : goal.returns-clause-room
+returns-clause-room c =
+    let same = c.reserve_lists.ensures.spare in
+    let enough = c.in_ok-reserve.ensures.ok in
+    let count = c.in_ok-pool.ensures.len in
+    spare_is (λ v. vec_capacity v - vec_len v) c.args.n (spare c.reserve_lists.new.objects) c.reserve_lists.new.objects.entries c.in_ok-pool.pool.items (record {
+      map = omega (arith, same, enough);
+      count = omega (arith, count);
+      ready = c.in_ok-pool.ensures.room;
+      lists = c.in_ok-reserve_lists.ensures.room;
+    })

@@ -1,0 +1,2 @@
+mod AnchorPaths
+mod Inverses

@@ -1,0 +1,4 @@
+mod InnerCounts
+mod OpenGroups
+mod Siblings
+mod JoinedGroups

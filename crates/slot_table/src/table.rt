@@ -1,0 +1,195 @@
+// The groups of a composition.
+ghost use Rattle.std.specs.Prelude.{◌≡◌, ◌≤◌, ◌<◌, ◌+◌, ◌∷◌, [], List, length, drop, slice_index_or, IfOk, OnOk};
+ghost use Rattle.rt_groups.specs.declared.groups.Group.{Group as group_data};
+ghost use Rattle.slot_table.specs.TableGroups.{group_at};
+ghost use Rattle.slot_table.specs.ReaderStates.{after_deep};
+ghost use Rattle.slot_table.specs.InnerCounts.{leading_deep, inner_counts};
+
+use crate::storage::{GroupHead, GroupSlots, split};
+use gap_buffer::GapBuf;
+use rt_groups::{Deps, Group, GroupKind};
+use rt_values::NoMemory;
+use std::alloc::Global;
+use std::marker::Model;
+
+/// The groups of a composition in preorder (`SlotTable`).
+#[derive(Drop)]
+pub struct Table {
+    groups: GapBuf<GroupHead>,
+    // For each group its kind with its values, and its reads.
+    slots: GapBuf<GroupSlots>,
+    // For each group the number of groups inside it (`groupSize` less 1).
+    counts: Vec<usize>,
+}
+
+impl Model for Table {
+    ghost use Rattle.std.specs.Prelude.{◌≡◌, length, min};
+    ghost use Rattle.slot_table.specs.TableGroups.{TableGroups};
+    ghost use Rattle.slot_table.specs.InnerCounts.{inner_counts as counts_of};
+    ghost use Rattle.slot_table.specs.Storage.{joined_groups as joined};
+
+    ghost Value = { TableGroups };
+
+    ghost view = { λ t. record {
+      groups = joined t.groups.items t.slots.items;
+      spare = min t.groups.spare t.slots.spare;
+    } };
+
+    ghost invariant = { λ t. (length t.groups.items ≡ length t.slots.items)
+        × (t.counts.items ≡ counts_of (joined t.groups.items t.slots.items)) };
+}
+
+impl Table {
+    /// Returns the table without groups.
+    pub fn new(alloc: Global) -> Self
+        ensures { result.groups ≡ [] }
+    {
+        Table {
+            groups: GapBuf::new(alloc),
+            slots: GapBuf::new(alloc),
+            counts: Vec::new(alloc),
+        }
+    }
+
+    /// Returns the table of `groups`, which are in preorder. Takes time linear in their number.
+    pub fn from_groups(alloc: Global, groups: Vec<Group>) -> Result<Self, NoMemory>
+        ensures { IfOk result (λ t. t.groups ≡ groups.items) }
+    {
+        let counts = count_all_inside(alloc, &groups)?;
+        let (groups, slots) = split(alloc, groups)?;
+        Ok(Table {
+            groups,
+            slots,
+            counts,
+        })
+    }
+
+    /// Returns the number of groups.
+    #[tactic(auto, using(crate::proofs::JoinedGroups::joined_count))]
+    pub fn len(&self) -> usize
+        ensures { result ≡ length self.now.groups }
+    {
+        self.groups.len()
+    }
+
+    /// Makes the spare capacity at least `n` groups. The groups stay.
+    pub fn reserve(&mut self, n: usize) -> Result<(), NoMemory>
+        ensures groups { self.new.groups ≡ self.old.groups }
+        ensures room { OnOk result (n ≤ self.new.spare) }
+    {
+        self.groups.reserve(n)?;
+        self.slots.reserve(n)?;
+        Ok(())
+    }
+
+    // Returns the fields of the group at index `i` that have a fixed size.
+    fn head(&self, i: usize) -> &GroupHead
+        requires { i < length self.now.groups }
+        ensures depth { result.now.depth ≡ (group_at self.now.groups i).depth }
+        ensures site { result.now.site ≡ (group_at self.now.groups i).site }
+        ensures number { result.now.number ≡ (group_at self.now.groups i).number }
+    {
+        self.groups.get(i)
+    }
+
+    // Returns the slots of the group at index `i`.
+    fn slot(&self, i: usize) -> &GroupSlots
+        requires { i < length self.now.groups }
+        ensures what { result.now.what ≡ (group_at self.now.groups i).what }
+        ensures reads { result.now.reads ≡ (group_at self.now.groups i).reads }
+    {
+        self.slots.get(i)
+    }
+
+    /// Returns the depth of the group at index `i`.
+    pub fn depth(&self, i: usize) -> u32
+        requires { i < length self.now.groups }
+        ensures { result ≡ (group_at self.now.groups i).depth }
+    {
+        self.head(i).depth
+    }
+
+    /// Returns the site of the group at index `i`.
+    pub fn site(&self, i: usize) -> u32
+        requires { i < length self.now.groups }
+        ensures { result ≡ (group_at self.now.groups i).site }
+    {
+        self.head(i).site
+    }
+
+    /// Returns the number of the group at index `i`: that of a node, or 0.
+    pub fn number(&self, i: usize) -> u64
+        requires { i < length self.now.groups }
+        ensures { result ≡ (group_at self.now.groups i).number }
+    {
+        self.head(i).number
+    }
+
+    /// Returns the kind of the group at index `i`, with its values.
+    pub fn kind(&self, i: usize) -> &GroupKind
+        requires { i < length self.now.groups }
+        ensures { result.now ≡ (group_at self.now.groups i).what }
+    {
+        &self.slot(i).what
+    }
+
+    /// Returns what the group at index `i` depends on itself.
+    pub fn reads(&self, i: usize) -> &Deps
+        requires { i < length self.now.groups }
+        ensures { result.now ≡ (group_at self.now.groups i).reads }
+    {
+        &self.slot(i).reads
+    }
+
+    /// Returns the index after the group at index `i` and all groups inside it.
+    #[tactic(auto, using(crate::proofs::InnerCounts::length_counts))]
+    pub fn index_after(&self, i: usize) -> usize
+        requires { i < length self.now.groups }
+        ensures after { (g : group_data) (rest : List group_data) → drop i self.now.groups ≡ g ∷ rest →
+            drop result self.now.groups ≡ after_deep (g.depth + 1) rest }
+        ensures inside { result ≤ length self.now.groups }
+    {
+        let _length = self.len();
+        i + 1 + self.counts[i]
+    }
+}
+
+// Returns the group at index `i`.
+fn item(groups: &[Group], i: usize) -> &Group
+    requires { i < length groups.now }
+    ensures { result.now ≡ slice_index_or groups.now i result.now }
+{
+    &groups[i]
+}
+
+// Counts the groups inside the group at index `i`. The counts of the groups after it are known.
+fn count_inside(groups: &[Group], counts: &[usize], i: usize) -> usize
+    requires inside { i < length groups.now }
+    requires long { length counts.now ≡ length groups.now }
+    requires after { drop (i + 1) counts.now ≡ inner_counts (drop (i + 1) groups.now) }
+    ensures { (g : group_data) (rest : List group_data) → drop i groups.now ≡ g ∷ rest →
+        result ≡ length (leading_deep (g.depth + 1) rest) }
+{
+    let depth = item(groups, i).depth;
+    let mut next = i + 1;
+    while next < groups.len() {
+        if item(groups, next).depth <= depth {
+            return next - i - 1;
+        }
+        next = next + 1 + counts[next];
+    }
+    next - i - 1
+}
+
+// Counts for each group the groups inside it, from the last group to the first.
+fn count_all_inside(alloc: Global, groups: &[Group]) -> Result<Vec<usize>, NoMemory>
+    ensures { IfOk result (λ counts. counts.items ≡ inner_counts groups.now) }
+{
+    let mut at = groups.len();
+    let mut counts = vec![in alloc; 0; at]?;
+    while 0 < at {
+        at -= 1;
+        counts[at] = count_inside(groups, &counts, at);
+    }
+    Ok(counts)
+}

@@ -1,0 +1,18 @@
+//! Tests of `gap_buffer`, `slot_table`, `slot_anchors`, `slot_edit`, `group_keys`, `read_links` and `remember_cells`
+//! from outside.
+#![tactic(auto)]
+
+#[cfg(test)]
+mod cells;
+#[cfg(test)]
+mod edits;
+#[cfg(test)]
+mod gap_buffers;
+#[cfg(test)]
+mod keys;
+#[cfg(test)]
+mod links;
+#[cfg(test)]
+mod rows;
+#[cfg(test)]
+mod tables;

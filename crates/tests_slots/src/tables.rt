@@ -1,0 +1,122 @@
+// A reader of a table.
+ghost use Rattle.std.specs.Prelude.{◌≡◌, ◌<◌};
+
+use crate::rows::row_groups;
+use rt_groups::GroupKind;
+use rt_values::{NoMemory, Steps, Value};
+use slot_table::{Reader, Table};
+use std::alloc::Global;
+use std::marker::Brand;
+use std::sync::ledger::{Blank, Ledger};
+use std::test::Fail;
+
+// Returns the number, or -9 for another value.
+fn int_of(value: &Value) -> i64 {
+    match value {
+        Value::Int(number) => *number,
+        _ => -9,
+    }
+}
+
+// Returns the key of the next group, or -9.
+fn next_key(reader: &Reader) -> i64 {
+    if !reader.more() {
+        return -9;
+    }
+    match reader.key() {
+        Some(key) => int_of(key),
+        None => -9,
+    }
+}
+
+// Returns 1 for a call, 2 for a node, 3 for a key and 4 for a cell.
+fn kind_code(kind: &GroupKind) -> i64 {
+    match kind {
+        GroupKind::Call { .. } => 1,
+        GroupKind::Node { .. } => 2,
+        GroupKind::Key(_) => 3,
+        GroupKind::Cell { .. } => 4,
+    }
+}
+
+// Opens the next group and appends its kind, its number, its first read and its first value, each as 0 if it is not
+// what the rows have, and closes the group if `closes`. Appends -9 if there is no next group.
+fn visit_next<L: Ledger>(
+    reader: &mut Reader,
+    steps: &mut Steps<L>,
+    closes: bool,
+    values: &mut Vec<i64>,
+) -> Result<(), NoMemory> {
+    if !reader.more() {
+        values.push(-9)?;
+        return Ok(());
+    }
+    reader.open_group(steps)?;
+    values.push(kind_code(reader.kind()))?;
+    values.push(if reader.number() == 9 { 9 } else { 0 })?;
+    values.push(if reader.reads().numbers() == [7u64].as_slice() {
+        7
+    } else {
+        0
+    })?;
+    values.push(if reader.payload_count() == 0 {
+        0
+    } else {
+        int_of(reader.payload(0))
+    })?;
+    if closes {
+        reader.close_group();
+    }
+    Ok(())
+}
+
+// Reads a table of the rows 1, 2 and 3: opens the root, skips row 1, opens row 2 and the node inside it, and closes
+// the node.
+fn values_read<L: Ledger>(alloc: Global, table: &Table, blank: Blank) -> Result<Vec<i64>, NoMemory>
+    requires name { blank.name ≡ L.name }
+    requires parts { blank.parts ≡ L.parts }
+    requires some { 0 < L.parts }
+{
+    let (book, share) = blank.open();
+    let mut steps: Steps<L> = Steps::new(book, share);
+    let mut reader = Reader::new(alloc, table);
+    let mut values = Vec::new(alloc);
+    visit_next(&mut reader, &mut steps, false, &mut values)?;
+    values.push(next_key(&reader))?;
+    if reader.more() {
+        reader.skip_group();
+    }
+    values.push(next_key(&reader))?;
+    visit_next(&mut reader, &mut steps, false, &mut values)?;
+    visit_next(&mut reader, &mut steps, true, &mut values)?;
+    visit_next(&mut reader, &mut steps, true, &mut values)?;
+    Ok(values)
+}
+
+#[test]
+fn reader_opens_and_skips_groups(rt: HostRuntime) -> Result<(), Fail> {
+    let alloc = rt.alloc();
+    let table = Table::from_groups(alloc, row_groups(alloc, &[1, 2, 3])?)?;
+    assert_eq!(rt; table.len(), 7usize);
+    let values = values_read::<Brand>(alloc, &table, Blank::new(1))?;
+    // The root with its argument; the keys of rows 1 and 2; row 2 with its key; the node with its attribute; no next
+    // group.
+    assert_eq!(rt;
+        values.as_slice(),
+        [1i64, 9, 7, -1, 1, 2, 3, 9, 7, 2, 2, 9, 7, 2, -9].as_slice()
+    );
+    Ok(())
+}
+
+#[test]
+fn indexes_after_groups_skip_what_is_inside(rt: HostRuntime) -> Result<(), Fail> {
+    let alloc = rt.alloc();
+    let table = Table::from_groups(alloc, row_groups(alloc, &[1, 2, 3])?)?;
+    assert_eq!(rt; table.len(), 7usize);
+    let expected = [7usize, 3, 3, 5, 5, 7, 7];
+    for at in 0..7 {
+        assert_eq!(rt; table.index_after(at), expected[at]);
+    }
+    assert_eq!(rt; Table::new(alloc).len(), 0usize);
+    Ok(())
+}
