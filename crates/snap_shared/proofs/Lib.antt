@@ -1,0 +1,17 @@
+pub mod ChangedStates
+pub mod ClosedTables
+pub mod DeskAnswers
+pub mod DeskCalls
+pub mod JoinedSeats
+pub mod MadeCalls
+pub mod OpenedTables
+pub mod OwnCalls
+pub mod OwnSnapshots
+pub mod Prefixes
+pub mod ReturnedTurns
+pub mod SharedHistories
+pub mod SplitSeats
+pub mod SplitStates
+pub mod TakenTurns
+pub mod TriedTurns
+pub mod Totals

@@ -1,0 +1,9 @@
+pub mod Histories
+pub mod TurnRule
+pub mod StepResults
+pub mod SharedCalls
+pub mod SeatSteps
+pub mod Seats
+pub mod SeatDesk
+pub mod CallEffects
+pub mod HistoryEffects
