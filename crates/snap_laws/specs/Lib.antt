@@ -1,0 +1,13 @@
+pub mod Shown
+pub mod Keeps
+pub mod Represents
+pub mod Settling
+pub mod Steps
+pub mod Writes
+pub mod Maps
+pub mod Applies
+pub mod Disposes
+pub mod Reads
+pub mod TakesFor
+pub mod FreeRefusals
+pub mod Coverage

@@ -1,0 +1,10 @@
+pub mod Advancing
+pub mod Entering
+pub mod Applying
+pub mod Closing
+pub mod Descending
+pub mod Members
+pub mod Start
+pub mod Free
+pub mod Open
+pub mod Merging

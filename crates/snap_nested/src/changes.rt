@@ -1,0 +1,308 @@
+// Changes of the list of members: each function returns an error only if memory ran out.
+ghost use Rattle.std.specs.Prelude.{◌≡◌, ◌≢◌, ℕ, ◌+◌, ◌≤◌, ◌<◌, ◌^◌, true, false, List, length, slice_set, [], ◌∷◌, IfOk, IfSome, IfNone, OnOk, OnErr};
+ghost use Rattle.rt_values.specs.Maps.{contains};
+ghost use Rattle.snap_nested.specs.Members.{member, members_after_enter, members_after_advance, members_after_close, members_after_merge, sees, is_seen, is_owned, with_owned, invalid_after_advance, is_free, without_invalid, AreOpen, IsForgotten, global};
+
+use crate::Member;
+use rt_values::{Caller, Kind, Name, NoMemory};
+use snap_ids::IdSet;
+use std::alloc::Global;
+use std::mem::replace;
+
+// Returns whether the member with this name has the id.
+fn owns(members: &[Member], name: Name, id: u64) -> bool
+    ensures { result ≡ contains id (member members.now name).ids }
+{
+    match members.get(name as usize) {
+        Some(member) => member.ids.get(id),
+        None => false,
+    }
+}
+
+// Returns whether a member has the id. Looks at the open names only.
+fn is_owned(members: &[Member], held: &IdSet, id: u64) -> bool
+    requires { AreOpen held.now members.now }
+    ensures { result ≡ is_owned members.now id }
+{
+    for name in held.ids() {
+        if owns(members, *name, id) {
+            return true;
+        }
+    }
+    false
+}
+
+// Returns the ids of `all` that a member has.
+fn keep_owned(
+    alloc: Global,
+    members: &[Member],
+    held: &IdSet,
+    all: &IdSet,
+) -> Result<IdSet, NoMemory>
+    requires { AreOpen held.now members.now }
+    ensures { IfOk result (λ s. s ≡ with_owned members.now [] all.now) }
+{
+    let mut kept = IdSet::new(alloc);
+    for id in all.ids() {
+        if is_owned(members, held, *id) {
+            kept.set(*id)?;
+        }
+    }
+    Ok(kept)
+}
+
+// Returns the invalid ids of a member that gets a new id.
+fn seal(
+    alloc: Global,
+    members: &[Member],
+    held: &IdSet,
+    handed: u64,
+    name: Name,
+) -> Result<IdSet, NoMemory>
+    requires open_names { AreOpen held.now members.now }
+    requires there { name < length members.now }
+    requires room { handed < 2 ^ 62 }
+    requires low { (member members.now name).id ≤ handed }
+    ensures { IfOk result (λ s. s ≡ invalid_after_advance members.now (member members.now name) handed) }
+{
+    let member = &members[name as usize];
+    let mut all = member.invalid.copy(alloc)?;
+    all.add_range(member.id + 1, handed + 1)?;
+    keep_owned(alloc, members, held, &all)
+}
+
+/// Appends a member for which the ids are valid that are valid for its parent.
+pub fn enter_member(
+    alloc: Global,
+    members: &mut Vec<Member>,
+    held: &IdSet,
+    handed: u64,
+    parent: Name,
+    kind: Kind,
+    owner: Caller,
+) -> Result<(), NoMemory>
+    requires open_names { AreOpen held.now members.old.items }
+    requires there { parent < length members.old.items }
+    requires room { handed < 2 ^ 62 }
+    requires low { (member members.old.items parent).id ≤ handed }
+    ensures ok { OnOk result (members.new.items ≡ members_after_enter members.old.items handed parent kind owner) }
+    ensures err { OnErr result (members.new.items ≡ members.old.items) }
+{
+    let id = handed + 1;
+    let invalid = seal(alloc, members, held, handed, parent)?;
+    let ids = IdSet::of(alloc, id)?;
+    members.push(Member {
+        is_live: true,
+        parent,
+        owner,
+        kind,
+        first: id,
+        id,
+        ids,
+        invalid,
+    })?;
+    Ok(())
+}
+
+/// Gives a member one more id.
+pub fn advance_member(
+    alloc: Global,
+    members: &mut Vec<Member>,
+    held: &IdSet,
+    handed: u64,
+    name: Name,
+) -> Result<(), NoMemory>
+    requires open_names { AreOpen held.now members.old.items }
+    requires there { name < length members.old.items }
+    requires room { handed < 2 ^ 62 }
+    requires low { (member members.old.items name).id ≤ handed }
+    ensures ok { OnOk result (members.new.items ≡ members_after_advance members.old.items handed name) }
+    ensures err { OnErr result (members.new.items ≡ members.old.items) }
+{
+    let id = handed + 1;
+    let Ok(invalid) = seal(alloc, members, held, handed, name) else {
+        return Err(NoMemory);
+    };
+    let member = &mut members[name as usize];
+    let Ok(()) = member.ids.set(id) else {
+        return Err(NoMemory);
+    };
+    member.id = id;
+    member.invalid = invalid;
+    Ok(())
+}
+
+/// Closes a member, which keeps its ids.
+pub fn close_member(members: &mut Vec<Member>, name: Name)
+    requires { name < length members.old.items }
+    ensures { members.new.items ≡ members_after_close members.old.items name }
+{
+    let member = &mut members[name as usize];
+    member.is_live = false;
+    member.invalid.clear_all();
+}
+
+/// Gives the member `into` one more id and the ids of the member `name`, and closes `name`.
+pub fn merge_member(
+    alloc: Global,
+    members: &mut Vec<Member>,
+    held: &IdSet,
+    handed: u64,
+    name: Name,
+    into: Name,
+) -> Result<(), NoMemory>
+    requires open_names { AreOpen held.now members.old.items }
+    requires there { name < length members.old.items }
+    requires above { into < length members.old.items }
+    requires room { handed < 2 ^ 62 }
+    requires low { (member members.old.items into).id ≤ handed }
+    ensures ok { OnOk result (members.new.items ≡ members_after_merge members.old.items handed name into) }
+    ensures err { OnErr result (members.new.items ≡ members.old.items) }
+{
+    let id = handed + 1;
+    let below = &members[name as usize];
+    let upper = &members[into as usize];
+    let mut invalid = seal(alloc, members, held, handed, into)?;
+    invalid.remove_all(&below.ids);
+    let mut own = upper.ids.copy(alloc)?;
+    own.set(id)?;
+    let ids = own.or(alloc, &below.ids)?;
+    let parent = &mut members[into as usize];
+    parent.id = id;
+    parent.ids = ids;
+    parent.invalid = invalid;
+    let member = &mut members[name as usize];
+    member.is_live = false;
+    member.ids.clear_all();
+    member.invalid.clear_all();
+    Ok(())
+}
+
+/// Appends a member, and gives its parent one more id.
+pub fn take_members(
+    alloc: Global,
+    members: &mut Vec<Member>,
+    held: &IdSet,
+    after: &IdSet,
+    handed: u64,
+    parent: Name,
+    kind: Kind,
+    owner: Caller,
+) -> Result<(), NoMemory>
+    requires open_names { AreOpen held.now members.old.items }
+    requires after { AreOpen after.now (members_after_enter members.old.items handed parent kind owner) }
+    requires there { parent < length members.old.items }
+    requires room { handed + 1 < 2 ^ 62 }
+    requires low { (member members.old.items parent).id ≤ handed }
+    ensures ok { OnOk result (members.new.items ≡ members_after_advance
+        (members_after_enter members.old.items handed parent kind owner) (handed + 1) parent) }
+    ensures err { OnErr result (members.new.items ≡ members.old.items) }
+{
+    enter_member(alloc, members, held, handed, parent, kind, owner)?;
+    let advanced = advance_member(alloc, members, after, handed + 1, parent);
+    if advanced.is_err() {
+        members.pop();
+    }
+    advanced
+}
+
+// Returns whether the member with this name is live and the id is valid for it.
+fn sees(members: &[Member], name: Name, id: u64) -> bool
+    ensures { result ≡ sees id (member members.now name) }
+{
+    match members.get(name as usize) {
+        Some(member) => { member.is_live && 0 < id && id <= member.id && !member.invalid.get(id) }
+        None => false,
+    }
+}
+
+// Returns whether the id is valid for a live member. Looks at the open names only.
+fn is_seen(members: &[Member], held: &IdSet, id: u64) -> bool
+    requires { AreOpen held.now members.now }
+    ensures { result ≡ is_seen members.now id }
+{
+    for name in held.ids() {
+        if sees(members, *name, id) {
+            return true;
+        }
+    }
+    false
+}
+
+// Returns whether the member is closed and keeps ids, of which the first is valid for no live member.
+fn is_free(members: &[Member], held: &IdSet, name: Name) -> bool
+    requires { AreOpen held.now members.now }
+    ensures { result ≡ is_free members.now (member members.now name) }
+{
+    match members.get(name as usize) {
+        Some(member) => {
+            !member.is_live && !member.ids.is_empty() && !is_seen(members, held, member.first)
+        }
+        None => false,
+    }
+}
+
+/// Returns the first name that is free: closed, with ids that no live member needs.
+pub fn first_free(members: &[Member], held: &IdSet) -> Option<Name>
+    requires { AreOpen held.now members.now }
+    ensures within { IfSome result (λ n. n < length members.now) }
+    ensures free { IfSome result (λ n. is_free members.now (member members.now n) ≡ true) }
+    ensures none { IfNone result ((k : ℕ) → is_free members.now (member members.now k) ≡ false) }
+{
+    for name in held.ids() {
+        if is_free(members, held, *name) {
+            return Some(*name);
+        }
+    }
+    None
+}
+
+// Removes `own` from the invalid ids of a member.
+fn free_at(members: &mut Vec<Member>, name: Name, own: &IdSet)
+    requires { name < length members.old.items }
+    ensures { members.new.items ≡ slice_set members.old.items name (without_invalid own.now
+        (member members.old.items name)) }
+{
+    members[name as usize].invalid.remove_all(own);
+}
+
+// Removes `own` from the invalid ids of all members. Looks at the open names only: the others have no invalid ids.
+fn free_all(members: &mut Vec<Member>, held: &IdSet, own: &IdSet)
+    requires within { (n : ℕ) → contains n held.now ≡ true → n < length members.old.items }
+    requires shut { (n : ℕ) → contains n held.now ≡ false → (member members.old.items n).invalid ≡ [] }
+    ensures count { length members.new.items ≡ length members.old.items }
+    ensures each { (n : ℕ) → member members.new.items n ≡ without_invalid own.now (member members.old.items n) }
+{
+    for name in held.ids() {
+        free_at(members, *name, own);
+    }
+}
+
+/// Removes the ids of a member, and removes them from the invalid ids of all members.
+pub fn forget_member(members: &mut Vec<Member>, held: &IdSet, name: Name)
+    requires open_names { AreOpen held.now members.old.items }
+    requires there { name < length members.old.items }
+    ensures { IsForgotten members.old.items members.new.items name }
+{
+    let alloc = *members.allocator();
+    let own = replace(&mut members[name as usize].ids, IdSet::new(alloc));
+    free_all(members, held, &own);
+}
+
+/// Returns the list with only global.
+pub fn global_alone(alloc: Global) -> Result<Vec<Member>, NoMemory>
+    ensures { IfOk result (λ ms. ms.items ≡ global ∷ []) }
+{
+    let mut members = Vec::new(alloc);
+    members.push(Member {
+        is_live: true,
+        parent: 0,
+        owner: 0,
+        kind: Kind::Mutable,
+        first: 1,
+        id: 1,
+        ids: IdSet::of(alloc, 1)?,
+        invalid: IdSet::new(alloc),
+    })?;
+    Ok(members)
+}

@@ -1,0 +1,54 @@
+-- Records of some ids get id 0, place by place.
+use Rattle.std.proofs.Common.{◌≡◌, ℕ, zero, suc, ◌+◌, ◌<◌, List, [], ◌∷◌, ◌++◌, length, map, take, drop, refl, sym, ap, ◌∙◌, Some, Bool, true, false, cond, arith}
+use Rattle.std.proofs.lemmas.List.{set-get_or, drop_all, take_all, append-nil}
+use Rattle.std.proofs.lemmas.Option.{get_or_from_slice_get}
+use Rattle.std.specs.Prelude.{slice_get, slice_index_or, slice_set}
+use Rattle.rt_values.specs.Maps.{contains}
+use Rattle.snap_records.specs.Records.{Rec}
+use Rattle.snap_records.specs.Edits.{record_without_ids}
+use Rattle.snap_records.specs.Chains.{record_at, keys_at, chain_of, Replaces, ClearsAt, no_record}
+use Rattle.snap_records.specs.declared.chains.Chains.{Chains}
+use Rattle.snap_records.proofs.Putting.{rec_there}
+
+clears : (ids : List ℕ) (r : Rec) (b : Bool) → contains r.id ids ≡ b → record_without_ids ids r ≡ cond b (record r { id = 0 }) r
+clears ids r b is = ap (λ (t : Bool). cond t (record r { id = 0 }) r) is
+
+-- the record was one of these ids
+pub cleared_one : (old new : Chains) (ids : List ℕ) (x i r : ℕ) → slice_get (keys_at old x) i ≡ Some r → contains (record_at old r).id ids ≡ true → Replaces old new r (record (record_at old r) { id = 0 }) → length new.heads.items ≡ length old.heads.items → ClearsAt old new ids x i
+cleared_one old new ids x i r there own p many =
+    let at : slice_index_or (chain_of old x) i no_record ≡ record_at old r = get_or_from_slice_get (chain_of old x) i (record_at old r) no_record (rec_there old x i r there) in
+    let is : record (record_at old r) { id = 0 } ≡ record_without_ids ids (slice_index_or (chain_of old x) i no_record) = sym (clears ids (record_at old r) true own) ∙ ap (record_without_ids ids) (sym at) in
+    record {
+      keys = p.keys;
+      here = p.here x i there ∙ ap (λ (q : Rec). slice_set (chain_of old x) i q) is;
+      others = λ y other. p.others y (λ k h. other (old.once y x k i r h there).0);
+      many = many;
+    }
+
+-- or it was not
+pub cleared_none : (old : Chains) (ids : List ℕ) (x i r : ℕ) → slice_get (keys_at old x) i ≡ Some r → contains (record_at old r).id ids ≡ false → ClearsAt old old ids x i
+cleared_none old ids x i r there own =
+    let at : slice_index_or (chain_of old x) i no_record ≡ record_at old r = get_or_from_slice_get (chain_of old x) i (record_at old r) no_record (rec_there old x i r there) in
+    let is : record_without_ids ids (slice_index_or (chain_of old x) i no_record) ≡ slice_index_or (chain_of old x) i no_record = ap (record_without_ids ids) at ∙ clears ids (record_at old r) false own ∙ sym at in
+    record {
+      keys = λ y. refl;
+      here = sym (set-get_or (chain_of old x) i no_record) ∙ ap (λ (q : Rec). slice_set (chain_of old x) i q) (sym is);
+      others = λ y other. refl;
+      many = refl;
+    }
+
+one_more : (f : Rec → Rec) (c : List Rec) (i : ℕ) → i < length c → slice_set (map f (take i c) ++ drop i c) i (f (slice_index_or (map f (take i c) ++ drop i c) i no_record)) ≡ map f (take (suc i) c) ++ drop (suc i) c
+one_more f [] i h = absurd (omega (arith, h))
+one_more f (r ∷ c) zero h = refl
+one_more f (r ∷ c) (suc i) h = ap (λ (l : List Rec). f r ∷ l) (one_more f c i (omega (arith, h)))
+
+-- one place further
+pub cleared_more : (f : Rec → Rec) (c cur : List Rec) (i : ℕ) → i < length c → cur ≡ map f (take i c) ++ drop i c → slice_set cur i (f (slice_index_or cur i no_record)) ≡ map f (take (i + 1) c) ++ drop (i + 1) c
+cleared_more f c cur i h is =
+    let next : suc i ≡ i + 1 = omega arith in
+    ap (λ (l : List Rec). slice_set l i (f (slice_index_or l i no_record))) is ∙ one_more f c i h ∙ ap (λ (n : ℕ). map f (take n c) ++ drop n c) next
+
+-- at the end
+pub cleared_end : (f : Rec → Rec) (c cur : List Rec) (n : ℕ) → length c ≡ n → cur ≡ map f (take n c) ++ drop n c → cur ≡ map f c
+cleared_end f c cur n many is =
+    is ∙ ap (λ (l : List Rec). map f (take n c) ++ l) (drop_all n c (omega (arith, many))) ∙ append-nil (map f (take n c)) ∙ ap (λ (l : List Rec). map f l) (take_all n c (omega (arith, many)))

@@ -1,0 +1,9 @@
+pub mod Reading
+pub mod Edits
+pub mod Readable
+pub mod Padding
+pub mod Placing
+pub mod Putting
+pub mod Finding
+pub mod Clearing
+pub mod Raising

@@ -1,0 +1,77 @@
+-- Trusted: the chain of each object, as a list of records, and what each call does to the chains.
+use Rattle.std.specs.Prelude.{◌≡◌, ◌≢◌, ℕ, ◌==◌, List, [], ◌∷◌, length, map, slice_get, slice_index_or, slice_set, Option, Some, None}
+use Rattle.rt_values.specs.Maps.{no_entry}
+use Rattle.rt_values.specs.declared.maps.StampedValue.{StampedValue}
+use Rattle.snap_records.specs.Edits.{record_without_ids, chain_without_ids, with_head_id}
+use Rattle.snap_records.specs.Records.{Rec, Puts}
+use Rattle.snap_records.specs.declared.chains.Chains.{Chains}
+use Rattle.snap_records.specs.declared.slots.Slot.{Slot}
+
+abbrev pub record_of : Option Slot → Rec
+record_of None = record { id = 0; entry = no_entry }
+record_of (Some s) = record { id = s.id; entry = s.entry }
+
+abbrev pub record_at : Chains → ℕ → Rec
+record_at c key = record_of (slice_index_or c.slots.slots key None)
+
+abbrev pub keys_at : Chains → ℕ → List ℕ
+keys_at c x = slice_index_or c.heads.items x []
+
+-- The records of an object, from the head of its chain.
+abbrev pub chain_of : Chains → ℕ → List Rec
+chain_of c x = map (λ key. record_at c key) (keys_at c x)
+
+-- Record r is now q, and everything else is as before.
+pub record Replaces (old new : Chains) (r : ℕ) (q : Rec) : Type 0 where
+  pub keys : (x : ℕ) → keys_at new x ≡ keys_at old x
+  pub here : (x k : ℕ) → slice_get (keys_at old x) k ≡ Some r → chain_of new x ≡ slice_set (chain_of old x) k q
+  pub others : (x : ℕ) → ((k : ℕ) → slice_get (keys_at old x) k ≡ Some r → ⊥) → chain_of new x ≡ chain_of old x
+
+-- Record r is now q and precedes the other records of object x. The other chains are the same.
+pub record Prepends (old new : Chains) (x r : ℕ) (q : Rec) : Type 0 where
+  pub keys : keys_at new x ≡ r ∷ keys_at old x
+  pub here : chain_of new x ≡ q ∷ chain_of old x
+  pub others : (y : ℕ) → y ≢ x → (keys_at new y ≡ keys_at old y) × (chain_of new y ≡ chain_of old y)
+
+-- Record r is in the chain of object x and has this id.
+pub record Found (c : Chains) (x id r : ℕ) : Type 0 where
+  pub at : ℕ
+  pub key : slice_get (keys_at c x) at ≡ Some r
+  pub same : (record_at c r).id ≡ id
+
+-- Record q is in the chain of object x, in place of the one with its id or before the others. The other chains are the
+-- same.
+pub record PutIn (old new : Chains) (x : ℕ) (q : Rec) : Type 0 where
+  pub put : Puts (chain_of old x) (chain_of new x) q (λ i. i == q.id)
+  pub others : (y : ℕ) → y ≢ x → chain_of new y ≡ chain_of old y
+  pub many : length new.heads.items ≡ length old.heads.items
+
+-- The record that an index without a record gives.
+abbrev pub no_record : Rec
+no_record = record { id = 0; entry = no_entry }
+
+-- The record at index i of object x now has id 0, if its id is in the list.
+pub record ClearsAt (old new : Chains) (ids : List ℕ) (x i : ℕ) : Type 0 where
+  pub keys : (y : ℕ) → keys_at new y ≡ keys_at old y
+  pub here : chain_of new x ≡ slice_set (chain_of old x) i (record_without_ids ids (slice_index_or
+      (chain_of old x) i no_record))
+  pub others : (y : ℕ) → y ≢ x → chain_of new y ≡ chain_of old y
+  pub many : length new.heads.items ≡ length old.heads.items
+
+-- The same at each index of object x.
+pub record ClearsAll (old new : Chains) (ids : List ℕ) (x : ℕ) : Type 0 where
+  pub keys : (y : ℕ) → keys_at new y ≡ keys_at old y
+  pub here : chain_of new x ≡ chain_without_ids ids (chain_of old x)
+  pub others : (y : ℕ) → y ≢ x → chain_of new y ≡ chain_of old y
+  pub many : length new.heads.items ≡ length old.heads.items
+
+-- A record with id 0 precedes the records of object x.
+pub record PadsAt (old new : Chains) (x : ℕ) (e : StampedValue) : Type 0 where
+  pub here : chain_of new x ≡ record { id = 0; entry = e } ∷ chain_of old x
+  pub others : (y : ℕ) → y ≢ x → chain_of new y ≡ chain_of old y
+
+-- The first record of object x has another id.
+pub record RaisesAt (old new : Chains) (x id : ℕ) : Type 0 where
+  pub here : chain_of new x ≡ with_head_id id (chain_of old x)
+  pub others : (y : ℕ) → y ≢ x → chain_of new y ≡ chain_of old y
+  pub many : length new.heads.items ≡ length old.heads.items

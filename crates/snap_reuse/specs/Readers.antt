@@ -1,0 +1,42 @@
+-- Trusted: which records of a chain are read, and which may be reused.
+use Rattle.std.specs.Prelude.{◌≡◌, ℕ, ◌==◌, Bool, true, false, not, ◌||◌, ◌⊎◌, List, slice_get, Option, Some, None}
+use Rattle.std.specs.List.{list_any}
+use Rattle.snap_ids.specs.IdLists.{is_valid}
+use Rattle.snap_records.specs.Records.{Rec, Puts}
+use Rattle.snap_records.specs.Edits.{readable}
+use Rattle.snap_records.specs.Chains.{record_at, keys_at, chain_of}
+use Rattle.snap_records.specs.declared.chains.Chains.{Chains}
+use Rattle.snap_reuse.specs.declared.readers.Reader.{Reader}
+
+-- Whether there is a record, and it has this id.
+abbrev pub has_id : ℕ → Option Rec → Bool
+has_id i None = false
+has_id i (Some r) = r.id == i
+
+-- Whether the reader's readable record has this id.
+abbrev pub is_read_by : List Rec → ℕ → Reader → Bool
+is_read_by c i reader = has_id i (readable (is_valid reader.id reader.invalid) c)
+
+-- Whether a reader reads the record with this id.
+abbrev pub is_read : List Rec → ℕ → List Reader → Bool
+is_read c i readers = list_any (is_read_by c i) readers
+
+-- Whether a record may be overwritten: it has id 0, or no reader reads it.
+abbrev pub is_reusable : List Rec → List Reader → Rec → Bool
+is_reusable c readers r = r.id == 0 || not (is_read c r.id readers)
+
+-- The record of the object may be overwritten.
+pub record Reusable (c : Chains) (x : ℕ) (readers : List Reader) (r : ℕ) : Type 0 where
+  pub at : ℕ
+  pub key : slice_get (keys_at c x) at ≡ Some r
+  pub is : is_reusable (chain_of c x) readers (record_at c r) ≡ true
+
+-- Whoever reads a record by these valid ids has a reader in the list that reads the record.
+abbrev pub Covers : (ℕ → Bool) → List Reader → Type 0
+Covers sees readers = (c : List Rec) (i : ℕ) → has_id i (readable sees c) ≡ true → is_read c i readers ≡ true
+
+-- A record came into the chain, in place of one with its own id or of one that may be overwritten, or before the others.
+pub record PutsReusing (before after : List Rec) (q : Rec) (readers : List Reader) : Type 0 where
+  pub gone : ℕ → Bool
+  pub put : Puts before after q gone
+  pub reused : (i : ℕ) → gone i ≡ true → i ≡ q.id ⊎ ((i ≡ 0) ⊎ (is_read before i readers ≡ false))

@@ -1,0 +1,5 @@
+pub mod Starting
+pub mod NotedMembers
+pub mod Settles
+pub mod Reading
+pub mod Forgetting

@@ -1,0 +1,11 @@
+use Rattle.std.proofs.Common.{◌≡◌, drop, length}
+use Rattle.snap_api.specs.Settle.{settle_from}
+use Rattle.snap_world.specs.Choices.{put_all}
+use Rattle.snap_world.proofs.settling.settle_all.Given as goal
+
+abbrev pub invariant-loop-i : goal.invariant-loop-i
+invariant-loop-i g l = record {
+  wide : length l.view ≡ l.i;
+  put : put_all l.view l.changed (settle_from g.P.Policy.rules l.now l.noted l.i (drop l.i l.objects) (drop l.i l.base) (drop l.i l.current) (drop l.i l.own))
+      ≡ settle_from g.P.Policy.rules l.now l.noted 0 l.objects l.base l.current l.own;
+}

@@ -1,0 +1,47 @@
+-- Trusted: the parts of a `RecordWorld`.
+use Rattle.std.specs.Prelude.{◌≡◌, ℕ, Bool, [], length, slice_index_or, slice_get, Some, List, Option}
+use Rattle.std.specs.Option.{option_map}
+use Rattle.std.proofs.Common.{ap, sym, ◌∙◌}
+use Rattle.std.proofs.lemmas.List.{length-map}
+use Rattle.snap_api.specs.World.{World}
+use Rattle.rt_values.specs.declared.maps.StampedValue.{StampedValue}
+use Rattle.rt_values.specs.declared.value.Value.{Value}
+use Rattle.snap_policy.specs.Rules.{Rules}
+use Rattle.snap_api.specs.declared.data.Object.{Object}
+use Rattle.snap_records.specs.Records.{Reads}
+use Rattle.rt_values.specs.Maps.{contains}
+use Rattle.snap_nested.specs.Members.{member, ids_of}
+use Rattle.snap_records.specs.Chains.{chain_of}
+use Rattle.snap_laws.specs.Represents.{WorldParts, Represents, stamps_of}
+use Rattle.snap_world.specs.declared.world.RecordWorld.{RecordWorld}
+
+abbrev pub parts_of : {P : Type 0} → RecordWorld P → WorldParts P
+parts_of s = record {
+  clock = s.clock;
+  objects = s.objects.items;
+  names = length s.family.members.items;
+  handed = s.family.handed;
+  ids = ids_of s.family.members.items;
+  owner = λ n. (member s.family.members.items n).owner;
+  kind = λ n. (member s.family.members.items n).kind;
+  noted = λ n x. contains x (slice_index_or s.wrote.items n []);
+  chains = λ x. chain_of s.chains x;
+  watchers = s.lasts.items;
+}
+
+-- The policy's comparison of a value with the one that the snapshot reads.
+pub record IsComparison {P : Type 0} (rules : Rules P) (h : WorldParts P) (name x : ℕ) (value : Value)
+    (like : Bool) : Type 0 where
+  pub object : Object P
+  pub there : slice_get h.objects x ≡ Some object
+  pub entry : StampedValue
+  pub reads : Reads (h.ids.sees name) (h.chains x) entry
+  pub is : rules.equiv object.policy entry.value value ≡ like
+
+-- The counts are those of each plain world that the value represents.
+pub counts_of : {P : Type 0} (s : RecordWorld P) (w : World P) → Represents (parts_of s) w
+    → (length s.objects.items ≡ length w.objects) × (length s.lasts.items ≡ length w.lasts)
+counts_of {P} s w h = (
+  ap (λ (os : List (Object P)). length os) (sym h.objects_are),
+  sym (sym (length-map w.lasts (option_map stamps_of)) ∙ ap (λ (l : List (Option (List ℕ))). length l) h.lasts),
+)

@@ -1,0 +1,17 @@
+//! The world of snapshots with state records: a take copies no map.
+//!
+//! `RecordWorld` implements `snap_api`'s `Versions` with chains of records, as `androidx.compose.runtime.snapshots` does:
+//! a take hands out ids, a read looks for the readable record, a write overwrites the snapshot's own record or a record
+//! that no reader reads, an apply gives the parent records and ids, and a dispose leaves records until the last
+//! descendant closes.
+//! Promises: those of `Versions`, for every plain world that the records represent (`snap_laws`, `Represents`). A refused
+//! take, read or write takes no memory, nor does a dispose or the read of a number or a truth value.
+#![tactic(auto)]
+
+mod moving;
+mod noting;
+mod readers;
+mod settling;
+mod world;
+
+pub use world::RecordWorld;

@@ -1,0 +1,768 @@
+// The world of records and its calls.
+ghost use Rattle.std.specs.Prelude.{◌≡◌, ℕ, Bool, ◌+◌, ◌*◌, ◌≤◌, ◌<◌, ◌==◌, ◌^◌, not, if◌then◌else◌, slice_get, List, [], true, false, length, slice_index_or, IfOk, IfSome, IfNone, OnOk, OnErr};
+ghost use Rattle.rt_values.specs.Maps.{with_member};
+ghost use Rattle.snap_reuse.specs.Readers.{Covers};
+ghost use Rattle.snap_nested.specs.Ids.{valid_for_base};
+ghost use Rattle.snap_nested.specs.Members.{ids_of, member};
+ghost use Rattle.snap_api.specs.World.{with_members};
+
+use crate::moving::{clear_noted, find_changed_objects, pad_all, raise_all, read_all, stamps_of};
+use crate::noting::{copy_noted, fill, note_object, note_settled};
+use crate::readers::add_readers;
+use crate::settling::{Outcome, settle_all};
+use rt_values::{Caller, Kind, Map, Name, NoMemory, ObjectNo, Objects, Ty, Value, WatcherNo};
+use snap_api::{CLOCK_LIMIT, Object, Refusal, Versions};
+use snap_nested::Family;
+use snap_policy::Policy;
+use snap_records::{Chains, RecordNo};
+use snap_reuse::{Readers, is_read, put};
+use std::alloc::Global;
+
+/// A world of snapshots with state records: the clock, the objects, the ids of the snapshots, the chains of records, the
+/// objects that each snapshot wrote, and the stamps of each watcher's last map.
+#[derive(Drop)]
+pub struct RecordWorld<P> {
+    clock: u64,
+    objects: Vec<Object<P>>,
+    family: Family,
+    chains: Chains,
+    wrote: Vec<Objects>,
+    lasts: Vec<Option<Objects>>,
+    ghost in_time: { clock ≤ 2 ^ 60 },
+    ghost few: { family.handed ≤ 3 * clock + 1 },
+    ghost many: { length chains.heads.items ≡ length objects.items },
+    ghost blank: { (n : ℕ) → length family.members.items ≤ n → slice_index_or wrote.items n [] ≡ [] },
+}
+
+impl<P: Policy> RecordWorld<P> {
+    ghost use Rattle.std.specs.Prelude.{None, IsOk, IsSome};
+    ghost use Rattle.slab.specs.Slab.{get};
+    ghost use Rattle.snap_api.specs.World.{make_refusal, world_after_write};
+    ghost use Rattle.snap_laws.specs.TakesFor.{take_for_refusal, IsTakeFor};
+    ghost use Rattle.snap_laws.specs.Steps.{MakesTo};
+    ghost use Rattle.snap_laws.specs.Coverage.{AreCovered};
+    ghost use Rattle.snap_records.specs.Chains.{keys_at};
+    ghost use Rattle.snap_laws.specs.Reads.{read_refusal};
+    ghost use Rattle.snap_records.specs.Chains.{record_at};
+    ghost use Rattle.snap_api.specs.World.{World};
+    ghost use Rattle.snap_nested.specs.Members.{is_free};
+    ghost use Rattle.snap_laws.specs.Disposes.{dispose_refusal};
+    ghost use Rattle.snap_laws.specs.Steps.{DisposesTo};
+    ghost use Rattle.snap_laws.specs.Applies.{apply_refusal, settled_by_records, Pads, Merges};
+    ghost use Rattle.snap_world.specs.Choices.{outcome_verdict, HasLength};
+    ghost use Rattle.snap_laws.specs.Represents.{Represents};
+    ghost use Rattle.snap_laws.specs.Steps.{IsUnchanged, IsTake, take_refusal, WritesTo};
+    ghost use Rattle.snap_laws.specs.Writes.{write_refusal, object_refusal};
+    ghost use Rattle.snap_world.specs.Holding.{parts_of, IsComparison};
+    ghost use Rattle.snap_records.specs.Records.{AreApart, Reads};
+    ghost use Rattle.snap_records.specs.Chains.{chain_of};
+    ghost use Rattle.rt_values.specs.declared.maps.StampedValue.{StampedValue};
+    ghost use Rattle.snap_api.specs.World.{start};
+
+    /// Makes a world with only the global snapshot, without objects and watchers, at clock 0.
+    pub fn new(alloc: Global) -> Result<Self, NoMemory>
+        ensures { IfOk result (λ s. Represents (parts_of s) (start 0)) }
+    {
+        Self::starting_at(alloc, 0)
+    }
+
+    /// Makes such a world at a later clock. At `CLOCK_LIMIT` every take, write and apply is refused.
+    pub fn starting_at(alloc: Global, clock: u64) -> Result<Self, NoMemory>
+        requires { clock ≤ 2 ^ 60 }
+        ensures { IfOk result (λ s. Represents (parts_of s) (start clock)) }
+    {
+        Ok(RecordWorld {
+            clock,
+            objects: Vec::new(alloc),
+            family: Family::new(alloc)?,
+            chains: Chains::new(alloc),
+            wrote: Vec::new(alloc),
+            lasts: Vec::new(alloc),
+        })
+    }
+
+    /// Returns the records of all objects.
+    pub fn chains(&self) -> &Chains
+        ensures { result.now ≡ self.now.chains }
+    {
+        &self.chains
+    }
+
+    // Returns the refusal of a take, if there is one.
+    fn take_refusal(&self, parent: Name, kind: Kind) -> Option<Refusal>
+        ensures { result ≡ take_refusal (parts_of self.now) parent kind }
+    {
+        if self.clock == CLOCK_LIMIT {
+            return Some(Refusal::Spent);
+        }
+        if !self.family.live(parent) {
+            return Some(Refusal::Closed { name: parent });
+        }
+        if !matches!(self.family.kind(parent), Kind::Mutable) && matches!(kind, Kind::Mutable) {
+            return Some(Refusal::ReadOnly);
+        }
+        None
+    }
+
+    // Takes a child of a live snapshot.
+    fn push_child(
+        &mut self,
+        alloc: Global,
+        caller: Caller,
+        parent: Name,
+        kind: Kind,
+    ) -> Result<Name, NoMemory>
+        requires live { (member self.old.family.members.items parent).is_live ≡ true }
+        requires room { self.old.clock < 2 ^ 60 }
+        ensures ok { IfOk result (λ n. IsTake (parts_of self.old) (parts_of self.new) caller parent kind n) }
+        ensures err { OnErr result (IsUnchanged (parts_of self.old) (parts_of self.new)) }
+    {
+        let Ok(name) = self.family.take(alloc, parent, kind, caller) else {
+            return Err(NoMemory);
+        };
+        self.clock += 1;
+        Ok(name)
+    }
+
+    // Returns the refusal of a write, if there is one.
+    fn write_refusal(
+        &self,
+        caller: Caller,
+        name: Name,
+        object: ObjectNo,
+        value: &Value,
+    ) -> Option<Refusal>
+        ensures { result ≡ write_refusal (parts_of self.now) caller name object value.now }
+    {
+        if self.clock == CLOCK_LIMIT {
+            return Some(Refusal::Spent);
+        }
+        if !self.family.live(name) {
+            return Some(Refusal::Closed { name });
+        }
+        if self.is_foreign(caller, name) {
+            return Some(Refusal::NotYours {
+                owner: self.family.owner(name),
+            });
+        }
+        self.object_refusal(name, object, value)
+    }
+
+    // Returns whether the snapshot belongs to another caller. Global belongs to every caller.
+    fn is_foreign(&self, caller: Caller, name: Name) -> bool
+        ensures { result ≡ (if name == 0 then false else not ((parts_of self.now).owner name == caller)) }
+    {
+        name != 0 && self.family.owner(name) != caller
+    }
+
+    // Returns the refusal of a write that depends on the object, if there is one.
+    fn object_refusal(&self, name: Name, object: ObjectNo, value: &Value) -> Option<Refusal>
+        ensures { result ≡ object_refusal (parts_of self.now) name value.now (slice_get
+            (parts_of self.now).objects object) }
+    {
+        let Some(kept) = self.objects.get(object as usize) else {
+            return Some(Refusal::UnknownObject);
+        };
+        if !matches!(self.family.kind(name), Kind::Mutable) {
+            return Some(Refusal::ReadOnly);
+        }
+        if !value.ty().same(kept.ty) {
+            return Some(Refusal::WrongType { kept: kept.ty });
+        }
+        None
+    }
+
+    // Returns whether the policy holds the value equivalent to the one that the snapshot reads, if it reads one.
+    fn compare(&self, name: Name, object: ObjectNo, value: &Value) -> Option<bool>
+        requires live { (member self.now.family.members.items name).is_live ≡ true }
+        requires there { object < length self.now.objects.items }
+        ensures is { IfSome result (λ like. IsComparison P.rules (parts_of self.now) name object value.now like) }
+        ensures none { IfNone result ((e : StampedValue)
+            → Reads ((parts_of self.now).ids.sees name) ((parts_of self.now).chains object) e → ⊥) }
+    {
+        match self
+            .chains
+            .readable(object, self.family.id(name), self.family.invalid(name))
+        {
+            Some(record) => {
+                let kept = &self.objects[object as usize];
+                Some(kept.policy.equivalent(self.chains.value(record), value))
+            }
+            None => None,
+        }
+    }
+
+    // Returns the readers of all live snapshots: for the view, and except for global for the base.
+    fn readers(&self, alloc: Global) -> Result<Readers, NoMemory>
+        ensures { IfOk result (λ rs. AreCovered (parts_of self.now).ids rs) }
+    {
+        let mut readers = Readers::new(alloc);
+        for name in self.family.open_names() {
+            add_readers(alloc, &self.family, *name, &mut readers)?;
+        }
+        Ok(readers)
+    }
+
+    // Puts a record of the value into the chain of the object, reusing a record that no reader reads.
+    fn put_record(
+        &mut self,
+        alloc: Global,
+        name: Name,
+        object: ObjectNo,
+        value: Value,
+        readers: &Readers,
+    ) -> Result<(), NoMemory>
+        requires live { (member self.old.family.members.items name).is_live ≡ true }
+        requires there { object < length self.old.objects.items }
+        requires room { self.old.clock < 2 ^ 60 }
+        requires covered { AreCovered (parts_of self.old).ids readers.now }
+        ensures ok { OnOk result ((w : World P) → Represents (parts_of self.old) w
+            → WritesTo (parts_of self.old) (parts_of self.new) name object value) }
+        ensures ids { (parts_of self.new).ids ≡ (parts_of self.old).ids }
+        ensures objects { length self.new.objects.items ≡ length self.old.objects.items }
+        ensures err { OnErr result (IsUnchanged (parts_of self.old) (parts_of self.new)) }
+    {
+        let Ok(noted) = note_object(alloc, &self.wrote, name, object) else {
+            return Err(NoMemory);
+        };
+        let Ok(()) = fill(alloc, &mut self.wrote, name) else {
+            return Err(NoMemory);
+        };
+        let id = self.family.id(name);
+        let Ok(()) = put(&mut self.chains, object, id, value, self.clock + 1, readers) else {
+            return Err(NoMemory);
+        };
+        self.wrote[name as usize] = noted;
+        self.clock += 1;
+        Ok(())
+    }
+
+    // Gives the record at index `i` id 0 if no reader reads it.
+    fn sweep_at(&mut self, object: ObjectNo, i: usize, readers: &Readers)
+        requires there { object < length self.old.objects.items }
+        requires place { i < length (keys_at self.old.chains object) }
+        requires covered { AreCovered (parts_of self.old).ids readers.now }
+        ensures stands { (w : World P) → Represents (parts_of self.old) w → Represents (parts_of self.new) w }
+        ensures ids { (parts_of self.new).ids ≡ (parts_of self.old).ids }
+        ensures objects { length self.new.objects.items ≡ length self.old.objects.items }
+        ensures keys { keys_at self.new.chains object ≡ keys_at self.old.chains object }
+    {
+        let r = self.chains.at(object, i);
+        let id = self.chains.id(r);
+        if id != 0 && !is_read(&self.chains, object, id, readers) {
+            self.chains.invalidate(r);
+        }
+    }
+
+    // Gives id 0 to each record of the object that no reader reads.
+    fn sweep(&mut self, object: ObjectNo, readers: &Readers)
+        requires there { object < length self.old.objects.items }
+        requires covered { AreCovered (parts_of self.old).ids readers.now }
+        ensures { (w : World P) → Represents (parts_of self.old) w → Represents (parts_of self.new) w }
+    {
+        for i in 0..self.chains.count(object) {
+            self.sweep_at(object, i, readers);
+        }
+    }
+
+    // Gives an object another value in a snapshot, and gives id 0 to the records that no reader reads then.
+    fn put_entry(
+        &mut self,
+        alloc: Global,
+        name: Name,
+        object: ObjectNo,
+        value: Value,
+    ) -> Result<(), NoMemory>
+        requires live { (member self.old.family.members.items name).is_live ≡ true }
+        requires there { object < length self.old.objects.items }
+        requires room { self.old.clock < 2 ^ 60 }
+        ensures ok { OnOk result ((w : World P) → Represents (parts_of self.old) w
+            → Represents (parts_of self.new) (world_after_write w name object value)) }
+        ensures err { OnErr result (IsUnchanged (parts_of self.old) (parts_of self.new)) }
+    {
+        let Ok(readers) = self.readers(alloc) else {
+            return Err(NoMemory);
+        };
+        let Ok(()) = self.put_record(alloc, name, object, value, &readers) else {
+            return Err(NoMemory);
+        };
+        self.sweep(object, &readers);
+        Ok(())
+    }
+
+    // Returns the refusal of an apply before its objects are settled, if there is one.
+    fn apply_refusal(&self, caller: Caller, name: Name) -> Option<Refusal>
+        ensures { result ≡ apply_refusal (parts_of self.now) caller name }
+    {
+        if self.clock == CLOCK_LIMIT {
+            return Some(Refusal::Spent);
+        }
+        if !self.family.live(name) {
+            return Some(Refusal::Closed { name });
+        }
+        if name == 0 {
+            return Some(Refusal::Global);
+        }
+        if self.is_foreign(caller, name) {
+            return Some(Refusal::NotYours {
+                owner: self.family.owner(name),
+            });
+        }
+        if !matches!(self.family.kind(name), Kind::Mutable) {
+            return Some(Refusal::ReadOnly);
+        }
+        if !self.family.live(self.family.parent(name)) {
+            return Some(Refusal::ParentClosed);
+        }
+        None
+    }
+
+    // Settles the objects of a snapshot.
+    fn settle(&self, alloc: Global, name: Name, into: Name) -> Result<Outcome, NoMemory>
+        requires live { (member self.now.family.members.items name).is_live ≡ true }
+        requires above { (member self.now.family.members.items into).is_live ≡ true }
+        ensures len { IfOk result (HasLength (length self.now.objects.items)) }
+        ensures is { IfOk result (λ o. outcome_verdict o
+            ≡ settled_by_records P.rules (parts_of self.now)
+            (slice_index_or self.now.wrote.items name []) name into) }
+    {
+        let count = self.objects.len();
+        let noted = copy_noted(alloc, &self.wrote, name)?;
+        let later = self.family.invalid(name).or(alloc, self.family.ids(name))?;
+        let base = read_all(alloc, &self.chains, count, self.family.id(name), &later)?;
+        let current = read_all(
+            alloc,
+            &self.chains,
+            count,
+            self.family.id(into),
+            self.family.invalid(into),
+        )?;
+        let own = read_all(
+            alloc,
+            &self.chains,
+            count,
+            self.family.id(name),
+            self.family.invalid(name),
+        )?;
+        settle_all(
+            alloc,
+            &self.objects,
+            &noted,
+            &base,
+            &current,
+            &own,
+            self.clock + 1,
+        )
+    }
+
+    // Puts the settled values into the parent.
+    fn put_settled(
+        &mut self,
+        alloc: Global,
+        name: Name,
+        into: Name,
+        view: &Map,
+        changed: &Objects,
+    ) -> Result<(), NoMemory>
+        requires live { (member self.old.family.members.items name).is_live ≡ true }
+        requires inner { 0 < name }
+        requires parent { (member self.old.family.members.items name).parent ≡ into }
+        requires above { (member self.old.family.members.items into).is_live ≡ true }
+        requires room { self.old.clock < 2 ^ 60 }
+        requires full { length view.now ≡ length self.old.objects.items }
+        ensures ok { OnOk result (Merges (parts_of self.old) (parts_of self.new) name into view.now changed.now) }
+        ensures err { OnErr result (Pads (parts_of self.old) (parts_of self.new)) }
+    {
+        let Ok(noted) = copy_noted(alloc, &self.wrote, name) else {
+            return Err(NoMemory);
+        };
+        let Ok(more) = note_settled(alloc, &self.wrote, into, changed) else {
+            return Err(NoMemory);
+        };
+        let Ok(()) = fill(alloc, &mut self.wrote, into) else {
+            return Err(NoMemory);
+        };
+        let Ok(()) = pad_all(alloc, &mut self.chains, &noted, view) else {
+            return Err(NoMemory);
+        };
+        let Ok(()) = self.family.close_applied(alloc, name, into) else {
+            return Err(NoMemory);
+        };
+        let id = self.family.handed();
+        raise_all(&mut self.chains, &noted, view.len(), id);
+        self.wrote[into as usize] = more;
+        self.clock += 1;
+        Ok(())
+    }
+
+    // Returns the refusal of a dispose, if there is one.
+    fn dispose_refusal(&self, caller: Caller, name: Name) -> Option<Refusal>
+        ensures { result ≡ dispose_refusal (parts_of self.now) caller name }
+    {
+        if name as usize >= self.family.names() {
+            return Some(Refusal::Closed { name });
+        }
+        if name == 0 {
+            return Some(Refusal::Global);
+        }
+        if self.family.live(name) && self.is_foreign(caller, name) {
+            return Some(Refusal::NotYours {
+                owner: self.family.owner(name),
+            });
+        }
+        None
+    }
+
+    // Closes a snapshot, which keeps its records and ids.
+    fn close(&mut self, name: Name)
+        requires live { (member self.old.family.members.items name).is_live ≡ true }
+        requires inner { 0 < name }
+        ensures { DisposesTo (parts_of self.old) (parts_of self.new) name }
+    {
+        self.family.close_disposed(name);
+    }
+
+    // Gives id 0 to the records of a closed snapshot without live descendants, and forgets its ids.
+    fn forget(&mut self, name: Name)
+        requires there { name < length self.old.family.members.items }
+        requires free { is_free self.old.family.members.items (member self.old.family.members.items name) ≡ true }
+        ensures { (w : World P) → Represents (parts_of self.old) w → Represents (parts_of self.new) w }
+    {
+        clear_noted(
+            &mut self.chains,
+            &self.wrote,
+            name,
+            self.objects.len(),
+            self.family.ids(name),
+        );
+        self.family.forget(name);
+    }
+
+    // Forgets the first closed snapshot without live descendants. Returns false if there is none.
+    fn forget_next(&mut self) -> bool
+        ensures { (w : World P) → Represents (parts_of self.old) w → Represents (parts_of self.new) w }
+    {
+        match self.family.freed() {
+            Some(name) => {
+                self.forget(name);
+                true
+            }
+            None => false,
+        }
+    }
+
+    // Forgets the closed snapshots without live descendants.
+    fn forget_all(&mut self)
+        ensures { (w : World P) → Represents (parts_of self.old) w → Represents (parts_of self.new) w }
+    {
+        for _ in 0..self.family.names() {
+            if !self.forget_next() {
+                return;
+            }
+        }
+    }
+
+    // Returns the refusal of a read, if there is one.
+    fn read_refusal(&self, caller: Caller, name: Name, object: ObjectNo) -> Option<Refusal>
+        ensures { result ≡ read_refusal (parts_of self.now) caller name object }
+    {
+        if !self.family.live(name) {
+            return Some(Refusal::Closed { name });
+        }
+        if self.is_foreign(caller, name) {
+            return Some(Refusal::NotYours {
+                owner: self.family.owner(name),
+            });
+        }
+        if object as usize >= self.objects.len() {
+            return Some(Refusal::UnknownObject);
+        }
+        None
+    }
+
+    // Returns the readable record of an object for a live snapshot. There is one in every represented world.
+    fn shown(&self, name: Name, object: ObjectNo) -> Option<RecordNo>
+        requires live { (member self.now.family.members.items name).is_live ≡ true }
+        requires there { object < length self.now.objects.items }
+        ensures is { IfSome result (λ r. Reads ((parts_of self.now).ids.sees name)
+            ((parts_of self.now).chains object) (record_at self.now.chains r.0).entry) }
+        ensures there { IfSome result (λ r. IsSome (get self.now.chains.slots r.0)) }
+        ensures none { IfNone result ((e : StampedValue)
+            → Reads ((parts_of self.now).ids.sees name) ((parts_of self.now).chains object) e → ⊥) }
+    {
+        self.chains
+            .readable(object, self.family.id(name), self.family.invalid(name))
+    }
+
+    // Returns the refusal of a make, if there is one.
+    fn make_refusal(ty: Ty, policy: &P, value: &Value) -> Option<Refusal>
+        ensures { result ≡ make_refusal P.rules ty policy.now value.now }
+    {
+        if !value.ty().same(ty) {
+            return Some(Refusal::WrongType { kept: ty });
+        }
+        if !policy.fits(ty) {
+            return Some(Refusal::BadPolicy);
+        }
+        None
+    }
+
+    // Adds an object, whose record has id 1.
+    fn put_object(
+        &mut self,
+        alloc: Global,
+        ty: Ty,
+        policy: P,
+        value: Value,
+    ) -> Result<ObjectNo, NoMemory>
+        ensures number { IfOk result (λ x. x ≡ length (parts_of self.old).objects) }
+        ensures ok { OnOk result (MakesTo (parts_of self.old) (parts_of self.new) ty policy value) }
+        ensures err { OnErr result (IsUnchanged (parts_of self.old) (parts_of self.new)) }
+    {
+        let Ok(()) = self.objects.reserve(1) else {
+            return Err(NoMemory);
+        };
+        let Ok(x) = self.chains.add_object_with(alloc, 1, value, 0) else {
+            return Err(NoMemory);
+        };
+        let Ok(()) = self.objects.push(Object { ty, policy }) else {
+            unreachable!();
+        };
+        Ok(x)
+    }
+
+    // Returns the refusal of a take for a watcher, if there is one.
+    fn take_for_refusal(&self, watcher: WatcherNo) -> Option<Refusal>
+        ensures { result ≡ take_for_refusal (parts_of self.now) watcher }
+    {
+        if self.clock == CLOCK_LIMIT {
+            return Some(Refusal::Spent);
+        }
+        if watcher as usize >= self.lasts.len() {
+            return Some(Refusal::UnknownWatcher);
+        }
+        None
+    }
+
+    // Takes a readonly child of global, and returns what changed since the watcher's last stamps.
+    fn push_child_for(
+        &mut self,
+        alloc: Global,
+        caller: Caller,
+        watcher: WatcherNo,
+    ) -> Result<(Name, Objects), NoMemory>
+        requires known { watcher < length self.old.lasts.items }
+        requires room { self.old.clock < 2 ^ 60 }
+        ensures ok { IfOk result (λ r. IsTakeFor (parts_of self.old) (parts_of self.new) caller watcher r.0 r.1) }
+        ensures err { OnErr result (IsUnchanged (parts_of self.old) (parts_of self.new)) }
+    {
+        let count = self.objects.len();
+        let id = self.family.id(0);
+        let Ok(stamps) = stamps_of(alloc, &self.chains, count, id, self.family.invalid(0)) else {
+            return Err(NoMemory);
+        };
+        let Ok(changed) = find_changed_objects(alloc, &self.lasts[watcher as usize], &stamps) else {
+            return Err(NoMemory);
+        };
+        let Ok(name) = self.push_child(alloc, caller, 0, Kind::Readonly) else {
+            return Err(NoMemory);
+        };
+        self.lasts[watcher as usize] = Some(stamps);
+        Ok((name, changed))
+    }
+}
+
+impl<P: Policy> Versions for RecordWorld<P> {
+    ghost use Rattle.std.specs.Prelude.{◌≡◌, ◌≢◌, true, None, length, IsOk, Err};
+    ghost use Rattle.rt_values.specs.Maps.{value_at};
+    ghost use Rattle.rt_values.specs.Values.{is_flat};
+    ghost use Rattle.snap_api.specs.Calls.{Calls, Logs, IsOwn, taken_reply, taken_for_reply, read_reply, write_reply, dispose_reply};
+    ghost use Rattle.snap_api.specs.World.{World, snapshot_of};
+    ghost use Rattle.snap_api.specs.declared.data.Refusal.TheVariants as Refusal;
+    ghost use Rattle.snap_api.specs.declared.data.Request.TheVariants as Request;
+    ghost use Rattle.snap_laws.specs.FreeRefusals.{IsFreelyRefused};
+    ghost use Rattle.snap_laws.specs.Represents.{Represents};
+    ghost use Rattle.snap_world.specs.Holding.{parts_of, counts_of};
+
+    type P = P;
+
+    ghost stands = { λ s w. Represents (parts_of s) w };
+
+    ghost log = { λ s. None };
+
+    ghost object_count = { λ s. length s.objects.items };
+
+    ghost watcher_count = { λ s. length s.lasts.items };
+
+    ghost counts = { λ s w h. counts_of s w h };
+
+    fn objects(&self) -> usize {
+        self.objects.len()
+    }
+
+    fn watchers(&self) -> usize {
+        self.lasts.len()
+    }
+
+    fn make(
+        &mut self,
+        alloc: Global,
+        ty: Ty,
+        policy: P,
+        value: Value,
+    ) -> Result<ObjectNo, Refusal> {
+        if let Some(refusal) = Self::make_refusal(ty, &policy, &value) {
+            return Err(refusal);
+        }
+        let Ok(x) = self.put_object(alloc, ty, policy, value) else {
+            return Err(Refusal::NoMemory);
+        };
+        Ok(x)
+    }
+
+    fn watch(&mut self, _alloc: Global) -> Result<WatcherNo, NoMemory> {
+        let number = self.lasts.len() as u64;
+        let Ok(()) = self.lasts.push(None) else {
+            return Err(NoMemory);
+        };
+        Ok(number)
+    }
+
+    fn take(
+        &mut self,
+        alloc: Global,
+        caller: Caller,
+        parent: Name,
+        kind: Kind,
+    ) -> Result<Name, Refusal>
+        ensures call { Calls P.rules (Represents (parts_of self.old)) (Represents (parts_of self.new)) caller
+            (Request.Take parent kind)
+            (taken_reply result) }
+        ensures log { Logs None None caller (Request.Take parent kind) (taken_reply result) }
+        ensures refused { IsFreelyRefused P.rules (Represents (parts_of self.old)) caller (Request.Take parent kind)
+            (taken_reply result) }
+    {
+        if let Some(refusal) = self.take_refusal(parent, kind) {
+            return Err(refusal);
+        }
+        let Ok(name) = self.push_child(alloc, caller, parent, kind) else {
+            return Err(Refusal::NoMemory);
+        };
+        Ok(name)
+    }
+
+    fn take_for(
+        &mut self,
+        alloc: Global,
+        caller: Caller,
+        watcher: WatcherNo,
+    ) -> Result<(Name, Objects), Refusal>
+        ensures call { Calls P.rules (Represents (parts_of self.old)) (Represents (parts_of self.new)) caller
+            (Request.TakeFor watcher)
+            (taken_for_reply result) }
+        ensures log { Logs None None caller (Request.TakeFor watcher) (taken_for_reply result) }
+        ensures refused { IsFreelyRefused P.rules (Represents (parts_of self.old)) caller (Request.TakeFor watcher)
+            (taken_for_reply result) }
+    {
+        if let Some(refusal) = self.take_for_refusal(watcher) {
+            return Err(refusal);
+        }
+        let Ok((name, changed)) = self.push_child_for(alloc, caller, watcher) else {
+            return Err(Refusal::NoMemory);
+        };
+        Ok((name, changed))
+    }
+
+    fn read(
+        &mut self,
+        alloc: Global,
+        caller: Caller,
+        name: Name,
+        object: ObjectNo,
+    ) -> Result<Value, Refusal>
+        ensures call { Calls P.rules (Represents (parts_of self.old)) (Represents (parts_of self.new)) caller
+            (Request.Read name object)
+            (read_reply result) }
+        ensures log { Logs None None caller (Request.Read name object) (read_reply result) }
+        ensures refused { IsFreelyRefused P.rules (Represents (parts_of self.old)) caller (Request.Read name object)
+            (read_reply result) }
+        ensures flat { (w : World P) → Represents (parts_of self.old) w
+            → is_flat (value_at (snapshot_of w name).view object) ≡ true → result ≢ Err Refusal.NoMemory }
+    {
+        if let Some(refusal) = self.read_refusal(caller, name, object) {
+            return Err(refusal);
+        }
+        let Some(record) = self.shown(name, object) else {
+            return Err(Refusal::NoMemory);
+        };
+        let Ok(value) = self.chains.value(record).copy(alloc) else {
+            return Err(Refusal::NoMemory);
+        };
+        Ok(value)
+    }
+
+    fn write(
+        &mut self,
+        alloc: Global,
+        caller: Caller,
+        name: Name,
+        object: ObjectNo,
+        value: Value,
+    ) -> Result<bool, Refusal>
+        ensures call { Calls P.rules (Represents (parts_of self.old)) (Represents (parts_of self.new)) caller
+            (Request.Write name object value)
+            (write_reply result) }
+        ensures log { Logs None None caller (Request.Write name object value) (write_reply result) }
+        ensures refused { IsFreelyRefused P.rules (Represents (parts_of self.old)) caller
+            (Request.Write name object value)
+            (write_reply result) }
+    {
+        if let Some(refusal) = self.write_refusal(caller, name, object, &value) {
+            return Err(refusal);
+        }
+        match self.compare(name, object, &value) {
+            Some(true) => Ok(false),
+            Some(false) => match self.put_entry(alloc, name, object, value) {
+                Ok(()) => Ok(true),
+                Err(_) => Err(Refusal::NoMemory),
+            },
+            None => Err(Refusal::NoMemory),
+        }
+    }
+
+    fn apply(&mut self, alloc: Global, caller: Caller, name: Name) -> Result<(), Refusal> {
+        if let Some(refusal) = self.apply_refusal(caller, name) {
+            return Err(refusal);
+        }
+        let into = self.family.parent(name);
+        match self.settle(alloc, name, into) {
+            Ok(Outcome::Conflict(object)) => Err(Refusal::Conflict { object }),
+            Ok(Outcome::Merged(view, changed)) => {
+                match self.put_settled(alloc, name, into, &view, &changed) {
+                    Ok(()) => Ok(()),
+                    Err(_) => Err(Refusal::NoMemory),
+                }
+            }
+            Err(_) => Err(Refusal::NoMemory),
+        }
+    }
+
+    fn dispose(&mut self, caller: Caller, name: Name) -> Result<(), Refusal>
+        ensures call { Calls P.rules (Represents (parts_of self.old)) (Represents (parts_of self.new)) caller
+            (Request.Dispose name)
+            (dispose_reply result) }
+        ensures log { Logs None None caller (Request.Dispose name) (dispose_reply result) }
+        ensures own { (w : World P) → Represents (parts_of self.old) w → IsOwn w caller name → IsOk result }
+        ensures free { result ≢ Err Refusal.NoMemory }
+    {
+        if let Some(refusal) = self.dispose_refusal(caller, name) {
+            return Err(refusal);
+        }
+        if !self.family.live(name) {
+            return Ok(());
+        }
+        self.close(name);
+        self.forget_all();
+        Ok(())
+    }
+}

@@ -1,0 +1,439 @@
+// Calls on both worlds, and the replies that copied maps give.
+
+use self::Answer::{Applied, Changed, Disposed, Got, Refused, Same, Taken, TakenFor};
+use self::Call::{Apply, Dispose, Read, Take, Write};
+use self::Literal::{Bool, Int, Ints};
+use rt_values::Kind::{Mutable, Readonly};
+use rt_values::{IntList, Kind, Name, ObjectNo, Ty, Value};
+use snap_api::{CLOCK_LIMIT, Refusal, Reply, Request, Versions, run_calls};
+use snap_plain::PlainWorld;
+use snap_policy::BuiltIn;
+use snap_world::RecordWorld;
+use std::alloc::Global;
+use std::process::Abort;
+use std::test::Fail;
+
+// A value as a table writes it.
+#[derive(Clone, Copy, Debug, PartialEq, Eq)]
+enum Literal {
+    Int(i64),
+    Bool(bool),
+    Ints(&'static [i64]),
+}
+
+impl Literal {
+    fn value(self, alloc: Global) -> Result<Value, Fail> {
+        match self {
+            Literal::Int(number) => Ok(Value::Int(number)),
+            Literal::Bool(truth) => Ok(Value::Bool(truth)),
+            Literal::Ints(items) => {
+                let mut list = IntList::new(alloc);
+                list.extend(items)?;
+                Ok(Value::Ints(list))
+            }
+        }
+    }
+
+    // Whether a value is this one.
+    fn is(self, value: &Value) -> bool {
+        match (self, value) {
+            (Literal::Int(number), Value::Int(other)) => number == *other,
+            (Literal::Bool(truth), Value::Bool(other)) => truth == *other,
+            (Literal::Ints(items), Value::Ints(other)) => items == other.items(),
+            _ => false,
+        }
+    }
+}
+
+// A call as a table writes it.
+#[derive(Clone, Copy, Debug, PartialEq, Eq)]
+enum Call {
+    Take(Name, Kind),
+    TakeFor(u64),
+    Read(Name, ObjectNo),
+    Write(Name, ObjectNo, Literal),
+    Apply(Name),
+    Dispose(Name),
+}
+
+impl Call {
+    fn request(self, alloc: Global) -> Result<Request, Fail> {
+        let request = match self {
+            Call::Take(parent, kind) => Request::Take { parent, kind },
+            Call::TakeFor(watcher) => Request::TakeFor { watcher },
+            Call::Read(name, object) => Request::Read { name, object },
+            Call::Write(name, object, literal) => Request::Write {
+                name,
+                object,
+                value: literal.value(alloc)?,
+            },
+            Call::Apply(name) => Request::Apply { name },
+            Call::Dispose(name) => Request::Dispose { name },
+        };
+        Ok(request)
+    }
+}
+
+// A reply as a table writes it.
+#[derive(Clone, Copy, Debug, PartialEq, Eq)]
+enum Answer {
+    Taken(Name),
+    TakenFor(Name, &'static [ObjectNo]),
+    Got(Literal),
+    Changed,
+    Same,
+    Applied,
+    Disposed,
+    Refused(Refusal),
+}
+
+impl Answer {
+    // Whether a reply is this one.
+    fn is(self, reply: &Reply) -> bool {
+        match (self, reply) {
+            (Answer::Taken(name), Reply::Taken(other)) => name == *other,
+            (Answer::TakenFor(name, changed), Reply::TakenFor(other, objects)) => {
+                name == *other && changed == objects.numbers()
+            }
+            (Answer::Got(literal), Reply::Got(value)) => literal.is(value),
+            (Answer::Changed, Reply::Wrote { changed }) => *changed,
+            (Answer::Same, Reply::Wrote { changed }) => !*changed,
+            (Answer::Applied, Reply::Applied) => true,
+            (Answer::Disposed, Reply::Disposed) => true,
+            (Answer::Refused(refusal), Reply::Refused(other)) => refusal == *other,
+            _ => false,
+        }
+    }
+}
+
+// An object's type, policy and initial value.
+type State = (Ty, BuiltIn, Literal);
+
+// Calls with their callers and the expected replies, in a world at a clock with one
+// watcher and these objects.
+struct Row {
+    what: &'static str,
+    clock: u64,
+    states: &'static [State],
+    calls: &'static [(u64, Call, Answer)],
+}
+
+const ONE: State = (Ty::Int, BuiltIn::Structural, Int(1));
+
+const ZERO: State = (Ty::Int, BuiltIn::Structural, Int(0));
+
+const TEN: State = (Ty::Int, BuiltIn::Counter, Int(10));
+
+const ROWS: [Row; 17] = [
+    Row {
+        what: "a snapshot keeps what it was taken with, and conflicts with a later change",
+        clock: 0,
+        states: &[ONE],
+        calls: &[
+            (0, Take(0, Mutable), Taken(1)),
+            (0, Read(1, 0), Got(Int(1))),
+            (0, Write(0, 0, Int(2)), Changed),
+            (0, Read(1, 0), Got(Int(1))),
+            (0, Write(1, 0, Int(3)), Changed),
+            (0, Read(1, 0), Got(Int(3))),
+            (0, Read(0, 0), Got(Int(2))),
+            (0, Apply(1), Refused(Refusal::Conflict { object: 0 })),
+            (0, Dispose(1), Disposed),
+        ],
+    },
+    Row {
+        what: "a value that came back counts as changed",
+        clock: 0,
+        states: &[ONE],
+        calls: &[
+            (0, Take(0, Mutable), Taken(1)),
+            (0, Write(0, 0, Int(2)), Changed),
+            (0, Write(0, 0, Int(1)), Changed),
+            (0, Write(1, 0, Int(5)), Changed),
+            (0, Apply(1), Refused(Refusal::Conflict { object: 0 })),
+        ],
+    },
+    Row {
+        what: "two additions to a counter add up",
+        clock: 0,
+        states: &[TEN],
+        calls: &[
+            (0, Take(0, Mutable), Taken(1)),
+            (0, Take(0, Mutable), Taken(2)),
+            (0, Read(1, 0), Got(Int(10))),
+            (0, Write(1, 0, Int(11)), Changed),
+            (0, Read(2, 0), Got(Int(10))),
+            (0, Write(2, 0, Int(15)), Changed),
+            (0, Apply(1), Applied),
+            (0, Apply(2), Applied),
+            (0, Read(0, 0), Got(Int(16))),
+        ],
+    },
+    Row {
+        what: "a counter wraps",
+        clock: 0,
+        states: &[(Ty::Int, BuiltIn::Counter, Int(9223372036854775807))],
+        calls: &[
+            (0, Take(0, Mutable), Taken(1)),
+            (0, Take(0, Mutable), Taken(2)),
+            (0, Write(1, 0, Int(-9223372036854775808)), Changed),
+            (0, Write(2, 0, Int(-9223372036854775804)), Changed),
+            (0, Apply(1), Applied),
+            (0, Apply(2), Applied),
+            (0, Read(0, 0), Got(Int(-9223372036854775803))),
+        ],
+    },
+    Row {
+        what: "equal values keep the parent's, in a counter too",
+        clock: 0,
+        states: &[TEN],
+        calls: &[
+            (0, Take(0, Mutable), Taken(1)),
+            (0, Take(0, Mutable), Taken(2)),
+            (0, Write(1, 0, Int(11)), Changed),
+            (0, Write(2, 0, Int(11)), Changed),
+            (0, Apply(1), Applied),
+            (0, Apply(2), Applied),
+            (0, Read(0, 0), Got(Int(11))),
+        ],
+    },
+    Row {
+        what: "a kept value keeps its stamp",
+        clock: 0,
+        states: &[ZERO],
+        calls: &[
+            (0, Take(0, Mutable), Taken(1)),
+            (0, Take(0, Mutable), Taken(2)),
+            (0, Write(1, 0, Int(7)), Changed),
+            (0, Write(2, 0, Int(7)), Changed),
+            (0, Apply(1), Applied),
+            (0, Take(0, Mutable), Taken(3)),
+            (0, Write(3, 0, Int(9)), Changed),
+            (0, Apply(2), Applied),
+            (0, Apply(3), Applied),
+            (0, Read(0, 0), Got(Int(9))),
+        ],
+    },
+    Row {
+        what: "with a conflict nothing is applied, and a second dispose answers as the first",
+        clock: 0,
+        states: &[ZERO, ZERO],
+        calls: &[
+            (0, Take(0, Mutable), Taken(1)),
+            (0, Write(1, 0, Int(5)), Changed),
+            (0, Write(1, 1, Int(6)), Changed),
+            (0, Write(0, 1, Int(1)), Changed),
+            (0, Apply(1), Refused(Refusal::Conflict { object: 1 })),
+            (0, Read(0, 0), Got(Int(0))),
+            (0, Read(1, 0), Got(Int(5))),
+            (0, Dispose(1), Disposed),
+            (0, Dispose(1), Disposed),
+        ],
+    },
+    Row {
+        what: "the conflict with the least object is reported",
+        clock: 0,
+        states: &[ZERO, ZERO],
+        calls: &[
+            (0, Take(0, Mutable), Taken(1)),
+            (0, Write(1, 1, Int(6)), Changed),
+            (0, Write(1, 0, Int(5)), Changed),
+            (0, Write(0, 1, Int(1)), Changed),
+            (0, Write(0, 0, Int(1)), Changed),
+            (0, Apply(1), Refused(Refusal::Conflict { object: 0 })),
+        ],
+    },
+    Row {
+        what: "a nested snapshot is applied to its parent",
+        clock: 0,
+        states: &[ZERO],
+        calls: &[
+            (0, Take(0, Mutable), Taken(1)),
+            (0, Take(1, Mutable), Taken(2)),
+            (0, Write(2, 0, Int(4)), Changed),
+            (0, Read(1, 0), Got(Int(0))),
+            (0, Apply(2), Applied),
+            (0, Read(1, 0), Got(Int(4))),
+            (0, Apply(1), Applied),
+            (0, Read(0, 0), Got(Int(4))),
+        ],
+    },
+    Row {
+        what: "changes of an object that is never equal conflict",
+        clock: 0,
+        states: &[(Ty::Int, BuiltIn::Never, Int(0))],
+        calls: &[
+            (0, Take(0, Mutable), Taken(1)),
+            (0, Take(1, Mutable), Taken(2)),
+            (0, Write(1, 0, Int(1)), Changed),
+            (0, Write(2, 0, Int(2)), Changed),
+            (0, Apply(2), Refused(Refusal::Conflict { object: 0 })),
+        ],
+    },
+    Row {
+        what: "the largest of two values stays",
+        clock: 0,
+        states: &[(Ty::Int, BuiltIn::Largest, Int(0))],
+        calls: &[
+            (0, Take(0, Mutable), Taken(1)),
+            (0, Take(1, Mutable), Taken(2)),
+            (0, Write(1, 0, Int(5)), Changed),
+            (0, Write(2, 0, Int(3)), Changed),
+            (0, Apply(2), Applied),
+            (0, Read(1, 0), Got(Int(5))),
+        ],
+    },
+    Row {
+        what: "what two snapshots append is concatenated, and a replacement conflicts",
+        clock: 0,
+        states: &[(Ty::Ints, BuiltIn::Append, Ints(&[1]))],
+        calls: &[
+            (0, Take(0, Mutable), Taken(1)),
+            (0, Take(0, Mutable), Taken(2)),
+            (0, Take(0, Mutable), Taken(3)),
+            (0, Write(1, 0, Ints(&[1, 2])), Changed),
+            (0, Write(2, 0, Ints(&[1, 3])), Changed),
+            (0, Write(3, 0, Ints(&[9])), Changed),
+            (0, Apply(1), Applied),
+            (0, Apply(2), Applied),
+            (0, Apply(3), Refused(Refusal::Conflict { object: 0 })),
+            (0, Read(0, 0), Got(Ints(&[1, 2, 3]))),
+        ],
+    },
+    Row {
+        what: "a snapshot whose parent was disposed reads on and is not applied",
+        clock: 0,
+        states: &[ZERO],
+        calls: &[
+            (0, Take(0, Mutable), Taken(1)),
+            (0, Write(1, 0, Int(1)), Changed),
+            (0, Take(1, Mutable), Taken(2)),
+            (0, Dispose(1), Disposed),
+            (0, Write(0, 0, Int(2)), Changed),
+            (0, Write(0, 0, Int(3)), Changed),
+            (0, Write(0, 0, Int(4)), Changed),
+            (0, Read(2, 0), Got(Int(1))),
+            (0, Apply(2), Refused(Refusal::ParentClosed)),
+            (0, Read(0, 0), Got(Int(4))),
+        ],
+    },
+    Row {
+        what: "each refusal has its cause",
+        clock: 0,
+        states: &[ZERO],
+        calls: &[
+            (0, Take(0, Readonly), Taken(1)),
+            (0, Write(1, 0, Int(1)), Refused(Refusal::ReadOnly)),
+            (0, Take(1, Mutable), Refused(Refusal::ReadOnly)),
+            (0, Apply(0), Refused(Refusal::Global)),
+            (1, Dispose(1), Refused(Refusal::NotYours { owner: 0 })),
+            (0, Read(1, 0), Got(Int(0))),
+            (
+                0,
+                Write(18446744073709551615, 0, Int(1)),
+                Refused(Refusal::Closed {
+                    name: 18446744073709551615,
+                }),
+            ),
+            (
+                0,
+                Write(0, 0, Bool(true)),
+                Refused(Refusal::WrongType { kept: Ty::Int }),
+            ),
+            (0, Read(1, 1), Refused(Refusal::UnknownObject)),
+            (0, Write(1, 1, Bool(true)), Refused(Refusal::UnknownObject)),
+            (0, Write(1, 0, Bool(true)), Refused(Refusal::ReadOnly)),
+            (0, Apply(1), Refused(Refusal::ReadOnly)),
+            (0, Dispose(2), Refused(Refusal::Closed { name: 2 })),
+            (0, Dispose(0), Refused(Refusal::Global)),
+            (0, Call::TakeFor(1), Refused(Refusal::UnknownWatcher)),
+        ],
+    },
+    Row {
+        what: "an equal write changes nothing, and one that is never equal always does",
+        clock: 0,
+        states: &[ZERO, (Ty::Int, BuiltIn::Never, Int(0))],
+        calls: &[
+            (0, Write(0, 0, Int(0)), Same),
+            (0, Write(0, 1, Int(0)), Changed),
+        ],
+    },
+    Row {
+        what: "a watcher lists what changed since its last take",
+        clock: 0,
+        states: &[ZERO, ZERO],
+        calls: &[
+            (0, Call::TakeFor(0), TakenFor(1, &[0, 1])),
+            (0, Call::TakeFor(0), TakenFor(2, &[])),
+            (0, Write(0, 1, Int(1)), Changed),
+            (0, Write(0, 1, Int(0)), Changed),
+            (0, Call::TakeFor(0), TakenFor(3, &[1])),
+        ],
+    },
+    Row {
+        what: "at its last value the clock lets nothing be taken, written or applied",
+        clock: CLOCK_LIMIT - 1,
+        states: &[ZERO],
+        calls: &[
+            (0, Take(0, Mutable), Taken(1)),
+            (0, Write(1, 0, Int(1)), Refused(Refusal::Spent)),
+            (0, Apply(1), Refused(Refusal::Spent)),
+            (0, Take(0, Mutable), Refused(Refusal::Spent)),
+            (0, Call::TakeFor(0), Refused(Refusal::Spent)),
+            (0, Read(1, 0), Got(Int(0))),
+            (0, Dispose(1), Disposed),
+        ],
+    },
+];
+
+// Makes one watcher and these objects, then the calls, and returns their replies.
+fn replies_of<V: Versions, A: Abort>(
+    rt: &A,
+    alloc: Global,
+    world: &mut V,
+    row: &Row,
+    policies: Vec<V::P>,
+) -> Result<Vec<Reply>, Fail> {
+    assert!(rt; world.watchers() < 65536);
+    world.watch(alloc)?;
+    for ((ty, _, initial), policy) in row.states.iter().zip(policies) {
+        assert!(rt; world.objects() < 65536);
+        let made = world.make(alloc, *ty, policy, initial.value(alloc)?);
+        assert!(rt; made.is_ok());
+    }
+    let mut calls = Vec::new(alloc);
+    for (caller, call, _) in row.calls {
+        calls.push((*caller, call.request(alloc)?))?;
+    }
+    Ok(run_calls(alloc, world, &calls)?)
+}
+
+// The policies of a row's objects.
+fn policies_of(alloc: Global, row: &Row) -> Result<Vec<BuiltIn>, Fail> {
+    let mut policies = Vec::new(alloc);
+    for (_, policy, _) in row.states {
+        policies.push(*policy)?;
+    }
+    Ok(policies)
+}
+
+#[test]
+fn replies_are_those_of_copied_maps(rt: HostRuntime) -> Result<(), Fail> {
+    let alloc = rt.alloc();
+    for row in &ROWS {
+        assert!(rt; row.clock <= CLOCK_LIMIT);
+        let mut plain: PlainWorld<BuiltIn> = PlainWorld::starting_at(alloc, row.clock)?;
+        let mut records: RecordWorld<BuiltIn> = RecordWorld::starting_at(alloc, row.clock)?;
+        let copied = replies_of(&rt, alloc, &mut plain, row, policies_of(alloc, row)?)?;
+        let replies = replies_of(&rt, alloc, &mut records, row, policies_of(alloc, row)?)?;
+        assert!(rt; copied.len() == row.calls.len(), "{}", row.what);
+        assert!(rt; replies.len() == row.calls.len(), "{}", row.what);
+        for (reply, (_, call, answer)) in replies.iter().zip(row.calls) {
+            assert!(rt; answer.is(reply), "records: {}: {call:?}", row.what);
+        }
+        for (reply, (_, call, answer)) in copied.iter().zip(row.calls) {
+            assert!(rt; answer.is(reply), "maps: {}: {call:?}", row.what);
+        }
+    }
+    Ok(())
+}

@@ -1,0 +1,52 @@
+// The readable record of a chain.
+use rt_values::Value;
+use snap_ids::IdSet;
+use snap_records::Chains;
+use std::test::Fail;
+
+#[test]
+fn the_highest_valid_record_is_read(rt: HostRuntime) -> Result<(), Fail> {
+    let alloc = rt.alloc();
+    let mut chains = Chains::new(alloc);
+    let x = chains.add_object(alloc)?;
+    assert_eq!(rt; x, 0);
+    chains.prepend(x, 5, Value::Int(50), 5)?;
+    chains.prepend(x, 2, Value::Int(20), 2)?;
+    chains.prepend(x, 7, Value::Int(70), 7)?;
+    // The id, an invalid id, and the id of the readable record.
+    let rows: [(u64, u64, Option<u64>); 6] = [
+        (6, 0, Some(5)),
+        (6, 5, Some(2)),
+        (1, 0, None),
+        (9, 0, Some(7)),
+        (2, 0, Some(2)),
+        (2, 2, None),
+    ];
+    for (id, invalid, expected) in &rows {
+        let invalid = IdSet::of(alloc, *invalid)?;
+        let found = chains.readable(x, *id, &invalid).map(|r| chains.id(r));
+        assert_eq!(rt; found, *expected);
+    }
+    Ok(())
+}
+
+#[test]
+fn records_are_overwritten_and_invalidated(rt: HostRuntime) -> Result<(), Fail> {
+    let alloc = rt.alloc();
+    let mut chains = Chains::new(alloc);
+    let x = chains.add_object(alloc)?;
+    let y = chains.add_object_with(alloc, 1, Value::Int(4), 0)?;
+    let r = chains.prepend(x, 2, Value::Int(20), 3)?;
+    chains.overwrite(r, 6, Value::Int(60), 7);
+    assert_eq!(rt; chains.count(x), 1);
+    assert_eq!(rt; chains.id(r), 6);
+    assert_eq!(rt; chains.stamp(r), 7);
+    assert!(rt; chains.value(r).same(&Value::Int(60)));
+    chains.invalidate(r);
+    assert_eq!(rt; chains.id(r), 0);
+    assert!(rt; chains.readable(x, 9, &IdSet::new(alloc)).is_none());
+    assert_eq!(rt; chains.count(y), 1);
+    let first = chains.at(y, 0);
+    assert_eq!(rt; chains.id(first), 1);
+    Ok(())
+}

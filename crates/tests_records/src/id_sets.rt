@@ -1,0 +1,63 @@
+// Sets of snapshot ids.
+use snap_ids::IdSet;
+use std::test::Fail;
+
+// The ids of a set that are less than 600, in order.
+fn ids_of(alloc: std::alloc::Global, set: &IdSet) -> Result<Vec<u64>, Fail> {
+    let mut ids = Vec::new(alloc);
+    for id in 0..600 {
+        if set.get(id) {
+            ids.push(id)?;
+        }
+    }
+    Ok(ids)
+}
+
+#[test]
+fn ids_are_added_and_removed(rt: HostRuntime) -> Result<(), Fail> {
+    let alloc = rt.alloc();
+    let mut set = IdSet::new(alloc);
+    assert_eq!(rt; set.lowest(9), 9);
+    assert!(rt; set.is_empty());
+    set.add_range(3, 6)?;
+    set.set(500)?;
+    set.set(500)?;
+    set.clear(4);
+    set.clear(77);
+    assert_eq!(rt; ids_of(alloc, &set)?.as_slice(), [3, 5, 500].as_slice());
+    assert_eq!(rt; set.lowest(9), 3);
+    set.set(1)?;
+    assert_eq!(rt; set.lowest(9), 1);
+    set.clear_all();
+    assert_eq!(rt; set.lowest(9), 9);
+    Ok(())
+}
+
+#[test]
+fn sets_are_combined(rt: HostRuntime) -> Result<(), Fail> {
+    let alloc = rt.alloc();
+    let mut set = IdSet::new(alloc);
+    set.set(500)?;
+    set.set(5)?;
+    set.set(3)?;
+    let three = IdSet::of(alloc, 3)?;
+    let rest = set.and_not(alloc, &three)?;
+    assert_eq!(rt; ids_of(alloc, &rest)?.as_slice(), [5, 500].as_slice());
+    let mut low = IdSet::new(alloc);
+    low.add_range(2, 5)?;
+    low.add_range(9, 9)?;
+    low.add_range(9, 7)?;
+    let all = rest.or(alloc, &low)?;
+    assert_eq!(rt;
+        ids_of(alloc, &all)?.as_slice(),
+        [2, 3, 4, 5, 500].as_slice()
+    );
+    let mut left = all.copy(alloc)?;
+    left.remove_all(&low);
+    assert_eq!(rt; ids_of(alloc, &left)?.as_slice(), [5, 500].as_slice());
+    assert_eq!(rt;
+        ids_of(alloc, &all)?.as_slice(),
+        [2, 3, 4, 5, 500].as_slice()
+    );
+    Ok(())
+}
