@@ -1,4 +1,4 @@
-//! Programs of composables as plain data, and the values of their expressions.
+//! Programs of composables with their scripts as plain data, and the values of expressions.
 //!
 //! The parser builds these types, the checks inspect them, and composing runs them. They take the place of the Kotlin
 //! functions that the Compose compiler plugin rewrites. The language is this project's own.
@@ -11,8 +11,12 @@
 mod binding;
 mod place;
 mod program;
+mod script;
 mod syntax;
 
 pub use binding::Binding;
 pub use program::{Program, State, root_number};
+pub use script::{
+    CallForm, CallForms, DoForm, Rest, ScriptForm, ScriptForms, SnapshotRef, StepForm, StepForms,
+};
 pub use syntax::{Expression, Function, Ident, Named, Operator, Parameter, Statement};

@@ -5,14 +5,16 @@ ghost use Rattle.lang_ast.specs.Programs.{root_number};
 
 use crate::{Function, Ident};
 use rt_values::{Ty, Value};
+use snap_policy::BuiltIn;
 
-/// A state object that the program declares (`mutableStateOf` with `structuralEqualityPolicy`), with its type and
-/// its initial value. The states of a program are objects 0, 1, .. in source order.
+/// A state object that the program declares (`mutableStateOf`), with its type, its policy and its initial value. The
+/// states of a program are objects 0, 1, .. in source order.
 #[derive(Drop)]
 pub struct State {
     pub at: usize,
     pub name: Ident,
     pub ty: Ty,
+    pub policy: BuiltIn,
     pub initial: Value,
 }
 

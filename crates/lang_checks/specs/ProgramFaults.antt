@@ -1,6 +1,7 @@
 -- Trusted: the faults of functions, of states, and of a whole program.
-use Rattle.std.specs.Prelude.{ℕ, ◌+◌, ◌==◌, ◌||◌, not, nat_lt, List, [], ◌∷◌, ◌++◌, map, length}
+use Rattle.std.specs.Prelude.{ℕ, ◌+◌, ◌==◌, ◌&&◌, ◌||◌, not, nat_lt, Bool, List, [], ◌∷◌, ◌++◌, map, length}
 use Rattle.rt_values.specs.Values.{type_of, same_type}
+use Rattle.snap_policy.specs.Table.{table_fits}
 use Rattle.lang_ast.specs.declared.syntax.Parameter.{Parameter}
 use Rattle.lang_ast.specs.declared.program.State.{State}
 use Rattle.lang_ast.specs.Terms.{Func}
@@ -13,10 +14,14 @@ use Rattle.lang_checks.specs.Scopes.{typed_name, duplicate_faults}
 use Rattle.lang_checks.specs.Statements.{stmts_faults}
 use Rattle.lang_checks.specs.Chains.{chains_faults}
 
--- The faults of states whose initial value has another type.
+-- Whether the initial value of a state has its type, and its policy fits the type.
+abbrev pub is_well_typed : State → Bool
+is_well_typed s = same_type (type_of s.initial) s.ty && table_fits s.policy s.ty
+
+-- The faults of states whose initial value has another type, or whose policy does not fit the type.
 abbrev pub states_faults : List State → List ProgramFault
 states_faults [] = []
-states_faults (s ∷ ss) = fault_unless (same_type (type_of s.initial) s.ty) kind.Type s.at ++ states_faults ss
+states_faults (s ∷ ss) = fault_unless (is_well_typed s) kind.Type s.at ++ states_faults ss
 
 abbrev pub bound_parameters : List Parameter → List TypedName
 bound_parameters ps = map (λ q. typed_name q.name q.ty) ps

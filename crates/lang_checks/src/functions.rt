@@ -3,7 +3,7 @@ ghost use Rattle.std.specs.Prelude.{◌≡◌, IfOk, OnOk, [], ◌∷◌, ◌++�
 ghost use Rattle.lang_ast.specs.SyntaxView.{function_view, functions_view};
 ghost use Rattle.lang_ast.specs.Programs.{is_root, program_view};
 ghost use Rattle.lang_checks.specs.FaultOrder.{least_fault_from, least_fault};
-ghost use Rattle.lang_checks.specs.ProgramFaults.{states_faults, bound_parameters, function_faults, functions_faults, program_faults};
+ghost use Rattle.lang_checks.specs.ProgramFaults.{is_well_typed, states_faults, bound_parameters, function_faults, functions_faults, program_faults};
 
 use crate::chains::check_chains;
 use crate::duplicates::duplicate_faults;
@@ -12,9 +12,17 @@ use crate::faults::{CheckKind, ProgramFault, fault_unless};
 use crate::statement::{StatementContext, statements};
 use lang_ast::{Function, Parameter, Program, State, root_number};
 use rt_values::NoMemory;
+use snap_policy::Policy;
 use std::alloc::Global;
 
-// Updates `least` with the states whose initial value has another type.
+// Whether the initial value of a state has its type, and its policy fits the type.
+fn is_well_typed(state: &State) -> bool
+    ensures { result ≡ is_well_typed state.now }
+{
+    state.initial.ty().same(state.ty) && state.policy.fits(state.ty)
+}
+
+// Updates `least` with the states that are not well typed.
 #[tactic(auto, using(crate::proofs::Least::answers))]
 fn check_states(states: &[State], least: Option<ProgramFault>) -> Option<ProgramFault>
     ensures { result ≡ least_fault_from least (states_faults states.now) }
@@ -22,12 +30,7 @@ fn check_states(states: &[State], least: Option<ProgramFault>) -> Option<Program
     let mut least = least;
     let mut rest = states;
     while let Some((state, more)) = rest.split_first() {
-        least = fault_unless(
-            state.initial.ty().same(state.ty),
-            CheckKind::Type,
-            state.at,
-            least,
-        );
+        least = fault_unless(is_well_typed(state), CheckKind::Type, state.at, least);
         rest = more;
     }
     least

@@ -3,6 +3,10 @@ use Rattle.std.proofs.Common.{◌≡◌, ℕ, suc, ◌+◌, List, [], ◌∷◌,
 use Rattle.std.specs.Fmt.{signed_decimal}
 use Rattle.std.proofs.lemmas.Bool.{and_parts}
 use Rattle.sexp_text.specs.Forest.{Forest, empty, atom, text, list}
+use Rattle.rt_values.specs.declared.names.Kind.{Kind}
+use Rattle.rt_values.specs.declared.names.Kind.TheVariants as kind
+use Rattle.snap_policy.specs.declared.policy.BuiltIn.{BuiltIn}
+use Rattle.snap_policy.specs.declared.policy.BuiltIn.TheVariants as policy
 use Rattle.rt_values.specs.declared.value.Ty.{Ty}
 use Rattle.rt_values.specs.declared.value.Ty.TheVariants as ty
 use Rattle.rt_values.specs.declared.value.Value.{Value}
@@ -14,10 +18,10 @@ use Rattle.lang_ast.specs.declared.syntax.Operator.{Operator}
 use Rattle.lang_ast.specs.declared.syntax.Operator.TheVariants as operator
 use Rattle.lang_limits.specs.Tokens.{fits}
 use Rattle.lang_forms.specs.Names.{is_name, all_fit, is_string, is_list_long, number_of}
-use Rattle.lang_forms.specs.Words.{type_word, operator_word, takes, type_for_word, number_operator, truth_operator, list_operator, operator_for_word}
+use Rattle.lang_forms.specs.Words.{type_word, policy_word, kind_word, operator_word, takes, type_for_word, policy_for_word, kind_for_word, number_operator, truth_operator, list_operator, operator_for_word}
 use Rattle.lang_forms.specs.Sketch.{Sketch, nothing, Fits}
 use Rattle.lang_forms.specs.Forms.{numbers, literal, expr_forms, exprs_forms, pairs_forms, stmt_forms, stmts_forms, literal_fits, operand_count, KnownNames, Spelled, AllSpelled, SpelledPairs, site_after, site_after_all, SpelledStmt, SpelledStmts}
-use Rattle.lang_forms.specs.Readings.{Seen, seen, form, roles, word_of, name_of, type_of, operator_of, truth_of, plain_of, string_of, ints_of, literal_form, literal_at, literal_of, leaf_of, expr_at, expr_of, exprs_of, get_form, apply_form, expr_form, pair_form, pairs_form, stmt_at, stmts_of, block_of, binding_of, named_pairs_of, node_form, call_form, key_form, if_form, for_form, let_form, remember_form, stmt_form}
+use Rattle.lang_forms.specs.Readings.{Seen, seen, form, roles, word_of, name_of, type_of, policy_of, kind_of, operator_of, truth_of, plain_of, string_of, number_of_first, ints_of, literal_form, literal_at, literal_of, leaf_of, expr_at, expr_of, exprs_of, get_form, apply_form, expr_form, pair_form, pairs_form, stmt_at, stmts_of, block_of, binding_of, named_pairs_of, node_form, call_form, key_form, if_form, for_form, let_form, remember_form, stmt_form}
 use Rattle.lang_forms.proofs.Ints.{int-decimal, letters_no_int, decimal_no_name}
 
 -- a first tree that is parsed as a part, and the trees after it
@@ -53,6 +57,19 @@ type_there ty.Int a r = refl
 type_there ty.Bool a r = refl
 type_there ty.Text a r = refl
 type_there ty.Ints a r = refl
+
+pub policy_there : (p : BuiltIn) (a : ℕ) (r : Forest) → policy_of (seen (atom a (policy_word p) r)) ≡ Some (p, seen r)
+unfolding policy_of policy_for_word
+policy_there policy.Structural a r = refl
+policy_there policy.Never a r = refl
+policy_there policy.Counter a r = refl
+policy_there policy.Largest a r = refl
+policy_there policy.Append a r = refl
+
+pub kind_there : (k : Kind) (a : ℕ) (r : Forest) → kind_of (seen (atom a (kind_word k) r)) ≡ Some (k, seen r)
+unfolding kind_of kind_for_word
+kind_there kind.Mutable a r = refl
+kind_there kind.Readonly a r = refl
 
 operator_there : (o : Operator) (a : ℕ) (r : Forest) → operator_of (seen (atom a (operator_word o) r)) ≡ Some (o, seen r)
 unfolding operator_of operator_for_word number_operator truth_operator list_operator
@@ -103,6 +120,10 @@ operator_no_get operator.At a r = refl
 int_read : (z : ℤ) → fits z ≡ true → plain_of (signed_decimal z) ≡ Some (value.Int z)
 unfolding plain_of
 int_read z h = rw (int-decimal z h)
+
+-- a first tree that is a number
+pub number_there : (z : ℤ) (a : ℕ) (r : Forest) → fits z ≡ true → number_of_first (seen (atom a (signed_decimal z) r)) ≡ Some (z, seen r)
+number_there z a r h = rw (int-decimal z h)
 
 truth_read : (b : Bool) → plain_of (truth_text b) ≡ Some (value.Bool b)
 unfolding plain_of truth_of

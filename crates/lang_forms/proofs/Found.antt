@@ -1,11 +1,16 @@
 -- The first trees that are parsed have the forms.
 use Rattle.std.proofs.Common.{◌≡◌, ◌⊎◌, inl, inr, ℕ, List, ◌∷◌, length, Option, Some, None, Bool, true, false, cond, ℤ, refl, sym, ap, ◌∙◌, subst, codes}
+use Rattle.std.specs.Fmt.{signed_decimal}
 use Rattle.std.specs.Option.{option_map}
 use Rattle.std.specs.Str.{bytes_eq}
 use Rattle.std.proofs.lemmas.Bool.{and_from}
 use Rattle.std.proofs.lemmas.Option.{cond_some}
 use Rattle.std.proofs.lemmas.Slice.Eq.{bytes_eq-Decides}
 use Rattle.sexp_text.specs.Forest.{Forest, empty, atom, text, list}
+use Rattle.rt_values.specs.declared.names.Kind.{Kind}
+use Rattle.rt_values.specs.declared.names.Kind.TheVariants as kind
+use Rattle.snap_policy.specs.declared.policy.BuiltIn.{BuiltIn}
+use Rattle.snap_policy.specs.declared.policy.BuiltIn.TheVariants as policy
 use Rattle.rt_values.specs.declared.value.Ty.{Ty}
 use Rattle.rt_values.specs.declared.value.Ty.TheVariants as ty
 use Rattle.rt_values.specs.declared.value.Value.{Value}
@@ -16,10 +21,10 @@ use Rattle.lang_ast.specs.declared.syntax.Operator.{Operator}
 use Rattle.lang_ast.specs.declared.syntax.Operator.TheVariants as operator
 use Rattle.lang_limits.specs.Tokens.{fits}
 use Rattle.lang_forms.specs.Names.{is_name, all_fit, is_string, is_list_long}
-use Rattle.lang_forms.specs.Words.{type_word, operator_word, named, or_else, type_for_word, number_operator, truth_operator, list_operator, operator_for_word}
+use Rattle.lang_forms.specs.Words.{type_word, policy_word, kind_word, operator_word, named, or_else, type_for_word, policy_for_word, kind_for_word, number_operator, truth_operator, list_operator, operator_for_word}
 use Rattle.lang_forms.specs.Sketch.{Sketch, Fits, IsAtOffset}
 use Rattle.lang_forms.specs.Forms.{numbers, literal, literal_fits, plain_fits}
-use Rattle.lang_forms.specs.Readings.{◌>>=◌, choose, Seen, seen, is_end, word_of, name_of, type_of, operator_of, int_of, truth_of, plain_of, string_of, ints_of, literal_form, literal_of}
+use Rattle.lang_forms.specs.Readings.{◌>>=◌, choose, Seen, seen, is_end, word_of, name_of, type_of, policy_of, kind_of, operator_of, int_of, truth_of, plain_of, string_of, number_of_first, ints_of, literal_form, literal_of}
 use Rattle.lang_forms.proofs.Ints.{decimal-int}
 
 pub inject : {A : Type 0} {a b : A} → Some a ≡ Some b → a ≡ b
@@ -96,6 +101,16 @@ type_found : (w : List ℕ) (t : Ty) → type_for_word w ≡ Some t → w ≡ ty
 unfolding type_for_word
 type_found w t = named_some type_word ty.Int t w _ (named_some type_word ty.Bool t w _ (named_some type_word ty.Text t w _ (named_some type_word ty.Ints t w _ (no_word type_word t w))))
 
+policy_found : (w : List ℕ) (p : BuiltIn) → policy_for_word w ≡ Some p → w ≡ policy_word p
+unfolding policy_for_word
+policy_found w p =
+    named_some policy_word policy.Structural p w _ (named_some policy_word policy.Never p w _ (named_some policy_word policy.Counter p w _ (
+    named_some policy_word policy.Largest p w _ (named_some policy_word policy.Append p w _ (no_word policy_word p w)))))
+
+kind_found : (w : List ℕ) (k : Kind) → kind_for_word w ≡ Some k → w ≡ kind_word k
+unfolding kind_for_word
+kind_found w k = named_some kind_word kind.Mutable k w _ (named_some kind_word kind.Readonly k w _ (no_word kind_word k w))
+
 number_operator_found : (w : List ℕ) (o : Operator) → number_operator w ≡ Some o → w ≡ operator_word o
 unfolding number_operator
 number_operator_found w o =
@@ -145,6 +160,40 @@ type_next (atom b v r) rs t is h =
     subst (λ (m : Ty × List Seen). Typed (atom b v r) m) same (record { at = b; rest = r; is = ap (λ (x : List ℕ). atom b x r) (type_found v c.0 c.1); behind = refl })
 type_next (text b v r) rs t is h = absurd (cc (ap type_of (sym is) ∙ h))
 type_next (list b j r) rs t is h = absurd (cc (ap type_of (sym is) ∙ h))
+
+-- a first tree that is a policy, and the trees after it
+pub record Policied (i : Forest) (p : BuiltIn × List Seen) : Type 0 where
+  pub at : ℕ
+  pub rest : Forest
+  pub is : i ≡ atom at (policy_word p.0) rest
+  pub behind : p.1 ≡ seen rest
+
+pub policy_next : (i : Forest) (rs : List Seen) (p : BuiltIn × List Seen) → rs ≡ seen i → policy_of rs ≡ Some p → Policied i p
+unfolding policy_of
+policy_next empty rs p is h = absurd (cc (ap policy_of (sym is) ∙ h))
+policy_next (atom b v r) rs p is h =
+    let c = bind_some (policy_for_word v) (λ x. Some (x, seen r)) p (ap policy_of (sym is) ∙ h) in
+    let same : (c.0, seen r) ≡ p = inject c.2 in
+    subst (λ (m : BuiltIn × List Seen). Policied (atom b v r) m) same (record { at = b; rest = r; is = ap (λ (x : List ℕ). atom b x r) (policy_found v c.0 c.1); behind = refl })
+policy_next (text b v r) rs p is h = absurd (cc (ap policy_of (sym is) ∙ h))
+policy_next (list b j r) rs p is h = absurd (cc (ap policy_of (sym is) ∙ h))
+
+-- a first tree that is a kind of snapshots, and the trees after it
+pub record Kinded (i : Forest) (k : Kind × List Seen) : Type 0 where
+  pub at : ℕ
+  pub rest : Forest
+  pub is : i ≡ atom at (kind_word k.0) rest
+  pub behind : k.1 ≡ seen rest
+
+pub kind_next : (i : Forest) (rs : List Seen) (k : Kind × List Seen) → rs ≡ seen i → kind_of rs ≡ Some k → Kinded i k
+unfolding kind_of
+kind_next empty rs k is h = absurd (cc (ap kind_of (sym is) ∙ h))
+kind_next (atom b v r) rs k is h =
+    let c = bind_some (kind_for_word v) (λ x. Some (x, seen r)) k (ap kind_of (sym is) ∙ h) in
+    let same : (c.0, seen r) ≡ k = inject c.2 in
+    subst (λ (m : Kind × List Seen). Kinded (atom b v r) m) same (record { at = b; rest = r; is = ap (λ (x : List ℕ). atom b x r) (kind_found v c.0 c.1); behind = refl })
+kind_next (text b v r) rs k is h = absurd (cc (ap kind_of (sym is) ∙ h))
+kind_next (list b j r) rs k is h = absurd (cc (ap kind_of (sym is) ∙ h))
 
 -- a first tree that is an operator, and the trees after it
 pub record Operated (i : Forest) (o : Operator × List Seen) : Type 0 where
@@ -210,6 +259,26 @@ pub record Quoted (s : List ℕ) (v : Value) : Type 0 where
 pub string_found : (s : List ℕ) (v : Value) → string_of s ≡ Some v → Quoted s v
 unfolding string_of
 string_found s v h = let c = cond_some (is_string s) (value.Text s) v h in record { is = c.1; good = c.0 }
+
+-- a first tree that is a number, and the trees after it
+pub record Numbered (i : Forest) (z : ℤ × List Seen) : Type 0 where
+  pub at : ℕ
+  pub rest : Forest
+  pub is : i ≡ atom at (signed_decimal z.0) rest
+  pub behind : z.1 ≡ seen rest
+  pub good : fits z.0 ≡ true
+
+number_found : (i : Forest) (z : ℤ × List Seen) → number_of_first (seen i) ≡ Some z → Numbered i z
+number_found empty z h = absurd (cc)
+number_found (atom b v r) z h =
+    let x = map_some (int_of v) (λ (y : ℤ). (y, seen r)) z h in
+    let d = decimal-int v x.0 x.1 in
+    subst (λ (m : ℤ × List Seen). Numbered (atom b v r) m) x.2 (record { at = b; rest = r; is = ap (λ (y : List ℕ). atom b y r) d.0; behind = refl; good = d.1 })
+number_found (text b v r) z h = absurd (cc)
+number_found (list b j r) z h = absurd (cc)
+
+pub number_next : (i : Forest) (rs : List Seen) (z : ℤ × List Seen) → rs ≡ seen i → number_of_first rs ≡ Some z → Numbered i z
+number_next i rs z is h = number_found i z (ap number_of_first (sym is) ∙ h)
 
 ints_found : (f : Forest) (zs : List ℤ) → ints_of (seen f) ≡ Some zs → Fits f (numbers zs) × (all_fit zs ≡ true)
 unfolding ints_of

@@ -2,13 +2,14 @@ pub mod Trees
 pub mod SeenIs
 pub mod Ints
 pub mod FormsAreRead
+pub mod StepsAreRead
 pub mod TextIsRead
 pub mod Found
 pub mod ReadHasForms
+pub mod StepsHaveForms
 pub mod TextHasForms
 pub mod FirstWrong
 pub mod Unlimited
-pub mod Written
 pub mod Limits
 pub mod Firsts
 pub mod ByForms

@@ -8,17 +8,16 @@ use Rattle.sexp_text.specs.Forest.{Forest, empty, atom, text, list}
 use Rattle.lang_ast.specs.Terms.{Func}
 use Rattle.lang_ast.specs.declared.syntax.Parameter.{Parameter}
 use Rattle.lang_ast.specs.declared.program.State.{State}
-use Rattle.lang_forms.specs.declared.script_forms.StepForm.{StepForm}
-use Rattle.lang_forms.specs.declared.script_forms.StepForm.TheVariants.{Write, Frame}
-use Rattle.lang_forms.specs.declared.script_forms.DoForm.{DoForm}
-use Rattle.lang_forms.specs.Names.{is_name, number_of}
+use Rattle.lang_ast.specs.declared.script.DoForm.{DoForm}
+use Rattle.lang_forms.specs.Names.{is_name}
 use Rattle.lang_forms.specs.Sketch.{Sketch, nothing, Fits}
 use Rattle.lang_forms.specs.Sources.{Source}
-use Rattle.lang_forms.specs.Forms.{is_of_actor, AreOfActor, parameters_forms, state_forms, function_forms, do_forms, steps_forms, top_forms, KnownNames, site_after_all, state_name, function_name, literal_fits, SpelledStmts, SpelledParameters, SpelledStates, SpelledFunctions, SpelledSteps, SpelledScripts, HasForms}
-use Rattle.lang_forms.specs.Readings.{when, Top, StateTop, FunctionTop, DoTop, Seen, seen, is_end, word_of, name_of, type_of, literal_of, step_form, write_form, steps_of, parameter_form, parameters_form, parameters_of, stmts_of, state_form, function_form, do_form, top_form, header_form, is_there}
+use Rattle.lang_forms.specs.Forms.{parameters_forms, state_forms, function_forms, do_forms, top_forms, KnownNames, site_after_all, state_name, function_name, literal_fits, SpelledStmts, SpelledParameters, SpelledStates, SpelledFunctions, SpelledActor, SpelledScripts, HasForms}
+use Rattle.lang_forms.specs.Readings.{Top, StateTop, FunctionTop, DoTop, Seen, seen, is_end, word_of, name_of, type_of, policy_of, literal_of, actor_steps_of, parameter_form, parameters_form, parameters_of, stmts_of, state_form, function_form, do_form, top_form, header_form, is_there}
 use Rattle.lang_forms.specs.TextReading.{PartialSource, known, source, is_none, source_with_form, source_with_rest, tops_of, text_of, start, source_of, source_or_offset}
-use Rattle.lang_forms.proofs.Found.{inject, bind_some, map_some, Worded, word_found, word_next, name_next, type_next, literal_next, end_next, tail}
+use Rattle.lang_forms.proofs.Found.{inject, bind_some, map_some, Worded, word_found, word_next, name_next, type_next, policy_next, literal_next, end_next, tail}
 use Rattle.lang_forms.proofs.ReadHasForms.{either, body_found}
+use Rattle.lang_forms.proofs.StepsHaveForms.{actor_found}
 
 -- Parameters, states, functions and scripts.
 
@@ -72,53 +71,6 @@ parameters_first (list at i f) ps h =
     subst (λ (p : List Parameter × List Seen). ParametersFirst (list at i f) p) x.2
     (record { at = at; inner = i; rest = f; is = refl; behind = refl; fits = all.0; spelled = all.1 })
 
--- a step, and those after it
-record StepFits (m : List (List ℕ)) (at : ℕ) (i : Forest) (t : StepForm) : Type 0 where
-  fits : (f : Forest) (ts : List StepForm) → Fits f (steps_forms ts) → Fits (list at i f) (steps_forms (t ∷ ts))
-  spelled : (ts : List StepForm) → SpelledSteps m ts → SpelledSteps m (t ∷ ts)
-
-write_found : (m : List (List ℕ)) (at : ℕ) (i : Forest) (t : StepForm) (ss : List Seen) → Worded i (codes "write") ss → write_form m at ss ≡ Some t → StepFits m at i t
-unfolding write_form
-write_found m at i t ss w h =
-    let o = bind_some (word_of (codes "global") ss) _ t h in
-    let g = word_next (codes "global") w.rest ss o.0 w.behind o.1 in
-    let n = bind_some (name_of o.0) _ t o.2 in
-    let x = name_next g.rest o.0 n.0 g.behind n.1 in
-    let v = bind_some (literal_of n.0.1) _ t n.2 in
-    let y = literal_next x.rest n.0.1 v.0 x.behind v.1 in
-    let made : StepForm = Write at n.0.0 (number_of n.0.0.text m) v.0.0 in
-    let c = cond_some (is_end v.0.1) made t v.2 in
-    let over = end_next (tail x.rest) v.0.1 y.behind c.0 in
-    subst (λ (q : StepForm). StepFits m at i q) c.1 (record {
-      fits = λ f ts rest. (at, i, f, refl, refl, (w.at, w.rest, w.is, tt, (g.at, g.rest, g.is, tt, (n.0.0.at, x.rest, x.is, refl, y.fit nothing over))), rest);
-      spelled = λ ts rest. (x.good, refl, y.whole, rest);
-    })
-
-frame_found : (m : List (List ℕ)) (at : ℕ) (i : Forest) (t : StepForm) (ss : List Seen) → Worded i (codes "frame") ss → when (is_end ss) (Frame at) ≡ Some t → StepFits m at i t
-frame_found m at i t ss w h =
-    let c = cond_some (is_end ss) (Frame at) t h in
-    let over = end_next w.rest ss w.behind c.0 in
-    subst (λ (q : StepForm). StepFits m at i q) c.1 (record { fits = λ f ts rest. (at, i, f, refl, refl, (w.at, w.rest, w.is, tt, over), rest); spelled = λ ts rest. rest })
-
-step_found : (m : List (List ℕ)) (at : ℕ) (i : Forest) (t : StepForm) → step_form m at (seen i) ≡ Some t → StepFits m at i t
-unfolding step_form
-step_found m at i t h =
-    let C = StepFits m at i t in
-    either C (word_of (codes "write") (seen i)) (write_form m at) _ t h (λ ss w x. write_found m at i t ss (word_found (codes "write") i ss w) x) (λ h1.
-    either C (word_of (codes "frame") (seen i)) (λ r. when (is_end r) (Frame at)) None t h1 (λ ss w x. frame_found m at i t ss (word_found (codes "frame") i ss w) x) (λ h2. absurd (cc (h2))))
-
-steps_found : (m : List (List ℕ)) (f : Forest) (ts : List StepForm) → steps_of m (seen f) ≡ Some ts → Fits f (steps_forms ts) × SpelledSteps m ts
-unfolding steps_of
-steps_found m empty ts h = rw (← inject h) (refl, tt)
-steps_found m (atom at a f) ts h = absurd (cc)
-steps_found m (text at s f) ts h = absurd (cc)
-steps_found m (list at i f) ts h =
-    let t = bind_some (step_form m at (seen i)) _ ts h in
-    let rest = map_some (steps_of m (seen f)) (λ (l : List StepForm). t.0 ∷ l) ts t.2 in
-    let all = steps_found m f rest.0 rest.1 in
-    let one = step_found m at i t.0 t.1 in
-    subst (λ (l : List StepForm). Fits (list at i f) (steps_forms l) × SpelledSteps m l) rest.2 (one.fits f rest.0 all.0, one.spelled rest.0 all.1)
-
 -- Top forms.
 
 -- the forms of a state, a function and a script, with the number of the next statement
@@ -126,7 +78,7 @@ abbrev TopFits : KnownNames → ℕ → ℕ → Forest → Top → ℕ → Type 
 TopFits m k at i (StateTop s) x = ((f : Forest) (g : Sketch) → Fits f g → Fits (list at i f) (state_forms s g)) × (is_name s.name.text ≡ true) × (literal_fits s.initial ≡ true) × (x ≡ k)
 TopFits m k at i (FunctionTop c) x =
     ((f : Forest) (g : Sketch) → Fits f g → Fits (list at i f) (function_forms c g)) × (is_name c.name.text ≡ true) × SpelledParameters c.parameters × SpelledStmts m k c.body × (x ≡ site_after_all k c.body)
-TopFits m k at i (DoTop d) x = ((f : Forest) (g : Sketch) → Fits f g → Fits (list at i f) (do_forms d g)) × (is_name d.actor.text ≡ true) × SpelledSteps m.states d.steps × (x ≡ k)
+TopFits m k at i (DoTop d) x = ((f : Forest) (g : Sketch) → Fits f g → Fits (list at i f) (do_forms d g)) × (is_name d.actor.text ≡ true) × SpelledActor m.states d.steps × (x ≡ k)
 
 abbrev Topped : KnownNames → ℕ → ℕ → Forest → Top × ℕ → Type 0
 Topped m k at i t = TopFits m k at i t.0 t.1
@@ -138,11 +90,11 @@ state_found m k at i s ss w h =
     let x = name_next w.rest ss n.0 w.behind n.1 in
     let t = bind_some (type_of n.0.1) _ s n.2 in
     let y = type_next x.rest n.0.1 t.0 x.behind t.1 in
-    let o = bind_some (word_of (codes "Structural") t.0.1) _ s t.2 in
-    let p = word_next (codes "Structural") y.rest t.0.1 o.0 y.behind o.1 in
-    let v = bind_some (literal_of o.0) _ s o.2 in
-    let z = literal_next p.rest o.0 v.0 p.behind v.1 in
-    let made : State = record { at = at; name = n.0.0; ty = t.0.0; initial = v.0.0 } in
+    let o = bind_some (policy_of t.0.1) _ s t.2 in
+    let p = policy_next y.rest t.0.1 o.0 y.behind o.1 in
+    let v = bind_some (literal_of o.0.1) _ s o.2 in
+    let z = literal_next p.rest o.0.1 v.0 p.behind v.1 in
+    let made : State = record { at = at; name = n.0.0; ty = t.0.0; policy = o.0.0; initial = v.0.0 } in
     let c = cond_some (is_end v.0.1) made s v.2 in
     let over = end_next (tail p.rest) v.0.1 z.behind c.0 in
     subst (λ (q : State). TopFits m k at i (StateTop q) k) c.1
@@ -165,8 +117,8 @@ unfolding do_form
 do_found m k at i d ss w h =
     let n = bind_some (name_of ss) _ d h in
     let x = name_next w.rest ss n.0 w.behind n.1 in
-    let ts = bind_some (steps_of m.states n.0.1) _ d n.2 in
-    let all = steps_found m.states x.rest ts.0 (ap (steps_of m.states) (sym x.behind) ∙ ts.1) in
+    let ts = bind_some (actor_steps_of m.states n.0.1) _ d n.2 in
+    let all = actor_found m.states x.rest ts.0 (ap (actor_steps_of m.states) (sym x.behind) ∙ ts.1) in
     subst (λ (q : DoForm). TopFits m k at i (DoTop q) k) (inject ts.2)
     ((λ f g rest. (at, i, f, refl, refl, (w.at, w.rest, w.is, tt, (n.0.0.at, x.rest, x.is, refl, all.0)), rest)), x.good, all.1, refl)
 
@@ -197,7 +149,6 @@ record Leads (f : Forest) (p q : PartialSource) : Type 0 where
   good_states : SpelledStates states
   good_functions : SpelledFunctions (record { states = map state_name q.states; functions = map function_name p.functions }) p.site functions
   good_script : SpelledScripts (map state_name q.states) script
-  one_actor : AreOfActor p.script script
   no_states : is_none p.functions && is_none p.script ≡ false → states ≡ []
   no_functions : is_none p.script ≡ false → functions ≡ []
 
@@ -214,7 +165,6 @@ nothing_more p q is = subst (λ (x : PartialSource). Leads empty p x) is (record
   good_states = tt;
   good_functions = tt;
   good_script = tt;
-  one_actor = tt;
   no_states = λ h. refl;
   no_functions = λ h. refl;
 })
@@ -249,7 +199,6 @@ state_leads at i f p q r s k top put more =
       good_states = (top.1, top.2, rest.good_states);
       good_functions = subst (λ (j : ℕ). SpelledFunctions (record { states = map state_name q.states; functions = map function_name p.functions }) j rest.functions) top.3 rest.good_functions;
       good_script = rest.good_script;
-      one_actor = rest.one_actor;
       no_states = λ h. absurd (no_more (is_none p.functions) (is_none p.script) early.0 early.1 h);
       no_functions = rest.no_functions;
     }
@@ -279,7 +228,6 @@ function_leads at i f p q r c k top put more =
       good_states = tt;
       good_functions = (top.1, top.2, body, behind);
       good_script = rest.good_script;
-      one_actor = rest.one_actor;
       no_states = λ h. refl;
       no_functions = λ h. absurd (true≢false (sym t.0 ∙ h));
     }
@@ -288,8 +236,7 @@ function_leads at i f p q r c k top put more =
 do_leads : (at : ℕ) (i f : Forest) (p q r : PartialSource) (d : DoForm) (k : ℕ) → TopFits (known p) p.site at i (DoTop d) k → source_with_form p (DoTop d) k ≡ Some r → Leads f r q → Leads (list at i f) p q
 do_leads at i f p q r d k top put more =
     let made : PartialSource = record { header = p.header; states = p.states; functions = p.functions; script = p.script ++ d ∷ []; site = k } in
-    let t = cond_some (is_of_actor p.script d) made r put in
-    let rest : Leads f made q = subst (λ (x : PartialSource). Leads f x q) (sym t.1) more in
+    let rest : Leads f made q = subst (λ (x : PartialSource). Leads f x q) (sym (inject put)) more in
     let late : is_none (p.script ++ d ∷ []) ≡ false = some_there p.script d in
     let no_states : rest.states ≡ [] = rest.no_states (and_false (is_none p.functions) _ late) in
     let no_functions : rest.functions ≡ [] = rest.no_functions late in
@@ -308,8 +255,7 @@ do_leads at i f p q r d k top put more =
       fits = top.0 f (top_forms [] [] rest.script) fits;
       good_states = tt;
       good_functions = tt;
-      good_script = (top.1, subst (λ (l : List State). SpelledSteps (map state_name l) d.steps) same_states top.2, rest.good_script);
-      one_actor = (t.0, rest.one_actor);
+      good_script = (top.1, subst (λ (l : List State). SpelledActor (map state_name l) d.steps) same_states top.2, rest.good_script);
       no_states = λ h. refl;
       no_functions = λ h. refl;
     }
@@ -375,7 +321,6 @@ whole at i f q head all =
         states = all.good_states;
         functions = subst (λ (l : List State). SpelledFunctions (record { states = map state_name l; functions = [] }) 1 all.functions) (sym all.all_states) all.good_functions;
         script = subst (λ (l : List State). SpelledScripts (map state_name l) all.script) (sym all.all_states) all.good_script;
-        one_actor = all.one_actor;
       };
     })
 

@@ -1,23 +1,20 @@
 -- Trees with the forms of a text are parsed as it.
-use Rattle.std.proofs.Common.{Bool, true, ◌≡◌, ℕ, List, [], ◌∷◌, ◌++◌, map, Some, Ok, refl, sym, ap, ◌∙◌, subst, codes}
+use Rattle.std.proofs.Common.{true, ◌≡◌, ℕ, List, [], ◌∷◌, ◌++◌, map, Some, Ok, refl, sym, ap, ◌∙◌, subst, codes}
 use Rattle.std.proofs.lemmas.List.{append-nil, append_assoc, map-append}
 use Rattle.sexp_text.specs.Forest.{Forest, empty, atom, list}
-use Rattle.rt_values.specs.declared.value.Value.{Value}
 use Rattle.lang_ast.specs.Terms.{Func}
-use Rattle.lang_ast.specs.declared.syntax.Ident.{Ident}
 use Rattle.lang_ast.specs.declared.syntax.Parameter.{Parameter}
 use Rattle.lang_ast.specs.declared.program.State.{State}
-use Rattle.lang_forms.specs.declared.script_forms.StepForm.{StepForm}
-use Rattle.lang_forms.specs.declared.script_forms.StepForm.TheVariants.{Write, Frame}
-use Rattle.lang_forms.specs.declared.script_forms.DoForm.{DoForm}
-use Rattle.lang_forms.specs.Names.{is_name, number_of}
-use Rattle.lang_forms.specs.Words.{type_word}
+use Rattle.lang_ast.specs.declared.script.DoForm.{DoForm}
+use Rattle.lang_forms.specs.Names.{is_name}
+use Rattle.lang_forms.specs.Words.{type_word, policy_word}
 use Rattle.lang_forms.specs.Sketch.{Sketch, nothing, Fits}
 use Rattle.lang_forms.specs.Sources.{Source}
-use Rattle.lang_forms.specs.Forms.{parameters_forms, steps_forms, states_forms, functions_forms, scripts_forms, KnownNames, site_after_all, state_name, function_name, SpelledParameters, SpelledStates, SpelledFunctions, SpelledSteps, SpelledScripts, AreOfActor, HasForms}
-use Rattle.lang_forms.specs.Readings.{when, Top, StateTop, FunctionTop, DoTop, seen, word_of, literal_at, step_form, write_form, steps_of, parameter_form, parameters_form, state_form, function_form, do_form, top_form, header_form}
+use Rattle.lang_forms.specs.Forms.{parameters_forms, states_forms, functions_forms, scripts_forms, KnownNames, site_after_all, state_name, function_name, SpelledParameters, SpelledStates, SpelledFunctions, SpelledScripts, HasForms}
+use Rattle.lang_forms.specs.Readings.{Top, StateTop, FunctionTop, DoTop, seen, word_of, literal_at, actor_steps_of, parameter_form, parameters_form, state_form, function_form, do_form, top_form, header_form}
 use Rattle.lang_forms.specs.TextReading.{PartialSource, known, source_with_form, tops_of, text_of, start, source_of, source_or_offset}
-use Rattle.lang_forms.proofs.FormsAreRead.{First, ReadsBody, name_there, type_there, literal_read, literal_there, stmts_read, list_with_word}
+use Rattle.lang_forms.proofs.FormsAreRead.{First, ReadsBody, name_there, type_there, policy_there, literal_read, literal_there, stmts_read, list_with_word}
+use Rattle.lang_forms.proofs.StepsAreRead.{actor_read}
 
 -- Parameters, states, functions and scripts.
 
@@ -37,12 +34,12 @@ parameters_read (p ∷ ps) f s h =
     ap (λ (x : Forest). parameters_form (seen x)) h.3 ∙ rw (read, parameters_read ps h.2 s.1 h.6)
 
 state_inside : (b c : ℕ) (s : State) (f : Forest) → is_name s.name.text ≡ true → First f literal_at s.initial nothing →
-    state_form s.at (seen (atom s.name.at s.name.text (atom b (type_word s.ty) (atom c (codes "Structural") f)))) ≡ Some s
+    state_form s.at (seen (atom s.name.at s.name.text (atom b (type_word s.ty) (atom c (policy_word s.policy) f)))) ≡ Some s
 unfolding state_form word_of
-state_inside b c s f h one = rw (name_there s.name _ h, type_there s.ty b _, literal_there s.initial f nothing one, one.behind)
+state_inside b c s f h one = rw (name_there s.name _ h, type_there s.ty b _, policy_there s.policy c _, literal_there s.initial f nothing one, one.behind)
 
 state_read : (m : KnownNames) (k a b c : ℕ) (s : State) (f : Forest) → is_name s.name.text ≡ true → First f literal_at s.initial nothing →
-    top_form m k s.at (seen (atom a (codes "state") (atom s.name.at s.name.text (atom b (type_word s.ty) (atom c (codes "Structural") f))))) ≡ Some (StateTop s, k)
+    top_form m k s.at (seen (atom a (codes "state") (atom s.name.at s.name.text (atom b (type_word s.ty) (atom c (policy_word s.policy) f))))) ≡ Some (StateTop s, k)
 unfolding top_form word_of
 state_read m k a b c s f h one = rw (state_inside b c s f h one)
 
@@ -56,40 +53,11 @@ function_read : (m : KnownNames) (k a q : ℕ) (c : Func) (i f : Forest) → is_
 unfolding top_form word_of
 function_read m k a q c i f h ps r = rw (function_inside m k q c i f h ps r)
 
-write_read : (m : List (List ℕ)) (at a b : ℕ) (n : Ident) (v : Value) (f : Forest) → is_name n.text ≡ true → First f literal_at v nothing →
-    step_form m at (seen (atom a (codes "write") (atom b (codes "global") (atom n.at n.text f)))) ≡ Some (Write at n (number_of n.text m) v)
-unfolding step_form write_form word_of
-write_read m at a b n v f h one = rw (name_there n f h, literal_there v f nothing one, one.behind)
-
-frame_read : (m : List (List ℕ)) (at a : ℕ) → step_form m at (seen (atom a (codes "frame") empty)) ≡ Some (Frame at)
-unfolding step_form word_of
-frame_read m at a = refl
-
-steps_read : (m : List (List ℕ)) (ss : List StepForm) (f : Forest) → SpelledSteps m ss → Fits f (steps_forms ss) → steps_of m (seen f) ≡ Some ss
-unfolding steps_of
-steps_read m [] f s h = rw h
-steps_read m (Write at n number v ∷ ss) f s h =
-    let w = h.5 in
-    let g = w.4 in
-    let x = g.4 in
-    let one = literal_read v x.1 nothing s.2 x.4 in
-    let is : h.1 ≡ atom w.0 (codes "write") (atom g.0 (codes "global") (atom n.at n.text x.1)) = w.2 ∙ ap (atom w.0 (codes "write")) (list_with_word w.1 g.1 x.1 g.0 x.0 (codes "global") n g.2 x.2 x.3) in
-    let read : step_form m h.0 (seen h.1) ≡ Some (Write at n number v) =
-    ap (λ (i : Forest). step_form m h.0 (seen i)) is ∙ ap (λ (q : ℕ). step_form m q (seen (atom w.0 (codes "write") (atom g.0 (codes "global") (atom n.at n.text x.1))))) h.4
-    ∙ write_read m at w.0 g.0 n v x.1 s.0 one ∙ ap (λ (c : ℕ). Some (Write at n c v)) (sym s.1) in
-    ap (λ (y : Forest). steps_of m (seen y)) h.3 ∙ rw (read, steps_read m ss h.2 s.3 h.6)
-steps_read m (Frame at ∷ ss) f s h =
-    let w = h.5 in
-    let is : h.1 ≡ atom w.0 (codes "frame") empty = w.2 ∙ ap (atom w.0 (codes "frame")) w.4 in
-    let read : step_form m h.0 (seen h.1) ≡ Some (Frame at) =
-    ap (λ (i : Forest). step_form m h.0 (seen i)) is ∙ ap (λ (q : ℕ). step_form m q (seen (atom w.0 (codes "frame") empty))) h.4 ∙ frame_read m at w.0 in
-    ap (λ (y : Forest). steps_of m (seen y)) h.3 ∙ rw (read, steps_read m ss h.2 s h.6)
-
-do_inside : (m : List (List ℕ)) (d : DoForm) (f : Forest) → is_name d.actor.text ≡ true → steps_of m (seen f) ≡ Some d.steps → do_form m d.at (seen (atom d.actor.at d.actor.text f)) ≡ Some d
+do_inside : (m : List (List ℕ)) (d : DoForm) (f : Forest) → is_name d.actor.text ≡ true → actor_steps_of m (seen f) ≡ Some d.steps → do_form m d.at (seen (atom d.actor.at d.actor.text f)) ≡ Some d
 unfolding do_form
 do_inside m d f h r = rw (name_there d.actor _ h, r)
 
-do_read : (m : KnownNames) (k a : ℕ) (d : DoForm) (f : Forest) → is_name d.actor.text ≡ true → steps_of m.states (seen f) ≡ Some d.steps →
+do_read : (m : KnownNames) (k a : ℕ) (d : DoForm) (f : Forest) → is_name d.actor.text ≡ true → actor_steps_of m.states (seen f) ≡ Some d.steps →
     top_form m k d.at (seen (atom a (codes "do") (atom d.actor.at d.actor.text f))) ≡ Some (DoTop d, k)
 unfolding top_form word_of
 do_read m k a d f h r = rw (do_inside m.states d f h r)
@@ -122,7 +90,7 @@ states_read at k front (t ∷ ss) f g s h =
     let y = n.4 in
     let p = y.4 in
     let one = literal_read t.initial p.1 nothing s.1 p.4 in
-    let is : h.1 ≡ atom w.0 (codes "state") (atom t.name.at t.name.text (atom y.0 (type_word t.ty) (atom p.0 (codes "Structural") p.1))) =
+    let is : h.1 ≡ atom w.0 (codes "state") (atom t.name.at t.name.text (atom y.0 (type_word t.ty) (atom p.0 (policy_word t.policy) p.1))) =
     list_with_word h.1 w.1 n.1 w.0 n.0 (codes "state") t.name w.2 n.2 n.3 ∙ ap (λ (x : Forest). atom w.0 (codes "state") (atom t.name.at t.name.text x)) (y.2 ∙ ap (atom y.0 (type_word t.ty)) p.2) in
     let before = so_far at front [] [] k in
     let read : top_form (known before) k t.at (seen h.1) ≡ Some (StateTop t, k) = ap (λ (i : Forest). top_form (known before) k t.at (seen i)) is ∙ state_read (known before) k w.0 y.0 p.0 t p.1 s.0 one in
@@ -165,19 +133,19 @@ functions_read at k ss front (c ∷ cs) f g s h =
           ∙ ap (λ (x : List Func). tops_of (so_far at ss x [] (behind_all (site_after_all k c.body) cs)) (seen more.rest)) (append_assoc front (c ∷ []) cs);
     }
 
-scripts_read : (at k : ℕ) (ss : List State) (cs : List Func) (front ds : List DoForm) (f : Forest) → SpelledScripts (map state_name ss) ds → AreOfActor front ds → Fits f (scripts_forms ds)
+scripts_read : (at k : ℕ) (ss : List State) (cs : List Func) (front ds : List DoForm) (f : Forest) → SpelledScripts (map state_name ss) ds → Fits f (scripts_forms ds)
     → tops_of (so_far at ss cs front k) (seen f) ≡ Ok (so_far at ss cs (front ++ ds) k)
 unfolding tops_of
-scripts_read at k ss cs front [] f s a h = ap (λ (x : Forest). tops_of (so_far at ss cs front k) (seen x)) h ∙ ap (λ (l : List DoForm). Ok (so_far at ss cs l k)) (sym (append-nil front))
-scripts_read at k ss cs front (d ∷ ds) f s a h =
+scripts_read at k ss cs front [] f s h = ap (λ (x : Forest). tops_of (so_far at ss cs front k) (seen x)) h ∙ ap (λ (l : List DoForm). Ok (so_far at ss cs l k)) (sym (append-nil front))
+scripts_read at k ss cs front (d ∷ ds) f s h =
     let w = h.5 in
     let n = w.4 in
     let before = so_far at ss cs front k in
     let is = list_with_word h.1 w.1 n.1 w.0 n.0 (codes "do") d.actor w.2 n.2 n.3 in
     let read : top_form (known before) k d.at (seen h.1) ≡ Some (DoTop d, k) =
-    ap (λ (i : Forest). top_form (known before) k d.at (seen i)) is ∙ do_read (known before) k w.0 d n.1 s.0 (steps_read (map state_name ss) d.steps n.1 s.1 n.4) in
-    one_top f h.1 h.2 h.0 d.at before (so_far at ss cs (front ++ d ∷ []) k) (DoTop d) k h.3 h.4 read (ap (λ (b : Bool). when b (so_far at ss cs (front ++ d ∷ []) k)) a.0)
-    ∙ scripts_read at k ss cs (front ++ d ∷ []) ds h.2 s.2 a.1 h.6 ∙ ap (λ (l : List DoForm). Ok (so_far at ss cs l k)) (append_assoc front (d ∷ []) ds)
+    ap (λ (i : Forest). top_form (known before) k d.at (seen i)) is ∙ do_read (known before) k w.0 d n.1 s.0 (actor_read (map state_name ss) d.steps n.1 s.1 n.4) in
+    one_top f h.1 h.2 h.0 d.at before (so_far at ss cs (front ++ d ∷ []) k) (DoTop d) k h.3 h.4 read refl
+    ∙ scripts_read at k ss cs (front ++ d ∷ []) ds h.2 s.2 h.6 ∙ ap (λ (l : List DoForm). Ok (so_far at ss cs l k)) (append_assoc front (d ∷ []) ds)
 
 header_read : (end at x a b : ℕ) (f i r : Forest) → f ≡ list at i r → at ≡ x → i ≡ atom a (codes "compose") (atom b (codes "1") empty) → text_of end (seen f) ≡ tops_of (start x) (seen r)
 unfolding text_of header_form word_of
@@ -193,5 +161,5 @@ text_read end f t h =
     let head = header_read end g.0 p.header w.0 o.0 f g.1 g.2 g.3 g.4 (w.2 ∙ ap (atom w.0 (codes "compose")) (o.2 ∙ ap (atom o.0 (codes "1")) o.4)) in
     let ss = states_read p.header 1 [] p.states g.2 _ h.spelled.states g.6 in
     let cs = functions_read p.header 1 p.states [] p.functions ss.rest _ h.spelled.functions ss.fits in
-    let ds = scripts_read p.header (behind_all 1 p.functions) p.states p.functions [] t.script cs.rest h.spelled.script h.spelled.one_actor cs.fits in
+    let ds = scripts_read p.header (behind_all 1 p.functions) p.states p.functions [] t.script cs.rest h.spelled.script cs.fits in
     ap source_or_offset (head ∙ ss.same ∙ cs.same ∙ ds)

@@ -17,15 +17,25 @@ use Rattle.lang_ast.specs.declared.syntax.Operator.TheVariants as operator
 use Rattle.lang_ast.specs.declared.syntax.Parameter.{Parameter}
 use Rattle.lang_ast.specs.declared.program.State.{State}
 use Rattle.lang_limits.specs.Tokens.{is_digit, is_counting, is_int, is_oversized_int, tree_count}
-use Rattle.lang_limits.specs.Clamped.{clamped_atom, clamped_string, are_ints, is_oversized_ints, first_trees, clamped_list, within}
-use Rattle.lang_forms.specs.declared.script_forms.StepForm.{StepForm}
-use Rattle.lang_forms.specs.declared.script_forms.StepForm.TheVariants.{Write, Frame}
-use Rattle.lang_forms.specs.declared.script_forms.DoForm.{DoForm}
+use Rattle.lang_limits.specs.Clamped.{nearest_int, clamped_atom, clamped_string, are_ints, is_oversized_ints, first_trees, clamped_list, within}
+use Rattle.lang_ast.specs.declared.script.SnapshotRef.{SnapshotRef}
+use Rattle.lang_ast.specs.declared.script.SnapshotRef.TheVariants.{Global, Named as NamedSnapshot}
+use Rattle.lang_ast.specs.declared.script.CallForm.{CallForm}
+use Rattle.lang_ast.specs.declared.script.CallForm.TheVariants as call
+use Rattle.lang_ast.specs.declared.script.StepForm.{StepForm}
+use Rattle.lang_ast.specs.declared.script.StepForm.TheVariants as step
+use Rattle.lang_ast.specs.declared.script.ScriptForm.{ScriptForm}
+use Rattle.lang_ast.specs.declared.script.ScriptForm.TheVariants.{Once, Repeat}
+use Rattle.lang_ast.specs.declared.script.DoForm.{DoForm}
+use Rattle.rt_values.specs.declared.names.Kind.{Kind}
+use Rattle.rt_values.specs.declared.names.Kind.TheVariants as kind
+use Rattle.snap_policy.specs.declared.policy.BuiltIn.{BuiltIn}
+use Rattle.snap_policy.specs.declared.policy.BuiltIn.TheVariants as policy
 use Rattle.lang_forms.specs.Names.{is_letter, is_name}
-use Rattle.lang_forms.specs.Words.{type_word, operator_word}
+use Rattle.lang_forms.specs.Words.{type_word, policy_word, kind_word, operator_word}
 use Rattle.lang_forms.specs.Sketch.{Sketch, nothing, leaf, numeral, string, group, sequence, Fits, FitsUnlimited}
 use Rattle.lang_forms.specs.Sources.{Source}
-use Rattle.lang_forms.specs.Forms.{numbers, literal, expr_forms, exprs_forms, pairs_forms, stmt_forms, stmts_forms, parameters_forms, steps_forms, states_forms, functions_forms, scripts_forms, text_forms, KnownNames, Spelled, AllSpelled, SpelledPairs, SpelledStmt, SpelledStmts, SpelledParameters, SpelledStates, SpelledFunctions, SpelledSteps, SpelledScripts, SpelledSource, site_after_all, function_name, HasForms, HasUnlimitedForms}
+use Rattle.lang_forms.specs.Forms.{numbers, literal, expr_forms, exprs_forms, pairs_forms, stmt_forms, stmts_forms, parameters_forms, snapshot_forms, call_forms, calls_forms, step_forms, steps_forms, actor_step_forms, actor_forms, states_forms, functions_forms, scripts_forms, text_forms, KnownNames, Spelled, AllSpelled, SpelledPairs, SpelledStmt, SpelledStmts, SpelledParameters, SpelledStates, SpelledFunctions, is_snapshot, SpelledCall, SpelledCalls, SpelledStep, SpelledSteps, SpelledActorStep, SpelledActor, SpelledScripts, SpelledSource, site_after_all, function_name, HasForms, HasUnlimitedForms}
 use Rattle.lang_forms.proofs.Ints.{digit_no_letter}
 
 -- Clamped forests, tree by tree.
@@ -43,14 +53,22 @@ count_within (atom at a f) = ap suc (count_within f)
 count_within (text at s f) = ap suc (count_within f)
 count_within (list at i f) = ap suc (count_within f)
 
+-- what holds of the least number and of the greatest holds of the nearest
+nearest_by : (P : List ℕ → Type 0) (a : List ℕ) → P (codes "-9223372036854775808") → P (codes "9223372036854775807") → P (nearest_int a)
+nearest_by P a low high = by (slice_index a 0 == 45)
+  where
+    by : (b : Bool) → P (if b then codes "-9223372036854775808" else codes "9223372036854775807")
+    by true = low
+    by false = high
+
 abbrev clamped : List ℕ → Bool → List ℕ
-clamped a b = if b then codes "0" else a
+clamped a b = if b then nearest_int a else a
 
 int_within : (a : List ℕ) → is_int (clamped_atom a) ≡ is_int a
 int_within a = by (is_oversized_int a) refl
   where
     by : (b : Bool) → is_oversized_int a ≡ b → is_int (clamped a b) ≡ is_int a
-    by true e = sym (and_parts (is_int a) _ e).0
+    by true e = nearest_by (λ (x : List ℕ). is_int x ≡ true) a refl refl ∙ sym (and_parts (is_int a) _ e).0
     by false e = refl
 
 word_within : (a : List ℕ) → bytes_eq (clamped_atom a) (codes "ints") ≡ bytes_eq a (codes "ints")
@@ -58,7 +76,7 @@ word_within a = by (is_oversized_int a) (bytes_eq a (codes "ints")) refl refl
   where
     by : (b c : Bool) → is_oversized_int a ≡ b → bytes_eq a (codes "ints") ≡ c → bytes_eq (clamped a b) (codes "ints") ≡ c
     by true true e h = absurd (true≢false (sym e ∙ ap is_oversized_int ((bytes_eq-Decides a (codes "ints")).0 h)))
-    by true false e h = refl
+    by true false e h = nearest_by (λ (x : List ℕ). bytes_eq x (codes "ints") ≡ false) a refl refl
     by false c e h = h
 
 ints_within : (f : Forest) → are_ints (within f) ≡ are_ints f
@@ -210,8 +228,15 @@ uncut j i h plain = by (is_oversized_ints j) refl
 
 -- Sketches whose words and names are none of the tokens that are clamped.
 
+-- the numbers that oversized ones become
+abbrev is_nearest : List ℕ → Bool
+is_nearest a = bytes_eq a (codes "-9223372036854775808") || bytes_eq a (codes "9223372036854775807")
+
 abbrev is_token : List ℕ → Bool
-is_token a = not (is_oversized_int a) && not (bytes_eq a (codes "0"))
+is_token a = not (is_nearest a) && not (is_oversized_int a)
+
+nearest_no_token : (a : List ℕ) → is_token (nearest_int a) ≡ false
+nearest_no_token a = nearest_by (λ (x : List ℕ). is_token x ≡ false) a refl refl
 
 abbrev Clean : Sketch → Type 0
 Clean nothing = Unit {0}
@@ -229,11 +254,11 @@ leaf_back : (b a : List ℕ) → is_token a ≡ true → clamped_atom b ≡ a �
 leaf_back b a tok h = by (is_oversized_int b) refl
   where
     by : (t : Bool) → is_oversized_int b ≡ t → b ≡ a
-    by true e = absurd (true≢false (sym tok ∙ ap is_token (sym h ∙ ap (clamped b) e)))
+    by true e = absurd (true≢false (sym tok ∙ ap is_token (sym h ∙ ap (clamped b) e) ∙ nearest_no_token b))
     by false e = sym (ap (clamped b) e) ∙ h
 
 leaf_stays : (a : List ℕ) → is_token a ≡ true → clamped_atom a ≡ a
-leaf_stays a tok = let parts = and_parts (not (is_oversized_int a)) _ tok in ap (clamped a) (not_true (is_oversized_int a) parts.0)
+leaf_stays a tok = let parts = and_parts (not (is_nearest a)) _ tok in ap (clamped a) (not_true (is_oversized_int a) parts.1)
 
 -- clamped trees that have the forms of a sketch have them without the limits of literals
 unlimited : (g : Sketch) (f : Forest) → Clean g → Fits (within f) g → FitsUnlimited f g
@@ -294,15 +319,20 @@ int_no_letter (b ∷ bs) h = by (b == 45) refl h
     by false e k = zero_or (bytes_eq (b ∷ bs) (codes "0")) refl k
 
 name_token : (a : List ℕ) → is_name a ≡ true → is_token a ≡ true
-name_token a h = by (is_oversized_int a) (bytes_eq a (codes "0")) refl refl
+name_token a h = by (bytes_eq a (codes "-9223372036854775808")) (bytes_eq a (codes "9223372036854775807")) (is_oversized_int a) refl refl refl
   where
     letter : is_letter (slice_index a 0) ≡ true
     letter = (and_parts (is_letter (slice_index a 0)) _ (and_parts _ _ h).0).0
 
-    by : (b c : Bool) → is_oversized_int a ≡ b → bytes_eq a (codes "0") ≡ c → (not b && not c) ≡ true
-    by true c e k = absurd (true≢false (sym letter ∙ int_no_letter a (and_parts (is_int a) _ e).0))
-    by false true e k = absurd (true≢false (sym letter ∙ ap (λ (l : List ℕ). is_letter (slice_index l 0)) ((bytes_eq-Decides a (codes "0")).0 k)))
-    by false false e k = refl
+    first_of : (w : List ℕ) → bytes_eq a w ≡ true → is_letter (slice_index w 0) ≡ true
+    first_of w e = sym (ap (λ (l : List ℕ). is_letter (slice_index l 0)) ((bytes_eq-Decides a w).0 e)) ∙ letter
+
+    by : (b c d : Bool) → bytes_eq a (codes "-9223372036854775808") ≡ b → bytes_eq a (codes "9223372036854775807") ≡ c → is_oversized_int a ≡ d
+        → (not (b || c) && not d) ≡ true
+    by true c d e k l = absurd (true≢false (sym (first_of (codes "-9223372036854775808") e)))
+    by false true d e k l = absurd (true≢false (sym (first_of (codes "9223372036854775807") k)))
+    by false false true e k l = absurd (true≢false (sym letter ∙ int_no_letter a (and_parts (is_int a) _ l).0))
+    by false false false e k l = refl
 
 operator_token : (o : Operator) → is_token (operator_word o) ≡ true
 operator_token operator.Add = refl
@@ -330,6 +360,17 @@ type_token ty.Int = refl
 type_token ty.Bool = refl
 type_token ty.Text = refl
 type_token ty.Ints = refl
+
+policy_token : (p : BuiltIn) → is_token (policy_word p) ≡ true
+policy_token policy.Structural = refl
+policy_token policy.Never = refl
+policy_token policy.Counter = refl
+policy_token policy.Largest = refl
+policy_token policy.Append = refl
+
+kind_token : (k : Kind) → is_token (kind_word k) ≡ true
+kind_token kind.Mutable = refl
+kind_token kind.Readonly = refl
 
 clean_numbers : (zs : List ℤ) → Clean (numbers zs)
 clean_numbers [] = tt
@@ -415,21 +456,49 @@ parameters_whole (p ∷ ps) = refl
 clean_states : (ss : List State) (g : Sketch) → SpelledStates ss → Clean g → Clean (states_forms ss g)
 clean_states [] g s c = c
 clean_states (t ∷ ss) g s c =
-    (refl, (refl, (name_token t.name.text s.0, (type_token t.ty, (refl, clean_literal None t.initial nothing tt)))), clean_states ss g s.2 c)
+    (refl, (refl, (name_token t.name.text s.0, (type_token t.ty, (policy_token t.policy, clean_literal None t.initial nothing tt)))), clean_states ss g s.2 c)
 
 clean_functions : (m : KnownNames) (k : ℕ) (cs : List Func) (g : Sketch) → SpelledFunctions m k cs → Clean g → Clean (functions_forms cs g)
 clean_functions m k [] g s c = c
 clean_functions m k (f ∷ cs) g s c =
     (refl, (refl, (name_token f.name.text s.0, (parameters_whole f.parameters, clean_parameters f.parameters s.1, clean_stmts m k f.body s.2))), clean_functions (record { states = m.states; functions = m.functions ++ function_name f ∷ [] }) (site_after_all k f.body) cs g s.3 c)
 
-clean_steps : (m : List (List ℕ)) (ss : List StepForm) → SpelledSteps m ss → Clean (steps_forms ss)
+clean_snapshot : (s : SnapshotRef) (g : Sketch) → is_snapshot s ≡ true → Clean g → Clean (snapshot_forms s g)
+clean_snapshot Global g s c = (refl, c)
+clean_snapshot (NamedSnapshot n) g s c = (name_token n.text s, c)
+
+clean_call : (m : List (List ℕ)) (t : CallForm) (g : Sketch) → SpelledCall m t → Clean g → Clean (call_forms t g)
+clean_call m (call.Take at n k parent) g s c = (refl, (refl, (name_token n.text s.0, (kind_token k, clean_snapshot parent nothing s.1 tt))), c)
+clean_call m (call.Read at x n object) g s c = (refl, (refl, clean_snapshot x _ s.0 (name_token n.text s.1, tt)), c)
+clean_call m (call.Write at x n object v) g s c = (refl, (refl, clean_snapshot x _ s.0 (name_token n.text s.1, clean_literal None v nothing tt)), c)
+clean_call m (call.Add at x n object amount) g s c = (refl, (refl, clean_snapshot x _ s.0 (name_token n.text s.1, tt)), c)
+clean_call m (call.Apply at x) g s c = (refl, (refl, clean_snapshot x nothing s tt), c)
+clean_call m (call.Dispose at x) g s c = (refl, (refl, clean_snapshot x nothing s tt), c)
+
+clean_calls : (m : List (List ℕ)) (ts : List CallForm) → SpelledCalls m ts → Clean (calls_forms ts)
+clean_calls m [] s = tt
+clean_calls m (t ∷ ts) s = clean_call m t (calls_forms ts) s.0 (clean_calls m ts s.1)
+
+clean_step : (m : List (List ℕ)) (t : StepForm) (g : Sketch) → SpelledStep m t → Clean g → Clean (step_forms t g)
+clean_step m (step.Call t) g s c = clean_call m t g s c
+clean_step m (step.Frame at) g s c = (refl, (refl, tt), c)
+clean_step m (step.FrameDuring at during) g s c = (refl, (refl, (refl, (refl, clean_calls m during s), tt)), c)
+
+clean_steps : (m : List (List ℕ)) (ts : List StepForm) → SpelledSteps m ts → Clean (steps_forms ts)
 clean_steps m [] s = tt
-clean_steps m (Write at n number v ∷ ss) s = (refl, (refl, (refl, (name_token n.text s.0, clean_literal None v nothing tt))), clean_steps m ss s.3)
-clean_steps m (Frame at ∷ ss) s = (refl, (refl, tt), clean_steps m ss s)
+clean_steps m (t ∷ ts) s = clean_step m t (steps_forms ts) s.0 (clean_steps m ts s.1)
+
+clean_script : (m : List (List ℕ)) (t : ScriptForm) (g : Sketch) → SpelledActorStep m t → Clean g → Clean (actor_step_forms t g)
+clean_script m (Once t) g s c = clean_step m t g s c
+clean_script m (Repeat at times steps) g s c = (refl, (refl, clean_steps m steps s.1), c)
+
+clean_actor : (m : List (List ℕ)) (ts : List ScriptForm) → SpelledActor m ts → Clean (actor_forms ts)
+clean_actor m [] s = tt
+clean_actor m (t ∷ ts) s = clean_script m t (actor_forms ts) s.0 (clean_actor m ts s.1)
 
 clean_scripts : (m : List (List ℕ)) (ds : List DoForm) → SpelledScripts m ds → Clean (scripts_forms ds)
 clean_scripts m [] s = tt
-clean_scripts m (d ∷ ds) s = (refl, (refl, (name_token d.actor.text s.0, clean_steps m d.steps s.1)), clean_scripts m ds s.2)
+clean_scripts m (d ∷ ds) s = (refl, (refl, (name_token d.actor.text s.0, clean_actor m d.steps s.1)), clean_scripts m ds s.2)
 
 clean_text : (t : Source) → SpelledSource t → Clean (text_forms t)
 clean_text t s =

@@ -1,7 +1,6 @@
 -- Trusted: the forms of a program and a script, that is the trees of each part and what the parts may be. Keywords
 -- have no offset of their own in a program, nor have lists of pairs, of parameters or of a branch.
 use Rattle.std.specs.Prelude.{◌≡◌, ℕ, suc, ◌+◌, ◌&&◌, List, [], ◌∷◌, ◌++◌, length, map, Option, Some, None, Bool, true, false, codes, ℤ}
-use Rattle.std.specs.Str.{bytes_eq}
 use Rattle.sexp_text.specs.Forest.{Forest}
 use Rattle.rt_values.specs.Values.{truth_text}
 use Rattle.rt_values.specs.declared.value.Value.{Value}
@@ -10,12 +9,18 @@ use Rattle.lang_ast.specs.Terms.{Expr, Literal, Variable, Get, Apply, Exprs, non
 use Rattle.lang_ast.specs.declared.syntax.Ident.{Ident}
 use Rattle.lang_ast.specs.declared.syntax.Parameter.{Parameter}
 use Rattle.lang_ast.specs.declared.program.State.{State}
-use Rattle.lang_forms.specs.declared.script_forms.StepForm.{StepForm}
-use Rattle.lang_forms.specs.declared.script_forms.StepForm.TheVariants.{Write, Frame}
-use Rattle.lang_forms.specs.declared.script_forms.DoForm.{DoForm}
+use Rattle.lang_ast.specs.declared.script.SnapshotRef.{SnapshotRef}
+use Rattle.lang_ast.specs.declared.script.SnapshotRef.TheVariants.{Global, Named as NamedSnapshot}
+use Rattle.lang_ast.specs.declared.script.CallForm.{CallForm}
+use Rattle.lang_ast.specs.declared.script.CallForm.TheVariants as call
+use Rattle.lang_ast.specs.declared.script.StepForm.{StepForm}
+use Rattle.lang_ast.specs.declared.script.StepForm.TheVariants as step
+use Rattle.lang_ast.specs.declared.script.ScriptForm.{ScriptForm}
+use Rattle.lang_ast.specs.declared.script.ScriptForm.TheVariants.{Once, Repeat}
+use Rattle.lang_ast.specs.declared.script.DoForm.{DoForm}
 use Rattle.lang_limits.specs.Tokens.{fits}
 use Rattle.lang_forms.specs.Names.{is_name, all_fit, is_string, is_list_long, number_of}
-use Rattle.lang_forms.specs.Words.{type_word, operator_word, takes}
+use Rattle.lang_forms.specs.Words.{type_word, policy_word, kind_word, operator_word, takes}
 use Rattle.lang_forms.specs.Sketch.{Sketch, nothing, leaf, numeral, string, group, sequence, Fits, FitsUnlimited}
 use Rattle.lang_forms.specs.Sources.{Source}
 
@@ -85,27 +90,64 @@ abbrev pub parameters_forms : List Parameter → Sketch
 parameters_forms [] = nothing
 parameters_forms (p ∷ ps) = group None (name p.name (word (type_word p.ty) nothing)) (parameters_forms ps)
 
--- `(state NAME TYPE Structural LITERAL)`
+-- `(state NAME TYPE POLICY LITERAL)`
 abbrev pub state_forms : State → Sketch → Sketch
 state_forms s f = group (Some s.at)
     (word (codes "state") (name s.name
-    (word (type_word s.ty) (word (codes "Structural") (literal None s.initial nothing))))) f
+    (word (type_word s.ty) (word (policy_word s.policy) (literal None s.initial nothing))))) f
 
 -- `(fun NAME ((NAME TYPE)..) STMT..)`
 abbrev pub function_forms : Func → Sketch → Sketch
 function_forms c f = group (Some c.at)
     (word (codes "fun") (name c.name (group None (parameters_forms c.parameters) (stmts_forms c.body)))) f
 
--- `(write global NAME LITERAL)` and `(frame)`
+-- A snapshot: `global`, or the NAME of a take.
+abbrev pub snapshot_forms : SnapshotRef → Sketch → Sketch
+snapshot_forms Global f = word (codes "global") f
+snapshot_forms (NamedSnapshot n) f = name n f
+
+-- A step without inner steps: `(take NAME mutable SNAP)`, `(take NAME readonly SNAP)`, `(read SNAP NAME)`, `(write SNAP
+-- NAME LITERAL)`, `(add SNAP NAME INT)`, `(apply SNAP)`, or `(dispose SNAP)`.
+abbrev pub call_forms : CallForm → Sketch → Sketch
+call_forms (call.Take at n kind parent) f = group (Some at)
+    (word (codes "take") (name n (word (kind_word kind) (snapshot_forms parent nothing)))) f
+call_forms (call.Read at snapshot n object) f = group (Some at)
+    (word (codes "read") (snapshot_forms snapshot (name n nothing))) f
+call_forms (call.Write at snapshot n object v) f = group (Some at)
+    (word (codes "write") (snapshot_forms snapshot (name n (literal None v nothing)))) f
+call_forms (call.Add at snapshot n object amount) f = group (Some at)
+    (word (codes "add") (snapshot_forms snapshot (name n (numeral None amount nothing)))) f
+call_forms (call.Apply at snapshot) f = group (Some at) (word (codes "apply") (snapshot_forms snapshot nothing)) f
+call_forms (call.Dispose at snapshot) f = group (Some at) (word (codes "dispose") (snapshot_forms snapshot nothing)) f
+
+abbrev pub calls_forms : List CallForm → Sketch
+calls_forms [] = nothing
+calls_forms (c ∷ cs) = call_forms c (calls_forms cs)
+
+-- A step of a repeat: a step without inner steps, `(frame)`, or `(frame (during STEP..))`.
+abbrev pub step_forms : StepForm → Sketch → Sketch
+step_forms (step.Call c) f = call_forms c f
+step_forms (step.Frame at) f = group (Some at) (word (codes "frame") nothing) f
+step_forms (step.FrameDuring at during) f = group (Some at)
+    (word (codes "frame") (group None (word (codes "during") (calls_forms during)) nothing)) f
+
 abbrev pub steps_forms : List StepForm → Sketch
 steps_forms [] = nothing
-steps_forms (Write at n number v ∷ ss) = group (Some at)
-    (word (codes "write") (word (codes "global") (name n (literal None v nothing)))) (steps_forms ss)
-steps_forms (Frame at ∷ ss) = group (Some at) (word (codes "frame") nothing) (steps_forms ss)
+steps_forms (s ∷ ss) = step_forms s (steps_forms ss)
+
+-- A step of an actor: a step that is made once, or `(repeat INT STEP..)`.
+abbrev pub actor_step_forms : ScriptForm → Sketch → Sketch
+actor_step_forms (Once s) f = step_forms s f
+actor_step_forms (Repeat at times steps) f = group (Some at)
+    (word (codes "repeat") (numeral None times (steps_forms steps))) f
+
+abbrev pub actor_forms : List ScriptForm → Sketch
+actor_forms [] = nothing
+actor_forms (s ∷ ss) = actor_step_forms s (actor_forms ss)
 
 -- `(do NAME STEP..)`
 abbrev pub do_forms : DoForm → Sketch → Sketch
-do_forms d f = group (Some d.at) (word (codes "do") (name d.actor (steps_forms d.steps))) f
+do_forms d f = group (Some d.at) (word (codes "do") (name d.actor (actor_forms d.steps))) f
 
 abbrev pub states_forms : List State → Sketch → Sketch
 states_forms [] f = f
@@ -129,7 +171,8 @@ text_forms t = group (Some t.program.header) (word (codes "compose") (word (code
     (top_forms t.program.states t.program.functions t.script)
 
 -- What the parts may be: names are names, numbers and strings are within their limits, operators have their operands,
--- a state and a function have the number of their name, and statements are numbered in the order of the text.
+-- a state and a function have the number of their name, and statements are numbered in the order of the text. A state
+-- may have any of the policies, whatever its type.
 
 -- A literal within its limits.
 abbrev pub literal_fits : Value → Bool
@@ -232,25 +275,47 @@ SpelledFunctions m k (c ∷ cs) =
           ++ function_name c ∷ [];
     }) (site_after_all k c.body) cs
 
+-- Whether the name of a snapshot, if it has one, is a name.
+abbrev pub is_snapshot : SnapshotRef → Bool
+is_snapshot Global = true
+is_snapshot (NamedSnapshot n) = is_name n.text
+
+-- Steps, by the names of the states.
+abbrev pub SpelledCall : List (List ℕ) → CallForm → Type 0
+SpelledCall m (call.Take at n kind parent) = (is_name n.text ≡ true) × (is_snapshot parent ≡ true)
+SpelledCall m (call.Read at snapshot n object) = (is_snapshot snapshot ≡ true) × (is_name n.text ≡ true)
+    × (object ≡ number_of n.text m)
+SpelledCall m (call.Write at snapshot n object v) = (is_snapshot snapshot ≡ true) × (is_name n.text ≡ true)
+    × (object ≡ number_of n.text m) × (literal_fits v ≡ true)
+SpelledCall m (call.Add at snapshot n object amount) = (is_snapshot snapshot ≡ true) × (is_name n.text ≡ true)
+    × (object ≡ number_of n.text m) × (fits amount ≡ true)
+SpelledCall m (call.Apply at snapshot) = is_snapshot snapshot ≡ true
+SpelledCall m (call.Dispose at snapshot) = is_snapshot snapshot ≡ true
+
+abbrev pub SpelledCalls : List (List ℕ) → List CallForm → Type 0
+SpelledCalls m [] = Unit {0}
+SpelledCalls m (c ∷ cs) = SpelledCall m c × SpelledCalls m cs
+
+abbrev pub SpelledStep : List (List ℕ) → StepForm → Type 0
+SpelledStep m (step.Call c) = SpelledCall m c
+SpelledStep m (step.Frame at) = Unit {0}
+SpelledStep m (step.FrameDuring at during) = SpelledCalls m during
+
 abbrev pub SpelledSteps : List (List ℕ) → List StepForm → Type 0
 SpelledSteps m [] = Unit {0}
-SpelledSteps m (Write at n number v ∷ ss) = (is_name n.text ≡ true) × (number ≡ number_of n.text m)
-    × (literal_fits v ≡ true) × SpelledSteps m ss
-SpelledSteps m (Frame at ∷ ss) = SpelledSteps m ss
+SpelledSteps m (s ∷ ss) = SpelledStep m s × SpelledSteps m ss
+
+abbrev pub SpelledActorStep : List (List ℕ) → ScriptForm → Type 0
+SpelledActorStep m (Once s) = SpelledStep m s
+SpelledActorStep m (Repeat at times steps) = (fits times ≡ true) × SpelledSteps m steps
+
+abbrev pub SpelledActor : List (List ℕ) → List ScriptForm → Type 0
+SpelledActor m [] = Unit {0}
+SpelledActor m (s ∷ ss) = SpelledActorStep m s × SpelledActor m ss
 
 abbrev pub SpelledScripts : List (List ℕ) → List DoForm → Type 0
 SpelledScripts m [] = Unit {0}
-SpelledScripts m (d ∷ ds) = (is_name d.actor.text ≡ true) × SpelledSteps m d.steps × SpelledScripts m ds
-
--- Whether a form has the actor of the first form.
-abbrev pub is_of_actor : List DoForm → DoForm → Bool
-is_of_actor [] d = true
-is_of_actor (first ∷ ds) d = bytes_eq d.actor.text first.actor.text
-
--- All forms have the actor of those before them.
-abbrev pub AreOfActor : List DoForm → List DoForm → Type 0
-AreOfActor front [] = Unit {0}
-AreOfActor front (d ∷ ds) = (is_of_actor front d ≡ true) × AreOfActor (front ++ d ∷ []) ds
+SpelledScripts m (d ∷ ds) = (is_name d.actor.text ≡ true) × SpelledActor m d.steps × SpelledScripts m ds
 
 -- All parts of a text are what they may be.
 pub record SpelledSource (t : Source) : Type 0 where
@@ -258,7 +323,6 @@ pub record SpelledSource (t : Source) : Type 0 where
   pub functions : SpelledFunctions (record { states = map state_name t.program.states; functions = [] }) 1
       t.program.functions
   pub script : SpelledScripts (map state_name t.program.states) t.script
-  pub one_actor : AreOfActor [] t.script
 
 -- The forest has the trees of the text, at the offsets that its parts keep, and its parts are what they may be.
 pub record HasForms (f : Forest) (t : Source) : Type 0 where

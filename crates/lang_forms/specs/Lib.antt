@@ -8,4 +8,3 @@ pub mod TextReading
 pub mod Views
 pub mod FirstWrong
 pub mod TextAnswers
-pub mod Appends

@@ -6,6 +6,7 @@ use Rattle.std.specs.Fmt.{signed_decimal}
 use Rattle.std.specs.Str.{bytes_eq}
 use Rattle.std.specs.Str.Parse.{signed_digits_value}
 use Rattle.sexp_text.specs.Forest.{Forest, empty, atom, text, list}
+use Rattle.rt_values.specs.declared.names.Kind.{Kind}
 use Rattle.rt_values.specs.declared.value.Ty.{Ty}
 use Rattle.rt_values.specs.declared.value.Value.{Value}
 use Rattle.rt_values.specs.declared.value.Value.TheVariants as value
@@ -14,12 +15,19 @@ use Rattle.lang_ast.specs.declared.syntax.Ident.{Ident}
 use Rattle.lang_ast.specs.declared.syntax.Operator.{Operator}
 use Rattle.lang_ast.specs.declared.syntax.Parameter.{Parameter}
 use Rattle.lang_ast.specs.declared.program.State.{State}
-use Rattle.lang_forms.specs.declared.script_forms.StepForm.{StepForm}
-use Rattle.lang_forms.specs.declared.script_forms.StepForm.TheVariants.{Write, Frame}
-use Rattle.lang_forms.specs.declared.script_forms.DoForm.{DoForm}
+use Rattle.lang_ast.specs.declared.script.SnapshotRef.{SnapshotRef}
+use Rattle.lang_ast.specs.declared.script.SnapshotRef.TheVariants.{Global, Named as NamedSnapshot}
+use Rattle.lang_ast.specs.declared.script.CallForm.{CallForm}
+use Rattle.lang_ast.specs.declared.script.CallForm.TheVariants as call
+use Rattle.lang_ast.specs.declared.script.StepForm.{StepForm}
+use Rattle.lang_ast.specs.declared.script.StepForm.TheVariants as step
+use Rattle.lang_ast.specs.declared.script.ScriptForm.{ScriptForm}
+use Rattle.lang_ast.specs.declared.script.ScriptForm.TheVariants.{Once, Repeat}
+use Rattle.lang_ast.specs.declared.script.DoForm.{DoForm}
+use Rattle.snap_policy.specs.declared.policy.BuiltIn.{BuiltIn}
 use Rattle.lang_limits.specs.Tokens.{fits}
 use Rattle.lang_forms.specs.Names.{is_name, is_string, is_list_long, number_of}
-use Rattle.lang_forms.specs.Words.{type_for_word, operator_for_word, takes}
+use Rattle.lang_forms.specs.Words.{type_for_word, policy_for_word, kind_for_word, operator_for_word, takes}
 use Rattle.lang_forms.specs.Forms.{KnownNames}
 
 -- Runs a parser on the result of another. None if either fails.
@@ -53,7 +61,10 @@ pub record TreeReadings : Type 0 where
   pub literal : Option Value
   pub parameter : Option Parameter
   pub parameters : Option (List Parameter)
+  pub plain_step : List (List ℕ) → Option CallForm
+  pub during : List (List ℕ) → Option (List CallForm)
   pub step : List (List ℕ) → Option StepForm
+  pub actor_step : List (List ℕ) → Option ScriptForm
   pub top : KnownNames → ℕ → Option (Top × ℕ)
   pub header : Bool
 
@@ -92,6 +103,20 @@ type_of ss = do
   t ← type_for_word a.1
   Some (t, a.2)
 
+-- The first tree as a policy.
+unfoldable pub policy_of : List Seen → Option (BuiltIn × List Seen)
+policy_of ss = do
+  a ← atom_of ss
+  p ← policy_for_word a.1
+  Some (p, a.2)
+
+-- The first tree as a kind of snapshots.
+unfoldable pub kind_of : List Seen → Option (Kind × List Seen)
+kind_of ss = do
+  a ← atom_of ss
+  k ← kind_for_word a.1
+  Some (k, a.2)
+
 -- The first tree as an operator.
 unfoldable pub operator_of : List Seen → Option (Operator × List Seen)
 operator_of ss = do
@@ -123,6 +148,11 @@ abbrev pub int_at : Seen → Option ℤ
 int_at (word at a) = int_of a
 int_at (chars at s) = None
 int_at (form at r) = None
+
+-- The first tree as a number.
+abbrev pub number_of_first : List Seen → Option (ℤ × List Seen)
+number_of_first [] = None
+number_of_first (s ∷ ss) = option_map (λ z. (z, ss)) (int_at s)
 
 -- Each of the trees as a number.
 unfoldable pub ints_of : List Seen → Option (List ℤ)
@@ -304,28 +334,126 @@ stmt_form m k at ss =
 
 -- Steps of a script, by the names of the states.
 
--- `global NAME LITERAL` after the word `write`.
-unfoldable pub write_form : List (List ℕ) → ℕ → List Seen → Option StepForm
-write_form m at ss = do
-  g ← word_of (codes "global") ss
-  n ← name_of g
-  v ← literal_of n.1
-  when (is_end v.1) (Write at n.0 (number_of n.0.text m) v.0)
+-- The first tree as a snapshot.
+unfoldable pub snapshot_of : List Seen → Option (SnapshotRef × List Seen)
+snapshot_of ss = choose (word_of (codes "global") ss) (λ r. Some (Global, r))
+    (option_map (λ n. (NamedSnapshot n.0, n.1)) (name_of ss))
 
-unfoldable pub step_form : List (List ℕ) → ℕ → List Seen → Option StepForm
-step_form m at ss =
+-- `SNAP NAME`, and the trees after it.
+unfoldable pub state_in_snapshot : List Seen → Option ((SnapshotRef × Ident) × List Seen)
+state_in_snapshot ss = do
+  s ← snapshot_of ss
+  n ← name_of s.1
+  Some ((s.0, n.0), n.1)
+
+-- `NAME mutable SNAP` or `NAME readonly SNAP` after the word `take`.
+unfoldable pub take_form : ℕ → List Seen → Option CallForm
+take_form at ss = do
+  n ← name_of ss
+  k ← kind_of n.1
+  s ← snapshot_of k.1
+  when (is_end s.1) (call.Take at n.0 k.0 s.0)
+
+-- `SNAP NAME` after the word `read`.
+unfoldable pub read_form : List (List ℕ) → ℕ → List Seen → Option CallForm
+read_form m at ss = do
+  x ← state_in_snapshot ss
+  when (is_end x.1) (call.Read at x.0.0 x.0.1 (number_of x.0.1.text m))
+
+-- `SNAP NAME LITERAL` after the word `write`.
+unfoldable pub write_form : List (List ℕ) → ℕ → List Seen → Option CallForm
+write_form m at ss = do
+  x ← state_in_snapshot ss
+  v ← literal_of x.1
+  when (is_end v.1) (call.Write at x.0.0 x.0.1 (number_of x.0.1.text m) v.0)
+
+-- `SNAP NAME INT` after the word `add`.
+unfoldable pub add_form : List (List ℕ) → ℕ → List Seen → Option CallForm
+add_form m at ss = do
+  x ← state_in_snapshot ss
+  z ← number_of_first x.1
+  when (is_end z.1) (call.Add at x.0.0 x.0.1 (number_of x.0.1.text m) z.0)
+
+-- `SNAP` after the word `apply`, or `dispose`.
+unfoldable pub only_snapshot : List Seen → Option SnapshotRef
+only_snapshot ss = do
+  s ← snapshot_of ss
+  when (is_end s.1) s.0
+
+-- A step without inner steps.
+unfoldable pub plain_step_form : List (List ℕ) → ℕ → List Seen → Option CallForm
+plain_step_form m at ss =
+    choose (word_of (codes "take") ss) (take_form at) (
+    choose (word_of (codes "read") ss) (read_form m at) (
     choose (word_of (codes "write") ss) (write_form m at) (
-    choose (word_of (codes "frame") ss) (λ r. when (is_end r) (Frame at)) None)
+    choose (word_of (codes "add") ss) (add_form m at) (
+    choose (word_of (codes "apply") ss) (λ r. option_map (call.Apply at) (only_snapshot r)) (
+    choose (word_of (codes "dispose") ss) (λ r. option_map (call.Dispose at) (only_snapshot r)) None)))))
+
+abbrev pub plain_step_at : List (List ℕ) → Seen → Option CallForm
+plain_step_at m (word at a) = None
+plain_step_at m (chars at s) = None
+plain_step_at m (form at r) = r.plain_step m
+
+-- Each of the trees as a step without inner steps.
+unfoldable pub plain_steps_of : List (List ℕ) → List Seen → Option (List CallForm)
+plain_steps_of m [] = Some []
+plain_steps_of m (s ∷ ss) = plain_step_at m s >>= λ t. option_map (λ ts. t ∷ ts) (plain_steps_of m ss)
+
+-- `during STEP..`
+unfoldable pub during_form : List (List ℕ) → List Seen → Option (List CallForm)
+during_form m ss = word_of (codes "during") ss >>= plain_steps_of m
+
+abbrev pub during_at : List (List ℕ) → Seen → Option (List CallForm)
+during_at m (word at a) = None
+during_at m (chars at s) = None
+during_at m (form at r) = r.during m
+
+-- The first tree as `(during STEP..)`.
+abbrev pub during_of : List (List ℕ) → List Seen → Option (List CallForm × List Seen)
+during_of m [] = None
+during_of m (s ∷ ss) = option_map (λ d. (d, ss)) (during_at m s)
+
+-- Nothing, or `(during STEP..)`, after the word `frame`.
+unfoldable pub frame_form : List (List ℕ) → ℕ → List Seen → Option StepForm
+frame_form m at ss = if is_end ss then Some (step.Frame at)
+    else (during_of m ss >>= λ d. when (is_end d.1) (step.FrameDuring at d.0))
+
+-- A step of a repeat.
+unfoldable pub step_form : List (List ℕ) → ℕ → List Seen → Option StepForm
+step_form m at ss = choose (word_of (codes "frame") ss) (frame_form m at)
+    (option_map step.Call (plain_step_form m at ss))
 
 abbrev pub step_at : List (List ℕ) → Seen → Option StepForm
 step_at m (word at a) = None
 step_at m (chars at s) = None
 step_at m (form at r) = r.step m
 
--- Each of the trees as a step.
+-- Each of the trees as a step of a repeat.
 unfoldable pub steps_of : List (List ℕ) → List Seen → Option (List StepForm)
 steps_of m [] = Some []
 steps_of m (s ∷ ss) = step_at m s >>= λ t. option_map (λ ts. t ∷ ts) (steps_of m ss)
+
+-- `INT STEP..` after the word `repeat`.
+unfoldable pub repeat_form : List (List ℕ) → ℕ → List Seen → Option ScriptForm
+repeat_form m at ss = do
+  z ← number_of_first ss
+  ts ← steps_of m z.1
+  Some (Repeat at z.0 ts)
+
+-- A step of an actor.
+unfoldable pub actor_step_form : List (List ℕ) → ℕ → List Seen → Option ScriptForm
+actor_step_form m at ss = choose (word_of (codes "repeat") ss) (repeat_form m at) (option_map Once (step_form m at ss))
+
+abbrev pub actor_step_at : List (List ℕ) → Seen → Option ScriptForm
+actor_step_at m (word at a) = None
+actor_step_at m (chars at s) = None
+actor_step_at m (form at r) = r.actor_step m
+
+-- Each of the trees as a step of an actor.
+unfoldable pub actor_steps_of : List (List ℕ) → List Seen → Option (List ScriptForm)
+actor_steps_of m [] = Some []
+actor_steps_of m (s ∷ ss) = actor_step_at m s >>= λ t. option_map (λ ts. t ∷ ts) (actor_steps_of m ss)
 
 -- Top forms.
 
@@ -353,14 +481,14 @@ parameters_of (word at a ∷ ss) = None
 parameters_of (chars at s ∷ ss) = None
 parameters_of (form at r ∷ ss) = option_map (λ ps. (ps, ss)) r.parameters
 
--- `NAME TYPE Structural LITERAL` after the word `state`.
+-- `NAME TYPE POLICY LITERAL` after the word `state`.
 unfoldable pub state_form : ℕ → List Seen → Option State
 state_form at ss = do
   n ← name_of ss
   t ← type_of n.1
-  p ← word_of (codes "Structural") t.1
-  v ← literal_of p
-  when (is_end v.1) (record { at = at; name = n.0; ty = t.0; initial = v.0 })
+  p ← policy_of t.1
+  v ← literal_of p.1
+  when (is_end v.1) (record { at = at; name = n.0; ty = t.0; policy = p.0; initial = v.0 })
 
 -- `NAME ((NAME TYPE)..) STMT..` after the word `fun`.
 unfoldable pub function_form : KnownNames → ℕ → ℕ → List Seen → Option (Func × ℕ)
@@ -374,7 +502,7 @@ function_form m k at ss = do
 unfoldable pub do_form : List (List ℕ) → ℕ → List Seen → Option DoForm
 do_form m at ss = do
   n ← name_of ss
-  ts ← steps_of m n.1
+  ts ← actor_steps_of m n.1
   Some (record { at = at; actor = n.0; steps = ts })
 
 unfoldable pub top_form : KnownNames → ℕ → ℕ → List Seen → Option (Top × ℕ)
@@ -404,7 +532,10 @@ roles at ss = record {
   literal = literal_form ss;
   parameter = parameter_form ss;
   parameters = parameters_form ss;
+  plain_step = λ m. plain_step_form m at ss;
+  during = λ m. during_form m ss;
   step = λ m. step_form m at ss;
+  actor_step = λ m. actor_step_form m at ss;
   top = λ m k. top_form m k at ss;
   header = is_there (header_form ss);
 }

@@ -2,8 +2,8 @@
 use Rattle.std.specs.Prelude.{List}
 use Rattle.lang_ast.specs.Programs.{Program, program_view}
 use Rattle.lang_ast.specs.declared.program.Program as declared
-use Rattle.lang_forms.specs.declared.script_forms.DoForm.{DoForm}
-use Rattle.lang_forms.specs.declared.script_forms.Rest.{Rest}
+use Rattle.lang_ast.specs.declared.script.DoForm.{DoForm}
+use Rattle.lang_ast.specs.declared.script.Rest.{Rest}
 
 pub record Source : Type 0 where
   pub program : Program

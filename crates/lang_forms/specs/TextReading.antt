@@ -2,9 +2,9 @@
 use Rattle.std.specs.Prelude.{ℕ, ◌&&◌, List, [], ◌∷◌, ◌++◌, map, Bool, true, false, Option, Some, None, Result, Ok, Err, if◌then◌else◌}
 use Rattle.lang_ast.specs.Terms.{Func}
 use Rattle.lang_ast.specs.declared.program.State.{State}
-use Rattle.lang_forms.specs.declared.script_forms.DoForm.{DoForm}
+use Rattle.lang_ast.specs.declared.script.DoForm.{DoForm}
 use Rattle.lang_forms.specs.Sources.{Source}
-use Rattle.lang_forms.specs.Forms.{KnownNames, state_name, function_name, is_of_actor}
+use Rattle.lang_forms.specs.Forms.{KnownNames, state_name, function_name}
 use Rattle.lang_forms.specs.Readings.{◌>>=◌, when, Top, StateTop, FunctionTop, DoTop, Seen, place, top_at, is_header}
 
 -- The part of a source text that is parsed already, and the number of the next statement.
@@ -29,8 +29,8 @@ abbrev pub is_none : {A : Type 0} → List A → Bool
 is_none [] = true
 is_none (a ∷ more) = false
 
--- The part with a further top form. None if that is out of order: a state after a function, a state or a function
--- after a script, or a script of another actor. k is the number of the next statement.
+-- The part with a further top form. None if that is out of order: a state after a function, or a state or a function
+-- after a script. k is the number of the next statement.
 abbrev pub source_with_form : PartialSource → Top → ℕ → Option PartialSource
 source_with_form p (StateTop s) k =
     when (is_none p.functions && is_none p.script)
@@ -38,7 +38,7 @@ source_with_form p (StateTop s) k =
 source_with_form p (FunctionTop c) k =
     when (is_none p.script)
     (record { header = p.header; states = p.states; functions = p.functions ++ c ∷ []; script = p.script; site = k })
-source_with_form p (DoTop d) k = when (is_of_actor p.script d)
+source_with_form p (DoTop d) k = Some
     (record { header = p.header; states = p.states; functions = p.functions; script = p.script ++ d ∷ []; site = k })
 
 -- The part with a further tree. None if that is no top form, or out of order.

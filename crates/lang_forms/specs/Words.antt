@@ -1,8 +1,12 @@
--- Trusted: the keywords of types and operators, and how many operands an operator has.
+-- Trusted: the keywords of types, policies, kinds of snapshots and operators, and how many operands an operator has.
 use Rattle.std.specs.Prelude.{ℕ, ◌==◌, List, Bool, true, Option, Some, None, codes, if◌then◌else◌}
 use Rattle.std.specs.Str.{bytes_eq}
 use Rattle.rt_values.specs.declared.value.Ty.{Ty}
 use Rattle.rt_values.specs.declared.value.Ty.TheVariants as ty
+use Rattle.rt_values.specs.declared.names.Kind.{Kind}
+use Rattle.rt_values.specs.declared.names.Kind.TheVariants as kind
+use Rattle.snap_policy.specs.declared.policy.BuiltIn.{BuiltIn}
+use Rattle.snap_policy.specs.declared.policy.BuiltIn.TheVariants as policy
 use Rattle.lang_ast.specs.declared.syntax.Operator.{Operator}
 use Rattle.lang_ast.specs.declared.syntax.Operator.TheVariants as operator
 
@@ -12,6 +16,19 @@ type_word ty.Int = codes "Int"
 type_word ty.Bool = codes "Bool"
 type_word ty.Text = codes "Text"
 type_word ty.Ints = codes "Ints"
+
+-- The keyword of a policy.
+abbrev pub policy_word : BuiltIn → List ℕ
+policy_word policy.Structural = codes "Structural"
+policy_word policy.Never = codes "Never"
+policy_word policy.Counter = codes "Counter"
+policy_word policy.Largest = codes "Largest"
+policy_word policy.Append = codes "Append"
+
+-- The keyword of a kind of snapshots.
+abbrev pub kind_word : Kind → List ℕ
+kind_word kind.Mutable = codes "mutable"
+kind_word kind.Readonly = codes "readonly"
 
 -- The keyword of an operator.
 abbrev pub operator_word : Operator → List ℕ
@@ -65,6 +82,17 @@ named c a w other = if bytes_eq w c then Some a else other
 unfoldable pub type_for_word : List ℕ → Option Ty
 type_for_word w = named (codes "Int") ty.Int w
     (named (codes "Bool") ty.Bool w (named (codes "Text") ty.Text w (named (codes "Ints") ty.Ints w None)))
+
+-- The policy of a keyword.
+unfoldable pub policy_for_word : List ℕ → Option BuiltIn
+policy_for_word w =
+    named (codes "Structural") policy.Structural w (named (codes "Never") policy.Never w (
+    named (codes "Counter") policy.Counter w
+    (named (codes "Largest") policy.Largest w (named (codes "Append") policy.Append w None))))
+
+-- The kind of snapshots of a keyword.
+unfoldable pub kind_for_word : List ℕ → Option Kind
+kind_for_word w = named (codes "mutable") kind.Mutable w (named (codes "readonly") kind.Readonly w None)
 
 -- The operators on numbers.
 unfoldable pub number_operator : List ℕ → Option Operator

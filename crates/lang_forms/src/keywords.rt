@@ -1,14 +1,15 @@
-// The keywords of types and operators.
+// The keywords of types, policies, kinds of snapshots and operators.
 ghost use Rattle.std.specs.Prelude.{◌≡◌, ◌≤◌, Bool};
 ghost use Rattle.std.specs.Option.{option_map, IfSome};
-ghost use Rattle.lang_forms.specs.Words.{type_word, operator_word, takes, type_for_word, number_operator, truth_operator, list_operator, operator_for_word};
-ghost use Rattle.lang_forms.specs.Readings.{type_of, operator_of};
+ghost use Rattle.lang_forms.specs.Words.{type_word, operator_word, takes, type_for_word, policy_for_word, kind_for_word, number_operator, truth_operator, list_operator, operator_for_word};
+ghost use Rattle.lang_forms.specs.Readings.{type_of, policy_of, kind_of, operator_of};
 ghost use Rattle.lang_forms.specs.Views.{widest, seen_all};
 
 use crate::cursor::{same_bytes, split_first_atom};
 use lang_ast::Operator;
-use rt_values::Ty;
+use rt_values::{Kind, Ty};
 use sexp_text::Tree;
+use snap_policy::BuiltIn;
 
 // Finds the type of a keyword.
 #[tactic(auto, unfolding(crate::specs::Words::type_for_word))]
@@ -37,6 +38,60 @@ pub fn parse_type(trees: &[Tree]) -> Option<(Ty, &[Tree])>
     let (_, word, rest) = split_first_atom(trees)?;
     let ty = type_in_word(word)?;
     Some((ty, rest))
+}
+
+// Finds the policy of a keyword.
+#[tactic(auto, unfolding(crate::specs::Words::policy_for_word))]
+fn policy_in_word(word: &[u8]) -> Option<BuiltIn>
+    ensures { result ≡ policy_for_word word.now }
+{
+    if same_bytes(word, b"Structural") {
+        Some(BuiltIn::Structural)
+    } else if same_bytes(word, b"Never") {
+        Some(BuiltIn::Never)
+    } else if same_bytes(word, b"Counter") {
+        Some(BuiltIn::Counter)
+    } else if same_bytes(word, b"Largest") {
+        Some(BuiltIn::Largest)
+    } else if same_bytes(word, b"Append") {
+        Some(BuiltIn::Append)
+    } else {
+        None
+    }
+}
+
+// Parses the first tree as a policy, and returns the trees after it.
+#[tactic(auto, unfolding(crate::specs::Readings::policy_of))]
+pub fn parse_policy(trees: &[Tree]) -> Option<(BuiltIn, &[Tree])>
+    ensures { option_map (λ p. (p.0, seen_all p.1.now)) result ≡ policy_of (seen_all trees.now) }
+{
+    let (_, word, rest) = split_first_atom(trees)?;
+    let policy = policy_in_word(word)?;
+    Some((policy, rest))
+}
+
+// Finds the kind of snapshots of a keyword.
+#[tactic(auto, unfolding(crate::specs::Words::kind_for_word))]
+fn kind_in_word(word: &[u8]) -> Option<Kind>
+    ensures { result ≡ kind_for_word word.now }
+{
+    if same_bytes(word, b"mutable") {
+        Some(Kind::Mutable)
+    } else if same_bytes(word, b"readonly") {
+        Some(Kind::Readonly)
+    } else {
+        None
+    }
+}
+
+// Parses the first tree as a kind of snapshots, and returns the trees after it.
+#[tactic(auto, unfolding(crate::specs::Readings::kind_of))]
+pub fn parse_kind(trees: &[Tree]) -> Option<(Kind, &[Tree])>
+    ensures { option_map (λ p. (p.0, seen_all p.1.now)) result ≡ kind_of (seen_all trees.now) }
+{
+    let (_, word, rest) = split_first_atom(trees)?;
+    let kind = kind_in_word(word)?;
+    Some((kind, rest))
 }
 
 // Finds the operator on numbers of a keyword.

@@ -1,27 +1,17 @@
 // Laws of the forms, each the contract of a function that does nothing.
 ghost use Rattle.std.specs.Prelude.{◌≡◌, ℕ, Result};
-ghost use Rattle.sexp_text.specs.Forest.{Forest, without_offsets};
+ghost use Rattle.sexp_text.specs.Forest.{Forest};
 ghost use Rattle.lang_forms.specs.Sources.{Source};
-ghost use Rattle.lang_forms.specs.Forms.{HasForms, HasUnlimitedForms, text_forms};
+ghost use Rattle.lang_forms.specs.Forms.{HasForms, HasUnlimitedForms};
 ghost use Rattle.lang_limits.specs.Clamped.{within};
 ghost use Rattle.lang_forms.specs.FirstWrong.{IsAnswerFor};
 ghost use Rattle.lang_forms.specs.declared.stop.FormStop.{FormStop};
-ghost use Rattle.lang_forms.specs.Sketch.{unplaced_sketch};
 
 /// Trees have the forms of at most one program and script.
 ///
 /// A rule of this project. The function does nothing: its contract is the law.
 pub fn forms_of_one_text()
     ensures { (f : Forest) → (t : Source) → (u : Source) → HasForms f t → HasForms f u → t ≡ u }
-{}
-
-/// The trees that `forms_of` returns for a program are those that it was parsed from, except for
-/// offsets and for the script.
-///
-/// A rule of this project. The function does nothing: its contract is the law.
-pub fn forms_are_those_read()
-    ensures { (f : Forest) → (t : Source) → HasForms f t →
-        without_offsets f ≡ unplaced_sketch (text_forms t) }
 {}
 
 /// Clamping all tokens of a source text to their limits changes only literals.

@@ -1,5 +1,4 @@
-//! The forms of programs and scripts: parses trees as a program with its script, and writes the
-//! trees of a program.
+//! The forms of programs and scripts: parses trees as a program with its script.
 //!
 //! `specs/Forms.antt` lists, form by form, which trees a program and a script have. The notation is
 //! this project's own. It takes the place of Kotlin's composable functions and of the test code
@@ -17,16 +16,12 @@ mod laws;
 mod literals;
 mod parse_program;
 mod partial_source;
+mod plain_steps;
 mod script;
-mod script_forms;
 mod statements;
 mod stop;
 mod top_forms;
-mod write_expressions;
-mod write_program;
 
-pub use laws::{forms_are_those_read, forms_of_one_text, limits_keep_the_forms};
+pub use laws::{forms_of_one_text, limits_keep_the_forms};
 pub use parse_program::program;
-pub use script_forms::{DoForm, Rest, StepForm, StepForms};
 pub use stop::FormStop;
-pub use write_program::forms_of;

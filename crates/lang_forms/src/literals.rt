@@ -1,7 +1,7 @@
 // The parser of literals: numbers, truth values, strings and lists of numbers.
 ghost use Rattle.std.specs.Prelude.{◌≡◌, Bool, Option, List, ℤ, IfOk, codes};
 ghost use Rattle.std.specs.Str.{is_utf8};
-ghost use Rattle.lang_forms.specs.Readings.{int_of, truth_of, plain_of, string_of, int_at, ints_of, literal_form, literal_at, literal_of};
+ghost use Rattle.lang_forms.specs.Readings.{int_of, truth_of, plain_of, string_of, int_at, number_of_first, ints_of, literal_form, literal_at, literal_of};
 ghost use Rattle.lang_forms.specs.Views.{seen_tree, seen_all, Reads};
 
 use crate::cursor::{same_bytes, skip_keyword};
@@ -91,6 +91,20 @@ fn parse_int_tree(alloc: Global, tree: &Tree) -> Result<i64, ParseStop>
         },
         Tree::Text(..) => Err(ParseStop::NoForm),
         Tree::List(..) => Err(ParseStop::NoForm),
+    }
+}
+
+// Parses the first tree as a number, and returns the trees after it.
+pub fn parse_first_int(alloc: Global, trees: &[Tree]) -> Result<(i64, &[Tree]), ParseStop>
+    ensures { Reads (λ p. (p.0, seen_all p.1.now)) result
+        (number_of_first (seen_all trees.now)) }
+{
+    match trees.split_first() {
+        None => Err(ParseStop::NoForm),
+        Some((tree, rest)) => {
+            let number = parse_int_tree(alloc, tree)?;
+            Ok((number, rest))
+        }
     }
 }
 

@@ -17,10 +17,9 @@ ghost use Rattle.lang_forms.specs.Views.{seen_all, partial_source_view, Gives};
 
 use crate::FormStop;
 use crate::partial_source::PartialSource;
-use crate::script_forms::Rest;
 use crate::stop::ParseStop;
 use crate::top_forms::{is_header, place_of};
-use lang_ast::Program;
+use lang_ast::{Program, Rest};
 use lang_limits::{TokenLimits, size_limit, token_limits, within};
 use sexp_text::Tree;
 use std::alloc::Global;
@@ -92,7 +91,7 @@ fn parse_clamped_text(
 fn unless_beyond(front: PartialSource, limits: TokenLimits) -> Result<(Program, Rest), FormStop>
     ensures read { (f : Forest) → limits.program ≡ least (beyond (program_trees f)) →
         Answers parsed_source_view result (answered f (Ok (source (partial_source_view front)))) }
-    ensures beyond { IfOk result (λ r. r.1.beyond ≡ limits.script) }
+    ensures beyond { IfOk result (λ r. r.1.first_oversized ≡ limits.script) }
 {
     let program = Program {
         header: front.header,
@@ -105,7 +104,7 @@ fn unless_beyond(front: PartialSource, limits: TokenLimits) -> Result<(Program, 
             program,
             Rest {
                 forms: front.script,
-                beyond: limits.script,
+                first_oversized: limits.script,
             },
         )),
     }
@@ -114,7 +113,7 @@ fn unless_beyond(front: PartialSource, limits: TokenLimits) -> Result<(Program, 
 // Parses the trees clamped to the limits, and refuses a program that exceeds a limit.
 fn text_or_limit(alloc: Global, trees: &[Tree], end: usize) -> Result<(Program, Rest), FormStop>
     ensures read { Answers parsed_source_view result (text_answer end (forest_view trees.now)) }
-    ensures beyond { IfOk result (λ r. r.1.beyond ≡ least (oversized_script_offsets (forest_view trees.now))) }
+    ensures beyond { IfOk result (λ r. r.1.first_oversized ≡ least (oversized_script_offsets (forest_view trees.now))) }
 {
     let limits = token_limits(trees);
     let front = parse_clamped_text(alloc, trees, end, limits)?;
@@ -134,7 +133,7 @@ pub fn program(alloc: Global, trees: &[Tree], end: usize) -> Result<(Program, Re
     ensures forms { IfOk result (λ r. HasForms (within (forest_view trees.now)) (parsed_source_view r)) }
     ensures small { IfOk result (λ r. program_limits (forest_view trees.now) (program_view r.0)
         ≡ []) }
-    ensures beyond { IfOk result (λ r. r.1.beyond ≡ least (oversized_script_offsets (forest_view trees.now))) }
+    ensures beyond { IfOk result (λ r. r.1.first_oversized ≡ least (oversized_script_offsets (forest_view trees.now))) }
     ensures stop { (at : ℕ) → result ≡ Err (FormStop.Form at) →
         IsFirstWrong end (within (forest_view trees.now)) at }
     ensures limit { (at : ℕ) → result ≡ Err (FormStop.Limit at) →

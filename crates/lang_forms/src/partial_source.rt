@@ -2,15 +2,13 @@
 ghost use Rattle.std.specs.Prelude.{◌≡◌, Bool};
 ghost use Rattle.lang_ast.specs.SyntaxView.{function_view};
 ghost use Rattle.lang_forms.specs.Readings.{StateTop, FunctionTop, DoTop};
-ghost use Rattle.lang_forms.specs.Forms.{is_of_actor};
 ghost use Rattle.lang_forms.specs.TextReading.{start, known, source_with_form, source_with_tree};
 ghost use Rattle.lang_forms.specs.Views.{seen_tree, known_names_view, partial_source_view, Reads};
 
 use crate::known_names::KnownNames;
-use crate::script_forms::DoForm;
 use crate::stop::ParseStop;
 use crate::top_forms::{TopForm, parse_top_form};
-use lang_ast::{Function, State};
+use lang_ast::{DoForm, Function, State};
 use sexp_text::Tree;
 use std::alloc::Global;
 
@@ -22,16 +20,6 @@ pub struct PartialSource {
     pub functions: Vec<Function>,
     pub script: Vec<DoForm>,
     pub site: u32,
-}
-
-// Whether a form has the actor of the forms before it.
-fn is_of_actor(before: &[DoForm], form: &DoForm) -> bool
-    ensures { result ≡ is_of_actor before.now form.now }
-{
-    match before.first() {
-        Some(first) => form.actor.text.is(first.actor.text.bytes()),
-        None => true,
-    }
 }
 
 impl PartialSource {
@@ -95,13 +83,10 @@ impl PartialSource {
         })
     }
 
-    // Appends a part of the script. Fails if it has another actor than those before it.
+    // Appends a part of the script.
     fn with_script(self, form: DoForm, next: u32) -> Result<Self, ParseStop>
         ensures { Reads partial_source_view result (source_with_form (partial_source_view self) (DoTop form) next) }
     {
-        if !is_of_actor(&self.script, &form) {
-            return Err(ParseStop::NoForm);
-        }
         let mut script = self.script;
         script.push(form)?;
         Ok(PartialSource {

@@ -5,14 +5,13 @@ ghost use Rattle.lang_forms.specs.Readings.{parameter_form, parameter_at, parame
 ghost use Rattle.lang_forms.specs.Views.{seen_tree, seen_all, known_names_view, top_view, Reads};
 
 use crate::cursor::{is_at_end, parse_name, skip_keyword};
-use crate::keywords::parse_type;
+use crate::keywords::{parse_policy, parse_type};
 use crate::known_names::KnownNames;
 use crate::literals::parse_literal;
 use crate::script::parse_do_form;
-use crate::script_forms::DoForm;
 use crate::statements::parse_statements;
 use crate::stop::ParseStop;
-use lang_ast::{Function, Parameter, State};
+use lang_ast::{DoForm, Function, Parameter, State};
 use sexp_text::Tree;
 use std::alloc::Global;
 
@@ -79,7 +78,7 @@ fn parse_parameters(alloc: Global, trees: &[Tree]) -> Result<(Vec<Parameter>, &[
     }
 }
 
-// Parses `NAME TYPE Structural LITERAL` after the word `state`.
+// Parses `NAME TYPE POLICY LITERAL` after the word `state`.
 #[tactic(auto, unfolding(crate::specs::Readings::state_form))]
 fn parse_state(alloc: Global, at: usize, trees: &[Tree]) -> Result<State, ParseStop>
     ensures { Reads (λ s. s) result (state_form at (seen_all trees.now)) }
@@ -88,7 +87,7 @@ fn parse_state(alloc: Global, at: usize, trees: &[Tree]) -> Result<State, ParseS
     let Some((ty, rest)) = parse_type(rest) else {
         return Err(ParseStop::NoForm);
     };
-    let Some(rest) = skip_keyword(b"Structural", rest) else {
+    let Some((policy, rest)) = parse_policy(rest) else {
         return Err(ParseStop::NoForm);
     };
     let (initial, rest) = parse_literal(alloc, rest)?;
@@ -99,6 +98,7 @@ fn parse_state(alloc: Global, at: usize, trees: &[Tree]) -> Result<State, ParseS
         at,
         name,
         ty,
+        policy,
         initial,
     })
 }

@@ -1,12 +1,16 @@
 -- Trusted: the forest with each oversized token clamped. It has the forms that the forest has without the limits of
 -- literals.
-use Rattle.std.specs.Prelude.{ℕ, zero, suc, ◌&&◌, List, [], Bool, true, false, codes, if◌then◌else◌}
+use Rattle.std.specs.Prelude.{ℕ, zero, suc, ◌&&◌, ◌==◌, List, [], slice_index, Bool, true, false, codes, if◌then◌else◌}
 use Rattle.sexp_text.specs.Forest.{Forest, empty, atom, text, list}
 use Rattle.lang_limits.specs.Tokens.{is_int, is_oversized_int, is_oversized_string, is_oversized_list}
 
--- 0 for a number beyond 64 bits.
+-- The number of 64 bits that is nearest to an oversized number: the least one if `-` comes first, else the greatest.
+abbrev pub nearest_int : List ℕ → List ℕ
+nearest_int a = if slice_index a 0 == 45 then codes "-9223372036854775808" else codes "9223372036854775807"
+
+-- The nearest number for a number beyond 64 bits.
 abbrev pub clamped_atom : List ℕ → List ℕ
-clamped_atom a = if is_oversized_int a then codes "0" else a
+clamped_atom a = if is_oversized_int a then nearest_int a else a
 
 -- The empty string for a string that is too long.
 abbrev pub clamped_string : List ℕ → List ℕ

@@ -2,7 +2,7 @@
 ghost use Rattle.std.specs.Prelude.{◌≡◌, IfOk, OnOk};
 ghost use Rattle.sexp_text.specs.Forest.{behind};
 ghost use Rattle.sexp_text.specs.View.{tree_view, forest_view};
-ghost use Rattle.lang_limits.specs.Clamped.{clamped_atom, clamped_string, are_ints, is_oversized_ints, clamped_list, within};
+ghost use Rattle.lang_limits.specs.Clamped.{nearest_int, clamped_atom, clamped_string, are_ints, is_oversized_ints, clamped_list, within};
 
 use crate::numbers::{is_int, is_oversized_int};
 use crate::tokens::{is_oversized_list, is_oversized_string};
@@ -10,11 +10,25 @@ use rt_values::NoMemory;
 use sexp_text::Tree;
 use std::alloc::Global;
 
-// Copies an atom, or returns `0` for a number that does not fit into 64 bits.
+// Returns the number of 64 bits that is nearest to a number that does not fit.
+fn nearest_int(number: &[u8]) -> &'static [u8]
+    ensures { result.now ≡ nearest_int number.now }
+{
+    match number.first() {
+        Some(b'-') => b"-9223372036854775808",
+        _ => b"9223372036854775807",
+    }
+}
+
+// Copies an atom, or returns the nearest number for one that does not fit into 64 bits.
 fn clamped_atom(alloc: Global, atom: &[u8]) -> Result<Vec<u8>, NoMemory>
     ensures { IfOk result (λ v. v.items ≡ clamped_atom atom.now) }
 {
-    let kept: &[u8] = if is_oversized_int(atom) { b"0" } else { atom };
+    let kept = if is_oversized_int(atom) {
+        nearest_int(atom)
+    } else {
+        atom
+    };
     Ok(kept.to_vec(alloc)?)
 }
 
@@ -98,8 +112,9 @@ fn put_tree(alloc: Global, tree: &Tree, out: &mut Vec<Tree>) -> Result<(), NoMem
 
 /// Copies trees and clamps each oversized token.
 ///
-/// A number becomes 0, a string the empty string, and an `ints` list of too many numbers the list
-/// of the first two. Names stay as they are. A rule of this project. Fails if memory runs out.
+/// A number becomes the nearest number of 64 bits, a string the empty string, and an `ints` list of too
+/// many numbers the list of the first two. Names stay as they are. A rule of this project. Fails if
+/// memory runs out.
 #[tactic(auto, using(crate::proofs::Copies::within_step, crate::proofs::Copies::copies))]
 #[cycle(copies)]
 pub fn within(alloc: Global, trees: &[Tree]) -> Result<Vec<Tree>, NoMemory>

@@ -12,7 +12,7 @@ use Rattle.play_core.specs.Texts.{IsNoText}
 use Rattle.play_core.proofs.Refusals.{refused_is}
 use Rattle.play_core.specs.declared.fault.Fault.{Fault}
 use Rattle.play_core.specs.declared.fault.FaultKind.{FaultKind}
-use Rattle.play_core.specs.declared.fault.FaultKind.TheVariants.{Utf8, Text, Deep, Form, Limit, Double, Unknown, Order, «Type», Remember}
+use Rattle.play_core.specs.declared.fault.FaultKind.TheVariants.{Utf8, Text, Deep, Form, Limit, Double, Unknown, Order, «Type», Remember, Actor}
 use Rattle.play_core.specs.declared.text.TextEnd.TheVariants.{Bad}
 use Rattle.play_core.proofs.Uniques.{refused_none}
 
@@ -35,6 +35,7 @@ split bytes Unknown at h = inr h
 split bytes Order at h = inr h
 split bytes «Type» at h = inr h
 split bytes Remember at h = inr h
+split bytes Actor at h = inr h
 
 same-stop : (bytes : List ℕ) (f g : Fault) → Stops bytes f → Stops bytes g → f ≡ g
 same-stop bytes f g a b =

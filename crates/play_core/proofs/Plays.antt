@@ -7,10 +7,11 @@ use Rattle.std.proofs.KnownBytes.{Consumes-whole}
 use Rattle.rt_streams.specs.Streams.{AppendsPart, Rose, rise}
 use Rattle.rt_streams.proofs.Parts.{part-none}
 use Rattle.lang_ast.specs.declared.program.State.{State}
+use Rattle.lang_ast.specs.declared.script.DoForm.{DoForm}
 use Rattle.lang_ast.specs.Terms.{Func}
 use Rattle.lang_forms.specs.Sources.{Source}
-use Rattle.script_lang.specs.declared.script.Step.{Step}
-use Rattle.script_lang.specs.Lines.{Titles, run_text}
+use Rattle.script_lang.specs.Lines.{run_text}
+use Rattle.script_lang.specs.StepCalls.{script_parts}
 use Rattle.script_lang.specs.Scripts.{actors_of}
 use Rattle.play_core.specs.declared.top.Status.{Status}
 use Rattle.play_core.specs.declared.top.Status.TheVariants as status
@@ -19,30 +20,23 @@ use Rattle.play_args.specs.declared.command.Command.TheVariants.{Run, Check}
 use Rattle.play_core.specs.Texts.{IsText, IsRead, IsNoText, IsOutput, run_output, check_output, long_line, input_limit}
 use Rattle.play_core.specs.Faults.{IsFault, WritesPart, fault_line}
 use Rattle.play_core.specs.declared.fault.Fault.{Fault}
-use Rattle.play_core.specs.StepOutput.{state_before_steps, turns}
-use Rattle.play_core.specs.RunState.{WritesBytes, SaysOutput, FaultsAfter, run_status, flat}
-use Rattle.play_core.specs.declared.write_lines.Stop.{Stop}
-use Rattle.play_core.specs.declared.write_lines.Stop.TheVariants as stop
-use Rattle.play_core.proofs.Laws.{lines-turns}
+use Rattle.play_core.specs.CommandOutput.{SaysOutput, run_status}
+use Rattle.play_run.specs.RunPromise.{FaultsAfter}
+use Rattle.play_run.specs.declared.write_lines.Stop.{Stop}
+use Rattle.play_run.specs.declared.write_lines.Stop.TheVariants as stop
 use Rattle.play_core.specs.Promise.{Streams, HasFailed, WritesOutput, WritesFault, CommandMeets, LeavesWorld}
 use Rattle.play_core.proofs.Uniques.{text_one}
 use Rattle.play_core.proofs.OneFault.{one_fault, faulty_is_no_text}
 
--- The lines of the steps are all that a run prints.
-pub run-says : {T E : Type 0} (r : Result T E) (a z : Option (List ℕ)) (t : Titles) (functions : List Func) (steps : List Step) →
-    WritesBytes a z (flat (turns t functions (state_before_steps t.states) steps)) r → WritesBytes a z (run_text t functions steps) r
-unfolding run_text
-run-says r a z t functions steps says = subst (λ ls. WritesBytes a z (flat ls) r) (sym (lines-turns t functions (state_before_steps t.states) steps)) says
-
 -- The parsed program and script give the output of the source text.
-pub run-is : {bytes : List ℕ} {states : List State} {functions : List Func} {actors : List (List ℕ)} {steps : List Step} (h : IsRead bytes states functions actors steps) (p : Source) → IsText bytes p →
-    run_text (record { states = states; actors = actors }) functions steps ≡ run_output p
+pub run-is : {bytes : List ℕ} {states : List State} {functions : List Func} {actors : List (List ℕ)} {forms : List DoForm} (h : IsRead bytes states functions actors forms) (p : Source) → IsText bytes p →
+    run_text (record { states = states; actors = actors }) functions (script_parts actors forms) ≡ run_output p
 unfolding run_output
-run-is {bytes = bytes} {functions = functions} {actors = actors} {steps = steps} h p t =
-    ap (λ ss. run_text (record { states = ss; actors = actors }) functions steps) h.states_are
-    ∙ ap (λ l. run_text (record { states = h.source.program.states; actors = l }) functions steps) h.actors_are
-    ∙ ap (λ l. run_text (record { states = h.source.program.states; actors = actors_of h.source.script }) l steps) h.functions_are
-    ∙ ap (λ l. run_text (record { states = h.source.program.states; actors = actors_of h.source.script }) h.source.program.functions l) h.steps_are
+run-is {bytes = bytes} {functions = functions} {actors = actors} {forms = forms} h p t =
+    ap (λ ss. run_text (record { states = ss; actors = actors }) functions (script_parts actors forms)) h.states_are
+    ∙ ap (λ l. run_text (record { states = h.source.program.states; actors = l }) functions (script_parts l forms)) h.actors_are
+    ∙ ap (λ l. run_text (record { states = h.source.program.states; actors = actors_of h.source.script }) l (script_parts (actors_of h.source.script) forms)) h.functions_are
+    ∙ ap (λ l. run_text (record { states = h.source.program.states; actors = actors_of h.source.script }) h.source.program.functions (script_parts (actors_of h.source.script) l)) h.forms_are
     ∙ ap run_output (text_one bytes h.source p h.text t)
 
 -- A part of the output of a source text, which has no fault.

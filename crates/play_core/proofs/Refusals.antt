@@ -21,16 +21,16 @@ use Rattle.lang_checks.specs.declared.faults.CheckKind.{CheckKind}
 use Rattle.lang_checks.specs.declared.faults.CheckKind.TheVariants as kind
 use Rattle.lang_checks.specs.declared.faults.ProgramFault as checks
 use Rattle.lang_checks.specs.declared.checks.CheckStop.TheVariants as check
-use Rattle.script_lang.specs.Scripts.{script_refusal}
-use Rattle.script_lang.specs.declared.script.ScriptStop.{ScriptStop}
-use Rattle.script_lang.specs.declared.script.ScriptStop.TheVariants as script
+use Rattle.script_lang.specs.ScriptFaults.{script_refusal}
+use Rattle.script_lang.specs.declared.faults.ScriptStop.{ScriptStop}
+use Rattle.script_lang.specs.declared.faults.ScriptStop.TheVariants as script
 use Rattle.play_core.specs.StageFaults.{text_end, check_kind, check_end, script_end}
 use Rattle.play_core.specs.Faults.{or_else, IsFaultAt, IsFault, IsRefused, reading_refusal}
 use Rattle.play_core.specs.ParserRefusal.{refusal}
 use Rattle.play_core.specs.Texts.{IsNoText}
 use Rattle.play_core.specs.declared.fault.Fault.{Fault}
 use Rattle.play_core.specs.declared.fault.FaultKind.{FaultKind}
-use Rattle.play_core.specs.declared.fault.FaultKind.TheVariants.{Utf8, Text, Deep, Form, Limit, Double, Unknown, Order, «Type», Remember}
+use Rattle.play_core.specs.declared.fault.FaultKind.TheVariants.{Utf8, Text, Deep, Form, Limit, Double, Unknown, Order, «Type», Remember, Actor}
 use Rattle.play_core.specs.declared.text.TextEnd.{TextEnd}
 use Rattle.play_core.specs.declared.text.TextEnd.TheVariants.{Bad, NoMemory}
 
@@ -63,6 +63,7 @@ is_texts Unknown = false
 is_texts Order = false
 is_texts «Type» = false
 is_texts Remember = false
+is_texts Actor = false
 
 -- A fault of a later stage, if there is one.
 abbrev IsLater : Option TextEnd → Type 0
@@ -82,6 +83,8 @@ later-script : (o : Option ScriptStop) → IsLater (option_map script_end o)
 later-script None fault e = absurd cc
 later-script (Some (script.Limit at)) fault e = later-bad (record { kind = Limit; at = at }) fault refl e
 later-script (Some (script.Unknown at)) fault e = later-bad (record { kind = Unknown; at = at }) fault refl e
+later-script (Some (script.Type at)) fault e = later-bad (record { kind = «Type»; at = at }) fault refl e
+later-script (Some (script.Actor at)) fault e = later-bad (record { kind = Actor; at = at }) fault refl e
 later-script (Some script.NoMemory) fault e = absurd cc
 
 later-check : (o : Option checks.ProgramFault) (p : Option ScriptStop) → IsLater (or_else (option_map (λ f. check_end (check.ProgramFault f)) o) (option_map script_end p))
@@ -89,7 +92,7 @@ later-check None p fault e = later-script p fault e
 later-check (Some f) p fault e = later-bad (record { kind = check_kind f.kind; at = f.at }) fault (later-kind f.kind) e
 
 later-reading : (beyond : Option ℕ) (r : Result Source FormStop) → IsLater (reading_refusal beyond r)
-later-reading beyond (Ok t) fault e = later-check (least_fault (program_faults t.program)) (script_refusal beyond (length t.program.states) t.script) fault e
+later-reading beyond (Ok t) fault e = later-check (least_fault (program_faults t.program)) (script_refusal false t.program.states beyond t.script) fault e
 later-reading beyond (Err (form.Form at)) fault e = later-bad (record { kind = Form; at = at }) fault refl e
 later-reading beyond (Err (form.Limit at)) fault e = later-bad (record { kind = Limit; at = at }) fault refl e
 later-reading beyond (Err form.NoMemory) fault e = absurd cc
@@ -105,6 +108,7 @@ later-at bytes Unknown at e h = h
 later-at bytes Order at e h = h
 later-at bytes «Type» at e h = h
 later-at bytes Remember at e h = h
+later-at bytes Actor at e h = h
 
 -- The refusal of a refused forest, as the parser computes it.
 pub refused_is : (bytes : List ℕ) (fault : Fault) (h : IsRefused bytes fault) → refusal (length bytes) h.forest ≡ Some (Bad fault)
@@ -137,6 +141,7 @@ module _ {T : Type 0} (bytes : List ℕ) (r : Result T TextStop) (told : (s : Te
   stopped-at t is never Order at h = unread t _ never h
   stopped-at t is never «Type» at h = unread t _ never h
   stopped-at t is never Remember at h = unread t _ never h
+  stopped-at t is never Actor at h = unread t _ never h
 
   -- If the tree parser stopped, any fault is the one that it reports, unless it is out of memory.
   pub stopped : (t : TextStop) → r ≡ Err t → (t ≢ stop.NoMemory → (f : Forest) → Spells bytes f → nesting f ≤ 100 → ⊥) → (fault : Fault) → IsFault bytes fault →
@@ -154,6 +159,7 @@ module _ {T : Type 0} (bytes : List ℕ) (r : Result T TextStop) (told : (s : Te
   read-at x is Order at h = h
   read-at x is «Type» at h = h
   read-at x is Remember at h = h
+  read-at x is Actor at h = h
 
   -- If the bytes were parsed into trees, any fault is that of their forest.
   pub read-fault : (x : T) → r ≡ Ok x → (f : Forest) → Spells bytes f → (fault : Fault) → IsFault bytes fault → refusal (length bytes) f ≡ Some (Bad fault)

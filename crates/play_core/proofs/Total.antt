@@ -1,5 +1,5 @@
 -- Bytes are a source text or have a fault.
-use Rattle.std.proofs.Common.{◌≡◌, ◌≢◌, ◌⊎◌, ◌≤◌, ◌∙◌, ◌-◌, ℕ, List, [], ◌∷◌, ◌++◌, Bool, true, false, cond, nat_lt, Option, Some, None, Ok, Err, refl, ap, inl, inr, length}
+use Rattle.std.proofs.Common.{◌≡◌, ◌≢◌, ◌⊎◌, ◌≤◌, ◌∙◌, ℕ, List, Bool, true, false, Option, Some, None, Ok, Err, refl, ap, inl, inr, length}
 use Rattle.std.specs.declared.result.Result.{Result}
 use Rattle.std.specs.Option.{option_map}
 use Rattle.std.specs.Str.{is_utf8}
@@ -15,9 +15,6 @@ use Rattle.lang_limits.specs.LeastOffset.{least}
 use Rattle.lang_limits.specs.Tokens.{oversized_script_offsets}
 use Rattle.lang_forms.specs.Sources.{Source}
 use Rattle.lang_forms.specs.TextAnswers.{text_answer, answered, unless_beyond}
-use Rattle.lang_forms.specs.declared.script_forms.StepForm.{StepForm}
-use Rattle.lang_forms.specs.declared.script_forms.StepForm.TheVariants as step
-use Rattle.lang_forms.specs.declared.script_forms.DoForm.{DoForm}
 use Rattle.lang_forms.specs.declared.stop.FormStop.{FormStop}
 use Rattle.lang_forms.specs.declared.stop.FormStop.TheVariants as form
 use Rattle.lang_forms.proofs.Limits.{forms_answer, small_answers}
@@ -26,80 +23,20 @@ use Rattle.lang_checks.specs.ProgramFaults.{program_faults}
 use Rattle.lang_checks.specs.declared.faults.ProgramFault as checks
 use Rattle.lang_checks.specs.declared.checks.CheckStop.TheVariants as check
 use Rattle.lang_checks.proofs.Least.{no_answer}
-use Rattle.script_lang.specs.Scripts.{oversized, long_form, long_forms, unknown_step, unknown_steps, unknown_forms, script_faults, goes_before, first_fault, first_of_faults, script_refusal}
-use Rattle.script_lang.specs.declared.script.ScriptStop.{ScriptStop}
-use Rattle.script_lang.specs.declared.script.ScriptStop.TheVariants as script
+use Rattle.script_lang.specs.ScriptFaults.{script_refusal}
+use Rattle.script_lang.specs.declared.faults.ScriptStop.{ScriptStop}
+use Rattle.script_lang.specs.declared.faults.ScriptStop.TheVariants as script
 use Rattle.play_core.specs.StageFaults.{check_fault, check_end, script_end}
 use Rattle.play_core.specs.Faults.{IsFault, or_else, reading_refusal}
 use Rattle.play_core.specs.ParserRefusal.{refusal}
 use Rattle.play_core.specs.Texts.{IsText}
 use Rattle.play_core.specs.declared.fault.Fault.{Fault}
 use Rattle.play_core.specs.declared.text.TextEnd.TheVariants.{Bad}
-use Rattle.play_core.specs.declared.fault.FaultKind.TheVariants.{Utf8, Text, Deep, Form, Limit, Unknown}
+use Rattle.play_core.specs.declared.fault.FaultKind.TheVariants.{Utf8, Text, Deep, Form, Limit, Unknown, «Type», Actor}
+use Rattle.play_core.proofs.KnownFaults.{known_refusal}
 use Rattle.play_core.proofs.Parses.{parsed}
 use Rattle.play_core.proofs.Refusals.{refused-fault}
 use Rattle.play_core.proofs.Uniques.{is_text}
-
--- No fault of a script is out of memory.
-AreKnown : List ScriptStop → Type 0
-AreKnown [] = Unit {0}
-AreKnown (f ∷ fs) = (f ≢ script.NoMemory) × AreKnown fs
-
-known-append : (xs ys : List ScriptStop) → AreKnown xs → AreKnown ys → AreKnown (xs ++ ys)
-unfolding AreKnown
-known-append [] ys h k = k
-known-append (x ∷ xs) ys h k = (h.0, known-append xs ys h.1 k)
-
-known-oversized : (o : Option ℕ) → AreKnown (oversized o)
-unfolding AreKnown
-known-oversized None = tt
-known-oversized (Some at) = ((λ e. absurd cc), tt)
-
-one-or-none : (b : Bool) (f : ScriptStop) → f ≢ script.NoMemory → AreKnown (cond b (f ∷ []) []) × AreKnown (cond b [] (f ∷ []))
-unfolding AreKnown
-one-or-none true f h = ((h, tt), tt)
-one-or-none false f h = (tt, (h, tt))
-
-known-long : (room : ℕ) (forms : List DoForm) → AreKnown (long_forms room forms)
-unfolding AreKnown
-known-long room [] = tt
-known-long room (d ∷ more) = known-append (long_form room d) (long_forms (room - length d.steps) more) (one-or-none (nat_lt room (length d.steps)) (script.Limit d.at) (λ e. absurd cc)).0 (known-long (room - length d.steps) more)
-
-known-step : (n : ℕ) (s : StepForm) → AreKnown (unknown_step n s)
-unfolding AreKnown
-known-step n (step.Write at name number v) = (one-or-none (nat_lt number n) (script.Unknown at) (λ e. absurd cc)).1
-known-step n (step.Frame at) = tt
-
-known-steps : (n : ℕ) (ss : List StepForm) → AreKnown (unknown_steps n ss)
-unfolding AreKnown
-known-steps n [] = tt
-known-steps n (s ∷ more) = known-append (unknown_step n s) _ (known-step n s) (known-steps n more)
-
-known-forms : (n : ℕ) (forms : List DoForm) → AreKnown (unknown_forms n forms)
-unfolding AreKnown
-known-forms n [] = tt
-known-forms n (d ∷ more) = known-append (unknown_steps n d.steps) _ (known-steps n d.steps) (known-forms n more)
-
-known-first : (g f : ScriptStop) → g ≢ script.NoMemory → f ≢ script.NoMemory → first_fault (Some g) f ≢ Some script.NoMemory
-unfolding first_fault
-known-first g f h k = by (goes_before f g)
-  where
-    by : (b : Bool) → cond b (Some f) (Some g) ≢ Some script.NoMemory
-    by true e = k cc
-    by false e = h cc
-
-known-all : (o : Option ScriptStop) (fs : List ScriptStop) → o ≢ Some script.NoMemory → AreKnown fs → first_of_faults o fs ≢ Some script.NoMemory
-unfolding AreKnown first_fault
-known-all o [] h k = h
-known-all o (f ∷ fs) h k = known-all (first_fault o f) fs (one o h) k.1
-  where
-    one : (p : Option ScriptStop) → p ≢ Some script.NoMemory → first_fault p f ≢ Some script.NoMemory
-    one None i e = k.0 cc
-    one (Some g) i e = known-first g f (λ is. i (ap (λ x. Some x) is)) k.0 e
-
-known-refusal : (beyond : Option ℕ) (n : ℕ) (forms : List DoForm) → script_refusal beyond n forms ≢ Some script.NoMemory
-known-refusal beyond n forms =
-    known-all None (script_faults beyond n forms) (λ e. absurd cc) (known-append (oversized beyond) _ (known-oversized beyond) (known-append (long_forms _ forms) _ (known-long _ forms) (known-forms n forms)))
 
 abbrev Answer : List ℕ → Type 0
 Answer bytes = ((t : Source) × IsText bytes t) ⊎ ((fault : Fault) × IsFault bytes fault)
@@ -125,26 +62,28 @@ module _ (bytes : List ℕ) (f : Forest) (spelled : Spells bytes f) (shallow : n
 
   -- The script's part of a refusal, if the program has no fault.
   later : (t : Source) → text_answer (length bytes) f ≡ Ok t → least_fault (program_faults t.program) ≡ None → (p : Option ScriptStop) →
-      script_refusal beyond (length t.program.states) t.script ≡ p → refusal (length bytes) f ≡ option_map script_end p
+      script_refusal false t.program.states beyond t.script ≡ p → refusal (length bytes) f ≡ option_map script_end p
   later t e h p k =
       ap (reading_refusal beyond) e
-      ∙ ap (λ o. or_else (option_map (λ x. check_end (check.ProgramFault x)) o) (option_map script_end (script_refusal beyond (length t.program.states) t.script))) h
+      ∙ ap (λ o. or_else (option_map (λ x. check_end (check.ProgramFault x)) o) (option_map script_end (script_refusal false t.program.states beyond t.script))) h
       ∙ ap (option_map script_end) k
 
   rejected : (fault : Fault) → refusal (length bytes) f ≡ Some (Bad fault) → Answer bytes
   rejected fault e = inr (fault, refused-fault bytes f fault spelled shallow e)
 
   checked : (t : Source) → text_answer (length bytes) f ≡ Ok t → (o : Option checks.ProgramFault) → least_fault (program_faults t.program) ≡ o →
-      (p : Option ScriptStop) → script_refusal beyond (length t.program.states) t.script ≡ p → Answer bytes
-  checked t e (Some g) h p k = rejected (check_fault g) (ap (reading_refusal beyond) e ∙ ap (λ o. or_else (option_map (λ x. check_end (check.ProgramFault x)) o) (option_map script_end (script_refusal beyond (length t.program.states) t.script))) h)
+      (p : Option ScriptStop) → script_refusal false t.program.states beyond t.script ≡ p → Answer bytes
+  checked t e (Some g) h p k = rejected (check_fault g) (ap (reading_refusal beyond) e ∙ ap (λ o. or_else (option_map (λ x. check_end (check.ProgramFault x)) o) (option_map script_end (script_refusal false t.program.states beyond t.script))) h)
   checked t e None h None k =
       inl (t, is_text bytes f t beyond spelled shallow (forms_answer (λ s. s) (length bytes) f (Ok t) e) (small_answers (λ s. s) (length bytes) f (Ok t) e) refl (no_answer _ h) k)
   checked t e None h (Some (script.Limit at)) k = rejected (record { kind = Limit; at = at }) (later t e h (Some (script.Limit at)) k)
   checked t e None h (Some (script.Unknown at)) k = rejected (record { kind = Unknown; at = at }) (later t e h (Some (script.Unknown at)) k)
-  checked t e None h (Some script.NoMemory) k = absurd (known-refusal beyond (length t.program.states) t.script k)
+  checked t e None h (Some (script.Type at)) k = rejected (record { kind = «Type»; at = at }) (later t e h (Some (script.Type at)) k)
+  checked t e None h (Some (script.Actor at)) k = rejected (record { kind = Actor; at = at }) (later t e h (Some (script.Actor at)) k)
+  checked t e None h (Some script.NoMemory) k = absurd (known_refusal t.program.states beyond t.script k)
 
   by-forms : (r : Result Source FormStop) → text_answer (length bytes) f ≡ r → Answer bytes
-  by-forms (Ok t) e = checked t e (least_fault (program_faults t.program)) refl (script_refusal beyond (length t.program.states) t.script) refl
+  by-forms (Ok t) e = checked t e (least_fault (program_faults t.program)) refl (script_refusal false t.program.states beyond t.script) refl
   by-forms (Err (form.Form at)) e = rejected (record { kind = Form; at = at }) (ap (reading_refusal beyond) e)
   by-forms (Err (form.Limit at)) e = rejected (record { kind = Limit; at = at }) (ap (reading_refusal beyond) e)
   by-forms (Err form.NoMemory) e = absurd (never f _ e)

@@ -8,7 +8,7 @@ use Rattle.sexp_text.specs.declared.tree.Tree.{Tree}
 use Rattle.sexp_text.proofs.Trees.{behind_assoc}
 use Rattle.lang_forms.specs.Sources.{Source}
 use Rattle.lang_forms.specs.Forms.{text_forms}
-use Rattle.lang_forms.proofs.Written.{fits_unplaced}
+use Rattle.lang_write.proofs.Written.{fits_unplaced}
 use Rattle.play_core.specs.Texts.{IsText, check_output}
 use Rattle.play_core.proofs.Uniques.{text-forms}
 

@@ -1,5 +1,5 @@
 -- Bytes are the source text of at most one program with its script, and a source text is not rejected.
-use Rattle.std.proofs.Common.{◌≡◌, ◌≤◌, ℕ, List, [], ◌∷◌, ◌++◌, Option, Some, None, Ok, refl, sym, ◌∙◌, subst, ap, length, map, slice_get, inl, inr}
+use Rattle.std.proofs.Common.{◌≡◌, ◌≤◌, ℕ, List, [], ◌∷◌, ◌++◌, false, Option, Some, None, Ok, refl, sym, ◌∙◌, subst, ap, length, map, slice_get, inl, inr}
 use Rattle.std.specs.Option.{option_map}
 use Rattle.std.proofs.lemmas.Option.{slice_get_cases}
 use Rattle.std.proofs.lemmas.List.{length-map}
@@ -13,7 +13,8 @@ use Rattle.lang_limits.specs.Sizes.{most_forms, program_limits, program_sizes, f
 use Rattle.lang_limits.specs.Clamped.{within}
 use Rattle.lang_limits.proofs.Copies.{within_stays}
 use Rattle.lang_limits.proofs.Lesser.{no_least}
-use Rattle.lang_forms.specs.declared.script_forms.DoForm.{DoForm}
+use Rattle.lang_ast.specs.declared.script.DoForm.{DoForm}
+use Rattle.lang_ast.specs.declared.program.State.{State}
 use Rattle.lang_forms.specs.TextAnswers.{text_answer, answered, unless_beyond}
 use Rattle.lang_forms.specs.Readings.{seen}
 use Rattle.lang_forms.specs.TextReading.{source_of}
@@ -24,8 +25,8 @@ use Rattle.lang_forms.proofs.TextHasForms.{ok_same}
 use Rattle.lang_checks.specs.FaultOrder.{least_fault}
 use Rattle.lang_checks.specs.ProgramFaults.{program_faults}
 use Rattle.lang_checks.specs.declared.checks.CheckStop.TheVariants as check
-use Rattle.script_lang.specs.Scripts.{script_faults, script_refusal, first_of_faults}
-use Rattle.script_lang.proofs.Faults.{no_fault}
+use Rattle.script_lang.specs.ScriptFaults.{script_faults, script_refusal, first_of_faults}
+use Rattle.script_lang.proofs.FirstFault.{no_fault}
 use Rattle.play_core.specs.StageFaults.{check_end, script_end}
 use Rattle.play_core.specs.Faults.{or_else, source_refusal, reading_refusal}
 use Rattle.play_core.specs.ParserRefusal.{refusal}
@@ -55,11 +56,11 @@ read-as end f t forms small brief =
     ∙ ap (answered f) (text_read end f t forms)
     ∙ ap (λ places. unless_beyond (least places) t) small
 
-fine-forest : (end : ℕ) (f : Forest) (t : Source) → HasForms f t → program_limits f t.program ≡ [] → oversized_script_offsets f ≡ [] → program_faults t.program ≡ [] → script_faults None (length t.program.states) t.script ≡ [] → refusal end f ≡ None
+fine-forest : (end : ℕ) (f : Forest) (t : Source) → HasForms f t → program_limits f t.program ≡ [] → oversized_script_offsets f ≡ [] → program_faults t.program ≡ [] → script_faults false t.program.states None t.script ≡ [] → refusal end f ≡ None
 fine-forest end f t forms small brief sound runs =
     ap (reading_refusal (least (oversized_script_offsets f))) (read-as end f t forms small brief)
     ∙ ap (λ places. source_refusal (least places) t) brief
-    ∙ ap (λ fs. or_else (option_map (λ g. check_end (check.ProgramFault g)) (least_fault fs)) (option_map script_end (script_refusal None (length t.program.states) t.script))) sound
+    ∙ ap (λ fs. or_else (option_map (λ g. check_end (check.ProgramFault g)) (least_fault fs)) (option_map script_end (script_refusal false t.program.states None t.script))) sound
     ∙ ap (λ fs. option_map script_end (first_of_faults None fs)) runs
 
 -- A source text is not rejected.
@@ -67,16 +68,16 @@ text-fine : (bytes : List ℕ) (f : Forest) (t : Source) → Spells bytes f → 
 text-fine bytes f t s h = subst (λ g. refusal (length bytes) g ≡ None) (spells_one bytes h.forest f h.spelled s) (fine-forest (length bytes) h.forest t h.forms h.small h.brief h.sound h.runs)
 
 -- In a script without faults no token exceeds its limit.
-none-beyond : (beyond : Option ℕ) (n : ℕ) (forms : List DoForm) → script_faults beyond n forms ≡ [] → beyond ≡ None
-none-beyond None n forms h = refl
-none-beyond (Some at) n forms h = absurd cc
+none-beyond : (beyond : Option ℕ) (states : List State) (forms : List DoForm) → script_faults false states beyond forms ≡ [] → beyond ≡ None
+none-beyond None states forms h = refl
+none-beyond (Some at) states forms h = absurd cc
 
 -- A parsed text that keeps the limits and has no fault is the source text of the bytes.
 pub is_text : (bytes : List ℕ) (f : Forest) (t : Source) (told : Option ℕ) → Spells bytes f → nesting f ≤ 100 → HasForms (within f) t → program_limits f t.program ≡ [] → told ≡ least (oversized_script_offsets f) →
-    program_faults t.program ≡ [] → script_refusal told (length t.program.states) t.script ≡ None → IsText bytes t
+    program_faults t.program ≡ [] → script_refusal false t.program.states told t.script ≡ None → IsText bytes t
 is_text bytes f t told spelled shallow forms small beyond_is sound runs =
-    let faults = no_fault (script_faults told (length t.program.states) t.script) runs in
-    let none = none-beyond told (length t.program.states) t.script faults in
+    let faults = no_fault (script_faults false t.program.states told t.script) runs in
+    let none = none-beyond told t.program.states t.script faults in
     let brief = no_least (oversized_script_offsets f) (sym beyond_is ∙ none) in
     record {
       forest = f;
@@ -86,7 +87,7 @@ is_text bytes f t told spelled shallow forms small beyond_is sound runs =
       small = small;
       brief = brief;
       sound = sound;
-      runs = subst (λ o. script_faults o (length t.program.states) t.script ≡ []) none faults;
+      runs = subst (λ o. script_faults false t.program.states o t.script ≡ []) none faults;
     }
 
 -- If there is no item at an index, the list is not longer.

@@ -1,5 +1,5 @@
 -- Trusted: Why bytes are rejected, and the line that reports it.
-use Rattle.std.specs.Prelude.{◌≡◌, ◌≤◌, ℕ, List, ◌++◌, length, codes, Some, None, Result, Ok, Err}
+use Rattle.std.specs.Prelude.{◌≡◌, ◌≤◌, ℕ, List, ◌++◌, false, length, codes, Some, None, Result, Ok, Err}
 use Rattle.std.specs.Fmt.{decimal}
 use Rattle.std.specs.declared.option.Option.{Option}
 use Rattle.std.specs.Option.{option_map}
@@ -15,7 +15,7 @@ use Rattle.lang_forms.specs.FirstWrong.{IsAnswerFor}
 use Rattle.lang_forms.specs.declared.stop.FormStop.{FormStop}
 use Rattle.lang_checks.specs.FaultOrder.{least_fault}
 use Rattle.lang_checks.specs.ProgramFaults.{program_faults}
-use Rattle.script_lang.specs.Scripts.{script_refusal}
+use Rattle.script_lang.specs.ScriptFaults.{script_refusal}
 use Rattle.script_lang.specs.Lines.{line}
 use Rattle.play_args.specs.declared.command.Command.{Command}
 use Rattle.play_core.specs.StageFaults.{form_end, check_end, script_end}
@@ -23,7 +23,7 @@ use Rattle.play_core.specs.Texts.{IsText, IsOutput}
 use Rattle.lang_checks.specs.declared.checks.CheckStop.TheVariants as check
 use Rattle.play_core.specs.declared.fault.Fault.{Fault}
 use Rattle.play_core.specs.declared.fault.FaultKind.{FaultKind}
-use Rattle.play_core.specs.declared.fault.FaultKind.TheVariants.{Utf8, Text, Deep, Form, Limit, Double, Unknown, Order, «Type», Remember}
+use Rattle.play_core.specs.declared.fault.FaultKind.TheVariants.{Utf8, Text, Deep, Form, Limit, Double, Unknown, Order, «Type», Remember, Actor}
 use Rattle.play_core.specs.declared.text.TextEnd.{TextEnd}
 use Rattle.play_core.specs.declared.text.TextEnd.TheVariants as end
 
@@ -32,18 +32,18 @@ abbrev pub or_else : {A : Type 0} → Option A → Option A → Option A
 or_else None other = other
 or_else (Some a) other = Some a
 
--- Why a program with a script is rejected: the first fault of the program, else that of the script. `beyond` is the
--- offset of the first token of the script that exceeds its limit.
+-- Why a program with a script is rejected: the first fault of the program, else that of the script. `first_oversized` is
+-- the offset of the first token of the script that exceeds its limit.
 abbrev pub source_refusal : Option ℕ → Source → Option TextEnd
-source_refusal beyond t =
+source_refusal first_oversized t =
     or_else (option_map (λ f. check_end (check.ProgramFault f)) (least_fault (program_faults t.program)))
-    (option_map script_end (script_refusal beyond (length t.program.states) t.script))
+    (option_map script_end (script_refusal false t.program.states first_oversized t.script))
 
 -- Why parsed forms are rejected: they are not those of a program with a script, the program exceeds a limit, or the
 -- two have a fault.
 abbrev pub reading_refusal : Option ℕ → Result Source FormStop → Option TextEnd
-reading_refusal beyond (Ok t) = source_refusal beyond t
-reading_refusal beyond (Err stop) = Some (form_end stop)
+reading_refusal first_oversized (Ok t) = source_refusal first_oversized t
+reading_refusal first_oversized (Err stop) = Some (form_end stop)
 
 -- The bytes spell lists at most 100 deep, which are rejected with this fault.
 pub record IsRefused (bytes : List ℕ) (fault : Fault) : Type 0 where
@@ -76,6 +76,7 @@ kind_word Unknown = codes "unknown"
 kind_word Order = codes "order"
 kind_word «Type» = codes "type"
 kind_word Remember = codes "remember"
+kind_word Actor = codes "actor"
 
 -- The line of a fault.
 abbrev pub fault_line : Fault → List ℕ

@@ -8,11 +8,11 @@ use Rattle.lang_checks.specs.declared.faults.CheckKind.TheVariants as kind
 use Rattle.lang_checks.specs.declared.faults.ProgramFault as checks
 use Rattle.lang_checks.specs.declared.checks.CheckStop.{CheckStop}
 use Rattle.lang_checks.specs.declared.checks.CheckStop.TheVariants as check
-use Rattle.script_lang.specs.declared.script.ScriptStop.{ScriptStop}
-use Rattle.script_lang.specs.declared.script.ScriptStop.TheVariants as script
+use Rattle.script_lang.specs.declared.faults.ScriptStop.{ScriptStop}
+use Rattle.script_lang.specs.declared.faults.ScriptStop.TheVariants as script
 use Rattle.play_core.specs.declared.fault.Fault.{Fault}
 use Rattle.play_core.specs.declared.fault.FaultKind.{FaultKind}
-use Rattle.play_core.specs.declared.fault.FaultKind.TheVariants.{Utf8, Text, Deep, Form, Limit, Double, Unknown, Order, «Type», Remember}
+use Rattle.play_core.specs.declared.fault.FaultKind.TheVariants.{Utf8, Text, Deep, Form, Limit, Double, Unknown, Order, «Type», Remember, Actor}
 use Rattle.play_core.specs.declared.text.TextEnd.{TextEnd}
 use Rattle.play_core.specs.declared.text.TextEnd.TheVariants.{Bad, NoMemory}
 
@@ -48,4 +48,6 @@ check_end check.NoMemory = NoMemory
 abbrev pub script_end : ScriptStop → TextEnd
 script_end (script.Limit at) = Bad (record { kind = Limit; at = at })
 script_end (script.Unknown at) = Bad (record { kind = Unknown; at = at })
+script_end (script.Type at) = Bad (record { kind = «Type»; at = at })
+script_end (script.Actor at) = Bad (record { kind = Actor; at = at })
 script_end script.NoMemory = NoMemory

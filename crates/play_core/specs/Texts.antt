@@ -1,5 +1,5 @@
 -- Trusted: The source texts of programs with scripts, and the output of each command on a source text.
-use Rattle.std.specs.Prelude.{◌≡◌, ◌≤◌, ℕ, List, [], length, Option, Some, None, codes}
+use Rattle.std.specs.Prelude.{◌≡◌, ◌≤◌, ℕ, List, [], false, length, Option, Some, None, codes}
 use Rattle.sexp_text.specs.Forest.{Forest, nesting}
 use Rattle.sexp_text.specs.Grammar.{Spells}
 use Rattle.sexp_text.specs.Layout.{lines}
@@ -10,10 +10,12 @@ use Rattle.lang_forms.specs.Sources.{Source}
 use Rattle.lang_forms.specs.Forms.{HasForms, text_forms}
 use Rattle.lang_forms.specs.Sketch.{unplaced_sketch}
 use Rattle.lang_checks.specs.ProgramFaults.{program_faults}
-use Rattle.script_lang.specs.Scripts.{actors_of, all_steps, script_faults}
+use Rattle.script_lang.specs.Scripts.{actors_of}
+use Rattle.script_lang.specs.ScriptFaults.{script_faults}
+use Rattle.script_lang.specs.StepCalls.{script_parts}
 use Rattle.script_lang.specs.Lines.{Titles, functions_of, line, run_text}
-use Rattle.script_lang.specs.declared.script.Step.{Step}
 use Rattle.lang_ast.specs.declared.program.State.{State}
+use Rattle.lang_ast.specs.declared.script.DoForm.{DoForm}
 use Rattle.lang_ast.specs.Terms.{Func}
 use Rattle.play_args.specs.declared.command.Command.{Command}
 use Rattle.play_args.specs.declared.command.Command.TheVariants.{Run, Check}
@@ -29,14 +31,14 @@ pub record IsText (bytes : List ℕ) (t : Source) : Type 0 where
   pub small : program_limits forest t.program ≡ []
   pub brief : oversized_script_offsets forest ≡ []
   pub sound : program_faults t.program ≡ []
-  pub runs : script_faults None (length t.program.states) t.script ≡ []
+  pub runs : script_faults false t.program.states None t.script ≡ []
 
 abbrev pub titles : Source → Titles
 titles t = record { states = t.program.states; actors = actors_of t.script }
 
--- The output of `run`: the lines of the history that the steps make in the plain world.
+-- The output of `run`: the lines of the history that the steps of all actors make in the plain world, in source order.
 unfoldable pub run_output : Source → List ℕ
-run_output t = run_text (titles t) t.program.functions (all_steps t.script)
+run_output t = run_text (titles t) t.program.functions (script_parts (actors_of t.script) t.script)
 
 -- The output of `check`: the trees of the forms of the program and the script, one a line.
 unfoldable pub check_output : Source → List ℕ
@@ -56,15 +58,15 @@ usage_line = line (codes "usage: compose_play run|threads [--json] [--ops] | che
 abbrev pub long_line : List ℕ
 long_line = line (codes "too long")
 
--- The states, functions, actors and steps in memory are those of the source text.
+-- The states, functions, actors and `do` forms in memory are those of the source text.
 pub record IsRead (bytes : List ℕ) (states : List State) (functions : List Func) (actors : List (List ℕ))
-    (steps : List Step) : Type 0 where
+    (forms : List DoForm) : Type 0 where
   pub source : Source
   pub text : IsText bytes source
   pub states_are : states ≡ source.program.states
   pub functions_are : functions ≡ source.program.functions
   pub actors_are : actors ≡ actors_of source.script
-  pub steps_are : steps ≡ all_steps source.script
+  pub forms_are : forms ≡ source.script
   pub few_states : length states ≤ 256
 
 -- The input in memory is that of the bytes: they spell its trees, and its program and script are those of the source
@@ -72,7 +74,7 @@ pub record IsRead (bytes : List ℕ) (states : List State) (functions : List Fun
 pub record IsInput (bytes : List ℕ) (input : Input) : Type 0 where
   pub spelled : Spells bytes (forest_view input.trees.items)
   pub read : IsRead bytes input.job.program.states.items (functions_of input.job.program) input.job.script.actors.items
-      input.job.script.steps.items
+      input.job.script.forms.items
 
 -- The bytes are not a source text.
 abbrev pub IsNoText : List ℕ → Type 0

@@ -2,9 +2,9 @@
 ghost use Rattle.std.specs.Prelude.{◌≡◌, ◌≤◌, List, ℕ, Err};
 ghost use Rattle.sexp_text.specs.Layout.{lines};
 ghost use Rattle.sexp_text.specs.View.{forest_view};
-ghost use Rattle.play_core.specs.RunState.{WritesBytes, FaultsAfter};
+ghost use Rattle.play_run.specs.RunPromise.{WritesBytes, FaultsAfter};
 
-use crate::write_lines::{Stop, write_piece};
+use play_run::{Stop, write_piece};
 use rt_streams::Sink;
 use sexp_text::{Tree, print};
 use std::alloc::Global;

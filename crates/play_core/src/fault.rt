@@ -24,10 +24,12 @@ pub enum FaultKind {
     Unknown,
     /// A call names a later function, or a chain of calls is too long.
     Order,
-    /// A value has the wrong type.
+    /// A value has the wrong type, or a state a policy of another type.
     Type,
     /// A remembered value depends on something other than its keys.
     Remember,
+    /// With threads: an actor uses a name of another actor, or two actors have frames.
+    Actor,
 }
 
 /// Why an input is rejected, with the offset in bytes.
@@ -55,6 +57,7 @@ impl FaultKind {
             FaultKind::Order => b"order",
             FaultKind::Type => b"type",
             FaultKind::Remember => b"remember",
+            FaultKind::Actor => b"actor",
         }
     }
 }

@@ -1,6 +1,6 @@
 //! The program `compose_play` as a library. `play` reads a program with its script from a source. The command
-//! `run` makes the script's steps on a world of snapshots, composes each frame in its snapshot, and writes each
-//! line. The command `check` writes the canonical text of the input.
+//! `run` makes the steps of the script's actors on a world of snapshots, composes each frame in its snapshot, and writes
+//! each line. The command `check` writes the canonical text of the input.
 //!
 //! In Compose this is the work of `Recomposer` and its caller: take a frame's snapshot, compose the program in
 //! it, dispose it, and keep what the next frame owes. `compose_play` passes the world and the real streams.
@@ -9,16 +9,11 @@
 //! fault, or out of memory, what was written is a first part of this.
 #![tactic(auto)]
 
-mod calls;
 mod canonical;
 mod fault;
 mod fault_laws;
-mod frame;
-mod open;
-mod steps;
 mod text;
 mod top;
-mod write_lines;
 
 pub use fault_laws::{
     bytes_are_a_text_or_have_a_fault, bytes_have_one_fault, faulty_bytes_are_no_text,

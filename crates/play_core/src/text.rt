@@ -18,10 +18,11 @@ ghost use Rattle.play_core.specs.Faults.{IsFault};
 ghost use Rattle.play_core.specs.ParserRefusal.{refusal};
 
 use crate::fault::{Fault, FaultKind};
-use lang_ast::Program;
-use lang_checks::{CheckKind, CheckStop, Checked, check};
-use lang_forms::{FormStop, Rest};
-use script_lang::{Script, ScriptStop, script_of};
+use lang_ast::{Program, Rest};
+use lang_checks::{CheckKind, CheckStop, check};
+use lang_forms::FormStop;
+use play_run::Job;
+use script_lang::{ScriptStop, script_of};
 use sexp_text::{TextStop, Tree, read};
 use std::alloc::Global;
 
@@ -110,17 +111,12 @@ impl From<ScriptStop> for TextEnd {
         let (kind, at) = match stop {
             ScriptStop::Limit { at } => (FaultKind::Limit, at),
             ScriptStop::Unknown { at } => (FaultKind::Unknown, at),
+            ScriptStop::Type { at } => (FaultKind::Type, at),
+            ScriptStop::Actor { at } => (FaultKind::Actor, at),
             ScriptStop::NoMemory => return TextEnd::NoMemory,
         };
         TextEnd::Bad(Fault { kind, at })
     }
-}
-
-/// A checked program with its script.
-#[derive(Drop)]
-pub struct Job {
-    pub program: Checked,
-    pub script: Script,
 }
 
 /// A parsed input: its trees, and the program and the script whose forms they are.
@@ -135,7 +131,7 @@ fn parse_trees(alloc: Global, trees: &[Tree], end: usize) -> Result<(Program, Re
     ensures read { Answers parsed_source_view result (text_answer end (forest_view trees.now)) }
     ensures forms { IfOk result (λ r. HasForms (within (forest_view trees.now)) (parsed_source_view r)) }
     ensures small { IfOk result (λ r. program_limits (forest_view trees.now) (program_view r.0) ≡ []) }
-    ensures beyond { IfOk result (λ r. r.1.beyond ≡ least (oversized_script_offsets (forest_view trees.now))) }
+    ensures first_oversized { IfOk result (λ r. r.1.first_oversized ≡ least (oversized_script_offsets (forest_view trees.now))) }
 {
     lang_forms::program(alloc, trees, end)
 }
@@ -150,7 +146,7 @@ fn parse_forms(alloc: Global, trees: Vec<Tree>, end: usize) -> Result<Input, Tex
 {
     let (program, rest) = parse_trees(alloc, &trees, end)?;
     let program = check(alloc, program)?;
-    let script = script_of(alloc, &rest, &program)?;
+    let script = script_of(alloc, rest, &program, false)?;
     Ok(Input {
         trees,
         job: Job { program, script },

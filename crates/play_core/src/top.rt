@@ -9,20 +9,15 @@ ghost use Rattle.play_core.specs.Texts.{IsText, IsInput, IsNoText, IsOutput, usa
 ghost use Rattle.play_core.specs.Faults.{IsFault, WritesPart, fault_line};
 ghost use Rattle.play_core.specs.Promise.{streams, CommandMeets, PlayMeets, LeavesWorld};
 ghost use Rattle.play_core.specs.declared.fault.Fault.{Fault as fault_data};
-ghost use Rattle.play_core.specs.StepOutput.{job_titles, job_functions};
-ghost use Rattle.play_core.specs.RunState.{WritesBytes, SaysOutput, FaultsAfter, run_status};
-ghost use Rattle.script_lang.specs.Lines.{run_text};
+ghost use Rattle.play_core.specs.CommandOutput.{SaysOutput, run_status};
+ghost use Rattle.play_run.specs.RunPromise.{FaultsAfter};
 
 use crate::canonical::write_canonical;
 use crate::fault::Fault;
-use crate::frame::Room;
-use crate::open::set_up_world;
-use crate::steps::run_steps;
-use crate::text::{Input, Job, TextEnd, parse_input};
-use crate::write_lines::Stop;
+use crate::text::{Input, TextEnd, parse_input};
 use play_args::{Command, parse_args};
+use play_run::{Stop, run_script};
 use rt_streams::{Gate, ReadStop, Sink, Source, read_all, write_all};
-use rt_values::Objects;
 use snap_api::Versions;
 use snap_policy::BuiltIn;
 use std::alloc::Global;
@@ -64,29 +59,6 @@ fn write_status_line<K: Sink>(sink: &mut K, line: &[u8], status: Status) -> Stat
         Ok(()) => status,
         Err(_) => Status::WriteFault,
     }
-}
-
-// Runs the steps of a job's script in a new world.
-fn run_script<V: Versions<P = BuiltIn>, K: Sink>(
-    alloc: Global,
-    job: &Job,
-    world: &mut V,
-    sink: &mut K,
-) -> Result<(), Stop>
-    requires start { V.stands world.old (start 0) }
-    requires few { length job.now.program.states.items ≤ 256 }
-    ensures says { let bytes = run_text (job_titles job.now) (job_functions job.now) job.now.script.steps.items in
-        WritesBytes (K.written sink.old) (K.written sink.new) bytes result }
-    ensures faults { FaultsAfter (K.faults sink.old) (K.faults sink.new) result }
-{
-    let Ok(mut kept) = set_up_world(alloc, &job.program, world) else {
-        return Err(Stop::NoMemory);
-    };
-    let mut room = Room {
-        text: Vec::new(alloc),
-        reads: Objects::new(alloc),
-    };
-    run_steps(alloc, job, world, &mut kept, &mut room, sink)
 }
 
 // Writes the one line of a fault.

@@ -1,3 +1,7 @@
 pub mod Texts
 pub mod Trees
-pub mod Faults
+pub mod FirstFault
+pub mod Capped
+pub mod HashedNames
+pub mod Scans
+pub mod Sequential

@@ -1,4 +1,9 @@
+pub mod SnapshotNames
 pub mod Scripts
+pub mod ScriptFaults
 pub mod StepCalls
+pub mod StepLaws
+pub mod NamesInMemory
+pub mod NameScans
 pub mod Lines
 pub mod GroupLines

@@ -1,6 +1,6 @@
 -- Trusted: The lines that are printed of a history: one for each call, and the report and the tree after the dispose
 -- of a frame's snapshot.
-use Rattle.std.specs.Prelude.{ℕ, zero, suc, ◌+◌, ◌-◌, ◌^◌, ◌==◌, not, List, [], ◌∷◌, ◌++◌, Bool, true, false, codes, Option, Some, None, if◌then◌else◌, slice_get}
+use Rattle.std.specs.Prelude.{ℕ, zero, suc, ◌+◌, ◌==◌, not, List, [], ◌∷◌, ◌++◌, Bool, true, false, codes, Option, Some, None, if◌then◌else◌, slice_get}
 use Rattle.std.specs.List.{flat_map, filter}
 use Rattle.std.specs.Option.{option_map_or}
 use Rattle.std.specs.Fmt.{decimal}
@@ -30,9 +30,9 @@ use Rattle.snap_api.specs.declared.data.Refusal.{Refusal}
 use Rattle.snap_api.specs.declared.data.Refusal.TheVariants as refusal
 use Rattle.snap_api.specs.declared.data.Entry.{Entry}
 use Rattle.snap_api.specs.World.{World, History, call, snapshot_of}
-use Rattle.script_lang.specs.declared.script.Step.{Step}
-use Rattle.script_lang.specs.declared.script.Script.{Script}
-use Rattle.script_lang.specs.StepCalls.{opening_world, sequential}
+use Rattle.script_lang.specs.declared.scripts.Script.{Script}
+use Rattle.script_lang.specs.SnapshotNames.{never_taken}
+use Rattle.script_lang.specs.StepCalls.{ActorPart, no_notes, opening_world, sequential}
 
 -- The names in lines: those of the states and those of the actors, by number.
 pub record Titles : Type 0 where
@@ -64,9 +64,6 @@ state_names states [] = []
 state_names states (x ∷ xs) = 32 ∷ state_name states x ++ state_names states xs
 
 -- A snapshot is printed as @ and its number, or as @- for a number that is never assigned.
-abbrev pub never_taken : ℕ
-never_taken = 2 ^ 64 - 1
-
 abbrev pub snapshot : ℕ → List ℕ
 snapshot name = if name == never_taken then codes "@-" else 64 ∷ decimal name
 
@@ -112,9 +109,13 @@ reply_text t reply.Applied = codes "applied"
 reply_text t reply.Disposed = codes "disposed"
 reply_text t (reply.Refused r) = refusal_text t r
 
+-- The first part of the line of a call: ACTOR: REQUEST =, and a blank.
+abbrev pub call_text : Titles → ℕ → Request → List ℕ
+call_text t caller q = actor_name t.actors caller ++ codes ": " ++ request_text t.states q ++ codes " = "
+
 -- The line of a call: ACTOR: REQUEST = REPLY.
 abbrev pub entry_line : Titles → Entry → List ℕ
-entry_line t e = line (actor_name t.actors e.caller ++ codes ": " ++ request_text t.states e.request ++ codes " = " ++ reply_text t e.reply)
+entry_line t e = line (call_text t e.caller e.request ++ reply_text t e.reply)
 
 -- A word and a number.
 unfoldable pub count_text : List ℕ → ℕ → List ℕ
@@ -211,5 +212,6 @@ abbrev pub initial_standing : List State → Standing
 initial_standing states = record { world = opening_world states; kept = no_last_frame; frames = [] }
 
 -- All that a run prints: the lines of the history that the steps make one after the other.
-unfoldable pub run_text : Titles → List Func → List Step → List ℕ
-run_text t functions steps = flat_map (λ l. l) (lines t functions (initial_standing t.states) (sequential (opening_world t.states) steps))
+unfoldable pub run_text : Titles → List Func → List ActorPart → List ℕ
+run_text t functions parts =
+    flat_map (λ l. l) (lines t functions (initial_standing t.states) (sequential (opening_world t.states) no_notes parts))

@@ -1,85 +1,66 @@
--- Trusted: The script that do forms represent, and the faults of scripts.
-use Rattle.std.specs.Prelude.{ℕ, ◌-◌, List, [], ◌∷◌, ◌++◌, nat_lt, Bool, true, false, map, length, Option, Some, None, if◌then◌else◌}
-use Rattle.lang_forms.specs.declared.script_forms.StepForm.{StepForm}
-use Rattle.lang_forms.specs.declared.script_forms.StepForm.TheVariants as form
-use Rattle.lang_forms.specs.declared.script_forms.DoForm.{DoForm}
-use Rattle.script_lang.specs.declared.script.Step.{Step}
-use Rattle.script_lang.specs.declared.script.Step.TheVariants.{Write, Frame}
-use Rattle.script_lang.specs.declared.script.ScriptStop.{ScriptStop}
-use Rattle.script_lang.specs.declared.script.ScriptStop.TheVariants.{Limit, Unknown}
+-- Trusted: the actors of a script, and its steps with the repeats written out.
+use Rattle.std.specs.Prelude.{ℕ, zero, suc, ◌+◌, ◌*◌, nat_lt, List, [], ◌∷◌, ◌++◌, Bool, length, ℤ, pos, negsuc, if◌then◌else◌}
+use Rattle.std.specs.Str.{bytes_eq}
+use Rattle.lang_ast.specs.declared.script.StepForm.{StepForm}
+use Rattle.lang_ast.specs.declared.script.StepForm.TheVariants.{Call, Frame, FrameDuring}
+use Rattle.lang_ast.specs.declared.script.ScriptForm.{ScriptForm}
+use Rattle.lang_ast.specs.declared.script.ScriptForm.TheVariants.{Once, Repeat}
+use Rattle.lang_ast.specs.declared.script.DoForm.{DoForm}
 
--- The names of the actors by number. All forms of a script have the actor of the first.
+-- The most actors of a script.
+abbrev pub most_actors : ℕ
+most_actors = 8
+
+-- The index of the first of these names that is `name`, or the number of names if there is none.
+abbrev pub index_of : List ℕ → List (List ℕ) → ℕ
+index_of name [] = 0
+index_of name (other ∷ more) = if bytes_eq other name then 0 else suc (index_of name more)
+
+-- Whether `name` is one of these names.
+abbrev pub is_among : List ℕ → List (List ℕ) → Bool
+is_among name names = nat_lt (index_of name names) (length names)
+
+-- The actors with a further one, unless it is among them or there are eight already.
+abbrev pub with_actor : List (List ℕ) → List ℕ → List (List ℕ)
+with_actor actors name =
+    if is_among name actors then actors else if nat_lt (length actors) most_actors then actors ++ name ∷ [] else actors
+
+-- The names of the first eight actors, by number: in the order in which they come first.
+abbrev pub actors_from : List (List ℕ) → List DoForm → List (List ℕ)
+actors_from actors [] = actors
+actors_from actors (d ∷ more) = actors_from (with_actor actors d.actor.text) more
+
 abbrev pub actors_of : List DoForm → List (List ℕ)
-actors_of [] = []
-actors_of (d ∷ more) = d.actor.text ∷ []
+actors_of forms = actors_from [] forms
 
-abbrev pub step_of : StepForm → Step
-step_of (form.Write at name number v) = Write name.text number v
-step_of (form.Frame at) = Frame
+-- How often the steps of a repeat are made.
+abbrev pub times_of : ℤ → ℕ
+times_of (pos n) = n
+times_of (negsuc n) = 0
 
-abbrev pub steps_of : List StepForm → List Step
-steps_of forms = map step_of forms
+-- Steps, so many times in a row.
+abbrev pub repeated : {A : Type 0} → ℕ → List A → List A
+repeated zero steps = []
+repeated (suc n) steps = steps ++ repeated n steps
 
--- The steps of all forms, in order.
-abbrev pub all_steps : List DoForm → List Step
-all_steps [] = []
-all_steps (d ∷ more) = steps_of d.steps ++ all_steps more
+-- The steps of an actor, with each repeat written out.
+abbrev pub written_out : List ScriptForm → List StepForm
+written_out [] = []
+written_out (Once s ∷ more) = s ∷ written_out more
+written_out (Repeat at times steps ∷ more) = repeated (times_of times) steps ++ written_out more
 
--- The greatest number of steps.
-abbrev pub most_steps : ℕ
-most_steps = 65536
+-- The number of steps that a step counts for: a frame and each of its inner steps count one each.
+abbrev pub step_count : StepForm → ℕ
+step_count (Call c) = 1
+step_count (Frame at) = 1
+step_count (FrameDuring at during) = 1 + length during
 
--- The fault of the first token of the script that exceeds its limit, if there is one.
-abbrev pub oversized : Option ℕ → List ScriptStop
-oversized None = []
-oversized (Some at) = Limit at ∷ []
+abbrev pub steps_count : List StepForm → ℕ
+steps_count [] = 0
+steps_count (s ∷ more) = step_count s + steps_count more
 
--- The fault of a form with more steps than may still come.
-abbrev pub long_form : ℕ → DoForm → List ScriptStop
-long_form room d = if nat_lt room (length d.steps) then Limit d.at ∷ [] else []
-
--- The faults of the forms that contain a step after the first `room` steps.
-abbrev pub long_forms : ℕ → List DoForm → List ScriptStop
-long_forms room [] = []
-long_forms room (d ∷ more) = long_form room d ++ long_forms (room - length d.steps) more
-
--- The fault of a step that names an undeclared state. `states` is the number of declared states.
-abbrev pub unknown_step : ℕ → StepForm → List ScriptStop
-unknown_step states (form.Write at name number v) = if nat_lt number states then [] else Unknown at ∷ []
-unknown_step states (form.Frame at) = []
-
--- The faults of the steps that name undeclared states.
-abbrev pub unknown_steps : ℕ → List StepForm → List ScriptStop
-unknown_steps states [] = []
-unknown_steps states (s ∷ more) = unknown_step states s ++ unknown_steps states more
-
--- The same faults of all forms.
-abbrev pub unknown_forms : ℕ → List DoForm → List ScriptStop
-unknown_forms states [] = []
-unknown_forms states (d ∷ more) = unknown_steps states d.steps ++ unknown_forms states more
-
--- All faults of a script, for a program with this number of states. `beyond` is the offset of the first token that
--- exceeds its limit.
-abbrev pub script_faults : Option ℕ → ℕ → List DoForm → List ScriptStop
-script_faults beyond states forms = oversized beyond ++ (long_forms most_steps forms ++ unknown_forms states forms)
-
--- A limit goes before an undeclared state; of two faults of one kind the lesser offset goes first.
-abbrev pub goes_before : ScriptStop → ScriptStop → Bool
-goes_before (Limit a) (Limit b) = nat_lt a b
-goes_before (Limit a) _ = true
-goes_before (Unknown a) (Unknown b) = nat_lt a b
-goes_before _ _ = false
-
--- The fault that goes first, of an earlier one and `f`.
-unfoldable pub first_fault : Option ScriptStop → ScriptStop → Option ScriptStop
-first_fault None f = Some f
-first_fault (Some g) f = if goes_before f g then Some f else Some g
-
--- The fault that goes first, of an earlier one and a list.
-abbrev pub first_of_faults : Option ScriptStop → List ScriptStop → Option ScriptStop
-first_of_faults o [] = o
-first_of_faults o (f ∷ fs) = first_of_faults (first_fault o f) fs
-
--- Why a script is rejected: its fault that goes first.
-abbrev pub script_refusal : Option ℕ → ℕ → List DoForm → Option ScriptStop
-script_refusal beyond states forms = first_of_faults None (script_faults beyond states forms)
+-- The number of steps of an actor, with repeats written out.
+abbrev pub forms_count : List ScriptForm → ℕ
+forms_count [] = 0
+forms_count (Once s ∷ more) = step_count s + forms_count more
+forms_count (Repeat at times steps ∷ more) = times_of times * steps_count steps + forms_count more

@@ -1,8 +1,16 @@
-// Laws of the lines of every frame.
+// Laws of scripts and of the lines of every frame.
 ghost use Rattle.script_lang.specs.GroupLines.{GroupsTellTheTree};
+ghost use Rattle.script_lang.specs.StepLaws.{SequentialIsSpelled, SequentialIsTheOnly};
 
 /// Law: the lines of a composition's groups in preorder are the lines of its node tree. Calls, keys and cells
 /// have no line; their contents take their place.
 pub fn groups_tell_the_tree()
     ensures { GroupsTellTheTree }
+{}
+
+/// Law: the history of a run has the plain world's replies, its calls are those that the script's steps make given these
+/// replies, and no other history has both properties.
+pub fn sequential_is_spelled()
+    ensures spelled { SequentialIsSpelled }
+    ensures only { SequentialIsTheOnly }
 {}

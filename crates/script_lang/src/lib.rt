@@ -1,19 +1,26 @@
 //! Scripts, which say what actors do to a world and which frames they ask for, and the lines that a run prints.
 //!
-//! `specs/Steps.antt` defines the calls that a script's steps make and the plain world's replies.
-//! `specs/Lines.antt` defines what is printed of such a history, with the reports and trees of frames. Neither
-//! definition depends on the other. Scripts and lines are rules of this project; they replace test code over
-//! `Snapshot` and `Recomposer`.
-//! Promises: `script_of` accepts exactly the scripts without a fault, and each function that appends a line
-//! appends the bytes of its definition.
+//! `specs/ScriptFaults.antt` defines the faults of scripts. `specs/StepCalls.antt` defines the calls that the steps of a
+//! script make, given the replies to earlier calls, and the history of a run. `specs/Lines.antt` defines what is printed
+//! of such a history, with the reports and trees of frames. Scripts and lines are rules of this project; they replace
+//! test code over `Snapshot` and `Recomposer`.
+//! Promises: `script_of` accepts exactly the scripts without a fault, and each function that appends a line appends the
+//! bytes of its definition.
 #![tactic(auto)]
 
+mod faults;
 mod laws;
+mod limits;
 mod line;
-mod script;
+mod names;
+mod scripts;
 mod tree;
+mod uses;
 
-pub use laws::groups_tell_the_tree;
-pub use line::add_line;
-pub use script::{Script, ScriptStop, Step, script_of};
+pub use faults::ScriptStop;
+pub use laws::{groups_tell_the_tree, sequential_is_spelled};
+pub use limits::index_of;
+pub use line::{add_line, add_reply_line, add_request_line};
+pub use names::{NEVER_TAKEN, NameTable};
+pub use scripts::{Script, script_of};
 pub use tree::{OpenGroups, add_refused, add_report};

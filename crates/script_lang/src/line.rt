@@ -2,9 +2,10 @@
 ghost use Rattle.std.specs.Prelude.{◌≡◌, ◌++◌, ◌∷◌, [], List, ℕ, OnOk, codes};
 ghost use Rattle.std.specs.Fmt.{decimal};
 ghost use Rattle.rt_values.specs.Values.{value_text};
-ghost use Rattle.script_lang.specs.Lines.{Titles, titles_of, actor_name, state_name, state_names, snapshot, kind_text, type_text, request_text, refusal_text, reply_text, entry_line, line};
+ghost use Rattle.script_lang.specs.Lines.{Titles, titles_of, actor_name, state_name, state_names, snapshot, kind_text, type_text, request_text, refusal_text, reply_text, call_text, entry_line, line};
 
 use crate::Script;
+use crate::names::NEVER_TAKEN;
 use itoa::Buffer;
 use lang_ast::State;
 use lang_checks::Checked;
@@ -59,9 +60,6 @@ fn add_states(text: &mut Vec<u8>, states: &[State], numbers: &[ObjectNo]) -> Res
     }
     Ok(())
 }
-
-// A snapshot number that is never assigned.
-const NEVER_TAKEN: Name = 18446744073709551615;
 
 #[tactic(auto, using(crate::proofs::Texts::joins))]
 fn add_snapshot(text: &mut Vec<u8>, name: Name) -> Result<(), NoMemory>
@@ -255,6 +253,40 @@ fn add_conflict(text: &mut Vec<u8>, states: &[State], object: ObjectNo) -> Resul
     add_state(text, states, object)
 }
 
+/// Appends the first part of the line of a call: the actor, the request and what precedes the reply. Returns `NoMemory`
+/// if the process is out of memory.
+#[tactic(auto, using(crate::proofs::Texts::joins))]
+pub fn add_request_line(
+    text: &mut Vec<u8>,
+    program: &Checked,
+    script: &Script,
+    caller: Caller,
+    request: &Request,
+) -> Result<(), NoMemory>
+    ensures { OnOk result (text.new.items ≡ text.old.items ++
+        call_text (titles_of program.now script.now) caller request.now) }
+{
+    add_actor(text, script.actors.as_slice(), caller)?;
+    add(text, b": ")?;
+    add_request(text, program.states(), request)?;
+    add(text, b" = ")
+}
+
+/// Appends the rest of the line of a call: the reply, and LF. Returns `NoMemory` if the process is out of memory.
+#[tactic(auto, using(crate::proofs::Texts::joins))]
+pub fn add_reply_line(
+    text: &mut Vec<u8>,
+    program: &Checked,
+    script: &Script,
+    reply: &Reply,
+) -> Result<(), NoMemory>
+    ensures { OnOk result (text.new.items ≡ text.old.items ++
+        line (reply_text (titles_of program.now script.now) reply.now)) }
+{
+    add_reply(text, program.states(), script.actors.as_slice(), reply)?;
+    add(text, b"\n")
+}
+
 /// Appends the line of a call and its reply: the actor, the request and the reply, with LF at the end. Returns
 /// `NoMemory` if the process is out of memory.
 #[tactic(auto, using(crate::proofs::Texts::joins))]
@@ -266,12 +298,6 @@ pub fn add_line(
 ) -> Result<(), NoMemory>
     ensures { OnOk result (text.new.items ≡ text.old.items ++ entry_line (titles_of program.now script.now) entry.now) }
 {
-    let states = program.states();
-    let actors = script.actors.as_slice();
-    add_actor(text, actors, entry.caller)?;
-    add(text, b": ")?;
-    add_request(text, states, &entry.request)?;
-    add(text, b" = ")?;
-    add_reply(text, states, actors, &entry.reply)?;
-    add(text, b"\n")
+    add_request_line(text, program, script, entry.caller, &entry.request)?;
+    add_reply_line(text, program, script, &entry.reply)
 }

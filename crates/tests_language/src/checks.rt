@@ -1,5 +1,5 @@
 // A checked program has the states, the functions and the root of the program that was checked.
-use lang_checks::{CheckStop, check};
+use lang_checks::{CheckKind, CheckStop, ProgramFault, check};
 use lang_forms::program;
 use std::alloc::Global;
 use std::test::Fail;
@@ -41,5 +41,40 @@ fn a_program_without_a_root_is_rejected(rt: HostRuntime) -> Result<(), Fail> {
     let trees = sexp_text::read(alloc, text.as_bytes())?;
     let (program, _) = program(alloc, &trees, text.len())?;
     assert!(rt; matches!(check(alloc, program), Err(CheckStop::ProgramFault(_))));
+    Ok(())
+}
+
+#[test]
+fn policies_fit_types(rt: HostRuntime) -> Result<(), Fail> {
+    let alloc: Global = rt.alloc();
+    let values = [
+        ("Int", "0"),
+        ("Bool", "true"),
+        ("Text", "\"\""),
+        ("Ints", "(ints)"),
+    ];
+    let rows = [
+        ("Structural", [true, true, true, true]),
+        ("Never", [true, true, true, true]),
+        ("Counter", [true, false, false, false]),
+        ("Largest", [true, false, false, false]),
+        ("Append", [false, false, false, true]),
+    ];
+    for (policy, fits) in rows {
+        for ((ty, value), fits) in values.iter().zip(fits) {
+            let mut text = String::from_str(alloc, "(compose 1) (state a ")?;
+            for part in [*ty, " ", policy, " ", *value, ") (fun root ())"] {
+                text.push_str(part)?;
+            }
+            let trees = sexp_text::read(alloc, text.as_bytes())?;
+            let (program, _) = program(alloc, &trees, text.len())?;
+            let fault = CheckStop::ProgramFault(ProgramFault {
+                kind: CheckKind::Type,
+                at: 12,
+            });
+            let expected = if fits { None } else { Some(fault) };
+            assert_eq!(rt; check(alloc, program).err(), expected, "{text}");
+        }
+    }
     Ok(())
 }

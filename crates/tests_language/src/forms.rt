@@ -1,7 +1,11 @@
-// Source texts parsed into programs and scripts, and programs written as trees.
-use lang_ast::{Expression, Program, Statement};
-use lang_forms::{FormStop, Rest, StepForm, forms_of, program};
-use rt_values::Value;
+// Source texts parsed into programs and scripts, and both written as trees.
+use lang_ast::{
+    CallForm, Expression, Ident, Program, Rest, ScriptForm, SnapshotRef, Statement, StepForm,
+};
+use lang_forms::{FormStop, program};
+use lang_write::{forms_of, script_forms_of};
+use rt_values::{Kind, Value};
+use snap_policy::BuiltIn;
 use std::alloc::Global;
 use std::test::Fail;
 
@@ -13,9 +17,10 @@ fn text_read(alloc: Global, text: &str) -> Result<Result<(Program, Rest), FormSt
 // A program with each form of the language.
 const EVERY_FORM: &str = r#"(compose 1) ; a comment
 (state a Int Structural -9223372036854775808)
-(state b2_ Bool Structural true)
+(state b2_ Bool Never true)
 (state c Text Structural "one \"two\"\n")
-(state d Ints Structural (ints 1 -2 9223372036854775807))
+(state d Ints Append (ints 1 -2 9223372036854775807))
+(state e Int Counter 0) (state f Int Largest -1)
 (fun none ())
 (fun row ((i Int) (t Text)) (node Row ((i i) (t t)) (node Gap ())))
 (fun root ()
@@ -28,9 +33,15 @@ const EVERY_FORM: &str = r#"(compose 1) ; a comment
       (remember v ((k x)) (* k k) (node Cell ((v v)))))))"#;
 
 // A script with each form, for that program.
-const EVERY_STEP: &str = r#"(do main (write global a 7) (frame) (write global d (ints)))
-(do main (write global c "") (write global nowhere false))
-(do main)"#;
+const EVERY_STEP: &str = r#"(do main
+  (take s mutable global) (take r readonly s) (take take mutable take) (read s a) (read global nowhere)
+  (write s a 7) (write global b2_ false) (write r c "x\n") (write s d (ints)) (write s d (ints 1 -2))
+  (add s e -9223372036854775808) (add global nowhere 1)
+  (apply s) (apply global) (dispose r) (dispose global)
+  (frame) (frame (during)) (frame (during (take s mutable global) (add s e 1) (apply s))))
+(do other (repeat 3) (repeat -9223372036854775808 (frame)) (read s f))
+(do main (repeat 0 (write global a 1) (frame (during (read global a) (dispose s))) (frame)))
+(do other)"#;
 
 #[test]
 fn texts_have_the_forms(rt: HostRuntime) -> Result<(), Fail> {
@@ -46,8 +57,117 @@ fn texts_have_the_forms(rt: HostRuntime) -> Result<(), Fail> {
         "(compose 1) (fun root () (if 1 () ()) (for x 1) (let x 1) (key 1) (remember x () 1))",
         "(compose 1) (fun root () (node nnnnnnnnnnnnnnnnnnnnnnnnnnnnnnnnnnnnnnnnnnnnnnnnnnnnnnnnnnnnnnnn ()))",
         "(compose 1) (do main (write global a (ints -9223372036854775809)) (frame))",
+        "(compose 1) (state a Bool Counter 1)",
     ] {
         assert!(rt; text_read(rt.alloc(), text)?.is_ok(), "{text}");
+    }
+    Ok(())
+}
+
+// Lists, atoms and strings that are no step.
+const NO_STEPS: [&str; 54] = [
+    "()",
+    "x",
+    "7",
+    "\"frame\"",
+    "(stop)",
+    "(during)",
+    "(take)",
+    "(take s)",
+    "(take s mutable)",
+    "(take s writable global)",
+    "(take global mutable global)",
+    "(take s mutable global s)",
+    "(take s mutable 1)",
+    "(take s (mutable) global)",
+    "(read)",
+    "(read global)",
+    "(read a)",
+    "(read 1 a)",
+    "(read global global)",
+    "(read global a b)",
+    "(write global a)",
+    "(write a 1)",
+    "(write global a b)",
+    "(write global a 007)",
+    "(write global a (ints x))",
+    "(write global a (+ 1 2))",
+    "(write global a 1 2)",
+    "(write (global) a 1)",
+    "(add global a)",
+    "(add a 1)",
+    "(add global a true)",
+    "(add global a \"1\")",
+    "(add global a (ints 1))",
+    "(add global a -0)",
+    "(add global a 1 2)",
+    "(apply)",
+    "(apply s s)",
+    "(apply 1)",
+    "(dispose)",
+    "(dispose true)",
+    "(dispose s global)",
+    "(frame frame)",
+    "(frame ())",
+    "(frame (read global a))",
+    "(frame (during) (during))",
+    "(frame (during (frame)))",
+    "(frame (during (repeat 1)))",
+    "(frame (during x))",
+    "(repeat)",
+    "(repeat a)",
+    "(repeat +1)",
+    "(repeat (frame))",
+    "(repeat 1 (repeat 1))",
+    "(repeat 1 x)",
+];
+
+#[test]
+fn a_wrong_step_is_reported_at_its_form(rt: HostRuntime) -> Result<(), Fail> {
+    for step in NO_STEPS {
+        let mut text = String::from_str(rt.alloc(), "(compose 1) (do a (frame)) (do b ")?;
+        text.push_str(step)?;
+        text.push_str(")")?;
+        let stop = text_read(rt.alloc(), &text)?.err();
+        assert_eq!(rt; stop, Some(FormStop::Form { at: 27 }), "{text}");
+    }
+    Ok(())
+}
+
+#[test]
+fn a_wrong_policy_is_reported_at_its_state(rt: HostRuntime) -> Result<(), Fail> {
+    for policy in [
+        "structural",
+        "Equal",
+        "",
+        "(Never)",
+        "\"Append\"",
+        "Never Never",
+        "1",
+    ] {
+        let mut text = String::from_str(rt.alloc(), "(compose 1) (state a Int ")?;
+        text.push_str(policy)?;
+        text.push_str(" 1)")?;
+        let stop = text_read(rt.alloc(), &text)?.err();
+        assert_eq!(rt; stop, Some(FormStop::Form { at: 12 }), "{text}");
+    }
+    Ok(())
+}
+
+#[test]
+fn states_have_their_policies(rt: HostRuntime) -> Result<(), Fail> {
+    let (program, _) = text_read(rt.alloc(), EVERY_FORM)??;
+    let policies = [
+        BuiltIn::Structural,
+        BuiltIn::Never,
+        BuiltIn::Structural,
+        BuiltIn::Append,
+        BuiltIn::Counter,
+        BuiltIn::Largest,
+    ];
+    assert_eq!(rt; program.states.len(), policies.len());
+    for (state, policy) in program.states.iter().zip(policies) {
+        assert_eq!(rt; state.policy, policy);
     }
     Ok(())
 }
@@ -131,46 +251,217 @@ fn number_read(program: &Program) -> Option<u64> {
     }
 }
 
-// The offset of the first step, the number of the state that it writes, and the value.
-fn first_written(rest: &Rest) -> Option<(usize, u64, i64)> {
-    match rest.forms.first()?.steps.items().first()? {
-        StepForm::Write {
+// The only step of a `do` form, if it is made once.
+fn only_step(rest: &Rest, form: usize) -> Option<&StepForm> {
+    match rest.forms.get(form)?.steps.items().first()? {
+        ScriptForm::Once(step) => Some(step),
+        ScriptForm::Repeat { .. } => None,
+    }
+}
+
+// Whether a snapshot is the global one, or the offset of its name.
+fn offset_of(snapshot: &SnapshotRef) -> Option<usize> {
+    match snapshot {
+        SnapshotRef::Global => None,
+        SnapshotRef::Named(name) => Some(name.at),
+    }
+}
+
+// What a test sees of a call: its offset, the offset of the name of its snapshot or none for the global one, the number
+// of its state, and its number. A take has the offset of its name and 1 or 2 for its kind, and a dispose has 0.
+type CallData = (usize, Option<usize>, Option<u64>, Option<i64>);
+
+fn take_data(at: usize, name: &Ident, kind: Kind, parent: &SnapshotRef) -> CallData {
+    let number = match kind {
+        Kind::Mutable => 1,
+        Kind::Readonly => 2,
+    };
+    (at, offset_of(parent), Some(name.at as u64), Some(number))
+}
+
+fn call_data(call: &CallForm) -> CallData {
+    match call {
+        CallForm::Take {
             at,
-            number,
-            value: Value::Int(value),
+            name,
+            kind,
+            parent,
+        } => take_data(*at, name, *kind, parent),
+        CallForm::Read {
+            at,
+            snapshot,
+            object,
             ..
-        } => Some((*at, *number, *value)),
+        } => (*at, offset_of(snapshot), Some(*object), None),
+        CallForm::Write {
+            at,
+            snapshot,
+            object,
+            value,
+            ..
+        } => (*at, offset_of(snapshot), Some(*object), int_of(value)),
+        CallForm::Add {
+            at,
+            snapshot,
+            object,
+            amount,
+            ..
+        } => (*at, offset_of(snapshot), Some(*object), Some(*amount)),
+        CallForm::Apply { at, snapshot } => (*at, offset_of(snapshot), None, None),
+        CallForm::Dispose { at, snapshot } => (*at, offset_of(snapshot), None, Some(0)),
+    }
+}
+
+fn int_of(value: &Value) -> Option<i64> {
+    match value {
+        Value::Int(number) => Some(*number),
         _ => None,
     }
+}
+
+// A program with the states 0 and 1, and a script whose second form begins with the step at offset 82.
+const BEFORE_STEP: &str =
+    "(compose 1) (state a Int Structural 0) (state b Int Structural 0) (do x) (do main ";
+
+fn script_with(alloc: Global, step: &str) -> Result<Rest, Fail> {
+    let mut text = String::from_str(alloc, BEFORE_STEP)?;
+    text.push_str(step)?;
+    text.push_str(" (frame))")?;
+    let (_, rest) = text_read(alloc, &text)??;
+    Ok(rest)
+}
+
+#[test]
+fn calls_have_their_offsets_and_numbers(rt: HostRuntime) -> Result<(), Fail> {
+    let rows: [(&str, CallData); 11] = [
+        ("(take s mutable global)", (82, None, Some(88), Some(1))),
+        ("(take s readonly t)", (82, Some(99), Some(88), Some(2))),
+        ("(read global a)", (82, None, Some(0), None)),
+        ("(read a b)", (82, Some(88), Some(1), None)),
+        ("(write s b 5)", (82, Some(89), Some(1), Some(5))),
+        ("(write global other -5)", (82, None, Some(2), Some(-5))),
+        (
+            "(write global a 9223372036854775808)",
+            (82, None, Some(0), Some(9223372036854775807)),
+        ),
+        ("(add s b 7)", (82, Some(87), Some(1), Some(7))),
+        (
+            "(add s b -9223372036854775809)",
+            (82, Some(87), Some(1), Some(-9223372036854775808)),
+        ),
+        ("(apply s)", (82, Some(89), None, None)),
+        ("(dispose global)", (82, None, None, Some(0))),
+    ];
+    for (step, expected) in rows {
+        let rest = script_with(rt.alloc(), step)?;
+        assert_eq!(rt; rest.forms.len(), 2);
+        let call = match only_step(&rest, 1) {
+            Some(StepForm::Call(call)) => Some(call_data(call)),
+            _ => None,
+        };
+        assert_eq!(rt; call, Some(expected), "{step}");
+    }
+    Ok(())
+}
+
+#[test]
+fn frames_have_their_offsets_and_inner_steps(rt: HostRuntime) -> Result<(), Fail> {
+    let rows: [(&str, Option<(usize, Option<usize>)>); 4] = [
+        ("(frame)", Some((82, None))),
+        ("(frame (during))", Some((82, Some(0)))),
+        (
+            "(frame (during (read global a) (apply s)))",
+            Some((82, Some(2))),
+        ),
+        ("(read global a)", None),
+    ];
+    for (step, expected) in rows {
+        let rest = script_with(rt.alloc(), step)?;
+        let frame = match only_step(&rest, 1) {
+            Some(StepForm::Frame { at }) => Some((*at, None)),
+            Some(StepForm::FrameDuring { at, during }) => Some((*at, Some(during.items().len()))),
+            _ => None,
+        };
+        assert_eq!(rt; frame, expected, "{step}");
+    }
+    Ok(())
+}
+
+// The offset, the number and the number of steps of the first repeat of the second form.
+fn first_repeat(rest: &Rest) -> Option<(usize, i64, usize)> {
+    match rest.forms.get(1)?.steps.items().first()? {
+        ScriptForm::Repeat { at, times, steps } => Some((*at, *times, steps.items().len())),
+        ScriptForm::Once(_) => None,
+    }
+}
+
+#[test]
+fn numbers_of_repeats_are_clamped(rt: HostRuntime) -> Result<(), Fail> {
+    let rows: [(&str, i64, usize, Option<usize>); 6] = [
+        ("(repeat 3)", 3, 0, None),
+        ("(repeat 0 (frame) (frame))", 0, 2, None),
+        ("(repeat 9223372036854775807 (frame))", i64::MAX, 1, None),
+        (
+            "(repeat 9223372036854775808 (frame))",
+            i64::MAX,
+            1,
+            Some(90),
+        ),
+        ("(repeat -9223372036854775809)", i64::MIN, 0, Some(90)),
+        (
+            "(repeat 99999999999999999999999 (apply s))",
+            i64::MAX,
+            1,
+            Some(90),
+        ),
+    ];
+    for (step, times, steps, oversized) in rows {
+        let rest = script_with(rt.alloc(), step)?;
+        assert_eq!(rt; first_repeat(&rest), Some((82, times, steps)), "{step}");
+        assert_eq!(rt; rest.first_oversized, oversized, "{step}");
+    }
+    Ok(())
+}
+
+#[test]
+fn each_form_has_its_own_actor(rt: HostRuntime) -> Result<(), Fail> {
+    let text = "(compose 1) (do main) (do other (frame)) (do main (frame) (frame)) (do o3)";
+    let (_, rest) = text_read(rt.alloc(), text)??;
+    let rows: [(usize, &[u8], usize); 4] = [
+        (12, b"main", 0),
+        (22, b"other", 1),
+        (41, b"main", 2),
+        (67, b"o3", 0),
+    ];
+    assert_eq!(rt; rest.forms.len(), rows.len());
+    for (form, (at, actor, steps)) in rest.forms.iter().zip(rows) {
+        assert_eq!(rt; (form.at, form.steps.items().len()), (at, steps));
+        assert!(rt; form.actor.text.is(actor), "{actor:?}");
+    }
+    Ok(())
 }
 
 #[test]
 fn states_are_numbered_in_file_order(rt: HostRuntime) -> Result<(), Fail> {
     let text =
-        "(compose 1) (state a Int Structural 0) (state b Int Structural 0) (fun f () (key (get b))) (do main (write global other 5))";
+        "(compose 1) (state a Int Structural 0) (state b Int Structural 0) (fun f () (key (get b)))";
     let (program, rest) = text_read(rt.alloc(), text)??;
     assert_eq!(rt; number_read(&program), Some(1));
-    assert_eq!(rt; first_written(&rest), Some((100, 2, 5)));
-    assert_eq!(rt; rest.beyond, None);
+    assert_eq!(rt; rest.first_oversized, None);
     assert_eq!(rt; program.states.len(), 2);
     Ok(())
 }
 
 #[test]
-fn an_oversized_number_in_a_script_is_0_and_reported(rt: HostRuntime) -> Result<(), Fail> {
-    let text = "(compose 1) (do main (write global a 9223372036854775808))";
-    let (_, rest) = text_read(rt.alloc(), text)??;
-    assert_eq!(rt; first_written(&rest), Some((21, 0, 0)));
-    assert_eq!(rt; rest.beyond, Some(37));
-    Ok(())
-}
-
-#[test]
-fn a_program_is_written_as_it_was_parsed(rt: HostRuntime) -> Result<(), Fail> {
+fn a_text_is_written_as_it_was_parsed(rt: HostRuntime) -> Result<(), Fail> {
     let alloc = rt.alloc();
-    let trees = sexp_text::read(alloc, EVERY_FORM.as_bytes())?;
-    let (program, _) = program(alloc, &trees, EVERY_FORM.len())?;
-    let written = sexp_text::print(alloc, &forms_of(alloc, &program)?)?;
+    let mut text = String::from_str(alloc, EVERY_FORM)?;
+    text.push_str(EVERY_STEP)?;
+    let trees = sexp_text::read(alloc, text.as_bytes())?;
+    let (program, rest) = program(alloc, &trees, text.len())?;
+    let mut written = sexp_text::print(alloc, &forms_of(alloc, &program)?)?;
+    let script = sexp_text::print(alloc, &script_forms_of(alloc, &rest.forms)?)?;
+    written.extend_from_slice(&script)?;
     assert!(rt; written == sexp_text::print(alloc, &trees)?);
     Ok(())
 }

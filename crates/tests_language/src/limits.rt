@@ -94,7 +94,7 @@ fn oversized_tokens_are_clamped(rt: HostRuntime) -> Result<(), Fail> {
             b"n",
             65,
             b")",
-            b"(a 0 nnnnnnnnnnnnnnnnnnnnnnnnnnnnnnnnnnnnnnnnnnnnnnnnnnnnnnnnnnnnnnnnn)\n",
+            b"(a 9223372036854775807 nnnnnnnnnnnnnnnnnnnnnnnnnnnnnnnnnnnnnnnnnnnnnnnnnnnnnnnnnnnnnnnnn)\n",
         ),
         (b"(a \"", b"s", 4097, b"\" 1)", b"(a \"\" 1)\n"),
         (
@@ -102,7 +102,7 @@ fn oversized_tokens_are_clamped(rt: HostRuntime) -> Result<(), Fail> {
             b" 1",
             4096,
             b") 2)",
-            b"(a (ints 0 1) 2)\n",
+            b"(a (ints 9223372036854775807 1) 2)\n",
         ),
         (
             b"(a -0 \"s\" (ints",
@@ -115,8 +115,8 @@ fn oversized_tokens_are_clamped(rt: HostRuntime) -> Result<(), Fail> {
             b"(a",
             b"",
             0,
-            b" (ints x 9223372036854775808))",
-            b"(a (ints x 0))\n",
+            b" (ints x -9223372036854775809))",
+            b"(a (ints x -9223372036854775808))\n",
         ),
         (b"(ints", b" 2", 4097, b")", b"(ints 2 2)\n"),
     ];

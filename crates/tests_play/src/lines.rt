@@ -1,20 +1,19 @@
 // Scripts from their text, and each kind of line.
+use lang_ast::Rest;
 use lang_checks::{Checked, check};
-use lang_forms::{Rest, program};
+use lang_forms::program;
 use rt_groups::{Attribute, Attributes, Group, GroupKind, Report, Values};
-use rt_values::{Kind, ObjectNo, Objects, Ty, Value, Word};
-use script_lang::{
-    OpenGroups, Script, ScriptStop, Step, add_line, add_refused, add_report, script_of,
-};
+use rt_values::{Kind, Objects, Ty, Value, Word};
+use script_lang::{OpenGroups, Script, ScriptStop, add_line, add_refused, add_report, script_of};
 use snap_api::{Entry, Refusal, Reply, Request};
 use std::alloc::Global;
 use std::test::Fail;
 
-// The program of two states, before a script.
+// The program of three states, before a script.
 const PROGRAM: &str =
-    "(compose 1) (state count Int Structural 0) (state step Int Structural 0) (fun root ())";
+    "(compose 1) (state count Int Structural 0) (state step Int Structural 0) (state label Text Structural \"\") (fun root ())";
 
-// Parses `script` after the program of two states.
+// Parses `script` after the program of three states.
 fn parsed(alloc: Global, script: &str) -> Result<(Checked, Rest), Fail> {
     let mut text = String::from_str(alloc, PROGRAM)?;
     text.push_str(script)?;
@@ -23,36 +22,100 @@ fn parsed(alloc: Global, script: &str) -> Result<(Checked, Rest), Fail> {
     Ok((check(alloc, program)?, rest))
 }
 
-fn is_write(step: &Step, number: ObjectNo) -> bool {
-    match step {
-        Step::Write { object, value, .. } => *object == number && value.same(&Value::Int(1)),
-        Step::Frame => false,
+// Moves the offset of a fault from that in a script to that in the text.
+fn in_text(fault: ScriptStop) -> ScriptStop {
+    let start = PROGRAM.len();
+    match fault {
+        ScriptStop::Limit { at } => ScriptStop::Limit {
+            at: start.saturating_add(at),
+        },
+        ScriptStop::Unknown { at } => ScriptStop::Unknown {
+            at: start.saturating_add(at),
+        },
+        ScriptStop::Type { at } => ScriptStop::Type {
+            at: start.saturating_add(at),
+        },
+        ScriptStop::Actor { at } => ScriptStop::Actor {
+            at: start.saturating_add(at),
+        },
+        ScriptStop::NoMemory => ScriptStop::NoMemory,
     }
 }
 
 #[test]
-fn scripts_are_resolved(rt: HostRuntime) -> Result<(), Fail> {
+fn faulty_scripts_are_rejected(rt: HostRuntime) -> Result<(), Fail> {
     let alloc = rt.alloc();
-    let script = "(do a (write global count 1) (frame)) (do a (write global step 1) (frame))";
-    let (program, rest) = parsed(alloc, script)?;
-    let resolved = script_of(alloc, &rest, &program)?;
-    assert_eq!(rt; resolved.actors.len(), 1);
-    assert_eq!(rt; resolved.actors[0].bytes(), b"a".as_slice());
-    assert_eq!(rt; resolved.steps.len(), 4);
-    assert!(rt; is_write(&resolved.steps[0], 0) && is_write(&resolved.steps[2], 1));
-    let (program, rest) = parsed(alloc, "(do a (write global other 1))")?;
-    let unknown = script_of(alloc, &rest, &program).err();
-    let at = PROGRAM.len().saturating_add(6);
-    assert!(rt; unknown == Some(ScriptStop::Unknown { at }));
+    for (script, threads, fault) in [
+        (
+            "(do a (write global other 1))",
+            false,
+            ScriptStop::Unknown { at: 6 },
+        ),
+        (
+            "(do a (read s count))",
+            false,
+            ScriptStop::Unknown { at: 6 },
+        ),
+        (
+            "(do a (add global label 1))",
+            false,
+            ScriptStop::Type { at: 6 },
+        ),
+        (
+            "(do a (read s count) (repeat 1001 (frame)))",
+            false,
+            ScriptStop::Limit { at: 21 },
+        ),
+        (
+            "(do a (take s mutable global)) (do b (apply s))",
+            true,
+            ScriptStop::Actor { at: 37 },
+        ),
+        (
+            "(do a (take s mutable global)) (do b (take s readonly global))",
+            true,
+            ScriptStop::Actor { at: 37 },
+        ),
+        (
+            "(do a (frame)) (do b (frame))",
+            true,
+            ScriptStop::Actor { at: 21 },
+        ),
+    ] {
+        let (program, rest) = parsed(alloc, script)?;
+        let found = script_of(alloc, rest, &program, threads).err();
+        assert!(rt; found == Some(in_text(fault)));
+    }
     Ok(())
 }
 
-// The line of a call of the actor `a`, whose program has the states `count` and `step`.
+#[test]
+fn scripts_have_their_actors(rt: HostRuntime) -> Result<(), Fail> {
+    let alloc = rt.alloc();
+    for (script, threads, actors, forms) in [
+        ("", false, 0usize, 0usize),
+        ("(do a (frame)) (do b) (do a (frame))", true, 2, 3),
+        (
+            "(do a (take s mutable global)) (do b (apply s) (frame)) (do a (frame))",
+            false,
+            2,
+            3,
+        ),
+    ] {
+        let (program, rest) = parsed(alloc, script)?;
+        let found = script_of(alloc, rest, &program, threads)?;
+        assert_eq!(rt; found.actors.len(), actors);
+        assert_eq!(rt; found.forms.len(), forms);
+    }
+    Ok(())
+}
+
+// The line of a call of the actor `a`, whose program has the states `count`, `step` and `label`.
 fn line_of(alloc: Global, request: Request, reply: Reply) -> Result<Vec<u8>, Fail> {
     let (program, _) = parsed(alloc, "")?;
     let script = Script {
         actors: Vec::from_array(alloc, [Word::of(alloc, b"a")?])?,
-        steps: Vec::new(alloc),
+        forms: Vec::new(alloc),
     };
     let mut text = Vec::new(alloc);
     let entry = Entry {

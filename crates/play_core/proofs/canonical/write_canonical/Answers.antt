@@ -2,7 +2,7 @@ use Rattle.std.proofs.Common.{◌++◌, ap, ◌∙◌, sym}
 use Rattle.sexp_text.specs.Layout.{lines}
 use Rattle.sexp_text.specs.View.{forest_view}
 use Rattle.play_core.proofs.TreeLines.{lines-next}
-use Rattle.play_core.proofs.Written.{part_next, all_next}
+use Rattle.play_run.proofs.Written.{part_next, all_next}
 use Rattle.play_core.proofs.canonical.write_canonical.Goals as goal
 
 pub loop-rest-preserved : goal.loop-rest-preserved

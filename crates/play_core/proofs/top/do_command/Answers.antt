@@ -1,11 +1,11 @@
 use Rattle.std.proofs.Common.{refl, sym, ap, ◌∙◌, subst}
 use Rattle.sexp_text.specs.Layout.{lines}
 use Rattle.sexp_text.specs.View.{forest_view}
-use Rattle.play_core.specs.RunState.{SaysOutput}
+use Rattle.play_core.specs.CommandOutput.{SaysOutput}
 use Rattle.play_core.specs.Texts.{run_output, check_output}
 use Rattle.play_core.proofs.TreeLines.{check-is}
 use Rattle.play_core.proofs.Plays.{run-is}
-use Rattle.play_core.proofs.Written.{says_same}
+use Rattle.play_run.proofs.Written.{says_same}
 use Rattle.play_core.proofs.top.do_command.Goals as goal
 
 pub returns-in-Run-clause-says : goal.returns-in-Run-clause-says

@@ -2,7 +2,7 @@ use Rattle.std.proofs.Common.{◌≡◌, ◌⊎◌, ap, sym, ◌∙◌, Some, Er
 use Rattle.play_core.specs.Faults.{IsFault}
 use Rattle.play_core.specs.declared.fault.Fault.{Fault}
 use Rattle.play_core.specs.declared.top.Status.TheVariants as status
-use Rattle.play_core.specs.RunState.{run_status}
+use Rattle.play_core.specs.CommandOutput.{run_status}
 use Rattle.play_core.proofs.Plays.{nothing-part, refused-part, text-part, done-says, stopped-says, rose-after, clean-after, run-others}
 use Rattle.play_core.proofs.top.play_bytes.Goals as goal
 

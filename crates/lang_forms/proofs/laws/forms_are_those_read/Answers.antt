@@ -1,6 +1,0 @@
-use Rattle.lang_forms.specs.Forms.{text_forms}
-use Rattle.lang_forms.proofs.Written.{fits_unplaced}
-use Rattle.lang_forms.proofs.laws.forms_are_those_read.Goals as goal
-
-pub returns : goal.returns
-returns c = λ f t has. fits_unplaced f (text_forms t) has.fits

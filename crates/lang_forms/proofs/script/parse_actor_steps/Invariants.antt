@@ -1,0 +1,8 @@
+use Rattle.std.proofs.Common.{◌≡◌, ◌++◌, drop}
+use Rattle.std.specs.Option.{option_map}
+use Rattle.lang_forms.specs.Views.{seen_all, state_names}
+use Rattle.lang_forms.specs.Readings.{actor_steps_of}
+use Rattle.lang_forms.proofs.script.parse_actor_steps.Given as goal
+
+abbrev pub invariant-loop-tree : goal.invariant-loop-tree
+invariant-loop-tree l = option_map (λ more. l.steps ++ more) (actor_steps_of (state_names l.states) (seen_all (drop l.tree-index l.trees))) ≡ actor_steps_of (state_names l.states) (seen_all l.trees)

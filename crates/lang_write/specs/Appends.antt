@@ -1,0 +1,60 @@
+-- Internal: what the functions that write forms promise one another.
+use Rattle.std.specs.Prelude.{◌≡◌, ℕ, ℤ, List, codes, None}
+use Rattle.sexp_text.specs.Forest.{behind}
+use Rattle.sexp_text.specs.View.{forest_view}
+use Rattle.sexp_text.specs.declared.tree.Tree.{Tree}
+use Rattle.lang_ast.specs.Terms.{Expr, Exprs, Named, Stmts}
+use Rattle.lang_ast.specs.declared.syntax.Ident.{Ident}
+use Rattle.lang_ast.specs.declared.script.SnapshotRef.{SnapshotRef}
+use Rattle.lang_ast.specs.declared.script.CallForm.{CallForm}
+use Rattle.lang_ast.specs.declared.script.StepForm.{StepForm}
+use Rattle.rt_values.specs.declared.names.Kind.{Kind}
+use Rattle.rt_values.specs.declared.value.Value.{Value}
+use Rattle.lang_forms.specs.Sketch.{Sketch, nothing, numeral, group, unplaced_sketch}
+use Rattle.lang_forms.specs.Words.{kind_word}
+use Rattle.lang_forms.specs.Forms.{word, name, literal, expr_forms, exprs_forms, pairs_forms, stmts_forms, snapshot_forms, calls_forms, steps_forms}
+
+-- The trees grew by those of a form, whatever comes after it.
+abbrev pub AppendsForms : List Tree → List Tree → (Sketch → Sketch) → Type 0
+AppendsForms old new form = (g : Sketch) →
+    behind (forest_view new) (unplaced_sketch g) ≡ behind (forest_view old) (unplaced_sketch (form g))
+
+abbrev pub node_sketch : Ident → List Named → Stmts → Sketch → Sketch
+node_sketch n ns body g = group None (word (codes "node") (name n (group None (pairs_forms ns) (stmts_forms body)))) g
+
+abbrev pub call_sketch : Ident → Exprs → Sketch → Sketch
+call_sketch n es g = group None (word (codes "call") (name n (exprs_forms es))) g
+
+abbrev pub key_sketch : Expr → Stmts → Sketch → Sketch
+key_sketch e body g = group None (word (codes "key") (expr_forms e (stmts_forms body))) g
+
+abbrev pub bound_sketch : List ℕ → Ident → Expr → Stmts → Sketch → Sketch
+bound_sketch w n e body g = group None (word w (name n (expr_forms e (stmts_forms body)))) g
+
+abbrev pub remember_sketch : Ident → List Named → Expr → Stmts → Sketch → Sketch
+remember_sketch n ks e body g = group None
+    (word (codes "remember") (name n (group None (pairs_forms ks) (expr_forms e (stmts_forms body))))) g
+
+abbrev pub state_sketch : SnapshotRef → Ident → Sketch → Sketch
+state_sketch s n g = snapshot_forms s (name n g)
+
+abbrev pub take_sketch : Ident → Kind → SnapshotRef → Sketch → Sketch
+take_sketch n k s g = group None (word (codes "take") (name n (word (kind_word k) (snapshot_forms s nothing)))) g
+
+abbrev pub read_sketch : SnapshotRef → Ident → Sketch → Sketch
+read_sketch s n g = group None (word (codes "read") (state_sketch s n nothing)) g
+
+abbrev pub write_sketch : SnapshotRef → Ident → Value → Sketch → Sketch
+write_sketch s n v g = group None (word (codes "write") (state_sketch s n (literal None v nothing))) g
+
+abbrev pub add_sketch : SnapshotRef → Ident → ℤ → Sketch → Sketch
+add_sketch s n amount g = group None (word (codes "add") (state_sketch s n (numeral None amount nothing))) g
+
+abbrev pub only_sketch : List ℕ → SnapshotRef → Sketch → Sketch
+only_sketch w s g = group None (word w (snapshot_forms s nothing)) g
+
+abbrev pub during_sketch : List CallForm → Sketch → Sketch
+during_sketch cs g = group None (word (codes "frame") (group None (word (codes "during") (calls_forms cs)) nothing)) g
+
+abbrev pub repeat_sketch : ℤ → List StepForm → Sketch → Sketch
+repeat_sketch times ss g = group None (word (codes "repeat") (numeral None times (steps_forms ss))) g

@@ -1,0 +1,331 @@
+// Writes a program as trees.
+ghost use Rattle.std.specs.Prelude.{◌≡◌, [], codes, IfOk, OnOk, None};
+ghost use Rattle.sexp_text.specs.Forest.{Forest, atom, list, empty, behind};
+ghost use Rattle.sexp_text.specs.View.{forest_view};
+ghost use Rattle.lang_ast.specs.SyntaxView.{expr_view, exprs_view, nameds_view, stmt_view, stmts_view, function_view, functions_view};
+ghost use Rattle.lang_ast.specs.Programs.{program_view};
+ghost use Rattle.lang_forms.specs.Sketch.{Sketch, nothing, group, unplaced_sketch};
+ghost use Rattle.lang_write.specs.Appends.{AppendsForms, node_sketch, call_sketch, key_sketch, bound_sketch, remember_sketch};
+ghost use Rattle.lang_forms.specs.Forms.{expr_forms, stmt_forms, stmts_forms, parameters_forms, state_forms, states_forms, function_forms, functions_forms, text_forms};
+
+use crate::write_expressions::{
+    list_with_word, put_binding, put_expr, put_exprs, put_list, put_literal, put_named, put_word,
+    word_of_policy, word_of_type,
+};
+use lang_ast::{Expression, Function, Ident, Named, Parameter, Program, State, Statement};
+use rt_values::NoMemory;
+use sexp_text::Tree;
+use std::alloc::Global;
+
+// Appends the form of a statement.
+#[tactic(auto, using(lang_forms::proofs::Trees::syntax, crate::proofs::Written::written))]
+#[cycle(statements)]
+fn put_stmt(alloc: Global, statement: &Statement, out: &mut Vec<Tree>) -> Result<(), NoMemory>
+    ensures { OnOk result (AppendsForms out.old.items out.new.items
+        (λ g. stmt_forms (stmt_view statement.now) g)) }
+{
+    match statement {
+        Statement::Node {
+            kind,
+            attributes,
+            body,
+            ..
+        } => Ok(put_node(alloc, kind, attributes, body, out)?),
+        Statement::Call {
+            name,
+            arguments,
+            ..
+        } => Ok(put_call(alloc, name, arguments, out)?),
+        Statement::Key { key, body, .. } => Ok(put_key(alloc, key, body, out)?),
+        Statement::If {
+            condition,
+            then_branch,
+            else_branch,
+            ..
+        } => Ok(put_if(alloc, condition, then_branch, else_branch, out)?),
+        Statement::For {
+            name,
+            list,
+            body,
+            ..
+        } => Ok(put_bound(alloc, b"for", name, list, body, out)?),
+        Statement::Let {
+            name,
+            value,
+            body,
+            ..
+        } => Ok(put_bound(alloc, b"let", name, value, body, out)?),
+        Statement::Remember {
+            name,
+            keys,
+            value,
+            body,
+            ..
+        } => Ok(put_remember(alloc, name, keys, value, body, out)?),
+    }
+}
+
+// Appends the form of a node.
+#[tactic(auto, using(crate::proofs::Written::written))]
+#[cycle(statements)]
+fn put_node(
+    alloc: Global,
+    kind: &Ident,
+    attributes: &[Named],
+    body: &[Statement],
+    out: &mut Vec<Tree>,
+) -> Result<(), NoMemory>
+    ensures { OnOk result (AppendsForms out.old.items out.new.items
+        (node_sketch kind.now (nameds_view attributes.now) (stmts_view body.now))) }
+{
+    let mut inner = list_with_word(alloc, b"node")?;
+    put_named(alloc, kind, attributes, &mut inner)?;
+    put_stmts(alloc, body, &mut inner)?;
+    Ok(put_list(inner, out)?)
+}
+
+// Appends the form of a call.
+#[tactic(auto, using(crate::proofs::Written::written))]
+fn put_call(
+    alloc: Global,
+    name: &Ident,
+    arguments: &[Expression],
+    out: &mut Vec<Tree>,
+) -> Result<(), NoMemory>
+    ensures { OnOk result (AppendsForms out.old.items out.new.items
+        (call_sketch name.now (exprs_view arguments.now))) }
+{
+    let mut inner = list_with_word(alloc, b"call")?;
+    put_word(alloc, name.text.bytes(), &mut inner)?;
+    put_exprs(alloc, arguments, &mut inner)?;
+    Ok(put_list(inner, out)?)
+}
+
+// Appends the form of a key.
+#[tactic(auto, using(crate::proofs::Written::written))]
+#[cycle(statements)]
+fn put_key(
+    alloc: Global,
+    key: &Expression,
+    body: &[Statement],
+    out: &mut Vec<Tree>,
+) -> Result<(), NoMemory>
+    ensures { OnOk result (AppendsForms out.old.items out.new.items
+        (key_sketch (expr_view key.now) (stmts_view body.now))) }
+{
+    let mut inner = list_with_word(alloc, b"key")?;
+    put_expr(alloc, key, &mut inner)?;
+    put_stmts(alloc, body, &mut inner)?;
+    Ok(put_list(inner, out)?)
+}
+
+// Appends the form of a `for` or a `let`: `word`, a name, an expression and statements.
+#[tactic(auto, using(crate::proofs::Written::written))]
+#[cycle(statements)]
+fn put_bound(
+    alloc: Global,
+    word: &[u8],
+    name: &Ident,
+    value: &Expression,
+    body: &[Statement],
+    out: &mut Vec<Tree>,
+) -> Result<(), NoMemory>
+    ensures { OnOk result (AppendsForms out.old.items out.new.items
+        (bound_sketch word.now name.now (expr_view value.now) (stmts_view body.now))) }
+{
+    let mut inner = list_with_word(alloc, word)?;
+    put_binding(alloc, name, value, &mut inner)?;
+    put_stmts(alloc, body, &mut inner)?;
+    Ok(put_list(inner, out)?)
+}
+
+// Appends the form of a remember.
+#[tactic(auto, using(crate::proofs::Written::written))]
+#[cycle(statements)]
+fn put_remember(
+    alloc: Global,
+    name: &Ident,
+    keys: &[Named],
+    value: &Expression,
+    body: &[Statement],
+    out: &mut Vec<Tree>,
+) -> Result<(), NoMemory>
+    ensures { OnOk result (AppendsForms out.old.items out.new.items
+        (remember_sketch name.now (nameds_view keys.now) (expr_view value.now)
+        (stmts_view body.now))) }
+{
+    let mut inner = list_with_word(alloc, b"remember")?;
+    put_named(alloc, name, keys, &mut inner)?;
+    put_expr(alloc, value, &mut inner)?;
+    put_stmts(alloc, body, &mut inner)?;
+    Ok(put_list(inner, out)?)
+}
+
+// Appends the form of an if.
+#[cycle(statements)]
+fn put_if(
+    alloc: Global,
+    condition: &Expression,
+    first: &[Statement],
+    second: &[Statement],
+    out: &mut Vec<Tree>,
+) -> Result<(), NoMemory>
+    ensures { OnOk result ((g : Sketch) →
+        behind (forest_view out.new.items) (unplaced_sketch g)
+        ≡ behind (forest_view out.old.items)
+        (list 0 (atom 0 (codes "if")
+        (unplaced_sketch (expr_forms (expr_view condition.now)
+        (group None (stmts_forms (stmts_view first.now))
+        (group None (stmts_forms (stmts_view second.now)) nothing))))) (unplaced_sketch g))) }
+{
+    let mut inner = list_with_word(alloc, b"if")?;
+    put_expr(alloc, condition, &mut inner)?;
+    put_branches(alloc, first, second, &mut inner)?;
+    Ok(put_list(inner, out)?)
+}
+
+// Appends two lists of statements.
+#[tactic(auto, using(crate::proofs::Written::written))]
+#[cycle(statements)]
+fn put_branches(
+    alloc: Global,
+    first: &[Statement],
+    second: &[Statement],
+    out: &mut Vec<Tree>,
+) -> Result<(), NoMemory>
+    ensures { OnOk result (forest_view out.new.items
+        ≡ behind (forest_view out.old.items)
+        (unplaced_sketch (group None (stmts_forms (stmts_view first.now))
+        (group None (stmts_forms (stmts_view second.now)) nothing)))) }
+{
+    put_block(alloc, first, out)?;
+    put_block(alloc, second, out)
+}
+
+// Appends a list of statements.
+#[tactic(auto, using(crate::proofs::Written::written))]
+#[cycle(statements)]
+fn put_block(alloc: Global, statements: &[Statement], out: &mut Vec<Tree>) -> Result<(), NoMemory>
+    ensures { OnOk result (forest_view out.new.items
+        ≡ behind (forest_view out.old.items)
+        (list 0 (unplaced_sketch (stmts_forms (stmts_view statements.now))) empty)) }
+{
+    let mut inner = Vec::new(alloc);
+    put_stmts(alloc, statements, &mut inner)?;
+    put_list(inner, out)
+}
+
+// Appends the forms of statements.
+#[tactic(auto, using(crate::proofs::Written::stmts_step))]
+#[cycle(statements)]
+fn put_stmts(alloc: Global, statements: &[Statement], out: &mut Vec<Tree>) -> Result<(), NoMemory>
+    ensures { OnOk result (forest_view out.new.items
+        ≡ behind (forest_view out.old.items)
+        (unplaced_sketch (stmts_forms (stmts_view statements.now)))) }
+{
+    for statement in statements {
+        put_stmt(alloc, statement, out)?;
+    }
+    Ok(())
+}
+
+// Appends parameters, each in its own list.
+#[tactic(auto, using(crate::proofs::Written::written))]
+fn put_parameters(
+    alloc: Global,
+    parameters: &[Parameter],
+    out: &mut Vec<Tree>,
+) -> Result<(), NoMemory>
+    ensures { OnOk result (forest_view out.new.items
+        ≡ behind (forest_view out.old.items) (unplaced_sketch (parameters_forms parameters.now))) }
+{
+    let mut rest = parameters;
+    while let Some((parameter, more)) = rest.split_first() {
+        let mut inner = Vec::new(alloc);
+        put_word(alloc, parameter.name.text.bytes(), &mut inner)?;
+        put_word(alloc, word_of_type(parameter.ty), &mut inner)?;
+        put_list(inner, out)?;
+        rest = more;
+    }
+    Ok(())
+}
+
+// Appends the form of a state.
+#[tactic(auto, using(crate::proofs::Written::written))]
+fn put_state(alloc: Global, state: &State, out: &mut Vec<Tree>) -> Result<(), NoMemory>
+    ensures { OnOk result ((g : Sketch) →
+        behind (forest_view out.new.items) (unplaced_sketch g)
+        ≡ behind (forest_view out.old.items) (unplaced_sketch (state_forms state.now g))) }
+{
+    let mut inner = list_with_word(alloc, b"state")?;
+    put_word(alloc, state.name.text.bytes(), &mut inner)?;
+    put_word(alloc, word_of_type(state.ty), &mut inner)?;
+    put_word(alloc, word_of_policy(state.policy), &mut inner)?;
+    put_literal(alloc, &state.initial, &mut inner)?;
+    put_list(inner, out)
+}
+
+// Appends the forms of states.
+fn put_states(alloc: Global, states: &[State], out: &mut Vec<Tree>) -> Result<(), NoMemory>
+    ensures { OnOk result ((g : Sketch) →
+        behind (forest_view out.new.items) (unplaced_sketch g)
+        ≡ behind (forest_view out.old.items) (unplaced_sketch (states_forms states.now g))) }
+{
+    let mut rest = states;
+    while let Some((state, more)) = rest.split_first() {
+        put_state(alloc, state, out)?;
+        rest = more;
+    }
+    Ok(())
+}
+
+// Appends the form of a function.
+#[tactic(auto, using(crate::proofs::Written::written))]
+fn put_function(alloc: Global, function: &Function, out: &mut Vec<Tree>) -> Result<(), NoMemory>
+    ensures { OnOk result ((g : Sketch) →
+        behind (forest_view out.new.items) (unplaced_sketch g)
+        ≡ behind (forest_view out.old.items)
+        (unplaced_sketch (function_forms (function_view function.now) g))) }
+{
+    let mut inner = list_with_word(alloc, b"fun")?;
+    put_word(alloc, function.name.text.bytes(), &mut inner)?;
+    let mut parameters = Vec::new(alloc);
+    put_parameters(alloc, &function.parameters, &mut parameters)?;
+    put_list(parameters, &mut inner)?;
+    put_stmts(alloc, &function.body, &mut inner)?;
+    put_list(inner, out)
+}
+
+// Appends the forms of functions.
+fn put_functions(alloc: Global, functions: &[Function], out: &mut Vec<Tree>) -> Result<(), NoMemory>
+    ensures { OnOk result ((g : Sketch) →
+        behind (forest_view out.new.items) (unplaced_sketch g)
+        ≡ behind (forest_view out.old.items)
+        (unplaced_sketch (functions_forms (functions_view functions.now) g))) }
+{
+    let mut rest = functions;
+    while let Some((function, more)) = rest.split_first() {
+        put_function(alloc, function, out)?;
+        rest = more;
+    }
+    Ok(())
+}
+
+/// Returns the trees of a program, all at offset 0: the header, the states and the functions.
+///
+/// They are the trees that the program was parsed from, except for offsets and for the script. A
+/// rule of this project. Fails if memory runs out.
+#[tactic(auto, using(crate::proofs::Written::written))]
+pub fn forms_of(alloc: Global, program: &Program) -> Result<Vec<Tree>, NoMemory>
+    ensures { IfOk result (λ trees. forest_view trees.items
+        ≡ unplaced_sketch (text_forms
+        (record { program = program_view program.now; script = [] }))) }
+{
+    let mut header = list_with_word(alloc, b"compose")?;
+    put_word(alloc, b"1", &mut header)?;
+    let mut forms = Vec::new(alloc);
+    put_list(header, &mut forms)?;
+    put_states(alloc, &program.states, &mut forms)?;
+    put_functions(alloc, &program.functions, &mut forms)?;
+    Ok(forms)
+}

@@ -1,0 +1,115 @@
+-- No fault of a script is out of memory.
+use Rattle.std.proofs.Common.{◌≢◌, ◌-◌, nat_lt, not, ℕ, List, [], ◌∷◌, ◌++◌, Bool, true, false, cond, length, ap, Option, Some, None, slice_get}
+use Rattle.lang_ast.specs.declared.program.State.{State}
+use Rattle.lang_ast.specs.declared.script.SnapshotRef.{SnapshotRef}
+use Rattle.lang_ast.specs.declared.script.SnapshotRef.TheVariants.{Global, Named}
+use Rattle.lang_ast.specs.declared.script.CallForm.{CallForm}
+use Rattle.lang_ast.specs.declared.script.CallForm.TheVariants.{Take, Read, Write, Add, Apply, Dispose}
+use Rattle.lang_ast.specs.declared.script.ScriptForm.{ScriptForm}
+use Rattle.lang_ast.specs.declared.script.ScriptForm.TheVariants.{Once, Repeat}
+use Rattle.lang_ast.specs.declared.script.DoForm.{DoForm}
+use Rattle.script_lang.specs.Scripts.{actors_of, is_among, forms_count}
+use Rattle.script_lang.specs.SnapshotNames.{latest}
+use Rattle.script_lang.specs.ScriptFaults.{fault_if, most_steps, oversized, long_forms, further_actors, may_repeat, wrong_repeats, forms_wrong_repeats, TextStep, CallStep, FrameStep, text_script, FirstUses, no_uses, uses_after, unknown_name, snapshot_faults, state_faults, is_int, add_faults, call_faults, step_faults, steps_faults, script_faults, goes_before, first_fault, first_of_faults, script_refusal}
+use Rattle.script_lang.specs.declared.faults.ScriptStop.{ScriptStop}
+use Rattle.script_lang.specs.declared.faults.ScriptStop.TheVariants as script
+
+AreKnown : List ScriptStop → Type 0
+AreKnown [] = Unit {0}
+AreKnown (f ∷ fs) = (f ≢ script.NoMemory) × AreKnown fs
+
+known-append : (xs ys : List ScriptStop) → AreKnown xs → AreKnown ys → AreKnown (xs ++ ys)
+unfolding AreKnown
+known-append [] ys h k = k
+known-append (x ∷ xs) ys h k = (h.0, known-append xs ys h.1 k)
+
+known-none : AreKnown []
+unfolding AreKnown
+known-none = tt
+
+known-if : (b : Bool) (f : ScriptStop) → f ≢ script.NoMemory → AreKnown (fault_if b f)
+unfolding AreKnown
+known-if true f h = (h, tt)
+known-if false f h = tt
+
+known-oversized : (o : Option ℕ) → AreKnown (oversized o)
+unfolding AreKnown
+known-oversized None = tt
+known-oversized (Some at) = ((λ e. absurd cc), tt)
+
+known-long : (left : ℕ) (forms : List DoForm) → AreKnown (long_forms left forms)
+known-long left [] = known-none
+known-long left (d ∷ more) = known-append (fault_if (nat_lt left (forms_count d.steps)) (script.Limit d.at)) _ (known-if _ _ (λ e. absurd cc)) (known-long (left - forms_count d.steps) more)
+
+known-actors : (actors : List (List ℕ)) (forms : List DoForm) → AreKnown (further_actors actors forms)
+known-actors actors [] = known-none
+known-actors actors (d ∷ more) = known-append (fault_if (not (is_among d.actor.text actors)) (script.Limit d.at)) _ (known-if _ _ (λ e. absurd cc)) (known-actors actors more)
+
+known-repeats : (steps : List ScriptForm) → AreKnown (wrong_repeats steps)
+known-repeats [] = known-none
+known-repeats (Once s ∷ more) = known-repeats more
+known-repeats (Repeat at times steps ∷ more) = known-append (fault_if (not (may_repeat times)) (script.Limit at)) _ (known-if _ _ (λ e. absurd cc)) (known-repeats more)
+
+known-all-repeats : (forms : List DoForm) → AreKnown (forms_wrong_repeats forms)
+known-all-repeats [] = known-none
+known-all-repeats (d ∷ more) = known-append (wrong_repeats d.steps) _ (known-repeats d.steps) (known-all-repeats more)
+
+-- Without threads the name of a snapshot is only unknown or known.
+known-name : (at : ℕ) (o : Option ℕ) → AreKnown (unknown_name at o)
+unfolding AreKnown
+known-name at None = ((λ e. absurd cc), tt)
+known-name at (Some taker) = tt
+
+known-snapshot : (u : FirstUses) (actor at : ℕ) (s : SnapshotRef) → AreKnown (snapshot_faults false u actor at s)
+known-snapshot u actor at Global = known-none
+known-snapshot u actor at (Named name) = known-append (unknown_name at (latest u.takers name.text)) [] (known-name at (latest u.takers name.text)) known-none
+
+known-state : (states : List State) (at x : ℕ) → AreKnown (state_faults states at x)
+known-state states at x = known-if (not (nat_lt x (length states))) (script.Unknown at) (λ e. absurd cc)
+
+known-add : (at : ℕ) (o : Option State) → AreKnown (add_faults at o)
+known-add at None = known-none
+known-add at (Some s) = known-if (not (is_int s.ty)) (script.Type at) (λ e. absurd cc)
+
+known-call : (states : List State) (u : FirstUses) (actor : ℕ) (c : CallForm) → AreKnown (call_faults false states u actor c)
+known-call states u actor (Take at name kind parent) = known-append (snapshot_faults false u actor at parent) [] (known-snapshot u actor at parent) known-none
+known-call states u actor (Read at s state x) = known-append (snapshot_faults false u actor at s) _ (known-snapshot u actor at s) (known-state states at x)
+known-call states u actor (Write at s state x value) = known-append (snapshot_faults false u actor at s) _ (known-snapshot u actor at s) (known-state states at x)
+known-call states u actor (Add at s state x amount) = known-append (snapshot_faults false u actor at s) _ (known-snapshot u actor at s) (known-append (state_faults states at x) _ (known-state states at x) (known-add at (slice_get states x)))
+known-call states u actor (Apply at s) = known-snapshot u actor at s
+known-call states u actor (Dispose at s) = known-snapshot u actor at s
+
+known-step : (states : List State) (u : FirstUses) (s : TextStep) → AreKnown (step_faults false states u s)
+known-step states u (CallStep actor c) = known-call states u actor c
+known-step states u (FrameStep actor at) = known-none
+
+known-steps : (states : List State) (u : FirstUses) (ss : List TextStep) → AreKnown (steps_faults false states u ss)
+known-steps states u [] = known-none
+known-steps states u (s ∷ more) = known-append (step_faults false states u s) _ (known-step states u s) (known-steps states (uses_after u s) more)
+
+known-first : (g f : ScriptStop) → g ≢ script.NoMemory → f ≢ script.NoMemory → first_fault (Some g) f ≢ Some script.NoMemory
+unfolding first_fault
+known-first g f h k = by (goes_before f g)
+  where
+    by : (b : Bool) → cond b (Some f) (Some g) ≢ Some script.NoMemory
+    by true e = k cc
+    by false e = h cc
+
+known-all : (o : Option ScriptStop) (fs : List ScriptStop) → o ≢ Some script.NoMemory → AreKnown fs → first_of_faults o fs ≢ Some script.NoMemory
+unfolding AreKnown first_fault
+known-all o [] h k = h
+known-all o (f ∷ fs) h k = known-all (first_fault o f) fs (one o h) k.1
+  where
+    one : (p : Option ScriptStop) → p ≢ Some script.NoMemory → first_fault p f ≢ Some script.NoMemory
+    one None i e = k.0 cc
+    one (Some g) i e = known-first g f (λ is. i (ap (λ x. Some x) is)) k.0 e
+
+known-faults : (states : List State) (beyond : Option ℕ) (forms : List DoForm) → AreKnown (script_faults false states beyond forms)
+known-faults states beyond forms =
+    known-append (oversized beyond) _ (known-oversized beyond) (
+    known-append (long_forms most_steps forms) _ (known-long most_steps forms) (
+    known-append (further_actors (actors_of forms) forms) _ (known-actors (actors_of forms) forms) (
+    known-append (forms_wrong_repeats forms) _ (known-all-repeats forms) (known-steps states no_uses (text_script (actors_of forms) forms)))))
+
+pub known_refusal : (states : List State) (beyond : Option ℕ) (forms : List DoForm) → script_refusal false states beyond forms ≢ Some script.NoMemory
+known_refusal states beyond forms = known-all None (script_faults false states beyond forms) (λ e. absurd cc) (known-faults states beyond forms)

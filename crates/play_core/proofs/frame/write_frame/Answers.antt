@@ -1,9 +1,0 @@
-use Rattle.std.proofs.Common.{sym, ◌∙◌}
-use Rattle.script_lang.specs.Lines.{kept_after}
-use Rattle.play_core.proofs.Written.{says_same}
-use Rattle.play_core.proofs.Frames.{good_lines}
-use Rattle.play_core.proofs.frame.write_frame.Goals as goal
-
-pub returns-in-Some-clause-says : goal.returns-in-Some-clause-says
-returns-in-Some-clause-says g c k good told keeps =
-    says_same _ _ _ _ _ (good_lines good k c.in-Some.report c.groups.result.now (sym c.in-Some.is ∙ told) (c.groups.ensures (kept_after k good) keeps)) c.write_good_frame.ensures.says

@@ -1,0 +1,12 @@
+pub mod Members
+pub mod Written
+pub mod Owings
+pub mod Reports
+pub mod Frames
+pub mod CallLines
+pub mod OpenFrames
+pub mod RunParts
+pub mod Sequences
+pub mod FrameParts
+pub mod RunLines
+pub mod Openings

@@ -1,0 +1,129 @@
+-- The world and the composition before the first step.
+use Rattle.std.proofs.Common.{◌≡◌, ℕ, List, [], ◌∷◌, ◌++◌, Bool, true, false, None, ◌&&◌, arith, refl, sym, ◌∙◌, subst, length, map, nat_lt}
+use Rattle.std.proofs.lemmas.List.{length-map}
+use Rattle.rt_groups.specs.Frames.{no_last_frame}
+use Rattle.rt_values.specs.Values.{type_of, same_type}
+use Rattle.rt_values.specs.declared.value.Ty.{Ty}
+use Rattle.rt_values.specs.declared.value.Ty.TheVariants as ty
+use Rattle.rt_values.specs.declared.value.Value.{Value}
+use Rattle.lang_ast.specs.declared.program.State.{State}
+use Rattle.lang_ast.specs.Terms.{Func}
+use Rattle.lang_ast.specs.Programs.{root_number}
+use Rattle.lang_checks.specs.declared.faults.CheckKind.{CheckKind}
+use Rattle.lang_checks.specs.declared.faults.CheckKind.TheVariants as kind
+use Rattle.lang_checks.specs.Scopes.{duplicate_faults}
+use Rattle.lang_checks.specs.FaultOrder.{fault_unless}
+use Rattle.lang_checks.specs.ProgramFaults.{program_faults, states_faults, is_well_typed}
+use Rattle.snap_policy.specs.declared.policy.BuiltIn.{BuiltIn}
+use Rattle.snap_policy.specs.Table.{table, table_fits}
+use Rattle.snap_api.specs.Valid.{IsValid}
+use Rattle.snap_api.specs.World.{World, start, world_after_make, make_refusal, with_object}
+use Rattle.snap_api.proofs.ValidMade.{valid_start, valid_made, makeable}
+use Rattle.snap_api.proofs.ValidMoves.{valid_watched}
+use Rattle.script_lang.specs.NamesInMemory.{Holds}
+use Rattle.script_lang.specs.StepCalls.{with_states, opening_world}
+use Rattle.recompose_scratch.specs.Keeping.{Keeps}
+use Rattle.play_run.specs.Opening.{StatesFit}
+use Rattle.play_run.specs.RunOutput.{first_run}
+use Rattle.play_run.specs.RunState.{IsRun}
+use Rattle.play_run.specs.declared.memory.RunMemory.{RunMemory}
+
+-- Making states makes no watcher.
+pub lasts-states : (w : World BuiltIn) (ss : List State) → (with_states w ss).lasts ≡ w.lasts
+lasts-states w [] = refl
+lasts-states w (s ∷ more) = lasts-states (world_after_make w (type_of s.initial) s.policy s.initial) more
+
+same-itself : (t : Ty) → same_type t t ≡ true
+same-itself ty.Int = refl
+same-itself ty.Bool = refl
+same-itself ty.Text = refl
+same-itself ty.Ints = refl
+
+-- A state's value has its own type, and its policy fits.
+pub makes-state : (v : Value) (p : BuiltIn) → table_fits p (type_of v) ≡ true → make_refusal table (type_of v) p v ≡ None
+makes-state v p fits = rw (same-itself (type_of v)) (rw fits refl)
+
+valid-states : (w : World BuiltIn) (ss : List State) → StatesFit ss → IsValid table w → IsValid table (with_states w ss)
+valid-states w [] fit h = h
+valid-states w (s ∷ more) fit h =
+    valid-states (world_after_make w (type_of s.initial) s.policy s.initial) more fit.1
+    (valid_made h (type_of s.initial) s.policy s.initial (makeable table (type_of s.initial) s.policy s.initial (makes-state s.initial s.policy fit.0)))
+
+-- Making states takes no snapshot.
+count-states : (w : World BuiltIn) (ss : List State) → length (with_states w ss).snapshots ≡ length w.snapshots
+count-states w [] = refl
+count-states w (s ∷ more) = count-states (world_after_make w (type_of s.initial) s.policy s.initial) more ∙ length-map w.snapshots (with_object (record { value = s.initial; stamp = 0 }))
+
+clock-states : (w : World BuiltIn) (ss : List State) → (with_states w ss).clock ≡ w.clock
+clock-states w [] = refl
+clock-states w (s ∷ more) = clock-states (world_after_make w (type_of s.initial) s.policy s.initial) more
+
+pub opened : {functions : List Func} {V : Type 0} {stands : V → World BuiltIn → Type 0} {world : V} {memory : RunMemory} (actor : ℕ) (states : List State) → StatesFit states →
+    stands world (opening_world states) → Keeps memory.kept.composition no_last_frame → Holds memory.names [] →
+    IsRun functions stands world memory actor None (first_run states)
+opened actor states fit stood keeps holds =
+    let counted = count-states (start 0) states in
+    record {
+      facts = record {
+        world_stands = stood;
+        valid = valid_watched (valid-states (start 0) states fit (valid_start table 0 (omega arith)));
+        few = omega (arith, counted);
+        known = λ name n found. absurd cc;
+        keeps = keeps;
+        owes = refl;
+        noted = refl;
+        at_frame = refl;
+      };
+      named = holds;
+    }
+
+-- The states of a program without faults fit.
+none_in : {A : Type 0} (xs ys : List A) → xs ++ ys ≡ [] → (xs ≡ []) × (ys ≡ [])
+none_in [] ys h = (refl, h)
+none_in (x ∷ xs) ys h = absurd cc
+
+held : (b : Bool) (k : CheckKind) (at : ℕ) → fault_unless b k at ≡ [] → b ≡ true
+held true k at h = refl
+held false k at h = absurd cc
+
+both : (a b : Bool) → a && b ≡ true → (a ≡ true) × (b ≡ true)
+both true true h = (refl, refl)
+both true false h = absurd cc
+both false b h = absurd cc
+
+same_types : (s t : Ty) → same_type s t ≡ true → s ≡ t
+same_types ty.Int ty.Int h = refl
+same_types ty.Bool ty.Bool h = refl
+same_types ty.Text ty.Text h = refl
+same_types ty.Ints ty.Ints h = refl
+same_types ty.Int ty.Bool h = absurd cc
+same_types ty.Int ty.Text h = absurd cc
+same_types ty.Int ty.Ints h = absurd cc
+same_types ty.Bool ty.Int h = absurd cc
+same_types ty.Bool ty.Text h = absurd cc
+same_types ty.Bool ty.Ints h = absurd cc
+same_types ty.Text ty.Int h = absurd cc
+same_types ty.Text ty.Bool h = absurd cc
+same_types ty.Text ty.Ints h = absurd cc
+same_types ty.Ints ty.Int h = absurd cc
+same_types ty.Ints ty.Bool h = absurd cc
+same_types ty.Ints ty.Text h = absurd cc
+
+states-fit : (ss : List State) → states_faults ss ≡ [] → StatesFit ss
+states-fit [] h = tt
+states-fit (s ∷ more) h =
+    let parts = none_in (fault_unless (is_well_typed s) _ s.at) (states_faults more) h in
+    let typed = both (same_type (type_of s.initial) s.ty) (table_fits s.policy s.ty) (held (is_well_typed s) _ s.at parts.0) in
+    (subst (λ t. table_fits s.policy t ≡ true) (sym (same_types (type_of s.initial) s.ty typed.0)) typed.1, states-fit more parts.1)
+
+fourth : {A : Type 0} (a b c d e : List A) → a ++ (b ++ (c ++ (d ++ e))) ≡ [] → d ≡ []
+fourth a b c d e h =
+    let one = none_in a (b ++ (c ++ (d ++ e))) h in
+    let two = none_in b (c ++ (d ++ e)) one.1 in
+    let three = none_in c (d ++ e) two.1 in
+    (none_in d e three.1).0
+
+pub program-fits : (header : ℕ) (states : List State) (functions : List Func) → program_faults (record { header = header; states = states; functions = functions }) ≡ [] → StatesFit states
+program-fits header states functions h =
+    states-fit states (fourth (duplicate_faults [] (map (λ s. s.name) states)) (duplicate_faults [] (map (λ f. f.name) functions))
+    (fault_unless (nat_lt (root_number functions) (length functions)) kind.Unknown header) (states_faults states) _ h)

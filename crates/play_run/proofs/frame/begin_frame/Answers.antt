@@ -1,0 +1,13 @@
+use Rattle.std.proofs.Common.{refl, sym, subst, append-nil}
+use Rattle.rt_streams.specs.Streams.{AppendsPart}
+use Rattle.play_run.proofs.FrameParts.{begun_run}
+use Rattle.play_run.proofs.frame.begin_frame.Goals as goal
+
+pub returns-in-Ok-clause-left : goal.returns-in-Ok-clause-left
+returns-in-Ok-clause-left g c r h =
+    begun_run _ c.args.actor.number r c.in-Ok.reply c.note_frame.result (c.in-Ok.ensures.reply r.standing.world h.facts.world_stands) c.note_frame.ensures.frame c.note_frame.ensures.owed h
+    (c.in-Ok.ensures.left r.standing.world h.facts.world_stands) refl refl
+
+pub returns-in-Err-clause-says : goal.returns-in-Err-clause-says
+returns-in-Err-clause-says g c r h =
+    record { all = tt; part = subst (AppendsPart _ _) (sym (append-nil _)) (c.in-Err.ensures.says r.standing.world h.facts.world_stands).part }

@@ -1,0 +1,28 @@
+use Rattle.std.proofs.Common.{◌++◌, ◌∙◌, ap, None}
+use Rattle.script_lang.specs.StepCalls.{step_parts, steps_parts}
+use Rattle.play_run.specs.RunOutput.{parts_of, parts_after}
+use Rattle.play_run.specs.RunPromise.{job_titles, job_functions}
+use Rattle.play_run.proofs.Sequences.{parts_append, loop_next, loop_stopped}
+use Rattle.play_run.proofs.steps.run_steps.Goals as goal
+
+pub loop-step-preserved : goal.loop-step-preserved
+loop-step-preserved g c = record {
+  faults = c.in-Ok.ensures.faults ∙ c.loop-step.invariant.faults;
+  runs = λ r h.
+      let run = c.loop-step.invariant.runs r h in
+      let here = parts_of c.args.actor.number (step_parts c.in-Some.step.now) in
+      let rest = parts_of c.args.actor.number (steps_parts c.in-Some.more.now) in
+      let split = ap (λ l. parts_of c.args.actor.number (steps_parts l)) c.in-Some.ensures.cases.0 ∙ parts_append c.args.actor.number (step_parts c.in-Some.step.now) (steps_parts c.in-Some.more.now) in
+      let both = loop_next (job_titles c.args.actor.job.now) (job_functions c.args.actor.job.now) c.args.actor.number None _ _ _ r run.0 here rest _ _ split run.1 run.2
+      (c.in-Ok.ensures.runs (parts_after (job_functions c.args.actor.job.now) r run.0) run.2.left) in
+      (run.0 ++ here, both.0, both.1);
+}
+
+pub returns-in-Err-clause-runs : goal.returns-in-Err-clause-runs
+returns-in-Err-clause-runs g c r h =
+    let run = c.loop-step.invariant.runs r h in
+    let here = parts_of c.args.actor.number (step_parts c.in-Some.step.now) in
+    let rest = parts_of c.args.actor.number (steps_parts c.in-Some.more.now) in
+    let split = ap (λ l. parts_of c.args.actor.number (steps_parts l)) c.in-Some.ensures.cases.0 ∙ parts_append c.args.actor.number (step_parts c.in-Some.step.now) (steps_parts c.in-Some.more.now) in
+    loop_stopped (job_titles c.args.actor.job.now) (job_functions c.args.actor.job.now) c.args.actor.number None _ _ _ r run.0 here rest _ _ c.in-Err.stop split run.1 run.2
+    (c.in-Err.ensures.runs (parts_after (job_functions c.args.actor.job.now) r run.0) run.2.left)

@@ -1,0 +1,5 @@
+pub mod RunPromise
+pub mod OwedObjects
+pub mod Opening
+pub mod RunOutput
+pub mod RunState

@@ -1,0 +1,55 @@
+-- Internal: what the parts of steps print and leave.
+use Rattle.std.specs.Prelude.{ℕ, List, [], ◌∷◌, ◌++◌, map, Option, Some, None}
+use Rattle.lang_ast.specs.declared.program.State.{State}
+use Rattle.lang_ast.specs.Terms.{Func}
+use Rattle.snap_policy.specs.Table.{table}
+use Rattle.snap_api.specs.declared.data.Request.{Request}
+use Rattle.snap_api.specs.World.{call}
+use Rattle.script_lang.specs.StepCalls.{Part, ActorPart, of_actor, Notes, no_notes, request_of, notes_after, entry}
+use Rattle.script_lang.specs.Lines.{Titles, Standing, initial_standing, lines_at, next}
+
+-- The state of a run between two parts: what its lines depend on, and what its calls depend on.
+pub record Run : Type 0 where
+  pub standing : Standing
+  pub notes : Notes
+
+-- The state before the first part.
+abbrev pub first_run : List State → Run
+first_run states = record { standing = initial_standing states; notes = no_notes }
+
+module _ (t : Titles) (functions : List Func) where
+  -- The lines of the call that an actor makes, if it makes one.
+  abbrev pub request_lines : Run → ℕ → Option Request → List (List ℕ)
+  request_lines r actor None = []
+  request_lines r actor (Some q) = lines_at t functions r.standing (entry r.standing.world actor q)
+
+  -- The lines of a part.
+  abbrev pub part_lines : Run → ActorPart → List (List ℕ)
+  part_lines r p = request_lines r p.actor (request_of r.notes p.part)
+
+module _ (functions : List Func) where
+  -- The state after that call.
+  abbrev pub run_after_request : Run → ActorPart → Option Request → Run
+  run_after_request r p None = r
+  run_after_request r p (Some q) = record {
+    standing = next functions r.standing (entry r.standing.world p.actor q);
+    notes = notes_after r.notes p.part (call table r.standing.world p.actor q).1;
+  }
+
+  -- The state after a part.
+  abbrev pub part_after : Run → ActorPart → Run
+  part_after r p = run_after_request r p (request_of r.notes p.part)
+
+  -- The state after parts.
+  abbrev pub parts_after : Run → List ActorPart → Run
+  parts_after r [] = r
+  parts_after r (p ∷ ps) = parts_after (part_after r p) ps
+
+-- The lines of parts, one after the other.
+abbrev pub parts_lines : Titles → List Func → Run → List ActorPart → List (List ℕ)
+parts_lines t functions r [] = []
+parts_lines t functions r (p ∷ ps) = part_lines t functions r p ++ parts_lines t functions (part_after functions r p) ps
+
+-- The parts of an actor.
+abbrev pub parts_of : ℕ → List Part → List ActorPart
+parts_of actor ps = map (of_actor actor) ps

@@ -1,0 +1,96 @@
+-- Internal: how the state of a run in memory represents the state of the definitions, and what was written.
+use Rattle.std.specs.Prelude.{◌≡◌, ◌≢◌, ◌⊎◌, ◌<◌, ◌≤◌, ◌+◌, ℕ, List, [], ◌∷◌, false, length, Option, Some, None, Result, OnOk}
+use Rattle.std.specs.List.{flat_map}
+use Rattle.lang_ast.specs.Terms.{Func}
+use Rattle.recompose_scratch.specs.Keeping.{Keeps}
+use Rattle.snap_policy.specs.Table.{table}
+use Rattle.snap_policy.specs.declared.policy.BuiltIn.{BuiltIn}
+use Rattle.snap_api.specs.declared.data.Reply.{Reply}
+use Rattle.snap_api.specs.declared.data.Reply.TheVariants as reply
+use Rattle.snap_api.specs.World.{World, last_of, snapshot_of, is_mutable}
+use Rattle.snap_api.specs.Valid.{IsValid}
+use Rattle.snap_api.specs.Calls.{IsOwn}
+use Rattle.script_lang.specs.SnapshotNames.{NamedNumber, latest, never_taken}
+use Rattle.script_lang.specs.NamesInMemory.{Holds}
+use Rattle.script_lang.specs.StepCalls.{Part, Take, BeginFrame, EndFrame, ActorPart, watcher_number}
+use Rattle.script_lang.specs.Lines.{Titles}
+use Rattle.play_run.specs.OwedObjects.{Owes}
+use Rattle.play_run.specs.RunPromise.{WritesBytes}
+use Rattle.play_run.specs.RunOutput.{Run, parts_lines, parts_after}
+use Rattle.play_run.specs.declared.memory.Kept.{Kept}
+use Rattle.play_run.specs.declared.memory.RunMemory.{RunMemory}
+use Rattle.play_run.specs.declared.write_lines.Stop.{Stop}
+
+-- The bytes of lines, one after the other.
+abbrev pub flat : List (List ℕ) → List ℕ
+flat ls = flat_map (λ l. l) ls
+
+-- Every number that a name has is that of a snapshot, or stands for a refused take.
+abbrev pub AreKnown : World BuiltIn → List NamedNumber → Type 0
+AreKnown w names = (name : List ℕ) (n : ℕ) → latest names name ≡ Some n → (n < length w.snapshots) ⊎ (n ≡ never_taken)
+
+-- An actor's frame with this snapshot is open. The snapshot shows the watcher's last map, and no name has its number.
+pub record InFrame (actor name : ℕ) (r : Run) : Type 0 where
+  pub frames : r.standing.frames ≡ name ∷ []
+  pub own : IsOwn r.standing.world actor name
+  pub fixed : is_mutable (snapshot_of r.standing.world name).kind ≡ false
+  pub last : last_of r.standing.world watcher_number ≡ Some (snapshot_of r.standing.world name).view
+  pub apart : (other : List ℕ) (n : ℕ) → latest r.notes.names other ≡ Some n → n ≢ name
+
+-- No frame is open, or that of the actor with this snapshot.
+abbrev pub IsAtFrame : ℕ → Option ℕ → Run → Type 0
+IsAtFrame actor None r = r.standing.frames ≡ []
+IsAtFrame actor (Some name) r = InFrame actor name r
+
+-- The world represents the plain world of the state, which is valid. The composition of the last good frame is kept,
+-- and what changed from then to the watcher's last map is owed.
+pub record RunFacts {V : Type 0} (functions : List Func) (stands : V → World BuiltIn → Type 0) (world : V) (kept : Kept)
+    (actor : ℕ) (frame : Option ℕ) (r : Run) : Type 0 where
+  pub world_stands : stands world r.standing.world
+  pub valid : IsValid table r.standing.world
+  pub few : length r.standing.world.snapshots ≤ r.standing.world.clock + 1
+  pub known : AreKnown r.standing.world r.notes.names
+  pub keeps : Keeps kept.composition r.standing.kept
+  pub owes : Owes functions r.standing.kept.seen r.standing.kept.trail (last_of r.standing.world watcher_number) kept.owed
+  pub noted : r.notes.frame ≡ frame
+  pub at_frame : IsAtFrame actor frame r
+
+-- The same with the table of names in memory.
+pub record IsRun {V : Type 0} (functions : List Func) (stands : V → World BuiltIn → Type 0) (world : V) (memory : RunMemory)
+    (actor : ℕ) (frame : Option ℕ) (r : Run) : Type 0 where
+  pub facts : RunFacts functions stands world memory.kept actor frame r
+  pub named : Holds memory.names r.notes.names
+
+-- The objects that a take for the watcher lists.
+abbrev pub changed_by : Reply → List ℕ
+changed_by (reply.TakenFor name changed) = changed
+changed_by _ = []
+
+-- A part that neither begins nor ends a frame.
+abbrev pub IsPlain : Part → Type 0
+IsPlain BeginFrame = ⊥
+IsPlain EndFrame = ⊥
+IsPlain _ = Unit {0}
+
+-- A part that neither begins nor ends a frame and takes no snapshot.
+abbrev pub KeepsNames : Part → Type 0
+KeepsNames (Take name kind parent) = ⊥
+KeepsNames BeginFrame = ⊥
+KeepsNames EndFrame = ⊥
+KeepsNames _ = Unit {0}
+
+-- The lines of the parts after the state `r` were written, and the state after them is represented. `frame` is the open
+-- frame before the parts, and `frame'` the one after them.
+pub record RunsAt {V T : Type 0} (t : Titles) (functions : List Func) (stands : V → World BuiltIn → Type 0) (actor : ℕ)
+    (parts : List ActorPart) (world' : V) (memory' : RunMemory) (frame' : Option ℕ)
+    (written written' : Option (List ℕ)) (r : Run) (result : Result T Stop) : Type 0 where
+  pub says : WritesBytes written written' (flat (parts_lines t functions r parts)) result
+  pub left : OnOk result (IsRun functions stands world' memory' actor frame' (parts_after functions r parts))
+
+-- The same for every state that is represented before.
+abbrev pub RunsParts : {V T : Type 0} (t : Titles) (functions : List Func) (stands : V → World BuiltIn → Type 0) (actor : ℕ)
+    (parts : List ActorPart) (world world' : V) (memory memory' : RunMemory) (frame frame' : Option ℕ)
+    (written written' : Option (List ℕ)) (result : Result T Stop) → Type 0
+RunsParts t functions stands actor parts world world' memory memory' frame frame' written written' result =
+    (r : Run) → IsRun functions stands world memory actor frame r →
+    RunsAt t functions stands actor parts world' memory' frame' written written' r result

@@ -1,0 +1,20 @@
+//! Runs the script of a checked program: makes the calls of its steps in a world of snapshots, composes each frame in a
+//! snapshot of its own, and writes the line of each call and the lines of each frame to a sink.
+//!
+//! In Compose this is the work of `Recomposer` (`composeInitial`, `recompose`) and of a test driver. Scripts and lines are
+//! rules of this project.
+//! Promises: the bytes written are those of `run_text`, the lines of the history that the steps make in the plain world,
+//! or a first part of them after an error.
+#![tactic(auto)]
+
+mod calls;
+mod frame;
+mod job;
+mod memory;
+mod open;
+mod steps;
+mod write_lines;
+
+pub use job::Job;
+pub use steps::run_script;
+pub use write_lines::{Stop, write_piece};

@@ -1,9 +1,0 @@
-use Rattle.std.proofs.Common.{◌≡◌, length}
-use Rattle.script_lang.specs.Scripts.{long_forms, most_steps, first_of_faults}
-use Rattle.script_lang.proofs.script.find_long_forms.Given as goal
-
-abbrev pub invariant-loop-form : goal.invariant-loop-form
-invariant-loop-form l = first_of_faults l.least (long_forms l.room l.rest) ≡ first_of_faults l.initial.least (long_forms most_steps l.forms)
-
-abbrev pub decreases-loop-form : goal.decreases-loop-form
-decreases-loop-form l = length l.rest
