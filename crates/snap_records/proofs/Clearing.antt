@@ -5,8 +5,8 @@ use Rattle.std.proofs.lemmas.Option.{get_or_from_slice_get}
 use Rattle.std.specs.Prelude.{slice_get, slice_index_or, slice_set}
 use Rattle.rt_values.specs.Maps.{contains}
 use Rattle.snap_records.specs.Records.{Rec}
-use Rattle.snap_records.specs.Edits.{record_without_ids}
-use Rattle.snap_records.specs.Chains.{record_at, keys_at, chain_of, Replaces, ClearsAt, no_record}
+use Rattle.snap_records.specs.Edits.{record_without_ids, record_with_ids}
+use Rattle.snap_records.specs.Chains.{record_at, keys_at, chain_of, Replaces, ClearsAt, KeepsAt, no_record}
 use Rattle.snap_records.specs.declared.chains.Chains.{Chains}
 use Rattle.snap_records.proofs.Putting.{rec_there}
 
@@ -34,6 +34,33 @@ cleared_none old ids x i r there own =
       keys = λ y. refl;
       here = sym (set-get_or (chain_of old x) i no_record) ∙ ap (λ (q : Rec). slice_set (chain_of old x) i q) (sym is);
       others = λ y other. refl;
+      many = refl;
+    }
+
+keeps : (ids : List ℕ) (r : Rec) (b : Bool) → contains r.id ids ≡ b → record_with_ids ids r ≡ cond b r (record r { id = 0 })
+keeps ids r b is = ap (λ (t : Bool). cond t r (record r { id = 0 })) is
+
+-- the record was none of these ids
+pub unkept_one : (old new : Chains) (ids : List ℕ) (x i r : ℕ) → slice_get (keys_at old x) i ≡ Some r → contains (record_at old r).id ids ≡ false → Replaces old new r (record (record_at old r) { id = 0 }) → length new.heads.items ≡ length old.heads.items → KeepsAt old new ids x i
+unkept_one old new ids x i r there other p many =
+    let at : slice_index_or (chain_of old x) i no_record ≡ record_at old r = get_or_from_slice_get (chain_of old x) i (record_at old r) no_record (rec_there old x i r there) in
+    let is : record (record_at old r) { id = 0 } ≡ record_with_ids ids (slice_index_or (chain_of old x) i no_record) = sym (keeps ids (record_at old r) false other) ∙ ap (record_with_ids ids) (sym at) in
+    record {
+      keys = p.keys;
+      here = p.here x i there ∙ ap (λ (q : Rec). slice_set (chain_of old x) i q) is;
+      others = λ y apart. p.others y (λ k h. apart (old.once y x k i r h there).0);
+      many = many;
+    }
+
+-- or it was
+pub kept_one : (old : Chains) (ids : List ℕ) (x i r : ℕ) → slice_get (keys_at old x) i ≡ Some r → contains (record_at old r).id ids ≡ true → KeepsAt old old ids x i
+kept_one old ids x i r there own =
+    let at : slice_index_or (chain_of old x) i no_record ≡ record_at old r = get_or_from_slice_get (chain_of old x) i (record_at old r) no_record (rec_there old x i r there) in
+    let is : record_with_ids ids (slice_index_or (chain_of old x) i no_record) ≡ slice_index_or (chain_of old x) i no_record = ap (record_with_ids ids) at ∙ keeps ids (record_at old r) true own ∙ sym at in
+    record {
+      keys = λ y. refl;
+      here = sym (set-get_or (chain_of old x) i no_record) ∙ ap (λ (q : Rec). slice_set (chain_of old x) i q) (sym is);
+      others = λ y apart. refl;
       many = refl;
     }
 

@@ -1,10 +1,10 @@
 -- A record put before the others or in place of one, and records that get id 0.
-use Rattle.std.proofs.Common.{◌≡◌, ◌≢◌, ℕ, zero, suc, ◌==◌, ◌<◌, List, [], ◌∷◌, map, refl, sym, ap, ◌∙◌, subst, Some, Bool, true, false, cond, arith, ◌⊎◌, inl, inr}
+use Rattle.std.proofs.Common.{◌≡◌, ◌≢◌, ℕ, zero, suc, ◌==◌, ◌<◌, List, [], ◌∷◌, map, refl, sym, ap, ◌∙◌, subst, Some, Bool, true, false, not, cond, arith, ◌⊎◌, inl, inr}
 use Rattle.std.proofs.lemmas.Bool.Decides.{Decides-eqb}
 use Rattle.std.specs.Prelude.{slice_get, slice_set}
 use Rattle.rt_values.specs.Maps.{contains}
 use Rattle.snap_records.specs.Records.{Rec, Has, AreApart, Puts, Drops}
-use Rattle.snap_records.specs.Edits.{record_without_ids, chain_without_ids}
+use Rattle.snap_records.specs.Edits.{record_without_ids, chain_without_ids, record_with_ids, chain_with_ids}
 use Rattle.snap_ids.proofs.Booleans.{same_or_other, not_both}
 
 pub get_set_same : (c : List Rec) (k : ℕ) (q old : Rec) → slice_get c k ≡ Some old → slice_get (slice_set c k q) k ≡ Some q
@@ -18,6 +18,10 @@ get_set_other (r ∷ c) zero zero q h = absurd (h refl)
 get_set_other (r ∷ c) zero (suc j) q h = refl
 get_set_other (r ∷ c) (suc k) zero q h = refl
 get_set_other (r ∷ c) (suc k) (suc j) q h = get_set_other c k j q (λ e. h (ap (λ (n : ℕ). suc n) e))
+
+pub not_false : (b : Bool) → not b ≡ false → b ≡ true
+not_false true h = refl
+not_false false h = absurd cc
 
 pub some_is : (p q : Rec) → Some p ≡ Some q → p ≡ q
 some_is p q h = cc
@@ -119,3 +123,37 @@ module _ (c : List Rec) (ids : List ℕ) (apart : AreApart c) where
     apart = λ j k p q one two positive same.
         apart j k p q (survivor j p one positive).0 (survivor k q two (omega (arith, positive, same))).0 positive same;
   }
+
+-- a record that did not get id 0 is as before
+listed_as : (b : Bool) (r p : Rec) → cond b r (record r { id = 0 }) ≡ p → 0 < p.id → (r ≡ p) × (b ≡ true)
+listed_as false r p h positive = absurd (omega (arith, positive, ap (λ (t : Rec). t.id) h))
+listed_as true r p h positive = (h, refl)
+
+listed_same : (b : Bool) (r : Rec) → b ≡ true → cond b r (record r { id = 0 }) ≡ r
+listed_same true r h = refl
+listed_same false r h = absurd cc
+
+module _ (c : List Rec) (ids : List ℕ) (apart : AreApart c) where
+  keeper : (k : ℕ) (p : Rec) → slice_get (chain_with_ids ids c) k ≡ Some p → 0 < p.id → (slice_get c k ≡ Some p) × (contains p.id ids ≡ true)
+  keeper k p is positive =
+      let o = origin (record_with_ids ids) c k p is in
+      let s = listed_as (contains o.0.id ids) o.0 p o.2 positive in
+      (o.1 ∙ ap (λ (t : Rec). Some t) s.0, subst (λ (t : Rec). contains t.id ids ≡ true) s.0 s.1)
+
+  pub drops_unkept : Drops c (chain_with_ids ids c) (λ i. not (contains i ids))
+  drops_unkept = record {
+    from = λ p there positive. record { at = there.at; is = (keeper there.at p there.is positive).0 };
+    without = λ p there positive. ap not (keeper there.at p there.is positive).1;
+    kept = λ p there positive safe. record { at = there.at; is = image (record_with_ids ids) c there.at p there.is ∙ ap (λ (t : Rec). Some t) (listed_same (contains p.id ids) p (not_false (contains p.id ids) safe)) };
+    apart = λ j k p q one two positive same.
+        apart j k p q (keeper j p one positive).0 (keeper k q two (omega (arith, positive, same))).0 positive same;
+  }
+
+-- a record comes in, and then records are lost
+pub puts_drops : {a b c : List Rec} {q : Rec} {g d j : ℕ → Bool} → Puts a b q g → Drops b c d → 0 < q.id → d q.id ≡ false → ((i : ℕ) → j i ≡ false → (g i ≡ false) × (d i ≡ false)) → Puts a c q j
+puts_drops put drop positive safe_q safe = record {
+  here = drop.kept _ put.here positive safe_q;
+  from = λ p there pos. put.from p (drop.from p there pos) pos;
+  kept = λ p there pos stays. drop.kept p (put.kept p there pos (safe p.id stays).0) pos (safe p.id stays).1;
+  apart = drop.apart;
+}

@@ -7,3 +7,4 @@ pub mod Putting
 pub mod Finding
 pub mod Clearing
 pub mod Raising
+pub mod PadOver

@@ -15,7 +15,7 @@ use Rattle.snap_records.specs.declared.slots.Slot.{Slot}
 pub same_key : (a b : ℕ) → Some a ≡ Some b → a ≡ b
 same_key a b h = cc
 
-map_same : (f g : ℕ → Rec) (keys : List ℕ) → ((k r : ℕ) → slice_get keys k ≡ Some r → g r ≡ f r) → map g keys ≡ map f keys
+pub map_same : (f g : ℕ → Rec) (keys : List ℕ) → ((k r : ℕ) → slice_get keys k ≡ Some r → g r ≡ f r) → map g keys ≡ map f keys
 map_same f g [] h = refl
 map_same f g (x ∷ keys) h = ap (λ (a : Rec). a ∷ map g keys) (h 0 x refl) ∙ ap (λ (l : List Rec). f x ∷ l) (map_same f g keys (λ k r there. h (suc k) r there))
 

@@ -1,8 +1,8 @@
 -- Trusted: the chain of each object, as a list of records, and what each call does to the chains.
-use Rattle.std.specs.Prelude.{◌≡◌, ◌≢◌, ℕ, ◌==◌, List, [], ◌∷◌, length, map, slice_get, slice_index_or, slice_set, Option, Some, None}
-use Rattle.rt_values.specs.Maps.{no_entry}
+use Rattle.std.specs.Prelude.{◌≡◌, ◌≢◌, ℕ, ◌==◌, List, [], ◌∷◌, length, map, slice_get, slice_index_or, slice_set, Option, Some, None, false}
+use Rattle.rt_values.specs.Maps.{contains, no_entry}
 use Rattle.rt_values.specs.declared.maps.StampedValue.{StampedValue}
-use Rattle.snap_records.specs.Edits.{record_without_ids, chain_without_ids, with_head_id}
+use Rattle.snap_records.specs.Edits.{record_without_ids, chain_without_ids, record_with_ids, chain_with_ids, with_head_id, Padded, blank}
 use Rattle.snap_records.specs.Records.{Rec, Puts}
 use Rattle.snap_records.specs.declared.chains.Chains.{Chains}
 use Rattle.snap_records.specs.declared.slots.Slot.{Slot}
@@ -65,10 +65,34 @@ pub record ClearsAll (old new : Chains) (ids : List ℕ) (x : ℕ) : Type 0 wher
   pub others : (y : ℕ) → y ≢ x → chain_of new y ≡ chain_of old y
   pub many : length new.heads.items ≡ length old.heads.items
 
--- A record with id 0 precedes the records of object x.
-pub record PadsAt (old new : Chains) (x : ℕ) (e : StampedValue) : Type 0 where
-  pub here : chain_of new x ≡ record { id = 0; entry = e } ∷ chain_of old x
+-- The record at index i of object x now has id 0, unless its id is in the list.
+pub record KeepsAt (old new : Chains) (ids : List ℕ) (x i : ℕ) : Type 0 where
+  pub keys : (y : ℕ) → keys_at new y ≡ keys_at old y
+  pub here : chain_of new x ≡ slice_set (chain_of old x) i (record_with_ids ids (slice_index_or
+      (chain_of old x) i no_record))
   pub others : (y : ℕ) → y ≢ x → chain_of new y ≡ chain_of old y
+  pub many : length new.heads.items ≡ length old.heads.items
+
+-- The same at each index of object x.
+pub record KeepsAll (old new : Chains) (ids : List ℕ) (x : ℕ) : Type 0 where
+  pub keys : (y : ℕ) → keys_at new y ≡ keys_at old y
+  pub here : chain_of new x ≡ chain_with_ids ids (chain_of old x)
+  pub others : (y : ℕ) → y ≢ x → chain_of new y ≡ chain_of old y
+  pub many : length new.heads.items ≡ length old.heads.items
+
+-- Record r is in the chain of object x, and its id is not in the list.
+pub record FoundOther (c : Chains) (x : ℕ) (ids : List ℕ) (r : ℕ) : Type 0 where
+  pub at : ℕ
+  pub key : slice_get (keys_at c x) at ≡ Some r
+  pub other : contains (record_at c r).id ids ≡ false
+
+-- The first record of object x has id 0 and this stamped value, and its other records are as before, except for records
+-- with id 0.
+pub record PadsAt (old new : Chains) (x : ℕ) (e : StampedValue) : Type 0 where
+  pub here : Padded (chain_of old x) (chain_of new x)
+  pub head : slice_get (chain_of new x) 0 ≡ Some (blank e)
+  pub others : (y : ℕ) → y ≢ x → chain_of new y ≡ chain_of old y
+  pub many : length new.heads.items ≡ length old.heads.items
 
 -- The first record of object x has another id.
 pub record RaisesAt (old new : Chains) (x id : ℕ) : Type 0 where

@@ -1,7 +1,8 @@
 -- Trusted: the readable record of a chain, and changes of one chain.
-use Rattle.std.specs.Prelude.{ℕ, ◌<◌, nat_lt, Bool, List, [], ◌∷◌, map, Option, Some, None, if◌then◌else◌}
+use Rattle.std.specs.Prelude.{ℕ, ◌<◌, nat_lt, ◌&&◌, not, Bool, List, [], ◌∷◌, map, Option, Some, None, if◌then◌else◌}
 use Rattle.rt_values.specs.Maps.{contains}
 use Rattle.rt_values.specs.declared.maps.StampedValue.{StampedValue}
+use Rattle.snap_ids.specs.IdLists.{is_valid}
 use Rattle.snap_records.specs.Records.{Rec, Has, AreApart}
 
 -- The record with id 0 if its id is in the list.
@@ -10,6 +11,17 @@ record_without_ids ids r = if contains r.id ids then record r { id = 0 } else r
 
 abbrev pub chain_without_ids : List ℕ → List Rec → List Rec
 chain_without_ids ids c = map (record_without_ids ids) c
+
+-- The record with id 0 if its id is not in the list.
+abbrev pub record_with_ids : List ℕ → Rec → Rec
+record_with_ids ids r = if contains r.id ids then r else record r { id = 0 }
+
+abbrev pub chain_with_ids : List ℕ → List Rec → List Rec
+chain_with_ids ids c = map (record_with_ids ids) c
+
+-- Whether record id i is valid for a snapshot id and its invalid set, and not in the first list.
+abbrev pub is_valid_except : List ℕ → ℕ → List ℕ → ℕ → Bool
+is_valid_except own id invalid i = is_valid id invalid i && not (contains i own)
 
 -- The one of the two records with the higher id.
 abbrev pub higher_record : Rec → Option Rec → Rec

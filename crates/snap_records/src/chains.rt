@@ -1,9 +1,10 @@
 // Chains of records in a slab.
-ghost use Rattle.std.specs.Prelude.{◌≡◌, ◌≢◌, ◌<◌, ◌+◌, ◌-◌, ℕ, List, [], ◌∷◌, Option, Some, None, length, slice_get, slice_set, slice_index_or, IfOk, OnOk, OnErr, IsSome, IfSome, IfNone, if◌then◌else◌};
+ghost use Rattle.std.specs.Prelude.{◌≡◌, ◌≢◌, ◌<◌, ◌+◌, ◌-◌, ℕ, List, [], ◌∷◌, Option, Some, None, length, slice_get, slice_set, slice_index_or, true, IfOk, OnOk, OnErr, IsSome, IfSome, IfNone, if◌then◌else◌};
+ghost use Rattle.rt_values.specs.Maps.{contains};
 ghost use Rattle.slab.specs.Slab.{get};
 ghost use Rattle.snap_records.specs.Places.{ArePlaced, AreOnce};
 ghost use Rattle.snap_ids.specs.IdLists.{is_valid};
-ghost use Rattle.snap_records.specs.Edits.{higher_record, readable};
+ghost use Rattle.snap_records.specs.Edits.{higher_record, is_valid_except, readable};
 ghost use Rattle.std.specs.Option.{option_map};
 
 use crate::{Keys, RecordNo, Slot};
@@ -11,12 +12,20 @@ use rt_values::{NoMemory, ObjectNo, StampedValue, Value};
 use slab::Slab;
 use snap_ids::IdSet;
 use std::alloc::Global;
+use std::mem::replace;
 
 // Returns whether record id `own` is valid for snapshot id `id` and its invalid set.
 fn valid(id: u64, invalid: &IdSet, own: u64) -> bool
     ensures { result ≡ is_valid id invalid.now own }
 {
     0 < own && own <= id && !invalid.get(own)
+}
+
+// Returns whether record id `other` is valid for snapshot id `id` and its invalid set, and not in `own`.
+fn valid_except(own: &IdSet, id: u64, invalid: &IdSet, other: u64) -> bool
+    ensures { result ≡ is_valid_except own.now id invalid.now other }
+{
+    valid(id, invalid, other) && !own.get(other)
 }
 
 // Inserts a key before those of an object.
@@ -40,7 +49,7 @@ pub struct Chains {
 }
 
 impl Chains {
-    ghost use Rattle.snap_records.specs.Chains.{record_at, keys_at, chain_of, Replaces, Prepends, Found, PutIn, ClearsAt, ClearsAll, PadsAt, RaisesAt};
+    ghost use Rattle.snap_records.specs.Chains.{record_at, keys_at, chain_of, Replaces, Prepends, Found, FoundOther, PutIn, ClearsAt, ClearsAll, KeepsAt, KeepsAll, PadsAt, RaisesAt};
     ghost use Rattle.snap_records.specs.Records.{AreApart};
 
     /// Returns the chains of no object.
@@ -168,28 +177,21 @@ impl Chains {
         Ok(x)
     }
 
-    // Returns `r` if its id is valid and higher than that of `best`, and else `best`.
-    fn better(
-        &self,
-        r: RecordNo,
-        best: Option<RecordNo>,
-        id: u64,
-        invalid: &IdSet,
-    ) -> Option<RecordNo>
+    // Returns `r` if it is valid for the reader and its id is higher than that of `best`, and else `best`.
+    fn better(&self, r: RecordNo, best: Option<RecordNo>, is_valid: bool) -> Option<RecordNo>
         requires there { IsSome (get self.now.slots r.0) }
         requires behind { IfSome best (λ b. IsSome (get self.now.slots b.0)) }
         ensures is { option_map (λ b. record_at self.now b.0) result
-            ≡ (if is_valid id invalid.now (record_at self.now r.0).id then Some (higher_record
+            ≡ (if is_valid then Some (higher_record
             (record_at self.now r.0) (option_map (λ b. record_at self.now b.0) best)) else option_map
             (λ b. record_at self.now b.0) best) }
         ensures there { IfSome result (λ b. IsSome (get self.now.slots b.0)) }
     {
-        let own = self.id(r);
-        if !valid(id, invalid, own) {
+        if !is_valid {
             return best;
         }
         match best {
-            Some(other) if own < self.id(other) => best,
+            Some(other) if self.id(r) < self.id(other) => best,
             _ => Some(r),
         }
     }
@@ -205,7 +207,31 @@ impl Chains {
         let mut i = self.count(x);
         while i > 0 {
             i -= 1;
-            best = self.better(self.at(x, i), best, id, invalid);
+            let r = self.at(x, i);
+            best = self.better(r, best, valid(id, invalid, self.id(r)));
+        }
+        best
+    }
+
+    /// Returns the readable record of object `x` for a snapshot's base: the snapshot's own ids are invalid too.
+    pub fn readable_for_base(
+        &self,
+        x: ObjectNo,
+        id: u64,
+        invalid: &IdSet,
+        own: &IdSet,
+    ) -> Option<RecordNo>
+        requires { x < length self.now.heads.items }
+        ensures is { option_map (λ b. record_at self.now b.0) result
+            ≡ readable (is_valid_except own.now id invalid.now) (chain_of self.now x) }
+        ensures there { IfSome result (λ b. IsSome (get self.now.slots b.0)) }
+    {
+        let mut best = None;
+        let mut i = self.count(x);
+        while i > 0 {
+            i -= 1;
+            let r = self.at(x, i);
+            best = self.better(r, best, valid_except(own, id, invalid, self.id(r)));
         }
         best
     }
@@ -327,15 +353,76 @@ impl Chains {
         }
     }
 
-    /// Puts a record with id 0 before those of object `x`.
+    // Gives the record at index `i` id 0 if `ids` does not contain its id.
+    fn keep_at(&mut self, x: ObjectNo, i: usize, ids: &IdSet)
+        requires object { x < length self.old.heads.items }
+        requires place { i < length (keys_at self.old x) }
+        ensures { KeepsAt self.old self.new ids.now x i }
+    {
+        let r = self.at(x, i);
+        if !ids.get(self.id(r)) {
+            self.invalidate(r);
+        }
+    }
+
+    /// Gives id 0 to the records of object `x` whose ids are not in `ids`.
+    pub fn keep(&mut self, x: ObjectNo, ids: &IdSet)
+        requires { x < length self.old.heads.items }
+        ensures { KeepsAll self.old self.new ids.now x }
+    {
+        for i in 0..self.count(x) {
+            self.keep_at(x, i, ids);
+        }
+    }
+
+    /// Returns the first record of object `x` whose id is not in `ids`. Records with id 0 are such records.
+    pub fn find_other(&self, x: ObjectNo, ids: &IdSet) -> Option<RecordNo>
+        requires { x < length self.now.heads.items }
+        ensures some { IfSome result (λ r. FoundOther self.now x ids.now r.0) }
+        ensures none { IfNone result ((k r : ℕ) → slice_get (keys_at self.now x) k ≡ Some r
+            → contains (record_at self.now r).id ids.now ≡ true) }
+        ensures there { IfSome result (λ b. IsSome (get self.now.slots b.0)) }
+    {
+        for i in 0..self.count(x) {
+            let r = self.at(x, i);
+            if !ids.get(self.id(r)) {
+                return Some(r);
+            }
+        }
+        None
+    }
+
+    // Moves the first record of object `x` to the place of `r`, whose id is 0, and puts a record with id 0 first.
+    fn pad_over(&mut self, x: ObjectNo, r: RecordNo, entry: StampedValue)
+        requires object { x < length self.old.heads.items }
+        requires some { Found self.old x 0 r.0 }
+        requires there { IsSome (get self.old.slots r.0) }
+        ensures { PadsAt self.old self.new x entry }
+    {
+        let first = self.at(x, 0);
+        let before = replace(&mut self.slots[first.0], Slot { id: 0, entry });
+        if first.0 != r.0 {
+            self.slots[r.0] = before;
+        }
+    }
+
+    /// Puts a record with id 0 before those of object `x`, in place of a record with id 0 if there is one.
     pub fn pad(&mut self, x: ObjectNo, entry: StampedValue) -> Result<(), NoMemory>
         requires { x < length self.old.heads.items }
         ensures ok { OnOk result (PadsAt self.old self.new x entry) }
         ensures err { OnErr result ((y : ℕ) → chain_of self.new y ≡ chain_of self.old y) }
         ensures many { length self.new.heads.items ≡ length self.old.heads.items }
     {
-        self.prepend(x, 0, entry.value, entry.stamp)?;
-        Ok(())
+        match self.find(x, 0) {
+            Some(r) => {
+                self.pad_over(x, r, entry);
+                Ok(())
+            }
+            None => {
+                self.prepend(x, 0, entry.value, entry.stamp)?;
+                Ok(())
+            }
+        }
     }
 
     /// Gives an id to the first record of object `x`.

@@ -1,48 +1,53 @@
--- A record in place of one that may be overwritten, and readers that cover others.
-use Rattle.std.proofs.Common.{◌≡◌, ◌≢◌, ℕ, ◌==◌, List, [], ◌∷◌, ◌++◌, refl, sym, ap, ◌∙◌, subst, Option, Some, None, Bool, true, false, not, arith, ◌⊎◌, inl, inr}
+-- A record in place of one that is not kept, and what readers read.
+use Rattle.std.proofs.Common.{◌≡◌, ◌≢◌, ℕ, ◌==◌, ◌<◌, List, sym, ap, ◌∙◌, subst, Option, Some, None, Bool, true, false, not, arith}
 use Rattle.std.proofs.lemmas.Bool.Decides.{Decides-eqb}
-use Rattle.std.specs.List.{list_any}
-use Rattle.std.specs.Prelude.{slice_get, slice_set}
+use Rattle.std.specs.Prelude.{slice_get}
+use Rattle.rt_values.specs.Maps.{contains}
 use Rattle.rt_values.specs.declared.maps.StampedValue.{StampedValue}
-use Rattle.snap_ids.specs.IdLists.{is_valid}
-use Rattle.snap_ids.proofs.Booleans.{same_or_other, not_both, not_true, or_true, or_left, or_right}
+use Rattle.snap_ids.proofs.Booleans.{not_both, not_true, or_left, or_right}
 use Rattle.snap_records.specs.Records.{Rec, AreApart, Reads, Puts, Drops}
-use Rattle.snap_records.specs.Edits.{readable}
-use Rattle.snap_records.specs.Chains.{record_at, keys_at, chain_of, Replaces, PutIn}
+use Rattle.snap_records.specs.Edits.{readable, chain_with_ids}
+use Rattle.snap_records.specs.Chains.{record_at, keys_at, chain_of, FoundOther, Replaces, PutIn}
 use Rattle.snap_records.specs.declared.chains.Chains.{Chains}
-use Rattle.snap_records.proofs.Edits.{overwritten, some_is, get_set_same, get_set_other}
+use Rattle.snap_records.proofs.Edits.{overwritten, drops_unkept, puts_drops, not_false}
 use Rattle.snap_records.proofs.Putting.{rec_there, key_there}
 use Rattle.snap_records.proofs.Readable.{Finds, finds}
-use Rattle.snap_reuse.specs.Readers.{has_id, is_read_by, is_read, is_reusable, Reusable, Covers, PutsReusing}
-use Rattle.snap_reuse.specs.declared.readers.Reader.{Reader}
+use Rattle.snap_reuse.specs.Readers.{has_id, is_unkept, IsReadWithin, PutsKeeping}
 
-reusable_is : (c : List Rec) (readers : List Reader) (r : Rec) (i : ℕ) → is_reusable c readers r ≡ true → (i == r.id) ≡ true → (i ≡ 0) ⊎ (is_read c i readers ≡ false)
-reusable_is c readers r i may same =
-    let at : i ≡ r.id = (Decides-eqb i r.id).0 same in
-    elim (or_true (r.id == 0) (not (is_read c r.id readers)) may) [
-      | inl e ↦ inl (at ∙ (Decides-eqb r.id 0).0 e)
-      | inr e ↦ inr (ap (λ (n : ℕ). is_read c n readers) at ∙ opposite (is_read c r.id readers) e)
-    ] where
-      opposite : (b : Bool) → not b ≡ true → b ≡ false
-      opposite true h = absurd cc
-      opposite false h = refl
+unkept_own : (kept : List ℕ) (id i : ℕ) → is_unkept kept id i ≡ false → (i == id) ≡ false
+unkept_own kept id i h = not_true (i == id) (λ t. not_both (is_unkept kept id i) (or_left (i == id) (not (contains i kept)) t) h)
 
-pub puts_in : {old new : Chains} {x : ℕ} {q : Rec} (readers : List Reader) → PutIn old new x q → PutsReusing (chain_of old x) (chain_of new x) q readers
-puts_in {old} {new} {x} {q} readers p = record { gone = λ i. i == q.id; put = p.put; reused = λ i h. inl ((Decides-eqb i q.id).0 h) }
+unkept_other : (kept : List ℕ) (id i : ℕ) → is_unkept kept id i ≡ false → not (contains i kept) ≡ false
+unkept_other kept id i h = not_true (not (contains i kept)) (λ t. not_both (is_unkept kept id i) (or_right (i == id) (not (contains i kept)) t) h)
 
-pub puts_over : (old new : Chains) (x r : ℕ) (q : Rec) (readers : List Reader) → AreApart (chain_of old x) → ((k s : ℕ) → slice_get (keys_at old x) k ≡ Some s → (record_at old s).id ≢ q.id) → Reusable old x readers r → Replaces old new r q →
-    PutsReusing (chain_of old x) (chain_of new x) q readers
-puts_over old new x r q readers apart none f replaces = record {
-  gone = λ i. i == (record_at old r).id;
-  put = subst (λ (c : List Rec). Puts (chain_of old x) c q (λ i. i == (record_at old r).id)) (sym (replaces.here x f.at f.key))
-      (overwritten (chain_of old x) f.at q (record_at old r) (rec_there old x f.at r f.key) apart (λ p j there other pos same.
-      let k = key_there old x j p there in
-      none j k.key k.there (ap (λ (s : Rec). s.id) k.is ∙ same)));
-  reused = λ i h. inr (reusable_is (chain_of old x) readers (record_at old r) i f.is h);
-}
+wider : {c d : List Rec} {q : Rec} {g j : ℕ → Bool} → ((i : ℕ) → j i ≡ false → g i ≡ false) → Puts c d q g → Puts c d q j
+wider safe p = record { here = p.here; from = p.from; kept = λ t there positive stays. p.kept t there positive (safe t.id stays); apart = p.apart }
 
-pub others_over : (old new : Chains) (x r : ℕ) (q : Rec) (readers : List Reader) → Reusable old x readers r → Replaces old new r q → (y : ℕ) → y ≢ x → chain_of new y ≡ chain_of old y
-others_over old new x r q readers f replaces y other = replaces.others y (λ k there. other (old.once y x k f.at r there f.key).0)
+-- in place of the record with the same id, or before the others
+pub puts_own : {old new : Chains} {x : ℕ} {q : Rec} (kept : List ℕ) → PutIn old new x q → Puts (chain_of old x) (chain_of new x) q (is_unkept kept q.id)
+puts_own {old} {new} {x} {q} kept p = wider (λ i h. unkept_own kept q.id i h) p.put
+
+-- in place of a record whose id is not kept
+pub puts_over : (old new : Chains) (x r : ℕ) (q : Rec) (kept : List ℕ) → AreApart (chain_of old x) → ((k s : ℕ) → slice_get (keys_at old x) k ≡ Some s → (record_at old s).id ≢ q.id) → FoundOther old x kept r → Replaces old new r q →
+    Puts (chain_of old x) (chain_of new x) q (is_unkept kept q.id)
+puts_over old new x r q kept apart none f replaces =
+    subst (λ (c : List Rec). Puts (chain_of old x) c q (is_unkept kept q.id)) (sym (replaces.here x f.at f.key))
+    (wider (λ i h. not_true (i == (record_at old r).id) (λ t. not_both (not (contains i kept)) (ap not (ap (λ (n : ℕ). contains n kept) ((Decides-eqb i (record_at old r).id).0 t) ∙ f.other)) (unkept_other kept q.id i h)))
+    (overwritten (chain_of old x) f.at q (record_at old r) (rec_there old x f.at r f.key) apart (λ p j there other pos same.
+    let k = key_there old x j p there in
+    none j k.key k.there (ap (λ (s : Rec). s.id) k.is ∙ same))))
+
+pub others_over : (old new : Chains) (x r : ℕ) (q : Rec) (kept : List ℕ) → FoundOther old x kept r → Replaces old new r q → (y : ℕ) → y ≢ x → chain_of new y ≡ chain_of old y
+others_over old new x r q kept f replaces y other = replaces.others y (λ k there. other (old.once y x k f.at r there f.key).0)
+
+-- the records whose ids are not kept get id 0
+pub puts_keeping : (before between after : List Rec) (q : Rec) (kept : List ℕ) → Puts before between q (is_unkept kept q.id) → after ≡ chain_with_ids kept between → 0 < q.id → contains q.id kept ≡ true → PutsKeeping before after q kept
+puts_keeping before between after q kept put is positive own =
+    let drops = subst (λ (c : List Rec). Drops between c (λ i. not (contains i kept))) (sym is) (drops_unkept between kept put.apart) in
+    record {
+      put = puts_drops put drops positive (ap not own) (λ i h. (h, unkept_other kept q.id i h));
+      swept = λ p there pos. not_false (contains p.id kept) (drops.without p there pos);
+    }
 
 -- what a reader reads has the id of the readable record
 pub reads_id : (sees : ℕ → Bool) (c : List Rec) (e : StampedValue) (h : Reads sees c e) → has_id h.rec.id (readable sees c) ≡ true
@@ -51,50 +56,6 @@ reads_id sees c e h = of (readable sees c) (finds sees c) where
   of None f = absurd (not_both (sees h.rec.id) h.valid (f h.rec h.there))
   of (Some q) f = (Decides-eqb q.id h.rec.id).1 (omega (arith, f.3 h.rec h.there h.valid, h.top q f.1 f.2))
 
--- a record that no reader reads is not read by those whom the readers cover
-pub covered : (sees : ℕ → Bool) (readers : List Reader) (c : List Rec) (i : ℕ) (e : StampedValue) → Covers sees readers → is_read c i readers ≡ false → (h : Reads sees c e) → h.rec.id ≢ i
-covered sees readers c i e covers unread h same = not_both (is_read c i readers) (covers c i (subst (λ (n : ℕ). has_id n (readable sees c) ≡ true) same (reads_id sees c e h))) unread
-
--- with one reader more
-any_front : {X : Type 0} (t : X → Bool) (xs ys : List X) → list_any t xs ≡ true → list_any t (xs ++ ys) ≡ true
-any_front t [] ys h = absurd cc
-any_front t (x ∷ xs) ys h = elim (or_true (t x) (list_any t xs) h) [
-  | inl e ↦ or_left (t x) (list_any t (xs ++ ys)) e
-  | inr e ↦ or_right (t x) (list_any t (xs ++ ys)) (any_front t xs ys e)
-]
-
-any_last : {X : Type 0} (t : X → Bool) (xs : List X) (y : X) → t y ≡ true → list_any t (xs ++ y ∷ []) ≡ true
-any_last t [] y h = or_left (t y) false h
-any_last t (x ∷ xs) y h = or_right (t x) (list_any t (xs ++ y ∷ [])) (any_last t xs y h)
-
-pub covers_more : (sees : ℕ → Bool) (readers : List Reader) (r : Reader) → Covers sees readers → Covers sees (readers ++ r ∷ [])
-covers_more sees readers r covers c i h = any_front (is_read_by c i) readers (r ∷ []) (covers c i h)
-
-pub covers_last : (readers : List Reader) (r : Reader) → Covers (is_valid r.id r.invalid) (readers ++ r ∷ [])
-covers_last readers r c i h = any_last (is_read_by c i) readers r h
-
--- one record gets id 0
-pub invalidated_drops : (c : List Rec) (k : ℕ) (r : Rec) → slice_get c k ≡ Some r → AreApart c → Drops c (slice_set c k (record r { id = 0 })) (λ i. i == r.id)
-invalidated_drops c k r at_k apart = record {
-  from = λ p there positive. elim (same_or_other there.at k) [
-    | inl e ↦ absurd (omega (arith, positive, ap (λ (t : Rec). t.id) (blank_is p there.at there.is e)))
-    | inr e ↦ record { at = there.at; is = sym (get_set_other c k there.at (record r { id = 0 }) e) ∙ there.is }
-  ];
-  without = λ p there positive. elim (same_or_other there.at k) [
-    | inl e ↦ absurd (omega (arith, positive, ap (λ (t : Rec). t.id) (blank_is p there.at there.is e)))
-    | inr e ↦ not_true (p.id == r.id) (λ t. e (apart there.at k p r (sym (get_set_other c k there.at (record r { id = 0 }) e) ∙ there.is) at_k positive ((Decides-eqb p.id r.id).0 t)))
-  ];
-  kept = λ p there positive safe. elim (same_or_other there.at k) [
-    | inl e ↦ absurd (not_both (p.id == r.id) ((Decides-eqb p.id r.id).1 (ap (λ (t : Rec). t.id) (some_is p r (sym there.is ∙ ap (λ (n : ℕ). slice_get c n) e ∙ at_k)))) safe)
-    | inr e ↦ record { at = there.at; is = get_set_other c k there.at (record r { id = 0 }) e ∙ there.is }
-  ];
-  apart = λ i j p q one two positive same. elim (same_or_other i k) [
-    | inl e ↦ absurd (omega (arith, positive, ap (λ (t : Rec). t.id) (blank_is p i one e)))
-    | inr e ↦ elim (same_or_other j k) [
-      | inl d ↦ absurd (omega (arith, positive, same, ap (λ (t : Rec). t.id) (blank_is q j two d)))
-      | inr d ↦ apart i j p q (sym (get_set_other c k i (record r { id = 0 }) e) ∙ one) (sym (get_set_other c k j (record r { id = 0 }) d) ∙ two) positive same
-    ]
-  ];
-} where
-  blank_is : (p : Rec) (j : ℕ) → slice_get (slice_set c k (record r { id = 0 })) j ≡ Some p → j ≡ k → p ≡ record r { id = 0 }
-  blank_is p j is e = some_is p (record r { id = 0 }) (sym is ∙ ap (λ (n : ℕ). slice_get (slice_set c k (record r { id = 0 })) n) e ∙ get_set_same c k (record r { id = 0 }) r at_k)
+-- what is read has an id of the list
+pub read_within : (sees : ℕ → Bool) (c : List Rec) (ids : List ℕ) (e : StampedValue) → IsReadWithin sees c ids → (h : Reads sees c e) → contains h.rec.id ids ≡ true
+read_within sees c ids e within h = within h.rec.id (reads_id sees c e h)

@@ -1,8 +1,9 @@
 -- Trusted: which records of a chain are read, and which may be reused.
-use Rattle.std.specs.Prelude.{◌≡◌, ℕ, ◌==◌, Bool, true, false, not, ◌||◌, ◌⊎◌, List, slice_get, Option, Some, None}
+use Rattle.std.specs.Prelude.{◌≡◌, ℕ, ◌<◌, ◌==◌, Bool, true, false, not, ◌||◌, List, slice_get, Option, Some, None}
 use Rattle.std.specs.List.{list_any}
+use Rattle.rt_values.specs.Maps.{contains}
 use Rattle.snap_ids.specs.IdLists.{is_valid}
-use Rattle.snap_records.specs.Records.{Rec, Puts}
+use Rattle.snap_records.specs.Records.{Rec, Has, Puts}
 use Rattle.snap_records.specs.Edits.{readable}
 use Rattle.snap_records.specs.Chains.{record_at, keys_at, chain_of}
 use Rattle.snap_records.specs.declared.chains.Chains.{Chains}
@@ -31,12 +32,16 @@ pub record Reusable (c : Chains) (x : ℕ) (readers : List Reader) (r : ℕ) : T
   pub key : slice_get (keys_at c x) at ≡ Some r
   pub is : is_reusable (chain_of c x) readers (record_at c r) ≡ true
 
--- Whoever reads a record by these valid ids has a reader in the list that reads the record.
-abbrev pub Covers : (ℕ → Bool) → List Reader → Type 0
-Covers sees readers = (c : List Rec) (i : ℕ) → has_id i (readable sees c) ≡ true → is_read c i readers ≡ true
+-- The readable record by these valid ids, if there is one, has an id of the list.
+abbrev pub IsReadWithin : (ℕ → Bool) → List Rec → List ℕ → Type 0
+IsReadWithin sees c ids = (i : ℕ) → has_id i (readable sees c) ≡ true → contains i ids ≡ true
 
--- A record came into the chain, in place of one with its own id or of one that may be overwritten, or before the others.
-pub record PutsReusing (before after : List Rec) (q : Rec) (readers : List Reader) : Type 0 where
-  pub gone : ℕ → Bool
-  pub put : Puts before after q gone
-  pub reused : (i : ℕ) → gone i ≡ true → i ≡ q.id ⊎ ((i ≡ 0) ⊎ (is_read before i readers ≡ false))
+-- Whether a write under the id may lose a record with id i: i is that id, or is not in the list.
+abbrev pub is_unkept : List ℕ → ℕ → ℕ → Bool
+is_unkept kept id i = i == id || not (contains i kept)
+
+-- A record came into the chain. Records whose ids are in the list are still there, but for one with the new record's id.
+-- No other record has an id except 0.
+pub record PutsKeeping (before after : List Rec) (q : Rec) (kept : List ℕ) : Type 0 where
+  pub put : Puts before after q (is_unkept kept q.id)
+  pub swept : (p : Rec) → Has after p → 0 < p.id → contains p.id kept ≡ true

@@ -3,10 +3,13 @@ ghost use Rattle.std.specs.Prelude.{◌≡◌, ◌≢◌, ◌≤◌, ◌<◌, �
 ghost use Rattle.slab.specs.Slab.{get};
 ghost use Rattle.snap_records.specs.Records.{AreApart};
 ghost use Rattle.snap_records.specs.Chains.{record_at, keys_at, chain_of};
-ghost use Rattle.snap_reuse.specs.Readers.{is_read_by, is_read, is_reusable, Reusable, PutsReusing};
+ghost use Rattle.rt_values.specs.Maps.{contains};
+ghost use Rattle.snap_records.specs.Records.{Puts};
+ghost use Rattle.snap_reuse.specs.Readers.{is_read_by, is_read, is_reusable, is_unkept, Reusable, PutsKeeping};
 
 use crate::{Reader, Readers};
 use rt_values::{NoMemory, ObjectNo, Value};
+use snap_ids::IdSet;
 use snap_records::{Chains, RecordNo};
 
 // Returns whether the readable record of `reader` has this id.
@@ -61,20 +64,20 @@ pub fn reusable(chains: &Chains, x: ObjectNo, readers: &Readers) -> Option<Recor
     None
 }
 
-/// Puts a record into the chain of object `x`: in place of the record with the same id, or else of one that may be
-/// overwritten, or else before the others. After `NoMemory` all chains are unchanged.
-pub fn put(
+// Puts a record into the chain of object `x`: in place of the record with the same id, or else of the first whose id is
+// not in `kept`, or else before the others.
+fn put_over(
     chains: &mut Chains,
     x: ObjectNo,
     id: u64,
     value: Value,
     stamp: u64,
-    readers: &Readers,
+    kept: &IdSet,
 ) -> Result<(), NoMemory>
     requires object { x < length chains.old.heads.items }
     ensures ok { OnOk result (AreApart (chain_of chains.old x) → 0 < id
-        → PutsReusing (chain_of chains.old x) (chain_of chains.new x)
-        (record { id = id; entry = record { value = value; stamp = stamp } }) readers.now) }
+        → Puts (chain_of chains.old x) (chain_of chains.new x)
+        (record { id = id; entry = record { value = value; stamp = stamp } }) (is_unkept kept.now id)) }
     ensures others { (y : ℕ) → y ≢ x → chain_of chains.new y ≡ chain_of chains.old y }
     ensures err { OnErr result ((y : ℕ) → chain_of chains.new y ≡ chain_of chains.old y) }
     ensures many { length chains.new.heads.items ≡ length chains.old.heads.items }
@@ -84,7 +87,7 @@ pub fn put(
             chains.overwrite(r, id, value, stamp);
             Ok(())
         }
-        None => match reusable(chains, x, readers) {
+        None => match chains.find_other(x, kept) {
             Some(r) => {
                 chains.overwrite(r, id, value, stamp);
                 Ok(())
@@ -95,4 +98,31 @@ pub fn put(
             }
         },
     }
+}
+
+/// Puts a record into the chain of object `x`, with an id that `kept` contains. The record takes the place of the one
+/// with the same id, or else of one whose id is not in `kept`, or else is put before the others. The other records whose
+/// ids are not in `kept` get id 0. After `NoMemory` all chains are unchanged.
+pub fn put(
+    chains: &mut Chains,
+    x: ObjectNo,
+    id: u64,
+    value: Value,
+    stamp: u64,
+    kept: &IdSet,
+) -> Result<(), NoMemory>
+    requires object { x < length chains.old.heads.items }
+    requires own { contains id kept.now ≡ true }
+    ensures ok { OnOk result (AreApart (chain_of chains.old x) → 0 < id
+        → PutsKeeping (chain_of chains.old x) (chain_of chains.new x)
+        (record { id = id; entry = record { value = value; stamp = stamp } }) kept.now) }
+    ensures others { (y : ℕ) → y ≢ x → chain_of chains.new y ≡ chain_of chains.old y }
+    ensures err { OnErr result ((y : ℕ) → chain_of chains.new y ≡ chain_of chains.old y) }
+    ensures many { length chains.new.heads.items ≡ length chains.old.heads.items }
+{
+    let Ok(()) = put_over(chains, x, id, value, stamp, kept) else {
+        return Err(NoMemory);
+    };
+    chains.keep(x, kept);
+    Ok(())
 }
