@@ -233,6 +233,17 @@ impl IdSet {
         Ok(())
     }
 
+    /// Adds `id` and the ids of `other`. After `NoMemory` the set is unchanged.
+    pub fn set_and_add_all(&mut self, id: u64, other: &IdSet) -> Result<(), NoMemory>
+        ensures ok { OnOk result (self.new ≡ with_ids (with_id id self.old) other.now) }
+        ensures err { OnErr result (self.new ≡ self.old) }
+    {
+        self.ids.reserve(other.ids.len() + 1)?;
+        add_reserved(&mut self.ids, id);
+        add_all_reserved(&mut self.ids, &other.ids);
+        Ok(())
+    }
+
     /// Returns the union with `other` (`SnapshotIdSet.or`).
     pub fn or(&self, alloc: Global, other: &IdSet) -> Result<IdSet, NoMemory>
         ensures { IfOk result (λ s. s ≡ with_ids self.now other.now) }

@@ -160,16 +160,12 @@ pub fn merge_member(
     ensures err { OnErr result (members.new.items ≡ members.old.items) }
 {
     let id = handed + 1;
-    let below = &members[name as usize];
-    let upper = &members[into as usize];
+    let below = members[name as usize].ids.copy(alloc)?;
     let mut invalid = seal(alloc, members, held, handed, into)?;
-    invalid.remove_all(&below.ids);
-    let mut own = upper.ids.copy(alloc)?;
-    own.set(id)?;
-    let ids = own.or(alloc, &below.ids)?;
+    invalid.remove_all(&below);
     let parent = &mut members[into as usize];
+    parent.ids.set_and_add_all(id, &below)?;
     parent.id = id;
-    parent.ids = ids;
     parent.invalid = invalid;
     let member = &mut members[name as usize];
     member.is_live = false;

@@ -1,5 +1,5 @@
 -- Maps that are read under ids.
-use Rattle.std.proofs.Common.{◌≡◌, ℕ, zero, suc, ◌+◌, List, [], ◌∷◌, ◌++◌, refl, sym, ap, ◌∙◌, Option, Some, None, Bool, true, false, not, ◌&&◌, ◌||◌, ◌==◌, nat_lt, cond, arith, Result, Ok, Err, IfOk, IfSome, IfNone}
+use Rattle.std.proofs.Common.{◌≡◌, ℕ, zero, suc, ◌+◌, List, [], ◌∷◌, ◌++◌, refl, sym, ap, ◌∙◌, Option, Some, None, Bool, true, false, not, ◌&&◌, ◌||◌, ◌==◌, nat_lt, cond, arith, Result, Ok, Err, IfOk, OnOk, IfSome, IfNone}
 use Rattle.std.specs.Prelude.{nat_le}
 use Rattle.rt_values.specs.Maps.{Map, contains}
 use Rattle.std.specs.Option.{option_map}
@@ -15,10 +15,8 @@ use Rattle.snap_nested.specs.Members.{member, ids_of}
 use Rattle.snap_ids.specs.IdLists.{is_valid}
 use Rattle.snap_ids.specs.IdLists.{with_ids}
 use Rattle.snap_nested.specs.declared.family.Member.{Member}
-use Rattle.snap_ids.proofs.IdLists.{contains-with_ids}
+use Rattle.snap_ids.proofs.IdLists.{contains-one, contains-with_ids}
 use Rattle.std.proofs.lemmas.Bool.Decides.{Decides-eqb}
-use Rattle.snap_reuse.specs.Readers.{has_id, Covers}
-use Rattle.snap_reuse.specs.declared.readers.Reader.{Reader}
 use Rattle.snap_laws.specs.Maps.{entry_of, read_entry, read_map}
 
 pub readable_same : (s t : ℕ → Bool) (c : List Rec) → ((i : ℕ) → s i ≡ t i) → readable s c ≡ readable t c
@@ -81,6 +79,10 @@ left_out o n os other out = neither (o == n) (contains n os) (λ h. other (sym (
   neither true b h k = absurd (h refl)
   neither false b h k = k
 
--- readers cover those who see the same ids
-pub covers_same : (s t : ℕ → Bool) (readers : List Reader) → ((i : ℕ) → s i ≡ t i) → Covers s readers → Covers t readers
-covers_same s t readers same covers c i h = covers c i (ap (has_id i) (readable_same s t c same) ∙ h)
+-- an id is in the list of it alone
+pub one_listed : (i id : ℕ) (l : List ℕ) → id ≡ i → l ≡ id ∷ [] → contains i l ≡ true
+one_listed i id l same is = ap (λ (xs : List ℕ). contains i xs) is ∙ contains-one i id ∙ (Decides-eqb i id).1 (sym same)
+
+pub on_ok_more : {U E A B : Type 0} (r : Result U E) → (A → B) → OnOk r A → OnOk r B
+on_ok_more (Ok u) f h = f h
+on_ok_more (Err e) f h = h

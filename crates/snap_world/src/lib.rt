@@ -8,9 +8,9 @@
 //! take, read or write takes no memory, nor does a dispose or the read of a number or a truth value.
 #![tactic(auto)]
 
+mod kept_ids;
 mod moving;
 mod noting;
-mod readers;
 mod settling;
 mod world;
 

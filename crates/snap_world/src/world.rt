@@ -1,21 +1,20 @@
 // The world of records and its calls.
 ghost use Rattle.std.specs.Prelude.{◌≡◌, ℕ, Bool, ◌+◌, ◌*◌, ◌≤◌, ◌<◌, ◌==◌, ◌^◌, not, if◌then◌else◌, slice_get, List, [], true, false, length, slice_index_or, IfOk, IfSome, IfNone, OnOk, OnErr};
-ghost use Rattle.rt_values.specs.Maps.{with_member};
-ghost use Rattle.snap_reuse.specs.Readers.{Covers};
-ghost use Rattle.snap_nested.specs.Ids.{valid_for_base};
+ghost use Rattle.rt_values.specs.Maps.{contains, with_member};
 ghost use Rattle.snap_nested.specs.Members.{ids_of, member};
 ghost use Rattle.snap_api.specs.World.{with_members};
 
+use crate::kept_ids::find_kept_ids;
 use crate::moving::{clear_noted, find_changed_objects, pad_all, raise_all, read_all, stamps_of};
-use crate::noting::{copy_noted, fill, note_object, note_settled};
-use crate::readers::add_readers;
+use crate::noting::{copy_noted, fill, note_object, note_settled, set_noted};
 use crate::settling::{Outcome, settle_all};
 use rt_values::{Caller, Kind, Map, Name, NoMemory, ObjectNo, Objects, Ty, Value, WatcherNo};
 use snap_api::{CLOCK_LIMIT, Object, Refusal, Versions};
+use snap_ids::IdSet;
 use snap_nested::Family;
 use snap_policy::Policy;
 use snap_records::{Chains, RecordNo};
-use snap_reuse::{Readers, is_read, put};
+use snap_reuse::put;
 use std::alloc::Global;
 
 /// A world of snapshots with state records: the clock, the objects, the ids of the snapshots, the chains of records, the
@@ -40,8 +39,7 @@ impl<P: Policy> RecordWorld<P> {
     ghost use Rattle.snap_api.specs.World.{make_refusal, world_after_write};
     ghost use Rattle.snap_laws.specs.TakesFor.{take_for_refusal, IsTakeFor};
     ghost use Rattle.snap_laws.specs.Steps.{MakesTo};
-    ghost use Rattle.snap_laws.specs.Coverage.{AreCovered};
-    ghost use Rattle.snap_records.specs.Chains.{keys_at};
+    ghost use Rattle.snap_laws.specs.Coverage.{AreReadWithin};
     ghost use Rattle.snap_laws.specs.Reads.{read_refusal};
     ghost use Rattle.snap_records.specs.Chains.{record_at};
     ghost use Rattle.snap_api.specs.World.{World};
@@ -192,80 +190,40 @@ impl<P: Policy> RecordWorld<P> {
         }
     }
 
-    // Returns the readers of all live snapshots: for the view, and except for global for the base.
-    fn readers(&self, alloc: Global) -> Result<Readers, NoMemory>
-        ensures { IfOk result (λ rs. AreCovered (parts_of self.now).ids rs) }
-    {
-        let mut readers = Readers::new(alloc);
-        for name in self.family.open_names() {
-            add_readers(alloc, &self.family, *name, &mut readers)?;
-        }
-        Ok(readers)
-    }
-
-    // Puts a record of the value into the chain of the object, reusing a record that no reader reads.
+    // Puts a record of the value into the chain of the object. Records whose ids are not in `kept` are lost.
     fn put_record(
         &mut self,
         alloc: Global,
         name: Name,
         object: ObjectNo,
         value: Value,
-        readers: &Readers,
+        kept: &IdSet,
     ) -> Result<(), NoMemory>
         requires live { (member self.old.family.members.items name).is_live ≡ true }
         requires there { object < length self.old.objects.items }
         requires room { self.old.clock < 2 ^ 60 }
-        requires covered { AreCovered (parts_of self.old).ids readers.now }
+        requires own { contains (member self.old.family.members.items name).id kept.now ≡ true }
+        requires read { AreReadWithin (parts_of self.old).ids name ((parts_of self.old).chains object) kept.now }
         ensures ok { OnOk result ((w : World P) → Represents (parts_of self.old) w
             → WritesTo (parts_of self.old) (parts_of self.new) name object value) }
-        ensures ids { (parts_of self.new).ids ≡ (parts_of self.old).ids }
-        ensures objects { length self.new.objects.items ≡ length self.old.objects.items }
         ensures err { OnErr result (IsUnchanged (parts_of self.old) (parts_of self.new)) }
     {
-        let Ok(noted) = note_object(alloc, &self.wrote, name, object) else {
+        let Ok(more) = note_object(alloc, &self.wrote, name, object) else {
             return Err(NoMemory);
         };
         let Ok(()) = fill(alloc, &mut self.wrote, name) else {
             return Err(NoMemory);
         };
         let id = self.family.id(name);
-        let Ok(()) = put(&mut self.chains, object, id, value, self.clock + 1, readers) else {
+        let Ok(()) = put(&mut self.chains, object, id, value, self.clock + 1, kept) else {
             return Err(NoMemory);
         };
-        self.wrote[name as usize] = noted;
+        set_noted(&mut self.wrote, name, more);
         self.clock += 1;
         Ok(())
     }
 
-    // Gives the record at index `i` id 0 if no reader reads it.
-    fn sweep_at(&mut self, object: ObjectNo, i: usize, readers: &Readers)
-        requires there { object < length self.old.objects.items }
-        requires place { i < length (keys_at self.old.chains object) }
-        requires covered { AreCovered (parts_of self.old).ids readers.now }
-        ensures stands { (w : World P) → Represents (parts_of self.old) w → Represents (parts_of self.new) w }
-        ensures ids { (parts_of self.new).ids ≡ (parts_of self.old).ids }
-        ensures objects { length self.new.objects.items ≡ length self.old.objects.items }
-        ensures keys { keys_at self.new.chains object ≡ keys_at self.old.chains object }
-    {
-        let r = self.chains.at(object, i);
-        let id = self.chains.id(r);
-        if id != 0 && !is_read(&self.chains, object, id, readers) {
-            self.chains.invalidate(r);
-        }
-    }
-
-    // Gives id 0 to each record of the object that no reader reads.
-    fn sweep(&mut self, object: ObjectNo, readers: &Readers)
-        requires there { object < length self.old.objects.items }
-        requires covered { AreCovered (parts_of self.old).ids readers.now }
-        ensures { (w : World P) → Represents (parts_of self.old) w → Represents (parts_of self.new) w }
-    {
-        for i in 0..self.chains.count(object) {
-            self.sweep_at(object, i, readers);
-        }
-    }
-
-    // Gives an object another value in a snapshot, and gives id 0 to the records that no reader reads then.
+    // Gives an object another value in a snapshot. The other records of the object that no live snapshot reads get id 0.
     fn put_entry(
         &mut self,
         alloc: Global,
@@ -280,14 +238,10 @@ impl<P: Policy> RecordWorld<P> {
             → Represents (parts_of self.new) (world_after_write w name object value)) }
         ensures err { OnErr result (IsUnchanged (parts_of self.old) (parts_of self.new)) }
     {
-        let Ok(readers) = self.readers(alloc) else {
+        let Ok(kept) = find_kept_ids(alloc, &self.family, &self.chains, object, name) else {
             return Err(NoMemory);
         };
-        let Ok(()) = self.put_record(alloc, name, object, value, &readers) else {
-            return Err(NoMemory);
-        };
-        self.sweep(object, &readers);
-        Ok(())
+        self.put_record(alloc, name, object, value, &kept)
     }
 
     // Returns the refusal of an apply before its objects are settled, if there is one.

@@ -1,5 +1,5 @@
 use Rattle.std.proofs.Common.{ℕ, List, sym, subst, inl, inr}
-use Rattle.snap_records.proofs.Padding.{padded_same, padded_more}
+use Rattle.snap_records.proofs.Padding.{padded_same}
 use Rattle.snap_ids.proofs.Booleans.{same_or_other}
 use Rattle.snap_records.specs.Records.{Rec}
 use Rattle.snap_records.specs.Edits.{Padded}
@@ -11,6 +11,6 @@ returns-in-Ok-pad-clause-padded c = λ x.
     let old = c.args.chains.now in
     let new = c.pad.new.self in
     elim (same_or_other x c.args.i) [
-      | inl e ↦ subst (λ (y : ℕ). Padded (chain_of old y) (chain_of new y)) (sym e) (subst (λ (d : List Rec). Padded (chain_of old c.args.i) d) (sym c.in-Ok-pad.ensures.ok.here) (padded_more (chain_of old c.args.i) (chain_of old c.args.i) c.in-Ok.entry (padded_same (chain_of old c.args.i))))
+      | inl e ↦ subst (λ (y : ℕ). Padded (chain_of old y) (chain_of new y)) (sym e) c.in-Ok-pad.ensures.ok.here
       | inr e ↦ subst (λ (d : List Rec). Padded (chain_of old x) d) (sym (c.in-Ok-pad.ensures.ok.others x e)) (padded_same (chain_of old x))
     ]

@@ -1,10 +1,11 @@
-use Rattle.std.proofs.Common.{◌≡◌, ◌≢◌, ℕ, ◌+◌, List, [], ap, ◌∙◌, subst, arith, refl}
-use Rattle.std.proofs.lemmas.List.{get_or-set_same, get_or-set_other}
+use Rattle.std.proofs.Common.{◌≡◌, ◌≢◌, ℕ, ◌+◌, List, [], sym, ap, ◌∙◌, subst, arith, refl}
+use Rattle.std.specs.Option.{unwrap_or}
 use Rattle.std.specs.Prelude.{slice_index_or}
 use Rattle.rt_values.specs.Maps.{contains, with_member}
 use Rattle.rt_values.specs.declared.maps.StampedValue.{StampedValue}
 use Rattle.snap_records.specs.Records.{Puts}
 use Rattle.snap_records.specs.Chains.{chain_of}
+use Rattle.snap_reuse.specs.Readers.{is_unkept}
 use Rattle.snap_nested.specs.Members.{member}
 use Rattle.snap_nested.proofs.Members.{live_member}
 use Rattle.snap_laws.proofs.Reuse.{view_stays, base_stays}
@@ -44,7 +45,7 @@ invariant_of-self-2 g c =
       many = c.put.ensures.many ∙ old.many;
       blank = λ n past.
           let other : n ≢ c.args.name = λ same. omega (arith, same, past, live_member old.family.members.items c.args.name c.requires.live) in
-          get_or-set_other c.fill.new.wrote.items c.args.name n c.in-Ok.noted [] other ∙ c.fill.ensures.same n ∙ old.blank n past;
+          c.set_noted.ensures.others n other ∙ c.fill.ensures.same n ∙ old.blank n past;
     }
 
 pub returns-clause-ok : goal.returns-clause-ok
@@ -62,11 +63,11 @@ returns-clause-ok g c = λ w s.
       kind = λ n. refl;
       watchers = refl;
       ids = refl;
-      gone = put.gone;
-      put = subst (λ (i : ℕ). Puts (chain_of old.chains c.args.object) (chain_of c.put.new.chains c.args.object) (record { id = i; entry = e }) put.gone) id put.put;
-      view_stays = view_stays s c.args.name c.args.object c.requires.live id c.requires.covered put;
-      base_stays = base_stays s c.args.name c.args.object c.requires.live id c.requires.covered put;
+      gone = is_unkept c.args.kept.now c.id-id.result;
+      put = subst (λ (i : ℕ). Puts (chain_of old.chains c.args.object) (chain_of c.put.new.chains c.args.object) (record { id = i; entry = e }) (is_unkept c.args.kept.now c.id-id.result)) id put.put;
+      view_stays = view_stays s c.args.name c.args.object c.requires.live c.id-id.result id c.requires.read;
+      base_stays = base_stays s c.args.name c.args.object c.requires.live c.id-id.result id c.requires.read;
       others = c.put.ensures.others;
-      noted = λ y. ap (λ (l : List ℕ). contains y l) (get_or-set_same c.fill.new.wrote.items c.args.name c.in-Ok.noted [] c.in-Ok-fill.ensures.there ∙ c.in-Ok.ensures) ∙ ap (λ (l : List (List ℕ)). contains y (with_member c.args.object (slice_index_or l c.args.name []))) c.deref.ensures.value ∙ contains-noted y c.args.object (slice_index_or old.wrote.items c.args.name []);
-      noted_others = λ n y other. ap (λ (l : List ℕ). contains y l) (get_or-set_other c.fill.new.wrote.items c.args.name n c.in-Ok.noted [] other ∙ c.fill.ensures.same n);
+      noted = λ y. ap (λ (l : List ℕ). contains y l) (c.set_noted.ensures.here ∙ ap (λ (l : List ℕ). unwrap_or c.in-Ok.more l) (c.fill.ensures.same c.args.name ∙ ap (λ (l : List (List ℕ)). slice_index_or l c.args.name []) (sym c.deref.ensures.value)) ∙ c.in-Ok.ensures) ∙ ap (λ (l : List (List ℕ)). contains y (with_member c.args.object (slice_index_or l c.args.name []))) c.deref.ensures.value ∙ contains-noted y c.args.object (slice_index_or old.wrote.items c.args.name []);
+      noted_others = λ n y other. ap (λ (l : List ℕ). contains y l) (c.set_noted.ensures.others n other ∙ c.fill.ensures.same n);
     }

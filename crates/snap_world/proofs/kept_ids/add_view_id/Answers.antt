@@ -1,0 +1,17 @@
+use Rattle.std.proofs.Common.{◌≡◌, ℕ, List, ap, ◌∙◌}
+use Rattle.snap_ids.specs.IdLists.{is_valid}
+use Rattle.snap_nested.specs.Members.{member}
+use Rattle.snap_nested.specs.declared.family.Member.{Member}
+use Rattle.snap_records.specs.Edits.{readable}
+use Rattle.snap_records.specs.Chains.{chain_of}
+use Rattle.snap_reuse.specs.Readers.{has_id}
+use Rattle.snap_world.proofs.Reading.{on_ok_more}
+use Rattle.snap_world.proofs.kept_ids.add_view_id.Goals as goal
+
+pub returns-clause-view : goal.returns-clause-view
+returns-clause-view c =
+    let m : Member = member c.args.family.now.members.items c.args.reader in
+    let chain = chain_of c.args.chains.now c.args.x in
+    on_ok_more c.add_record_id.result (λ added other. λ i h. added i (ap (has_id i) (c.readable-found.ensures.is
+    ∙ ap (λ (n : ℕ). readable (is_valid n c.invalid.result.now) chain) c.id.ensures.id
+    ∙ ap (λ (l : List ℕ). readable (is_valid m.id l) chain) c.invalid.ensures) ∙ h)) c.add_record_id.ensures.added

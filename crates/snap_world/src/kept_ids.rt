@@ -1,0 +1,131 @@
+// The records of an object that a write must keep.
+ghost use Rattle.std.specs.Prelude.{◌≡◌, ◌≢◌, ℕ, Bool, true, ◌<◌, length, IfOk, OnOk, IfSome, IsSome};
+ghost use Rattle.std.specs.Option.{option_map};
+ghost use Rattle.slab.specs.Slab.{get};
+ghost use Rattle.rt_values.specs.Maps.{contains};
+ghost use Rattle.snap_records.specs.Chains.{record_at, chain_of};
+ghost use Rattle.snap_nested.specs.Ids.{valid_for_base};
+ghost use Rattle.snap_nested.specs.Members.{ids_of, member};
+ghost use Rattle.snap_reuse.specs.Readers.{has_id, IsReadWithin};
+ghost use Rattle.snap_laws.specs.Coverage.{AreReadWithin};
+
+use rt_values::{Name, NoMemory, ObjectNo};
+use snap_ids::IdSet;
+use snap_nested::Family;
+use snap_records::{Chains, RecordNo};
+use std::alloc::Global;
+
+/// Returns the ids of the records of object `x` that a write in the snapshot `name` must keep: the current id of `name`,
+/// the ids of the records that the other live snapshots read, and of those that all but global read for their bases.
+pub fn find_kept_ids(
+    alloc: Global,
+    family: &Family,
+    chains: &Chains,
+    x: ObjectNo,
+    name: Name,
+) -> Result<IdSet, NoMemory>
+    requires live { (member family.now.members.items name).is_live ≡ true }
+    requires there { x < length chains.now.heads.items }
+    ensures own { IfOk result (λ ids. contains (member family.now.members.items name).id ids ≡ true) }
+    ensures read { IfOk result (λ ids. AreReadWithin (ids_of family.now.members.items) name
+        (chain_of chains.now x) ids) }
+{
+    let mut ids = IdSet::of(alloc, family.id(name))?;
+    for reader in family.open_names() {
+        add_read_ids(family, chains, x, name, *reader, &mut ids)?;
+    }
+    Ok(ids)
+}
+
+// Adds the ids of the records of object `x` that the snapshot `reader` reads, if it is live: for its view, unless it is
+// `name`, and for its base.
+fn add_read_ids(
+    family: &Family,
+    chains: &Chains,
+    x: ObjectNo,
+    name: Name,
+    reader: Name,
+    ids: &mut IdSet,
+) -> Result<(), NoMemory>
+    requires { x < length chains.now.heads.items }
+    ensures more { (i : ℕ) → contains i ids.old ≡ true → contains i ids.new ≡ true }
+    ensures view { OnOk result ((ids_of family.now.members.items).live reader ≡ true → reader ≢ name
+        → IsReadWithin ((ids_of family.now.members.items).sees reader) (chain_of chains.now x) ids.new) }
+    ensures base { OnOk result ((ids_of family.now.members.items).live reader ≡ true → 0 < reader
+        → IsReadWithin (valid_for_base (ids_of family.now.members.items) reader) (chain_of chains.now x) ids.new) }
+{
+    if !family.live(reader) {
+        return Ok(());
+    }
+    add_view_id(family, chains, x, name, reader, ids)?;
+    add_base_id(family, chains, x, reader, ids)?;
+    Ok(())
+}
+
+// Adds the id of the record of object `x` that a live snapshot reads, unless the snapshot is `name`.
+fn add_view_id(
+    family: &Family,
+    chains: &Chains,
+    x: ObjectNo,
+    name: Name,
+    reader: Name,
+    ids: &mut IdSet,
+) -> Result<(), NoMemory>
+    requires live { (member family.now.members.items reader).is_live ≡ true }
+    requires there { x < length chains.now.heads.items }
+    ensures more { (i : ℕ) → contains i ids.old ≡ true → contains i ids.new ≡ true }
+    ensures view { OnOk result (reader ≢ name
+        → IsReadWithin ((ids_of family.now.members.items).sees reader) (chain_of chains.now x) ids.new) }
+{
+    if reader == name {
+        return Ok(());
+    }
+    let found = chains.readable(x, family.id(reader), family.invalid(reader));
+    add_record_id(chains, found, ids)
+}
+
+// Adds the id of the record of object `x` that a live snapshot reads for its base, unless the snapshot is global.
+fn add_base_id(
+    family: &Family,
+    chains: &Chains,
+    x: ObjectNo,
+    reader: Name,
+    ids: &mut IdSet,
+) -> Result<(), NoMemory>
+    requires live { (member family.now.members.items reader).is_live ≡ true }
+    requires there { x < length chains.now.heads.items }
+    ensures more { (i : ℕ) → contains i ids.old ≡ true → contains i ids.new ≡ true }
+    ensures base { OnOk result (0 < reader
+        → IsReadWithin (valid_for_base (ids_of family.now.members.items) reader) (chain_of chains.now x) ids.new) }
+{
+    if reader == 0 {
+        return Ok(());
+    }
+    let found = chains.readable_for_base(
+        x,
+        family.id(reader),
+        family.invalid(reader),
+        family.ids(reader),
+    );
+    add_record_id(chains, found, ids)
+}
+
+// Adds the id of a record, if there is one.
+fn add_record_id(
+    chains: &Chains,
+    found: Option<RecordNo>,
+    ids: &mut IdSet,
+) -> Result<(), NoMemory>
+    requires { IfSome found (λ r. IsSome (get chains.now.slots r.0)) }
+    ensures more { (i : ℕ) → contains i ids.old ≡ true → contains i ids.new ≡ true }
+    ensures added { OnOk result ((i : ℕ) → has_id i (option_map (λ r. record_at chains.now r.0) found) ≡ true
+        → contains i ids.new ≡ true) }
+{
+    match found {
+        Some(r) => {
+            ids.set(chains.id(r))?;
+            Ok(())
+        }
+        None => Ok(()),
+    }
+}
