@@ -3,3 +3,4 @@ pub mod NotedMembers
 pub mod Settles
 pub mod Reading
 pub mod Forgetting
+pub mod NotedLoops

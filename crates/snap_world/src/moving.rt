@@ -123,30 +123,24 @@ pub fn find_changed_objects(
     }
 }
 
-// Puts a record with id 0 and the value in `view` before those of object `i`, if the object is in `noted`.
-fn pad_at(
-    alloc: Global,
-    chains: &mut Chains,
-    noted: &Objects,
-    view: &Map,
-    i: usize,
-) -> Result<(), NoMemory>
-    requires chains { i < length chains.old.heads.items }
-    requires view { i < length view.now }
-    ensures padded { (x : ℕ) → Padded (chain_of chains.old x) (chain_of chains.new x) }
-    ensures head { OnOk result (contains i noted.now ≡ true
-        → slice_get (chain_of chains.new i) 0 ≡ Some (blank (entry_at view.now i))) }
-    ensures others { (x : ℕ) → x ≢ i → chain_of chains.new x ≡ chain_of chains.old x }
+// Puts a record with id 0 and the value in `view` before those of object `x`, if `view` has the object.
+fn pad_at(alloc: Global, chains: &mut Chains, x: ObjectNo, view: &Map) -> Result<(), NoMemory>
+    requires { length view.now ≤ length chains.old.heads.items }
+    ensures padded { (y : ℕ) → Padded (chain_of chains.old y) (chain_of chains.new y) }
+    ensures head { OnOk result (x < length view.now
+        → slice_get (chain_of chains.new x) 0 ≡ Some (blank (entry_at view.now x))) }
+    ensures others { (y : ℕ) → y ≢ x → chain_of chains.new y ≡ chain_of chains.old y }
     ensures many { length chains.new.heads.items ≡ length chains.old.heads.items }
 {
-    if noted.has(i as u64) {
-        let Ok(entry) = view.at(i).copy(alloc) else {
-            return Err(NoMemory);
-        };
-        let Ok(()) = chains.pad(i as u64, entry) else {
-            return Err(NoMemory);
-        };
+    if x as usize >= view.len() {
+        return Ok(());
     }
+    let Ok(entry) = view.at(x as usize).copy(alloc) else {
+        return Err(NoMemory);
+    };
+    let Ok(()) = chains.pad(x, entry) else {
+        return Err(NoMemory);
+    };
     Ok(())
 }
 
@@ -163,25 +157,25 @@ pub fn pad_all(
         → slice_get (chain_of chains.new x) 0 ≡ Some (blank (entry_at view.now x))) }
     ensures many { length chains.new.heads.items ≡ length chains.old.heads.items }
 {
-    for i in 0..view.len() {
-        let Ok(()) = pad_at(alloc, chains, noted, view, i) else {
+    for x in noted.numbers() {
+        let Ok(()) = pad_at(alloc, chains, *x, view) else {
             return Err(NoMemory);
         };
     }
     Ok(())
 }
 
-// Gives the first record of object `i` an id, if the object is in `noted`.
-fn raise_at(chains: &mut Chains, noted: &Objects, i: usize, id: u64)
-    requires within { i < length chains.old.heads.items }
-    requires some { contains i noted.now ≡ true → 0 < length (chain_of chains.old i) }
-    ensures put { contains i noted.now ≡ true → chain_of chains.new i ≡ with_head_id id (chain_of chains.old i) }
-    ensures left { contains i noted.now ≡ false → chain_of chains.new i ≡ chain_of chains.old i }
-    ensures others { (x : ℕ) → x ≢ i → chain_of chains.new x ≡ chain_of chains.old x }
+// Gives the first record of object `x` an id, if `x` is below `count`.
+fn raise_at(chains: &mut Chains, x: ObjectNo, count: usize, id: u64)
+    requires within { count ≤ length chains.old.heads.items }
+    requires some { x < count → 0 < length (chain_of chains.old x) }
+    ensures put { x < count → chain_of chains.new x ≡ with_head_id id (chain_of chains.old x) }
+    ensures past { count ≤ x → chain_of chains.new x ≡ chain_of chains.old x }
+    ensures others { (y : ℕ) → y ≢ x → chain_of chains.new y ≡ chain_of chains.old y }
     ensures many { length chains.new.heads.items ≡ length chains.old.heads.items }
 {
-    if noted.has(i as u64) {
-        chains.raise(i as u64, id);
+    if (x as usize) < count {
+        chains.raise(x, id);
     }
 }
 
@@ -194,22 +188,21 @@ pub fn raise_all(chains: &mut Chains, noted: &Objects, count: usize, id: u64)
     ensures left { (x : ℕ) → contains x noted.now ≡ false → chain_of chains.new x ≡ chain_of chains.old x }
     ensures many { length chains.new.heads.items ≡ length chains.old.heads.items }
 {
-    for i in 0..count {
-        raise_at(chains, noted, i, id);
+    for x in noted.numbers() {
+        raise_at(chains, *x, count, id);
     }
 }
 
-// Gives id 0 to the records of object `i` with these ids, if the object is in `noted`.
-fn clear_at(chains: &mut Chains, noted: &Objects, i: usize, ids: &IdSet)
-    requires { i < length chains.old.heads.items }
-    ensures put { contains i noted.now ≡ true → chain_of chains.new i ≡ chain_without_ids ids.now
-        (chain_of chains.old i) }
-    ensures left { contains i noted.now ≡ false → chain_of chains.new i ≡ chain_of chains.old i }
-    ensures others { (x : ℕ) → x ≢ i → chain_of chains.new x ≡ chain_of chains.old x }
+// Gives id 0 to the records of object `x` with these ids, if `x` is below `count`.
+fn clear_at(chains: &mut Chains, x: ObjectNo, count: usize, ids: &IdSet)
+    requires { count ≤ length chains.old.heads.items }
+    ensures put { x < count → chain_of chains.new x ≡ chain_without_ids ids.now (chain_of chains.old x) }
+    ensures past { count ≤ x → chain_of chains.new x ≡ chain_of chains.old x }
+    ensures others { (y : ℕ) → y ≢ x → chain_of chains.new y ≡ chain_of chains.old y }
     ensures many { length chains.new.heads.items ≡ length chains.old.heads.items }
 {
-    if noted.has(i as u64) {
-        chains.clear(i as u64, ids);
+    if (x as usize) < count {
+        chains.clear(x, ids);
     }
 }
 
@@ -221,8 +214,8 @@ fn clear_all(chains: &mut Chains, noted: &Objects, count: usize, ids: &IdSet)
     ensures left { (x : ℕ) → contains x noted.now ≡ false → chain_of chains.new x ≡ chain_of chains.old x }
     ensures many { length chains.new.heads.items ≡ length chains.old.heads.items }
 {
-    for i in 0..count {
-        clear_at(chains, noted, i, ids);
+    for x in noted.numbers() {
+        clear_at(chains, *x, count, ids);
     }
 }
 

@@ -1,13 +1,12 @@
-use Rattle.std.proofs.Common.{◌≡◌, ℕ, ◌<◌, ◌≤◌, true, false, length}
-use Rattle.rt_values.specs.Maps.{contains}
+use Rattle.std.proofs.Common.{◌≡◌, ℕ, ◌≤◌, length}
 use Rattle.snap_records.specs.Edits.{with_head_id}
 use Rattle.snap_records.specs.Chains.{chain_of}
+use Rattle.snap_world.proofs.NotedLoops.{IsDone}
 use Rattle.snap_world.proofs.moving.raise_all.Given as goal
 
-abbrev pub invariant-loop-i : goal.invariant-loop-i
-invariant-loop-i l = record {
-  put : (x : ℕ) → x < l.i → contains x l.noted ≡ true → chain_of l.chains x ≡ with_head_id l.id (chain_of l.initial.chains x);
-  ahead : (x : ℕ) → l.i ≤ x → chain_of l.chains x ≡ chain_of l.initial.chains x;
-  left : (x : ℕ) → contains x l.noted ≡ false → chain_of l.chains x ≡ chain_of l.initial.chains x;
+abbrev pub invariant-loop-x : goal.invariant-loop-x
+invariant-loop-x l = record {
+  done : IsDone (with_head_id l.id) l.x-items l.count (chain_of l.initial.chains) l.x-index (chain_of l.chains);
+  past : (x : ℕ) → l.count ≤ x → chain_of l.chains x ≡ chain_of l.initial.chains x;
   many : length l.chains.heads.items ≡ length l.initial.chains.heads.items;
 }
