@@ -1,9 +1,10 @@
 // Random calls on both worlds, from a seeded generator.
-use rt_values::{Kind, Ty, Value};
+use rt_values::{Kind, Name, Ty, Value};
 use snap_api::{Reply, Request, Versions};
 use snap_plain::PlainWorld;
 use snap_policy::BuiltIn;
 use snap_world::RecordWorld;
+use std::alloc::Global;
 use std::test::Fail;
 
 const SEEDS: [u64; 10] = [1, 2, 3, 5, 8, 13, 21, 34, 55, 89];
@@ -41,8 +42,7 @@ fn number(numbers: &mut Numbers) -> i64 {
     }
 }
 
-// A call on one of `names` snapshots. Most names are of the last six snapshots, and snapshots are often closed, so few are
-// live at a time.
+// A call on one of `names` snapshots. Most names are of the last six snapshots.
 fn request(numbers: &mut Numbers, names: u64) -> Request {
     let recent = names.saturating_sub(numbers.below(6).saturating_add(1));
     let name = match numbers.below(4) {
@@ -90,6 +90,27 @@ fn same(one: &Reply, other: &Reply) -> bool {
     }
 }
 
+// Disposes snapshots for both callers. Returns whether the worlds reply alike.
+fn dispose_all(
+    alloc: Global,
+    plain: &mut PlainWorld<BuiltIn>,
+    records: &mut RecordWorld<BuiltIn>,
+    first: Name,
+    end: Name,
+) -> bool {
+    for name in first..end {
+        for caller in 0..2 {
+            let copied = plain.call(alloc, caller, Request::Dispose { name });
+            let reply = records.call(alloc, caller, Request::Dispose { name });
+            if !same(&copied, &reply) {
+                return false;
+            }
+        }
+    }
+    true
+}
+
+// All snapshots are disposed after each 50 calls, so that few are live at a time.
 #[test]
 fn random_calls_get_equal_replies(rt: HostRuntime) -> Result<(), Fail> {
     let alloc = rt.alloc();
@@ -116,7 +137,8 @@ fn random_calls_get_equal_replies(rt: HostRuntime) -> Result<(), Fail> {
             records.watch(alloc)?;
         }
         let mut names = 1;
-        for step in 0..500 {
+        let mut first = 1;
+        for step in 0..10_000 {
             let caller = numbers.below(8) / 7;
             let request = request(&mut numbers, names);
             let copied = plain.call(alloc, caller, request.copy(alloc)?);
@@ -124,6 +146,10 @@ fn random_calls_get_equal_replies(rt: HostRuntime) -> Result<(), Fail> {
             assert!(rt; same(&copied, &reply), "seed {seed}, step {step}");
             if let Reply::Taken(name) | Reply::TakenFor(name, _) = reply {
                 names = name.saturating_add(1);
+            }
+            if step % 50 == 0 {
+                assert!(rt; dispose_all(alloc, &mut plain, &mut records, first, names));
+                first = names;
             }
         }
     }

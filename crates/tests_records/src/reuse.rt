@@ -57,8 +57,27 @@ fn records_of_nested_snapshots_are_reused(rt: HostRuntime) -> Result<(), Fail> {
         }
         world.dispose(0, outer)?;
         assert!(rt; world.write(alloc, 0, 0, 0, Value::Int(round))?);
-        let (used, _) = counts(&world);
+        let (used, all) = counts(&world);
         assert!(rt; used <= 3, "round {round}: {used} records");
+        assert!(rt; all <= 5, "round {round}: {all} records in all");
+    }
+    Ok(())
+}
+
+#[test]
+fn applies_reuse_the_records_of_the_applied_snapshots(rt: HostRuntime) -> Result<(), Fail> {
+    let alloc = rt.alloc();
+    let mut world: RecordWorld<BuiltIn> = RecordWorld::new(alloc)?;
+    assert!(rt; world.objects() < 65536);
+    world.make(alloc, Ty::Int, BuiltIn::Counter, Value::Int(0))?;
+    let outer = world.take(alloc, 0, 0, Kind::Mutable)?;
+    for round in 1..301 {
+        let inner = world.take(alloc, 0, outer, Kind::Mutable)?;
+        assert!(rt; world.write(alloc, 0, inner, 0, Value::Int(round))?);
+        world.apply(alloc, 0, inner)?;
+        let (used, all) = counts(&world);
+        assert!(rt; used <= 5, "round {round}: {used} records");
+        assert!(rt; all <= 6, "round {round}: {all} records in all");
     }
     Ok(())
 }
