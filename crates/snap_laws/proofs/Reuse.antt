@@ -1,9 +1,9 @@
 -- A write that reuses a record that no live snapshot reads.
-use Rattle.std.proofs.Common.{◌≡◌, ◌≢◌, ℕ, ◌==◌, ◌<◌, ◌||◌, Bool, true, false, not, List, refl, sym, ap, ◌∙◌}
+use Rattle.std.proofs.Common.{◌≡◌, ◌≢◌, ℕ, ◌==◌, ◌<◌, ◌||◌, Bool, true, false, not, List, refl, ap, ◌∙◌}
 use Rattle.rt_values.specs.Maps.{contains}
 use Rattle.rt_values.specs.declared.maps.StampedValue.{StampedValue}
 use Rattle.snap_api.specs.World.{World}
-use Rattle.snap_records.specs.Records.{Rec, Reads}
+use Rattle.snap_records.specs.Records.{Reads}
 use Rattle.snap_nested.specs.Ids.{valid_for_base}
 use Rattle.snap_reuse.specs.Readers.{is_unkept}
 use Rattle.snap_reuse.proofs.Reusing.{read_within}

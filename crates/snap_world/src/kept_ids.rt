@@ -111,11 +111,7 @@ fn add_base_id(
 }
 
 // Adds the id of a record, if there is one.
-fn add_record_id(
-    chains: &Chains,
-    found: Option<RecordNo>,
-    ids: &mut IdSet,
-) -> Result<(), NoMemory>
+fn add_record_id(chains: &Chains, found: Option<RecordNo>, ids: &mut IdSet) -> Result<(), NoMemory>
     requires { IfSome found (λ r. IsSome (get chains.now.slots r.0)) }
     ensures more { (i : ℕ) → contains i ids.old ≡ true → contains i ids.new ≡ true }
     ensures added { OnOk result ((i : ℕ) → has_id i (option_map (λ r. record_at chains.now r.0) found) ≡ true

@@ -1,4 +1,4 @@
-use Rattle.std.proofs.Common.{◌≡◌, ℕ, ◌≤◌, List, length, sym, ap, ◌∙◌, refl, inl, inr, arith}
+use Rattle.std.proofs.Common.{ℕ, ◌≤◌, List, length, sym, ap, ◌∙◌, refl, inl, inr, arith}
 use Rattle.rt_values.specs.Maps.{contains}
 use Rattle.snap_ids.proofs.Booleans.{same_or_other}
 use Rattle.std.specs.Prelude.{slice_index_or}

@@ -1,9 +1,8 @@
-use Rattle.std.proofs.Common.{◌≡◌, ℕ, ◌≤◌, ◌==◌, List, length, take, refl, sym, ap, ◌∙◌, Some, inl, inr, arith}
+use Rattle.std.proofs.Common.{ℕ, ◌≤◌, ◌==◌, List, length, take, refl, sym, ap, ◌∙◌, Some, inl, inr, arith}
 use Rattle.std.proofs.lemmas.Bool.Decides.{Decides-eqb}
 use Rattle.std.proofs.lemmas.List.{take_all}
 use Rattle.std.specs.Prelude.{slice_index_or, slice_get}
 use Rattle.rt_values.specs.Maps.{contains, entry_at}
-use Rattle.rt_values.specs.declared.maps.StampedValue.{StampedValue}
 use Rattle.snap_ids.proofs.Booleans.{same_or_other, or_true}
 use Rattle.snap_records.specs.Records.{Rec}
 use Rattle.snap_records.specs.Edits.{blank}

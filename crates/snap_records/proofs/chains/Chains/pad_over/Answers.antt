@@ -1,9 +1,8 @@
-use Rattle.std.proofs.Common.{◌≡◌, ℕ, List, refl, sym, ap, ◌∙◌, subst, Option, Some, None}
+use Rattle.std.proofs.Common.{ℕ, List, refl, sym, ap, ◌∙◌, subst, Option, Some, None}
 use Rattle.std.proofs.lemmas.List.{get_or-set_other}
 use Rattle.std.specs.Prelude.{slice_set, IsSome}
-use Rattle.snap_records.specs.Records.{Rec}
 use Rattle.snap_records.specs.Edits.{blank}
-use Rattle.snap_records.specs.Chains.{record_of, record_at, Replaces}
+use Rattle.snap_records.specs.Chains.{record_of, record_at}
 use Rattle.snap_records.specs.declared.slots.Slot.{Slot}
 use Rattle.snap_records.proofs.Placing.{replaces_of, slot_same, slot_other}
 use Rattle.snap_records.proofs.PadOver.{moves_first, overwrites_first}
