@@ -4,6 +4,7 @@ ghost use Rattle.rt_groups.specs.Paths.{GroupKey, same_sibling};
 ghost use Rattle.group_keys.specs.Queues.{queue_of};
 
 use crate::SiblingKey;
+use crate::lookups::Lookup;
 use indexmap::IndexMap;
 use rt_values::NoMemory;
 use std::alloc::Global;
@@ -42,13 +43,14 @@ impl<'a> SiblingQueues<'a> {
         Ok(())
     }
 
-    /// Removes and returns the first index in the queue of `key` (`getNext` of `Pending`).
-    pub fn take(&mut self, key: &SiblingKey<'a>) -> Option<usize>
+    /// Removes and returns the first index in the queue of `key` (`getNext` of `Pending`). The value in `key` need not
+    /// live as long as those in the queues.
+    pub fn take<'k>(&mut self, key: &SiblingKey<'k>) -> Option<usize>
         ensures found { result ≡ slice_get (queue_of self.old key.now) 0 }
         ensures left { (s : GroupKey) → queue_of self.new s
             ≡ (if same_sibling key.now s then drop 1 (queue_of self.old s) else queue_of self.old s) }
     {
-        match self.queues.get_mut(key) {
+        match self.queues.get_mut(key.lookup()) {
             Some(indexes) => indexes.pop_front(),
             None => None,
         }

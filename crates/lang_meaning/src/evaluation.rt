@@ -43,8 +43,8 @@ pub fn eval<V: View>(
     eval_part(alloc, expression, scope, view, &mut reads, false)
 }
 
-// Evaluates an expression as `eval` does, and appends its reads to `reads`, the reads of the call that evaluates it
-// (the current recompose scope). After `NoMemory` the list of reads has no meaning.
+/// Evaluates an expression as `eval` does, and appends its reads to `reads`, the reads of the call that evaluates it
+/// (the current recompose scope). After `NoMemory` the list of reads has no meaning.
 pub fn eval_noting<V: View>(
     alloc: Global,
     expression: &Expression,

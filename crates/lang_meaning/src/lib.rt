@@ -19,7 +19,7 @@ mod scope;
 
 pub use arguments::{bind, evaluate_all, evaluate_attributes, evaluate_keys};
 pub use composition::{ScratchStop, scratch};
-pub use evaluation::eval;
+pub use evaluation::{eval, eval_noting};
 pub use laws::{
     calls_reach_earlier_functions, cells_may_be_kept, evaluation_agrees, own_parts_agree,
     skipping_is_right,

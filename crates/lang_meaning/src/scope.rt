@@ -1,6 +1,6 @@
 // The variables in scope.
 ghost use Rattle.std.specs.Prelude.{◌≡◌, ◌++◌, ◌∷◌, [], List, true, IfOk, OnOk, OnErr, map};
-ghost use Rattle.rt_values.specs.Values.{is_flat};
+ghost use Rattle.rt_values.specs.Values.{is_flat, same_values};
 ghost use Rattle.lang_ast.specs.Evaluation.{new_binding, lookup};
 ghost use Rattle.lang_ast.specs.declared.binding.Binding.{Binding};
 
@@ -67,6 +67,24 @@ impl Env {
             rest = before;
         }
         Ok(Value::Int(0))
+    }
+
+    /// Returns whether the values of the variables, in order, equal `values`: the test of the keys of a cell
+    /// (`changed`).
+    pub fn has_values(&self, values: &[Value]) -> bool
+        ensures { result ≡ same_values values.now (map (λ b. b.value) self.now) }
+    {
+        let mut rest = self.bindings.as_slice();
+        for value in values {
+            let Some((binding, more)) = rest.split_first() else {
+                return false;
+            };
+            if !value.same(&binding.value) {
+                return false;
+            }
+            rest = more;
+        }
+        rest.is_empty()
     }
 
     /// Returns the values of the variables, in order, and discards their names.

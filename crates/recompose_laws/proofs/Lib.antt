@@ -1,6 +1,8 @@
 pub mod Apart
 pub mod Beside
+pub mod CalculatedCells
 pub mod Idles
+pub mod MadeCalls
 pub mod Numbers
 pub mod Orders
 pub mod Owed

@@ -57,13 +57,21 @@ pub same_reads : (m m' : Map) (owed : List ℕ) → SameBut owed m m' → (xs : 
 same_reads m m' owed same [] = tt
 same_reads m m' owed same (x ∷ xs) = (same x, same_reads m m' owed same xs)
 
-same-front : (m m' : Map) (owed xs ys : List ℕ) → SameReads owed (xs ++ ys) m m' → SameReads owed xs m m'
+pub same-front : (m m' : Map) (owed xs ys : List ℕ) → SameReads owed (xs ++ ys) m m' → SameReads owed xs m m'
 same-front m m' owed [] ys h = tt
 same-front m m' owed (x ∷ xs) ys h = (h.0, same-front m m' owed xs ys h.1)
 
-same-back : (m m' : Map) (owed xs ys : List ℕ) → SameReads owed (xs ++ ys) m m' → SameReads owed ys m m'
+pub same-back : (m m' : Map) (owed xs ys : List ℕ) → SameReads owed (xs ++ ys) m m' → SameReads owed ys m m'
 same-back m m' owed [] ys h = h
 same-back m m' owed (x ∷ xs) ys h = same-back m m' owed xs ys h.1
+
+-- The inside of a group, and what follows the group.
+
+pub same_inside : (m m' : Map) (owed : List ℕ) (site n : ℕ) (what : GroupKind) (inside rest : GroupForest) → SameReads owed (asks (Group site n what inside rest)) m m' → SameReads owed (asks inside) m m'
+same_inside m m' owed site n what inside rest h = same-front m m' owed (asks inside) (asks rest) h
+
+pub same_rest : (m m' : Map) (owed : List ℕ) (site n : ℕ) (what : GroupKind) (inside rest : GroupForest) → SameReads owed (asks (Group site n what inside rest)) m m' → SameReads owed (asks rest) m m'
+same_rest m m' owed site n what inside rest h = same-back m m' owed (asks inside) (asks rest) h
 
 same-both : (m m' : Map) (owed xs ys : List ℕ) → SameReads owed xs m m' → SameReads owed ys m m' → SameReads owed (xs ++ ys) m m'
 same-both m m' owed [] ys h g = g

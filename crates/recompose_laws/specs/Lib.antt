@@ -5,3 +5,5 @@ pub mod Numbering
 pub mod Distinct
 pub mod Idle
 pub mod Skipped
+pub mod MadeCalls
+pub mod CalculatedCells

@@ -7,14 +7,19 @@
 //! Promises: each law is the contract of a function without a body. `specs/Refreshing.antt` defines the groups
 //! after the walk, `specs/Work.antt` the work that a frame owes, by siblings, and `specs/Walking.antt` the work
 //! of the walk. `specs/Numbering.antt` adds node numbers, `specs/Distinct.antt` states that they are unique,
-//! and `specs/Idle.antt` describes a frame that owes nothing.
+//! and `specs/Idle.antt` describes a frame that owes nothing. `specs/MadeCalls.antt` and
+//! `specs/CalculatedCells.antt` define what is known of the calls and the cells that a frame keeps.
 #![tactic(auto)]
 
 mod idle;
+mod kept_groups;
 mod laws;
 
 pub use idle::{
     kept_trail_is_numbered, nothing_owed_nothing_done, quiet_part_is_kept, skipped_call_is_renewed,
+};
+pub use kept_groups::{
+    kept_calls_are_made, kept_cells_are_calculated, pure_calculations_are_by_site,
 };
 pub use laws::{
     composing_again_is_the_frame, kept_trail_is_the_forest, nodes_are_at_node_sites,
