@@ -10,11 +10,11 @@ use Rattle.lang_checks.specs.declared.faults.CheckKind.{CheckKind}
 use Rattle.lang_checks.specs.FaultOrder.{fault_unless}
 use Rattle.lang_checks.specs.ProgramFaults.{program_faults}
 
-none_in : {A : Type 0} (xs ys : List A) → xs ++ ys ≡ [] → (xs ≡ []) × (ys ≡ [])
+pub none_in : {A : Type 0} (xs ys : List A) → xs ++ ys ≡ [] → (xs ≡ []) × (ys ≡ [])
 none_in [] ys h = (refl, h)
 none_in (x ∷ xs) ys h = absurd (cc)
 
-held : (b : Bool) (k : CheckKind) (at : ℕ) → fault_unless b k at ≡ [] → b ≡ true
+pub held : (b : Bool) (k : CheckKind) (at : ℕ) → fault_unless b k at ≡ [] → b ≡ true
 held true k at h = refl
 held false k at h = absurd (cc)
 

@@ -6,5 +6,7 @@ pub mod Statements
 pub mod Chains
 pub mod CappedChains
 pub mod ProgramFaults
+pub mod Numbers
+pub mod NumbersProps
 pub mod Laws
 pub mod Views

@@ -5,6 +5,8 @@ ghost use Rattle.lang_ast.specs.Programs.{Program as program_data, program_view,
 ghost use Rattle.lang_checks.specs.declared.faults.ProgramFault.{ProgramFault as fault_data};
 ghost use Rattle.lang_checks.specs.FaultOrder.{least_fault};
 ghost use Rattle.lang_checks.specs.ProgramFaults.{program_faults};
+ghost use Rattle.lang_checks.specs.Numbers.{IsNumberedProgram};
+ghost use Rattle.lang_checks.specs.NumbersProps.{numbered-prop};
 
 use crate::faults::ProgramFault;
 use crate::functions::least_fault;
@@ -32,13 +34,14 @@ impl From<NoMemory> for CheckStop {
     }
 }
 
-/// A program without faults.
+/// A program without faults, whose statements and calls are numbered in the order of the text.
 #[derive(Drop)]
 pub struct Checked {
     header: usize,
     states: Vec<State>,
     functions: Vec<Function>,
     ghost fine: { program_faults (record { header = header; states = states.items; functions = functions_view functions.items }) ≡ [] },
+    ghost numbered: { IsNumberedProgram (record { header = header; states = states.items; functions = functions_view functions.items }) } by { numbered-prop _ },
 }
 
 impl Checked {
@@ -75,10 +78,12 @@ impl Checked {
 
 /// Checks a program, and returns it as one without faults.
 ///
+/// The statements and calls of the program must be numbered as `lang_forms::program` numbers them.
 /// Fails with the fault of the first pass that finds any, at the least offset, and if memory runs
 /// out. The rules are this project's own; the Compose compiler plugin finds such faults in Kotlin.
 #[tactic(auto, using(crate::proofs::Least::no_answer))]
 pub fn check(alloc: Global, program: Program) -> Result<Checked, CheckStop>
+    requires numbered { IsNumberedProgram (program_view program) }
     ensures same { IfOk result (λ c. (c.header ≡ program.header) × (c.states ≡ program.states)
         × (c.functions ≡ program.functions)) }
     ensures fine { OnOk result (program_faults (program_view program) ≡ []) }

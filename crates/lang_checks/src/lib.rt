@@ -1,7 +1,8 @@
 //! The faults of a program that has the right forms.
 //!
 //! `check` takes a parsed program and returns it as `Checked`, whose type keeps that it has no
-//! faults. Only `Checked` is composed. The Kotlin compiler and the Compose compiler plugin find
+//! faults and that its statements and calls are numbered in the order of the text
+//! (`specs/Numbers.antt`). Only `Checked` is composed. The Kotlin compiler and the Compose compiler plugin find
 //! such faults before the runtime sees any composable. The rules are this project's own.
 //!
 //! Five passes find faults: duplicate names, unknown names, calls out of order, types, and

@@ -1,4 +1,5 @@
 pub mod Uniques
+pub mod Numbers
 pub mod TreeLines
 pub mod Refusals
 pub mod Plays

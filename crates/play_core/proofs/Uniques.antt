@@ -101,14 +101,22 @@ none-too-many places h = by (slice_get places most_forms) refl
     by None e = refl
     by (Some at) e = let bad : at ∷ [] ≡ [] = rw e at h in absurd cc
 
--- A program that keeps the limits has at most 256 states.
-pub few_states : (f : Forest) (p : Program) → program_limits f p ≡ [] → length p.states ≤ most_forms
-few_states f p h =
+-- A program that keeps the limits has at most 256 states and 256 functions.
+few_forms : (f : Forest) (p : Program) → program_limits f p ≡ [] → (first_excess (map state_place p.states) ≡ []) × (first_excess (map function_place p.functions) ≡ [])
+few_forms f p h =
     let sizes = (both_none (beyond (program_trees f)) (program_sizes p) h).1 in
     let forms = (both_none (first_excess (map state_place p.states) ++ first_excess (map function_place p.functions)) (functions_sizes p.functions) sizes).0 in
-    let states = (both_none (first_excess (map state_place p.states)) (first_excess (map function_place p.functions)) forms).0 in
-    let many = few (map state_place p.states) most_forms (none-too-many (map state_place p.states) states) in
+    both_none (first_excess (map state_place p.states)) (first_excess (map function_place p.functions)) forms
+
+pub few_states : (f : Forest) (p : Program) → program_limits f p ≡ [] → length p.states ≤ most_forms
+few_states f p h =
+    let many = few (map state_place p.states) most_forms (none-too-many (map state_place p.states) (few_forms f p h).0) in
     subst (λ n. n ≤ most_forms) (length-map p.states state_place) many
+
+pub few_functions : (f : Forest) (p : Program) → program_limits f p ≡ [] → length p.functions ≤ most_forms
+few_functions f p h =
+    let many = few (map function_place p.functions) most_forms (none-too-many (map function_place p.functions) (few_forms f p h).1) in
+    subst (λ n. n ≤ most_forms) (length-map p.functions function_place) many
 
 -- Rejected bytes are not a source text.
 pub refused_none : (bytes : List ℕ) (f : Forest) (end : TextEnd) → Spells bytes f → refusal (length bytes) f ≡ Some end → IsNoText bytes

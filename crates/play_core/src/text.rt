@@ -13,6 +13,7 @@ ghost use Rattle.lang_forms.specs.TextAnswers.{text_answer};
 ghost use Rattle.lang_forms.specs.Forms.{HasForms};
 ghost use Rattle.lang_forms.specs.Sources.{parsed_source_view};
 ghost use Rattle.lang_forms.specs.FirstWrong.{Answers};
+ghost use Rattle.lang_checks.specs.Numbers.{IsNumberedProgram};
 ghost use Rattle.play_core.specs.Texts.{IsInput, IsNoText};
 ghost use Rattle.play_core.specs.Faults.{IsFault};
 ghost use Rattle.play_core.specs.ParserRefusal.{refusal};
@@ -131,6 +132,7 @@ fn parse_trees(alloc: Global, trees: &[Tree], end: usize) -> Result<(Program, Re
     ensures read { Answers parsed_source_view result (text_answer end (forest_view trees.now)) }
     ensures forms { IfOk result (λ r. HasForms (within (forest_view trees.now)) (parsed_source_view r)) }
     ensures small { IfOk result (λ r. program_limits (forest_view trees.now) (program_view r.0) ≡ []) }
+    ensures numbered { IfOk result (λ r. IsNumberedProgram (program_view r.0)) }
     ensures first_oversized { IfOk result (λ r. r.1.first_oversized ≡ least (oversized_script_offsets (forest_view trees.now))) }
 {
     lang_forms::program(alloc, trees, end)

@@ -1,7 +1,7 @@
 // Scripts from their text, and each kind of line.
+use crate::programs::parse_program;
 use lang_ast::Rest;
 use lang_checks::{Checked, check};
-use lang_forms::program;
 use rt_groups::{Attribute, Attributes, Group, GroupKind, Report, Values};
 use rt_values::{Kind, Objects, Ty, Value, Word};
 use script_lang::{OpenGroups, Script, ScriptStop, add_line, add_refused, add_report, script_of};
@@ -17,8 +17,7 @@ const PROGRAM: &str =
 fn parsed(alloc: Global, script: &str) -> Result<(Checked, Rest), Fail> {
     let mut text = String::from_str(alloc, PROGRAM)?;
     text.push_str(script)?;
-    let trees = sexp_text::read(alloc, text.as_bytes())?;
-    let (program, rest) = program(alloc, &trees, text.len())?;
+    let (program, rest) = parse_program(alloc, text.as_bytes())?;
     Ok((check(alloc, program)?, rest))
 }
 

@@ -1,6 +1,6 @@
 // A checked program has the states, the functions and the root of the program that was checked.
+use crate::programs::parse_program;
 use lang_checks::{CheckKind, CheckStop, ProgramFault, check};
-use lang_forms::program;
 use std::alloc::Global;
 use std::test::Fail;
 
@@ -19,8 +19,7 @@ const EVERY_FORM: &str = r#"(compose 1)
 #[test]
 fn a_program_with_every_form_is_accepted(rt: HostRuntime) -> Result<(), Fail> {
     let alloc: Global = rt.alloc();
-    let trees = sexp_text::read(alloc, EVERY_FORM.as_bytes())?;
-    let (program, _) = program(alloc, &trees, EVERY_FORM.len())?;
+    let (program, _) = parse_program(alloc, EVERY_FORM.as_bytes())?;
     let checked = check(alloc, program)?;
     assert_eq!(rt;
         (
@@ -38,8 +37,7 @@ fn a_program_with_every_form_is_accepted(rt: HostRuntime) -> Result<(), Fail> {
 fn a_program_without_a_root_is_rejected(rt: HostRuntime) -> Result<(), Fail> {
     let alloc: Global = rt.alloc();
     let text = "(compose 1) (fun foot ())";
-    let trees = sexp_text::read(alloc, text.as_bytes())?;
-    let (program, _) = program(alloc, &trees, text.len())?;
+    let (program, _) = parse_program(alloc, text.as_bytes())?;
     assert!(rt; matches!(check(alloc, program), Err(CheckStop::ProgramFault(_))));
     Ok(())
 }
@@ -66,8 +64,7 @@ fn policies_fit_types(rt: HostRuntime) -> Result<(), Fail> {
             for part in [*ty, " ", policy, " ", *value, ") (fun root ())"] {
                 text.push_str(part)?;
             }
-            let trees = sexp_text::read(alloc, text.as_bytes())?;
-            let (program, _) = program(alloc, &trees, text.len())?;
+            let (program, _) = parse_program(alloc, text.as_bytes())?;
             let fault = CheckStop::ProgramFault(ProgramFault {
                 kind: CheckKind::Type,
                 at: 12,

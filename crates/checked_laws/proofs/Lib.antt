@@ -1,0 +1,4 @@
+pub mod Parts
+pub mod Ordered
+pub mod BySite
+pub mod StateReads
