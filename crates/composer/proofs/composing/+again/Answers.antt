@@ -1,0 +1,1158 @@
+use Rattle.std.proofs.Common.{rules, ◌≡◌, ◌<◌, ◌++◌, ◌+◌, ◌∷◌, [], arith, sym, ap, ◌∙◌, subst, List, ℕ, ℤ, pos, to_z, of_z, w64, append-nil, Err, Ok, refl, length, length-append, get_or, map, Option, Some, None, true, false}
+use Rattle.rt_values.specs.declared.value.Value.{Value}
+use Rattle.rt_values.specs.declared.value.Value.TheVariants as value
+use Rattle.rt_values.specs.Operators.{is_true, items_of}
+use Rattle.rt_values.specs.Views.{Grew}
+use Rattle.rt_groups.specs.declared.groups.GroupKind.TheVariants as what
+use Rattle.rt_groups.specs.declared.groups.Attribute.{Attribute}
+use Rattle.rt_groups.specs.PreorderGroups.{flat_kind}
+use Rattle.rt_groups.specs.Frames.{most_groups, runs_after, meets}
+use Rattle.rt_groups.specs.GroupForest.{GroupForest, End, Node, Key, Call, Cell}
+use Rattle.rt_groups.specs.Paths.{sibling, occurrence, matching_sibling, inside_of, Found}
+use Rattle.lang_ast.specs.declared.binding.Binding.{Binding}
+use Rattle.lang_ast.specs.declared.syntax.Function.{Function}
+use Rattle.lang_ast.specs.ResultsWithReads.{Reading}
+use Rattle.lang_ast.specs.Terms.{Func}
+use Rattle.lang_ast.specs.Evaluation.{new_binding, eval, eval_named}
+use Rattle.lang_ast.specs.SyntaxView.{expr_view, nameds_view, stmt_view, stmts_view, functions_view}
+use Rattle.compose_model.specs.Composing.{attribute, meaning_at, meanings}
+use Rattle.lang_meaning.specs.ComposesForest.{statement_forest, body_forest, call_forest, loop_forest}
+use Rattle.lang_meaning.proofs.Sizes.{size_at, falls_at}
+use Rattle.lang_meaning.proofs.StatementCases.{all_at, all_end}
+use Rattle.lang_meaning.proofs.ForestSteps.{turns_at, turns_end}
+use Rattle.recompose_laws.specs.Refreshing.{is_owed}
+use Rattle.composer.specs.declared.stop.ComposeStop.TheVariants.{NoMemory}
+use Rattle.composer.specs.Comparisons.{call_runs}
+use Rattle.composer.specs.OldSiblings.{KeyInfo, old_group}
+use Rattle.composer.specs.OldGroups.{Alike, SameGroup, Fits}
+use Rattle.composer.specs.declared.pending.Pending.{Pending}
+use Rattle.composer.specs.ComposerState.{composed_beside, skipped_groups, skipped_inside, run_beside}
+use Rattle.composer.specs.BesideContracts.{Reaches, IsOldPart}
+use Rattle.composer.specs.WrittenGroups.{WrittenGroups, state_of, kept_of}
+use Rattle.composer.specs.Recomposes.{ComposesBeside, is_call_kept}
+use Rattle.composer.proofs.BesideCases.{node_beside, call_beside, key_beside, choice_beside, loop_beside, binding_beside, remember_beside, node_calculates, key_calculates, then_calculates, else_calculates, loop_calculates, binding_calculates, cell_calculates, remember_calculates}
+use Rattle.composer.proofs.Machine.{same_state}
+use Rattle.composer.proofs.Reaching.{reached_stop, reached_full, reached_at}
+use Rattle.composer.proofs.BesideSteps.{beside_stop_here, beside_stop_after, beside_after, beside_full, beside_group, beside_cell, beside_run, going_first, going_more, going_done, going_stop, beside_err, beside_first, beside_second}
+use Rattle.composer.proofs.OldParts.{inside_old}
+use Rattle.composer.proofs.OldMatches.{fits_inside}
+use Rattle.composer.proofs.Matching.{matched, key_is, matched_state, container_is_no_call, kept_is_calculated, entered_longer, call_longer, kept_longer, at_now, beside_now, beside_inside}
+use Rattle.composer.proofs.Comparisons.{call_runs_kept}
+use Rattle.composer.proofs.CalledFunctions.{how_many_functions, slice_is, since_slice, statement_calculates, body_calculates, body_is, body_none}
+use Rattle.composer.proofs.SkippedCalls.{skips, skips_as}
+use Rattle.composer.proofs.RunCalls.{call_alone, part_ran, longer_ran, body_done, body_stop, part_one, longer_than, call_what, owed_call, kept_call, kept_other, kept_state, owed_is, no_call, body_part, begins_after}
+use Rattle.composer.proofs.OldWalks.{first_of_all}
+use Rattle.composer.proofs.SkipLoops.{first_parts, left_first, left_more, left_stop, left_done, ends_level, ends_past, index_behind, behind_is, index_grows}
+use Rattle.composer.proofs.ReadCounts.{counted_after, counted_cell, longer_on}
+use Rattle.composer.proofs.composing.+again.Goals as goal
+
+-- Statements one after another.
+
+pub run_all-returns : goal.run_all-returns
+run_all-returns g t c = record {
+  keeps = search (rules, g.met.V.View.keeps_on, g.met.V.View.keeps_itself);
+  same = search rules;
+  same_scope = search rules;
+  longer = search rules;
+  fits = search rules;
+  counted = λ m h. c.loop-statement.invariant.counted m h;
+  ran = λ m o h b calc. going_done (all_end m c.args.level.now.functions.now c.args.body.now c.loop-statement.statement-index c.args.made.now.scope (omega arith)) (c.loop-statement.invariant.going m o h b calc);
+}
+
+pub run_all-returns-in_err-run_one : goal.run_all-returns-in_err-run_one
+run_all-returns-in_err-run_one g t c = record {
+  keeps = search (rules, g.met.V.View.keeps_on, g.met.V.View.keeps_itself);
+  same = search rules;
+  same_scope = search rules;
+  longer = search rules;
+  fits = search rules;
+  counted = λ m h. search rules;
+  ran = λ m o h b calc.
+      let e : c.from_residual.result ≡ Err c.in_err-run_one.field-0.0 = search rules in
+      let k = c.loop-statement.invariant.going m o h b calc in
+      let P : List Binding → Type 0 = λ env. ComposesBeside c.args.level.now.owed.now.objects o.old c.args.level.now.depth k.now (statement_forest m c.args.level.now.functions.now (stmt_view c.statement-item.result) env) (state_of c.loop-statement.made.writer (g.V.View.asked c.loop-statement.view) c.loop-statement.made.reads)
+      (state_of c.run_one.new.made.writer (g.V.View.asked c.run_one.new.view) c.run_one.new.made.reads) c.run_one.new.made.pending {U = Unit {0}} (Err c.in_err-run_one.field-0.0) in
+      let ran = subst P c.loop-statement.invariant.same_scope (c.in_err-run_one.ensures.ran m (at_now o k.now) (c.loop-statement.invariant.same m h) (beside_now k.now b k.fits) (statement_calculates o.last.calculation c.args.body.now c.loop-statement.statement-index c.statement-item.result (omega arith) c.statement-item.is calc)) in
+      going_stop _ _ (all_at m c.args.level.now.functions.now c.args.body.now c.loop-statement.statement-index c.statement-item.result c.args.made.now.scope (omega arith) c.statement-item.is) k ran e;
+}
+
+pub run_all-loop-statement-preserved : goal.run_all-loop-statement-preserved
+run_all-loop-statement-preserved g t c = record {
+  keeps = g.met.V.View.keeps_on _ _ _ c.loop-statement.invariant.keeps c.in_ok-run_one.ensures.keeps;
+  same = λ m h. c.in_ok-run_one.ensures.same m (c.loop-statement.invariant.same m h);
+  same_scope = c.in_ok-run_one.ensures.same_scope ∙ c.loop-statement.invariant.same_scope;
+  longer = omega (arith, c.loop-statement.invariant.longer, c.in_ok-run_one.ensures.longer);
+  fits = c.in_ok-run_one.ensures.fits;
+  counted = λ m h. let e = c.loop-statement.invariant.counted m h in let f = c.in_ok-run_one.ensures.counted m (c.loop-statement.invariant.same m h) in omega (arith, e, f);
+  going = λ m o h b calc.
+      let k = c.loop-statement.invariant.going m o h b calc in
+      let P : List Binding → Type 0 = λ env. ComposesBeside c.args.level.now.owed.now.objects o.old c.args.level.now.depth k.now (statement_forest m c.args.level.now.functions.now (stmt_view c.statement-item.result) env) (state_of c.loop-statement.made.writer (g.V.View.asked c.loop-statement.view) c.loop-statement.made.reads)
+      (state_of c.run_one.new.made.writer (g.V.View.asked c.run_one.new.view) c.run_one.new.made.reads) c.run_one.new.made.pending {U = Unit {0}} (Ok tt) in
+      let ran = subst P c.loop-statement.invariant.same_scope (c.in_ok-run_one.ensures.ran m (at_now o k.now) (c.loop-statement.invariant.same m h) (beside_now k.now b k.fits) (statement_calculates o.last.calculation c.args.body.now c.loop-statement.statement-index c.statement-item.result (omega arith) c.statement-item.is calc)) in
+      going_more (all_at m c.args.level.now.functions.now c.args.body.now c.loop-statement.statement-index c.statement-item.result c.args.made.now.scope (omega arith) c.statement-item.is) k ran;
+}
+
+pub run_all-run_one-requires : goal.run_all-run_one-requires
+run_all-run_one-requires g t c κs w =
+    let least = size_at c.args.body.now c.loop-statement.statement-index c.statement-item.result (omega arith) c.statement-item.is in
+    search rules
+
+pub run_all-loop-statement-init : goal.run_all-loop-statement-init
+run_all-loop-statement-init g t c = record {
+  keeps = g.met.V.View.keeps_itself _;
+  same = λ m h. h;
+  same_scope = refl;
+  longer = omega arith;
+  fits = search rules;
+  counted = λ m h. refl;
+  going = λ m o h b calc. going_first b.fits;
+}
+
+-- One statement.
+
+pub run_one-returns-in-Node : goal.run_one-returns-in-Node
+run_one-returns-in-Node g t c = record {
+  keeps = search (rules, g.met.V.View.keeps_on, g.met.V.View.keeps_itself);
+  same = search rules;
+  same_scope = search rules;
+  longer = search rules;
+  fits = search rules;
+  counted = λ m h. c.run_node.ensures.counted m h;
+  ran = λ m o h b calc.
+      let r = c.run_node.ensures.ran m o h b (search (rules, node_calculates)) in node_beside m c.args.level.now.functions.now _ c.args.made.now.scope _ _ _ _ _ _ _ _ _ _ _ _ _ _ _ c.in-Node.is (search rules) (search rules) r;
+}
+
+pub run_one-returns-in-Call : goal.run_one-returns-in-Call
+run_one-returns-in-Call g t c = record {
+  keeps = search (rules, g.met.V.View.keeps_on, g.met.V.View.keeps_itself);
+  same = search rules;
+  same_scope = search rules;
+  longer = search rules;
+  fits = search rules;
+  counted = λ m h. c.run_arguments.ensures.counted m h;
+  ran = λ m o h b calc.
+      let r = c.run_arguments.ensures.ran m o h b tt in call_beside m c.args.level.now.functions.now _ c.args.made.now.scope _ _ _ _ _ _ _ _ _ _ _ _ _ _ c.in-Call.is (search rules) r;
+}
+
+pub run_one-returns-in-Key : goal.run_one-returns-in-Key
+run_one-returns-in-Key g t c = record {
+  keeps = search (rules, g.met.V.View.keeps_on, g.met.V.View.keeps_itself);
+  same = search rules;
+  same_scope = search rules;
+  longer = search rules;
+  fits = search rules;
+  counted = λ m h. c.run_key.ensures.counted m h;
+  ran = λ m o h b calc.
+      let r = c.run_key.ensures.ran m o h b (search (rules, key_calculates)) in search (rules, key_beside);
+}
+
+pub run_one-returns-in-If : goal.run_one-returns-in-If
+run_one-returns-in-If g t c = record {
+  keeps = search (rules, g.met.V.View.keeps_on, g.met.V.View.keeps_itself);
+  same = search rules;
+  same_scope = search rules;
+  longer = search rules;
+  fits = search rules;
+  counted = λ m h. c.run_if.ensures.counted m h;
+  ran = λ m o h b calc.
+      let r = c.run_if.ensures.ran m o h b (search (rules, then_calculates), search (rules, else_calculates)) in search (rules, choice_beside);
+}
+
+pub run_one-returns-in-For : goal.run_one-returns-in-For
+run_one-returns-in-For g t c = record {
+  keeps = search (rules, g.met.V.View.keeps_on, g.met.V.View.keeps_itself);
+  same = search rules;
+  same_scope = search rules;
+  longer = search rules;
+  fits = search rules;
+  counted = λ m h. c.run_for.ensures.counted m h;
+  ran = λ m o h b calc.
+      let r = c.run_for.ensures.ran m o h b (search (rules, loop_calculates)) in search (rules, loop_beside);
+}
+
+pub run_one-returns-in-Let : goal.run_one-returns-in-Let
+run_one-returns-in-Let g t c = record {
+  keeps = search (rules, g.met.V.View.keeps_on, g.met.V.View.keeps_itself);
+  same = search rules;
+  same_scope = search rules;
+  longer = search rules;
+  fits = search rules;
+  counted = λ m h. c.run_let.ensures.counted m h;
+  ran = λ m o h b calc.
+      let r = c.run_let.ensures.ran m o h b (search (rules, binding_calculates)) in search (rules, binding_beside);
+}
+
+pub run_one-returns-in-Remember : goal.run_one-returns-in-Remember
+run_one-returns-in-Remember g t c = record {
+  keeps = search (rules, g.met.V.View.keeps_on, g.met.V.View.keeps_itself);
+  same = search rules;
+  same_scope = search rules;
+  longer = search rules;
+  fits = search rules;
+  counted = λ m h. c.run_remember.ensures.counted m h;
+  ran = λ m o h b calc.
+      let r = c.run_remember.ensures.ran m o h b (search (rules, cell_calculates), search (rules, remember_calculates)) in remember_beside m c.args.level.now.functions.now _ c.args.made.now.scope _ _ _ _ _ _ _ _ _ _ _ _ _ _ _ _ c.in-Remember.is (search rules) (search rules) r;
+}
+
+-- A node or a key, with the groups inside.
+
+pub run_group-returns-in_err-found-clause-ran : goal.run_group-returns-in_err-found-clause-ran
+run_group-returns-in_err-found-clause-ran g t c w is plain m h o b calc =
+    let e : c.from_residual.result ≡ Err NoMemory = search rules in
+    beside_stop_here _ e refl
+
+pub run_group-returns-in_err-found-clause-part : goal.run_group-returns-in_err-found-clause-part
+run_group-returns-in_err-found-clause-part g t c = record {
+  keeps = search (rules, g.met.V.View.keeps_on, g.met.V.View.keeps_itself);
+  same = search rules;
+  same_scope = search rules;
+  longer = search rules;
+  fits = search rules;
+  counted = λ m h. search rules;
+}
+
+pub run_group-returns-in_err-enter-clause-ran : goal.run_group-returns-in_err-enter-clause-ran
+run_group-returns-in_err-enter-clause-ran g t c w is plain m h o b calc =
+    beside_full _ (search rules) (search rules) refl
+
+pub run_group-returns-in_err-enter-clause-part : goal.run_group-returns-in_err-enter-clause-part
+run_group-returns-in_err-enter-clause-part g t c = record {
+  keeps = search (rules, g.met.V.View.keeps_on, g.met.V.View.keeps_itself);
+  same = search rules;
+  same_scope = search rules;
+  longer = search rules;
+  fits = search rules;
+  counted = λ m h. search rules;
+}
+
+pub run_group-returns-in_err-run_all-clause-ran : goal.run_group-returns-in_err-run_all-clause-ran
+run_group-returns-in_err-run_all-clause-ran g t c w is plain m h o b calc =
+    let x = sibling c.args.site w in
+    let xs = key_is c.args.site w c.args.what _ c.key_of.ensures is c.new.ensures in
+    let k = matched {left = c.take.new.self} x c.new.result xs b c.in_ok-found.ensures.found c.in_ok-found.ensures.left in
+    let there = matching_sibling x (occurrence x o.seen) o.old in
+    let inside = body_forest m c.args.level.now.functions.now (stmts_view c.args.body.now) c.args.made.now.scope in
+    let state = matched_state c.args.level.now.depth c.args.site w c.args.what inside c.in_ok-found.found there c.args.made.now.writer c.enter.new.self (g.V.View.asked c.args.view.now) c.args.made.now.reads (container_is_no_call w plain) k.like is c.in_ok-enter.ensures.entered in
+    let within : c.replace-around.new.dest ≡ c.inside_found-within.result = search rules in
+    let fits = subst (λ (p : Pending). Fits (c.args.level.now.depth + 1) p (inside_of there) []) (sym within) (fits_inside c.args.level.now.depth c.inside_found-within.result c.in_ok-found.found there c.inside_found-within.ensures k.like) in
+    let e : c.from_residual-in_err-run_all.result ≡ Err c.in_err-run_all.field-0.0 = search rules in
+    let inner = c.in_err-run_all.ensures.ran m (inside_old o (inside_of there)) h (beside_inside (inside_of there) b k.part fits) calc in
+    beside_err _ e (beside_group w _ plain state tt inner)
+
+pub run_group-returns-in_err-run_all-clause-part : goal.run_group-returns-in_err-run_all-clause-part
+run_group-returns-in_err-run_all-clause-part g t c = record {
+  keeps = search (rules, g.met.V.View.keeps_on, g.met.V.View.keeps_itself);
+  same = search rules;
+  same_scope = search rules;
+  longer = search rules;
+  fits = search rules;
+  counted = λ m h. search rules;
+}
+
+pub run_group-returns-clause-ran : goal.run_group-returns-clause-ran
+run_group-returns-clause-ran g t c w is plain m h o b calc =
+    let x = sibling c.args.site w in
+    let xs = key_is c.args.site w c.args.what _ c.key_of.ensures is c.new.ensures in
+    let k = matched {left = c.take.new.self} x c.new.result xs b c.in_ok-found.ensures.found c.in_ok-found.ensures.left in
+    let there = matching_sibling x (occurrence x o.seen) o.old in
+    let inside = body_forest m c.args.level.now.functions.now (stmts_view c.args.body.now) c.args.made.now.scope in
+    let state = matched_state c.args.level.now.depth c.args.site w c.args.what inside c.in_ok-found.found there c.args.made.now.writer c.enter.new.self (g.V.View.asked c.args.view.now) c.args.made.now.reads (container_is_no_call w plain) k.like is c.in_ok-enter.ensures.entered in
+    let within : c.replace-around.new.dest ≡ c.inside_found-within.result = search rules in
+    let fits = subst (λ (p : Pending). Fits (c.args.level.now.depth + 1) p (inside_of there) []) (sym within) (fits_inside c.args.level.now.depth c.inside_found-within.result c.in_ok-found.found there c.inside_found-within.ensures k.like) in
+    let inner = c.in_ok-run_all.ensures.ran m (inside_old o (inside_of there)) h (beside_inside (inside_of there) b k.part fits) calc in
+    let around : c.replace-around.result ≡ c.take.new.self = search rules in
+    beside_group w _ plain state (subst (λ (p : Pending). Fits c.args.level.now.depth p o.old (x ∷ o.seen)) (sym around) k.fits) inner
+
+pub run_group-returns-clause-part : goal.run_group-returns-clause-part
+run_group-returns-clause-part g t c = record {
+  keeps = c.in_ok-run_all.ensures.keeps;
+  same = c.in_ok-run_all.ensures.same;
+  same_scope = c.in_ok-run_all.ensures.same_scope;
+  longer = let e = entered_longer _ _ c.args.what c.in_ok-found.found c.args.made.now.writer _ c.in_ok-enter.ensures.entered in omega (arith, e, c.in_ok-run_all.ensures.longer);
+  fits = c.in_ok-run_all.ensures.fits;
+  counted = λ m h. let f = c.in_ok-run_all.ensures.counted m h in let e : c.enter.new.self.reads ≡ c.args.made.now.writer.reads = ap (λ (q : WrittenGroups). q.reads) c.in_ok-enter.ensures.entered in omega (arith, e, f);
+}
+
+-- A key.
+
+pub run_key-returns-in_err-key : goal.run_key-returns-in_err-key
+run_key-returns-in_err-key g t c = record {
+  keeps = search (rules, g.met.V.View.keeps_on, g.met.V.View.keeps_itself);
+  same = search rules;
+  same_scope = search rules;
+  longer = search rules;
+  fits = search rules;
+  counted = λ m h. search rules;
+  ran = λ m o h b calc.
+      let e : c.from_residual.result ≡ Err NoMemory = search rules in
+      let p = c.in_err-key.ensures.part m h in
+      beside_stop_after _ _ _ e p.rest p.is;
+}
+
+pub run_key-returns : goal.run_key-returns
+run_key-returns g t c = record {
+  keeps = g.met.V.View.keeps_on _ _ _ c.in_ok-key.ensures.keeps c.run_group.ensures.part.keeps;
+  same = λ m h. c.run_group.ensures.part.same m (c.in_ok-key.ensures.same m h);
+  same_scope = c.run_group.ensures.part.same_scope;
+  longer = c.run_group.ensures.part.longer;
+  fits = c.run_group.ensures.part.fits;
+  counted = λ m h. counted_after _ _ _ _ _ _ _ _ _ _ (c.in_ok-key.ensures.asks m h) (c.in_ok-key.ensures.reads m h) (c.run_group.ensures.part.counted m (c.eval_noting.ensures.same m h));
+  ran = λ m o h b calc.
+      let P : Value → Type 0 = λ v. ComposesBeside c.args.level.now.owed.now.objects o.old c.args.level.now.depth o.seen (GroupForest.Group c.args.site 0 (Key v) (body_forest m c.args.level.now.functions.now (stmts_view c.args.body.now) c.args.made.now.scope) End) (state_of c.args.made.now.writer (g.V.View.asked c.eval_noting.new.view) c.eval_noting.new.reads)
+      (state_of c.run_group.new.made.writer (g.V.View.asked c.run_group.new.view) c.run_group.new.made.reads) c.run_group.new.made.pending c.run_group.result in
+      let inner = subst P (c.in_ok-key.ensures.value m h) (c.run_group.ensures.ran (Key c.in_ok-key.key) refl refl m (c.eval_noting.ensures.same m h) o b calc) in
+      beside_after _ _ (state_of c.args.made.now.writer (g.V.View.asked c.eval_noting.new.view) c.eval_noting.new.reads) (same_state refl refl refl refl (c.in_ok-key.ensures.asks m h) (c.in_ok-key.ensures.reads m h)) (inner);
+}
+
+-- A node.
+
+pub run_node-returns-in_err-room : goal.run_node-returns-in_err-room
+run_node-returns-in_err-room g t c = record {
+  keeps = search (rules, g.met.V.View.keeps_on, g.met.V.View.keeps_itself);
+  same = search rules;
+  same_scope = search rules;
+  longer = search rules;
+  fits = search rules;
+  counted = λ m h. search rules;
+  ran = λ m o h b calc.
+      let e : c.from_residual.result ≡ Err NoMemory = search rules in
+      beside_stop_here _ e refl;
+}
+
+pub run_node-returns-in_err-attributes : goal.run_node-returns-in_err-attributes
+run_node-returns-in_err-attributes g t c = record {
+  keeps = search (rules, g.met.V.View.keeps_on, g.met.V.View.keeps_itself);
+  same = search rules;
+  same_scope = search rules;
+  longer = search rules;
+  fits = search rules;
+  counted = λ m h. search rules;
+  ran = λ m o h b calc.
+      let e : c.from_residual-in_err-attributes.result ≡ Err NoMemory = search rules in
+      let p = c.in_err-attributes.ensures.part m h in
+      beside_stop_after _ _ _ e p.rest p.is;
+}
+
+pub run_node-returns-in_err-kind : goal.run_node-returns-in_err-kind
+run_node-returns-in_err-kind g t c = record {
+  keeps = search (rules, g.met.V.View.keeps_on, g.met.V.View.keeps_itself);
+  same = search rules;
+  same_scope = search rules;
+  longer = search rules;
+  fits = search rules;
+  counted = λ m h. search rules;
+  ran = λ m o h b calc.
+      let e : c.from_residual-in_err-kind.result ≡ Err NoMemory = search rules in
+      beside_after _ _ (state_of c.args.made.now.writer (g.V.View.asked c.evaluate_attributes.new.view) c.evaluate_attributes.new.reads) (same_state refl refl refl refl (c.in_ok-attributes.ensures.asks m h) (c.in_ok-attributes.ensures.reads m h)) (beside_stop_here _ e refl);
+}
+
+pub run_node-returns : goal.run_node-returns
+run_node-returns g t c = record {
+  keeps = g.met.V.View.keeps_on _ _ _ c.in_ok-attributes.ensures.keeps c.run_group.ensures.part.keeps;
+  same = λ m h. c.run_group.ensures.part.same m (c.in_ok-attributes.ensures.same m h);
+  same_scope = c.run_group.ensures.part.same_scope;
+  longer = c.run_group.ensures.part.longer;
+  fits = c.run_group.ensures.part.fits;
+  counted = λ m h. counted_after _ _ _ _ _ _ _ _ _ _ (c.in_ok-attributes.ensures.asks m h) (c.in_ok-attributes.ensures.reads m h) (c.run_group.ensures.part.counted m (c.evaluate_attributes.ensures.same m h));
+  ran = λ m o h b calc.
+      let all = (eval_named m (nameds_view c.args.attributes.now) c.args.made.now.scope).value in
+      let w = Node c.args.kind.now.text (map attribute all) in
+      let made : what.Node c.in_ok-kind.kind c.in_ok-attributes.attributes ≡ flat_kind w = ap (λ (k : List ℕ). what.Node k c.in_ok-attributes.attributes) c.in_ok-kind.ensures ∙ ap (λ (l : List Attribute). what.Node c.args.kind.now.text l) (c.in_ok-attributes.ensures.value m h) in
+      let inner = c.run_group.ensures.ran w made refl m (c.evaluate_attributes.ensures.same m h) o b calc in
+      beside_after _ _ (state_of c.args.made.now.writer (g.V.View.asked c.evaluate_attributes.new.view) c.evaluate_attributes.new.reads) (same_state refl refl refl refl (c.in_ok-attributes.ensures.asks m h) (c.in_ok-attributes.ensures.reads m h)) (inner);
+}
+
+-- One of two lists of statements.
+
+pub run_if-returns-in_err-condition : goal.run_if-returns-in_err-condition
+run_if-returns-in_err-condition g t c = record {
+  keeps = search (rules, g.met.V.View.keeps_on, g.met.V.View.keeps_itself);
+  same = search rules;
+  same_scope = search rules;
+  longer = search rules;
+  fits = search rules;
+  counted = λ m h. search rules;
+  ran = λ m o h b calc.
+      let e : c.from_residual.result ≡ Err NoMemory = search rules in
+      let p = c.in_err-condition.ensures.part m h in
+      beside_stop_after _ _ _ e p.rest p.is;
+}
+
+pub run_if-returns-then-is_true : goal.run_if-returns-then-is_true
+run_if-returns-then-is_true g t c = record {
+  keeps = search (rules, g.met.V.View.keeps_on, g.met.V.View.keeps_itself);
+  same = search rules;
+  same_scope = search rules;
+  longer = search rules;
+  fits = search rules;
+  counted = λ m h. counted_after _ _ _ _ _ _ _ _ _ _ (c.in_ok-condition.ensures.asks m h) (c.in_ok-condition.ensures.reads m h) (c.run_all.ensures.counted m (c.eval_noting.ensures.same m h));
+  ran = λ m o h b calc.
+      let inner = c.run_all.ensures.ran m o (c.eval_noting.ensures.same m h) b calc.0 in
+      let yes_is : is_true (eval m (expr_view c.args.condition.now) c.args.made.now.scope).value ≡ true = ap is_true (sym (c.in_ok-condition.ensures.value m h)) ∙ sym c.is_true.ensures ∙ c.if-is_true.true in
+      beside_after _ _ (state_of c.args.made.now.writer (g.V.View.asked c.eval_noting.new.view) c.eval_noting.new.reads) (same_state refl refl refl refl (c.in_ok-condition.ensures.asks m h) (c.in_ok-condition.ensures.reads m h)) (beside_first _ _ _ yes_is inner);
+}
+
+pub run_if-returns : goal.run_if-returns
+run_if-returns g t c = record {
+  keeps = search (rules, g.met.V.View.keeps_on, g.met.V.View.keeps_itself);
+  same = search rules;
+  same_scope = search rules;
+  longer = search rules;
+  fits = search rules;
+  counted = λ m h. counted_after _ _ _ _ _ _ _ _ _ _ (c.in_ok-condition.ensures.asks m h) (c.in_ok-condition.ensures.reads m h) (c.run_all-2.ensures.counted m (c.eval_noting.ensures.same m h));
+  ran = λ m o h b calc.
+      let inner = c.run_all-2.ensures.ran m o (c.eval_noting.ensures.same m h) b calc.1 in
+      let no_is : is_true (eval m (expr_view c.args.condition.now) c.args.made.now.scope).value ≡ false = ap is_true (sym (c.in_ok-condition.ensures.value m h)) ∙ sym c.is_true.ensures ∙ c.if-is_true.false in
+      beside_after _ _ (state_of c.args.made.now.writer (g.V.View.asked c.eval_noting.new.view) c.eval_noting.new.reads) (same_state refl refl refl refl (c.in_ok-condition.ensures.asks m h) (c.in_ok-condition.ensures.reads m h)) (beside_second _ _ _ no_is inner);
+}
+
+-- A name more in scope.
+
+pub run_bound-returns-in_err-name : goal.run_bound-returns-in_err-name
+run_bound-returns-in_err-name g t c = record {
+  keeps = search (rules, g.met.V.View.keeps_on, g.met.V.View.keeps_itself);
+  same = search rules;
+  same_scope = search rules;
+  longer = search rules;
+  fits = search rules;
+  counted = λ m h. search rules;
+  ran = λ m o h b calc.
+      let e : c.from_residual.result ≡ Err NoMemory = search rules in
+      beside_stop_here _ e refl;
+}
+
+pub run_bound-returns-in_err-push : goal.run_bound-returns-in_err-push
+run_bound-returns-in_err-push g t c = record {
+  keeps = search (rules, g.met.V.View.keeps_on, g.met.V.View.keeps_itself);
+  same = search rules;
+  same_scope = search rules;
+  longer = search rules;
+  fits = search rules;
+  counted = λ m h. search rules;
+  ran = λ m o h b calc.
+      let e : c.from_residual-in_err-push.result ≡ Err NoMemory = search rules in
+      beside_stop_here _ e refl;
+}
+
+pub run_bound-returns : goal.run_bound-returns
+run_bound-returns g t c = record {
+  keeps = search (rules, g.met.V.View.keeps_on, g.met.V.View.keeps_itself);
+  same = search rules;
+  same_scope = search rules;
+  longer = search rules;
+  fits = search rules;
+  counted = λ m h. c.in_ok-run_all.ensures.counted m h;
+  ran = λ m o h b calc.
+      let e : c.push.new.self ≡ c.args.made.now.scope ++ new_binding c.args.name.now.text c.args.value ∷ [] = c.in_ok-push.ensures.ok ∙ ap (λ (n : List ℕ). c.args.made.now.scope ++ new_binding n c.args.value ∷ []) c.in_ok-name.ensures in
+      let P : List Binding → Type 0 = λ env. ComposesBeside c.args.level.now.owed.now.objects o.old c.args.level.now.depth o.seen (body_forest m c.args.level.now.functions.now (stmts_view c.args.body.now) env) (state_of c.args.made.now.writer (g.V.View.asked c.args.view.now) c.args.made.now.reads)
+      (state_of c.run_all.new.made.writer (g.V.View.asked c.run_all.new.view) c.run_all.new.made.reads) c.run_all.new.made.pending {U = Unit {0}} (Ok tt) in
+      subst P e (c.in_ok-run_all.ensures.ran m o h b calc);
+}
+
+-- A variable.
+
+pub run_let-returns-in_err-value : goal.run_let-returns-in_err-value
+run_let-returns-in_err-value g t c = record {
+  keeps = search (rules, g.met.V.View.keeps_on, g.met.V.View.keeps_itself);
+  same = search rules;
+  same_scope = search rules;
+  longer = search rules;
+  fits = search rules;
+  counted = λ m h. search rules;
+  ran = λ m o h b calc.
+      let e : c.from_residual.result ≡ Err NoMemory = search rules in
+      let p = c.in_err-value.ensures.part m h in
+      beside_stop_after _ _ _ e p.rest p.is;
+}
+
+pub run_let-returns : goal.run_let-returns
+run_let-returns g t c = record {
+  keeps = search (rules, g.met.V.View.keeps_on, g.met.V.View.keeps_itself);
+  same = search rules;
+  same_scope = search rules;
+  longer = search rules;
+  fits = search rules;
+  counted = λ m h. counted_after _ _ _ _ _ _ _ _ _ _ (c.in_ok-value.ensures.asks m h) (c.in_ok-value.ensures.reads m h) (c.run_bound.ensures.counted m (c.eval_noting.ensures.same m h));
+  ran = λ m o h b calc.
+      let P : Value → Type 0 = λ v. ComposesBeside c.args.level.now.owed.now.objects o.old c.args.level.now.depth o.seen (body_forest m c.args.level.now.functions.now (stmts_view c.args.body.now) (c.args.made.now.scope ++ new_binding c.args.name.now.text v ∷ [])) (state_of c.args.made.now.writer (g.V.View.asked c.eval_noting.new.view) c.eval_noting.new.reads)
+      (state_of c.run_bound.new.made.writer (g.V.View.asked c.run_bound.new.view) c.run_bound.new.made.reads) c.run_bound.new.made.pending c.run_bound.result in
+      let inner = subst P (c.in_ok-value.ensures.value m h) (c.run_bound.ensures.ran m o (c.eval_noting.ensures.same m h) b calc) in
+      beside_after _ _ (state_of c.args.made.now.writer (g.V.View.asked c.eval_noting.new.view) c.eval_noting.new.reads) (same_state refl refl refl refl (c.in_ok-value.ensures.asks m h) (c.in_ok-value.ensures.reads m h)) (inner);
+}
+
+-- A loop.
+
+pub run_for-returns-in_err-list : goal.run_for-returns-in_err-list
+run_for-returns-in_err-list g t c = record {
+  keeps = search (rules, g.met.V.View.keeps_on, g.met.V.View.keeps_itself);
+  same = search rules;
+  same_scope = search rules;
+  longer = search rules;
+  fits = search rules;
+  counted = λ m h. search rules;
+  ran = λ m o h b calc.
+      let e : c.from_residual.result ≡ Err NoMemory = search rules in
+      let p = c.in_err-list.ensures.part m h in
+      beside_stop_after _ _ _ e p.rest p.is;
+}
+
+pub run_for-returns : goal.run_for-returns
+run_for-returns g t c = record {
+  keeps = search (rules, g.met.V.View.keeps_on, g.met.V.View.keeps_itself);
+  same = search rules;
+  same_scope = search rules;
+  longer = search rules;
+  fits = search rules;
+  counted = λ m h. counted_after _ _ _ _ _ _ _ _ _ _ (c.in_ok-list.ensures.asks m h) (c.in_ok-list.ensures.reads m h) (c.run_turns.ensures.counted m (c.eval_noting.ensures.same m h));
+  ran = λ m o h b calc.
+      let P : List ℤ → Type 0 = λ is. ComposesBeside c.args.level.now.owed.now.objects o.old c.args.level.now.depth o.seen (loop_forest m c.args.level.now.functions.now c.args.name.now.text (stmts_view c.args.body.now) c.args.made.now.scope is) (state_of c.args.made.now.writer (g.V.View.asked c.eval_noting.new.view) c.eval_noting.new.reads)
+      (state_of c.run_turns.new.made.writer (g.V.View.asked c.run_turns.new.view) c.run_turns.new.made.reads) c.run_turns.new.made.pending c.run_turns.result in
+      let inner = subst P (c.items.ensures ∙ ap items_of (c.in_ok-list.ensures.value m h)) (c.run_turns.ensures.ran m o (c.eval_noting.ensures.same m h) b calc) in
+      beside_after _ _ (state_of c.args.made.now.writer (g.V.View.asked c.eval_noting.new.view) c.eval_noting.new.reads) (same_state refl refl refl refl (c.in_ok-list.ensures.asks m h) (c.in_ok-list.ensures.reads m h)) (inner);
+}
+
+pub run_turns-loop-item-init : goal.run_turns-loop-item-init
+run_turns-loop-item-init g t c = record {
+  keeps = g.met.V.View.keeps_itself _;
+  same = λ m h. h;
+  same_scope = refl;
+  longer = omega arith;
+  fits = search rules;
+  counted = λ m h. refl;
+  going = λ m o h b calc. going_first b.fits;
+}
+
+pub run_turns-returns : goal.run_turns-returns
+run_turns-returns g t c = record {
+  keeps = search (rules, g.met.V.View.keeps_on, g.met.V.View.keeps_itself);
+  same = search rules;
+  same_scope = search rules;
+  longer = search rules;
+  fits = search rules;
+  counted = λ m h. c.loop-item.invariant.counted m h;
+  ran = λ m o h b calc.
+      let go : ℤ → GroupForest = λ i. body_forest m c.args.level.now.functions.now (stmts_view c.args.body.now) (c.args.made.now.scope ++ new_binding c.args.name.now.text (value.Int i) ∷ []) in
+      going_done (turns_end go c.args.items.now c.loop-item.item-index (omega arith)) (c.loop-item.invariant.going m o h b calc);
+}
+
+pub run_turns-returns-in_err-run_bound : goal.run_turns-returns-in_err-run_bound
+run_turns-returns-in_err-run_bound g t c = record {
+  keeps = search (rules, g.met.V.View.keeps_on, g.met.V.View.keeps_itself);
+  same = search rules;
+  same_scope = search rules;
+  longer = search rules;
+  fits = search rules;
+  counted = λ m h. search rules;
+  ran = λ m o h b calc.
+      let fits : to_z w64 (of_z w64 (get_or c.args.items.now c.loop-item.item-index (pos 0))) ≡ get_or c.args.items.now c.loop-item.item-index (pos 0) = search rules in
+      let e : c.from_residual.result ≡ Err c.in_err-run_bound.field-0.0 = search rules in
+      let k = c.loop-item.invariant.going m o h b calc in
+      let P : List Binding → ℤ → Type 0 = λ env i. ComposesBeside c.args.level.now.owed.now.objects o.old c.args.level.now.depth k.now (body_forest m c.args.level.now.functions.now (stmts_view c.args.body.now) (env ++ new_binding c.args.name.now.text (value.Int i) ∷ [])) (state_of c.loop-item.made.writer (g.V.View.asked c.loop-item.view) c.loop-item.made.reads)
+      (state_of c.run_bound.new.made.writer (g.V.View.asked c.run_bound.new.view) c.run_bound.new.made.reads) c.run_bound.new.made.pending {U = Unit {0}} (Err c.in_err-run_bound.field-0.0) in
+      let ran = subst (P c.args.made.now.scope) fits (subst (λ (env : List Binding). P env (to_z w64 (of_z w64 (get_or c.args.items.now c.loop-item.item-index (pos 0))))) c.loop-item.invariant.same_scope
+      (c.in_err-run_bound.ensures.ran m (at_now o k.now) (c.loop-item.invariant.same m h) (beside_now k.now b k.fits) calc)) in
+      let go : ℤ → GroupForest = λ i. body_forest m c.args.level.now.functions.now (stmts_view c.args.body.now) (c.args.made.now.scope ++ new_binding c.args.name.now.text (value.Int i) ∷ []) in
+      going_stop _ _ (turns_at go c.args.items.now c.loop-item.item-index (omega arith)) k ran e;
+}
+
+pub run_turns-loop-item-preserved : goal.run_turns-loop-item-preserved
+run_turns-loop-item-preserved g t c = record {
+  keeps = g.met.V.View.keeps_on _ _ _ c.loop-item.invariant.keeps c.in_ok-run_bound.ensures.keeps;
+  same = λ m h. c.in_ok-run_bound.ensures.same m (c.loop-item.invariant.same m h);
+  same_scope = c.in_ok-run_bound.ensures.same_scope ∙ c.loop-item.invariant.same_scope;
+  longer = omega (arith, c.loop-item.invariant.longer, c.in_ok-run_bound.ensures.longer);
+  fits = c.in_ok-run_bound.ensures.fits;
+  counted = λ m h. let e = c.loop-item.invariant.counted m h in let f = c.in_ok-run_bound.ensures.counted m (c.loop-item.invariant.same m h) in omega (arith, e, f);
+  going = λ m o h b calc.
+      let fits : to_z w64 (of_z w64 (get_or c.args.items.now c.loop-item.item-index (pos 0))) ≡ get_or c.args.items.now c.loop-item.item-index (pos 0) = search rules in
+      let k = c.loop-item.invariant.going m o h b calc in
+      let P : List Binding → ℤ → Type 0 = λ env i. ComposesBeside c.args.level.now.owed.now.objects o.old c.args.level.now.depth k.now (body_forest m c.args.level.now.functions.now (stmts_view c.args.body.now) (env ++ new_binding c.args.name.now.text (value.Int i) ∷ [])) (state_of c.loop-item.made.writer (g.V.View.asked c.loop-item.view) c.loop-item.made.reads)
+      (state_of c.run_bound.new.made.writer (g.V.View.asked c.run_bound.new.view) c.run_bound.new.made.reads) c.run_bound.new.made.pending {U = Unit {0}} (Ok tt) in
+      let ran = subst (P c.args.made.now.scope) fits (subst (λ (env : List Binding). P env (to_z w64 (of_z w64 (get_or c.args.items.now c.loop-item.item-index (pos 0))))) c.loop-item.invariant.same_scope
+      (c.in_ok-run_bound.ensures.ran m (at_now o k.now) (c.loop-item.invariant.same m h) (beside_now k.now b k.fits) calc)) in
+      let go : ℤ → GroupForest = λ i. body_forest m c.args.level.now.functions.now (stmts_view c.args.body.now) (c.args.made.now.scope ++ new_binding c.args.name.now.text (value.Int i) ∷ []) in
+      going_more (turns_at go c.args.items.now c.loop-item.item-index (omega arith)) k ran;
+}
+
+-- A cell.
+
+pub run_remember-returns-in_err-env : goal.run_remember-returns-in_err-env
+run_remember-returns-in_err-env g t c = record {
+  keeps = search (rules, g.met.V.View.keeps_on, g.met.V.View.keeps_itself);
+  same = search rules;
+  same_scope = search rules;
+  longer = search rules;
+  fits = search rules;
+  counted = λ m h. search rules;
+  ran = λ m o h b calc.
+      let e : c.from_residual.result ≡ Err NoMemory = search rules in
+      let p = c.in_err-env.ensures.part m h in
+      beside_stop_after _ _ _ e p.rest p.is;
+}
+
+pub run_remember-returns-in_err-found : goal.run_remember-returns-in_err-found
+run_remember-returns-in_err-found g t c = record {
+  keeps = search (rules, g.met.V.View.keeps_on, g.met.V.View.keeps_itself);
+  same = search rules;
+  same_scope = search rules;
+  longer = search rules;
+  fits = search rules;
+  counted = λ m h. search rules;
+  ran = λ m o h b calc.
+      let e : c.from_residual-in_err-found.result ≡ Err NoMemory = search rules in
+      beside_after _ _ (state_of c.args.made.now.writer (g.V.View.asked c.evaluate_keys.new.view) c.evaluate_keys.new.reads) (same_state refl refl refl refl (c.in_ok-env.ensures.asks m h) (c.in_ok-env.ensures.reads m h)) (beside_stop_here _ e refl);
+}
+
+pub run_remember-returns-in_err-value : goal.run_remember-returns-in_err-value
+run_remember-returns-in_err-value g t c = record {
+  keeps = search (rules, g.met.V.View.keeps_on, g.met.V.View.keeps_itself);
+  same = search rules;
+  same_scope = search rules;
+  longer = search rules;
+  fits = search rules;
+  counted = λ m h. search rules;
+  ran = λ m o h b calc.
+      let ev = ap (λ (k : List Binding). eval m (expr_view c.args.cell.value.now) k) (c.in_ok-env.ensures.value m h) in
+      let e : c.from_residual-in_err-value.result ≡ Err NoMemory = search rules in
+      let p = subst (λ (r : Reading Value). Grew (g.V.View.asked c.evaluate_keys.new.view) (g.V.View.asked c.remember.new.view) r.reads) ev (c.in_err-value.ensures.part m (c.in_ok-env.ensures.same m h)) in
+      beside_after _ _ (state_of c.args.made.now.writer (g.V.View.asked c.evaluate_keys.new.view) c.evaluate_keys.new.reads) (same_state refl refl refl refl (c.in_ok-env.ensures.asks m h) (c.in_ok-env.ensures.reads m h)) (beside_stop_after _ _ _ e p.rest p.is);
+}
+
+pub run_remember-returns-in_err-keys : goal.run_remember-returns-in_err-keys
+run_remember-returns-in_err-keys g t c = record {
+  keeps = search (rules, g.met.V.View.keeps_on, g.met.V.View.keeps_itself);
+  same = search rules;
+  same_scope = search rules;
+  longer = search rules;
+  fits = search rules;
+  counted = λ m h. search rules;
+  ran = λ m o h b calc.
+      let env = (eval_named m (nameds_view c.args.cell.keys.now) c.args.made.now.scope).value in
+      let ev = ap (λ (k : List Binding). eval m (expr_view c.args.cell.value.now) k) (c.in_ok-env.ensures.value m h) in
+      let there = c.in_ok-env.ensures.same m h in
+      let none = (calc.0 m c.args.made.now.scope).1 in
+      let quiet : (eval m (expr_view c.args.cell.value.now) c.in_ok-env.env).reads ≡ [] = ap (λ (r : Reading Value). r.reads) ev ∙ none in
+      let asks : g.V.View.asked c.remember.new.view ≡ g.V.View.asked c.evaluate_keys.new.view ++ (eval m (expr_view c.args.cell.value.now) env).reads =
+      c.in_ok-value.ensures.asks m there quiet ∙ sym (append-nil (g.V.View.asked c.evaluate_keys.new.view)) ∙ ap (λ l. g.V.View.asked c.evaluate_keys.new.view ++ l) (sym none) in
+      let reads : c.remember.new.reads ≡ c.evaluate_keys.new.reads ++ (eval m (expr_view c.args.cell.value.now) env).reads =
+      c.in_ok-value.ensures.reads m there quiet ∙ sym (append-nil c.evaluate_keys.new.reads) ∙ ap (λ l. c.evaluate_keys.new.reads ++ l) (sym none) in
+      let e : c.from_residual-in_err-keys.result ≡ Err NoMemory = search rules in
+      beside_after _ _ (state_of c.args.made.now.writer (g.V.View.asked c.evaluate_keys.new.view) c.evaluate_keys.new.reads) (same_state refl refl refl refl (c.in_ok-env.ensures.asks m h) (c.in_ok-env.ensures.reads m h)) (beside_after _ _ (state_of c.args.made.now.writer (g.V.View.asked c.remember.new.view) c.remember.new.reads) (same_state refl refl refl refl asks reads) (beside_stop_here _ e refl));
+}
+
+pub run_remember-returns-in_err-kept : goal.run_remember-returns-in_err-kept
+run_remember-returns-in_err-kept g t c = record {
+  keeps = search (rules, g.met.V.View.keeps_on, g.met.V.View.keeps_itself);
+  same = search rules;
+  same_scope = search rules;
+  longer = search rules;
+  fits = search rules;
+  counted = λ m h. search rules;
+  ran = λ m o h b calc.
+      let env = (eval_named m (nameds_view c.args.cell.keys.now) c.args.made.now.scope).value in
+      let ev = ap (λ (k : List Binding). eval m (expr_view c.args.cell.value.now) k) (c.in_ok-env.ensures.value m h) in
+      let there = c.in_ok-env.ensures.same m h in
+      let none = (calc.0 m c.args.made.now.scope).1 in
+      let quiet : (eval m (expr_view c.args.cell.value.now) c.in_ok-env.env).reads ≡ [] = ap (λ (r : Reading Value). r.reads) ev ∙ none in
+      let asks : g.V.View.asked c.remember.new.view ≡ g.V.View.asked c.evaluate_keys.new.view ++ (eval m (expr_view c.args.cell.value.now) env).reads =
+      c.in_ok-value.ensures.asks m there quiet ∙ sym (append-nil (g.V.View.asked c.evaluate_keys.new.view)) ∙ ap (λ l. g.V.View.asked c.evaluate_keys.new.view ++ l) (sym none) in
+      let reads : c.remember.new.reads ≡ c.evaluate_keys.new.reads ++ (eval m (expr_view c.args.cell.value.now) env).reads =
+      c.in_ok-value.ensures.reads m there quiet ∙ sym (append-nil c.evaluate_keys.new.reads) ∙ ap (λ l. c.evaluate_keys.new.reads ++ l) (sym none) in
+      let e : c.from_residual-in_err-kept.result ≡ Err NoMemory = search rules in
+      beside_after _ _ (state_of c.args.made.now.writer (g.V.View.asked c.evaluate_keys.new.view) c.evaluate_keys.new.reads) (same_state refl refl refl refl (c.in_ok-env.ensures.asks m h) (c.in_ok-env.ensures.reads m h)) (beside_after _ _ (state_of c.args.made.now.writer (g.V.View.asked c.remember.new.view) c.remember.new.reads) (same_state refl refl refl refl asks reads) (beside_stop_here _ e refl));
+}
+
+pub run_remember-returns-in_err-enter : goal.run_remember-returns-in_err-enter
+run_remember-returns-in_err-enter g t c = record {
+  keeps = search (rules, g.met.V.View.keeps_on, g.met.V.View.keeps_itself);
+  same = search rules;
+  same_scope = search rules;
+  longer = search rules;
+  fits = search rules;
+  counted = λ m h. search rules;
+  ran = λ m o h b calc.
+      let env = (eval_named m (nameds_view c.args.cell.keys.now) c.args.made.now.scope).value in
+      let ev = ap (λ (k : List Binding). eval m (expr_view c.args.cell.value.now) k) (c.in_ok-env.ensures.value m h) in
+      let there = c.in_ok-env.ensures.same m h in
+      let none = (calc.0 m c.args.made.now.scope).1 in
+      let quiet : (eval m (expr_view c.args.cell.value.now) c.in_ok-env.env).reads ≡ [] = ap (λ (r : Reading Value). r.reads) ev ∙ none in
+      let asks : g.V.View.asked c.remember.new.view ≡ g.V.View.asked c.evaluate_keys.new.view ++ (eval m (expr_view c.args.cell.value.now) env).reads =
+      c.in_ok-value.ensures.asks m there quiet ∙ sym (append-nil (g.V.View.asked c.evaluate_keys.new.view)) ∙ ap (λ l. g.V.View.asked c.evaluate_keys.new.view ++ l) (sym none) in
+      let reads : c.remember.new.reads ≡ c.evaluate_keys.new.reads ++ (eval m (expr_view c.args.cell.value.now) env).reads =
+      c.in_ok-value.ensures.reads m there quiet ∙ sym (append-nil c.evaluate_keys.new.reads) ∙ ap (λ l. c.evaluate_keys.new.reads ++ l) (sym none) in
+      beside_after _ _ (state_of c.args.made.now.writer (g.V.View.asked c.evaluate_keys.new.view) c.evaluate_keys.new.reads) (same_state refl refl refl refl (c.in_ok-env.ensures.asks m h) (c.in_ok-env.ensures.reads m h)) (beside_after _ _ (state_of c.args.made.now.writer (g.V.View.asked c.remember.new.view) c.remember.new.reads) (same_state refl refl refl refl asks reads) (beside_full _ (search rules) (search rules) refl));
+}
+
+pub run_remember-returns : goal.run_remember-returns
+run_remember-returns g t c = record {
+  keeps = search (rules, g.met.V.View.keeps_on, g.met.V.View.keeps_itself);
+  same = search rules;
+  same_scope = search rules;
+  longer = longer_on _ _ _ _ (entered_longer _ _ (what.Cell c.in_ok-keys.keys c.in_ok-kept.kept) c.in_ok-found.found c.args.made.now.writer _ c.in_ok-enter.ensures.entered) c.run_bound.ensures.longer;
+  fits = search rules;
+  counted = λ m h. counted_cell _ _ _ _ _ _ _ _ _ _ _ _ _ (c.in_ok-env.ensures.asks m h) (c.in_ok-env.ensures.reads m h) (c.in_ok-value.ensures.counted m (c.in_ok-env.ensures.same m h)) (ap (λ (q : WrittenGroups). q.reads) c.in_ok-enter.ensures.entered) (c.run_bound.ensures.counted m (c.in_ok-value.ensures.same m (c.in_ok-env.ensures.same m h)));
+  ran = λ m o h b calc.
+      let env = (eval_named m (nameds_view c.args.cell.keys.now) c.args.made.now.scope).value in
+      let ev = ap (λ (k : List Binding). eval m (expr_view c.args.cell.value.now) k) (c.in_ok-env.ensures.value m h) in
+      let there = c.in_ok-env.ensures.same m h in
+      let none = (calc.0 m c.args.made.now.scope).1 in
+      let quiet : (eval m (expr_view c.args.cell.value.now) c.in_ok-env.env).reads ≡ [] = ap (λ (r : Reading Value). r.reads) ev ∙ none in
+      let asks : g.V.View.asked c.remember.new.view ≡ g.V.View.asked c.evaluate_keys.new.view ++ (eval m (expr_view c.args.cell.value.now) env).reads =
+      c.in_ok-value.ensures.asks m there quiet ∙ sym (append-nil (g.V.View.asked c.evaluate_keys.new.view)) ∙ ap (λ l. g.V.View.asked c.evaluate_keys.new.view ++ l) (sym none) in
+      let reads : c.remember.new.reads ≡ c.evaluate_keys.new.reads ++ (eval m (expr_view c.args.cell.value.now) env).reads =
+      c.in_ok-value.ensures.reads m there quiet ∙ sym (append-nil c.evaluate_keys.new.reads) ∙ ap (λ l. c.evaluate_keys.new.reads ++ l) (sym none) in
+      let ks = map (λ (k : Binding). k.value) env in
+      let v = (eval m (expr_view c.args.cell.value.now) env).value in
+      let w = Cell ks v in
+      let x = sibling c.args.cell.site w in
+      let keys_are : c.in_ok-keys.keys ≡ ks = c.in_ok-keys.ensures ∙ ap (λ (k : List Binding). map (λ b. b.value) k) (c.in_ok-env.ensures.value m h) in
+      let k = matched {left = c.take.new.self} x c.new.result c.new.ensures b c.in_ok-found.ensures.found c.in_ok-found.ensures.left in
+      let old = matching_sibling x (occurrence x o.seen) o.old in
+      let value : c.in_ok-value.value ≡ v = c.in_ok-value.ensures.value m v there
+      (λ u e. kept_is_calculated o.last.calculation c.args.level.now.depth c.args.cell.site ks c.in_ok-found.found old u k.like k.there.cells (ap (λ (l : List Binding). kept_of c.in_ok-found.found (map (λ b. b.value) l)) (sym (c.in_ok-env.ensures.value m h)) ∙ e) ∙ sym (calc.0 m c.args.made.now.scope).0)
+      (ap (λ (r : Reading Value). r.value) ev) in
+      let made : what.Cell c.in_ok-keys.keys c.in_ok-kept.kept ≡ flat_kind w = ap (λ (l : List Value). what.Cell l c.in_ok-kept.kept) keys_are ∙ ap (λ (y : Value). what.Cell ks y) (c.in_ok-kept.ensures.same ∙ value) in
+      let state = matched_state c.args.level.now.depth c.args.cell.site w (what.Cell c.in_ok-keys.keys c.in_ok-kept.kept) End c.in_ok-found.found old c.args.made.now.writer c.enter.new.self (g.V.View.asked c.remember.new.view) c.remember.new.reads refl k.like made c.in_ok-enter.ensures.entered in
+      let now = x ∷ o.seen in
+      let P : Value → Type 0 = λ y. ComposesBeside c.args.level.now.owed.now.objects o.old c.args.level.now.depth now (body_forest m c.args.level.now.functions.now (stmts_view c.args.body.now) (c.args.made.now.scope ++ new_binding c.args.name.now.text y ∷ [])) (state_of c.enter.new.self (g.V.View.asked c.remember.new.view) c.remember.new.reads)
+      (state_of c.run_bound.new.made.writer (g.V.View.asked c.run_bound.new.view) c.run_bound.new.made.reads) c.run_bound.new.made.pending c.run_bound.result in
+      let inner = subst P value (c.run_bound.ensures.ran m (at_now o now) (c.in_ok-value.ensures.same m there) (beside_now now b k.fits) calc.1) in
+      beside_after _ _ (state_of c.args.made.now.writer (g.V.View.asked c.evaluate_keys.new.view) c.evaluate_keys.new.reads) (same_state refl refl refl refl (c.in_ok-env.ensures.asks m h) (c.in_ok-env.ensures.reads m h)) (beside_after _ _ (state_of c.args.made.now.writer (g.V.View.asked c.remember.new.view) c.remember.new.reads) (same_state refl refl refl refl asks reads) (beside_cell (state_of c.enter.new.self (g.V.View.asked c.remember.new.view) c.remember.new.reads) state inner));
+}
+
+-- A call.
+
+pub run_arguments-returns-in_err-arguments : goal.run_arguments-returns-in_err-arguments
+run_arguments-returns-in_err-arguments g t c = record {
+  keeps = search (rules, g.met.V.View.keeps_on, g.met.V.View.keeps_itself);
+  same = search rules;
+  same_scope = search rules;
+  longer = search rules;
+  fits = search rules;
+  counted = λ m h. search rules;
+  ran = λ m o h b calc.
+      let e : c.from_residual.result ≡ Err NoMemory = search rules in
+      let p = c.in_err-arguments.ensures.part m h in
+      beside_stop_after _ _ _ e p.rest p.is;
+}
+
+pub run_arguments-returns : goal.run_arguments-returns
+run_arguments-returns g t c = record {
+  keeps = search (rules, g.met.V.View.keeps_on, g.met.V.View.keeps_itself);
+  same = search rules;
+  same_scope = search rules;
+  longer = search rules;
+  fits = search rules;
+  counted = λ m h. counted_after _ _ _ _ _ _ _ _ _ _ (c.in_ok-arguments.ensures.asks m h) (c.in_ok-arguments.ensures.reads m h) (c.run_call.ensures.counted m (c.evaluate_all.ensures.same m h));
+  ran = λ m o h b calc.
+      let P : List Value → Type 0 = λ vs. ComposesBeside c.args.level.now.owed.now.objects o.old c.args.level.now.depth o.seen (call_forest m c.args.level.now.functions.now c.args.site c.args.function vs) (state_of c.args.made.now.writer (g.V.View.asked c.evaluate_all.new.view) c.evaluate_all.new.reads)
+      (state_of c.run_call.new.made.writer (g.V.View.asked c.run_call.new.view) c.run_call.new.made.reads) c.run_call.new.made.pending c.run_call.result in
+      let inner = subst P (c.in_ok-arguments.ensures.value m h) (c.run_call.ensures.ran m o (c.evaluate_all.ensures.same m h) b tt) in
+      beside_after _ _ (state_of c.args.made.now.writer (g.V.View.asked c.evaluate_all.new.view) c.evaluate_all.new.reads) (same_state refl refl refl refl (c.in_ok-arguments.ensures.asks m h) (c.in_ok-arguments.ensures.reads m h)) (inner);
+}
+
+pub run_call-returns-in_err-found : goal.run_call-returns-in_err-found
+run_call-returns-in_err-found g t c = record {
+  keeps = search (rules, g.met.V.View.keeps_on, g.met.V.View.keeps_itself);
+  same = search rules;
+  same_scope = search rules;
+  longer = search rules;
+  fits = search rules;
+  counted = λ m h. search rules;
+  ran = λ m o h b calc.
+      let e : c.from_residual.result ≡ Err NoMemory = search rules in
+      beside_stop_here _ e refl;
+}
+
+pub run_call-returns-then-call_is_run : goal.run_call-returns-then-call_is_run
+run_call-returns-then-call_is_run g t c = record {
+  keeps = search (rules, g.met.V.View.keeps_on, g.met.V.View.keeps_itself);
+  same = search rules;
+  same_scope = search rules;
+  longer = search rules;
+  fits = search rules;
+  counted = λ m h. search rules;
+  ran = λ m o h b calc.
+      let call = Call c.args.function c.args.arguments in
+      let x = sibling c.args.site call in
+      let k = matched {left = c.take.new.self} x c.new.result c.new.ensures b c.in_ok-found.ensures.found c.in_ok-found.ensures.left in
+      let there = matching_sibling x (occurrence x o.seen) o.old in
+      let runs : true ≡ runs_after c.args.level.now.owed.now.objects there call =
+      sym c.if-call_is_run.true ∙ c.call_is_run.ensures ∙ ap (λ (vs : List Value). call_runs c.args.level.now.owed.now.objects c.in_ok-found.found (what.Call c.args.function vs)) c.items.ensures ∙ call_runs_kept c.args.level.now.owed.now.objects c.args.level.now.depth c.in_ok-found.found there call k.like in
+      beside_run true runs k.fits (c.run_body.ensures.ran m h o.last there c.args.made.now.reads b.since k.part k.like);
+}
+
+pub run_call-returns-in_err-enter_call : goal.run_call-returns-in_err-enter_call
+run_call-returns-in_err-enter_call g t c = record {
+  keeps = search (rules, g.met.V.View.keeps_on, g.met.V.View.keeps_itself);
+  same = search rules;
+  same_scope = search rules;
+  longer = search rules;
+  fits = search rules;
+  counted = λ m h. search rules;
+  ran = λ m o h b calc. beside_full _ (search rules) (search rules) refl;
+}
+
+pub run_call-returns-then-function-level : goal.run_call-returns-then-function-level
+run_call-returns-then-function-level g t c = record {
+  keeps = search (rules, g.met.V.View.keeps_on, g.met.V.View.keeps_itself);
+  same = search rules;
+  same_scope = search rules;
+  longer = call_longer _ _ _ false _ _ c.in_ok-enter_call.ensures.added;
+  fits = c.in_ok-enter_call.ensures.fits;
+  counted = λ m h. let e = ap (λ (q : WrittenGroups). q.reads) c.in_ok-enter_call.ensures.added in omega (arith, e);
+  ran = λ m o h b calc.
+      let call = Call c.args.function c.args.arguments in
+      let x = sibling c.args.site call in
+      let k = matched {left = c.take.new.self} x c.new.result c.new.ensures b c.in_ok-found.ensures.found c.in_ok-found.ensures.left in
+      let there = matching_sibling x (occurrence x o.seen) o.old in
+      let runs : false ≡ runs_after c.args.level.now.owed.now.objects there call =
+      sym c.if-call_is_run.false ∙ c.call_is_run.ensures ∙ ap (λ (vs : List Value). call_runs c.args.level.now.owed.now.objects c.in_ok-found.found (what.Call c.args.function vs)) c.items.ensures ∙ call_runs_kept c.args.level.now.owed.now.objects c.args.level.now.depth c.in_ok-found.found there call k.like in
+      let none = body_none m c.args.level.now.functions.now c.args.function c.args.arguments (omega arith) in
+      beside_run false runs k.fits (record {
+        all = call_alone c.args.level.now.owed.now.objects (inside_of there) there c.args.level.now.depth c.args.site c.args.function c.args.arguments false (meaning_at (meanings m (functions_view c.args.level.now.functions.now)) c.args.function c.args.arguments) c.args.made.now.writer c.enter_call.new.self (g.V.View.asked c.args.view.now) c.args.made.now.reads none c.in_ok-enter_call.ensures.added;
+        part = tt;
+        many = λ y. cc;
+      });
+}
+
+pub run_call-returns-in-Some : goal.run_call-returns-in-Some
+run_call-returns-in-Some g t c = record {
+  keeps = search (rules, g.met.V.View.keeps_on, g.met.V.View.keeps_itself);
+  same = search rules;
+  same_scope = search rules;
+  longer = search rules;
+  fits = search rules;
+  counted = λ m h. search rules;
+  ran = λ m o h b calc.
+      let call = Call c.args.function c.args.arguments in
+      let x = sibling c.args.site call in
+      let k = matched {left = c.take.new.self} x c.new.result c.new.ensures b c.in_ok-found.ensures.found c.in_ok-found.ensures.left in
+      let there = matching_sibling x (occurrence x o.seen) o.old in
+      let runs : false ≡ runs_after c.args.level.now.owed.now.objects there call =
+      sym c.if-call_is_run.false ∙ c.call_is_run.ensures ∙ ap (λ (vs : List Value). call_runs c.args.level.now.owed.now.objects c.in_ok-found.found (what.Call c.args.function vs)) c.items.ensures ∙ call_runs_kept c.args.level.now.owed.now.objects c.args.level.now.depth c.in_ok-found.found there call k.like in
+      let many = how_many_functions c.args.level.now.functions.now in
+      let s = skips c.args.level.now.owed.now.objects m (functions_view c.args.level.now.functions.now) o.last c.args.site c.args.function c.args.arguments there b.since (omega (arith, many)) k.there (sym runs) in
+      let some : c.in_ok-found.found ≡ Some c.in-Some.old = search rules in
+      let like = subst (λ (y : Option KeyInfo). Alike c.args.level.now.depth y there) some k.like in
+      let like_call = subst (λ (f : Option Found). Alike c.args.level.now.depth (Some c.in-Some.old) f) s.is like in
+      let r = c.skip_group.ensures.ran m h o.last s.call c.args.made.now.reads b.since (subst (λ (f : Option Found). IsOldPart o.last c.args.level.now.owed.now.objects m (inside_of f)) s.is k.part) like_call in
+      beside_run false runs k.fits (reached_at (skips_as c.args.level.now.owed.now.objects m (functions_view c.args.level.now.functions.now) o.last c.args.level.now.depth c.args.site c.args.function c.args.arguments there (state_of c.args.made.now.writer (g.V.View.asked c.args.view.now) c.args.made.now.reads) k.there s) r);
+}
+
+-- A call that runs.
+
+pub run_body-returns-then-function-level : goal.run_body-returns-then-function-level
+run_body-returns-then-function-level g t c = record {
+  keeps = search (rules, g.met.V.View.keeps_on, g.met.V.View.keeps_itself);
+  same = search rules;
+  longer = call_longer _ _ _ true _ _ c.in_ok-enter_call.ensures.added;
+  fits = c.in_ok-enter_call.ensures.fits;
+  counted = λ m h. let e = ap (λ (q : WrittenGroups). q.reads) c.in_ok-enter_call.ensures.added in omega (arith, e);
+  ran = λ m h l there mine since part like.
+      let none = body_none m c.args.level.now.functions.now c.args.function c.args.arguments (omega arith) in
+      record {
+        all = call_alone c.args.level.now.owed.now.objects (inside_of there) None c.args.level.now.depth c.args.site c.args.function c.args.arguments true (meaning_at (meanings m (functions_view c.args.level.now.functions.now)) c.args.function c.args.arguments) c.args.writer.now c.enter_call.new.self (g.V.View.asked c.args.view.now) mine none c.in_ok-enter_call.ensures.added;
+        part = tt;
+        many = λ y. cc;
+      };
+}
+
+pub run_body-returns-in_err-enter_call : goal.run_body-returns-in_err-enter_call
+run_body-returns-in_err-enter_call g t c = record {
+  keeps = search (rules, g.met.V.View.keeps_on, g.met.V.View.keeps_itself);
+  same = search rules;
+  longer = search rules;
+  fits = search rules;
+  counted = λ m h. search rules;
+  ran = λ m h l there mine since part like.
+      let one = longer_ran c.args.level.now.owed.now.objects (inside_of there) c.args.level.now.depth c.args.site c.args.function c.args.arguments (meaning_at (meanings m (functions_view c.args.level.now.functions.now)) c.args.function c.args.arguments) (state_of c.args.writer.now (g.V.View.asked c.args.view.now) mine) in
+      reached_full _ (search rules) (λ e. let full : length c.args.writer.now.groups ≡ most_groups = search rules in omega (arith, one, full))
+      (part_ran c.args.level.now.owed.now.objects (inside_of there) c.args.level.now.depth c.args.site c.args.function c.args.arguments (meaning_at (meanings m (functions_view c.args.level.now.functions.now)) c.args.function c.args.arguments) (state_of c.args.writer.now (g.V.View.asked c.args.view.now) mine));
+}
+
+pub run_body-returns-in_err-enter_call-2 : goal.run_body-returns-in_err-enter_call-2
+run_body-returns-in_err-enter_call-2 g t c = record {
+  keeps = search (rules, g.met.V.View.keeps_on, g.met.V.View.keeps_itself);
+  same = search rules;
+  longer = search rules;
+  fits = search rules;
+  counted = λ m h. search rules;
+  ran = λ m h l there mine since part like.
+      let one = longer_ran c.args.level.now.owed.now.objects (inside_of there) c.args.level.now.depth c.args.site c.args.function c.args.arguments (meaning_at (meanings m (functions_view c.args.level.now.functions.now)) c.args.function c.args.arguments) (state_of c.args.writer.now (g.V.View.asked c.args.view.now) mine) in
+      reached_full _ (search rules) (λ e. let full : length c.args.writer.now.groups ≡ most_groups = search rules in omega (arith, one, full))
+      (part_ran c.args.level.now.owed.now.objects (inside_of there) c.args.level.now.depth c.args.site c.args.function c.args.arguments (meaning_at (meanings m (functions_view c.args.level.now.functions.now)) c.args.function c.args.arguments) (state_of c.args.writer.now (g.V.View.asked c.args.view.now) mine));
+}
+
+pub run_body-returns-in_err-scope : goal.run_body-returns-in_err-scope
+run_body-returns-in_err-scope g t c = record {
+  keeps = search (rules, g.met.V.View.keeps_on, g.met.V.View.keeps_itself);
+  same = search rules;
+  longer = search rules;
+  fits = search rules;
+  counted = λ m h. search rules;
+  ran = λ m h l there mine since part like.
+      let e : c.from_residual-in_err-scope.result ≡ Err NoMemory = search rules in
+      reached_stop _ e (part_ran c.args.level.now.owed.now.objects (inside_of there) c.args.level.now.depth c.args.site c.args.function c.args.arguments (meaning_at (meanings m (functions_view c.args.level.now.functions.now)) c.args.function c.args.arguments) (state_of c.args.writer.now (g.V.View.asked c.args.view.now) mine));
+}
+
+pub run_body-run_all-requires : goal.run_body-run_all-requires
+run_body-run_all-requires g t c κs w =
+    let body : c.deref-2.result.now ≡ c.index-level-function.result.body.items = c.deref-2.ensures.value ∙ sym (ap (λ (q : Function). q.body.items) c.index-level-function.is) in
+    let h = falls_at c.args.level.now.functions.now c.args.function c.index-level-function.result c.deref-2.result.now (omega arith) c.index-level-function.is body in
+    let long = ap (λ (q : WrittenGroups). length q.groups) c.in_ok-enter_call-2.ensures.added ∙ length-append c.args.writer.now.groups _ in
+    search rules
+
+pub run_body-returns-in_err-run_all : goal.run_body-returns-in_err-run_all
+run_body-returns-in_err-run_all g t c = record {
+  keeps = search (rules, g.met.V.View.keeps_on, g.met.V.View.keeps_itself);
+  same = search rules;
+  longer = search rules;
+  fits = search rules;
+  counted = λ m h. search rules;
+  ran = λ m h l there mine since part like.
+      let below : c.args.function < length c.args.level.now.functions.now = omega arith in
+      let slice : c.deref-2.result.now ≡ c.index-level-function.result.body.items = c.deref-2.ensures.value ∙ sym (ap (λ (q : Function). q.body.items) c.index-level-function.is) in
+      let names : c.deref.result.now ≡ c.index-level-function.result.parameters.items = c.deref.ensures.value ∙ sym (ap (λ (q : Function). q.parameters.items) c.index-level-function.is) in
+      let body = body_is m c.args.level.now.functions.now c.args.function c.args.arguments c.index-level-function.result c.deref-2.result.now c.deref.result.now c.in_ok-scope.scope
+      below c.index-level-function.is slice names c.in_ok-scope.ensures in
+      let calc = body_calculates c.args.level.now.functions.now c.args.function c.index-level-function.result c.deref-2.result.now since below c.index-level-function.is slice in
+      let fits = fits_inside c.args.level.now.depth c.inside_found-pending.result c.args.found.now there c.inside_found-pending.ensures like in
+      let r = c.in_err-run_all.ensures.ran m (record { last = l; old = inside_of there; seen = [] }) h (record { since = since_slice c.args.level.now.functions.now _ c.args.function refl since; part = part; fits = fits }) calc in
+      let start : c.replace-taken.result ≡ c.enter_call-2.new.self = search rules in
+      let at = reached_at (ap (λ (tr : GroupForest). composed_beside c.args.level.now.owed.now.objects (inside_of there) (c.args.level.now.depth + 1) true [] tr (state_of c.replace-taken.result (g.V.View.asked c.args.view.now) c.new-reads.result)) (sym body)) r.reached in
+      let entered_is = start ∙ c.in_ok-enter_call-2.ensures.added in
+      let e : c.from_residual-in_err-run_all.result ≡ Err c.in_err-run_all.field-0.0 = search rules in
+      body_stop c.args.level.now.owed.now.objects (inside_of there) c.args.level.now.depth c.args.site c.args.function c.args.arguments (meaning_at (meanings m (functions_view c.args.level.now.functions.now)) c.args.function c.args.arguments) c.args.writer.now c.replace-taken.result c.run_all.new.made.writer (g.V.View.asked c.args.view.now) (g.V.View.asked c.run_all.new.view) mine c.run_all.new.made.reads c.new-reads.result _ _
+      c.new-reads.ensures entered_is at e refl;
+}
+
+pub run_body-returns-in_err-end_call : goal.run_body-returns-in_err-end_call
+run_body-returns-in_err-end_call g t c = record {
+  keeps = search (rules, g.met.V.View.keeps_on, g.met.V.View.keeps_itself);
+  same = search rules;
+  longer = search rules;
+  fits = search rules;
+  counted = λ m h. search rules;
+  ran = λ m h l there mine since part like.
+      let below : c.args.function < length c.args.level.now.functions.now = omega arith in
+      let slice : c.deref-2.result.now ≡ c.index-level-function.result.body.items = c.deref-2.ensures.value ∙ sym (ap (λ (q : Function). q.body.items) c.index-level-function.is) in
+      let names : c.deref.result.now ≡ c.index-level-function.result.parameters.items = c.deref.ensures.value ∙ sym (ap (λ (q : Function). q.parameters.items) c.index-level-function.is) in
+      let body = body_is m c.args.level.now.functions.now c.args.function c.args.arguments c.index-level-function.result c.deref-2.result.now c.deref.result.now c.in_ok-scope.scope
+      below c.index-level-function.is slice names c.in_ok-scope.ensures in
+      let calc = body_calculates c.args.level.now.functions.now c.args.function c.index-level-function.result c.deref-2.result.now since below c.index-level-function.is slice in
+      let fits = fits_inside c.args.level.now.depth c.inside_found-pending.result c.args.found.now there c.inside_found-pending.ensures like in
+      let r = c.in_ok-run_all.ensures.ran m (record { last = l; old = inside_of there; seen = [] }) h (record { since = since_slice c.args.level.now.functions.now _ c.args.function refl since; part = part; fits = fits }) calc in
+      let start : c.replace-taken.result ≡ c.enter_call-2.new.self = search rules in
+      let at = reached_at (ap (λ (tr : GroupForest). composed_beside c.args.level.now.owed.now.objects (inside_of there) (c.args.level.now.depth + 1) true [] tr (state_of c.replace-taken.result (g.V.View.asked c.args.view.now) c.new-reads.result)) (sym body)) r.reached in
+      let entered_is = start ∙ c.in_ok-enter_call-2.ensures.added in
+      let e : c.from_residual-in_err-end_call.result ≡ Err NoMemory = search rules in
+      reached_stop _ e (body_part c.args.level.now.owed.now.objects (inside_of there) c.args.level.now.depth c.args.site c.args.function c.args.arguments (meaning_at (meanings m (functions_view c.args.level.now.functions.now)) c.args.function c.args.arguments) c.args.writer.now c.replace-taken.result c.run_all.new.made.writer (g.V.View.asked c.args.view.now) (g.V.View.asked c.run_all.new.view) mine c.run_all.new.made.reads c.new-reads.result c.new-reads.ensures entered_is at);
+}
+
+pub run_body-returns : goal.run_body-returns
+run_body-returns g t c = record {
+  keeps = c.in_ok-run_all.ensures.keeps;
+  same = c.in_ok-run_all.ensures.same;
+  longer = let start : c.replace-taken.result ≡ c.enter_call-2.new.self = search rules in let a = ap (λ (q : WrittenGroups). length q.groups) start in let e = call_longer _ _ _ true _ _ c.in_ok-enter_call-2.ensures.added in omega (arith, a, e, c.in_ok-run_all.ensures.longer, c.in_ok-end_call.ensures.len);
+  fits = let e = c.in_ok-end_call.ensures.len in omega (arith, e, c.in_ok-run_all.ensures.fits);
+  counted = λ m h. let start : c.replace-taken.result ≡ c.enter_call-2.new.self = search rules in let a = ap (λ (q : WrittenGroups). q.reads) (start ∙ c.in_ok-enter_call-2.ensures.added) in let n = ap (λ (l : List ℕ). length l) c.new-reads.ensures in let f = c.in_ok-run_all.ensures.counted m h in let e = c.in_ok-end_call.ensures.reads in omega (arith, a, n, e, f);
+  ran = λ m h l there mine since part like.
+      let below : c.args.function < length c.args.level.now.functions.now = omega arith in
+      let slice : c.deref-2.result.now ≡ c.index-level-function.result.body.items = c.deref-2.ensures.value ∙ sym (ap (λ (q : Function). q.body.items) c.index-level-function.is) in
+      let names : c.deref.result.now ≡ c.index-level-function.result.parameters.items = c.deref.ensures.value ∙ sym (ap (λ (q : Function). q.parameters.items) c.index-level-function.is) in
+      let body = body_is m c.args.level.now.functions.now c.args.function c.args.arguments c.index-level-function.result c.deref-2.result.now c.deref.result.now c.in_ok-scope.scope
+      below c.index-level-function.is slice names c.in_ok-scope.ensures in
+      let calc = body_calculates c.args.level.now.functions.now c.args.function c.index-level-function.result c.deref-2.result.now since below c.index-level-function.is slice in
+      let fits = fits_inside c.args.level.now.depth c.inside_found-pending.result c.args.found.now there c.inside_found-pending.ensures like in
+      let r = c.in_ok-run_all.ensures.ran m (record { last = l; old = inside_of there; seen = [] }) h (record { since = since_slice c.args.level.now.functions.now _ c.args.function refl since; part = part; fits = fits }) calc in
+      let start : c.replace-taken.result ≡ c.enter_call-2.new.self = search rules in
+      let at = reached_at (ap (λ (tr : GroupForest). composed_beside c.args.level.now.owed.now.objects (inside_of there) (c.args.level.now.depth + 1) true [] tr (state_of c.replace-taken.result (g.V.View.asked c.args.view.now) c.new-reads.result)) (sym body)) r.reached in
+      let entered_is = start ∙ c.in_ok-enter_call-2.ensures.added in
+      body_done c.args.level.now.owed.now.objects (inside_of there) c.args.level.now.depth c.args.site c.args.function c.args.arguments (meaning_at (meanings m (functions_view c.args.level.now.functions.now)) c.args.function c.args.arguments) c.args.writer.now c.replace-taken.result c.run_all.new.made.writer c.end_call.new.self (g.V.View.asked c.args.view.now) (g.V.View.asked c.run_all.new.view) mine c.run_all.new.made.reads c.new-reads.result
+      c.new-reads.ensures entered_is at
+      (λ before behind y e is. c.in_ok-end_call.ensures.groups before behind y (e ∙ sym c.len-place.ensures) is) (c.in_ok-end_call.ensures.next, c.in_ok-end_call.ensures.ran, c.in_ok-end_call.ensures.calculated);
+}
+
+-- Old groups that are skipped.
+
+pub skip_group-returns-in_err-arguments-in-Call : goal.skip_group-returns-in_err-arguments-in-Call
+skip_group-returns-in_err-arguments-in-Call g t c = record {
+  keeps = search (rules, g.met.V.View.keeps_on, g.met.V.View.keeps_itself);
+  same = search rules;
+  longer = search rules;
+  fits = search rules;
+  counted = λ m h. search rules;
+  ran = λ m h l f mine since part like.
+      let e : c.from_residual.result ≡ Err NoMemory = search rules in
+      reached_stop _ e (part_one m c.args.level.now.owed.now.objects (functions_view c.args.level.now.functions.now) c.args.level.now.depth c.args.site f (state_of c.args.writer.now (g.V.View.asked c.args.view.now) mine));
+}
+
+pub skip_group-returns-in-Node : goal.skip_group-returns-in-Node
+skip_group-returns-in-Node g t c = record {
+  keeps = search (rules, g.met.V.View.keeps_on, g.met.V.View.keeps_itself);
+  same = search rules;
+  longer = search rules;
+  fits = search rules;
+  counted = λ m h. search rules;
+  ran = λ m h l f mine since part like. (c.skip_inside.ensures (ap is_call_kept (sym c.kind.ensures ∙ c.in-Node.is))).ran m h l f mine since part like;
+}
+
+pub skip_group-returns-in-Key : goal.skip_group-returns-in-Key
+skip_group-returns-in-Key g t c = record {
+  keeps = search (rules, g.met.V.View.keeps_on, g.met.V.View.keeps_itself);
+  same = search rules;
+  longer = search rules;
+  fits = search rules;
+  counted = λ m h. search rules;
+  ran = λ m h l f mine since part like. (c.skip_inside-in-Key.ensures (ap is_call_kept (sym c.kind.ensures ∙ c.in-Key.is))).ran m h l f mine since part like;
+}
+
+pub skip_group-returns-in-Cell : goal.skip_group-returns-in-Cell
+skip_group-returns-in-Cell g t c = record {
+  keeps = search (rules, g.met.V.View.keeps_on, g.met.V.View.keeps_itself);
+  same = search rules;
+  longer = search rules;
+  fits = search rules;
+  counted = λ m h. search rules;
+  ran = λ m h l f mine since part like. (c.skip_inside-in-Cell.ensures (ap is_call_kept (sym c.kind.ensures ∙ c.in-Cell.is))).ran m h l f mine since part like;
+}
+
+pub skip_group-returns-then-meet : goal.skip_group-returns-then-meet
+skip_group-returns-then-meet g t c = record {
+  keeps = search (rules, g.met.V.View.keeps_on, g.met.V.View.keeps_itself);
+  same = search rules;
+  longer = search rules;
+  fits = search rules;
+  counted = λ m h. search rules;
+  ran = λ m h l f mine since part like.
+      let what_is = call_what f.what c.in-Call.function c.in-Call.arguments (sym (sym c.kind.ensures ∙ c.in-Call.is) ∙ like.kind) in
+      let anew : is_owed c.args.level.now.owed.now.objects f.inside ≡ true = sym (owed_is c.args.level.now.depth c.args.old.now f c.in-Call.function c.in-Call.arguments c.args.level.now.owed.now.objects like what_is) ∙ sym (ap (λ l. meets l c.args.level.now.owed.now.objects) c.reads.ensures) ∙ sym c.meet.ensures ∙ c.if-meet.true in
+      let r = c.run_body.ensures.ran m h l (Some f) mine since part (search rules) in
+      let same = c.in_ok-arguments-in-Call.ensures ∙ c.items.ensures in
+      let P : List Value → Type 0 = λ vs. Reaches (run_beside c.args.level.now.owed.now.objects f.inside c.args.level.now.depth c.args.site (Call c.in-Call.function vs) (meaning_at (meanings m (functions_view c.args.level.now.functions.now)) c.in-Call.function vs) (state_of c.args.writer.now (g.V.View.asked c.args.view.now) mine)) (state_of c.run_body.new.writer (g.V.View.asked c.run_body.new.view) mine) c.run_body.result in
+      reached_at (owed_call m c.args.level.now.owed.now.objects (functions_view c.args.level.now.functions.now) c.args.level.now.depth c.args.site f c.in-Call.function c.in-Call.arguments (state_of c.args.writer.now (g.V.View.asked c.args.view.now) mine) what_is anew) (subst P same r);
+}
+
+pub skip_group-returns-in_err-keep_group-in-Call : goal.skip_group-returns-in_err-keep_group-in-Call
+skip_group-returns-in_err-keep_group-in-Call g t c = record {
+  keeps = search (rules, g.met.V.View.keeps_on, g.met.V.View.keeps_itself);
+  same = search rules;
+  longer = search rules;
+  fits = search rules;
+  counted = λ m h. search rules;
+  ran = λ m h l f mine since part like.
+      let one = longer_than m c.args.level.now.owed.now.objects (functions_view c.args.level.now.functions.now) c.args.level.now.depth c.args.site f (state_of c.args.writer.now (g.V.View.asked c.args.view.now) mine) in
+      reached_full _ (search rules) (λ e. let full : length c.args.writer.now.groups ≡ most_groups = search rules in omega (arith, one, full))
+      (part_one m c.args.level.now.owed.now.objects (functions_view c.args.level.now.functions.now) c.args.level.now.depth c.args.site f (state_of c.args.writer.now (g.V.View.asked c.args.view.now) mine));
+}
+
+pub skip_group-returns-in_ok-keep_group-in-Call : goal.skip_group-returns-in_ok-keep_group-in-Call
+skip_group-returns-in_ok-keep_group-in-Call g t c = record {
+  keeps = search (rules, g.met.V.View.keeps_on, g.met.V.View.keeps_itself);
+  same = search rules;
+  longer = longer_on _ _ _ _ (kept_longer _ _ _ _ _ _ _ c.in_ok-keep_group-in-Call.ensures.added) c.skip_all.ensures.longer;
+  fits = search rules;
+  counted = λ m h. search rules;
+  ran = λ m h l f mine since part like.
+      let what_is = call_what f.what c.in-Call.function c.in-Call.arguments (sym (sym c.kind.ensures ∙ c.in-Call.is) ∙ like.kind) in
+      let quiet : is_owed c.args.level.now.owed.now.objects f.inside ≡ false = sym (owed_is c.args.level.now.depth c.args.old.now f c.in-Call.function c.in-Call.arguments c.args.level.now.owed.now.objects like what_is) ∙ sym (ap (λ l. meets l c.args.level.now.owed.now.objects) c.reads.ensures) ∙ sym c.meet.ensures ∙ c.if-meet.false in
+      let state = kept_state c.args.level.now.depth c.args.site c.args.old.now f c.args.writer.now c.keep_group.new.writer (g.V.View.asked c.args.view.now) mine like c.in_ok-keep_group-in-Call.ensures.added in
+      let r = c.skip_all.ensures.ran m h l f.inside mine (since_slice c.args.level.now.functions.now c.front.result.now c.in-Call.function c.front.ensures since) part (begins_after _ c.args.old.now f _ _ c.table.ensures c.first_inside.ensures like) in
+      reached_at (ap (λ (fs : List Func). skipped_groups m c.args.level.now.owed.now.objects f.inside fs (c.args.level.now.depth + 1) (state_of c.keep_group.new.writer (g.V.View.asked c.args.view.now) mine)) (slice_is c.args.level.now.functions.now c.front.result.now c.in-Call.function c.front.ensures)
+      ∙ kept_call m c.args.level.now.owed.now.objects (functions_view c.args.level.now.functions.now) c.args.level.now.depth c.args.site f c.in-Call.function c.in-Call.arguments (state_of c.args.writer.now (g.V.View.asked c.args.view.now) mine) (state_of c.keep_group.new.writer (g.V.View.asked c.args.view.now) mine) what_is quiet state) r;
+}
+
+pub skip_inside-returns-in_err-keep_group : goal.skip_inside-returns-in_err-keep_group
+skip_inside-returns-in_err-keep_group g t c plain = record {
+  keeps = search (rules, g.met.V.View.keeps_on, g.met.V.View.keeps_itself);
+  same = search rules;
+  longer = search rules;
+  fits = search rules;
+  counted = λ m h. search rules;
+  ran = λ m h l f mine since part like.
+      let one = longer_than m c.args.level.now.owed.now.objects (functions_view c.args.level.now.functions.now) c.args.level.now.depth c.args.site f (state_of c.args.writer.now (g.V.View.asked c.args.view.now) mine) in
+      reached_full _ (search rules) (λ e. let full : length c.args.writer.now.groups ≡ most_groups = search rules in omega (arith, one, full))
+      (part_one m c.args.level.now.owed.now.objects (functions_view c.args.level.now.functions.now) c.args.level.now.depth c.args.site f (state_of c.args.writer.now (g.V.View.asked c.args.view.now) mine));
+}
+
+pub skip_inside-returns : goal.skip_inside-returns
+skip_inside-returns g t c plain = record {
+  keeps = search (rules, g.met.V.View.keeps_on, g.met.V.View.keeps_itself);
+  same = search rules;
+  longer = longer_on _ _ _ _ (kept_longer _ _ _ _ _ _ _ c.in_ok-keep_group.ensures.added) c.skip_all.ensures.longer;
+  fits = search rules;
+  counted = λ m h. search rules;
+  ran = λ m h l f mine since part like.
+      let state = kept_state c.args.level.now.depth c.args.site c.args.old.now f c.args.writer.now c.keep_group.new.writer (g.V.View.asked c.args.view.now) mine like c.in_ok-keep_group.ensures.added in
+      let r = c.skip_all.ensures.ran m h l f.inside mine since part (begins_after _ c.args.old.now f _ _ c.table.ensures c.first_inside.ensures like) in
+      reached_at (kept_other m c.args.level.now.owed.now.objects (functions_view c.args.level.now.functions.now) c.args.level.now.depth c.args.site f (state_of c.args.writer.now (g.V.View.asked c.args.view.now) mine) (state_of c.keep_group.new.writer (g.V.View.asked c.args.view.now) mine) (no_call c.args.level.now.depth c.args.old.now f like plain) state) r;
+}
+
+pub skip_all-loop-at-init : goal.skip_all-loop-at-init
+skip_all-loop-at-init g t c = record {
+  keeps = g.met.V.View.keeps_itself _;
+  same = λ m h. h;
+  longer = omega arith;
+  fits = search rules;
+  counted = λ m h. refl;
+  going = λ m h l tr mine since part begins. left_first begins part;
+}
+
+pub skip_all-returns-then-depth-level : goal.skip_all-returns-then-depth-level
+skip_all-returns-then-depth-level g t c = record {
+  keeps = search (rules, g.met.V.View.keeps_on, g.met.V.View.keeps_itself);
+  same = search rules;
+  longer = search rules;
+  fits = search rules;
+  counted = λ m h. c.loop-at.invariant.counted m h;
+  ran = λ m h l tr mine since part begins. left_done (c.loop-at.invariant.going m h l tr mine since part begins) (ends_level c.args.table.now.groups c.args.level.now.depth c.loop-at.at (search (rules, arith)));
+}
+
+pub skip_all-returns : goal.skip_all-returns
+skip_all-returns g t c = record {
+  keeps = search (rules, g.met.V.View.keeps_on, g.met.V.View.keeps_itself);
+  same = search rules;
+  longer = search rules;
+  fits = search rules;
+  counted = λ m h. c.loop-at.invariant.counted m h;
+  ran = λ m h l tr mine since part begins. left_done (c.loop-at.invariant.going m h l tr mine since part begins) (ends_past c.args.table.now.groups c.args.level.now.depth c.loop-at.at (search (rules, arith)));
+}
+
+pub skip_all-returns-in_err-skip_group : goal.skip_all-returns-in_err-skip_group
+skip_all-returns-in_err-skip_group g t c = record {
+  keeps = search (rules, g.met.V.View.keeps_on, g.met.V.View.keeps_itself);
+  same = search rules;
+  longer = search rules;
+  fits = search rules;
+  counted = λ m h. search rules;
+  ran = λ m h l tr mine since part begins.
+      let e : c.from_residual.result ≡ Err c.in_err-skip_group.field-0.0 = search rules in
+      let k = c.loop-at.invariant.going m h l tr mine since part begins in
+      let f = first_of_all c.args.table.now.groups c.args.level.now.depth c.loop-at.at (index_behind c.args.table.now.groups c.loop-at.at) k.rest k.begins (search (rules, arith)) (search (rules, arith)) (behind_is c.args.table.now.groups c.loop-at.at) in
+      let like = subst (λ (q : KeyInfo). SameGroup c.args.level.now.depth q f.found) (sym c.new-old.ensures) f.same in
+      let site = c.site.ensures ∙ ap (λ (q : KeyInfo). (old_group q).site) c.new-old.ensures ∙ f.site_is in
+      let s = state_of c.loop-at.writer (g.V.View.asked c.loop-at.view) mine in
+      let move : skipped_inside m c.args.level.now.owed.now.objects (functions_view c.args.level.now.functions.now) c.args.level.now.depth c.site.result f.found.number f.found.what (is_owed c.args.level.now.owed.now.objects f.found.inside) f.found.inside (skipped_groups m c.args.level.now.owed.now.objects f.found.inside) s ≡ skipped_inside m c.args.level.now.owed.now.objects (functions_view c.args.level.now.functions.now) c.args.level.now.depth f.site f.found.number f.found.what (is_owed c.args.level.now.owed.now.objects f.found.inside) f.found.inside (skipped_groups m c.args.level.now.owed.now.objects f.found.inside) s = ap (λ n. skipped_inside m c.args.level.now.owed.now.objects (functions_view c.args.level.now.functions.now) c.args.level.now.depth n f.found.number f.found.what (is_owed c.args.level.now.owed.now.objects f.found.inside) f.found.inside (skipped_groups m c.args.level.now.owed.now.objects f.found.inside) s) site in
+      left_stop _ k f (reached_at move (c.in_err-skip_group.ensures.ran m (c.loop-at.invariant.same m h) l f.found mine since (first_parts f k.part).0 like)) e;
+}
+
+pub skip_all-loop-at-preserved : goal.skip_all-loop-at-preserved
+skip_all-loop-at-preserved g t c = record {
+  keeps = g.met.V.View.keeps_on _ _ _ c.loop-at.invariant.keeps c.in_ok-skip_group.ensures.keeps;
+  same = λ m h. c.in_ok-skip_group.ensures.same m (c.loop-at.invariant.same m h);
+  longer = omega (arith, c.loop-at.invariant.longer, c.in_ok-skip_group.ensures.longer);
+  fits = c.in_ok-skip_group.ensures.fits;
+  counted = λ m h. let e = c.loop-at.invariant.counted m h in let f = c.in_ok-skip_group.ensures.counted m (c.loop-at.invariant.same m h) in omega (arith, e, f);
+  going = λ m h l tr mine since part begins.
+      let k = c.loop-at.invariant.going m h l tr mine since part begins in
+      let f = first_of_all c.args.table.now.groups c.args.level.now.depth c.loop-at.at c.index_after-at.result k.rest k.begins (search (rules, arith)) (search (rules, arith)) c.index_after-at.ensures.after in
+      let like = subst (λ (q : KeyInfo). SameGroup c.args.level.now.depth q f.found) (sym c.new-old.ensures) f.same in
+      let site = c.site.ensures ∙ ap (λ (q : KeyInfo). (old_group q).site) c.new-old.ensures ∙ f.site_is in
+      let s = state_of c.loop-at.writer (g.V.View.asked c.loop-at.view) mine in
+      let move : skipped_inside m c.args.level.now.owed.now.objects (functions_view c.args.level.now.functions.now) c.args.level.now.depth c.site.result f.found.number f.found.what (is_owed c.args.level.now.owed.now.objects f.found.inside) f.found.inside (skipped_groups m c.args.level.now.owed.now.objects f.found.inside) s ≡ skipped_inside m c.args.level.now.owed.now.objects (functions_view c.args.level.now.functions.now) c.args.level.now.depth f.site f.found.number f.found.what (is_owed c.args.level.now.owed.now.objects f.found.inside) f.found.inside (skipped_groups m c.args.level.now.owed.now.objects f.found.inside) s = ap (λ n. skipped_inside m c.args.level.now.owed.now.objects (functions_view c.args.level.now.functions.now) c.args.level.now.depth n f.found.number f.found.what (is_owed c.args.level.now.owed.now.objects f.found.inside) f.found.inside (skipped_groups m c.args.level.now.owed.now.objects f.found.inside) s) site in
+      left_more k f (reached_at move (c.in_ok-skip_group.ensures.ran m (c.loop-at.invariant.same m h) l f.found mine since (first_parts f k.part).0 like));
+}
+
+pub skip_all-loop-at-smaller : goal.skip_all-loop-at-smaller
+skip_all-loop-at-smaller g t c = index_grows c.args.table.now.groups c.loop-at.at c.index_after-at.result (omega arith) c.index_after-at.ensures.after c.index_after-at.ensures.inside

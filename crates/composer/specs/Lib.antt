@@ -1,0 +1,11 @@
+pub mod FrameDrafts
+pub mod ComposerState
+pub mod OldSiblings
+pub mod Waiting
+pub mod OldGroups
+pub mod Comparisons
+pub mod OwedObjects
+pub mod WrittenGroups
+pub mod BesideContracts
+pub mod FrameStates
+pub mod Recomposes

@@ -1,0 +1,114 @@
+-- Internal: the groups of a new frame as they are written, and what each group adds.
+use Rattle.std.specs.Prelude.{ℕ, ◌+◌, ◌++◌, List, [], ◌∷◌, length, Option, Some, None, Bool, true, false, if◌then◌else◌}
+use Rattle.rt_values.specs.declared.value.Value.{Value}
+use Rattle.rt_values.specs.Values.{same_values}
+use Rattle.rt_groups.specs.declared.groups.Group.{Group}
+use Rattle.rt_groups.specs.declared.groups.GroupKind.{GroupKind}
+use Rattle.rt_groups.specs.declared.groups.GroupKind.TheVariants as what
+use Rattle.rt_groups.specs.PreorderGroups.{flat_group}
+use Rattle.composer.specs.OldSiblings.{KeyInfo, old_group}
+use Rattle.composer.specs.FrameDrafts.{DraftGroups}
+use Rattle.composer.specs.Comparisons.{other_keys}
+use Rattle.composer.specs.ComposerState.{ComposerState, one_if}
+
+-- The groups so far, the number of the next new node, how many calls ran and how many cells were calculated, and how
+-- many reads the calls made that ran and ended.
+pub record WrittenGroups : Type 0 where
+  pub groups : List Group
+  pub next : ℕ
+  pub ran : ℕ
+  pub calculated : ℕ
+  pub reads : ℕ
+
+-- The same as a state of the composer, with the reads that the view was asked for and those of the innermost call.
+abbrev pub state_of : WrittenGroups → List ℕ → List ℕ → ComposerState
+state_of w asked own = record { groups = w.groups; next = w.next; ran = w.ran; calculated = w.calculated; asked = asked; own = own }
+
+-- The number of a node and the next unused number: the number of the old group, or the next one.
+abbrev pub number_for : Option KeyInfo → ℕ → ℕ × ℕ
+number_for None next = (next, next + 1)
+number_for (Some k) next = ((old_group k).number, next)
+
+abbrev pub number_of : GroupKind → Option KeyInfo → ℕ → ℕ × ℕ
+number_of (what.Call f vs) found next = (0, next)
+number_of (what.Node kind attributes) found next = number_for found next
+number_of (what.Key v) found next = (0, next)
+number_of (what.Cell ks v) found next = (0, next)
+
+-- 1 for a cell that is calculated.
+abbrev pub cells_in : Option KeyInfo → GroupKind → ℕ
+cells_in found (what.Call f vs) = 0
+cells_in found (what.Node kind attributes) = 0
+cells_in found (what.Key v) = 0
+cells_in found (what.Cell ks v) = one_if (other_keys found ks)
+
+-- A new group with its number. It counts if it is a cell that is calculated.
+abbrev pub entered : ℕ → ℕ → GroupKind → Option KeyInfo → WrittenGroups → WrittenGroups
+entered depth site w found d = record {
+  groups = d.groups ++ flat_group depth site (number_of w found d.next).0 w [] ∷ [];
+  next = (number_of w found d.next).1;
+  ran = d.ran;
+  calculated = d.calculated + cells_in found w;
+  reads = d.reads;
+}
+
+-- The group of a call, which counts if it runs.
+abbrev pub with_call : ℕ → ℕ → GroupKind → Bool → WrittenGroups → WrittenGroups
+with_call depth site w runs d = record {
+  groups = d.groups ++ flat_group depth site 0 w [] ∷ [];
+  next = d.next;
+  ran = d.ran + one_if runs;
+  calculated = d.calculated;
+  reads = d.reads;
+}
+
+-- An old group that is kept.
+abbrev pub written_kept : ℕ → ℕ → ℕ → GroupKind → List ℕ → WrittenGroups → WrittenGroups
+written_kept depth site number w reads d = record {
+  groups = d.groups ++ flat_group depth site number w reads ∷ [];
+  next = d.next;
+  ran = d.ran;
+  calculated = d.calculated;
+  reads = d.reads;
+}
+
+-- The number that a group keeps: that of a node.
+abbrev pub number_kept : GroupKind → ℕ → ℕ
+number_kept (what.Call f vs) n = 0
+number_kept (what.Node kind attributes) n = n
+number_kept (what.Key v) n = 0
+number_kept (what.Cell ks v) n = 0
+
+-- The value of an old cell that was calculated for these keys.
+abbrev pub kept_in : GroupKind → List Value → Option Value
+kept_in (what.Call f vs) ks = None
+kept_in (what.Node kind attributes) ks = None
+kept_in (what.Key v) ks = None
+kept_in (what.Cell js v) ks = if same_values js ks then Some v else None
+
+abbrev pub kept_of : Option KeyInfo → List Value → Option Value
+kept_of None ks = None
+kept_of (Some k) ks = kept_in (old_group k).what ks
+
+abbrev pub is_node_kept : GroupKind → Bool
+is_node_kept (what.Call f vs) = false
+is_node_kept (what.Node kind attributes) = true
+is_node_kept (what.Key v) = false
+is_node_kept (what.Cell ks v) = false
+
+-- Whether a group is a node.
+abbrev pub is_node : Group → Bool
+is_node g = is_node_kept g.what
+
+-- The count of nodes in a list of groups.
+abbrev pub nodes_in : List Group → ℕ
+nodes_in [] = 0
+nodes_in (g ∷ gs) = (if is_node g then 1 else 0) + nodes_in gs
+
+-- The draft of a frame with these groups.
+abbrev pub draft_of : WrittenGroups → DraftGroups
+draft_of w = record {
+  groups = w.groups;
+  next = w.next;
+  report = record { ran = w.ran; calculated = w.calculated; reads = w.reads; groups = length w.groups; nodes = nodes_in w.groups };
+}

@@ -1,0 +1,127 @@
+// Comparisons of new groups with old ones, as the composer compares with the slot table.
+ghost use Rattle.std.specs.Prelude.{◌≡◌, IfOk, map};
+ghost use Rattle.std.specs.Option.{option_map};
+ghost use Rattle.rt_values.specs.Values.{same_values};
+ghost use Rattle.rt_groups.specs.declared.groups.GroupKind.TheVariants as kinds;
+ghost use Rattle.rt_groups.specs.Frames.{meets};
+ghost use Rattle.slot_table.specs.ReaderStates.{group_key};
+ghost use Rattle.composer.specs.Comparisons.{same_call, call_runs, has_keys, other_keys};
+ghost use Rattle.composer.specs.WrittenGroups.{kept_of};
+
+use crate::old_groups::OldGroup;
+use crate::owed::Owed;
+use lang_meaning::Env;
+use rt_groups::{Deps, GroupKind};
+use rt_values::{NoMemory, Value};
+use std::alloc::Global;
+
+/// Returns the value of a key group.
+pub fn key_of(what: &GroupKind) -> Option<&Value>
+    ensures { option_map (λ v. v.now) result ≡ group_key what.now }
+{
+    match what {
+        GroupKind::Key(value) => Some(value),
+        _ => None,
+    }
+}
+
+// Returns whether both lists have equal values in the same order.
+fn same_lists(values: &[Value], others: &[Value]) -> bool
+    ensures { result ≡ same_values values.now others.now }
+{
+    let mut rest = others;
+    for value in values {
+        let Some((other, more)) = rest.split_first() else {
+            return false;
+        };
+        if !value.same(other) {
+            return false;
+        }
+        rest = more;
+    }
+    rest.is_empty()
+}
+
+// Returns whether it is a call of this function with equal arguments.
+fn is_same_call(what: &GroupKind, function: usize, arguments: &[Value]) -> bool
+    ensures { result ≡ same_call what.now (kinds.Call function arguments.now) }
+{
+    match what {
+        GroupKind::Call {
+            function: callee,
+            arguments: values,
+        } => *callee == function && same_lists(values.items(), arguments),
+        _ => false,
+    }
+}
+
+/// Returns whether a call runs: it has no old group, its arguments differ, or its own reads include an owed object.
+pub fn call_is_run(
+    owed: &Owed,
+    found: &Option<OldGroup>,
+    function: usize,
+    arguments: &[Value],
+) -> bool
+    ensures { result ≡ call_runs owed.now.objects found.now (kinds.Call function arguments.now) }
+{
+    let Some(old) = found else {
+        return true;
+    };
+    !is_same_call(old.kind(), function, arguments) || meet(old.reads(), owed)
+}
+
+// Returns whether it is a cell that was calculated for these keys.
+fn is_kept_for(what: &GroupKind, keys: &[Value]) -> bool
+    ensures { result ≡ has_keys keys.now what.now }
+{
+    match what {
+        GroupKind::Cell { keys: kept, .. } => same_lists(kept.items(), keys),
+        _ => false,
+    }
+}
+
+/// Returns whether no old cell was found that was calculated for these keys.
+pub fn has_other_keys(found: &Option<OldGroup>, keys: &[Value]) -> bool
+    ensures { result ≡ other_keys found.now keys.now }
+{
+    match found {
+        None => true,
+        Some(old) => !is_kept_for(old.kind(), keys),
+    }
+}
+
+/// Returns a copy of the value of an old cell if it was calculated for the values of these variables.
+pub fn kept_value(
+    alloc: Global,
+    found: &Option<OldGroup>,
+    keys: &Env,
+) -> Result<Option<Value>, NoMemory>
+    ensures { IfOk result (λ o. o ≡ kept_of found.now (map (λ b. b.value) keys.now)) }
+{
+    let Some(old) = found else {
+        return Ok(None);
+    };
+    match old.kind() {
+        GroupKind::Cell { keys: kept, value } => {
+            if keys.has_values(kept.items()) {
+                return Ok(Some(value.copy(alloc)?));
+            }
+            Ok(None)
+        }
+        GroupKind::Call { .. } => Ok(None),
+        GroupKind::Node { .. } => Ok(None),
+        GroupKind::Key(_) => Ok(None),
+    }
+}
+
+/// Returns whether a call with these reads reads an owed object.
+pub fn meet(reads: &Deps, owed: &Owed) -> bool
+    ensures { result ≡ meets reads.now owed.now.objects }
+{
+    for x in reads.numbers() {
+        if owed.has(*x) {
+            return true;
+        }
+    }
+    false
+}

@@ -1,0 +1,763 @@
+// Composing again next to the groups of the last frame.
+ghost use Rattle.std.specs.Prelude.{◌≡◌, ◌≤◌, ◌<◌, ◌+◌, ◌++◌, ◌∷◌, [], ℕ, List, Option, Some, Err, length, drop, map, take, true, false, IfOk, OnOk, OnErr};
+ghost use Rattle.rt_values.specs.declared.value.Value.{Value as value_data};
+ghost use Rattle.rt_values.specs.Maps.{Map};
+ghost use Rattle.rt_values.specs.Views.{Grew};
+ghost use Rattle.rt_groups.specs.GroupForest.{GroupKind as kind_data};
+ghost use Rattle.rt_groups.specs.PreorderGroups.{flat_kind};
+ghost use Rattle.rt_groups.specs.Frames.{LastFrame, most_groups};
+ghost use Rattle.lang_ast.specs.Terms.{Node, Key, If, For, Let, Remember};
+ghost use Rattle.lang_ast.specs.SyntaxView.{expr_view, exprs_view, nameds_view, stmt_view, stmts_view};
+ghost use Rattle.lang_ast.specs.Evaluation.{new_binding, eval, eval_all};
+ghost use Rattle.compose_model.specs.Composing.{forest_after};
+ghost use Rattle.recompose_laws.specs.CalculatedCells.{Calculation, CalculatesAtSite, StmtCalculates, StmtsCalculate};
+ghost use Rattle.composer.specs.WrittenGroups.{number_kept, kept_of, written_kept};
+ghost use Rattle.composer.specs.FrameDrafts.{Holds, IsOwing, ComposesFrame, functions_of, root_of};
+ghost use Rattle.composer.specs.OldSiblings.{old_group};
+ghost use Rattle.composer.specs.Recomposes.{Recomposes, Continues, RanBeside, Writes, HasRoom, HasRoomToWrite, group_at_level, statement_at, body_at, call_at, loop_at, BodyRan, GroupSkipped, GroupsSkipped, FrameWritten, any_calculation, is_container, is_call_kept};
+
+use crate::compared::{call_is_run, kept_value, key_of, meet};
+use crate::copies::{copy_kind, copy_values};
+use crate::draft::{Draft, Held};
+use crate::old_groups::OldGroup;
+use crate::owed::Owed;
+use crate::pending::Pending;
+use crate::stop::ComposeStop;
+use crate::writer::Writer;
+use group_keys::SiblingKey;
+use lang_ast::{Expression, Function, Ident, Named, Statement};
+use lang_checks::Checked;
+use lang_meaning::{Env, bind, eval_noting, evaluate_all, evaluate_attributes, evaluate_keys};
+use rt_groups::{Attributes, Deps, GroupKind, Values};
+use rt_values::{NoMemory, Steps, Value, View};
+use slot_table::Table;
+use std::alloc::Global;
+use std::mem;
+use std::sync::ledger::Ledger;
+
+/// Where statements are composed: the functions that their calls reach, the groups of the last frame, what is owed, and
+/// the depth of the new groups.
+#[derive(Clone, Copy)]
+pub struct Level<'a> {
+    pub alloc: Global,
+    pub functions: &'a [Function],
+    pub table: &'a Table,
+    pub owed: &'a Owed,
+    pub depth: u32,
+}
+
+/// What composing has made so far: the variables in scope, the old siblings that are not matched yet, the reads of the
+/// innermost call, and the groups.
+#[derive(Drop)]
+pub struct Progress<'a> {
+    pub scope: Env,
+    pub pending: Pending<'a>,
+    pub reads: Deps,
+    pub writer: Writer,
+}
+
+/// What a cell remembers: the keys and the calculation of a `remember` at a site.
+#[derive(Clone, Copy)]
+pub struct Remembered<'a> {
+    pub site: u32,
+    pub keys: &'a [Named],
+    pub value: &'a Expression,
+}
+
+// Composes statements in order.
+#[cycle(again)]
+fn run_all<'a, V: View, L: Ledger>(
+    level: &Level<'a>,
+    body: &[Statement],
+    made: &mut Progress<'a>,
+    view: &mut V,
+    steps: &mut Steps<L>,
+) -> Result<(), ComposeStop>
+    requires { HasRoom level.now made.old }
+    ensures { Recomposes V.shows V.asked V.keeps level.now
+        (body_at level.now (stmts_view body.now) made.old.scope) (λ calc. StmtsCalculate calc (stmts_view body.now))
+        view.old view.new made.old made.new result }
+{
+    for statement in body {
+        run_one(level, statement, made, view, steps)?;
+    }
+    Ok(())
+}
+
+// Composes one statement.
+#[cycle(again)]
+fn run_one<'a, V: View, L: Ledger>(
+    level: &Level<'a>,
+    statement: &Statement,
+    made: &mut Progress<'a>,
+    view: &mut V,
+    steps: &mut Steps<L>,
+) -> Result<(), ComposeStop>
+    requires { HasRoom level.now made.old }
+    ensures { Recomposes V.shows V.asked V.keeps level.now
+        (statement_at level.now (stmt_view statement.now) made.old.scope) (λ calc. StmtCalculates calc (stmt_view statement.now))
+        view.old view.new made.old made.new result }
+{
+    match statement {
+        Statement::Node {
+            site,
+            kind,
+            attributes,
+            body,
+            ..
+        } => run_node(level, *site, kind, attributes, body, made, view, steps),
+        Statement::Call {
+            site,
+            function,
+            arguments,
+            ..
+        } => run_arguments(level, *site, *function, arguments, made, view, steps),
+        Statement::Key {
+            site,
+            key,
+            body,
+            ..
+        } => run_key(level, *site, key, body, made, view, steps),
+        Statement::If {
+            condition,
+            then_branch,
+            else_branch,
+            ..
+        } => run_if(
+            level,
+            condition,
+            then_branch,
+            else_branch,
+            made,
+            view,
+            steps,
+        ),
+        Statement::For {
+            name,
+            list,
+            body,
+            ..
+        } => run_for(level, name, list, body, made, view, steps),
+        Statement::Let {
+            name,
+            value,
+            body,
+            ..
+        } => run_let(level, name, value, body, made, view, steps),
+        Statement::Remember {
+            site,
+            name,
+            keys,
+            value,
+            body,
+            ..
+        } => {
+            let cell = Remembered {
+                site: *site,
+                keys,
+                value,
+            };
+            run_remember(level, cell, name, body, made, view, steps)
+        }
+    }
+}
+
+// Composes a node or a key: matches its group with an old sibling, appends it, and composes the statements inside it.
+#[cycle(again)]
+fn run_group<'a, V: View, L: Ledger>(
+    level: &Level<'a>,
+    site: u32,
+    what: GroupKind,
+    body: &[Statement],
+    made: &mut Progress<'a>,
+    view: &mut V,
+    steps: &mut Steps<L>,
+) -> Result<(), ComposeStop>
+    requires { HasRoom level.now made.old }
+    ensures part { Continues V.shows V.asked V.keeps view.old view.new made.old made.new result }
+    ensures ran { (w : kind_data) → what ≡ flat_kind w → is_container w ≡ true → (m : Map) → V.shows view.old m →
+        RanBeside level.now (group_at_level level.now site w (stmts_view body.now) made.old.scope)
+        (λ calc. StmtsCalculate calc (stmts_view body.now)) m (V.asked view.old) (V.asked view.new) made.old made.new result }
+{
+    let found = made
+        .pending
+        .take(level.alloc, &SiblingKey::new(site, key_of(&what)))?;
+    made.writer
+        .enter(level.alloc, level.depth, site, what, &found)?;
+    let inside = Level {
+        alloc: level.alloc,
+        functions: level.functions,
+        table: level.table,
+        owed: level.owed,
+        depth: level.depth + 1,
+    };
+    let within = Pending::inside_found(level.alloc, level.table, &found);
+    let around = mem::replace(&mut made.pending, within);
+    run_all(&inside, body, made, view, steps)?;
+    made.pending = around;
+    Ok(())
+}
+
+// Composes a node: evaluates its attributes, and composes its group.
+#[cycle(again)]
+fn run_node<'a, V: View, L: Ledger>(
+    level: &Level<'a>,
+    site: u32,
+    kind: &Ident,
+    attributes: &[Named],
+    body: &[Statement],
+    made: &mut Progress<'a>,
+    view: &mut V,
+    steps: &mut Steps<L>,
+) -> Result<(), ComposeStop>
+    requires { HasRoom level.now made.old }
+    ensures { Recomposes V.shows V.asked V.keeps level.now
+        (statement_at level.now (Node 0 site kind.now (nameds_view attributes.now) (stmts_view body.now)) made.old.scope)
+        (λ calc. StmtsCalculate calc (stmts_view body.now))
+        view.old view.new made.old made.new result }
+{
+    let room = Attributes::with_room(level.alloc, attributes.len())?;
+    let attributes = evaluate_attributes(
+        level.alloc,
+        room,
+        attributes,
+        &made.scope,
+        view,
+        &mut made.reads,
+    )?;
+    let kind = kind.text.copy()?;
+    let node = GroupKind::Node { kind, attributes };
+    run_group(level, site, node, body, made, view, steps)
+}
+
+// Composes a key: evaluates it, and composes its group.
+#[cycle(again)]
+fn run_key<'a, V: View, L: Ledger>(
+    level: &Level<'a>,
+    site: u32,
+    key: &Expression,
+    body: &[Statement],
+    made: &mut Progress<'a>,
+    view: &mut V,
+    steps: &mut Steps<L>,
+) -> Result<(), ComposeStop>
+    requires { HasRoom level.now made.old }
+    ensures { Recomposes V.shows V.asked V.keeps level.now
+        (statement_at level.now (Key 0 site (expr_view key.now) (stmts_view body.now)) made.old.scope)
+        (λ calc. StmtsCalculate calc (stmts_view body.now))
+        view.old view.new made.old made.new result }
+{
+    let key = eval_noting(level.alloc, key, &made.scope, view, &mut made.reads)?;
+    run_group(level, site, GroupKind::Key(key), body, made, view, steps)
+}
+
+// Evaluates the condition and composes one of two lists of statements.
+#[cycle(again)]
+fn run_if<'a, V: View, L: Ledger>(
+    level: &Level<'a>,
+    condition: &Expression,
+    then_branch: &[Statement],
+    else_branch: &[Statement],
+    made: &mut Progress<'a>,
+    view: &mut V,
+    steps: &mut Steps<L>,
+) -> Result<(), ComposeStop>
+    requires { HasRoom level.now made.old }
+    ensures { Recomposes V.shows V.asked V.keeps level.now
+        (statement_at level.now
+        (If 0 0 (expr_view condition.now) (stmts_view then_branch.now) (stmts_view else_branch.now)) made.old.scope)
+        (λ calc. StmtsCalculate calc (stmts_view then_branch.now) × StmtsCalculate calc (stmts_view else_branch.now))
+        view.old view.new made.old made.new result }
+{
+    let condition = eval_noting(level.alloc, condition, &made.scope, view, &mut made.reads)?;
+    if condition.is_true() {
+        return run_all(level, then_branch, made, view, steps);
+    }
+    run_all(level, else_branch, made, view, steps)
+}
+
+// Composes statements with a new variable in scope, which is removed afterwards.
+#[cycle(again)]
+fn run_bound<'a, V: View, L: Ledger>(
+    level: &Level<'a>,
+    name: &Ident,
+    value: Value,
+    body: &[Statement],
+    made: &mut Progress<'a>,
+    view: &mut V,
+    steps: &mut Steps<L>,
+) -> Result<(), ComposeStop>
+    requires { HasRoom level.now made.old }
+    ensures { Recomposes V.shows V.asked V.keeps level.now
+        (body_at level.now (stmts_view body.now) (made.old.scope ++ new_binding name.now.text value ∷ []))
+        (λ calc. StmtsCalculate calc (stmts_view body.now))
+        view.old view.new made.old made.new result }
+{
+    let name = name.text.copy()?;
+    made.scope.push(name, value)?;
+    run_all(level, body, made, view, steps)?;
+    made.scope.pop();
+    Ok(())
+}
+
+// Evaluates an expression and composes statements with a variable of this value.
+#[cycle(again)]
+fn run_let<'a, V: View, L: Ledger>(
+    level: &Level<'a>,
+    name: &Ident,
+    value: &Expression,
+    body: &[Statement],
+    made: &mut Progress<'a>,
+    view: &mut V,
+    steps: &mut Steps<L>,
+) -> Result<(), ComposeStop>
+    requires { HasRoom level.now made.old }
+    ensures { Recomposes V.shows V.asked V.keeps level.now
+        (statement_at level.now (Let 0 0 name.now (expr_view value.now) (stmts_view body.now)) made.old.scope)
+        (λ calc. StmtsCalculate calc (stmts_view body.now))
+        view.old view.new made.old made.new result }
+{
+    let value = eval_noting(level.alloc, value, &made.scope, view, &mut made.reads)?;
+    run_bound(level, name, value, body, made, view, steps)
+}
+
+// Evaluates a list and composes statements for each of its numbers.
+#[cycle(again)]
+fn run_for<'a, V: View, L: Ledger>(
+    level: &Level<'a>,
+    name: &Ident,
+    list: &Expression,
+    body: &[Statement],
+    made: &mut Progress<'a>,
+    view: &mut V,
+    steps: &mut Steps<L>,
+) -> Result<(), ComposeStop>
+    requires { HasRoom level.now made.old }
+    ensures { Recomposes V.shows V.asked V.keeps level.now
+        (statement_at level.now (For 0 0 name.now (expr_view list.now) (stmts_view body.now)) made.old.scope)
+        (λ calc. StmtsCalculate calc (stmts_view body.now))
+        view.old view.new made.old made.new result }
+{
+    let list = eval_noting(level.alloc, list, &made.scope, view, &mut made.reads)?;
+    run_turns(level, name, list.items(), body, made, view, steps)
+}
+
+// Composes statements once for each number, in order, with a variable of this value.
+#[cycle(again)]
+fn run_turns<'a, V: View, L: Ledger>(
+    level: &Level<'a>,
+    name: &Ident,
+    items: &[i64],
+    body: &[Statement],
+    made: &mut Progress<'a>,
+    view: &mut V,
+    steps: &mut Steps<L>,
+) -> Result<(), ComposeStop>
+    requires { HasRoom level.now made.old }
+    ensures { Recomposes V.shows V.asked V.keeps level.now
+        (loop_at level.now name.now.text (stmts_view body.now) made.old.scope items.now)
+        (λ calc. StmtsCalculate calc (stmts_view body.now))
+        view.old view.new made.old made.new result }
+{
+    for item in items {
+        run_bound(level, name, Value::Int(*item), body, made, view, steps)?;
+    }
+    Ok(())
+}
+
+// Returns the value of a cell: that of the old cell if its keys are equal, else the calculated value (`cache`).
+fn remember<V: View>(
+    alloc: Global,
+    found: &Option<OldGroup>,
+    env: &Env,
+    value: &Expression,
+    view: &mut V,
+    reads: &mut Deps,
+) -> Result<Value, NoMemory>
+    ensures keeps { V.keeps view.old view.new }
+    ensures same { (m : Map) → V.shows view.old m → V.shows view.new m }
+    ensures value { (m : Map) (v : value_data) → V.shows view.old m →
+        ((w : value_data) → kept_of found.now (map (λ b. b.value) env.now) ≡ Some w → w ≡ v) →
+        (eval m (expr_view value.now) env.now).value ≡ v → IfOk result (λ w. w ≡ v) }
+    ensures asks { (m : Map) → V.shows view.old m → (eval m (expr_view value.now) env.now).reads ≡ [] →
+        OnOk result (V.asked view.new ≡ V.asked view.old) }
+    ensures reads { (m : Map) → V.shows view.old m → (eval m (expr_view value.now) env.now).reads ≡ [] →
+        OnOk result (reads.new ≡ reads.old) }
+    ensures part { (m : Map) → V.shows view.old m →
+        OnErr result (Grew (V.asked view.old) (V.asked view.new) (eval m (expr_view value.now) env.now).reads) }
+    ensures counted { (m : Map) → V.shows view.old m →
+        OnOk result (length reads.new + length (V.asked view.old) ≡ length reads.old + length (V.asked view.new)) }
+{
+    match kept_value(alloc, found, env)? {
+        Some(kept) => Ok(kept),
+        None => Ok(eval_noting(alloc, value, env, view, reads)?),
+    }
+}
+
+// Composes a cell: evaluates its keys, keeps or calculates its value, appends its group, and composes the statements
+// after it.
+#[cycle(again)]
+fn run_remember<'a, V: View, L: Ledger>(
+    level: &Level<'a>,
+    cell: Remembered,
+    name: &Ident,
+    body: &[Statement],
+    made: &mut Progress<'a>,
+    view: &mut V,
+    steps: &mut Steps<L>,
+) -> Result<(), ComposeStop>
+    requires { HasRoom level.now made.old }
+    ensures { Recomposes V.shows V.asked V.keeps level.now
+        (statement_at level.now (Remember 0 cell.entry.site name.now (nameds_view cell.entry.keys.now) (expr_view cell.entry.value.now) (stmts_view body.now)) made.old.scope)
+        (λ calc. CalculatesAtSite calc cell.entry.site (nameds_view cell.entry.keys.now) (expr_view cell.entry.value.now) × StmtsCalculate calc (stmts_view body.now))
+        view.old view.new made.old made.new result }
+{
+    let env = evaluate_keys(level.alloc, cell.keys, &made.scope, view, &mut made.reads)?;
+    let found = made
+        .pending
+        .take(level.alloc, &SiblingKey::new(cell.site, None))?;
+    let value = remember(level.alloc, &found, &env, cell.value, view, &mut made.reads)?;
+    let keys = env.into_values(level.alloc)?;
+    let kept = value.copy(level.alloc)?;
+    let what = GroupKind::Cell { keys, value: kept };
+    made.writer
+        .enter(level.alloc, level.depth, cell.site, what, &found)?;
+    run_bound(level, name, value, body, made, view, steps)
+}
+
+// Composes a call: evaluates its arguments, which its caller reads, and then the call itself.
+#[cycle(again)]
+fn run_arguments<'a, V: View, L: Ledger>(
+    level: &Level<'a>,
+    site: u32,
+    function: usize,
+    arguments: &[Expression],
+    made: &mut Progress<'a>,
+    view: &mut V,
+    steps: &mut Steps<L>,
+) -> Result<(), ComposeStop>
+    requires { HasRoom level.now made.old }
+    ensures { Recomposes V.shows V.asked V.keeps level.now
+        (λ m. forest_after (eval_all m (exprs_view arguments.now) made.old.scope)
+        (λ vs. call_at level.now site function vs m)) any_calculation
+        view.old view.new made.old made.new result }
+{
+    let arguments = evaluate_all(level.alloc, arguments, &made.scope, view, &mut made.reads)?;
+    run_call(level, site, function, arguments, made, view, steps)
+}
+
+// Composes a call. It runs if it has no old group, its arguments differ, or its own reads include an owed object. Else
+// it is skipped (`skipToGroupEnd`).
+#[cycle(again)]
+fn run_call<'a, V: View, L: Ledger>(
+    level: &Level<'a>,
+    site: u32,
+    function: usize,
+    arguments: Values,
+    made: &mut Progress<'a>,
+    view: &mut V,
+    steps: &mut Steps<L>,
+) -> Result<(), ComposeStop>
+    requires { HasRoom level.now made.old }
+    ensures { Recomposes V.shows V.asked V.keeps level.now
+        (call_at level.now site function arguments) any_calculation
+        view.old view.new made.old made.new result }
+{
+    let found = made
+        .pending
+        .take(level.alloc, &SiblingKey::new(site, None))?;
+    if call_is_run(level.owed, &found, function, arguments.items()) {
+        return run_body(
+            level,
+            site,
+            function,
+            arguments,
+            &found,
+            &mut made.writer,
+            view,
+            steps,
+        );
+    }
+    if function >= level.functions.len() {
+        let call = GroupKind::Call {
+            function,
+            arguments,
+        };
+        made.writer
+            .enter_call(level.alloc, level.depth, site, call, false)?;
+        return Ok(());
+    }
+    match &found {
+        Some(old) => skip_group(level, site, old, &mut made.writer, view, steps),
+        None => Err(ComposeStop::NoMemory), // A call without an old group runs.
+    }
+}
+
+// Composes a call that runs next to the old groups inside `found`: its group with its own reads, and the body of its
+// function. A call of a function that is not an earlier one makes an empty group.
+#[cycle(again)]
+fn run_body<'a, V: View, L: Ledger>(
+    level: &Level<'a>,
+    site: u32,
+    function: usize,
+    arguments: Values,
+    found: &Option<OldGroup<'a>>,
+    writer: &mut Writer,
+    view: &mut V,
+    steps: &mut Steps<L>,
+) -> Result<(), ComposeStop>
+    requires { HasRoomToWrite level.now writer.old }
+    ensures { Writes V.shows V.asked V.keeps view.old view.new writer.old writer.new result
+        (λ m. BodyRan level.now m site function arguments found.now (V.asked view.old) (V.asked view.new) writer.old writer.new result) }
+{
+    if function >= level.functions.len() {
+        let call = GroupKind::Call {
+            function,
+            arguments,
+        };
+        writer.enter_call(level.alloc, level.depth, site, call, true)?;
+        return Ok(());
+    }
+    let callee = &level.functions[function];
+    let scope = bind(level.alloc, &callee.parameters, &arguments)?;
+    let pending = Pending::inside_found(level.alloc, level.table, found);
+    let place = writer.len();
+    let call = GroupKind::Call {
+        function,
+        arguments,
+    };
+    writer.enter_call(level.alloc, level.depth, site, call, true)?;
+    let taken = mem::replace(writer, Writer::new(level.alloc, 0));
+    let reads = Deps::new(level.alloc);
+    let mut inner = Progress {
+        scope,
+        pending,
+        reads,
+        writer: taken,
+    };
+    let inside = Level {
+        alloc: level.alloc,
+        functions: &level.functions[..function],
+        table: level.table,
+        owed: level.owed,
+        depth: level.depth + 1,
+    };
+    run_all(&inside, &callee.body, &mut inner, view, steps)?;
+    let own = inner.reads;
+    let mut written = inner.writer;
+    written.end_call(place, own)?;
+    *writer = written;
+    Ok(())
+}
+
+// Returns the functions before one, or all.
+fn front(functions: &[Function], count: usize) -> &[Function]
+    ensures { result.now ≡ take count functions.now }
+{
+    if count < functions.len() {
+        &functions[..count]
+    } else {
+        functions
+    }
+}
+
+// Skips an old group. If it is a call that is owed, the call runs. Everything else is kept, and the groups inside are
+// skipped.
+#[cycle(again)]
+fn skip_group<'a, V: View, L: Ledger>(
+    level: &Level<'a>,
+    site: u32,
+    old: &OldGroup<'a>,
+    writer: &mut Writer,
+    view: &mut V,
+    steps: &mut Steps<L>,
+) -> Result<(), ComposeStop>
+    requires { HasRoomToWrite level.now writer.old }
+    ensures { Writes V.shows V.asked V.keeps view.old view.new writer.old writer.new result
+        (λ m. GroupSkipped level.now m site old.now (V.asked view.old) (V.asked view.new) writer.old writer.new result) }
+{
+    steps.tick();
+    match old.kind() {
+        GroupKind::Call {
+            function,
+            arguments,
+        } => {
+            if meet(old.reads(), level.owed) {
+                let found = Some(old.copy());
+                let arguments = copy_values(level.alloc, arguments.items())?;
+                return run_body(
+                    level, site, *function, arguments, &found, writer, view, steps,
+                );
+            }
+            keep_group(level, site, old, writer)?;
+            let inside = Level {
+                alloc: level.alloc,
+                functions: front(level.functions, *function),
+                table: level.table,
+                owed: level.owed,
+                depth: level.depth + 1,
+            };
+            skip_all(
+                &inside,
+                old.table(),
+                old.first_inside(),
+                writer,
+                view,
+                steps,
+            )
+        }
+        GroupKind::Node { .. } => skip_inside(level, site, old, writer, view, steps),
+        GroupKind::Key(_) => skip_inside(level, site, old, writer, view, steps),
+        GroupKind::Cell { .. } => skip_inside(level, site, old, writer, view, steps),
+    }
+}
+
+// Keeps an old group that is no call, and skips the groups inside it.
+#[cycle(again)]
+fn skip_inside<'a, V: View, L: Ledger>(
+    level: &Level<'a>,
+    site: u32,
+    old: &OldGroup<'a>,
+    writer: &mut Writer,
+    view: &mut V,
+    steps: &mut Steps<L>,
+) -> Result<(), ComposeStop>
+    requires { HasRoomToWrite level.now writer.old }
+    ensures { is_call_kept (old_group old.now).what ≡ false → Writes V.shows V.asked V.keeps view.old view.new writer.old writer.new result
+        (λ m. GroupSkipped level.now m site old.now (V.asked view.old) (V.asked view.new) writer.old writer.new result) }
+{
+    keep_group(level, site, old, writer)?;
+    let inside = Level {
+        alloc: level.alloc,
+        functions: level.functions,
+        table: level.table,
+        owed: level.owed,
+        depth: level.depth + 1,
+    };
+    skip_all(
+        &inside,
+        old.table(),
+        old.first_inside(),
+        writer,
+        view,
+        steps,
+    )
+}
+
+// Appends a copy of an old group.
+fn keep_group(
+    level: &Level,
+    site: u32,
+    old: &OldGroup,
+    writer: &mut Writer,
+) -> Result<(), ComposeStop>
+    requires { length writer.old.groups ≤ most_groups }
+    ensures added { OnOk result (writer.new ≡ written_kept level.now.depth site
+        (number_kept (old_group old.now).what (old_group old.now).number) (old_group old.now).what (old_group old.now).reads writer.old) }
+    ensures fits { OnOk result (length writer.new.groups ≤ most_groups) }
+    ensures full { result ≡ Err ComposeStop.TooManyGroups → length writer.old.groups ≡ most_groups }
+{
+    let what = copy_kind(level.alloc, old.kind())?;
+    let reads = old.reads().copy(level.alloc)?;
+    let number = kept_number(old.kind(), old.number());
+    writer.keep(level.depth, site, number, what, reads)
+}
+
+// Returns the number that a group keeps: that of a node.
+fn kept_number(what: &GroupKind, number: u64) -> u64
+    ensures { result ≡ number_kept what.now number }
+{
+    match what {
+        GroupKind::Node { .. } => number,
+        _ => 0,
+    }
+}
+
+// Skips the old groups from index `first` on, up to the first that is less deep.
+#[cycle(again)]
+fn skip_all<'a, V: View, L: Ledger>(
+    level: &Level<'a>,
+    table: &'a Table,
+    first: usize,
+    writer: &mut Writer,
+    view: &mut V,
+    steps: &mut Steps<L>,
+) -> Result<(), ComposeStop>
+    requires { HasRoomToWrite level.now writer.old }
+    ensures { Writes V.shows V.asked V.keeps view.old view.new writer.old writer.new result
+        (λ m. GroupsSkipped level.now m (drop first table.now.groups) (V.asked view.old) (V.asked view.new) writer.old writer.new result) }
+{
+    let mut at = first;
+    while at < table.len() {
+        if table.depth(at) < level.depth {
+            return Ok(());
+        }
+        let old = OldGroup::new(table, at);
+        skip_group(level, old.site(), &old, writer, view, steps)?;
+        at = table.index_after(at);
+    }
+    Ok(())
+}
+
+// Writes the groups of a frame: runs the root if everything is owed, else skips the old groups.
+fn write_frame<V: View, L: Ledger>(
+    alloc: Global,
+    program: &Checked,
+    table: &Table,
+    owed: &Owed,
+    writer: &mut Writer,
+    view: &mut V,
+    steps: &mut Steps<L>,
+) -> Result<(), ComposeStop>
+    requires { length writer.old.groups ≤ most_groups }
+    ensures { Writes V.shows V.asked V.keeps view.old view.new writer.old writer.new result
+        (λ m. FrameWritten program.now table.now.groups owed.now m (V.asked view.old) (V.asked view.new) writer.old writer.new result) }
+{
+    let level = Level {
+        alloc,
+        functions: program.functions(),
+        table,
+        owed,
+        depth: 0,
+    };
+    if owed.is_all() {
+        let root = program.root();
+        return run_body(
+            &level,
+            0,
+            root,
+            Values::new(alloc),
+            &None,
+            writer,
+            view,
+            steps,
+        );
+    }
+    skip_all(&level, table, 0, writer, view, steps)
+}
+
+/// Composes a frame next to the groups of the last good frame (`recompose`), or everything before the first one
+/// (`composeContent`).
+///
+/// A call runs if its path is new, its arguments differ, or its own reads include an owed object. In a call that runs, a
+/// cell is calculated if its path is new or its keys differ. Everything else is kept with its node numbers. What is held
+/// stays as it is: `Held::apply` takes the draft. Fails if there are more than 1,000,000 groups, or out of memory. The view
+/// was then asked for a first part of the reads.
+pub fn compose<V: View, L: Ledger>(
+    alloc: Global,
+    program: &Checked,
+    held: &Held,
+    owed: &Owed,
+    view: &mut V,
+    steps: &mut Steps<L>,
+) -> Result<Draft, ComposeStop>
+    ensures keeps { V.keeps view.old view.new }
+    ensures same { (m : Map) → V.shows view.old m → V.shows view.new m }
+    ensures frame { (k : LastFrame) (m : Map) → V.shows view.old m → Holds held.now k →
+        IsOwing (functions_of program.now) (root_of program.now) k.seen k.trail m owed.now →
+        ComposesFrame (functions_of program.now) (root_of program.now) owed.now k m (V.asked view.old) (V.asked view.new) result }
+{
+    let mut writer = Writer::new(alloc, held.next());
+    write_frame(alloc, program, held.table(), owed, &mut writer, view, steps)?;
+    Ok(writer.into_draft(alloc)?)
+}

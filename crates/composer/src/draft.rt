@@ -1,0 +1,95 @@
+// What a composition keeps between frames, and the draft of the next frame.
+ghost use Rattle.std.specs.Prelude.{◌≡◌, [], length};
+ghost use Rattle.rt_groups.specs.Frames.{no_last_frame};
+ghost use Rattle.composer.specs.FrameDrafts.{Holds};
+
+use rt_groups::Report;
+use slot_table::Table;
+use std::alloc::Global;
+use std::marker::Model;
+
+/// What a composition keeps between frames: the groups of the last good frame, and the number of the next new node.
+#[derive(Drop)]
+pub struct Held {
+    table: Table,
+    next: u64,
+}
+
+impl Model for Held {
+    ghost use Rattle.composer.specs.FrameDrafts.{HeldGroups};
+
+    ghost Value = { HeldGroups };
+
+    ghost view = { λ h. record { groups = h.table.groups; next = h.next } };
+}
+
+impl Held {
+    /// Returns no groups. Node numbers begin at 1.
+    pub fn new(alloc: Global) -> Self
+        ensures { Holds result no_last_frame }
+    {
+        Held {
+            table: Table::new(alloc),
+            next: 1,
+        }
+    }
+
+    /// Returns the groups of the last good frame.
+    pub fn table(&self) -> &Table
+        ensures { result.now.groups ≡ self.now.groups }
+    {
+        &self.table
+    }
+
+    /// Returns the number of the next new node.
+    pub fn next(&self) -> u64
+        ensures { result ≡ self.now.next }
+    {
+        self.next
+    }
+
+    /// Keeps the groups of a frame in place of the last one's (`applyChanges`). Takes no memory.
+    pub fn apply(&mut self, draft: Draft)
+        ensures groups { self.new.groups ≡ draft.groups }
+        ensures next { self.new.next ≡ draft.next }
+    {
+        self.table = draft.table;
+        self.next = draft.next;
+    }
+}
+
+/// A frame that is composed and not yet applied.
+#[derive(Drop)]
+pub struct Draft {
+    table: Table,
+    next: u64,
+    report: Report,
+}
+
+impl Model for Draft {
+    ghost use Rattle.composer.specs.FrameDrafts.{DraftGroups};
+
+    ghost Value = { DraftGroups };
+
+    ghost view = { λ d. record { groups = d.table.groups; next = d.next; report = d.report } };
+}
+
+impl Draft {
+    // Returns the draft with these groups.
+    pub(crate) fn new(table: Table, next: u64, report: Report) -> Self
+        ensures { result ≡ record { groups = table.groups; next = next; report = report } }
+    {
+        Draft {
+            table,
+            next,
+            report,
+        }
+    }
+
+    /// Returns the report of the frame.
+    pub fn report(&self) -> Report
+        ensures { result ≡ self.now.report }
+    {
+        self.report
+    }
+}

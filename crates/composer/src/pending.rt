@@ -1,0 +1,180 @@
+// The old siblings that no new group is matched with.
+ghost use Rattle.std.specs.Prelude.{◌≡◌, ◌<◌, ℕ, [], Some, true, false, length, drop, slice_get, if◌then◌else◌, IfOk, OnOk};
+ghost use Rattle.rt_groups.specs.Paths.{GroupKey, same_sibling};
+ghost use Rattle.slot_table.specs.TableGroups.{group_at};
+ghost use Rattle.group_keys.specs.Queues.{queue_of};
+ghost use Rattle.composer.specs.OldSiblings.{sibling_key, level_indexes, is_level as is_group_at, inner_siblings, found_siblings};
+
+use crate::compared::key_of;
+use crate::old_groups::OldGroup;
+use group_keys::{SiblingKey, SiblingQueues};
+use rt_values::NoMemory;
+use slot_table::Table;
+use std::alloc::Global;
+
+/// The groups directly inside a group of the last frame that no new group is matched with yet (`Pending`).
+#[derive(Drop)]
+pub struct Pending<'a> {
+    table: &'a Table,
+    // The depth of the siblings.
+    depth: usize,
+    // The index of the next sibling, while new groups come in the order of the old ones.
+    next: usize,
+    // Whether a new group came in another order. Then `queues` has the unmatched siblings.
+    is_queued: bool,
+    queues: SiblingQueues<'a>,
+    // Each queued index is that of a group.
+    ghost inside: { (s : GroupKey) (k i : ℕ) → slice_get (queue_of queues s) k ≡ Some i → i < length table.now.groups },
+}
+
+impl<'a> Pending<'a> {
+    ghost use Rattle.composer.specs.Waiting.{waiting};
+
+    // Returns the siblings at `depth` from the index `next` on.
+    fn at(alloc: Global, table: &'a Table, depth: usize, next: usize) -> Pending<'a>
+        ensures groups { result.table.now.groups ≡ table.now.groups }
+        ensures depth { result.depth ≡ depth }
+        ensures next { result.next ≡ next }
+        ensures ordered { result.is_queued ≡ false }
+    {
+        Pending {
+            table,
+            depth,
+            next,
+            is_queued: false,
+            queues: SiblingQueues::new(alloc),
+        }
+    }
+
+    /// Returns no siblings, for the inside of a new group.
+    pub fn none(alloc: Global, table: &'a Table) -> Pending<'a>
+        ensures { (s : GroupKey) → waiting result s ≡ [] }
+    {
+        Pending::at(alloc, table, 0, table.len())
+    }
+
+    /// Returns the groups directly inside `old`.
+    pub fn inside(alloc: Global, old: &OldGroup<'a>) -> Pending<'a>
+        ensures { (s : GroupKey) → waiting result s ≡ inner_siblings old.now s }
+    {
+        let depth = old.depth() as usize;
+        let _length = old.table().len();
+        Pending::at(alloc, old.table(), depth + 1, old.index() + 1)
+    }
+
+    /// Returns the groups directly inside `found`, which a new group is matched with, or no siblings if there is no such
+    /// group.
+    pub fn inside_found(
+        alloc: Global,
+        table: &'a Table,
+        found: &Option<OldGroup<'a>>,
+    ) -> Pending<'a>
+        ensures { (s : GroupKey) → waiting result s ≡ found_siblings found.now s }
+    {
+        match found {
+            None => Pending::none(alloc, table),
+            Some(old) => Pending::inside(alloc, old),
+        }
+    }
+
+    /// Removes and returns the first unmatched sibling with the site and the key of `key` (`getNext`). While new groups
+    /// come in the order of the old ones it takes constant time and no memory. All calls together take time linear in
+    /// the siblings.
+    pub fn take(
+        &mut self,
+        alloc: Global,
+        key: &SiblingKey,
+    ) -> Result<Option<OldGroup<'a>>, NoMemory>
+        ensures found { IfOk result (λ found. found ≡ slice_get (waiting self.old key.now) 0) }
+        ensures left { OnOk result ((s : GroupKey) → waiting self.new s
+            ≡ (if same_sibling key.now s then drop 1 (waiting self.old s) else waiting self.old s)) }
+    {
+        if !self.is_queued {
+            if !is_level(self.table, self.depth, self.next) {
+                return Ok(None);
+            }
+            if sibling_at(self.table, self.next).eq(&*key) {
+                return Ok(Some(self.take_next()));
+            }
+            self.queue_siblings(alloc)?;
+        }
+        Ok(self.take_queued(key))
+    }
+
+    // Removes and returns the next sibling.
+    fn take_next(&mut self) -> OldGroup<'a>
+        requires ordered { self.old.is_queued ≡ false }
+        requires level { is_group_at self.old.table.now.groups self.old.depth self.old.next ≡ true }
+        ensures group { result ≡ record { groups = self.old.table.now.groups; index = self.old.next } }
+        ensures found { (s : GroupKey) → same_sibling (sibling_key (group_at self.old.table.now.groups self.old.next)) s ≡ true →
+            Some result ≡ slice_get (waiting self.old s) 0 }
+        ensures left { (s : GroupKey) → waiting self.new s
+            ≡ (if same_sibling (sibling_key (group_at self.old.table.now.groups self.old.next)) s
+            then drop 1 (waiting self.old s) else waiting self.old s) }
+    {
+        let next = self.next;
+        self.next = self.table.index_after(next);
+        OldGroup::new(self.table, next)
+    }
+
+    // Puts the siblings from the next one on into queues.
+    fn queue_siblings(&mut self, alloc: Global) -> Result<(), NoMemory>
+        requires { self.old.is_queued ≡ false }
+        ensures queued { OnOk result (self.new.is_queued ≡ true) }
+        ensures same { OnOk result ((s : GroupKey) → waiting self.new s ≡ waiting self.old s) }
+    {
+        self.queues = queue_from(alloc, self.table, self.depth, self.next)?;
+        self.is_queued = true;
+        Ok(())
+    }
+
+    // Removes and returns the first queued sibling with the site and the key of `key`.
+    fn take_queued(&mut self, key: &SiblingKey) -> Option<OldGroup<'a>>
+        requires { self.old.is_queued ≡ true }
+        ensures found { result ≡ slice_get (waiting self.old key.now) 0 }
+        ensures left { (s : GroupKey) → waiting self.new s
+            ≡ (if same_sibling key.now s then drop 1 (waiting self.old s) else waiting self.old s) }
+    {
+        match self.queues.take(key) {
+            Some(index) => Some(OldGroup::new(self.table, index)),
+            None => None,
+        }
+    }
+}
+
+// Returns whether index `i` is that of a group of this depth.
+fn is_level(table: &Table, depth: usize, i: usize) -> bool
+    ensures { result ≡ is_group_at table.now.groups depth i }
+{
+    i < table.len() && table.depth(i) as usize == depth
+}
+
+// Returns the site and the key of the group at index `i`.
+fn sibling_at<'a>(table: &'a Table, i: usize) -> SiblingKey<'a>
+    requires { i < length table.now.groups }
+    ensures { result ≡ sibling_key (group_at table.now.groups i) }
+{
+    SiblingKey::new(table.site(i), key_of(table.kind(i)))
+}
+
+// Returns the queues of the siblings at `depth` from the index `next` on.
+#[tactic(auto, using(crate::proofs::LevelIndexes::queue_is_whole, crate::proofs::LevelIndexes::level_inside))]
+fn queue_from<'a>(
+    alloc: Global,
+    table: &'a Table,
+    depth: usize,
+    next: usize,
+) -> Result<SiblingQueues<'a>, NoMemory>
+    ensures queues { IfOk result (λ queues. (s : GroupKey) → queue_of queues s
+        ≡ level_indexes s depth next (drop next table.now.groups)) }
+    ensures inside { IfOk result (λ queues. (s : GroupKey) (k i : ℕ) → slice_get (queue_of queues s) k ≡ Some i →
+        i < length table.now.groups) }
+{
+    let mut queues = SiblingQueues::new(alloc);
+    let mut at = next;
+    while is_level(table, depth, at) {
+        queues.push(alloc, sibling_at(table, at), at)?;
+        at = table.index_after(at);
+    }
+    Ok(queues)
+}
