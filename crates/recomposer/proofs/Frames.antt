@@ -1,0 +1,189 @@
+-- What a frame leaves.
+use Rattle.std.proofs.Common.{◌≡◌, ℕ, ◌-◌, ◌^◌, ◌++◌, ◌==◌, ◌<◌, ◌≤◌, ◌&&◌, List, [], ◌∷◌, length, refl, sym, ap, ◌∙◌, subst, Bool, true, false, not, Option, Some, None, Result, Ok, Err, OnOk, OnErr, min, cond, le-leb, append-nil, arith}
+use Rattle.std.proofs.lemmas.Bool.{eqb-true, lt-leb}
+use Rattle.std.specs.Option.{option_map}
+use Rattle.rt_values.specs.Maps.{Map, differ, contains}
+use Rattle.rt_values.specs.Views.{Grew}
+use Rattle.rt_groups.specs.declared.report.Report.{Report}
+use Rattle.rt_groups.specs.GroupForest.{GroupForest, End, Read, Group, asks, how_many, how_many_nodes}
+use Rattle.rt_groups.specs.Frames.{LastFrame, numbered_forest, most_groups, reads, report}
+use Rattle.compose_model.specs.Composing.{forest}
+use Rattle.compose_model.specs.Frame.{FrameResult, good_frame, frame}
+use Rattle.lang_checks.specs.declared.checks.Checked.{Checked}
+use Rattle.recompose_laws.specs.Numbering.{without_numbers}
+use Rattle.recompose_laws.specs.Idle.{unchanged_report}
+use Rattle.recompose_laws.proofs.Idles.{idle_frame, kept_is_numbered}
+use Rattle.recompose_laws.proofs.Plain.{kept_trail_is_the_forest}
+use Rattle.composer.specs.OwedObjects.{OwedObjects}
+use Rattle.composer.specs.FrameDrafts.{DraftGroups, IsOwing, IsFrameDraft, functions_of, root_of}
+use Rattle.recomposer.specs.declared.composition.Composition.{Composition}
+use Rattle.recomposer.specs.Compositions.{IsKept, Owes, IsAt, kept_after, frame_reads, MakesFrame}
+use Rattle.recomposer.proofs.Owings.{owes_nothing, owing, same_below}
+use Rattle.recomposer.proofs.Reports.{owed_report, owed_reads}
+use Rattle.recomposer.proofs.StateReads.{kept_below}
+
+-- Node numbers do not change how many groups there are.
+
+groups_counted : (t : GroupForest) → how_many (without_numbers t) ≡ how_many t
+groups_counted End = refl
+groups_counted (Read x rest) = groups_counted rest
+groups_counted (Group site n what inside rest) =
+    let e = groups_counted inside in
+    let f = groups_counted rest in
+    omega (arith, e, f)
+
+nodes_counted : (t : GroupForest) → how_many_nodes (without_numbers t) ≡ how_many_nodes t
+nodes_counted End = refl
+nodes_counted (Read x rest) = nodes_counted rest
+nodes_counted (Group site n what inside rest) =
+    let e = nodes_counted inside in
+    let f = nodes_counted rest in
+    omega (arith, e, f)
+
+module _ (p : Checked) (k : LastFrame) (m : Map) where
+  -- A forest with few enough groups gives a good frame.
+  good_is : how_many (forest (functions_of p) (root_of p) m) ≤ most_groups → frame (functions_of p) k m ≡ Some (good_frame k m (forest (functions_of p) (root_of p) m))
+  good_is few = ap (λ b. option_map (good_frame k m) (cond b (Some (forest (functions_of p) (root_of p) m)) None)) (le-leb (how_many (forest (functions_of p) (root_of p) m)) most_groups few)
+
+  -- A larger forest gives a refused frame.
+  pub refused_is : most_groups < how_many (forest (functions_of p) (root_of p) m) → frame (functions_of p) k m ≡ None
+  refused_is many = ap (λ b. option_map (good_frame k m) (cond b (Some (forest (functions_of p) (root_of p) m)) None)) (lt-leb (how_many (forest (functions_of p) (root_of p) m)) most_groups many)
+
+  -- The report of a good frame.
+  pub told_good : (r : Report) (owed : OwedObjects) → r ≡ report owed.objects k.trail (forest (functions_of p) (root_of p) m) → how_many (forest (functions_of p) (root_of p) m) ≤ most_groups → Owes p k.seen k.trail (Some m) owed →
+      Some r ≡ option_map (λ g. g.told) (frame (functions_of p) k m)
+  told_good r owed is few owes =
+      ap Some (is ∙ owed_report p k.seen k.trail m owed (forest (functions_of p) (root_of p) m) owes)
+      ∙ sym (ap (option_map (λ (g : FrameResult). g.told)) (good_is few))
+
+  abbrev new_trail : GroupForest
+  new_trail = (numbered_forest k.trail [] [] k.next (forest (functions_of p) (root_of p) m)).0
+
+  same_groups : how_many new_trail ≡ how_many (forest (functions_of p) (root_of p) m)
+  same_groups = sym (groups_counted new_trail) ∙ ap how_many (kept_trail_is_the_forest k.trail k.next (functions_of p) (root_of p) m)
+
+  same_nodes : how_many_nodes new_trail ≡ how_many_nodes (forest (functions_of p) (root_of p) m)
+  same_nodes = sym (nodes_counted new_trail) ∙ ap how_many_nodes (kept_trail_is_the_forest k.trail k.next (functions_of p) (root_of p) m)
+
+-- The composition after a good frame.
+pub finished_at : (c c' : Composition) (k : LastFrame) (m : Map) (d : DraftGroups) → IsAt c k (Some m) → how_many (forest (functions_of c.program.now) (root_of c.program.now) m) ≤ most_groups →
+    IsFrameDraft (functions_of c.program.now) (root_of c.program.now) c.owed k m d → c'.program ≡ c.program → c'.held.groups ≡ d.groups → c'.held.next ≡ d.next → c'.groups ≡ d.report.groups → c'.nodes ≡ d.report.nodes →
+    c'.owed ≡ record { all = false; objects = []; states = c.owed.states } → IsAt c' (kept_after k (frame (functions_of c.program.now) k m)) (Some m)
+finished_at c c' k m d h few draft program held_groups held_next groups nodes owed =
+    let p = c.program.now in
+    let new = forest (functions_of p) (root_of p) m in
+    let left = (good_frame k m new).left in
+    let same = ap (λ q. q.now) program in
+    let kept : IsKept p m (good_frame k m new).left.trail =
+    record { composed = kept_trail_is_the_forest k.trail k.next (functions_of p) (root_of p) m; few = few; numbered = kept_is_numbered k.trail new k.next } in
+    subst (λ (o : Option FrameResult). IsAt c' (kept_after k o) (Some m)) (sym (good_is p k m few)) (record {
+      holds = (held_groups ∙ draft.groups, held_next ∙ draft.next);
+      owes = subst (λ (q : Checked). Owes q (Some m) left.trail (Some m) c'.owed) (sym same)
+          (owes_nothing p m left.trail c'.owed (ap (λ (o : OwedObjects). o.all) owed) (ap (λ (o : OwedObjects). o.objects) owed) kept);
+      states = ap (λ (o : OwedObjects). o.states) owed ∙ h.states ∙ ap (λ (q : Checked). length q.states.items) (sym same);
+      groups = groups ∙ ap (λ (r : Report). r.groups) draft.report ∙ sym (same_groups p k m);
+      nodes = nodes ∙ ap (λ (r : Report). r.nodes) draft.report ∙ sym (same_nodes p k m);
+    })
+
+-- What a frame owes.
+pub owing_at : (c : Composition) (k : LastFrame) (m : Map) → IsAt c k (Some m) → IsOwing (functions_of c.program.now) (root_of c.program.now) k.seen k.trail m c.owed
+owing_at c k m h = owing c.program.now k.seen k.trail m c.owed h.owes
+
+-- The report of a frame.
+pub told_at : (c : Composition) (k : LastFrame) (m : Map) (d : DraftGroups) → IsAt c k (Some m) → how_many (forest (functions_of c.program.now) (root_of c.program.now) m) ≤ most_groups →
+    IsFrameDraft (functions_of c.program.now) (root_of c.program.now) c.owed k m d → Some d.report ≡ option_map (λ g. g.told) (frame (functions_of c.program.now) k m)
+told_at c k m d h few draft = told_good c.program.now k m d.report c.owed draft.report few h.owes
+
+-- The reads of a frame.
+pub reads_at : (c : Composition) (k : LastFrame) (m : Map) → IsAt c k (Some m) → reads c.owed.objects k.trail (forest (functions_of c.program.now) (root_of c.program.now) m) ≡ frame_reads c.program.now k m
+reads_at c k m h = owed_reads c.program.now k.seen k.trail m c.owed (forest (functions_of c.program.now) (root_of c.program.now) m) h.owes
+
+-- A frame that owes nothing.
+
+pub all_of : (a b : Bool) → (not a && b) ≡ true → a ≡ false
+all_of true b e = absurd cc
+all_of false b e = refl
+
+empty : (xs : List ℕ) → length xs ≡ 0 → xs ≡ []
+empty [] e = refl
+empty (x ∷ xs) e = absurd (omega (arith, e))
+
+pub none_of : (a : Bool) (xs : List ℕ) → (not a && (length xs == 0)) ≡ true → xs ≡ []
+none_of true xs e = absurd cc
+none_of false xs e = empty xs (eqb-true (length xs) 0 e)
+
+no_reads : (xs : List ℕ) → min (length xs) (2 ^ 64 - 1) ≡ 0 → xs ≡ []
+no_reads [] e = refl
+no_reads (x ∷ xs) e = absurd (omega (arith, e))
+
+-- A frame that owes nothing keeps everything, and reads nothing.
+record IsIdle (p : Checked) (k : LastFrame) (m : Map) : Type 0 where
+  is : frame (functions_of p) k m ≡ Some (record { left = record { seen = Some m; trail = k.trail; next = k.next }; told = unchanged_report k.trail })
+  kept : IsKept p m k.trail
+  reads_none : frame_reads p k m ≡ []
+
+idle_from : (p : Checked) (seen : Option Map) (trail : GroupForest) (next : ℕ) (m : Map) (owed : OwedObjects) → owed.all ≡ false → owed.objects ≡ [] → Owes p seen trail (Some m) owed → IsIdle p (record { seen = seen; trail = trail; next = next }) m
+idle_from p None trail next m owed all none h = absurd (let e : true ≡ false = sym h.1 ∙ all in cc)
+idle_from p (Some seen) trail next m owed all none h =
+    let functions = functions_of p in
+    let root = root_of p in
+    let new = forest functions root m in
+    let k : LastFrame = record { seen = Some seen; trail = trail; next = next } in
+    let same : (x : ℕ) → x < length p.states.items → contains x [] ≡ contains x (differ (Some seen) m) = λ x low. ap (λ l. contains x l) (sym none) ∙ h.2 x low in
+    let still = idle_frame seen m functions root trail next h.3.composed h.3.numbered (same_below (length p.states.items) seen m [] h.1 same (asks trail) (kept_below p seen trail h.3.composed)) in
+    let composed : without_numbers trail ≡ new = ap (λ (q : GroupForest × ℕ). without_numbers q.0) (sym still.0) ∙ kept_trail_is_the_forest trail next functions root m in
+    let few : how_many new ≤ most_groups = subst (λ t. how_many t ≤ most_groups) (sym h.3.composed ∙ composed) h.3.few in
+    let told : report (differ (Some seen) m) trail new ≡ unchanged_report trail = sym (owed_report p (Some seen) trail m owed new h) ∙ ap (λ l. report l trail new) none ∙ still.1 in
+    record {
+      is = good_is p k m few
+          ∙ ap (λ (q : GroupForest × ℕ). Some (good (record { seen = Some m; trail = q.0; next = q.1 }) (report (differ (Some seen) m) trail new))) still.0
+          ∙ ap (λ r. Some (good (record { seen = Some m; trail = trail; next = next }) r)) told;
+      kept = record { composed = composed; few = few; numbered = h.3.numbered };
+      reads_none = no_reads (reads (differ (Some seen) m) trail new) (ap (λ (r : Report). r.reads) told);
+    }
+  where
+    good : LastFrame → Report → FrameResult
+    good left told = record { left = left; told = told }
+
+module _ (c : Composition) (k : LastFrame) (m : Map) (h : IsAt c k (Some m)) (all : c.owed.all ≡ false) (none : c.owed.objects ≡ []) where
+  idle : IsIdle c.program.now k m
+  idle = idle_from c.program.now k.seen k.trail k.next m c.owed all none h.owes
+
+  -- The composition after a frame that owes nothing.
+  pub idle_at : IsAt c (kept_after k (frame (functions_of c.program.now) k m)) (Some m)
+  idle_at = subst (λ (o : Option FrameResult). IsAt c (kept_after k o) (Some m)) (sym idle.is) (record {
+    holds = h.holds;
+    owes = owes_nothing c.program.now m k.trail c.owed all none idle.kept;
+    states = h.states;
+    groups = h.groups;
+    nodes = h.nodes;
+  })
+
+  -- The report of a frame that owes nothing.
+  pub idle_told : (r : Report) → r ≡ record { ran = 0; calculated = 0; reads = 0; groups = c.groups; nodes = c.nodes } → Some r ≡ option_map (λ g. g.told) (frame (functions_of c.program.now) k m)
+  idle_told r is =
+      ap Some (is ∙ ap (λ n. idle_report n c.nodes) h.groups ∙ ap (λ n. idle_report (how_many k.trail) n) h.nodes)
+      ∙ sym (ap (option_map (λ (g : FrameResult). g.told)) idle.is)
+    where
+      idle_report : ℕ → ℕ → Report
+      idle_report groups nodes = record { ran = 0; calculated = 0; reads = 0; groups = groups; nodes = nodes }
+
+  -- A frame that owes nothing reads nothing.
+  pub idle_reads : frame_reads c.program.now k m ≡ []
+  idle_reads = idle.reads_none
+
+  pub idle_asks : (asked asked' : List ℕ) → asked' ≡ asked → asked' ≡ asked ++ frame_reads c.program.now k m
+  idle_asks asked asked' same = same ∙ sym (append-nil asked) ∙ ap (λ l. asked ++ l) (sym idle_reads)
+
+-- A first part of the reads.
+pub part_at : (c : Composition) (k : LastFrame) (m : Map) (asked asked' last : List ℕ) → IsAt c k (Some m) → last ≡ asked' → Grew asked asked' (reads c.owed.objects k.trail (forest (functions_of c.program.now) (root_of c.program.now) m)) → Grew asked last (frame_reads c.program.now k m)
+part_at c k m asked asked' last h same grew = subst (λ l. Grew asked l (frame_reads c.program.now k m)) (sym same) (subst (λ l. Grew asked asked' l) (reads_at c k m h) grew)
+
+-- A first part of the reads, with any result.
+pub grew_in_all : {X E : Type 0} (r : Result X E) (asked asked' last all : List ℕ) → last ≡ asked' → OnOk r (asked' ≡ asked ++ all) → OnErr r (Grew asked asked' all) → Grew asked last all
+grew_in_all (Ok d) asked asked' last all same whole part = record { rest = []; is = append-nil last ∙ same ∙ whole }
+grew_in_all (Err e) asked asked' last all same whole part = subst (λ l. Grew asked l all) (sym same) part
+
+-- A frame that was made of the same program.
+pub made_frame : (p p' : Checked) (k : LastFrame) (at_frame : LastFrame → Option Map → Type 0) (last : Option Map → Type 0) (does : List ℕ → Type 0) (told : Report) → p' ≡ p → MakesFrame p' k at_frame last does told → MakesFrame p k at_frame last does told
+made_frame p p' k at_frame last does told same made = subst (λ (q : Checked). MakesFrame q k at_frame last does told) same made

@@ -1,0 +1,5 @@
+pub mod StateReads
+pub mod Reports
+pub mod Owings
+pub mod Frames
+pub mod Logs

@@ -1,0 +1,77 @@
+use Rattle.std.proofs.Common.{rules, ◌≡◌, ◌∙◌, sym, subst, Err}
+use Rattle.rt_values.specs.Views.{Grew}
+use Rattle.composer.specs.declared.stop.ComposeStop.TheVariants.{TooManyGroups}
+use Rattle.recomposer.specs.Compositions.{frame_reads}
+use Rattle.recomposer.proofs.Frames.{grew_in_all}
+use Rattle.recomposer.proofs.Logs.{always_disposed, ends_of}
+use Rattle.recomposer.proofs.composition.Composition.finish.Goals as goal
+
+pub returns-in_default-clause-world : goal.returns-in_default-clause-world
+returns-in_default-clause-world g c m shows inner w behind =
+    let kept = c.compose_owed-composed.ensures.keeps in
+    let opened = g.met.D.Desk.opened_kept _ _ kept ∙ c.requires in
+    always_disposed g.D.P.Policy.rules (g.D.Desk.behind c.args.desk.now) (g.D.Desk.behind c.compose_owed-composed.new.view) (g.D.Desk.behind c.dispose.new.self) (g.D.Desk.caller c.args.desk.now) (g.D.Desk.caller c.compose_owed-composed.new.view) c.args.begun.name c.dispose.result
+    (λ v. g.met.D.Desk.behind_kept _ _ v kept) (g.met.D.Desk.caller_kept _ _ kept) (c.dispose.ensures.disposed m c.args.begun.name (c.compose_owed-composed.ensures.same m shows) opened inner) (c.dispose.ensures.call c.args.begun.name opened) w behind
+
+pub returns-in_default-clause-lends : goal.returns-in_default-clause-lends
+returns-in_default-clause-lends g c = g.met.D.Desk.lends_on _ _ _ (g.met.D.Desk.lends_kept _ _ c.compose_owed-composed.ensures.keeps) c.dispose.ensures.lends
+
+pub returns-in_default-clause-caller : goal.returns-in_default-clause-caller
+returns-in_default-clause-caller g c = c.dispose.ensures.caller ∙ g.met.D.Desk.caller_kept _ _ c.compose_owed-composed.ensures.keeps
+
+pub returns-in-Ok-composed-clause-world : goal.returns-in-Ok-composed-clause-world
+returns-in-Ok-composed-clause-world g c m shows inner w behind =
+    let kept = c.compose_owed-composed.ensures.keeps in
+    let opened = g.met.D.Desk.opened_kept _ _ kept ∙ c.requires in
+    always_disposed g.D.P.Policy.rules (g.D.Desk.behind c.args.desk.now) (g.D.Desk.behind c.compose_owed-composed.new.view) (g.D.Desk.behind c.dispose.new.self) (g.D.Desk.caller c.args.desk.now) (g.D.Desk.caller c.compose_owed-composed.new.view) c.args.begun.name c.dispose.result
+    (λ v. g.met.D.Desk.behind_kept _ _ v kept) (g.met.D.Desk.caller_kept _ _ kept) (c.dispose.ensures.disposed m c.args.begun.name (c.compose_owed-composed.ensures.same m shows) opened inner) (c.dispose.ensures.call c.args.begun.name opened) w behind
+
+pub returns-in-Ok-composed-clause-lends : goal.returns-in-Ok-composed-clause-lends
+returns-in-Ok-composed-clause-lends g c = g.met.D.Desk.lends_on _ _ _ (g.met.D.Desk.lends_kept _ _ c.compose_owed-composed.ensures.keeps) c.dispose.ensures.lends
+
+pub returns-in-Ok-composed-clause-caller : goal.returns-in-Ok-composed-clause-caller
+returns-in-Ok-composed-clause-caller g c = c.dispose.ensures.caller ∙ g.met.D.Desk.caller_kept _ _ c.compose_owed-composed.ensures.keeps
+
+pub returns-clause-world : goal.returns-clause-world
+returns-clause-world g c m shows inner w behind =
+    let kept = c.compose_owed-composed.ensures.keeps in
+    let opened = g.met.D.Desk.opened_kept _ _ kept ∙ c.requires in
+    always_disposed g.D.P.Policy.rules (g.D.Desk.behind c.args.desk.now) (g.D.Desk.behind c.compose_owed-composed.new.view) (g.D.Desk.behind c.dispose.new.self) (g.D.Desk.caller c.args.desk.now) (g.D.Desk.caller c.compose_owed-composed.new.view) c.args.begun.name c.dispose.result
+    (λ v. g.met.D.Desk.behind_kept _ _ v kept) (g.met.D.Desk.caller_kept _ _ kept) (c.dispose.ensures.disposed m c.args.begun.name (c.compose_owed-composed.ensures.same m shows) opened inner) (c.dispose.ensures.call c.args.begun.name opened) w behind
+
+pub returns-clause-lends : goal.returns-clause-lends
+returns-clause-lends g c = g.met.D.Desk.lends_on _ _ _ (g.met.D.Desk.lends_kept _ _ c.compose_owed-composed.ensures.keeps) c.dispose.ensures.lends
+
+pub returns-clause-caller : goal.returns-clause-caller
+returns-clause-caller g c = c.dispose.ensures.caller ∙ g.met.D.Desk.caller_kept _ _ c.compose_owed-composed.ensures.keeps
+
+pub returns-in_default-clause-part : goal.returns-in_default-clause-part
+returns-in_default-clause-part g c k m h shows =
+    grew_in_all c.compose_owed-composed.result (g.D.View.asked c.args.desk.now) (g.D.View.asked c.compose_owed-composed.new.view) (g.D.View.asked c.dispose.new.self) (frame_reads c.args.self.now.program.now k m)
+    c.dispose.ensures.asks (c.compose_owed-composed.ensures.asks k m h shows) (c.compose_owed-composed.ensures.part k m h shows)
+
+pub returns-clause-part : goal.returns-clause-part
+returns-clause-part g c k m h shows =
+    subst (λ l. Grew (g.D.View.asked c.args.desk.now) l (frame_reads c.args.self.now.program.now k m)) (sym c.dispose.ensures.asks) (c.in-Err.ensures.part k m h shows)
+
+pub returns-clause-many : goal.returns-clause-many
+returns-clause-many g c k m h shows stop =
+    let is : c.compose_owed-composed.result ≡ Err TooManyGroups = search rules in
+    c.compose_owed-composed.ensures.many k m h shows is
+
+pub returns-in-Ok-composed-clause-good : goal.returns-in-Ok-composed-clause-good
+returns-in-Ok-composed-clause-good g c k m h shows = c.keep.ensures.good k m h (c.in-Ok-composed.ensures.made k m h shows)
+
+pub returns-in-Ok-composed-clause-report : goal.returns-in-Ok-composed-clause-report
+returns-in-Ok-composed-clause-report g c k m h shows = c.keep.ensures.report k m h (c.in-Ok-composed.ensures.made k m h shows)
+
+pub returns-in-Ok-composed-clause-asks : goal.returns-in-Ok-composed-clause-asks
+returns-in-Ok-composed-clause-asks g c k m h shows = c.dispose.ensures.asks ∙ c.in-Ok-composed.ensures.asks k m h shows
+
+pub returns-in-Ok-composed-clause-log : goal.returns-in-Ok-composed-clause-log
+returns-in-Ok-composed-clause-log g c k m h shows inner =
+    let kept = c.compose_owed-composed.ensures.keeps in
+    let opened = g.met.D.Desk.opened_kept _ _ kept ∙ c.requires in
+    ends_of (g.D.Desk.log c.args.desk.now) (g.D.Desk.log c.compose_owed-composed.new.view) (g.D.Desk.log c.dispose.new.self) (g.D.View.asked c.args.desk.now) (g.D.View.asked c.compose_owed-composed.new.view) (frame_reads c.args.self.now.program.now k m)
+    (g.D.Desk.caller c.args.desk.now) (g.D.Desk.caller c.compose_owed-composed.new.view) c.args.begun.name (g.D.Desk.opened c.args.desk.now) (g.met.D.Desk.reads_told _ _ kept) c.requires
+    (c.in-Ok-composed.ensures.asks k m h shows) (g.met.D.Desk.caller_kept _ _ kept) (c.in-Ok.ensures.log c.args.begun.name opened)

@@ -1,0 +1,58 @@
+use Rattle.std.proofs.Common.{◌≡◌, ◌++◌, ◌∙◌, refl, ap, sym, subst, Some, None, Err}
+use Rattle.compose_model.specs.Frame.{frame}
+use Rattle.lang_checks.specs.declared.checks.Checked.{Checked}
+use Rattle.composer.specs.FrameDrafts.{functions_of}
+use Rattle.recomposer.specs.declared.composition.Composition.{Composition}
+use Rattle.recomposer.specs.Compositions.{IsAt, frame_reads}
+use Rattle.recomposer.proofs.Frames.{made_frame}
+use Rattle.recomposer.proofs.Logs.{whole_frame, frame_world}
+use Rattle.recomposer.proofs.composition.Composition.frame.Goals as goal
+
+pub returns-in-Ok-finish-clause-good : goal.returns-in-Ok-finish-clause-good
+returns-in-Ok-finish-clause-good g c k types l h last alone =
+    let watcher = c.args.self.now.watcher in
+    let p = c.begin.new.self.program.now in
+    let began = c.in-Ok.ensures.good k types l h last (c.in-Ok-finish.ensures.alone watcher alone) in
+    let reads = frame_reads p k began.map in
+    made_frame c.args.self.now.program.now p k (IsAt c.finish.new.self) _ _ c.in-Ok-finish.report (ap (λ q. q.now) c.in-Ok.ensures.program) (record {
+      map = began.map;
+      is_at = c.in-Ok-finish.ensures.good k began.map began.at_now began.shown;
+      is_last = c.in-Ok-finish.ensures.last watcher types (Some began.map) began.is_last alone;
+      told_is = c.in-Ok-finish.ensures.report k began.map began.at_now began.shown;
+      done = (
+        c.in-Ok-finish.ensures.asks k began.map began.at_now began.shown ∙ ap (λ l. l ++ reads) c.in-Ok.ensures.asks,
+        whole_frame (g.D.Desk.log c.args.desk.now) (g.D.Desk.log c.begin.new.desk) (g.D.Desk.log c.finish.new.desk) (g.D.Desk.caller c.args.desk.now) (g.D.Desk.caller c.begin.new.desk) watcher c.in-Ok.begun.name c.in-Ok.begun.changed reads
+            c.in-Ok.ensures.log c.in-Ok.ensures.caller (c.in-Ok-finish.ensures.log k began.map began.at_now began.shown began.inner),
+      );
+    })
+
+pub returns-in-Ok-finish-clause-world : goal.returns-in-Ok-finish-clause-world
+returns-in-Ok-finish-clause-world g c k types l w h last alone behind =
+    let watcher = c.args.self.now.watcher in
+    let began = c.in-Ok.ensures.good k types l h last (c.in-Ok-finish.ensures.alone watcher alone) in
+    frame_world g.D.P.Policy.rules (g.D.Desk.behind c.args.desk.now) (g.D.Desk.behind c.begin.new.desk) (g.D.Desk.behind c.finish.new.desk) (g.D.Desk.caller c.args.desk.now) (g.D.Desk.caller c.begin.new.desk) watcher c.in-Ok.begun.name c.in-Ok.begun.changed w
+    c.in-Ok.ensures.world c.in-Ok.ensures.caller (c.in-Ok-finish.ensures.world began.map began.shown began.inner) behind
+
+pub returns-in-Err-clause-err : goal.returns-in-Err-clause-err
+returns-in-Err-clause-err g c k types l h last alone =
+    record {
+      map = l;
+      is_at = subst (λ (s : Composition). IsAt s k l) (sym c.in-Err.ensures.err) h;
+      is_last = c.in-Err.ensures.last types l last alone;
+      many = λ e. absurd (c.begin.ensures.few (c.in-Err.is ∙ ap Err e));
+    }
+
+pub returns-in-Err-finish-clause-err : goal.returns-in-Err-finish-clause-err
+returns-in-Err-finish-clause-err g c k types l h last alone =
+    let watcher = c.args.self.now.watcher in
+    let began = c.in-Ok.ensures.good k types l h last (c.in-Err-finish.ensures.alone watcher alone) in
+    record {
+      map = Some began.map;
+      is_at = subst (λ (s : Composition). IsAt s k (Some began.map)) (sym c.in-Err-finish.ensures.err) began.at_now;
+      is_last = c.in-Err-finish.ensures.last watcher types (Some began.map) began.is_last alone;
+      many = λ e. (
+        began.map,
+        refl,
+        subst (λ (p : Checked). frame (functions_of p) k began.map ≡ None) (ap (λ q. q.now) c.in-Ok.ensures.program) (c.finish.ensures.many k began.map began.at_now began.shown (c.in-Err-finish.is ∙ ap Err e)),
+      );
+    }

@@ -1,0 +1,13 @@
+use Rattle.std.proofs.Common.{◌<◌, ◌∙◌, subst, sym}
+use Rattle.recomposer.proofs.Owings.{owes_more}
+use Rattle.recomposer.proofs.composition.Composition.note.Goals as goal
+
+pub returns-clause-noted : goal.returns-clause-noted
+returns-clause-noted c k l m h follows is = record {
+  holds = h.holds;
+  owes = owes_more c.args.self.now.program.now k.seen k.trail l m c.args.self.now.owed c.mark.new.self c.args.changed.now h.owes follows is c.mark.ensures.all
+      (λ x low. c.mark.ensures.marked x (subst (λ n. x < n) (sym h.states) low));
+  states = c.mark.ensures.states ∙ h.states;
+  groups = h.groups;
+  nodes = h.nodes;
+}

@@ -1,0 +1,129 @@
+-- Trusted: when a composition has kept the state of the last good frame, and what a frame adds to the log of a world.
+use Rattle.std.specs.Prelude.{◌≡◌, ℕ, ◌<◌, ◌≤◌, List, [], ◌∷◌, ◌++◌, length, map, true, false, Option, Some, None, Result, Ok, Err}
+use Rattle.std.specs.Option.{option_map}
+use Rattle.rt_values.specs.Maps.{Map, differ, contains}
+use Rattle.rt_groups.specs.declared.report.Report.{Report}
+use Rattle.rt_groups.specs.GroupForest.{GroupForest, End, how_many, how_many_nodes}
+use Rattle.rt_groups.specs.Frames.{LastFrame, most_groups, reads}
+use Rattle.compose_model.specs.Composing.{forest}
+use Rattle.compose_model.specs.Frame.{FrameResult, frame}
+use Rattle.lang_checks.specs.declared.checks.Checked.{Checked}
+use Rattle.recompose_laws.specs.Numbering.{without_numbers}
+use Rattle.recompose_laws.specs.Idle.{IsNumbered}
+use Rattle.snap_policy.specs.Rules.{Rules}
+use Rattle.snap_api.specs.Desks.{Follows}
+use Rattle.snap_api.specs.DeskReads.{call_of, reads_of}
+use Rattle.snap_api.specs.World.{World, call, clock_limit}
+use Rattle.snap_api.specs.declared.data.Entry.{Entry}
+use Rattle.snap_api.specs.declared.data.Refusal.TheVariants as refusal
+use Rattle.snap_api.specs.declared.data.Reply.{Reply}
+use Rattle.snap_api.specs.declared.data.Reply.TheVariants as reply
+use Rattle.snap_api.specs.declared.data.Request.TheVariants.{TakeFor, Dispose}
+use Rattle.composer.specs.OwedObjects.{OwedObjects}
+use Rattle.composer.specs.FrameDrafts.{Holds, functions_of, root_of}
+use Rattle.recomposer.specs.declared.composition.Composition.{Composition}
+use Rattle.recomposer.specs.declared.composition.FrameStop.{FrameStop}
+use Rattle.recomposer.specs.declared.composition.FrameStop.TheVariants.{TooManyGroups, Spent, NoMemory}
+
+-- The kept forest is that of composing in the map `seen`, it has few enough groups, and only nodes have numbers.
+pub record IsKept (p : Checked) (seen : Map) (trail : GroupForest) : Type 0 where
+  pub composed : without_numbers trail ≡ forest (functions_of p) (root_of p) seen
+  pub few : how_many (forest (functions_of p) (root_of p) seen) ≤ most_groups
+  pub numbered : IsNumbered trail
+
+-- Before the first good frame no group is kept and everything is owed. After it the forest of its map is kept, and of the
+-- program's states those are owed whose stamps differ between that map and the watcher's last map `last`, which is later.
+abbrev pub Owes : Checked → Option Map → GroupForest → Option Map → OwedObjects → Type 0
+Owes p None trail last owed = (trail ≡ End) × (owed.all ≡ true)
+Owes p (Some seen) trail None owed = ⊥
+Owes p (Some seen) trail (Some last) owed =
+    (owed.all ≡ false) × Follows seen last
+    × ((x : ℕ) → x < length p.states.items → contains x owed.objects ≡ contains x (differ (Some seen) last))
+    × IsKept p seen trail
+
+-- The composition has kept the state `k` of the last good frame: its groups, the next node number, and what is owed. `last`
+-- is the watcher's last map.
+pub record IsAt (c : Composition) (k : LastFrame) (last : Option Map) : Type 0 where
+  pub holds : Holds c.held k
+  pub owes : Owes c.program.now k.seen k.trail last c.owed
+  pub states : c.owed.states ≡ length c.program.now.states.items
+  pub groups : c.groups ≡ how_many k.trail
+  pub nodes : c.nodes ≡ how_many_nodes k.trail
+
+-- What is kept after a frame. A refused frame changes nothing.
+abbrev pub kept_after : LastFrame → Option FrameResult → LastFrame
+kept_after k None = k
+kept_after k (Some good) = good.left
+
+-- No frame begins if the clock `k` is at its limit, and the clock is at its limit if the frame stops as `Spent`.
+abbrev pub StopsAtEnd : (ℕ → Type 0) → ℕ → {U : Type 0} → Result U FrameStop → Type 0
+StopsAtEnd clock k (Ok u) = k ≡ clock_limit → ⊥
+StopsAtEnd clock k (Err Spent) = clock clock_limit
+StopsAtEnd clock k (Err NoMemory) = Unit {0}
+StopsAtEnd clock k (Err TooManyGroups) = ⊥
+
+-- The reply of the take of a frame that did not begin.
+abbrev pub refused_take : FrameStop → Reply
+refused_take Spent = reply.Refused refusal.Spent
+refused_take NoMemory = reply.Refused refusal.NoMemory
+refused_take TooManyGroups = reply.Refused refusal.NoMemory
+
+-- The reads of a frame: those of the calls that run.
+abbrev pub frame_reads : Checked → LastFrame → Map → List ℕ
+frame_reads p k m = reads (differ k.seen m) k.trail (forest (functions_of p) (root_of p) m)
+
+-- A frame begins well: a map is shown, which is the watcher's last map from now on, and `changed` lists what changed since
+-- the watcher's last map before.
+pub record BeginsFrame (at_map : Option Map → Type 0) (shows : Map → Type 0) (last : Option Map → Type 0) (l : Option Map)
+    (name : ℕ) (changed : List ℕ) : Type 0 where
+  pub map : Map
+  pub at_now : at_map (Some map)
+  pub shown : shows map
+  pub is_last : last (Some map)
+  pub changed_is : changed ≡ differ l map
+  pub inner : 0 < name
+
+-- A log grew by reads of these objects and the dispose.
+pub record Ended (old : List Entry) (new : Option (List Entry)) (caller name : ℕ) (xs : List ℕ) : Type 0 where
+  pub more : List Entry
+  pub log_is : new ≡ Some (old ++ more ++ record { caller = caller; request = Dispose name; reply = reply.Disposed } ∷ [])
+  pub reads : map call_of more ≡ reads_of caller name xs
+
+abbrev pub EndsFrame : Option (List Entry) → Option (List Entry) → ℕ → ℕ → List ℕ → Type 0
+EndsFrame None new caller name xs = new ≡ None
+EndsFrame (Some old) new caller name xs = Ended old new caller name xs
+
+-- A log grew by a whole frame: the take for a watcher, the reads of these objects, and the dispose.
+pub record WholeFrame (old : List Entry) (new : Option (List Entry)) (caller watcher : ℕ) (xs : List ℕ) : Type 0 where
+  pub name : ℕ
+  pub changed : List ℕ
+  pub rest : Ended (old ++ record { caller = caller; request = TakeFor watcher; reply = reply.TakenFor name changed } ∷ [])
+      new caller name xs
+
+abbrev pub LogsFrame : Option (List Entry) → Option (List Entry) → ℕ → ℕ → List ℕ → Type 0
+LogsFrame None new caller watcher xs = new ≡ None
+LogsFrame (Some old) new caller watcher xs = WholeFrame old new caller watcher xs
+
+-- A frame was made in the map `map` after the kept state `k`: `at_frame` and `last` say what is kept and which map is the
+-- watcher's last one, `told` is the report, and `does` says what the frame's reads did.
+pub record MakesFrame (p : Checked) (k : LastFrame) (at_frame : LastFrame → Option Map → Type 0) (last : Option Map → Type 0)
+    (does : List ℕ → Type 0) (told : Report) : Type 0 where
+  pub map : Map
+  pub is_at : at_frame (kept_after k (frame (functions_of p) k map)) (Some map)
+  pub is_last : last (Some map)
+  pub told_is : Some told ≡ option_map (λ g. g.told) (frame (functions_of p) k map)
+  pub done : does (frame_reads p k map)
+
+-- A frame was not made: the kept state stays, and what changed up to the watcher's last map is owed. If there are too many
+-- groups, the frame of that map has no result.
+pub record MakesNoFrame (p : Checked) (k : LastFrame) (at_map : Option Map → Type 0) (last : Option Map → Type 0)
+    (stop : FrameStop) : Type 0 where
+  pub map : Option Map
+  pub is_at : at_map map
+  pub is_last : last map
+  pub many : stop ≡ TooManyGroups → (m : Map) × (map ≡ Some m) × (frame (functions_of p) k m ≡ None)
+
+-- The world after a frame: after its take and its dispose. The reads change no world.
+abbrev pub world_of_frame : {P : Type 0} → Rules P → World P → ℕ → ℕ → World P
+world_of_frame rules w caller watcher =
+    (call rules (call rules w caller (TakeFor watcher)).0 caller (Dispose (length w.snapshots))).0

@@ -1,0 +1,330 @@
+// A composition of one program, frame by frame.
+ghost use Rattle.std.specs.Prelude.{◌≡◌, ◌<◌, ◌++◌, ℕ, List, Option, Some, None, Err, IfOk, IfErr, OnOk, OnErr};
+ghost use Rattle.std.specs.Option.{option_map};
+ghost use Rattle.rt_values.specs.Maps.{Map, differ};
+ghost use Rattle.rt_values.specs.Views.{Grew};
+ghost use Rattle.rt_values.specs.declared.value.Ty.{Ty};
+ghost use Rattle.rt_groups.specs.Frames.{LastFrame, no_last_frame};
+ghost use Rattle.rt_groups.specs.PreorderGroups.{preorder};
+ghost use Rattle.compose_model.specs.Frame.{frame as frame_of};
+ghost use Rattle.composer.specs.FrameDrafts.{functions_of};
+ghost use Rattle.snap_api.specs.Calls.{Calls, Logs};
+ghost use Rattle.snap_api.specs.Desks.{FollowsLast};
+ghost use Rattle.snap_api.specs.World.{World};
+ghost use Rattle.recomposer.specs.Composed.{IsComposed};
+ghost use Rattle.recomposer.specs.Compositions.{IsAt, StopsAtEnd, refused_take, kept_after, frame_reads, BeginsFrame, EndsFrame, MakesFrame, MakesNoFrame, LogsFrame, world_of_frame};
+
+use composer::{ComposeStop, Draft, Held, Owed, compose};
+use lang_checks::Checked;
+use rt_groups::Report;
+use rt_values::{Name, NoMemory, ObjectNo, Objects, Steps, View, WatcherNo};
+use slot_table::Table;
+use snap_api::{Desk, Refusal, Reply, Request};
+use std::alloc::Global;
+use std::sync::ledger::Ledger;
+
+/// A frame that has begun: the number of its snapshot, and the objects that changed since the last frame of its watcher,
+/// in ascending order.
+#[derive(Drop)]
+pub struct Begun {
+    pub name: Name,
+    pub changed: Objects,
+}
+
+/// Why a frame did not happen.
+#[derive(Clone, Copy, Debug, PartialEq, Eq)]
+pub enum FrameStop {
+    /// The composition would have more than 1,000,000 groups.
+    TooManyGroups,
+    /// The world's clock is at its limit.
+    Spent,
+    /// Out of memory.
+    NoMemory,
+}
+
+// Returns why the frame of this composition did not happen.
+fn frame_stop(stop: ComposeStop) -> FrameStop
+    ensures { result ≡ FrameStop.TooManyGroups → stop ≡ ComposeStop.TooManyGroups }
+{
+    match stop {
+        ComposeStop::TooManyGroups => FrameStop::TooManyGroups,
+        ComposeStop::NoMemory => FrameStop::NoMemory,
+    }
+}
+
+/// A composition of one program (`CompositionImpl` with what `Recomposer` knows of it): the groups of the last good frame,
+/// and what is owed since then. It takes its snapshots as a watcher.
+#[derive(Drop)]
+pub struct Composition<'p> {
+    program: &'p Checked,
+    watcher: WatcherNo,
+    held: Held,
+    owed: Owed,
+    // The numbers of groups and of nodes of the last good frame.
+    groups: u64,
+    nodes: u64,
+}
+
+impl<'p> Composition<'p> {
+    /// Returns a composition before its first frame.
+    pub fn new(alloc: Global, program: &'p Checked, watcher: WatcherNo) -> Result<Self, NoMemory>
+        ensures before { (l : Option Map) → IfOk result (λ c. IsAt c no_last_frame l) }
+        ensures program { IfOk result (λ c. c.program.now ≡ program.now) }
+        ensures watcher { IfOk result (λ c. c.watcher ≡ watcher) }
+    {
+        let owed = Owed::new(alloc, program.states().len())?;
+        Ok(Composition {
+            program,
+            watcher,
+            held: Held::new(alloc),
+            owed,
+            groups: 0,
+            nodes: 0,
+        })
+    }
+
+    /// Returns the groups of the last good frame.
+    pub fn table(&self) -> &Table
+        ensures { (k : LastFrame) (l : Option Map) → IsAt self.now k l → result.now.groups ≡ preorder 0 k.trail }
+    {
+        self.held.table()
+    }
+
+    /// Returns the number of the next new node.
+    pub fn next(&self) -> u64
+        ensures { (k : LastFrame) (l : Option Map) → IsAt self.now k l → result ≡ k.next }
+    {
+        self.held.next()
+    }
+
+    /// Marks the states that changed since the watcher's last map as owed (`recordModificationsOf`). For callers that
+    /// take and dispose the snapshot themselves: `changed` has the objects that the take for the watcher listed.
+    pub fn note(&mut self, changed: &[ObjectNo])
+        ensures noted { (k : LastFrame) (l : Option Map) (m : Map) → IsAt self.old k l → FollowsLast l m →
+            changed.now ≡ differ l m → IsAt self.new k (Some m) }
+        ensures program { self.new.program ≡ self.old.program }
+        ensures watcher { self.new.watcher ≡ self.old.watcher }
+    {
+        self.owed.mark(changed);
+    }
+
+    /// Begins a frame: takes its snapshot, and marks the states that changed since the last frame as owed. Fails with
+    /// `Spent` exactly if the world's clock is at its limit, or out of memory, and then changes nothing.
+    pub fn begin<D: Desk>(&mut self, alloc: Global, desk: &mut D) -> Result<Begun, FrameStop>
+        ensures good { (k : LastFrame) (types : List Ty) (l : Option Map) → IsAt self.old k l →
+            D.last desk.old self.old.watcher types l → D.alone desk.new self.old.watcher →
+            IfOk result (λ b. BeginsFrame (IsAt self.new k) (D.shows desk.new)
+            (D.last desk.new self.old.watcher types) l b.name b.changed) }
+        ensures err { OnErr result (self.new ≡ self.old) }
+        ensures last { (types : List Ty) (l : Option Map) → D.last desk.old self.old.watcher types l →
+            D.alone desk.new self.old.watcher → OnErr result (D.last desk.new self.old.watcher types l) }
+        ensures spent { (k : ℕ) → D.clock desk.old k → StopsAtEnd (D.clock desk.new) k result }
+        ensures refused { (types : List Ty) (l : Option Map) → D.last desk.old self.old.watcher types l →
+            D.alone desk.new self.old.watcher →
+            IfErr result (λ stop. Calls D.P.rules (D.behind desk.old) (D.behind desk.new) (D.caller desk.old)
+            (Request.TakeFor self.old.watcher) (refused_take stop)
+            × Logs (D.log desk.old) (D.log desk.new) (D.caller desk.old)
+            (Request.TakeFor self.old.watcher) (refused_take stop)) }
+        ensures few { result ≡ Err FrameStop.TooManyGroups → ⊥ }
+        ensures program { self.new.program ≡ self.old.program }
+        ensures watcher { self.new.watcher ≡ self.old.watcher }
+        ensures name { IfOk result (λ b. D.opened desk.new ≡ Some b.name) }
+        ensures world { IfOk result (λ b. Calls D.P.rules (D.behind desk.old) (D.behind desk.new) (D.caller desk.old)
+            (Request.TakeFor self.old.watcher) (Reply.TakenFor b.name b.changed)) }
+        ensures log { IfOk result (λ b. Logs (D.log desk.old) (D.log desk.new) (D.caller desk.old)
+            (Request.TakeFor self.old.watcher) (Reply.TakenFor b.name b.changed)) }
+        ensures alone { (n : ℕ) → D.alone desk.new n → D.alone desk.old n }
+        ensures lends { D.lends desk.old desk.new }
+        ensures caller { D.caller desk.new ≡ D.caller desk.old }
+        ensures asks { D.asked desk.new ≡ D.asked desk.old }
+    {
+        match desk.take_for(alloc, self.watcher) {
+            Ok((name, changed)) => {
+                self.note(changed.numbers());
+                Ok(Begun { name, changed })
+            }
+            Err(Refusal::Spent) => Err(FrameStop::Spent),
+            Err(_) => Err(FrameStop::NoMemory),
+        }
+    }
+
+    // Returns the report of a frame that owes nothing: it keeps all groups and runs nothing.
+    fn idle_report(&self) -> Report
+        ensures { result ≡ record { ran = 0; calculated = 0; reads = 0; groups = self.now.groups; nodes = self.now.nodes } }
+    {
+        Report {
+            ran: 0,
+            calculated: 0,
+            reads: 0,
+            groups: self.groups,
+            nodes: self.nodes,
+        }
+    }
+
+    // Composes what the frame owes: nothing if nothing is owed. What is kept stays as it is.
+    fn compose_owed<V: View, L: Ledger>(
+        &self,
+        alloc: Global,
+        view: &mut V,
+        steps: &mut Steps<L>,
+    ) -> Result<Option<Draft>, ComposeStop>
+        ensures keeps { V.keeps view.old view.new }
+        ensures same { (m : Map) → V.shows view.old m → V.shows view.new m }
+        ensures made { (k : LastFrame) (m : Map) → IsAt self.now k (Some m) → V.shows view.old m →
+            IfOk result (IsComposed self.now k m) }
+        ensures many { (k : LastFrame) (m : Map) → IsAt self.now k (Some m) → V.shows view.old m →
+            result ≡ Err ComposeStop.TooManyGroups → frame_of (functions_of self.now.program.now) k m ≡ None }
+        ensures asks { (k : LastFrame) (m : Map) → IsAt self.now k (Some m) → V.shows view.old m →
+            OnOk result (V.asked view.new ≡ V.asked view.old ++ frame_reads self.now.program.now k m) }
+        ensures part { (k : LastFrame) (m : Map) → IsAt self.now k (Some m) → V.shows view.old m →
+            OnErr result (Grew (V.asked view.old) (V.asked view.new) (frame_reads self.now.program.now k m)) }
+    {
+        if self.owed.is_nothing() {
+            return Ok(None);
+        }
+        match compose(alloc, self.program, &self.held, &self.owed, view, steps) {
+            Ok(draft) => Ok(Some(draft)),
+            Err(stop) => Err(stop),
+        }
+    }
+
+    // Keeps the groups of a good frame, and returns its report. Without a draft the frame owed nothing, and all groups stay.
+    // Nothing is owed then.
+    fn keep(&mut self, composed: Option<Draft>) -> Report
+        ensures program { self.new.program ≡ self.old.program }
+        ensures watcher { self.new.watcher ≡ self.old.watcher }
+        ensures good { (k : LastFrame) (m : Map) → IsAt self.old k (Some m) → IsComposed self.old k m composed →
+            IsAt self.new (kept_after k (frame_of (functions_of self.old.program.now) k m)) (Some m) }
+        ensures report { (k : LastFrame) (m : Map) → IsAt self.old k (Some m) → IsComposed self.old k m composed →
+            Some result ≡ option_map (λ g. g.told) (frame_of (functions_of self.old.program.now) k m) }
+    {
+        let Some(draft) = composed else {
+            return self.idle_report();
+        };
+        let report = draft.report();
+        self.held.apply(draft);
+        self.groups = report.groups;
+        self.nodes = report.nodes;
+        self.owed.clear();
+        report
+    }
+
+    /// Composes what the frame owes in the open snapshot that the view shows, and keeps the new groups (`recompose`,
+    /// `applyChanges`). For callers that take and dispose the snapshot themselves. A frame that owes nothing composes
+    /// nothing.
+    ///
+    /// Fails with `TooManyGroups` exactly if the program makes more than 1,000,000 groups in the snapshot, or out of
+    /// memory. The composition is then unchanged, and what is owed stays owed.
+    pub fn recompose<V: View, L: Ledger>(
+        &mut self,
+        alloc: Global,
+        view: &mut V,
+        steps: &mut Steps<L>,
+    ) -> Result<Report, FrameStop>
+        ensures keeps { V.keeps view.old view.new }
+        ensures same { (m : Map) → V.shows view.old m → V.shows view.new m }
+        ensures good { (k : LastFrame) (m : Map) → IsAt self.old k (Some m) → V.shows view.old m →
+            OnOk result (IsAt self.new (kept_after k (frame_of (functions_of self.old.program.now) k m)) (Some m)) }
+        ensures report { (k : LastFrame) (m : Map) → IsAt self.old k (Some m) → V.shows view.old m →
+            IfOk result (λ r. Some r ≡ option_map (λ g. g.told) (frame_of (functions_of self.old.program.now) k m)) }
+        ensures many { (k : LastFrame) (m : Map) → IsAt self.old k (Some m) → V.shows view.old m →
+            result ≡ Err FrameStop.TooManyGroups → frame_of (functions_of self.old.program.now) k m ≡ None }
+        ensures err { OnErr result (self.new ≡ self.old) }
+        ensures program { self.new.program ≡ self.old.program }
+        ensures watcher { self.new.watcher ≡ self.old.watcher }
+        ensures asks { (k : LastFrame) (m : Map) → IsAt self.old k (Some m) → V.shows view.old m →
+            OnOk result (V.asked view.new ≡ V.asked view.old ++ frame_reads self.old.program.now k m) }
+        ensures part { (k : LastFrame) (m : Map) → IsAt self.old k (Some m) → V.shows view.old m →
+            OnErr result (Grew (V.asked view.old) (V.asked view.new) (frame_reads self.old.program.now k m)) }
+    {
+        match self.compose_owed(alloc, view, steps) {
+            Ok(draft) => Ok(self.keep(draft)),
+            Err(stop) => Err(frame_stop(stop)),
+        }
+    }
+
+    /// Ends a frame that has begun: composes the program in the frame's snapshot, keeps the new groups, and disposes the
+    /// snapshot (`recompose`, `applyChanges`). A frame that owes nothing composes nothing. The snapshot is disposed after
+    /// a failure too.
+    ///
+    /// Fails with `TooManyGroups` exactly if the program makes more than 1,000,000 groups in the snapshot, or out of
+    /// memory. The composition is then unchanged, and what is owed stays owed.
+    pub fn finish<D: Desk, L: Ledger>(
+        &mut self,
+        alloc: Global,
+        begun: Begun,
+        desk: &mut D,
+        steps: &mut Steps<L>,
+    ) -> Result<Report, FrameStop>
+        requires { D.opened desk.old ≡ Some begun.name }
+        ensures good { (k : LastFrame) (m : Map) → IsAt self.old k (Some m) → D.shows desk.old m →
+            OnOk result (IsAt self.new (kept_after k (frame_of (functions_of self.old.program.now) k m)) (Some m)) }
+        ensures report { (k : LastFrame) (m : Map) → IsAt self.old k (Some m) → D.shows desk.old m →
+            IfOk result (λ r. Some r ≡ option_map (λ g. g.told) (frame_of (functions_of self.old.program.now) k m)) }
+        ensures many { (k : LastFrame) (m : Map) → IsAt self.old k (Some m) → D.shows desk.old m →
+            result ≡ Err FrameStop.TooManyGroups → frame_of (functions_of self.old.program.now) k m ≡ None }
+        ensures err { OnErr result (self.new ≡ self.old) }
+        ensures program { self.new.program ≡ self.old.program }
+        ensures watcher { self.new.watcher ≡ self.old.watcher }
+        ensures asks { (k : LastFrame) (m : Map) → IsAt self.old k (Some m) → D.shows desk.old m →
+            OnOk result (D.asked desk.new ≡ D.asked desk.old ++ frame_reads self.old.program.now k m) }
+        ensures part { (k : LastFrame) (m : Map) → IsAt self.old k (Some m) → D.shows desk.old m →
+            OnErr result (Grew (D.asked desk.old) (D.asked desk.new) (frame_reads self.old.program.now k m)) }
+        ensures world { (m : Map) → D.shows desk.old m → 0 < begun.name →
+            Calls D.P.rules (D.behind desk.old) (D.behind desk.new) (D.caller desk.old)
+            (Request.Dispose begun.name) Reply.Disposed }
+        ensures log { (k : LastFrame) (m : Map) → IsAt self.old k (Some m) → D.shows desk.old m → 0 < begun.name →
+            OnOk result (EndsFrame (D.log desk.old) (D.log desk.new) (D.caller desk.old) begun.name
+            (frame_reads self.old.program.now k m)) }
+        ensures last { (n : ℕ) (types : List Ty) (l : Option Map) → D.last desk.old n types l → D.alone desk.new n →
+            D.last desk.new n types l }
+        ensures alone { (n : ℕ) → D.alone desk.new n → D.alone desk.old n }
+        ensures lends { D.lends desk.old desk.new }
+        ensures caller { D.caller desk.new ≡ D.caller desk.old }
+    {
+        let composed = self.compose_owed(alloc, desk, steps);
+        let Ok(()) = desk.dispose() else {
+            return Err(FrameStop::NoMemory); // The shown snapshot is always disposed.
+        };
+        match composed {
+            Ok(draft) => Ok(self.keep(draft)),
+            Err(stop) => Err(frame_stop(stop)),
+        }
+    }
+
+    /// Makes a frame: begins it and ends it (`recompose`).
+    ///
+    /// Fails like `begin` and `finish`. What is kept stays then, and what is owed stays owed.
+    pub fn frame<D: Desk, L: Ledger>(
+        &mut self,
+        alloc: Global,
+        desk: &mut D,
+        steps: &mut Steps<L>,
+    ) -> Result<Report, FrameStop>
+        ensures good { (k : LastFrame) (types : List Ty) (l : Option Map) → IsAt self.old k l →
+            D.last desk.old self.old.watcher types l → D.alone desk.new self.old.watcher →
+            IfOk result (MakesFrame self.old.program.now k (IsAt self.new) (D.last desk.new self.old.watcher types)
+            (λ xs. (D.asked desk.new ≡ D.asked desk.old ++ xs)
+            × LogsFrame (D.log desk.old) (D.log desk.new) (D.caller desk.old) self.old.watcher xs)) }
+        ensures err { (k : LastFrame) (types : List Ty) (l : Option Map) → IsAt self.old k l →
+            D.last desk.old self.old.watcher types l → D.alone desk.new self.old.watcher →
+            IfErr result (MakesNoFrame self.old.program.now k (IsAt self.new k) (D.last desk.new self.old.watcher types)) }
+        ensures world { (k : LastFrame) (types : List Ty) (l : Option Map) (w : World D.P) → IsAt self.old k l →
+            D.last desk.old self.old.watcher types l → D.alone desk.new self.old.watcher → D.behind desk.old w →
+            OnOk result (D.behind desk.new (world_of_frame D.P.rules w (D.caller desk.old) self.old.watcher)) }
+        ensures program { self.new.program ≡ self.old.program }
+        ensures watcher { self.new.watcher ≡ self.old.watcher }
+        ensures alone { (n : ℕ) → D.alone desk.new n → D.alone desk.old n }
+        ensures lends { D.lends desk.old desk.new }
+        ensures caller { D.caller desk.new ≡ D.caller desk.old }
+    {
+        let begun = match self.begin(alloc, desk) {
+            Ok(begun) => begun,
+            Err(stop) => return Err(stop),
+        };
+        match self.finish(alloc, begun, desk, steps) {
+            Ok(report) => Ok(report),
+            Err(stop) => Err(stop),
+        }
+    }
+}
