@@ -1,7 +1,4 @@
-pub mod Members
 pub mod Written
-pub mod Owings
-pub mod Reports
 pub mod Frames
 pub mod CallLines
 pub mod OpenFrames

@@ -1,5 +1,6 @@
 -- The world and the composition before the first step.
-use Rattle.std.proofs.Common.{◌≡◌, ℕ, List, [], ◌∷◌, ◌++◌, Bool, true, false, None, ◌&&◌, arith, refl, sym, ◌∙◌, subst, length, map, nat_lt}
+use Rattle.std.proofs.Common.{◌≡◌, ℕ, List, [], ◌∷◌, ◌++◌, Bool, true, false, Option, None, ◌&&◌, arith, refl, sym, ap, ◌∙◌, subst, length, map, nat_lt, slice_index_or}
+use Rattle.rt_values.specs.Maps.{Map}
 use Rattle.std.proofs.lemmas.List.{length-map}
 use Rattle.rt_groups.specs.Frames.{no_last_frame}
 use Rattle.rt_values.specs.Values.{type_of, same_type}
@@ -17,12 +18,13 @@ use Rattle.lang_checks.specs.ProgramFaults.{program_faults, states_faults, is_we
 use Rattle.snap_policy.specs.declared.policy.BuiltIn.{BuiltIn}
 use Rattle.snap_policy.specs.Table.{table, table_fits}
 use Rattle.snap_api.specs.Valid.{IsValid}
-use Rattle.snap_api.specs.World.{World, start, world_after_make, make_refusal, with_object}
+use Rattle.snap_api.specs.World.{World, start, last_of, world_after_make, make_refusal, with_object}
 use Rattle.snap_api.proofs.ValidMade.{valid_start, valid_made, makeable}
 use Rattle.snap_api.proofs.ValidMoves.{valid_watched}
 use Rattle.script_lang.specs.NamesInMemory.{Holds}
-use Rattle.script_lang.specs.StepCalls.{with_states, opening_world}
-use Rattle.recompose_scratch.specs.Keeping.{Keeps}
+use Rattle.script_lang.specs.StepCalls.{with_states, opening_world, watcher_number}
+use Rattle.composer.specs.FrameDrafts.{functions_of}
+use Rattle.recomposer.specs.Compositions.{IsAt}
 use Rattle.play_run.specs.Opening.{StatesFit}
 use Rattle.play_run.specs.RunOutput.{first_run}
 use Rattle.play_run.specs.RunState.{IsRun}
@@ -59,18 +61,19 @@ clock-states w [] = refl
 clock-states w (s ∷ more) = clock-states (world_after_make w (type_of s.initial) s.policy s.initial) more
 
 pub opened : {functions : List Func} {V : Type 0} {stands : V → World BuiltIn → Type 0} {world : V} {memory : RunMemory} (actor : ℕ) (states : List State) → StatesFit states →
-    stands world (opening_world states) → Keeps memory.kept.composition no_last_frame → Holds memory.names [] →
+    stands world (opening_world states) → IsAt memory.composition no_last_frame None → functions_of memory.composition.program.now ≡ functions → Holds memory.names [] →
     IsRun functions stands world memory actor None (first_run states)
-opened actor states fit stood keeps holds =
+opened {memory = memory} actor states fit stood at same holds =
     let counted = count-states (start 0) states in
+    let last : last_of (opening_world states) watcher_number ≡ None = ap (λ (ls : List (Option Map)). slice_index_or (ls ++ None ∷ []) watcher_number None) (lasts-states (start 0) states) in
     record {
       facts = record {
         world_stands = stood;
         valid = valid_watched (valid-states (start 0) states fit (valid_start table 0 (omega arith)));
         few = omega (arith, counted);
         known = λ name n found. absurd cc;
-        keeps = keeps;
-        owes = refl;
+        is_at = subst (λ o. IsAt memory.composition no_last_frame o) (sym last) at;
+        same_program = same;
         noted = refl;
         at_frame = refl;
       };

@@ -23,11 +23,11 @@ use Rattle.snap_api.specs.declared.data.Snapshot.{Snapshot}
 use Rattle.script_lang.specs.SnapshotNames.{NamedNumber, latest, snapshot_number, never_taken}
 use Rattle.script_lang.specs.StepCalls.{Part, Take, Read, Write, WriteSum, Apply, Dispose, BeginFrame, EndFrame, ActorPart, of_actor, Notes, request_of, sum_request, notes_after, number_taken, entry, watcher_number}
 use Rattle.script_lang.specs.Lines.{Titles, entry_line, ends_frame, frame_taken}
-use Rattle.play_run.specs.OwedObjects.{Owes}
+use Rattle.recomposer.specs.Compositions.{IsAt}
 use Rattle.play_run.specs.RunOutput.{Run, request_lines, run_after_request, part_lines, part_after, parts_lines, parts_after}
 use Rattle.play_run.specs.RunState.{IsAtFrame, RunFacts, IsRun, IsPlain, KeepsNames, RunsAt, flat}
 use Rattle.play_run.specs.RunPromise.{WritesBytes}
-use Rattle.play_run.specs.declared.memory.Kept.{Kept}
+use Rattle.recomposer.specs.declared.composition.Composition.{Composition}
 use Rattle.play_run.specs.declared.memory.RunMemory.{RunMemory}
 use Rattle.play_run.specs.declared.write_lines.Stop.{Stop}
 use Rattle.script_lang.specs.NamesInMemory.{Holds, number_in}
@@ -182,7 +182,7 @@ module _ (t : Titles) (functions : List Func) (r : Run) (actor : ℕ) (p : Part)
   pub plain_notes : request_of r.notes p ≡ Some q → (part_after functions r (of_actor actor p)).notes ≡ notes_after r.notes p answer
   plain_notes is = ap (λ o. (run_after_request functions r (of_actor actor p) o).notes) is
 
-  module _ {V : Type 0} {stands : V → World BuiltIn → Type 0} {world : V} {kept : Kept} (plain : IsPlain p) (is : request_of r.notes p ≡ Some q) where
+  module _ {V : Type 0} {stands : V → World BuiltIn → Type 0} {world : V} {kept : Composition} (plain : IsPlain p) (is : request_of r.notes p ≡ Some q) where
     -- What does not depend on the frame.
     facts_with : {world' : V} (frame : Option ℕ) → RunFacts functions stands world kept actor frame r → stands world' after_call → IsAtFrame actor frame quiet → RunFacts functions stands world' kept actor frame quiet
     facts_with frame h stood at =
@@ -195,8 +195,8 @@ module _ (t : Titles) (functions : List Func) (r : Run) (actor : ℕ) (p : Part)
           known = names_after (λ k. (k < length after_call.snapshots) ⊎ (k ≡ never_taken)) r.notes p answer plain
               (λ other k found. elim (h.known other k found) [ inl lt ↦ inl (omega (arith, lt, more)) | inr never ↦ inr never ])
               (elim (taken r.standing.world actor q pl) [ inl new ↦ inl (omega (arith, new.0, new.1)) | inr never ↦ inr never ]);
-          keeps = h.keeps;
-          owes = subst (λ o. Owes functions r.standing.kept.seen r.standing.kept.trail o kept.owed) (sym (same_last r.standing.world actor q watcher_number pl)) h.owes;
+          is_at = subst (λ o. IsAt kept r.standing.kept o) (sym (same_last r.standing.world actor q watcher_number pl)) h.is_at;
+          same_program = h.same_program;
           noted = same_frame r.notes p answer plain ∙ h.noted;
           at_frame = at;
         }
@@ -256,12 +256,12 @@ module _ (t : Titles) (functions : List Func) where
 pub ran_single : {T : Type 0} {V : Type 0} {stands : V → World BuiltIn → Type 0} {world world' : V} {memory memory' : RunMemory} (t : Titles) (functions : List Func) (actor : ℕ) (frame : Option ℕ) (r : Run) (p : Part) (q : Request) (written written' : Option (List ℕ)) (result : Result T Stop) →
     KeepsNames p → IsRun functions stands world memory actor frame r → request_of r.notes p ≡ Some q →
     WritesBytes written written' (entry_line t (entry r.standing.world actor q)) result →
-    OnOk result (stands world' (call table r.standing.world actor q).0) → memory'.kept ≡ memory.kept → memory'.names ≡ memory.names →
+    OnOk result (stands world' (call table r.standing.world actor q).0) → memory'.composition ≡ memory.composition → memory'.names ≡ memory.names →
     RunsAt {T = T} t functions stands actor (of_actor actor p ∷ []) world' memory' frame written written' r result
 ran_single {stands = stands} {world = world} {world' = world'} {memory = memory} {memory' = memory'} t functions actor frame r p q written written' (Ok x) keeps h is says stood kept names =
-    let facts = plain_facts t functions r actor p q {stands = stands} {world = world} {kept = memory.kept} (is_plain p keeps) is frame h.facts stood in
+    let facts = plain_facts t functions r actor p q {stands = stands} {world = world} {kept = memory.composition} (is_plain p keeps) is frame h.facts stood in
     record {
-      says = says_same (Ok x) written written' _ _ (sym (plain_line t functions r actor p q {stands = stands} {world = world} {kept = memory.kept} (is_plain p keeps) is frame h.facts)) says;
+      says = says_same (Ok x) written written' _ _ (sym (plain_line t functions r actor p q {stands = stands} {world = world} {kept = memory.composition} (is_plain p keeps) is frame h.facts)) says;
       left = record {
         facts = subst (λ k. RunFacts functions stands world' k actor frame (part_after functions r (of_actor actor p))) (sym kept) facts;
         named = subst (λ m. Holds m (part_after functions r (of_actor actor p)).notes.names) (sym names)
@@ -269,7 +269,7 @@ ran_single {stands = stands} {world = world} {world' = world'} {memory = memory}
       };
     }
 ran_single {stands = stands} {world = world} {world' = world'} {memory = memory} t functions actor frame r p q written written' (Err e) keeps h is says stood kept names = record {
-  says = says_same (Err e) written written' _ _ (sym (plain_line t functions r actor p q {stands = stands} {world = world} {kept = memory.kept} (is_plain p keeps) is frame h.facts)) says;
+  says = says_same (Err e) written written' _ _ (sym (plain_line t functions r actor p q {stands = stands} {world = world} {kept = memory.composition} (is_plain p keeps) is frame h.facts)) says;
   left = tt;
 }
 
@@ -277,15 +277,15 @@ ran_single {stands = stands} {world = world} {world' = world'} {memory = memory}
 pub ran_take : {T : Type 0} {V : Type 0} {stands : V → World BuiltIn → Type 0} {world world' : V} {memory memory' : RunMemory} (t : Titles) (functions : List Func) (actor : ℕ) (frame : Option ℕ) (r : Run) (name : List ℕ) (kind : Kind) (parent : SnapshotRef) (q : Request) (y : Reply) (written written' : Option (List ℕ)) (x : T) →
     IsRun functions stands world memory actor frame r → request_of r.notes (Take name kind parent) ≡ Some q →
     Appends written written' (entry_line t (entry r.standing.world actor q)) → y ≡ (call table r.standing.world actor q).1 →
-    stands world' (call table r.standing.world actor q).0 → memory'.kept ≡ memory.kept →
+    stands world' (call table r.standing.world actor q).0 → memory'.composition ≡ memory.composition →
     ((other : List ℕ) → number_in memory'.names other ≡ cond (bytes_eq name other) (Some (number_taken y)) (number_in memory.names other)) →
     RunsAt {T = T} t functions stands actor (of_actor actor (Take name kind parent) ∷ []) world' memory' frame written written' r (Ok x)
 ran_take {stands = stands} {world = world} {world' = world'} {memory = memory} {memory' = memory'} t functions actor frame r name kind parent q y written written' x h is wrote told stood kept put =
     let p = Take name kind parent in
-    let facts = plain_facts t functions r actor p q {stands = stands} {world = world} {kept = memory.kept} tt is frame h.facts stood in
+    let facts = plain_facts t functions r actor p q {stands = stands} {world = world} {kept = memory.composition} tt is frame h.facts stood in
     let names = ap (λ (n : Notes). n.names) (plain_notes t functions r actor p q is) in
     record {
-      says = says_same {E = Stop} (Ok x) written written' _ _ (sym (plain_line t functions r actor p q {stands = stands} {world = world} {kept = memory.kept} tt is frame h.facts)) (record { all = wrote; part = tt });
+      says = says_same {E = Stop} (Ok x) written written' _ _ (sym (plain_line t functions r actor p q {stands = stands} {world = world} {kept = memory.composition} tt is frame h.facts)) (record { all = wrote; part = tt });
       left = record {
         facts = subst (λ k. RunFacts functions stands world' k actor frame (part_after functions r (of_actor actor p))) (sym kept) facts;
         named = subst (Holds memory'.names) (sym names)
@@ -300,7 +300,7 @@ pub stopped_take : {T : Type 0} {V : Type 0} {stands : V → World BuiltIn → T
     AppendsPart written written' (entry_line t (entry r.standing.world actor q)) →
     RunsAt {T = T} t functions stands actor (of_actor actor (Take name kind parent) ∷ []) world' memory' frame written written' r (Err e)
 stopped_take {T = T} {stands = stands} {world = world} {memory = memory} t functions actor frame r name kind parent q written written' e h is wrote = record {
-  says = says_same {T = T} (Err e) written written' _ _ (sym (plain_line t functions r actor (Take name kind parent) q {stands = stands} {world = world} {kept = memory.kept} tt is frame h.facts)) (record { all = tt; part = wrote });
+  says = says_same {T = T} (Err e) written written' _ _ (sym (plain_line t functions r actor (Take name kind parent) q {stands = stands} {world = world} {kept = memory.composition} tt is frame h.facts)) (record { all = tt; part = wrote });
   left = tt;
 }
 

@@ -70,7 +70,7 @@ module _ {V : Type 0} {stands : V → World BuiltIn → Type 0} (t : Titles) (fu
 -- While no frame is open, the actor does not matter.
 pub run_as : {V : Type 0} {stands : V → World BuiltIn → Type 0} {functions : List Func} {world : V} {memory : RunMemory} {r : Run} (a b : ℕ) → IsRun functions stands world memory a None r → IsRun functions stands world memory b None r
 run_as a b h = record {
-  facts = record { world_stands = h.facts.world_stands; valid = h.facts.valid; few = h.facts.few; known = h.facts.known; keeps = h.facts.keeps; owes = h.facts.owes; noted = h.facts.noted; at_frame = h.facts.at_frame };
+  facts = record { world_stands = h.facts.world_stands; valid = h.facts.valid; few = h.facts.few; known = h.facts.known; is_at = h.facts.is_at; same_program = h.facts.same_program; noted = h.facts.noted; at_frame = h.facts.at_frame };
   named = h.named;
 }
 

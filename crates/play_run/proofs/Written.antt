@@ -1,11 +1,17 @@
 -- What was written, piece by piece.
-use Rattle.std.proofs.Common.{◌≡◌, ℕ, List, ◌∷◌, Bool, ◌++◌, ◌∙◌, ap, subst, append_assoc, append-nil, sym, [], Option, Some, None, Ok, Err, OnOk}
+use Rattle.std.proofs.Common.{◌≡◌, ◌<◌, ◌≤◌, ◌+◌, ℕ, List, Bool, length, drop, ◌++◌, ◌∙◌, ap, subst, append_assoc, append-nil, sym, [], Option, Some, None, Ok, Err, OnOk}
+use Rattle.std.proofs.lemmas.List.{drop_more}
+use Rattle.std.proofs.Math.ListN.{drop_of_length-le}
 use Rattle.std.specs.declared.result.Result.{Result}
 use Rattle.std.specs.Io.KnownBytes.{Appends}
 use Rattle.std.proofs.KnownBytes.{Appends-trans}
 use Rattle.rt_streams.specs.Streams.{AppendsPart}
 use Rattle.rt_streams.proofs.Parts.{part-behind, part-front}
+use Rattle.rt_values.specs.Values.{no_value}
 use Rattle.rt_groups.specs.declared.groups.Group.{Group}
+use Rattle.rt_groups.specs.declared.groups.GroupKind.TheVariants as what
+use Rattle.rt_groups.specs.PreorderGroups.{flat_group}
+use Rattle.slot_table.specs.TableGroups.{group_at}
 use Rattle.script_lang.specs.GroupLines.{group_lines, group_line, open_after}
 use Rattle.play_run.specs.RunPromise.{WritesBytes}
 
@@ -47,9 +53,13 @@ pub three_ok : {T E P Q R S : Type 0} (r : Result T E) → (P → Q → R → S)
 three_ok (Ok x) f p q s = f p q s
 three_ok (Err e) f p q s = tt
 
--- The line of the first group, then those of the others.
-pub group_lines-next : (before : List Bool) (g : Group) (more all : List Group) → all ≡ g ∷ more → group_lines before all ≡ group_line before g ++ group_lines (open_after before g) more
-group_lines-next before g more all e = ap (group_lines before) e
+-- The line of the group at an index, then those of the groups after it.
+pub group_lines_at : (before : List Bool) (gs : List Group) (i : ℕ) → i < length gs → group_lines before (drop i gs) ≡ group_line before (group_at gs i) ++ group_lines (open_after before (group_at gs i)) (drop (i + 1) gs)
+group_lines_at before gs i h = ap (group_lines before) (drop_more gs i (flat_group 0 0 0 (what.Key no_value) []) h)
+
+-- No group follows the last one.
+pub no_lines_after : (before : List Bool) (gs : List Group) (i : ℕ) → length gs ≤ i → group_lines before (drop i gs) ≡ []
+no_lines_after before gs i h = ap (group_lines before) (drop_of_length-le gs h)
 
 -- Nothing was written, and nothing had to be.
 appends_none : (a : Option (List ℕ)) → Appends a a []

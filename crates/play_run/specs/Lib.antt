@@ -1,5 +1,4 @@
 pub mod RunPromise
-pub mod OwedObjects
 pub mod Opening
 pub mod RunOutput
 pub mod RunState

@@ -2,11 +2,11 @@
 use Rattle.std.specs.Prelude.{◌≡◌, ◌≢◌, ◌⊎◌, ◌<◌, ◌≤◌, ◌+◌, ℕ, List, [], ◌∷◌, false, length, Option, Some, None, Result, OnOk}
 use Rattle.std.specs.List.{flat_map}
 use Rattle.lang_ast.specs.Terms.{Func}
-use Rattle.recompose_scratch.specs.Keeping.{Keeps}
+use Rattle.composer.specs.FrameDrafts.{functions_of}
+use Rattle.recomposer.specs.Compositions.{IsAt}
+use Rattle.recomposer.specs.declared.composition.Composition.{Composition}
 use Rattle.snap_policy.specs.Table.{table}
 use Rattle.snap_policy.specs.declared.policy.BuiltIn.{BuiltIn}
-use Rattle.snap_api.specs.declared.data.Reply.{Reply}
-use Rattle.snap_api.specs.declared.data.Reply.TheVariants as reply
 use Rattle.snap_api.specs.World.{World, last_of, snapshot_of, is_mutable}
 use Rattle.snap_api.specs.Valid.{IsValid}
 use Rattle.snap_api.specs.Calls.{IsOwn}
@@ -14,10 +14,8 @@ use Rattle.script_lang.specs.SnapshotNames.{NamedNumber, latest, never_taken}
 use Rattle.script_lang.specs.NamesInMemory.{Holds}
 use Rattle.script_lang.specs.StepCalls.{Part, Take, BeginFrame, EndFrame, ActorPart, watcher_number}
 use Rattle.script_lang.specs.Lines.{Titles}
-use Rattle.play_run.specs.OwedObjects.{Owes}
 use Rattle.play_run.specs.RunPromise.{WritesBytes}
 use Rattle.play_run.specs.RunOutput.{Run, parts_lines, parts_after}
-use Rattle.play_run.specs.declared.memory.Kept.{Kept}
 use Rattle.play_run.specs.declared.memory.RunMemory.{RunMemory}
 use Rattle.play_run.specs.declared.write_lines.Stop.{Stop}
 
@@ -42,29 +40,24 @@ abbrev pub IsAtFrame : ℕ → Option ℕ → Run → Type 0
 IsAtFrame actor None r = r.standing.frames ≡ []
 IsAtFrame actor (Some name) r = InFrame actor name r
 
--- The world represents the plain world of the state, which is valid. The composition of the last good frame is kept,
--- and what changed from then to the watcher's last map is owed.
-pub record RunFacts {V : Type 0} (functions : List Func) (stands : V → World BuiltIn → Type 0) (world : V) (kept : Kept)
+-- The world represents the plain world of the state, which is valid. The composition of these functions has kept the last
+-- good frame, and owes what changed from then to the watcher's last map.
+pub record RunFacts {V : Type 0} (functions : List Func) (stands : V → World BuiltIn → Type 0) (world : V) (kept : Composition)
     (actor : ℕ) (frame : Option ℕ) (r : Run) : Type 0 where
   pub world_stands : stands world r.standing.world
   pub valid : IsValid table r.standing.world
   pub few : length r.standing.world.snapshots ≤ r.standing.world.clock + 1
   pub known : AreKnown r.standing.world r.notes.names
-  pub keeps : Keeps kept.composition r.standing.kept
-  pub owes : Owes functions r.standing.kept.seen r.standing.kept.trail (last_of r.standing.world watcher_number) kept.owed
+  pub is_at : IsAt kept r.standing.kept (last_of r.standing.world watcher_number)
+  pub same_program : functions_of kept.program.now ≡ functions
   pub noted : r.notes.frame ≡ frame
   pub at_frame : IsAtFrame actor frame r
 
 -- The same with the table of names in memory.
 pub record IsRun {V : Type 0} (functions : List Func) (stands : V → World BuiltIn → Type 0) (world : V) (memory : RunMemory)
     (actor : ℕ) (frame : Option ℕ) (r : Run) : Type 0 where
-  pub facts : RunFacts functions stands world memory.kept actor frame r
+  pub facts : RunFacts functions stands world memory.composition actor frame r
   pub named : Holds memory.names r.notes.names
-
--- The objects that a take for the watcher lists.
-abbrev pub changed_by : Reply → List ℕ
-changed_by (reply.TakenFor name changed) = changed
-changed_by _ = []
 
 -- A part that neither begins nor ends a frame.
 abbrev pub IsPlain : Part → Type 0

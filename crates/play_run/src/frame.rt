@@ -1,96 +1,77 @@
 // Frames, each composed in its own snapshot.
-ghost use Rattle.std.specs.Prelude.{◌≡◌, ◌≢◌, ◌≤◌, ◌++◌, ◌∷◌, [], List, ℕ, Option, Some, None, Err, IfOk, OnOk, codes, true};
+ghost use Rattle.std.specs.Prelude.{◌≡◌, ◌≢◌, ◌<◌, ◌++◌, ◌∷◌, [], List, ℕ, Option, Some, None, Err, IfOk, OnOk, codes, length};
 ghost use Rattle.std.specs.Option.{option_map};
-ghost use Rattle.rt_values.specs.Maps.{Map};
+ghost use Rattle.rt_values.specs.Maps.{Map, differ};
 ghost use Rattle.rt_groups.specs.Frames.{LastFrame};
 ghost use Rattle.compose_model.specs.Frame.{FrameResult, frame as frame_of};
-ghost use Rattle.recompose_scratch.specs.Keeping.{Keeps};
+ghost use Rattle.slot_table.specs.TableGroups.{group_at};
+ghost use Rattle.composer.specs.FrameDrafts.{functions_of};
+ghost use Rattle.recomposer.specs.Compositions.{IsAt};
 ghost use Rattle.snap_policy.specs.declared.policy.BuiltIn.{BuiltIn as built_in};
 ghost use Rattle.snap_policy.specs.Table.{table};
-ghost use Rattle.snap_api.specs.World.{World, with_members};
+ghost use Rattle.snap_api.specs.World.{World};
 ghost use Rattle.snap_api.specs.ShownMap.{ShownMap};
+ghost use Rattle.snap_api.specs.Desks.{FollowsLast};
+ghost use Rattle.snap_api.specs.declared.data.Reply.TheVariants as reply_data;
 ghost use Rattle.script_lang.specs.StepCalls.{BeginFrame, EndFrame, calls_parts, frame_begun};
 ghost use Rattle.script_lang.specs.Lines.{line, report_line, frame_lines, kept_after};
 ghost use Rattle.script_lang.specs.GroupLines.{group_lines, open_after, group_line};
-ghost use Rattle.play_run.specs.OwedObjects.{Owes};
 ghost use Rattle.play_run.specs.RunOutput.{Run, parts_of, parts_lines, parts_after};
 ghost use Rattle.play_run.specs.RunPromise.{job_titles, job_functions};
-ghost use Rattle.play_run.specs.RunState.{IsRun, RunsParts, changed_by, flat};
+ghost use Rattle.play_run.specs.RunState.{IsRun, RunsParts, flat};
 ghost use Rattle.play_run.specs.RunPromise.{WritesBytes, FaultsAfter};
 
 use crate::calls::{JobActor, make_call, run_calls};
-use crate::memory::{Kept, RunMemory};
+use crate::memory::{RunMemory, WATCHER};
 use crate::write_lines::{Stop, write_piece};
 use lang_ast::CallForm;
-use lang_meaning::ScratchStop;
-use recompose_scratch::{Composition, frame};
-use rt_groups::{Group, Groups, Report};
+use recomposer::{Composition, FrameStop};
+use rt_groups::Report;
 use rt_streams::Sink;
-use rt_values::{Name, NoMemory, ObjectNo, Objects, WatcherNo};
+use rt_values::{Caller, Name, Objects, Steps};
 use script_lang::{OpenGroups, add_refused, add_report};
+use slot_table::Table;
 use snap_api::{OwnDesk, Reply, Request, Versions};
 use snap_policy::BuiltIn;
 use std::alloc::Global;
+use std::marker::Brand;
+use std::sync::ledger::{Blank, Ledger};
 
-/// The number of the one watcher of frames.
-const WATCHER: WatcherNo = 0;
-
-// Inserts each of the objects, once.
-fn add_members(owed: &mut Objects, changed: &[ObjectNo]) -> Result<(), NoMemory>
-    ensures { OnOk result (owed.new ≡ with_members changed.now owed.old) }
-{
-    let mut rest = changed;
-    while let Some((x, more)) = rest.split_first() {
-        owed.put(*x)?;
-        rest = more;
-    }
-    Ok(())
-}
-
-// Composes the program in its open snapshot, unless nothing is owed. Returns the report of a good frame, or
-// `None` if there are too many groups. In that case everything kept stays, and the objects stay owed.
-#[tactic(auto, using(crate::proofs::Frames::told_good, crate::proofs::Frames::owes_good))]
-fn compose<V: Versions<P = BuiltIn>>(
+// Composes the program in the caller's open snapshot `name`. Returns the report of a good frame, or `None` if there are
+// too many groups. In that case everything kept stays, and the objects stay owed. `blank` is the ledger of the steps,
+// which nothing reads.
+fn compose<V: Versions<P = BuiltIn>, L: Ledger>(
     alloc: Global,
-    actor: JobActor,
-    world: &mut V,
+    caller: Caller,
     name: Name,
-    kept: &mut Kept,
-    reads: &mut Objects,
+    memory: &mut RunMemory,
+    world: &mut V,
+    blank: Blank,
 ) -> Result<Option<Report>, Stop>
+    requires ledger { blank.name ≡ L.name }
+    requires parts { blank.parts ≡ L.parts }
+    requires some { 0 < L.parts }
     ensures same { (w : World built_in) → V.stands world.old w → V.stands world.new w }
-    ensures told { (k : LastFrame) (m : Map) → ShownMap table (V.stands world.old) actor.entry.number (Some name) m →
-        Keeps kept.old.composition k → Owes (job_functions actor.entry.job.now) k.seen k.trail (Some m) kept.old.owed →
-        IfOk result (λ r. r ≡ option_map (λ g. g.told) (frame_of (job_functions actor.entry.job.now) k m)) }
-    ensures keeps { (k : LastFrame) (m : Map) → ShownMap table (V.stands world.old) actor.entry.number (Some name) m →
-        Keeps kept.old.composition k → Owes (job_functions actor.entry.job.now) k.seen k.trail (Some m) kept.old.owed →
-        OnOk result (Keeps kept.new.composition (kept_after k (frame_of (job_functions actor.entry.job.now) k m))) }
-    ensures owes { (k : LastFrame) (m : Map) → ShownMap table (V.stands world.old) actor.entry.number (Some name) m →
-        Keeps kept.old.composition k → Owes (job_functions actor.entry.job.now) k.seen k.trail (Some m) kept.old.owed →
-        let after = kept_after k (frame_of (job_functions actor.entry.job.now) k m) in
-        OnOk result (Owes (job_functions actor.entry.job.now) after.seen after.trail (Some m) kept.new.owed) }
+    ensures told { (k : LastFrame) (m : Map) → ShownMap table (V.stands world.old) caller (Some name) m →
+        IsAt memory.old.composition k (Some m) →
+        let good = frame_of (functions_of memory.old.composition.program.now) k m in
+        IfOk result (λ r. r ≡ option_map (λ g. g.told) good) }
+    ensures left { (k : LastFrame) (m : Map) → ShownMap table (V.stands world.old) caller (Some name) m →
+        IsAt memory.old.composition k (Some m) →
+        let good = frame_of (functions_of memory.old.composition.program.now) k m in
+        OnOk result (IsAt memory.new.composition (kept_after k good) (Some m)) }
+    ensures program { memory.new.composition.program ≡ memory.old.composition.program }
+    ensures names { memory.new.names ≡ memory.old.names }
     ensures fault { result ≢ Err Stop.WriteFault }
 {
-    if kept.is_idle() {
-        return Ok(Some(kept.composition.idle_report()));
-    }
-    reads.clear();
-    let program = &actor.job.program;
-    let mut desk = OwnDesk::new(world, reads, actor.number, Some(name));
-    match frame(
-        alloc,
-        program.functions(),
-        program.root(),
-        &mut kept.composition,
-        &kept.owed,
-        &mut desk,
-    ) {
-        Ok(report) => {
-            kept.owed.clear();
-            Ok(Some(report))
-        }
-        Err(ScratchStop::TooManyGroups) => Ok(None),
-        Err(ScratchStop::NoMemory) => Err(Stop::NoMemory),
+    let (book, share) = blank.open();
+    let mut steps: Steps<L> = Steps::new(book, share);
+    memory.reads.clear();
+    let mut desk = OwnDesk::new(world, &mut memory.reads, caller, Some(name));
+    match memory.composition.recompose(alloc, &mut desk, &mut steps) {
+        Ok(report) => Ok(Some(report)),
+        Err(FrameStop::TooManyGroups) => Ok(None),
+        Err(_) => Err(Stop::NoMemory),
     }
 }
 
@@ -119,19 +100,22 @@ fn write_refused<K: Sink>(text: &mut Vec<u8>, sink: &mut K) -> Result<(), Stop>
     write_piece(sink, text)
 }
 
-// Writes the line of a group if it is a node.
+// Writes the line of the group at index `i` if it is a node.
 fn write_group<K: Sink>(
-    group: &Group,
+    table: &Table,
+    i: usize,
     open_groups: &mut OpenGroups,
     text: &mut Vec<u8>,
     sink: &mut K,
 ) -> Result<(), Stop>
-    ensures says { WritesBytes (K.written sink.old) (K.written sink.new) (group_line open_groups.old group.now) result }
-    ensures opened { OnOk result (open_groups.new ≡ open_after open_groups.old group.now) }
+    requires { i < length table.now.groups }
+    ensures says { let this = group_line open_groups.old (group_at table.now.groups i) in
+        WritesBytes (K.written sink.old) (K.written sink.new) this result }
+    ensures opened { OnOk result (open_groups.new ≡ open_after open_groups.old (group_at table.now.groups i)) }
     ensures faults { FaultsAfter (K.faults sink.old) (K.faults sink.new) result }
 {
     text.clear();
-    let Ok(()) = open_groups.add_group(text, group) else {
+    let Ok(()) = open_groups.add_group(text, table.depth(i), table.number(i), table.kind(i)) else {
         return Err(Stop::NoMemory);
     };
     write_piece(sink, text)
@@ -140,18 +124,18 @@ fn write_group<K: Sink>(
 // Writes one line for each node.
 fn write_tree<K: Sink>(
     alloc: Global,
-    groups: &Groups,
+    table: &Table,
     text: &mut Vec<u8>,
     sink: &mut K,
 ) -> Result<(), Stop>
-    ensures says { WritesBytes (K.written sink.old) (K.written sink.new) (group_lines [] groups.now) result }
+    ensures says { WritesBytes (K.written sink.old) (K.written sink.new) (group_lines [] table.now.groups) result }
     ensures faults { FaultsAfter (K.faults sink.old) (K.faults sink.new) result }
 {
     let mut open_groups = OpenGroups::new(alloc);
-    let mut rest = groups.items();
-    while let Some((group, more)) = rest.split_first() {
-        match write_group(group, &mut open_groups, text, sink) {
-            Ok(()) => rest = more,
+    let mut i = 0;
+    while i < table.len() {
+        match write_group(table, i, &mut open_groups, text, sink) {
+            Ok(()) => i += 1,
             Err(stop) => return Err(stop),
         }
     }
@@ -162,16 +146,16 @@ fn write_tree<K: Sink>(
 fn write_good_frame<K: Sink>(
     alloc: Global,
     report: &Report,
-    groups: &Groups,
+    table: &Table,
     text: &mut Vec<u8>,
     sink: &mut K,
 ) -> Result<(), Stop>
-    ensures says { let lines = report_line report.now ++ group_lines [] groups.now in
+    ensures says { let lines = report_line report.now ++ group_lines [] table.now.groups in
         WritesBytes (K.written sink.old) (K.written sink.new) lines result }
     ensures faults { FaultsAfter (K.faults sink.old) (K.faults sink.new) result }
 {
     match write_report(report, text, sink) {
-        Ok(()) => write_tree(alloc, groups, text, sink),
+        Ok(()) => write_tree(alloc, table, text, sink),
         Err(stop) => Err(stop),
     }
 }
@@ -184,34 +168,38 @@ fn write_frame<K: Sink>(
     text: &mut Vec<u8>,
     sink: &mut K,
 ) -> Result<(), Stop>
-    ensures says { (k : LastFrame) (good : Option FrameResult) → report.now ≡ option_map (λ g. g.told) good →
-        Keeps composition.now (kept_after k good) →
+    ensures says { (k : LastFrame) (l : Option Map) (good : Option FrameResult) →
+        report.now ≡ option_map (λ g. g.told) good → IsAt composition.now (kept_after k good) l →
         WritesBytes (K.written sink.old) (K.written sink.new) (flat (frame_lines good)) result }
     ensures faults { FaultsAfter (K.faults sink.old) (K.faults sink.new) result }
 {
     match report {
-        Some(report) => write_good_frame(alloc, report, composition.groups(), text, sink),
+        Some(report) => write_good_frame(alloc, report, composition.table(), text, sink),
         None => write_refused(text, sink),
     }
 }
 
-// Adds what changed to the owed objects. Returns the number of the frame's snapshot, or `None` if its take was refused.
-fn note_frame(reply: Reply, owed: &mut Objects) -> Result<Option<Name>, Stop>
-    ensures frame { IfOk result (λ o. o ≡ frame_begun reply) }
-    ensures owed { OnOk result (owed.new ≡ with_members (changed_by reply) owed.old) }
-    ensures fault { result ≢ Err Stop.WriteFault }
+// Marks what changed since the last frame as owed. Returns the number of the frame's snapshot, or `None` if its take was
+// refused.
+fn note_frame(reply: Reply, composition: &mut Composition) -> Option<Name>
+    ensures frame { result ≡ frame_begun reply }
+    ensures noted { (name : ℕ) (changed : List ℕ) (k : LastFrame) (l : Option Map) (m : Map) →
+        reply ≡ reply_data.TakenFor name changed → IsAt composition.old k l → FollowsLast l m → changed ≡ differ l m →
+        IsAt composition.new k (Some m) }
+    ensures refused { frame_begun reply ≡ None → composition.new ≡ composition.old }
+    ensures program { composition.new.program ≡ composition.old.program }
 {
     match reply {
-        Reply::TakenFor(name, changed) => match add_members(owed, changed.numbers()) {
-            Ok(()) => Ok(Some(name)),
-            Err(_) => Err(Stop::NoMemory),
-        },
-        _ => Ok(None),
+        Reply::TakenFor(name, changed) => {
+            composition.note(changed.numbers());
+            Some(name)
+        }
+        _ => None,
     }
 }
 
-// Takes a frame's snapshot, and adds what changed since the last one to the owed objects. Returns the number of the
-// snapshot, or `None` if the take was refused.
+// Takes a frame's snapshot, and marks what changed since the last frame as owed. Returns the number of the snapshot, or
+// `None` if the take was refused.
 fn begin_frame<V: Versions<P = BuiltIn>, K: Sink>(
     alloc: Global,
     actor: JobActor,
@@ -232,7 +220,7 @@ fn begin_frame<V: Versions<P = BuiltIn>, K: Sink>(
 {
     let request = Request::TakeFor { watcher: WATCHER };
     match make_call(alloc, actor, request, &mut memory.text, world, sink) {
-        Ok(reply) => note_frame(reply, &mut memory.kept.owed),
+        Ok(reply) => Ok(note_frame(reply, &mut memory.composition)),
         Err(stop) => Err(stop),
     }
 }
@@ -253,14 +241,7 @@ fn finish_frame<V: Versions<P = BuiltIn>, K: Sink>(
         (K.written sink.old) (K.written sink.new) result }
     ensures faults { FaultsAfter (K.faults sink.old) (K.faults sink.new) result }
 {
-    let composed = compose(
-        alloc,
-        actor,
-        world,
-        name,
-        &mut memory.kept,
-        &mut memory.reads,
-    );
+    let composed = compose::<V, Brand>(alloc, actor.number, name, memory, world, Blank::new(1));
     match make_call(
         alloc,
         actor,
@@ -270,13 +251,7 @@ fn finish_frame<V: Versions<P = BuiltIn>, K: Sink>(
         sink,
     ) {
         Ok(_) => match composed {
-            Ok(report) => write_frame(
-                alloc,
-                &report,
-                &memory.kept.composition,
-                &mut memory.text,
-                sink,
-            ),
+            Ok(report) => write_frame(alloc, &report, &memory.composition, &mut memory.text, sink),
             Err(stop) => Err(stop),
         },
         Err(stop) => Err(stop),

@@ -1,65 +1,41 @@
 // What a run keeps between calls.
-ghost use Rattle.std.specs.Prelude.{◌≡◌, ◌≢◌, [], true};
-ghost use Rattle.rt_groups.specs.GroupForest.{End};
-ghost use Rattle.rt_groups.specs.Frames.{LastFrame, no_last_frame};
-ghost use Rattle.recompose_scratch.specs.Keeping.{Keeps};
+ghost use Rattle.std.specs.Prelude.{◌≡◌, [], None, IfOk};
+ghost use Rattle.rt_groups.specs.Frames.{no_last_frame};
+ghost use Rattle.recomposer.specs.Compositions.{IsAt};
 ghost use Rattle.script_lang.specs.NamesInMemory.{Holds};
 
-use recompose_scratch::Composition;
-use rt_values::Objects;
+use lang_checks::Checked;
+use recomposer::Composition;
+use rt_values::{NoMemory, Objects, WatcherNo};
 use script_lang::NameTable;
 use std::alloc::Global;
 
-/// What is kept between frames: the composition of the last good frame, and the objects that changed since then.
-#[derive(Drop)]
-pub struct Kept {
-    pub composition: Composition,
-    pub owed: Objects,
-}
-
-impl Kept {
-    /// Creates the state before the first frame: nothing is kept.
-    pub fn new(alloc: Global) -> Self
-        ensures composition { Keeps result.composition no_last_frame }
-        ensures owed { result.owed ≡ [] }
-    {
-        Kept {
-            composition: Composition::new(alloc),
-            owed: Objects::new(alloc),
-        }
-    }
-
-    /// Whether a frame has nothing to do: the groups of a good frame are kept, and no object changed since.
-    pub fn is_idle(&self) -> bool
-        ensures none { result ≡ true → self.now.owed ≡ [] }
-        ensures there { (k : LastFrame) → Keeps self.now.composition k → result ≡ true → k.trail ≢ End }
-    {
-        self.owed.numbers().is_empty() && !self.composition.is_empty()
-    }
-}
+/// The number of the one watcher of frames.
+pub const WATCHER: WatcherNo = 0;
 
 /// What a run keeps between calls: the composition, the numbers of the snapshot names, and two buffers that each call
 /// and each frame reuse, for the current line and for the objects that were read.
 #[derive(Drop)]
-pub struct RunMemory {
-    pub kept: Kept,
+pub struct RunMemory<'p> {
+    pub composition: Composition<'p>,
     pub names: NameTable,
     pub text: Vec<u8>,
     pub reads: Objects,
 }
 
-impl RunMemory {
+impl<'p> RunMemory<'p> {
     /// Creates the state before the first call.
-    pub fn new(alloc: Global) -> Self
-        ensures composition { Keeps result.kept.composition no_last_frame }
-        ensures owed { result.kept.owed ≡ [] }
-        ensures names { Holds result.names [] }
+    pub fn new(alloc: Global, program: &'p Checked) -> Result<Self, NoMemory>
+        ensures composition { IfOk result (λ m. IsAt m.composition no_last_frame None) }
+        ensures program { IfOk result (λ m. m.composition.program.now ≡ program.now) }
+        ensures names { IfOk result (λ m. Holds m.names []) }
     {
-        RunMemory {
-            kept: Kept::new(alloc),
+        let composition = Composition::new(alloc, program, WATCHER)?;
+        Ok(RunMemory {
+            composition,
             names: NameTable::new(alloc),
             text: Vec::new(alloc),
             reads: Objects::new(alloc),
-        }
+        })
     }
 }

@@ -205,7 +205,9 @@ pub fn run_script<V: Versions<P = BuiltIn>, K: Sink>(
         (run_text (job_titles job.now) (job_functions job.now) parts) result }
     ensures faults { FaultsAfter (K.faults sink.old) (K.faults sink.new) result }
 {
-    let mut memory = RunMemory::new(alloc);
+    let Ok(mut memory) = RunMemory::new(alloc, &job.program) else {
+        return Err(Stop::NoMemory);
+    };
     let Ok(()) = set_up_world(alloc, &job.program, world) else {
         return Err(Stop::NoMemory);
     };

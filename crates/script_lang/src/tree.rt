@@ -1,11 +1,11 @@
 // Lines of frames.
-ghost use Rattle.std.specs.Prelude.{◌≡◌, ◌++◌, ◌∷◌, [], List, ℕ, Bool, false, OnOk, codes, map};
+ghost use Rattle.std.specs.Prelude.{◌≡◌, ◌++◌, ◌∷◌, [], List, ℕ, Bool, false, OnOk, codes, map, take};
 ghost use Rattle.std.specs.Fmt.{decimal};
 ghost use Rattle.script_lang.specs.Lines.{report_line, count_text, work_text, size_text, margin, node_line, attributes_text, line};
-ghost use Rattle.script_lang.specs.GroupLines.{plain_attribute, node_depth, line_of, open_around, open_after, group_line};
+ghost use Rattle.script_lang.specs.GroupLines.{plain_attribute, node_depth, line_of, is_node};
 
 use crate::line::{add, add_number};
-use rt_groups::{Attribute, Attributes, Group, GroupKind, Report};
+use rt_groups::{Attribute, Attributes, GroupKind, Report};
 use rt_values::{NoMemory, Word};
 use std::alloc::Global;
 use std::marker::Model;
@@ -132,16 +132,23 @@ impl OpenGroups {
         }
     }
 
-    /// Appends the line of the next group in preorder if it is a node, and opens the group. If the process is
-    /// out of memory, a first part of the line is appended.
-    pub fn add_group(&mut self, text: &mut Vec<u8>, group: &Group) -> Result<(), NoMemory>
-        ensures text { OnOk result (text.new.items ≡ text.old.items ++ group_line self.old group.now) }
-        ensures opened { OnOk result (self.new ≡ open_after self.old group.now) }
+    /// Appends the line of the next group in preorder if it is a node, and opens the group, which has this depth,
+    /// number and kind. If the process is out of memory, a first part of the line is appended.
+    pub fn add_group(
+        &mut self,
+        text: &mut Vec<u8>,
+        depth: u32,
+        number: u64,
+        kind: &GroupKind,
+    ) -> Result<(), NoMemory>
+        ensures text { let this = line_of (node_depth (take depth self.old)) number kind.now in
+            OnOk result (text.new.items ≡ text.old.items ++ this) }
+        ensures opened { OnOk result (self.new ≡ take depth self.old ++ is_node kind.now ∷ []) }
     {
-        self.nodes.truncate(group.depth as usize);
-        match &group.what {
+        self.nodes.truncate(depth as usize);
+        match kind {
             GroupKind::Node { kind, attributes } => {
-                add_node(text, &self.nodes, group.number, kind, attributes)?;
+                add_node(text, &self.nodes, number, kind, attributes)?;
                 self.nodes.push(true)?;
                 Ok(())
             }

@@ -1,5 +1,5 @@
-//! Tests of `lang_checks`, `script_lang`, `play_args` and `play_core` from outside: programs that are checked, lines that
-//! no script reaches yet, and streams that fail.
+//! Tests of `lang_checks`, `lang_meaning`, `recomposer`, `script_lang`, `play_args` and `play_core` from outside: programs
+//! that are checked and composed, lines that no script reaches yet, and streams that fail.
 #![tactic(auto)]
 
 #[cfg(test)]
@@ -7,8 +7,18 @@ mod arguments;
 #[cfg(test)]
 mod checks;
 #[cfg(test)]
+mod frames;
+#[cfg(test)]
+mod groups;
+#[cfg(test)]
+mod kept_groups;
+#[cfg(test)]
 mod lines;
 #[cfg(test)]
+mod map_view;
+#[cfg(test)]
 mod programs;
+#[cfg(test)]
+mod recomposing;
 #[cfg(test)]
 mod runs;

@@ -2,7 +2,7 @@
 use crate::programs::parse_program;
 use lang_ast::Rest;
 use lang_checks::{Checked, check};
-use rt_groups::{Attribute, Attributes, Group, GroupKind, Report, Values};
+use rt_groups::{Attribute, Attributes, GroupKind, Report, Values};
 use rt_values::{Kind, Objects, Ty, Value, Word};
 use script_lang::{OpenGroups, Script, ScriptStop, add_line, add_refused, add_report, script_of};
 use snap_api::{Entry, Refusal, Reply, Request};
@@ -217,16 +217,6 @@ fn attribute(alloc: Global, text: &[u8], value: i64) -> Result<Attribute, Fail> 
     })
 }
 
-fn group(alloc: Global, depth: u32, number: u64, what: GroupKind) -> Group {
-    Group {
-        depth,
-        site: 0,
-        number,
-        what,
-        reads: Objects::new(alloc),
-    }
-}
-
 fn node(alloc: Global, kind: &[u8]) -> Result<GroupKind, Fail> {
     let mut attributes = Attributes::new(alloc);
     attributes.push(attribute(alloc, b"width", 10)?)?;
@@ -254,14 +244,11 @@ fn frames_print_their_report_and_tree(rt: HostRuntime) -> Result<(), Fail> {
         arguments: Values::new(alloc),
     };
     let mut open = OpenGroups::new(alloc);
-    open.add_group(&mut text, &group(alloc, 0, 0, call))?;
-    open.add_group(&mut text, &group(alloc, 1, 12, node(alloc, b"Box")?))?;
-    open.add_group(
-        &mut text,
-        &group(alloc, 2, 0, GroupKind::Key(Value::Int(7))),
-    )?;
-    open.add_group(&mut text, &group(alloc, 3, 13, node(alloc, b"Row")?))?;
-    open.add_group(&mut text, &group(alloc, 1, 14, node(alloc, b"End")?))?;
+    open.add_group(&mut text, 0, 0, &call)?;
+    open.add_group(&mut text, 1, 12, &node(alloc, b"Box")?)?;
+    open.add_group(&mut text, 2, 0, &GroupKind::Key(Value::Int(7)))?;
+    open.add_group(&mut text, 3, 13, &node(alloc, b"Row")?)?;
+    open.add_group(&mut text, 1, 14, &node(alloc, b"End")?)?;
     add_refused(&mut text)?;
     let want =
         b"report: ran 1, calculated 2, reads 3, groups 4, nodes 5\n#12 Box width=10 height=-20\n  #13 Row width=10 height=-20\n#14 End width=10 height=-20\nrefused: too many groups\n";

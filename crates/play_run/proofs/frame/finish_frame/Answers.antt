@@ -1,8 +1,14 @@
-use Rattle.std.proofs.Common.{sym, subst}
+use Rattle.std.proofs.Common.{sym, subst, ap, ◌∙◌, Option, Some}
+use Rattle.std.specs.Option.{option_map}
+use Rattle.compose_model.specs.Frame.{FrameResult}
+use Rattle.recomposer.specs.Compositions.{IsAt}
 use Rattle.rt_streams.proofs.Parts.{part-all, part-front}
 use Rattle.script_lang.specs.NamesInMemory.{Holds}
+use Rattle.script_lang.specs.Lines.{kept_after}
+use Rattle.script_lang.specs.StepCalls.{EndFrame, of_actor}
+use Rattle.play_run.specs.RunOutput.{part_after}
 use Rattle.play_run.specs.RunPromise.{job_titles, job_functions}
-use Rattle.play_run.proofs.FrameParts.{frame_map, outcome, frame_shows, frame_owes, end_facts, end_names, end_bytes}
+use Rattle.play_run.proofs.FrameParts.{frame_map, outcome, frame_shows, frame_at, frame_is, end_facts, end_names, end_bytes}
 use Rattle.play_run.proofs.Written.{says_behind, says_same, anyway}
 use Rattle.play_run.proofs.frame.finish_frame.Goals as goal
 
@@ -13,15 +19,19 @@ returns-in-Ok-composed-clause-runs g c r h =
     let m = frame_map r c.args.name in
     let a = c.args.actor.number in
     let shows = frame_shows a c.args.name r h.facts in
-    let owes = frame_owes a c.args.name r h.facts in
+    let at = frame_at a c.args.name r h.facts in
     let stood = c.compose-composed.ensures.same r.standing.world h.facts.world_stands in
-    let keeps = c.in-Ok-composed.ensures.keeps k m shows h.facts.keeps owes in
+    let left = c.in-Ok-composed.ensures.left k m shows at in
+    let good = frame_is a c.args.name r h.facts in
     record {
       says = says_same c.write_frame.result _ _ _ _ (sym (end_bytes a c.args.name r h.facts (job_titles c.args.actor.job.now)))
-          (says_behind c.write_frame.result _ _ _ _ _ (c.in-Ok.ensures.says r.standing.world stood).all (c.write_frame.ensures.says k (outcome fs r c.args.name) (c.in-Ok-composed.ensures.told k m shows h.facts.keeps owes) keeps));
+          (says_behind c.write_frame.result _ _ _ _ _ (c.in-Ok.ensures.says r.standing.world stood).all (c.write_frame.ensures.says k (Some m) (outcome fs r c.args.name)
+          (c.in-Ok-composed.ensures.told k m shows at ∙ ap (λ (o : Option FrameResult). option_map (λ (f : FrameResult). f.told) o) good)
+          (subst (λ (o : Option FrameResult). IsAt c.compose-composed.new.memory.composition (kept_after k o) (Some m)) good left)));
       left = anyway c.write_frame.result (record {
-        facts = end_facts a c.args.name r h.facts (c.in-Ok.ensures.left r.standing.world stood) keeps (c.in-Ok-composed.ensures.owes k m shows h.facts.keeps owes);
-        named = subst (Holds c.args.memory.now.names) (sym (end_names a c.args.name r h.facts)) h.named;
+        facts = end_facts a c.args.name r h.facts (c.in-Ok.ensures.left r.standing.world stood) left c.compose-composed.ensures.program;
+        named = subst (λ n. Holds n (part_after fs r (of_actor a EndFrame)).notes.names) (sym c.compose-composed.ensures.names)
+            (subst (Holds c.args.memory.now.names) (sym (end_names a c.args.name r h.facts)) h.named);
       });
     }
 

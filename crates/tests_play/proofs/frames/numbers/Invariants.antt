@@ -1,0 +1,5 @@
+use Rattle.std.proofs.Common.{ℕ, ◌-◌, length}
+use Rattle.tests_play.proofs.frames.numbers.Given as goal
+
+abbrev pub decreases-loop-i : goal.decreases-loop-i
+decreases-loop-i l = length l.table.groups - l.i

@@ -1,0 +1,162 @@
+// The groups that frames keep, compared with those of composing from scratch.
+ghost use Rattle.std.specs.Prelude.{◌≡◌, ◌<◌, length};
+
+use crate::map_view::view_of;
+use crate::programs::checked_program;
+use crate::recomposing::recompose;
+use lang_meaning::scratch;
+use recomposer::Composition;
+use rt_groups::{Attributes, Group, GroupKind, Groups, Values};
+use rt_values::{NoMemory, Objects};
+use slot_table::Table;
+use std::alloc::Global;
+use std::process::Abort;
+use std::test::Fail;
+
+// Each program has the states `list` (0), `a` (1) and `b` (2).
+static PROGRAMS: [&str; 3] = [
+    // Calls in keys that occur twice, with an argument and a state.
+    "(compose 1)
+(state list Ints Structural (ints)) (state a Int Structural 0) (state b Int Structural 0)
+(fun row ((n Int)) (node Row ((value (+ n (get a))))))
+(fun root () (for i (get list) (key i (call row i))) (call row (get b)))",
+    // Remembered values around and inside calls.
+    "(compose 1)
+(state list Ints Structural (ints)) (state a Int Structural 0) (state b Int Structural 0)
+(fun cell ((n Int)) (remember v ((k n)) (* k k) (node Cell ((value v) (a (get a))))))
+(fun pair ((n Int)) (call cell n) (call cell (+ n (get b))))
+(fun root () (remember s ((x (get a))) (+ x 1) (for i (get list) (key (+ i s) (call pair i)))))",
+    // Branches that come and go inside a node.
+    "(compose 1)
+(state list Ints Structural (ints)) (state a Int Structural 0) (state b Int Structural 0)
+(fun leaf ((n Int)) (node Leaf ((value n))))
+(fun middle () (if (< (get a) 3) ((call leaf 1) (key 7 (call leaf (get a)))) ((call leaf 2))))
+(fun root () (node Box () (call middle) (for i (get list) (call leaf i)) (call middle)))",
+];
+
+// The values of the states in a frame.
+type States = (&'static [i64], i64, i64);
+
+static FRAMES: [States; 7] = [
+    (&[1, 2, 2], 0, 0),
+    (&[2, 1, 2], 0, 0),
+    (&[2, 1, 2], 5, 0),
+    (&[2, 1, 2], 5, 0),
+    (&[2, 2, 2, 9], 5, 4),
+    (&[], 1, 4),
+    (&[9, 2], 1, 4),
+];
+
+fn same_values(a: &Values, b: &Values) -> bool {
+    if a.items().len() != b.items().len() {
+        return false;
+    }
+    for (x, y) in a.items().iter().zip(b.items()) {
+        if !x.same(y) {
+            return false;
+        }
+    }
+    true
+}
+
+fn same_attributes(a: &Attributes, b: &Attributes) -> bool {
+    if a.items().len() != b.items().len() {
+        return false;
+    }
+    for (x, y) in a.items().iter().zip(b.items()) {
+        if x.name.bytes() != y.name.bytes() || !x.value.same(&y.value) {
+            return false;
+        }
+    }
+    true
+}
+
+fn same_kind(a: &GroupKind, b: &GroupKind) -> bool {
+    match a {
+        GroupKind::Call {
+            function,
+            arguments,
+        } => {
+            matches!(b, GroupKind::Call { function: other, arguments: more } if *function == *other && same_values(arguments, more))
+        }
+        GroupKind::Node { kind, attributes } => {
+            matches!(b, GroupKind::Node { kind: other, attributes: more } if kind.bytes() == other.bytes() && same_attributes(attributes, more))
+        }
+        GroupKind::Key(value) => matches!(b, GroupKind::Key(other) if value.same(other)),
+        GroupKind::Cell { keys, value } => {
+            matches!(b, GroupKind::Cell { keys: more, value: other } if same_values(keys, more) && value.same(other))
+        }
+    }
+}
+
+// Whether the group at index `i` is `group`, with the number left out.
+fn is_group(table: &Table, i: usize, group: &Group) -> bool
+    requires { i < length table.now.groups }
+{
+    table.depth(i) == group.depth
+        && table.site(i) == group.site
+        && same_kind(table.kind(i), &group.what)
+        && table.reads(i).numbers() == group.reads.numbers()
+}
+
+// Whether the table has these groups, with the numbers left out.
+fn has_groups(table: &Table, groups: &Groups) -> bool {
+    let mut i = 0;
+    let mut rest = groups.items();
+    while let Some((group, more)) = rest.split_first() {
+        if i >= table.len() || !is_group(table, i, group) {
+            return false;
+        }
+        i += 1;
+        rest = more;
+    }
+    i == table.len()
+}
+
+// Returns the states that differ.
+fn changes(alloc: Global, last: &States, now: &States) -> Result<Objects, NoMemory> {
+    let mut changed = Objects::new(alloc);
+    if last.0 != now.0 {
+        changed.push(0)?;
+    }
+    if last.1 != now.1 {
+        changed.push(1)?;
+    }
+    if last.2 != now.2 {
+        changed.push(2)?;
+    }
+    Ok(changed)
+}
+
+// Makes the frames of a program one after another, and composes each of them from scratch too.
+fn try_program<A: Abort>(rt: &A, alloc: Global, text: &str) -> Result<(), Fail> {
+    let program = checked_program(alloc, text.as_bytes())?;
+    let mut composition = Composition::new(alloc, &program, 0)?;
+    let mut last: &States = &FRAMES[0];
+    for states in FRAMES.as_slice() {
+        let (items, a, b) = *states;
+        let mut view = view_of(alloc, items, &[a, b])?;
+        composition.note(changes(alloc, last, states)?.numbers());
+        recompose(alloc, &mut composition, &mut view)?;
+        let groups = scratch(
+            alloc,
+            program.functions(),
+            program.root(),
+            Groups::new(alloc),
+            &mut view,
+        )?;
+        assert!(rt; groups.len() > 1);
+        assert!(rt; has_groups(composition.table(), &groups));
+        last = states;
+    }
+    Ok(())
+}
+
+#[test]
+fn frames_keep_the_groups_of_composing_from_scratch(rt: HostRuntime) -> Result<(), Fail> {
+    let alloc = rt.alloc();
+    for text in PROGRAMS {
+        try_program(&rt, alloc, text)?;
+    }
+    Ok(())
+}

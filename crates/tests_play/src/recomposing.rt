@@ -1,0 +1,34 @@
+// One frame in the map of a view.
+ghost use Rattle.std.specs.Prelude.{◌≡◌, ◌<◌};
+
+use recomposer::{Composition, FrameStop};
+use rt_groups::Report;
+use rt_values::{Steps, View};
+use std::alloc::Global;
+use std::marker::Brand;
+use std::sync::ledger::{Blank, Ledger};
+
+// Composes what the frame owes. `blank` is the ledger of the steps, which no test reads.
+fn recompose_counting<V: View, L: Ledger>(
+    alloc: Global,
+    composition: &mut Composition,
+    view: &mut V,
+    blank: Blank,
+) -> Result<Report, FrameStop>
+    requires name { blank.name ≡ L.name }
+    requires parts { blank.parts ≡ L.parts }
+    requires some { 0 < L.parts }
+{
+    let (book, share) = blank.open();
+    let mut steps: Steps<L> = Steps::new(book, share);
+    composition.recompose(alloc, view, &mut steps)
+}
+
+/// Composes what the frame owes in the map of `view`, and keeps the groups.
+pub fn recompose<V: View>(
+    alloc: Global,
+    composition: &mut Composition,
+    view: &mut V,
+) -> Result<Report, FrameStop> {
+    recompose_counting::<V, Brand>(alloc, composition, view, Blank::new(1))
+}
