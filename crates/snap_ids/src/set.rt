@@ -1,16 +1,21 @@
 // Sets of snapshot ids.
-ghost use Rattle.std.specs.Prelude.{◌≡◌, ℕ, ◌+◌, ◌<◌, ◌≤◌, ◌-◌, List, [], ◌∷◌, length, slice_index_or, insert, IfOk, IfErr, OnOk, OnErr, vec_len, vec_capacity};
+ghost use Rattle.std.specs.Prelude.{◌≡◌, ℕ, ◌+◌, ◌<◌, ◌≤◌, ◌-◌, List, [], ◌∷◌, ◌++◌, take, drop, length, slice_index_or, insert, IfOk, IfErr, OnOk, OnErr};
+ghost use Rattle.smallvec.specs.SmallVec.{small_vec_len, HasRoomFor};
 ghost use Rattle.rt_values.specs.Maps.{contains};
 ghost use Rattle.snap_ids.specs.IdLists.{IsRising, IsRising-prop, with_id, without_id, with_run, with_ids, without_ids, lowest, is_empty};
 
 use rt_values::NoMemory;
+use smallvec::SmallVec;
 use std::alloc::Global;
 use std::marker::Model;
+
+// The ids of a set. Up to four need no allocation.
+type Ids = SmallVec<u64, 4>;
 
 /// A set of snapshot ids (`SnapshotIdSet`). Contracts see the list of its ids in increasing order.
 #[derive(Drop)]
 pub struct IdSet {
-    ids: Vec<u64>,
+    ids: Ids,
     ghost rising: { IsRising ids.items } by { IsRising-prop ids.items },
 }
 
@@ -66,13 +71,13 @@ fn find(ids: &[u64], id: u64) -> Result<usize, usize>
     }
 }
 
-// Adds `id`. The vector must have capacity for one more.
-fn add_reserved(ids: &mut Vec<u64>, id: u64)
+// Adds `id`. The list must have capacity for one more.
+fn add_reserved(ids: &mut Ids, id: u64)
     requires rising { IsRising ids.old.items }
-    requires room { vec_len ids.old < vec_capacity ids.old }
+    requires room { HasRoomFor ids.old 1 }
     ensures is { ids.new.items ≡ with_id id ids.old.items }
-    ensures len { vec_len ids.new ≤ vec_len ids.old + 1 }
-    ensures capacity { vec_capacity ids.old ≤ vec_capacity ids.new }
+    ensures len { small_vec_len ids.new ≤ small_vec_len ids.old + 1 }
+    ensures capacity { ids.old.capacity ≤ ids.new.capacity }
 {
     match find(ids, id) {
         Ok(_) => {}
@@ -84,10 +89,10 @@ fn add_reserved(ids: &mut Vec<u64>, id: u64)
     }
 }
 
-// Adds `more`. The vector must have capacity for all of them.
-fn add_all_reserved(ids: &mut Vec<u64>, more: &[u64])
+// Adds `more`. The list must have capacity for all of them.
+fn add_all_reserved(ids: &mut Ids, more: &[u64])
     requires rising { IsRising ids.old.items }
-    requires room { vec_len ids.old + length more.now ≤ vec_capacity ids.old }
+    requires room { HasRoomFor ids.old (length more.now) }
     ensures is { ids.new.items ≡ with_ids ids.old.items more.now }
 {
     for id in more {
@@ -95,14 +100,23 @@ fn add_all_reserved(ids: &mut Vec<u64>, more: &[u64])
     }
 }
 
+// Removes the id at an index.
+fn remove_at(ids: &mut Ids, index: usize)
+    requires { index < small_vec_len ids.old }
+    ensures items { ids.new.items ≡ take index ids.old.items ++ drop (index + 1) ids.old.items }
+    ensures len { small_vec_len ids.new + 1 ≡ small_vec_len ids.old }
+{
+    ids.remove(index);
+}
+
 // Removes the ids that `other` contains.
-fn remove_from(ids: &mut Vec<u64>, other: &IdSet)
+fn remove_from(ids: &mut Ids, other: &IdSet)
     ensures { ids.new.items ≡ without_ids ids.old.items other.now }
 {
     let mut i = 0;
     while i < ids.len() {
         if other.get(ids[i]) {
-            ids.remove(i);
+            remove_at(ids, i);
         } else {
             i += 1;
         }
@@ -110,13 +124,13 @@ fn remove_from(ids: &mut Vec<u64>, other: &IdSet)
 }
 
 // Removes `id`.
-fn remove_id(ids: &mut Vec<u64>, id: u64)
+fn remove_id(ids: &mut Ids, id: u64)
     ensures { ids.new.items ≡ without_id id ids.old.items }
 {
     let mut i = 0;
     while i < ids.len() {
         if ids[i] == id {
-            ids.remove(i);
+            remove_at(ids, i);
         } else {
             i += 1;
         }
@@ -124,10 +138,10 @@ fn remove_id(ids: &mut Vec<u64>, id: u64)
 }
 
 // Appends to `ids` those of `all` that `other` does not contain.
-fn copy_without(alloc: Global, all: &[u64], other: &IdSet) -> Result<Vec<u64>, NoMemory>
+fn copy_without(alloc: Global, all: &[u64], other: &IdSet) -> Result<Ids, NoMemory>
     ensures { IfOk result (λ ids. ids.items ≡ without_ids all.now other.now) }
 {
-    let mut ids = Vec::new(alloc);
+    let mut ids = SmallVec::new(alloc);
     for id in all {
         if !other.get(*id) {
             ids.push(*id)?;
@@ -142,7 +156,7 @@ impl IdSet {
         ensures { result ≡ [] }
     {
         IdSet {
-            ids: Vec::new(alloc),
+            ids: SmallVec::new(alloc),
         }
     }
 
@@ -150,12 +164,13 @@ impl IdSet {
     pub fn of(alloc: Global, id: u64) -> Result<IdSet, NoMemory>
         ensures { IfOk result (λ s. s ≡ id ∷ []) }
     {
-        let mut ids = Vec::new(alloc);
+        let mut ids = SmallVec::new(alloc);
         ids.push(id)?;
         Ok(IdSet { ids })
     }
 
     /// Returns whether the set contains `id` (`SnapshotIdSet.get`).
+    #[inline]
     pub fn get(&self, id: u64) -> bool
         ensures { result ≡ contains id self.now }
     {
@@ -163,6 +178,7 @@ impl IdSet {
     }
 
     /// Returns the ids in increasing order.
+    #[inline]
     pub fn ids(&self) -> &[u64]
         ensures { result.now ≡ self.now }
     {
@@ -191,7 +207,7 @@ impl IdSet {
         ensures { IfOk result (λ s. s ≡ self.now) }
     {
         Ok(IdSet {
-            ids: Vec::from_slice(alloc, &self.ids)?,
+            ids: SmallVec::from_slice(alloc, &self.ids)?,
         })
     }
 
@@ -238,7 +254,7 @@ impl IdSet {
         ensures ok { OnOk result (self.new ≡ with_ids (with_id id self.old) other.now) }
         ensures err { OnErr result (self.new ≡ self.old) }
     {
-        self.ids.reserve(other.ids.len() + 1)?;
+        self.ids.reserve(other.ids().len() + 1)?;
         add_reserved(&mut self.ids, id);
         add_all_reserved(&mut self.ids, &other.ids);
         Ok(())
