@@ -63,6 +63,7 @@ impl Chains {
     }
 
     /// Returns the number of objects.
+    #[inline]
     pub fn objects(&self) -> usize
         ensures { result ≡ length self.now.heads.items }
     {
@@ -79,6 +80,7 @@ impl Chains {
     }
 
     /// Returns how many records an object has, with those whose id is 0.
+    #[inline]
     pub fn count(&self, x: ObjectNo) -> usize
         requires { x < length self.now.heads.items }
         ensures { result ≡ length (keys_at self.now x) }
@@ -87,6 +89,7 @@ impl Chains {
     }
 
     /// Returns the record at index `i` of the chain of object `x`.
+    #[inline]
     pub fn at(&self, x: ObjectNo, i: usize) -> RecordNo
         requires object { x < length self.now.heads.items }
         requires place { i < length (keys_at self.now x) }
@@ -96,6 +99,7 @@ impl Chains {
     }
 
     /// Returns the id of a record.
+    #[inline]
     pub fn id(&self, r: RecordNo) -> u64
         requires { IsSome (get self.now.slots r.0) }
         ensures { result ≡ (record_at self.now r.0).id }
@@ -104,11 +108,21 @@ impl Chains {
     }
 
     /// Returns the value of a record.
+    #[inline]
     pub fn value(&self, r: RecordNo) -> &Value
         requires { IsSome (get self.now.slots r.0) }
         ensures { result.now ≡ (record_at self.now r.0).entry.value }
     {
         &self.slots[r.0].entry.value
+    }
+
+    /// Returns the stamped value of a record.
+    #[inline]
+    pub fn entry(&self, r: RecordNo) -> &StampedValue
+        requires { IsSome (get self.now.slots r.0) }
+        ensures { result.now ≡ (record_at self.now r.0).entry }
+    {
+        &self.slots[r.0].entry
     }
 
     /// Returns a copy of the stamped value of a record.
@@ -120,6 +134,7 @@ impl Chains {
     }
 
     /// Returns the stamp of a record.
+    #[inline]
     pub fn stamp(&self, r: RecordNo) -> u64
         requires { IsSome (get self.now.slots r.0) }
         ensures { result ≡ (record_at self.now r.0).entry.stamp }
