@@ -1,8 +1,9 @@
 -- An apply from records that stand for a plain world.
-use Rattle.std.proofs.Common.{◌≡◌, ◌≢◌, ℕ, ◌+◌, ◌==◌, ◌<◌, List, length, refl, sym, ap, ◌∙◌, subst, Some, Bool, true, false, ◌||◌, cond, arith, inl, inr}
+use Rattle.std.proofs.Common.{◌≡◌, ◌≢◌, ℕ, ◌+◌, ◌==◌, ◌<◌, nat_lt, List, length, refl, sym, ap, ◌∙◌, subst, Some, Bool, true, false, ◌||◌, ◌&&◌, cond, arith, inl, inr}
 use Rattle.std.proofs.lemmas.Bool.Decides.{Decides-eqb}
-use Rattle.std.specs.Prelude.{slice_get, zero, suc, [], ◌∷◌}
-use Rattle.rt_values.specs.Maps.{Map, entry_at, contains}
+use Rattle.std.proofs.lemmas.List.{ext_get_or, get_or-map, length-map}
+use Rattle.std.specs.Prelude.{slice_get, slice_index_or, zero, suc, [], ◌∷◌}
+use Rattle.rt_values.specs.Maps.{Map, entry_at, no_entry, contains}
 use Rattle.rt_values.specs.declared.maps.StampedValue.{StampedValue}
 use Rattle.snap_policy.specs.Rules.{Rules}
 use Rattle.snap_api.proofs.ValidSettle.{Right, IsRight, right_settle, IsVerdict}
@@ -16,12 +17,13 @@ use Rattle.snap_laws.specs.Keeps.{IsKept}
 use Rattle.snap_nested.proofs.Applying.{distinct, outer, was_applied, live_applied, parent_applied}
 use Rattle.snap_laws.proofs.Keeping.{applies_keep, kept_is_noted}
 use Rattle.snap_ids.proofs.Booleans.{same_or_other, true_or_false, or_true, or_left, or_right}
-use Rattle.snap_laws.specs.Represents.{WorldParts, Represents, views_of, bases_of}
+use Rattle.snap_laws.specs.Represents.{WorldParts, Represents, views_of, bases_of, stamps_of}
+use Rattle.snap_laws.proofs.Written.{positive_lt, and_second}
 use Rattle.snap_laws.specs.Steps.{AppliesTo, AppliesRepresent}
 use Rattle.snap_laws.proofs.Shots.{live_within, applied_name, members_after_apply, applied_other, applied_count}
 
 -- an entry of an object that is there
-there_is : {A : Type 0} (xs : List A) (i : ℕ) → i < length xs → (x : A) × (slice_get xs i ≡ Some x)
+pub there_is : {A : Type 0} (xs : List A) (i : ℕ) → i < length xs → (x : A) × (slice_get xs i ≡ Some x)
 there_is [] i h = absurd (omega (arith, h))
 there_is (x ∷ xs) zero h = (x, refl)
 there_is (x ∷ xs) (suc i) h = there_is xs i (omega (arith, h))
@@ -77,7 +79,7 @@ module _ {P : Type 0} (rules : Rules P) (h k : WorldParts P) (w : World P) (name
 
   -- an object that the child changed is one that the parent is noted to have changed, if that is not global
   noted_after : (x : ℕ) → h.noted name x ≡ true → 0 < into → k.noted into x ≡ true
-  noted_after x noted above = a.noted_into x ∙ elim (true_or_false (h.noted into x)) [
+  noted_after x noted above = a.noted_into x ∙ ap (λ (b : Bool). (b && contains x changed) || h.noted into x) (positive_lt into above) ∙ elim (true_or_false (h.noted into x)) [
     | inl t ↦ or_right (contains x changed) (h.noted into x) t
     | inr t ↦ or_left (contains x changed) (h.noted into x) (listed t)
   ] where
@@ -90,7 +92,7 @@ module _ {P : Type 0} (rules : Rules P) (h k : WorldParts P) (w : World P) (name
         kept_is_noted h.ids h.handed h.noted h.chains (length h.objects) (views_of w) (bases_of w) name x s.kept live inner up above' (subst (λ (i : ℕ). h.noted i x ≡ false) (sym is_parent) t) small in
         let same_into : bases_of w name x ≡ views_of w into x = subst (λ (i : ℕ). bases_of w name x ≡ views_of w i x) is_parent same in
         let equal = (Decides-eqb (bases_of w name x).stamp (views_of w into x).stamp).1 (ap (λ (e : StampedValue). e.stamp) same_into) in
-        let written : contains x (snapshot_of w name).wrote ≡ true = s.wrote name x live ∙ noted in
+        let written : contains x (snapshot_of w name).wrote ≡ true = s.wrote name x live inner ∙ noted in
         let one = subst (λ (b : Bool). IsVerdict b (settle rules o.0.policy (bases_of w name x) (views_of w into x) (views_of w name x) (h.clock + 1)) (views_of w into x) (entry_at m x) (contains x changed)) written (told x o.0 o.1) in
         listed_equal ((bases_of w name x).stamp == (views_of w into x).stamp) (views_of w name x) (views_of w into x) (entry_at m x) _ (contains x changed) equal one
 
@@ -109,11 +111,11 @@ module _ {P : Type 0} (rules : Rules P) (h k : WorldParts P) (w : World P) (name
   keeps_view : (x : ℕ) → x < length h.objects → h.noted name x ≡ false → views_of (world_after_apply w name m changed) into x ≡ views_of w into x
   keeps_view x small skipped =
       let o = there_is w.objects x (omega (arith, small, count)) in
-      view_into x ∙ skipped_keeps (contains x (snapshot_of w name).wrote) _ (views_of w into x) (entry_at m x) (contains x changed) (s.wrote name x live ∙ skipped) (told x o.0 o.1)
+      view_into x ∙ skipped_keeps (contains x (snapshot_of w name).wrote) _ (views_of w into x) (entry_at m x) (contains x changed) (s.wrote name x live inner ∙ skipped) (told x o.0 o.1)
 
   note_object : (n x : ℕ) → n ≢ name → h.noted n x ≡ true → k.noted n x ≡ true
   note_object n x other noted = elim (same_or_other n into) [
-    | inl e ↦ subst (λ (i : ℕ). k.noted i x ≡ true) (sym e) (a.noted_into x ∙ or_right (contains x changed) (h.noted into x) (subst (λ (i : ℕ). h.noted i x ≡ true) e noted))
+    | inl e ↦ subst (λ (i : ℕ). k.noted i x ≡ true) (sym e) (a.noted_into x ∙ or_right (nat_lt 0 into && contains x changed) (h.noted into x) (subst (λ (i : ℕ). h.noted i x ≡ true) e noted))
     | inr e ↦ a.noted_others n x other e ∙ noted
   ]
 
@@ -132,19 +134,21 @@ module _ {P : Type 0} (rules : Rules P) (h k : WorldParts P) (w : World P) (name
   objects_same : length k.objects ≡ length h.objects
   objects_same = ap (λ (os : List (Object P)). length os) a.objects
 
-  wrote_after : (n x : ℕ) → k.ids.live n ≡ true → contains x (snapshot_of (world_after_apply w name m changed) n).wrote ≡ k.noted n x
-  wrote_after n x now = elim (same_or_other n into) [
+  wrote_after : (n x : ℕ) → k.ids.live n ≡ true → 0 < n → contains x (snapshot_of (world_after_apply w name m changed) n).wrote ≡ k.noted n x
+  wrote_after n x now above = elim (same_or_other n into) [
     | inl e ↦
+        let inner_into : 0 < into = omega (arith, above, e) in
         let there : contains x (snapshot_of (world_after_apply w name m changed) into).wrote ≡ k.noted into x =
-        ap (λ (t : Snapshot). contains x t.wrote) after_into ∙ contains-with_members x changed (snapshot_of w into).wrote ∙ ap (λ (b : Bool). contains x changed || b) (s.wrote into x live_into) ∙ sym (a.noted_into x) in
+        ap (λ (t : Snapshot). contains x t.wrote) after_into ∙ contains-with_members x changed (snapshot_of w into).wrote ∙ ap (λ (b : Bool). contains x changed || b) (s.wrote into x live_into inner_into)
+        ∙ sym (a.noted_into x ∙ ap (λ (b : Bool). (b && contains x changed) || h.noted into x) (positive_lt into inner_into)) in
         subst (λ (i : ℕ). contains x (snapshot_of (world_after_apply w name m changed) i).wrote ≡ k.noted i x) (sym e) there
-    | inr e ↦ ap (λ (t : Snapshot). contains x t.wrote) (after_other n (other n now) e) ∙ s.wrote n x (was n now) ∙ sym (a.noted_others n x (other n now) e)
+    | inr e ↦ ap (λ (t : Snapshot). contains x t.wrote) (after_other n (other n now) e) ∙ s.wrote n x (was n now) above ∙ sym (a.noted_others n x (other n now) e)
   ]
 
   within_after : (n x : ℕ) → k.ids.live n ≡ true → k.noted n x ≡ true → x < length h.objects
   within_after n x now noted = elim (same_or_other n into) [
-    | inl e ↦ elim (or_true (contains x changed) (h.noted into x) (sym (a.noted_into x) ∙ subst (λ (i : ℕ). k.noted i x ≡ true) e noted)) [
-      | inl t ↦ omega (arith, (right.listed x t).1, count)
+    | inl e ↦ elim (or_true (nat_lt 0 into && contains x changed) (h.noted into x) (sym (a.noted_into x) ∙ subst (λ (i : ℕ). k.noted i x ≡ true) e noted)) [
+      | inl t ↦ omega (arith, (right.listed x (and_second (nat_lt 0 into) (contains x changed) t)).1, count)
       | inr t ↦ s.within into x live_into t
     ]
     | inr e ↦ s.within n x (was n now) (sym (a.noted_others n x (other n now) e) ∙ noted)
@@ -155,6 +159,32 @@ module _ {P : Type 0} (rules : Rules P) (h k : WorldParts P) (w : World P) (name
     | inl e ↦ ap (λ (i : ℕ). length (snapshot_of (world_after_apply w name m changed) i).view) e ∙ ap (λ (t : Snapshot). length t.view) after_into ∙ right.full ∙ count
     | inr e ↦ ap (λ (t : Snapshot). length t.view) (after_other n (other n now) e) ∙ s.full_view n (was n now)
   ]
+
+  stamps_full : length h.stamps ≡ length h.objects
+  stamps_full = ap (λ (l : List ℕ). length l) (sym s.fresh) ∙ length-map (snapshot_of w 0).view (λ (e : StampedValue). e.stamp) ∙ s.full_view 0 s.kept.sound.global
+
+  fresh_into : into ≡ 0 → stamps_of m ≡ k.stamps
+  fresh_into root = ext_get_or 0 (stamps_of m) k.stamps (size ∙ sym (a.stamps_count ∙ stamps_full)) (λ x small.
+      let small_m : x < length m = omega (arith, small, length-map m (λ (e : StampedValue). e.stamp)) in
+      let inside : x < length h.objects = omega (arith, small_m, right.full, count) in
+      let full_root : x < length (snapshot_of w 0).view = omega (arith, inside, s.full_view 0 s.kept.sound.global) in
+      get_or-map (λ (e : StampedValue). e.stamp) m x no_entry 0 small_m ∙ elim (true_or_false (h.noted name x)) [
+        | inl t ↦ sym (a.stamps_put x root t)
+        | inr t ↦ ap (λ (e : StampedValue). e.stamp) (sym (view_into x) ∙ keeps_view x inside t) ∙ ap (λ (n : ℕ). (views_of w n x).stamp) root
+            ∙ sym (get_or-map (λ (e : StampedValue). e.stamp) (snapshot_of w 0).view x no_entry 0 full_root) ∙ ap (λ (l : List ℕ). slice_index_or l x 0) s.fresh ∙ sym (a.stamps_left x (inr t))
+      ]) where
+    size : length (stamps_of m) ≡ length h.objects
+    size = length-map m (λ (e : StampedValue). e.stamp) ∙ right.full ∙ count
+
+  fresh_after : stamps_of (snapshot_of (world_after_apply w name m changed) 0).view ≡ k.stamps
+  fresh_after = elim (same_or_other 0 into) [
+    | inl e ↦ ap (λ (n : ℕ). stamps_of (snapshot_of (world_after_apply w name m changed) n).view) e ∙ ap (λ (t : Snapshot). stamps_of t.view) after_into ∙ fresh_into (sym e)
+    | inr e ↦ ap (λ (t : Snapshot). stamps_of t.view) (after_other 0 (λ d. omega (arith, d, inner)) e) ∙ s.fresh
+        ∙ ext_get_or 0 h.stamps k.stamps (sym a.stamps_count) (λ x small. sym (a.stamps_left x (inl (positive into (λ d. e (sym d))))))
+  ] where
+    positive : (n : ℕ) → n ≢ 0 → 0 < n
+    positive zero other = absurd (other refl)
+    positive (suc n) other = omega arith
 
   pub stands_applied : Represents k (world_after_apply w name m changed)
   stands_applied = record {
@@ -172,6 +202,7 @@ module _ {P : Type 0} (rules : Rules P) (h k : WorldParts P) (w : World P) (name
     within = λ n x now noted. omega (arith, within_after n x now noted, objects_same);
     full_view = λ n now. full_after n now ∙ sym objects_same;
     full_base = λ n now. parts (λ t u. length u.base ≡ length t.base) (λ t. refl) (λ t. refl) n (other n now) ∙ s.full_base n (was n now) ∙ sym objects_same;
+    fresh = fresh_after;
     lasts = s.lasts ∙ sym a.watchers;
     kept = subst (λ (c : ℕ). IsKept k.ids c k.noted k.chains (length k.objects) (views_of (world_after_apply w name m changed)) (bases_of (world_after_apply w name m changed))) (sym a.handed)
         (subst (λ (c : ℕ). IsKept k.ids h.handed k.noted k.chains c (views_of (world_after_apply w name m changed)) (bases_of (world_after_apply w name m changed))) (sym objects_same) kept_after);

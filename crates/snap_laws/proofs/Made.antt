@@ -80,10 +80,11 @@ module _ {P : Type 0} {h k : WorldParts P} (w : World P) (ty : Ty) (policy : P) 
     parents = λ n live. parts (λ t u. u.parent ≡ t.parent) refl (λ t. refl) n ∙ s.parents n (was n live) ∙ sym (ap (λ (f : Ids). f.parent n) a.ids);
     owners = λ n live. parts (λ t u. u.owner ≡ t.owner) refl (λ t. refl) n ∙ s.owners n (was n live) ∙ sym (a.owner n);
     kinds = λ n live. parts (λ t u. u.kind ≡ t.kind) refl (λ t. refl) n ∙ s.kinds n (was n live) ∙ sym (a.kind n);
-    wrote = λ n x live. parts (λ t u. contains x u.wrote ≡ contains x t.wrote) refl (λ t. refl) n ∙ s.wrote n x (was n live) ∙ sym (noted_same n x);
+    wrote = λ n x live inner. parts (λ t u. contains x u.wrote ≡ contains x t.wrote) refl (λ t. refl) n ∙ s.wrote n x (was n live) inner ∙ sym (noted_same n x);
     within = λ n x live noted. omega (arith, s.within n x (was n live) (sym (noted_same n x) ∙ noted), size);
     full_view = λ n live. ap (λ (t : Snapshot). length t.view) (at_made n (there_is n (was n live))) ∙ omega (arith, length-append (snapshot_of w n).view (e ∷ []), s.full_view n (was n live), size);
     full_base = λ n live. ap (λ (t : Snapshot). length t.base) (at_made n (there_is n (was n live))) ∙ omega (arith, length-append (snapshot_of w n).base (e ∷ []), s.full_base n (was n live), size);
+    fresh = ap (λ (t : Snapshot). stamps_of t.view) (at_made 0 (there_is 0 s.kept.sound.global)) ∙ map-append (λ (c : StampedValue). c.stamp) (snapshot_of w 0).view (e ∷ []) ∙ ap (λ (l : List ℕ). l ++ 0 ∷ []) s.fresh ∙ sym a.stamps;
     lasts = s.lasts ∙ sym a.watchers;
     kept = subst (λ (c : ℕ). IsKept k.ids k.handed k.noted k.chains c (views_of after) (bases_of after)) (sym size)
         (subst (λ (f : Ids). IsKept f k.handed k.noted k.chains (length h.objects + 1) (views_of after) (bases_of after)) (sym a.ids)
@@ -107,6 +108,7 @@ watches_stand rules h w s = record {
   within = s.within;
   full_view = s.full_view;
   full_base = s.full_base;
+  fresh = s.fresh;
   lasts = map-append (option_map stamps_of) w.lasts (None ∷ []) ∙ ap (λ (l : List (Option (List ℕ))). l ++ None ∷ []) s.lasts;
   kept = s.kept;
 }
@@ -126,6 +128,7 @@ tells_stand rules h k between w caller watcher s a =
       within = t.within;
       full_view = t.full_view;
       full_base = t.full_base;
+      fresh = t.fresh;
       lasts = map-set (option_map stamps_of) w.lasts watcher (Some (snapshot_of w 0).view) ∙ ap (λ (l : List (Option (List ℕ))). slice_set l watcher (Some (stamps_of (snapshot_of w 0).view))) t.lasts;
       kept = t.kept;
     }

@@ -15,7 +15,7 @@ use Rattle.snap_laws.proofs.Keeping.{disposes_keep, forgets_keep}
 use Rattle.snap_records.proofs.Reading.{reads_once}
 use Rattle.snap_laws.proofs.Showing.{reader}
 use Rattle.snap_ids.proofs.Booleans.{same_or_other}
-use Rattle.snap_laws.specs.Represents.{WorldParts, Represents, views_of, bases_of}
+use Rattle.snap_laws.specs.Represents.{WorldParts, Represents, views_of, bases_of, stamps_of}
 use Rattle.snap_laws.specs.Steps.{SameHeld, DisposesTo, DisposesRepresent, ForgetsRepresent, ReadsRight}
 use Rattle.snap_laws.proofs.Shots.{live_within, shot_set_same, shot_set_other}
 
@@ -37,10 +37,11 @@ module _ {P : Type 0} {h k : WorldParts P} {w : World P} (s : Represents h w) (s
     parents = λ n live. s.parents n (was n live) ∙ sym (parents n live);
     owners = λ n live. s.owners n (was n live) ∙ sym (same.owner n);
     kinds = λ n live. s.kinds n (was n live) ∙ sym (same.kind n);
-    wrote = λ n x live. s.wrote n x (was n live) ∙ sym (noted n x live);
+    wrote = λ n x live inner. s.wrote n x (was n live) inner ∙ sym (noted n x live);
     within = λ n x live there. omega (arith, s.within n x (was n live) (sym (noted n x live) ∙ there), many);
     full_view = λ n live. s.full_view n (was n live) ∙ sym many;
     full_base = λ n live. s.full_base n (was n live) ∙ sym many;
+    fresh = s.fresh ∙ sym same.stamps;
     lasts = s.lasts ∙ sym same.watchers;
     kept = subst (λ (c : ℕ). IsKept k.ids k.handed k.noted k.chains c (views_of w) (bases_of w)) (sym many) kept;
   } where
@@ -109,10 +110,11 @@ module _ {P : Type 0} {h k : WorldParts P} (w : World P) (name : ℕ) (s : Repre
     parents = λ n now. parts (λ t u. u.parent ≡ t.parent) (λ t. refl) (λ t. refl) n ∙ s.parents n (was n now) ∙ sym (a.ids.others n (other n now)).parent;
     owners = λ n now. parts (λ t u. u.owner ≡ t.owner) (λ t. refl) (λ t. refl) n ∙ s.owners n (was n now) ∙ sym (a.same.owner n);
     kinds = λ n now. parts (λ t u. u.kind ≡ t.kind) (λ t. refl) (λ t. refl) n ∙ s.kinds n (was n now) ∙ sym (a.same.kind n);
-    wrote = λ n x now. parts (λ t u. contains x u.wrote ≡ contains x t.wrote) (λ t. refl) (λ t. refl) n ∙ s.wrote n x (was n now) ∙ sym (ap (λ (t : ℕ → ℕ → Bool). t n x) a.noted);
+    wrote = λ n x now above. parts (λ t u. contains x u.wrote ≡ contains x t.wrote) (λ t. refl) (λ t. refl) n ∙ s.wrote n x (was n now) above ∙ sym (ap (λ (t : ℕ → ℕ → Bool). t n x) a.noted);
     within = λ n x now noted. omega (arith, s.within n x (was n now) (sym (ap (λ (t : ℕ → ℕ → Bool). t n x) a.noted) ∙ noted), size);
     full_view = λ n now. parts (λ t u. length u.view ≡ length t.view) (λ t. refl) (λ t. refl) n ∙ s.full_view n (was n now) ∙ sym size;
     full_base = λ n now. parts (λ t u. length u.base ≡ length t.base) (λ t. refl) (λ t. refl) n ∙ s.full_base n (was n now) ∙ sym size;
+    fresh = parts (λ t u. stamps_of u.view ≡ stamps_of t.view) (λ t. refl) (λ t. refl) 0 ∙ s.fresh ∙ sym a.same.stamps;
     lasts = s.lasts ∙ sym a.same.watchers;
     kept = subst (λ (c : ℕ). IsKept k.ids k.handed k.noted k.chains c (views_of left) (bases_of left)) (sym size)
         (subst (λ (t : ℕ → ℕ → Bool). IsKept k.ids k.handed t k.chains (length h.objects) (views_of left) (bases_of left)) (sym a.noted)

@@ -36,7 +36,7 @@ module _ {f : Ids} {handed : ℕ} (s : IsSound f handed) (dated : IsDated f) (al
     (unread_view : (n : ℕ) (e : StampedValue) → f.live n ≡ true → n ≢ name → (h : Reads (f.sees n) (chains x) e) → gone h.rec.id ≡ false)
     (unread_base : (n : ℕ) (e : StampedValue) → f.live n ≡ true → 0 < n → (h : Reads (valid_for_base f n) (chains x) e) → gone h.rec.id ≡ false)
     (known : AreChained f noted chains) (shown : AreShown f chains objects view base)
-    (noted_more : (n y : ℕ) → noted n y ≡ true → noted' n y ≡ true) (noted_new : noted' name x ≡ true)
+    (noted_more : (n y : ℕ) → noted n y ≡ true → noted' n y ≡ true) (noted_new : 0 < name → noted' name x ≡ true)
     (new_view : view' name x ≡ q.entry) (old_view : (n y : ℕ) → (n ≢ name) ⊎ (y ≢ x) → view' n y ≡ view n y) where
   pub chained_written : AreChained f noted' chains'
   chained_written = record { apart = apart; known = know } where
@@ -55,7 +55,7 @@ module _ {f : Ids} {handed : ℕ} (s : IsSound f handed) (dated : IsDated f) (al
         | inl same ↦ record {
           name = name;
           owned = subst (λ (i : ℕ). f.owns name i ≡ true) (sym (ap (λ (r : Rec). r.id) same ∙ is)) (s.current_own name live);
-          changed = λ inner. subst (λ (z : ℕ). noted' name z ≡ true) (sym e) noted_new;
+          changed = λ inner. subst (λ (z : ℕ). noted' name z ≡ true) (sym e) (noted_new inner);
         }
         | inr old ↦ more y p.id (subst (λ (z : ℕ). Known f noted z p.id) (sym e) (known.known x p old positive))
       ]

@@ -1,5 +1,5 @@
 -- A take from records that stand for a plain world.
-use Rattle.std.proofs.Common.{◌≡◌, ◌≢◌, ℕ, ◌+◌, List, [], ◌∷◌, ◌++◌, length, sym, ap, ◌∙◌, subst, true, arith, inl, inr, length-append}
+use Rattle.std.proofs.Common.{◌≡◌, ◌≢◌, ℕ, ◌+◌, ◌<◌, List, [], ◌∷◌, ◌++◌, length, sym, ap, ◌∙◌, subst, true, arith, inl, inr, length-append}
 use Rattle.std.proofs.Math.ListN.{get_or-append}
 use Rattle.std.proofs.Math.Seq.{get_or-append_seam}
 use Rattle.std.proofs.lemmas.Bool.{cases_lt}
@@ -15,7 +15,8 @@ use Rattle.snap_nested.specs.Ids.{Ids}
 use Rattle.snap_laws.specs.Keeps.{IsKept}
 use Rattle.snap_laws.proofs.Keeping.{takes_keep}
 use Rattle.snap_ids.proofs.Booleans.{same_or_other, not_both}
-use Rattle.snap_laws.specs.Represents.{WorldParts, Represents, views_of, bases_of}
+use Rattle.snap_laws.specs.Represents.{WorldParts, Represents, views_of, bases_of, stamps_of}
+use Rattle.snap_laws.proofs.Shots.{live_within}
 use Rattle.snap_laws.specs.Steps.{TakesTo, TakesRepresent}
 
 module _ {P : Type 0} {h k : WorldParts P} {between : Ids} (w : World P) (caller parent : ℕ) (kind : Kind) (s : Represents h w) (live : h.ids.live parent ≡ true) (a : TakesTo h k between caller parent kind) where
@@ -85,13 +86,14 @@ module _ {P : Type 0} {h k : WorldParts P} {between : Ids} (w : World P) (caller
     parents = every (λ n t. k.ids.live n ≡ true → t.parent ≡ k.ids.parent n) (λ now. sym parent_new) (λ n other now. s.parents n (was n other now) ∙ sym (parent_other n other));
     owners = every (λ n t. k.ids.live n ≡ true → t.owner ≡ k.owner n) (λ now. sym a.owner) (λ n other now. s.owners n (was n other now) ∙ sym (a.owners n other));
     kinds = every (λ n t. k.ids.live n ≡ true → t.kind ≡ k.kind n) (λ now. sym a.kind_is) (λ n other now. s.kinds n (was n other now) ∙ sym (a.kinds n other));
-    wrote = λ n x now. every (λ n t. k.ids.live n ≡ true → contains x t.wrote ≡ k.noted n x) (λ now. sym (a.noted x)) (λ n other now. s.wrote n x (was n other now) ∙ sym (a.noted_others n x other)) n now;
+    wrote = λ n x now above. every (λ n t. k.ids.live n ≡ true → 0 < n → contains x t.wrote ≡ k.noted n x) (λ now above. sym (a.noted x)) (λ n other now above. s.wrote n x (was n other now) above ∙ sym (a.noted_others n x other)) n now above;
     within = λ n x now noted. elim (same_or_other n h.names) [
       | inl e ↦ absurd (not_both (k.noted h.names x) (subst (λ (i : ℕ). k.noted i x ≡ true) e noted) (a.noted x))
       | inr e ↦ omega (arith, s.within n x (was n e now) (sym (a.noted_others n x e) ∙ noted), size)
     ];
     full_view = every (λ n t. k.ids.live n ≡ true → length t.view ≡ length k.objects) (λ now. s.full_view parent live ∙ sym size) (λ n other now. s.full_view n (was n other now) ∙ sym size);
     full_base = every (λ n t. k.ids.live n ≡ true → length t.base ≡ length k.objects) (λ now. s.full_view parent live ∙ sym size) (λ n other now. s.full_base n (was n other now) ∙ sym size);
+    fresh = ap (λ (t : Snapshot). stamps_of t.view) (at_other 0 (λ e. omega (arith, e, s.named, live_within w 0 (s.lives 0 ∙ s.kept.sound.global)))) ∙ s.fresh ∙ sym a.stamps;
     lasts = s.lasts ∙ sym a.watchers;
     kept = subst (λ (c : ℕ). IsKept k.ids k.handed k.noted k.chains c (views_of after) (bases_of after)) (sym size)
         (subst (λ (t : ℕ → List Rec). IsKept k.ids k.handed k.noted t (length h.objects) (views_of after) (bases_of after)) (sym a.chains)

@@ -76,7 +76,7 @@ takes_answer rules h k w caller parent kind s = (
 )
 
 pub like_itself : {P : Type 0} (h : WorldParts P) → IsUnchanged h h
-like_itself h = record { same = record { clock = refl; objects = refl; names = refl; owner = λ n. refl; kind = λ n. refl; watchers = refl }; handed = refl; ids = refl; chains = λ x. refl; noted = λ n x. refl }
+like_itself h = record { same = record { clock = refl; objects = refl; names = refl; owner = λ n. refl; kind = λ n. refl; stamps = refl; watchers = refl }; handed = refl; ids = refl; chains = λ x. refl; noted = λ n x. refl }
 
 -- a refusal, whichever it is
 pub does_refused : {W : Type 0} (before after : W → Type 0) (step : W → W × Reply) (r : Refusal) → ((w : W) → before w → after w) → ((w : W) → before w → (reply.Refused r ≡ (step w).1) × after (step w).0) → Does before after step (reply.Refused r)

@@ -18,7 +18,6 @@ use Rattle.snap_api.specs.declared.data.Request.TheVariants as request
 use Rattle.snap_laws.specs.Represents.{WorldParts, Represents, stamps_of}
 use Rattle.snap_laws.specs.TakesFor.{stamp_differs, differ_stamps, take_for_refusal, last_stamps, TakesForAnswer}
 use Rattle.snap_laws.proofs.Made.{tells_stand}
-use Rattle.snap_laws.proofs.ReadMaps.{views_are_read}
 use Rattle.snap_laws.proofs.Takes.{answered, stands_like}
 
 -- stamps decide what differs
@@ -74,7 +73,7 @@ takes_for_answer rules h k w caller watcher s = (
       (sym (ap (λ (a : World _ × Reply). a.1) is), subst (λ (v : World _). Represents k v) (sym (ap (λ (a : World _ × Reply). a.0) is)) (stands_like like s)),
   λ name changed good took.
       let is = take_for_answers rules s caller watcher ∙ ap (λ (o : Option Refusal). answered w (effect w caller watcher) o) good in
-      let view : took.stamps ≡ stamps_of (snapshot_of w 0).view = took.stamps_are ∙ ap stamps_of (views_are_read rules h w 0 s s.kept.sound.global) in
+      let view : took.stamps ≡ stamps_of (snapshot_of w 0).view = took.stamps_are ∙ sym s.fresh in
       let told : changed ≡ differ (last_of w watcher) (snapshot_of w 0).view =
       took.changed_are ∙ ap (λ (l : List ℕ). differ_stamps l 0 took.stamps) (last_is s watcher) ∙ ap (λ (l : List ℕ). differ_stamps (stamps_of (unwrap_or (last_of w watcher) [])) 0 l) view
       ∙ differ_is (unwrap_or (last_of w watcher) []) 0 (snapshot_of w 0).view in

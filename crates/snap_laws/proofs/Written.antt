@@ -1,7 +1,8 @@
 -- A write from records that stand for a plain world.
-use Rattle.std.proofs.Common.{◌≡◌, ◌≢◌, ℕ, ◌+◌, ◌==◌, ◌<◌, List, length, refl, sym, ap, ◌∙◌, subst, true, false, ◌||◌, arith, ◌⊎◌, inl, inr, length-set}
-use Rattle.std.proofs.lemmas.Bool.Decides.{eqb_tells, Decides-eqb}
-use Rattle.std.proofs.lemmas.List.{get_or-set_same, get_or-set_other}
+use Rattle.std.proofs.Common.{◌≡◌, ◌≢◌, ℕ, ◌+◌, ◌==◌, ◌<◌, nat_lt, List, length, refl, sym, ap, ◌∙◌, subst, Bool, true, false, ◌||◌, ◌&&◌, cond, arith, ◌⊎◌, inl, inr, length-set}
+use Rattle.std.proofs.lemmas.Bool.Decides.{eqb_tells, Decides-eqb, Decides-ltb}
+use Rattle.std.proofs.lemmas.List.{get_or-set_same, get_or-set_other, map-set}
+use Rattle.std.specs.Prelude.{slice_set}
 use Rattle.rt_values.specs.Maps.{entry_at, no_entry, contains, with_member}
 use Rattle.rt_values.specs.declared.maps.StampedValue.{StampedValue}
 use Rattle.rt_values.specs.declared.value.Value.{Value}
@@ -16,12 +17,20 @@ use Rattle.snap_laws.specs.Keeps.{IsKept}
 use Rattle.snap_laws.proofs.Keeping.{writes_keep}
 use Rattle.snap_laws.proofs.Showing.{reads_is}
 use Rattle.snap_ids.proofs.Booleans.{same_or_other, or_true, or_left, or_right, or_none}
-use Rattle.snap_laws.specs.Represents.{WorldParts, Represents, views_of, bases_of}
+use Rattle.snap_laws.specs.Represents.{WorldParts, Represents, views_of, bases_of, stamps_of}
 use Rattle.snap_laws.specs.Steps.{WritesTo, WritesRepresent}
 use Rattle.snap_laws.proofs.Shots.{live_within, shot_set_same, shot_set_other}
 
 unequal : (a b : ℕ) → a ≢ b → (a == b) ≡ false
 unequal a b other = elim (eqb_tells a b) [ inl e ↦ absurd (other e.1) | inr e ↦ e.0 ]
+
+-- what is noted of a name above global
+pub positive_lt : (n : ℕ) → 0 < n → nat_lt 0 n ≡ true
+positive_lt n h = (Decides-ltb 0 n).1 h
+
+pub and_second : (a b : Bool) → (a && b) ≡ true → b ≡ true
+and_second true b h = h
+and_second false b h = absurd cc
 
 module _ {P : Type 0} {h k : WorldParts P} (w : World P) (name x : ℕ) (value : Value) (s : Represents h w) (live : h.ids.live name ≡ true) (small : x < length h.objects) (a : WritesTo h k name x value) where
   abbrev e : StampedValue
@@ -62,7 +71,7 @@ module _ {P : Type 0} {h k : WorldParts P} (w : World P) (name x : ℕ) (value :
 
   note_object : (n y : ℕ) → h.noted n y ≡ true → k.noted n y ≡ true
   note_object n y noted = elim (same_or_other n name) [
-    | inl d ↦ subst (λ (i : ℕ). k.noted i y ≡ true) (sym d) (a.noted y ∙ or_left (h.noted name y) (y == x) (subst (λ (i : ℕ). h.noted i y ≡ true) d noted))
+    | inl d ↦ subst (λ (i : ℕ). k.noted i y ≡ true) (sym d) (a.noted y ∙ or_left (h.noted name y) (nat_lt 0 name && y == x) (subst (λ (i : ℕ). h.noted i y ≡ true) d noted))
     | inr d ↦ a.noted_others n y d ∙ noted
   ]
 
@@ -74,7 +83,7 @@ module _ {P : Type 0} {h k : WorldParts P} (w : World P) (name x : ℕ) (value :
 
   kept_after : IsKept h.ids h.handed k.noted k.chains (length h.objects) (views_of after) (bases_of w)
   kept_after = writes_keep h.ids h.handed h.noted k.noted h.chains k.chains (length h.objects) (views_of w) (bases_of w) (views_of after) name x q a.gone s.kept live refl a.put a.others a.view_stays a.base_stays note_object
-      (a.noted x ∙ or_right (h.noted name x) (x == x) ((Decides-eqb x x).1 refl)) (new_view ∙ same_entry) old_view
+      (λ above. a.noted x ∙ or_right (h.noted name x) (nat_lt 0 name && x == x) (ap (λ (b : Bool). b && x == x) (positive_lt name above) ∙ (Decides-eqb x x).1 refl)) (new_view ∙ same_entry) old_view
 
   kept_based : IsKept h.ids h.handed k.noted k.chains (length h.objects) (views_of after) (bases_of after)
   kept_based = record {
@@ -94,26 +103,34 @@ module _ {P : Type 0} {h k : WorldParts P} (w : World P) (name x : ℕ) (value :
   size : length k.objects ≡ length h.objects
   size = ap (λ (os : List (Object P)). length os) a.objects
 
-  wrote_after : (n y : ℕ) → h.ids.live n ≡ true → contains y (snapshot_of after n).wrote ≡ k.noted n y
-  wrote_after n y now = elim (same_or_other n name) [
-    | inl d ↦ subst (λ (i : ℕ). contains y (snapshot_of after i).wrote ≡ k.noted i y) (sym d) (ap (λ (t : Snapshot). contains y t.wrote) at_name ∙ listed ∙ sym (a.noted y))
-    | inr d ↦ ap (λ (t : Snapshot). contains y t.wrote) (at_other n d) ∙ s.wrote n y now ∙ sym (a.noted_others n y d)
+  wrote_after : (n y : ℕ) → h.ids.live n ≡ true → 0 < n → contains y (snapshot_of after n).wrote ≡ k.noted n y
+  wrote_after n y now above = elim (same_or_other n name) [
+    | inl d ↦ subst (λ (i : ℕ). contains y (snapshot_of after i).wrote ≡ k.noted i y) (sym d) (ap (λ (t : Snapshot). contains y t.wrote) at_name ∙ listed (omega (arith, above, d)) ∙ sym (a.noted y ∙ ap (λ (b : Bool). h.noted name y || (b && y == x)) (positive_lt name (omega (arith, above, d)))))
+    | inr d ↦ ap (λ (t : Snapshot). contains y t.wrote) (at_other n d) ∙ s.wrote n y now above ∙ sym (a.noted_others n y d)
   ] where
-    listed : contains y (with_member x (snapshot_of w name).wrote) ≡ (h.noted name y || y == x)
-    listed = elim (same_or_other y x) [
+    listed : 0 < name → contains y (with_member x (snapshot_of w name).wrote) ≡ (h.noted name y || y == x)
+    listed inner = elim (same_or_other y x) [
       | inl d ↦
           let one : contains y (with_member x (snapshot_of w name).wrote) ≡ true = ap (λ (i : ℕ). contains i (with_member x (snapshot_of w name).wrote)) d ∙ contains-with_member_same x (snapshot_of w name).wrote in
           one ∙ sym (or_right (h.noted name y) (y == x) ((Decides-eqb y x).1 d))
-      | inr d ↦ contains-with_member_other y x (snapshot_of w name).wrote d ∙ s.wrote name y live ∙ sym (or_none (h.noted name y) (y == x) (unequal y x d))
+      | inr d ↦ contains-with_member_other y x (snapshot_of w name).wrote d ∙ s.wrote name y live inner ∙ sym (or_none (h.noted name y) (y == x) (unequal y x d))
     ]
 
   within_after : (n y : ℕ) → h.ids.live n ≡ true → k.noted n y ≡ true → y < length h.objects
   within_after n y now noted = elim (same_or_other n name) [
-    | inl d ↦ elim (or_true (h.noted name y) (y == x) (sym (a.noted y) ∙ subst (λ (i : ℕ). k.noted i y ≡ true) d noted)) [
+    | inl d ↦ elim (or_true (h.noted name y) (nat_lt 0 name && y == x) (sym (a.noted y) ∙ subst (λ (i : ℕ). k.noted i y ≡ true) d noted)) [
       | inl t ↦ s.within name y live t
-      | inr t ↦ omega (arith, (Decides-eqb y x).0 t, small)
+      | inr t ↦ omega (arith, (Decides-eqb y x).0 (and_second (nat_lt 0 name) (y == x) t), small)
     ]
     | inr d ↦ s.within n y now (sym (a.noted_others n y d) ∙ noted)
+  ]
+
+  fresh_after : stamps_of (snapshot_of after 0).view ≡ k.stamps
+  fresh_after = elim (same_or_other 0 name) [
+    | inl d ↦ ap (λ (i : ℕ). stamps_of (snapshot_of after i).view) d ∙ ap (λ (t : Snapshot). stamps_of t.view) at_name ∙ map-set (λ (c : StampedValue). c.stamp) (snapshot_of w name).view x e
+        ∙ ap (λ (l : List ℕ). slice_set l x (w.clock + 1)) (ap (λ (i : ℕ). stamps_of (snapshot_of w i).view) (sym d) ∙ s.fresh) ∙ ap (λ (c : ℕ). slice_set h.stamps x (c + 1)) s.clock_is
+        ∙ sym (a.stamps ∙ ap (λ (b : Bool). cond b (slice_set h.stamps x (h.clock + 1)) h.stamps) ((Decides-eqb name 0).1 (sym d)))
+    | inr d ↦ ap (λ (t : Snapshot). stamps_of t.view) (at_other 0 d) ∙ s.fresh ∙ sym (a.stamps ∙ ap (λ (b : Bool). cond b (slice_set h.stamps x (h.clock + 1)) h.stamps) (unequal name 0 (λ z. d (sym z))))
   ]
 
   pub stands_written : Represents k after
@@ -125,10 +142,11 @@ module _ {P : Type 0} {h k : WorldParts P} (w : World P) (name x : ℕ) (value :
     parents = λ n now. parts (λ t u. u.parent ≡ t.parent) (λ t. refl) (λ t. refl) n ∙ s.parents n (was n now) ∙ sym (ap (λ (f : Ids). f.parent n) a.ids);
     owners = λ n now. parts (λ t u. u.owner ≡ t.owner) (λ t. refl) (λ t. refl) n ∙ s.owners n (was n now) ∙ sym (a.owner n);
     kinds = λ n now. parts (λ t u. u.kind ≡ t.kind) (λ t. refl) (λ t. refl) n ∙ s.kinds n (was n now) ∙ sym (a.kind n);
-    wrote = λ n y now. wrote_after n y (was n now);
+    wrote = λ n y now above. wrote_after n y (was n now) above;
     within = λ n y now noted. omega (arith, within_after n y (was n now) noted, size);
     full_view = λ n now. parts (λ t u. length u.view ≡ length t.view) (λ t. refl) (λ t. length-set t.view x e) n ∙ s.full_view n (was n now) ∙ sym size;
     full_base = λ n now. parts (λ t u. length u.base ≡ length t.base) (λ t. refl) (λ t. refl) n ∙ s.full_base n (was n now) ∙ sym size;
+    fresh = fresh_after;
     lasts = s.lasts ∙ sym a.watchers;
     kept = subst (λ (c : ℕ). IsKept k.ids k.handed k.noted k.chains c (views_of after) (bases_of after)) (sym size)
         (subst (λ (f : Ids). IsKept f k.handed k.noted k.chains (length h.objects) (views_of after) (bases_of after)) (sym a.ids)

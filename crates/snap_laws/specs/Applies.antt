@@ -1,8 +1,7 @@
 -- Internal: an apply in a world of records: its refusals, what it settles, and its effect.
-use Rattle.std.specs.Prelude.{◌≡◌, ◌≢◌, ℕ, ◌+◌, ◌<◌, ◌≤◌, ◌==◌, ◌||◌, not, true, false, List, length, slice_get, Option, Some, None, if◌then◌else◌}
-use Rattle.rt_values.specs.Maps.{Map, entry_at, contains}
+use Rattle.std.specs.Prelude.{◌≡◌, ◌≢◌, ℕ, ◌+◌, ◌<◌, ◌≤◌, ◌==◌, ◌||◌, ◌&&◌, ◌⊎◌, nat_lt, not, true, false, List, length, slice_get, slice_index_or, Option, Some, None, if◌then◌else◌}
 use Rattle.snap_policy.specs.Rules.{Rules}
-use Rattle.snap_api.specs.Settle.{Settled, settled, conflict, settle_from}
+use Rattle.snap_api.specs.Settle.{settle}
 use Rattle.snap_api.specs.World.{World, call, is_mutable, clock_limit}
 use Rattle.snap_api.specs.declared.data.Refusal.{Refusal}
 use Rattle.snap_api.specs.declared.data.Refusal.TheVariants as refusal
@@ -13,7 +12,11 @@ use Rattle.snap_records.specs.Edits.{with_head_id, Padded, blank}
 use Rattle.snap_nested.specs.Ids.{Ids, IsDated, valid_for_base}
 use Rattle.snap_nested.specs.Moves.{Advances, Applies}
 use Rattle.snap_laws.specs.Steps.{IsUnchanged, SameHeld}
-use Rattle.snap_laws.specs.Maps.{read_map}
+use Rattle.snap_laws.specs.Maps.{read_entry}
+use Rattle.snap_settle.specs.Choices.{choice_of, entry_of_choice, is_changed, is_clash}
+use Rattle.snap_settle.specs.declared.choice.Choice.{Choice}
+use Rattle.snap_settle.specs.declared.choice.Choice.TheVariants.{Clash}
+use Rattle.snap_api.specs.declared.data.Object.{Object}
 use Rattle.snap_laws.specs.Represents.{WorldParts, Represents}
 
 -- The refusal of an apply before its objects are settled.
@@ -25,11 +28,25 @@ apply_refusal h caller name =
     else if not (is_mutable (h.kind name)) then Some refusal.ReadOnly
     else if not (h.ids.live (h.ids.parent name)) then Some refusal.ParentClosed else None
 
--- The verdict on all objects, by the maps that the records give, for a list of the objects that the snapshot wrote.
-abbrev pub settled_by_records : {P : Type 0} → Rules P → WorldParts P → List ℕ → ℕ → ℕ → Settled
-settled_by_records rules h wrote name into = settle_from rules (h.clock + 1) wrote 0 h.objects
-    (read_map (valid_for_base h.ids name) h.chains 0 (length h.objects)) (read_map (h.ids.sees into) h.chains 0
-    (length h.objects)) (read_map (h.ids.sees name) h.chains 0 (length h.objects))
+-- The verdict on an object by its records. An unknown object is a conflict.
+abbrev pub choice_on : {P : Type 0} → Rules P → WorldParts P → ℕ → ℕ → ℕ → Option (Object P) → Choice
+choice_on rules h name into x None = Clash
+choice_on rules h name into x (Some o) = choice_of (settle rules o.policy (read_entry (valid_for_base h.ids name) (h.chains x))
+    (read_entry (h.ids.sees into) (h.chains x)) (read_entry (h.ids.sees name) (h.chains x)) (h.clock + 1)) (read_entry
+    (h.ids.sees into) (h.chains x))
+
+abbrev pub choice_at : {P : Type 0} → Rules P → WorldParts P → ℕ → ℕ → ℕ → Choice
+choice_at rules h name into x = choice_on rules h name into x (slice_get h.objects x)
+
+-- No object that the snapshot wrote conflicts.
+abbrev pub HasNoClash : {P : Type 0} → Rules P → WorldParts P → ℕ → ℕ → Type 0
+HasNoClash rules h name into = (x : ℕ) → h.noted name x ≡ true → is_clash (choice_at rules h name into x) ≡ false
+
+-- The least object that the snapshot wrote and that conflicts.
+pub record IsLeastClash {P : Type 0} (rules : Rules P) (h : WorldParts P) (name into x : ℕ) : Type 0 where
+  pub noted : h.noted name x ≡ true
+  pub clash : is_clash (choice_at rules h name into x) ≡ true
+  pub least : (y : ℕ) → y < x → h.noted name y ≡ true → is_clash (choice_at rules h name into y) ≡ false
 
 -- Records with id 0 came into the chains, and nothing else changed.
 pub record Pads {P : Type 0} (h k : WorldParts P) : Type 0 where
@@ -39,8 +56,9 @@ pub record Pads {P : Type 0} (h k : WorldParts P) : Type 0 where
   pub chains : (x : ℕ) → Padded (h.chains x) (k.chains x)
   pub noted : (n x : ℕ) → k.noted n x ≡ h.noted n x
 
--- The parent has one more id, records of the settled values with this id, and the snapshot's ids.
-pub record Merges {P : Type 0} (h k : WorldParts P) (name into : ℕ) (m : Map) (changed : List ℕ) : Type 0 where
+-- The parent has one more id, records of the settled values with this id, and the snapshot's ids. The objects that changed
+-- in it are noted, unless it is global.
+pub record Merges {P : Type 0} (h k : WorldParts P) (name into : ℕ) (choices : ℕ → Choice) : Type 0 where
   pub clock : k.clock ≡ h.clock + 1
   pub objects : k.objects ≡ h.objects
   pub names : k.names ≡ h.names
@@ -56,12 +74,17 @@ pub record Merges {P : Type 0} (h k : WorldParts P) (name into : ℕ) (m : Map) 
   pub dated : IsDated k.ids
   pub padded : ℕ → List Rec
   pub pads : (x : ℕ) → Padded (h.chains x) (padded x)
-  pub head : (x : ℕ) → x < length h.objects → h.noted name x ≡ true
-      → slice_get (padded x) 0 ≡ Some (blank (entry_at m x))
-  pub put : (x : ℕ) → x < length h.objects → h.noted name x ≡ true → k.chains x ≡ with_head_id (h.handed + 1) (padded x)
+  pub head : (x : ℕ) → h.noted name x ≡ true → slice_get (padded x) 0 ≡ Some (blank (entry_of_choice (choices x)))
+  pub put : (x : ℕ) → h.noted name x ≡ true → k.chains x ≡ with_head_id (h.handed + 1) (padded x)
   pub left : (x : ℕ) → h.noted name x ≡ false → k.chains x ≡ padded x
-  pub noted_into : (x : ℕ) → k.noted into x ≡ (contains x changed || h.noted into x)
+  pub noted_into : (x : ℕ) → k.noted into x
+      ≡ ((nat_lt 0 into && (h.noted name x && is_changed (choices x))) || h.noted into x)
   pub noted_others : (n x : ℕ) → n ≢ name → n ≢ into → k.noted n x ≡ h.noted n x
+  pub stamps_count : length k.stamps ≡ length h.stamps
+  pub stamps_put : (x : ℕ) → into ≡ 0 → h.noted name x ≡ true
+      → slice_index_or k.stamps x 0 ≡ (entry_of_choice (choices x)).stamp
+  pub stamps_left : (x : ℕ) → (0 < into) ⊎ (h.noted name x ≡ false)
+      → slice_index_or k.stamps x 0 ≡ slice_index_or h.stamps x 0
 
 -- Records with id 0 change nothing in the plain world.
 abbrev pub PadsRepresent : {P : Type 0} → Rules P → Type 0
@@ -69,17 +92,14 @@ PadsRepresent {P} rules = (h k : WorldParts P) (w : World P) → Represents h w 
 
 -- An apply has the plain world's reply, and its effect.
 abbrev pub AppliesAnswer : {P : Type 0} → Rules P → Type 0
-AppliesAnswer {P} rules = (h k : WorldParts P) (w : World P) (caller name : ℕ) (wrote : List ℕ) → Represents h w
-    → ((x : ℕ) → contains x wrote ≡ h.noted name x) →
+AppliesAnswer {P} rules = (h k : WorldParts P) (w : World P) (caller name : ℕ) → Represents h w →
     ((r : Refusal) → apply_refusal h caller name ≡ Some r → IsUnchanged h k
     → (reply.Refused r ≡ (call rules w caller (request.Apply name)).1)
     × Represents k (call rules w caller (request.Apply name)).0)
-    × ((x : ℕ) → apply_refusal h caller name ≡ None → settled_by_records rules h wrote name
-    (h.ids.parent name) ≡ conflict x → IsUnchanged h k
+    × ((x : ℕ) → apply_refusal h caller name ≡ None → IsLeastClash rules h name (h.ids.parent name) x → IsUnchanged h k
     → (reply.Refused (refusal.Conflict x) ≡ (call rules w caller (request.Apply name)).1)
     × Represents k (call rules w caller (request.Apply name)).0)
-    × ((m : Map) (changed : List ℕ) → apply_refusal h caller name ≡ None
-    → settled_by_records rules h wrote name (h.ids.parent name) ≡ settled m changed
-    → Merges h k name (h.ids.parent name) m changed
+    × (apply_refusal h caller name ≡ None → HasNoClash rules h name (h.ids.parent name)
+    → Merges h k name (h.ids.parent name) (choice_at rules h name (h.ids.parent name))
     → (reply.Applied ≡ (call rules w caller (request.Apply name)).1)
     × Represents k (call rules w caller (request.Apply name)).0)

@@ -24,7 +24,7 @@ WritesKeep = (f : Ids) (handed : ℕ) (noted noted' : ℕ → ℕ → Bool) (cha
     → gone h.rec.id ≡ false) →
     ((n : ℕ) (e : StampedValue) → f.live n ≡ true → 0 < n → (h : Reads (valid_for_base f n) (chains x) e)
     → gone h.rec.id ≡ false) →
-    ((n y : ℕ) → noted n y ≡ true → noted' n y ≡ true) → noted' name x ≡ true → view' name x ≡ q.entry → ((n y : ℕ)
+    ((n y : ℕ) → noted n y ≡ true → noted' n y ≡ true) → (0 < name → noted' name x ≡ true) → view' name x ≡ q.entry → ((n y : ℕ)
     → (n ≢ name) ⊎ (y ≢ x) → view' n y ≡ view n y) →
     IsKept f handed noted' chains' objects view' base
 
@@ -34,7 +34,7 @@ OwnWritesKeep = (f : Ids) (handed : ℕ) (noted noted' : ℕ → ℕ → Bool) (
     → List Rec) (objects : ℕ) (view base view' : ℕ → ℕ → StampedValue) (name x : ℕ) (q : Rec) →
     IsKept f handed noted chains objects view base → f.live name ≡ true → q.id ≡ f.current name
     → Puts (chains x) (chains' x) q (λ i. i == f.current name) → ((y : ℕ) → y ≢ x → chains' y ≡ chains y) →
-    ((n y : ℕ) → noted n y ≡ true → noted' n y ≡ true) → noted' name x ≡ true → view' name x ≡ q.entry → ((n y : ℕ)
+    ((n y : ℕ) → noted n y ≡ true → noted' n y ≡ true) → (0 < name → noted' name x ≡ true) → view' name x ≡ q.entry → ((n y : ℕ)
     → (n ≢ name) ⊎ (y ≢ x) → view' n y ≡ view n y) →
     IsKept f handed noted' chains' objects view' base
 
