@@ -1,11 +1,12 @@
 -- A call that no test refuses is not refused by the plain world, and a refusal is never for want of memory.
-use Rattle.std.proofs.Common.{◌≡◌, ◌≢◌, ℕ, ◌==◌, sym, ap, ◌∙◌, length, Option, Some, None, Bool, true, false, not, ◌&&◌, cond, nat_lt}
+use Rattle.std.proofs.Common.{◌≡◌, ◌≢◌, ℕ, ◌==◌, sym, ap, ◌∙◌, length, subst, Option, Some, None, Bool, true, false, not, ◌&&◌, cond, nat_lt}
 use Rattle.std.specs.Prelude.{slice_get}
 use Rattle.rt_values.specs.declared.names.Kind.{Kind}
 use Rattle.rt_values.specs.declared.value.Value.{Value}
-use Rattle.rt_values.specs.Maps.{value_at}
+use Rattle.rt_values.specs.Maps.{value_at, contains}
 use Rattle.snap_policy.specs.Rules.{Rules}
-use Rattle.snap_api.specs.World.{World, call, snapshot_of, world_after_take, world_after_write, clock_limit}
+use Rattle.snap_api.specs.Settle.{Settled, settled, conflict}
+use Rattle.snap_api.specs.World.{World, call, snapshot_of, apply_to, settled_of, world_after_take, world_after_write, clock_limit}
 use Rattle.snap_api.specs.declared.data.Object.{Object}
 use Rattle.snap_api.specs.declared.data.Refusal.{Refusal}
 use Rattle.snap_api.specs.declared.data.Refusal.TheVariants as refusal
@@ -22,6 +23,9 @@ use Rattle.snap_laws.proofs.Takes.{answered, take_answers}
 use Rattle.snap_laws.proofs.TakesFor.{effect, take_for_answers}
 use Rattle.snap_laws.proofs.Writes.{write_answers, effect_of}
 use Rattle.snap_laws.proofs.Gets.{read_answers}
+use Rattle.snap_laws.specs.Applies.{apply_refusal, HasNoClash}
+use Rattle.snap_laws.specs.FreeRefusals.{IsMergeFree, IsFreeApplyRefusal}
+use Rattle.snap_laws.proofs.Merging.{apply_good, apply_answers, all, settled_is}
 
 module _ {P : Type 0} (rules : Rules P) {h : WorldParts P} {w : World P} (s : Represents h w) (caller : ℕ) where
   pub take_not_refused : (parent : ℕ) (kind : Kind) → take_refusal h parent kind ≡ None → (e : Refusal) → (call rules w caller (request.Take parent kind)).1 ≡ reply.Refused e → ⊥
@@ -58,6 +62,33 @@ module _ {P : Type 0} (rules : Rules P) {h : WorldParts P} {w : World P} (s : Re
   write_not_refused name x value good e refused =
       let is = write_answers rules s caller name x value ∙ ap (λ (o : Option Refusal). answered w (effect_of rules s caller name x value (slice_get h.objects x)) o) good in
       effect_not_refused name x value (slice_get h.objects x) (h.clock == clock_limit) (h.ids.live name) (cond (name == 0) false (not (h.owner name == caller))) good e (sym (ap (λ (a : World P × Reply). a.1) is) ∙ refused)
+
+module _ {P : Type 0} (rules : Rules P) {h : WorldParts P} {w : World P} (s : Represents h w) (caller name : ℕ) where
+  -- an apply without a conflict is not refused
+  pub apply_not_refused : apply_refusal h caller name ≡ None → HasNoClash rules h name (h.ids.parent name) → (e : Refusal) → (call rules w caller (request.Apply name)).1 ≡ reply.Refused e → ⊥
+  apply_not_refused good none e refused =
+      let g = apply_good h caller name good in
+      let t = all rules s caller name g none in
+      let is = apply_answers rules s caller name ∙ ap (λ (o : Option Refusal). answered w (apply_to rules w caller name (settled_of rules w caller name)) o) good
+      ∙ ap (λ (v : Settled). apply_to rules w caller name v) (settled_is rules s caller name g ∙ t.is) in
+      let clash : reply.Applied ≡ reply.Refused e = sym (ap (λ (a : World P × Reply). a.1) is) ∙ refused in
+      cc
+
+-- an apply that no test refuses is refused only for a conflict
+module _ {P : Type 0} (rules : Rules P) (is_free : P → Value → Value → Value → Type 0) {h : WorldParts P} {w : World P} (s : Represents h w) (caller name : ℕ) where
+  pub apply_conflicts : apply_refusal h caller name ≡ None → (e : Refusal) → (call rules w caller (request.Apply name)).1 ≡ reply.Refused e → IsFreeApplyRefusal is_free w name e → (x : ℕ) → h.noted name x ≡ true → IsMergeFree is_free w name (h.ids.parent name) x
+  apply_conflicts good e refused free x noted =
+      let g = apply_good h caller name good in
+      let is = apply_answers rules s caller name ∙ ap (λ (o : Option Refusal). answered w (apply_to rules w caller name (settled_of rules w caller name)) o) good in
+      let frees = of (settled_of rules w caller name) e (sym (ap (λ (a : World P × Reply). a.1) is) ∙ refused) free in
+      subst (λ (n : ℕ). IsMergeFree is_free w name n x) (s.parents name g.live) (frees x (s.wrote name x g.live g.inner ∙ noted)) where
+    of : (v : Settled) (e : Refusal) → (apply_to rules w caller name v).1 ≡ reply.Refused e → IsFreeApplyRefusal is_free w name e → (y : ℕ) → contains y (snapshot_of w name).wrote ≡ true → IsMergeFree is_free w name (snapshot_of w name).parent y
+    of (settled m changed) e r f = absurd (applied e r) where
+      applied : (e : Refusal) → reply.Applied ≡ reply.Refused e → ⊥
+      applied e r = cc
+    of (conflict z) e r f = subst (λ (d : Refusal). IsFreeApplyRefusal is_free w name d) (sym (same e r)) f where
+      same : (e : Refusal) → reply.Refused (refusal.Conflict z) ≡ reply.Refused e → refusal.Conflict z ≡ e
+      same e r = cc
 
 -- a refusal of a dispose or of a read is not that memory ran out
 pub dispose_in_memory : {P : Type 0} (h : WorldParts P) (caller name : ℕ) (r : Refusal) → dispose_refusal h caller name ≡ Some r → r ≢ refusal.NoMemory

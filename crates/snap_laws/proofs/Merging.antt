@@ -228,7 +228,7 @@ module _ {P : Type 0} (rules : Rules P) {h : WorldParts P} {w : World P} (s : Re
   full = record { base = s.full_base name g.live; current = s.full_view into g.up; own = s.full_view name g.live }
 
   -- the world settles these
-  settled_is : settled_of rules w caller name ≡ settle_from rules (h.clock + 1) wrote 0 h.objects base above own
+  pub settled_is : settled_of rules w caller name ≡ settle_from rules (h.clock + 1) wrote 0 h.objects base above own
   settled_is = ap (λ (n : ℕ). settle_from rules (w.clock + 1) wrote 0 w.objects base (snapshot_of w n).view own) (s.parents name g.live)
       ∙ ap (λ (n : ℕ). settle_from rules (n + 1) wrote 0 w.objects base above own) s.clock_is ∙ ap (λ (os : List (Object P)). settle_from rules (h.clock + 1) wrote 0 os base above own) s.objects_are
 

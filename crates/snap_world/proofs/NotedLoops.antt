@@ -13,7 +13,7 @@ or_more : (a b c : Bool) → (a || (b || c)) ≡ ((a || b) || c)
 or_more true b c = refl
 or_more false b c = refl
 
-contains_last : (x y : ℕ) (xs : List ℕ) → contains x (xs ++ y ∷ []) ≡ (contains x xs || y == x)
+pub contains_last : (x y : ℕ) (xs : List ℕ) → contains x (xs ++ y ∷ []) ≡ (contains x xs || y == x)
 contains_last x y [] = or_none (y == x) false refl
 contains_last x y (z ∷ xs) = ap (λ (b : Bool). z == x || b) (contains_last x y xs) ∙ or_more (z == x) (contains x xs) (y == x)
 

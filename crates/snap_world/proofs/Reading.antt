@@ -1,63 +1,59 @@
--- Maps that are read under ids.
-use Rattle.std.proofs.Common.{◌≡◌, ℕ, zero, suc, ◌+◌, List, [], ◌∷◌, ◌++◌, refl, sym, ap, ◌∙◌, Option, Some, None, Bool, true, false, not, ◌&&◌, ◌||◌, ◌==◌, nat_lt, cond, arith, Result, Ok, Err, IfOk, OnOk, IfSome, IfNone}
-use Rattle.std.specs.Prelude.{nat_le}
-use Rattle.rt_values.specs.Maps.{Map, contains}
+-- What is read under ids.
+use Rattle.std.proofs.Common.{◌≡◌, ℕ, ◌+◌, ◌<◌, List, [], ◌∷◌, length, refl, sym, ap, ◌∙◌, Option, Some, None, Bool, true, false, ◌||◌, ◌==◌, Result, Ok, Err, IfOk, OnOk, IfSome, IfNone}
+use Rattle.std.specs.Prelude.{slice_get}
 use Rattle.std.specs.Option.{option_map}
+use Rattle.rt_values.specs.Maps.{contains, entry_at}
+use Rattle.rt_values.specs.declared.maps.StampedValue.{StampedValue}
+use Rattle.snap_policy.specs.Rules.{Rules}
+use Rattle.snap_api.specs.Settle.{settle}
+use Rattle.snap_api.specs.World.{World, snapshot_of}
+use Rattle.snap_api.specs.declared.data.Object.{Object}
+use Rattle.snap_settle.specs.Choices.{choice_of}
 use Rattle.snap_records.specs.Chains.{record_at, chain_of}
 use Rattle.snap_records.specs.declared.chains.Chains.{Chains}
 use Rattle.snap_records.specs.declared.slots.RecordNo.{RecordNo}
 use Rattle.snap_records.proofs.Readable.{read_found, read_none}
-use Rattle.rt_values.specs.declared.maps.StampedValue.{StampedValue}
 use Rattle.snap_records.specs.Records.{Rec, Reads}
-use Rattle.snap_records.specs.Edits.{readable, higher_record}
+use Rattle.snap_records.specs.Edits.{readable}
 use Rattle.snap_nested.specs.Ids.{valid_for_base}
-use Rattle.snap_nested.specs.Members.{member, ids_of}
 use Rattle.snap_ids.specs.IdLists.{is_valid}
-use Rattle.snap_ids.specs.IdLists.{with_ids}
-use Rattle.snap_nested.specs.declared.family.Member.{Member}
-use Rattle.snap_ids.proofs.IdLists.{contains-one, contains-with_ids}
+use Rattle.snap_ids.proofs.IdLists.{contains-one}
+use Rattle.snap_laws.specs.Applies.{choice_on, choice_at}
+use Rattle.snap_laws.specs.Maps.{entry_of, read_entry}
+use Rattle.snap_laws.specs.Represents.{WorldParts, Represents}
+use Rattle.snap_laws.proofs.ReadMaps.{read_is}
+use Rattle.snap_laws.proofs.Showing.{reader, reader_began}
+use Rattle.snap_world.specs.Holding.{parts_of, AreRead}
+use Rattle.snap_world.specs.declared.settling.ReadRecords.{ReadRecords}
+use Rattle.snap_world.specs.declared.world.RecordWorld.{RecordWorld}
 use Rattle.std.proofs.lemmas.Bool.Decides.{Decides-eqb}
-use Rattle.snap_laws.specs.Maps.{entry_of, read_entry, read_map}
 
-pub readable_same : (s t : ℕ → Bool) (c : List Rec) → ((i : ℕ) → s i ≡ t i) → readable s c ≡ readable t c
-readable_same s t [] same = refl
-readable_same s t (r ∷ c) same = ap (λ (b : Bool). cond b (Some (higher_record r (readable s c))) (readable s c)) (same r.id) ∙ ap (λ (o : Option Rec). cond (t r.id) (Some (higher_record r o)) o) (readable_same s t c same)
+-- what a record that is found gives
+pub entry_found : (sees : ℕ → Bool) (c : List Rec) (q : Rec) → Some q ≡ readable sees c → q.entry ≡ read_entry sees c
+entry_found sees c q is = ap entry_of is
 
-pub read_map_same : (s t : ℕ → Bool) (chains : ℕ → List Rec) (x n : ℕ) → ((i : ℕ) → s i ≡ t i) → read_map s chains x n ≡ read_map t chains x n
-read_map_same s t chains x zero same = refl
-read_map_same s t chains x (suc n) same =
-    ap (λ (o : Option Rec). entry_of o ∷ read_map s chains (x + 1) n) (readable_same s t (chains x) same) ∙ ap (λ (m : Map). read_entry t (chains x) ∷ m) (read_map_same s t chains (x + 1) n same)
+-- what a live snapshot reads is what the world has
+pub read_view : {P : Type 0} {h : WorldParts P} {w : World P} → Represents h w → (n x : ℕ) → h.ids.live n ≡ true → x < length h.objects → read_entry (h.ids.sees n) (h.chains x) ≡ entry_at (snapshot_of w n).view x
+read_view {P} {h} {w} s n x live within = read_is (h.ids.sees n) (h.chains x) (entry_at (snapshot_of w n).view x) (reader s.kept.dated n live) (s.kept.chained.apart x) (s.kept.shown.views n x live within)
 
--- one object more at the end
-more : (s : ℕ → Bool) (chains : ℕ → List Rec) (x n : ℕ) → read_map s chains x (suc n) ≡ read_map s chains x n ++ read_entry s (chains (x + n)) ∷ []
-more s chains x zero =
-    let here : x ≡ x + 0 = omega arith in
-    ap (λ (k : ℕ). read_entry s (chains k) ∷ []) here
-more s chains x (suc n) =
-    let next : (x + 1) + n ≡ x + suc n = omega arith in
-    ap (λ (m : Map). read_entry s (chains x) ∷ m) (more s chains (x + 1) n ∙ ap (λ (k : ℕ). read_map s chains (x + 1) n ++ read_entry s (chains k) ∷ []) next)
+pub read_base : {P : Type 0} {h : WorldParts P} {w : World P} → Represents h w → (n x : ℕ) → h.ids.live n ≡ true → 0 < n → x < length h.objects → read_entry (valid_for_base h.ids n) (h.chains x) ≡ entry_at (snapshot_of w n).base x
+read_base {P} {h} {w} s n x live inner within = read_is (valid_for_base h.ids n) (h.chains x) (entry_at (snapshot_of w n).base x) (reader_began s.kept.dated n live) (s.kept.chained.apart x) (s.kept.shown.bases n x live inner within)
 
-pub read_map_more : (s : ℕ → Bool) (chains : ℕ → List Rec) (x n : ℕ) → read_map s chains x (n + 1) ≡ read_map s chains x n ++ read_entry s (chains (x + n)) ∷ []
-read_map_more s chains x n = let next : n + 1 ≡ suc n = omega arith in ap (λ (k : ℕ). read_map s chains x k) next ∙ more s chains x n
-
-parts : (a b c d : Bool) → (a && (b && not (c || d))) ≡ ((a && (b && not c)) && not d)
-parts true true true d = refl
-parts true true false d = refl
-parts true false c d = refl
-parts false b c d = refl
-
--- what is valid without one's own ids
-pub began_is : (ms : List Member) (n i : ℕ) → is_valid (member ms n).id (with_ids (member ms n).invalid (member ms n).ids) i ≡ valid_for_base (ids_of ms) n i
-began_is ms n i = ap (λ (b : Bool). nat_lt 0 i && (nat_le i (member ms n).id && not b)) (contains-with_ids i (member ms n).invalid (member ms n).ids) ∙ parts (nat_lt 0 i) (nat_le i (member ms n).id) (contains i (member ms n).invalid) (contains i (member ms n).ids)
+-- the records that are found decide as the records of the world do
+pub choice_read : {P : Type 0} (rules : Rules P) (s : RecordWorld P) (name into x : ℕ) (r : ReadRecords) (o : Object P) → AreRead s name into x r → slice_get s.objects.items x ≡ Some o →
+    choice_of (settle rules o.policy (record_at s.chains r.previous.0).entry (record_at s.chains r.current.0).entry (record_at s.chains r.applied.0).entry (s.clock + 1)) (record_at s.chains r.current.0).entry ≡ choice_at rules (parts_of s) name into x
+choice_read {P} rules s name into x r o a there =
+    let h = parts_of s in
+    let c : StampedValue = read_entry (h.ids.sees into) (h.chains x) in
+    ap (λ (e : StampedValue). choice_of (settle rules o.policy e (record_at s.chains r.current.0).entry (record_at s.chains r.applied.0).entry (s.clock + 1)) (record_at s.chains r.current.0).entry) a.previous
+    ∙ ap (λ (e : StampedValue). choice_of (settle rules o.policy (read_entry (valid_for_base h.ids name) (h.chains x)) e (record_at s.chains r.applied.0).entry (s.clock + 1)) e) a.current
+    ∙ ap (λ (e : StampedValue). choice_of (settle rules o.policy (read_entry (valid_for_base h.ids name) (h.chains x)) c e (s.clock + 1)) c) a.applied
+    ∙ sym (ap (λ (p : Option (Object P)). choice_on rules h name into x p) there)
 
 -- what holds of an answer
 pub ok_more : {U E : Type 0} (A B : U → Type 0) (r : Result U E) → IfOk r A → ((u : U) → A u → B u) → IfOk r B
 ok_more A B (Ok u) h f = f u h
 ok_more A B (Err e) h f = h
-
-pub valid_map : (id id' : ℕ) (invalid invalid' : List ℕ) (chains : ℕ → List Rec) (n n' : ℕ) → id ≡ id' → invalid ≡ invalid' → n ≡ n' → read_map (is_valid id invalid) chains 0 n ≡ read_map (is_valid id' invalid') chains 0 n'
-valid_map id id' invalid invalid' chains n n' a b c =
-    ap (λ (i : ℕ). read_map (is_valid i invalid) chains 0 n) a ∙ ap (λ (l : List ℕ). read_map (is_valid id' l) chains 0 n) b ∙ ap (λ (k : ℕ). read_map (is_valid id' invalid') chains 0 k) c
 
 -- the record that is found is read
 pub found_reads : (c : Chains) (x id : ℕ) (invalid : List ℕ) (o : Option RecordNo) → option_map (λ b. record_at c b.0) o ≡ readable (is_valid id invalid) (chain_of c x) → IfSome o (λ r. Reads (is_valid id invalid) (chain_of c x) (record_at c r.0).entry)

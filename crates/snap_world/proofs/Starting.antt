@@ -1,5 +1,5 @@
 -- Records of no object stand for the world that begins.
-use Rattle.std.proofs.Common.{◌≡◌, ℕ, zero, suc, List, [], ◌∷◌, length, refl, Some, true, false, arith}
+use Rattle.std.proofs.Common.{◌≡◌, ℕ, zero, suc, ◌<◌, List, [], ◌∷◌, length, refl, Some, true, false, arith}
 use Rattle.std.specs.Prelude.{slice_get, slice_index_or}
 use Rattle.rt_values.specs.Maps.{contains}
 use Rattle.snap_api.specs.World.{World, start, snapshot_of, is_live}
@@ -26,6 +26,7 @@ begun clock = record {
   kind = λ n. (member ms n).kind;
   noted = λ n x. contains x (slice_index_or [] n []);
   chains = λ x. [];
+  stamps = [];
   watchers = [];
 }
 
@@ -63,9 +64,9 @@ module _ (P : Type 0) (clock : ℕ) where
   kinds zero live = refl
   kinds (suc n) live = refl
 
-  wrote : (n x : ℕ) → (member ms n).is_live ≡ true → contains x (snapshot_of w n).wrote ≡ false
-  wrote zero x live = refl
-  wrote (suc n) x live = refl
+  wrote : (n x : ℕ) → (member ms n).is_live ≡ true → 0 < n → contains x (snapshot_of w n).wrote ≡ false
+  wrote zero x live inner = refl
+  wrote (suc n) x live inner = refl
 
   full_view : (n : ℕ) → (member ms n).is_live ≡ true → length (snapshot_of w n).view ≡ 0
   full_view zero live = refl
@@ -88,6 +89,7 @@ module _ (P : Type 0) (clock : ℕ) where
     within = λ n x live noted. absurd cc;
     full_view = full_view;
     full_base = full_base;
+    fresh = refl;
     lasts = refl;
     kept = kept P clock;
   }

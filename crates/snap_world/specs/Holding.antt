@@ -1,5 +1,5 @@
 -- Trusted: the parts of a `RecordWorld`.
-use Rattle.std.specs.Prelude.{◌≡◌, ℕ, Bool, [], length, slice_index_or, slice_get, Some, List, Option}
+use Rattle.std.specs.Prelude.{◌≡◌, ℕ, ◌<◌, Bool, [], length, slice_index_or, slice_get, Some, IsSome, List, Option}
 use Rattle.std.specs.Option.{option_map}
 use Rattle.std.proofs.Common.{ap, sym, ◌∙◌}
 use Rattle.std.proofs.lemmas.List.{length-map}
@@ -9,9 +9,16 @@ use Rattle.rt_values.specs.declared.value.Value.{Value}
 use Rattle.snap_policy.specs.Rules.{Rules}
 use Rattle.snap_api.specs.declared.data.Object.{Object}
 use Rattle.snap_records.specs.Records.{Reads}
+use Rattle.slab.specs.Slab.{get}
+use Rattle.snap_nested.specs.Ids.{valid_for_base}
+use Rattle.snap_laws.specs.Maps.{read_entry}
+use Rattle.snap_laws.specs.Applies.{choice_at}
+use Rattle.snap_world.specs.Choices.{choice_of_settled}
+use Rattle.snap_world.specs.declared.settling.Settled.{Settled}
+use Rattle.snap_world.specs.declared.settling.ReadRecords.{ReadRecords}
 use Rattle.rt_values.specs.Maps.{contains}
 use Rattle.snap_nested.specs.Members.{member, ids_of}
-use Rattle.snap_records.specs.Chains.{chain_of}
+use Rattle.snap_records.specs.Chains.{chain_of, record_at}
 use Rattle.snap_laws.specs.Represents.{WorldParts, Represents, stamps_of}
 use Rattle.snap_world.specs.declared.world.RecordWorld.{RecordWorld}
 
@@ -26,6 +33,7 @@ parts_of s = record {
   kind = λ n. (member s.family.members.items n).kind;
   noted = λ n x. contains x (slice_index_or s.wrote.items n []);
   chains = λ x. chain_of s.chains x;
+  stamps = s.stamps.items;
   watchers = s.lasts.items;
 }
 
@@ -37,6 +45,21 @@ pub record IsComparison {P : Type 0} (rules : Rules P) (h : WorldParts P) (name 
   pub entry : StampedValue
   pub reads : Reads (h.ids.sees name) (h.chains x) entry
   pub is : rules.equiv object.policy entry.value value ≡ like
+
+-- The records carry the values of the snapshot's base, of its parent's view and of its own view.
+pub record AreRead {P : Type 0} (s : RecordWorld P) (name into x : ℕ) (r : ReadRecords) : Type 0 where
+  pub previous : (record_at s.chains r.previous.0).entry
+      ≡ read_entry (valid_for_base (parts_of s).ids name) ((parts_of s).chains x)
+  pub current : (record_at s.chains r.current.0).entry ≡ read_entry ((parts_of s).ids.sees into) ((parts_of s).chains x)
+  pub applied : (record_at s.chains r.applied.0).entry ≡ read_entry ((parts_of s).ids.sees name) ((parts_of s).chains x)
+  pub previous_there : IsSome (get s.chains.slots r.previous.0)
+  pub current_there : IsSome (get s.chains.slots r.current.0)
+  pub applied_there : IsSome (get s.chains.slots r.applied.0)
+
+-- The settled objects have the verdicts that the records give, and are known.
+abbrev pub AreSettled : {P : Type 0} → Rules P → WorldParts P → ℕ → ℕ → List Settled → Type 0
+AreSettled rules h name into settled = (i : ℕ) (s : Settled) → slice_get settled i ≡ Some s
+    → (choice_of_settled s ≡ choice_at rules h name into s.object) × (s.object < length h.objects)
 
 -- The counts are those of each plain world that the value represents.
 pub counts_of : {P : Type 0} (s : RecordWorld P) (w : World P) → Represents (parts_of s) w

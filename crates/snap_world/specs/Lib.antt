@@ -1,2 +1,3 @@
 pub mod Holding
 pub mod Choices
+pub mod Noting

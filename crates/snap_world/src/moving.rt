@@ -1,86 +1,18 @@
-// Reading all objects, and what an apply and a dispose do to the records.
-ghost use Rattle.std.specs.Prelude.{◌≡◌, ℕ, ◌≤◌, ◌<◌, true, false, ◌≢◌, length, slice_get, slice_index_or, Some, [], IfOk, OnOk};
-ghost use Rattle.rt_values.specs.Maps.{contains, entry_at};
+// What an apply and a dispose do to the records, and what changed for a watcher.
+ghost use Rattle.std.specs.Prelude.{◌≡◌, ℕ, ◌≤◌, ◌<◌, true, false, ◌≢◌, ◌==◌, length, slice_get, slice_index_or, slice_set, Some, [], IfOk, OnOk, if◌then◌else◌};
+ghost use Rattle.rt_values.specs.Maps.{contains};
+ghost use Rattle.rt_values.specs.declared.maps.StampedValue.{StampedValue};
 ghost use Rattle.snap_records.specs.Edits.{Padded, blank, with_head_id, chain_without_ids};
 ghost use Rattle.snap_records.specs.Chains.{chain_of};
-ghost use Rattle.snap_ids.specs.IdLists.{is_valid};
 ghost use Rattle.std.specs.Option.{unwrap_or};
-ghost use Rattle.snap_laws.specs.Maps.{read_entry, read_map};
-ghost use Rattle.snap_laws.specs.Represents.{stamps_of};
 ghost use Rattle.snap_laws.specs.TakesFor.{stamp_differs, differ_stamps};
+ghost use Rattle.snap_world.specs.Choices.{EntriesAre, objects_of};
 
-use rt_values::{Map, Name, NoMemory, ObjectNo, Objects, StampedValue, Value};
+use crate::settling::Settled;
+use rt_values::{Name, NoMemory, ObjectNo, Objects, StampedValue};
 use snap_ids::IdSet;
 use snap_records::Chains;
 use std::alloc::Global;
-
-// Returns the stamped value of object `x` for a reader, or the default if it reads none.
-fn entry_of(
-    alloc: Global,
-    chains: &Chains,
-    x: ObjectNo,
-    id: u64,
-    invalid: &IdSet,
-) -> Result<StampedValue, NoMemory>
-    requires { x < length chains.now.heads.items }
-    ensures { IfOk result (λ e. e ≡ read_entry (is_valid id invalid.now) (chain_of chains.now x)) }
-{
-    match chains.readable(x, id, invalid) {
-        Some(record) => chains.copy(alloc, record),
-        None => Ok(StampedValue {
-            value: Value::Int(0),
-            stamp: 0,
-        }),
-    }
-}
-
-/// Returns the map of the first `count` objects for a reader.
-pub fn read_all(
-    alloc: Global,
-    chains: &Chains,
-    count: usize,
-    id: u64,
-    invalid: &IdSet,
-) -> Result<Map, NoMemory>
-    requires { count ≤ length chains.now.heads.items }
-    ensures len { IfOk result (λ m. length m ≡ count) }
-    ensures is { IfOk result (λ m. m ≡ read_map (is_valid id invalid.now) (chain_of chains.now) 0 count) }
-{
-    let mut map = Map::new(alloc);
-    for i in 0..count {
-        map.push(entry_of(alloc, chains, i as u64, id, invalid)?)?;
-    }
-    Ok(map)
-}
-
-// Returns the stamp of object `x` for a reader.
-fn stamp_of(chains: &Chains, x: ObjectNo, id: u64, invalid: &IdSet) -> u64
-    requires { x < length chains.now.heads.items }
-    ensures { result ≡ (read_entry (is_valid id invalid.now) (chain_of chains.now x)).stamp }
-{
-    match chains.readable(x, id, invalid) {
-        Some(record) => chains.stamp(record),
-        None => 0,
-    }
-}
-
-/// Returns the stamps of the first `count` objects for a reader.
-pub fn stamps_of(
-    alloc: Global,
-    chains: &Chains,
-    count: usize,
-    id: u64,
-    invalid: &IdSet,
-) -> Result<Objects, NoMemory>
-    requires { count ≤ length chains.now.heads.items }
-    ensures { IfOk result (λ s. s ≡ stamps_of (read_map (is_valid id invalid.now) (chain_of chains.now) 0 count)) }
-{
-    let mut stamps = Objects::new(alloc);
-    for i in 0..count {
-        stamps.push(stamp_of(chains, i as u64, id, invalid))?;
-    }
-    Ok(stamps)
-}
 
 // Returns whether the stamp of object `x` differs from the one in `before`, or `before` lacks it.
 fn is_other(before: &[u64], x: usize, now: u64) -> bool
@@ -123,19 +55,23 @@ pub fn find_changed_objects(
     }
 }
 
-// Puts a record with id 0 and the value in `view` before those of object `x`, if `view` has the object.
-fn pad_at(alloc: Global, chains: &mut Chains, x: ObjectNo, view: &Map) -> Result<(), NoMemory>
-    requires { length view.now ≤ length chains.old.heads.items }
+// Puts a record with id 0 and this value before those of object `x`, if there is such an object.
+fn pad_at(
+    alloc: Global,
+    chains: &mut Chains,
+    x: ObjectNo,
+    entry: &StampedValue,
+) -> Result<(), NoMemory>
     ensures padded { (y : ℕ) → Padded (chain_of chains.old y) (chain_of chains.new y) }
-    ensures head { OnOk result (x < length view.now
-        → slice_get (chain_of chains.new x) 0 ≡ Some (blank (entry_at view.now x))) }
+    ensures head { OnOk result (x < length chains.old.heads.items
+        → slice_get (chain_of chains.new x) 0 ≡ Some (blank entry.now)) }
     ensures others { (y : ℕ) → y ≢ x → chain_of chains.new y ≡ chain_of chains.old y }
     ensures many { length chains.new.heads.items ≡ length chains.old.heads.items }
 {
-    if x as usize >= view.len() {
+    if x as usize >= chains.objects() {
         return Ok(());
     }
-    let Ok(entry) = view.at(x as usize).copy(alloc) else {
+    let Ok(entry) = entry.copy(alloc) else {
         return Err(NoMemory);
     };
     let Ok(()) = chains.pad(x, entry) else {
@@ -144,21 +80,16 @@ fn pad_at(alloc: Global, chains: &mut Chains, x: ObjectNo, view: &Map) -> Result
     Ok(())
 }
 
-/// Puts a record with id 0 and the value in `view` before those of each object in `noted`.
-pub fn pad_all(
-    alloc: Global,
-    chains: &mut Chains,
-    noted: &Objects,
-    view: &Map,
-) -> Result<(), NoMemory>
-    requires { length view.now ≤ length chains.old.heads.items }
+/// Puts a record with id 0 and the settled value before those of each settled object.
+pub fn pad_all(alloc: Global, chains: &mut Chains, settled: &[Settled]) -> Result<(), NoMemory>
     ensures padded { (x : ℕ) → Padded (chain_of chains.old x) (chain_of chains.new x) }
-    ensures head { OnOk result ((x : ℕ) → x < length view.now → contains x noted.now ≡ true
-        → slice_get (chain_of chains.new x) 0 ≡ Some (blank (entry_at view.now x))) }
+    ensures head { OnOk result ((f : ℕ → StampedValue) → EntriesAre f settled.now → (x : ℕ)
+        → x < length chains.old.heads.items → contains x (objects_of settled.now) ≡ true
+        → slice_get (chain_of chains.new x) 0 ≡ Some (blank (f x))) }
     ensures many { length chains.new.heads.items ≡ length chains.old.heads.items }
 {
-    for x in noted.numbers() {
-        let Ok(()) = pad_at(alloc, chains, *x, view) else {
+    for s in settled {
+        let Ok(()) = pad_at(alloc, chains, s.object, &s.entry) else {
             return Err(NoMemory);
         };
     }
@@ -179,8 +110,8 @@ fn raise_at(chains: &mut Chains, x: ObjectNo, count: usize, id: u64)
     }
 }
 
-/// Gives the first record of each object in `noted` an id.
-pub fn raise_all(chains: &mut Chains, noted: &Objects, count: usize, id: u64)
+// Gives the first record of each object in `noted` an id.
+fn raise_all(chains: &mut Chains, noted: &Objects, count: usize, id: u64)
     requires within { count ≤ length chains.old.heads.items }
     requires some { (x : ℕ) → x < count → contains x noted.now ≡ true → 0 < length (chain_of chains.old x) }
     ensures put { (x : ℕ) → x < count → contains x noted.now ≡ true
@@ -190,6 +121,70 @@ pub fn raise_all(chains: &mut Chains, noted: &Objects, count: usize, id: u64)
 {
     for x in noted.numbers() {
         raise_at(chains, *x, count, id);
+    }
+}
+
+/// Gives the first record of each object that the snapshot wrote an id.
+pub fn raise_noted(chains: &mut Chains, wrote: &[Objects], name: Name, count: usize, id: u64)
+    requires within { count ≤ length chains.old.heads.items }
+    requires some { (x : ℕ) → x < count → contains x (slice_index_or wrote.now name []) ≡ true
+        → 0 < length (chain_of chains.old x) }
+    ensures put { (x : ℕ) → x < count → contains x (slice_index_or wrote.now name []) ≡ true
+        → chain_of chains.new x ≡ with_head_id id (chain_of chains.old x) }
+    ensures left { (x : ℕ) → contains x (slice_index_or wrote.now name []) ≡ false
+        → chain_of chains.new x ≡ chain_of chains.old x }
+    ensures many { length chains.new.heads.items ≡ length chains.old.heads.items }
+{
+    if let Some(noted) = wrote.get(name as usize) {
+        raise_all(chains, noted, count, id);
+    }
+}
+
+/// Gives object `x` a stamp in global's view, if the snapshot `name` is global.
+pub fn stamp_object(stamps: &mut Vec<u64>, name: Name, x: ObjectNo, stamp: u64)
+    requires { x < length stamps.old.items }
+    ensures { stamps.new.items ≡ (if name == 0 then slice_set stamps.old.items x stamp else stamps.old.items) }
+{
+    if name == 0 {
+        stamps[x as usize] = stamp;
+    }
+}
+
+/// Gives the settled objects their stamps in global's view, if the parent `into` is global.
+pub fn stamp_settled(stamps: &mut Vec<u64>, into: Name, settled: &[Settled])
+    ensures put { into ≡ 0 → (f : ℕ → StampedValue) → EntriesAre f settled.now → (x : ℕ) → x < length stamps.old.items
+        → contains x (objects_of settled.now) ≡ true → slice_index_or stamps.new.items x 0 ≡ (f x).stamp }
+    ensures left { (x : ℕ) → contains x (objects_of settled.now) ≡ false
+        → slice_index_or stamps.new.items x 0 ≡ slice_index_or stamps.old.items x 0 }
+    ensures other { 0 < into → stamps.new.items ≡ stamps.old.items }
+    ensures many { length stamps.new.items ≡ length stamps.old.items }
+{
+    if into == 0 {
+        set_stamps(stamps, settled);
+    }
+}
+
+// Replaces the stamp of object `x`, if there is such an object.
+fn set_stamp(stamps: &mut Vec<u64>, x: ObjectNo, stamp: u64)
+    ensures here { x < length stamps.old.items → slice_index_or stamps.new.items x 0 ≡ stamp }
+    ensures others { (y : ℕ) → y ≢ x → slice_index_or stamps.new.items y 0 ≡ slice_index_or stamps.old.items y 0 }
+    ensures many { length stamps.new.items ≡ length stamps.old.items }
+{
+    if (x as usize) < stamps.len() {
+        stamps[x as usize] = stamp;
+    }
+}
+
+// Replaces the stamps of the settled objects.
+fn set_stamps(stamps: &mut Vec<u64>, settled: &[Settled])
+    ensures put { (f : ℕ → StampedValue) → EntriesAre f settled.now → (x : ℕ) → x < length stamps.old.items
+        → contains x (objects_of settled.now) ≡ true → slice_index_or stamps.new.items x 0 ≡ (f x).stamp }
+    ensures left { (x : ℕ) → contains x (objects_of settled.now) ≡ false
+        → slice_index_or stamps.new.items x 0 ≡ slice_index_or stamps.old.items x 0 }
+    ensures many { length stamps.new.items ≡ length stamps.old.items }
+{
+    for s in settled {
+        set_stamp(stamps, s.object, s.entry.stamp);
     }
 }
 

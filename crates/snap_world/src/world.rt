@@ -1,24 +1,26 @@
 // The world of records and its calls.
 ghost use Rattle.std.specs.Prelude.{◌≡◌, ℕ, Bool, ◌+◌, ◌*◌, ◌≤◌, ◌<◌, ◌==◌, ◌^◌, not, if◌then◌else◌, slice_get, List, [], true, false, length, slice_index_or, IfOk, IfSome, IfNone, OnOk, OnErr};
-ghost use Rattle.rt_values.specs.Maps.{contains, with_member};
+ghost use Rattle.rt_values.specs.Maps.{contains};
 ghost use Rattle.snap_nested.specs.Members.{ids_of, member};
-ghost use Rattle.snap_api.specs.World.{with_members};
 
 use crate::kept_ids::find_kept_ids;
-use crate::moving::{clear_noted, find_changed_objects, pad_all, raise_all, read_all, stamps_of};
-use crate::noting::{copy_noted, fill, note_object, note_settled, set_noted};
-use crate::settling::{Outcome, settle_all};
-use rt_values::{Caller, Kind, Map, Name, NoMemory, ObjectNo, Objects, Ty, Value, WatcherNo};
+use crate::moving::{clear_noted, find_changed_objects, pad_all, raise_noted, stamp_object, stamp_settled};
+use crate::noting::{
+    clear_noted_objects, fill, note_object, note_settled, noted, set_noted, unnote_object,
+};
+use crate::settling::{ReadRecords, Settled, lesser, settled_of};
+use rt_values::{Caller, Kind, Name, NoMemory, ObjectNo, Objects, Ty, Value, WatcherNo};
 use snap_api::{CLOCK_LIMIT, Object, Refusal, Versions};
 use snap_ids::IdSet;
 use snap_nested::Family;
 use snap_policy::Policy;
 use snap_records::{Chains, RecordNo};
 use snap_reuse::put;
+use snap_settle::{Choice, choose, is_conflict};
 use std::alloc::Global;
 
 /// A world of snapshots with state records: the clock, the objects, the ids of the snapshots, the chains of records, the
-/// objects that each snapshot wrote, and the stamps of each watcher's last map.
+/// objects that each snapshot wrote, the stamps of global's view, and the stamps of each watcher's last map.
 #[derive(Drop)]
 pub struct RecordWorld<P> {
     clock: u64,
@@ -26,10 +28,12 @@ pub struct RecordWorld<P> {
     family: Family,
     chains: Chains,
     wrote: Vec<Objects>,
+    stamps: Vec<u64>,
     lasts: Vec<Option<Objects>>,
     ghost in_time: { clock ≤ 2 ^ 60 },
     ghost few: { family.handed ≤ 3 * clock + 1 },
     ghost many: { length chains.heads.items ≡ length objects.items },
+    ghost stamped: { length stamps.items ≡ length objects.items },
     ghost blank: { (n : ℕ) → length family.members.items ≤ n → slice_index_or wrote.items n [] ≡ [] },
 }
 
@@ -46,12 +50,14 @@ impl<P: Policy> RecordWorld<P> {
     ghost use Rattle.snap_nested.specs.Members.{is_free};
     ghost use Rattle.snap_laws.specs.Disposes.{dispose_refusal};
     ghost use Rattle.snap_laws.specs.Steps.{DisposesTo};
-    ghost use Rattle.snap_laws.specs.Applies.{apply_refusal, settled_by_records, Pads, Merges};
-    ghost use Rattle.snap_world.specs.Choices.{outcome_verdict, HasLength};
+    ghost use Rattle.snap_laws.specs.Applies.{apply_refusal, choice_at, HasNoClash, Pads, Merges};
+    ghost use Rattle.snap_laws.specs.FreeRefusals.{IsMergeFree};
+    ghost use Rattle.snap_settle.specs.Choices.{is_clash};
+    ghost use Rattle.snap_world.specs.Choices.{objects_of, IsLeast};
     ghost use Rattle.snap_laws.specs.Represents.{Represents};
     ghost use Rattle.snap_laws.specs.Steps.{IsUnchanged, IsTake, take_refusal, WritesTo};
     ghost use Rattle.snap_laws.specs.Writes.{write_refusal, object_refusal};
-    ghost use Rattle.snap_world.specs.Holding.{parts_of, IsComparison};
+    ghost use Rattle.snap_world.specs.Holding.{parts_of, IsComparison, AreRead, AreSettled};
     ghost use Rattle.snap_records.specs.Records.{AreApart, Reads};
     ghost use Rattle.snap_records.specs.Chains.{chain_of};
     ghost use Rattle.rt_values.specs.declared.maps.StampedValue.{StampedValue};
@@ -75,6 +81,7 @@ impl<P: Policy> RecordWorld<P> {
             family: Family::new(alloc)?,
             chains: Chains::new(alloc),
             wrote: Vec::new(alloc),
+            stamps: Vec::new(alloc),
             lasts: Vec::new(alloc),
         })
     }
@@ -208,17 +215,18 @@ impl<P: Policy> RecordWorld<P> {
             → WritesTo (parts_of self.old) (parts_of self.new) name object value) }
         ensures err { OnErr result (IsUnchanged (parts_of self.old) (parts_of self.new)) }
     {
-        let Ok(more) = note_object(alloc, &self.wrote, name, object) else {
+        let Ok(()) = fill(alloc, &mut self.wrote, name) else {
             return Err(NoMemory);
         };
-        let Ok(()) = fill(alloc, &mut self.wrote, name) else {
+        let Ok(is_new) = note_object(&mut self.wrote, name, object) else {
             return Err(NoMemory);
         };
         let id = self.family.id(name);
         let Ok(()) = put(&mut self.chains, object, id, value, self.clock + 1, kept) else {
+            unnote_object(&mut self.wrote, name, is_new);
             return Err(NoMemory);
         };
-        set_noted(&mut self.wrote, name, more);
+        stamp_object(&mut self.stamps, name, object, self.clock + 1);
         self.clock += 1;
         Ok(())
     }
@@ -271,42 +279,138 @@ impl<P: Policy> RecordWorld<P> {
         None
     }
 
-    // Settles the objects of a snapshot.
-    fn settle(&self, alloc: Global, name: Name, into: Name) -> Result<Outcome, NoMemory>
+    // Returns the records of an object that a snapshot reads for its base, that its parent reads, and that the snapshot reads.
+    // There are such records in every represented world.
+    fn find_read(&self, name: Name, into: Name, object: ObjectNo) -> Option<ReadRecords>
         requires live { (member self.now.family.members.items name).is_live ≡ true }
         requires above { (member self.now.family.members.items into).is_live ≡ true }
-        ensures len { IfOk result (HasLength (length self.now.objects.items)) }
-        ensures is { IfOk result (λ o. outcome_verdict o
-            ≡ settled_by_records P.rules (parts_of self.now)
-            (slice_index_or self.now.wrote.items name []) name into) }
+        requires there { object < length self.now.objects.items }
+        ensures is { IfSome result (AreRead self.now name into object) }
+        ensures none { IfNone result ((w : World P) → Represents (parts_of self.now) w → 0 < name → ⊥) }
     {
-        let count = self.objects.len();
-        let noted = copy_noted(alloc, &self.wrote, name)?;
-        let later = self.family.invalid(name).or(alloc, self.family.ids(name))?;
-        let base = read_all(alloc, &self.chains, count, self.family.id(name), &later)?;
-        let current = read_all(
+        let id = self.family.id(name);
+        let invalid = self.family.invalid(name);
+        let own = self.family.ids(name);
+        let Some(previous) = self.chains.readable_for_base(object, id, invalid, own) else {
+            return None;
+        };
+        let above = self.family.invalid(into);
+        let Some(current) = self.chains.readable(object, self.family.id(into), above) else {
+            return None;
+        };
+        let Some(applied) = self.chains.readable(object, id, invalid) else {
+            return None;
+        };
+        Some(ReadRecords {
+            previous,
+            current,
+            applied,
+        })
+    }
+
+    // Returns whether the changes of an object conflict.
+    fn is_clash(
+        &self,
+        alloc: Global,
+        name: Name,
+        into: Name,
+        object: ObjectNo,
+    ) -> Result<bool, NoMemory>
+        requires live { (member self.now.family.members.items name).is_live ≡ true }
+        requires above { (member self.now.family.members.items into).is_live ≡ true }
+        requires there { object < length self.now.objects.items }
+        ensures is { IfOk result (λ found. found ≡ is_clash (choice_at P.rules (parts_of self.now) name into object)) }
+        ensures free { (w : World P) → Represents (parts_of self.now) w → 0 < name
+            → IsMergeFree P.is_free_merge w name into object → IsOk result }
+    {
+        let Some(read) = self.find_read(name, into, object) else {
+            return Err(NoMemory);
+        };
+        is_conflict(
             alloc,
-            &self.chains,
-            count,
-            self.family.id(into),
-            self.family.invalid(into),
-        )?;
-        let own = read_all(
+            &self.objects[object as usize].policy,
+            self.chains.entry(read.previous),
+            self.chains.entry(read.current),
+            self.chains.entry(read.applied),
+        )
+    }
+
+    // Decides the verdict on an object that a snapshot wrote.
+    fn choose(
+        &self,
+        alloc: Global,
+        name: Name,
+        into: Name,
+        object: ObjectNo,
+    ) -> Result<Choice, NoMemory>
+        requires live { (member self.now.family.members.items name).is_live ≡ true }
+        requires above { (member self.now.family.members.items into).is_live ≡ true }
+        requires there { object < length self.now.objects.items }
+        ensures { IfOk result (λ choice. choice ≡ choice_at P.rules (parts_of self.now) name into object) }
+    {
+        let Some(read) = self.find_read(name, into, object) else {
+            return Err(NoMemory);
+        };
+        choose(
             alloc,
-            &self.chains,
-            count,
-            self.family.id(name),
-            self.family.invalid(name),
-        )?;
-        settle_all(
-            alloc,
-            &self.objects,
-            &noted,
-            &base,
-            &current,
-            &own,
+            &self.objects[object as usize].policy,
+            self.chains.entry(read.previous),
+            self.chains.entry(read.current),
+            self.chains.entry(read.applied),
             self.clock + 1,
         )
+    }
+
+    // Finds the least object that a snapshot wrote and that conflicts. Every such object is known in a represented world.
+    fn find_conflict(
+        &self,
+        alloc: Global,
+        name: Name,
+        into: Name,
+    ) -> Result<Option<ObjectNo>, NoMemory>
+        requires live { (member self.now.family.members.items name).is_live ≡ true }
+        requires above { (member self.now.family.members.items into).is_live ≡ true }
+        ensures is { IfOk result (IsLeast (λ x. is_clash (choice_at P.rules (parts_of self.now) name into x))
+            (slice_index_or self.now.wrote.items name [])) }
+        ensures free { (w : World P) → Represents (parts_of self.now) w → 0 < name
+            → ((x : ℕ) → (parts_of self.now).noted name x ≡ true → IsMergeFree P.is_free_merge w name into x)
+            → IsOk result }
+    {
+        let mut least = None;
+        for x in noted(&self.wrote, name) {
+            if *x as usize >= self.objects.len() {
+                return Err(NoMemory);
+            }
+            let Ok(found) = self.is_clash(alloc, name, into, *x) else {
+                return Err(NoMemory);
+            };
+            least = lesser(found, *x, least);
+        }
+        Ok(least)
+    }
+
+    // Settles the objects that a snapshot wrote. Every such object is known in a represented world.
+    fn settle(&self, alloc: Global, name: Name, into: Name) -> Result<Vec<Settled>, NoMemory>
+        requires live { (member self.now.family.members.items name).is_live ≡ true }
+        requires above { (member self.now.family.members.items into).is_live ≡ true }
+        requires none { HasNoClash P.rules (parts_of self.now) name into }
+        ensures objects { IfOk result (λ settled. objects_of settled.items
+            ≡ slice_index_or self.now.wrote.items name []) }
+        ensures each { IfOk result (λ settled. AreSettled P.rules (parts_of self.now) name into settled.items) }
+    {
+        let mut settled = Vec::new(alloc);
+        for x in noted(&self.wrote, name) {
+            if *x as usize >= self.objects.len() {
+                return Err(NoMemory);
+            }
+            let Ok(choice) = self.choose(alloc, name, into, *x) else {
+                return Err(NoMemory);
+            };
+            let Ok(()) = settled.push(settled_of(*x, choice)) else {
+                return Err(NoMemory);
+            };
+        }
+        Ok(settled)
     }
 
     // Puts the settled values into the parent.
@@ -315,38 +419,56 @@ impl<P: Policy> RecordWorld<P> {
         alloc: Global,
         name: Name,
         into: Name,
-        view: &Map,
-        changed: &Objects,
+        settled: &[Settled],
     ) -> Result<(), NoMemory>
         requires live { (member self.old.family.members.items name).is_live ≡ true }
         requires inner { 0 < name }
         requires parent { (member self.old.family.members.items name).parent ≡ into }
         requires above { (member self.old.family.members.items into).is_live ≡ true }
         requires room { self.old.clock < 2 ^ 60 }
-        requires full { length view.now ≡ length self.old.objects.items }
-        ensures ok { OnOk result (Merges (parts_of self.old) (parts_of self.new) name into view.now changed.now) }
+        requires objects { objects_of settled.now ≡ slice_index_or self.old.wrote.items name [] }
+        requires each { AreSettled P.rules (parts_of self.old) name into settled.now }
+        ensures ok { OnOk result (Merges (parts_of self.old) (parts_of self.new) name into
+            (choice_at P.rules (parts_of self.old) name into)) }
         ensures err { OnErr result (Pads (parts_of self.old) (parts_of self.new)) }
     {
-        let Ok(noted) = copy_noted(alloc, &self.wrote, name) else {
-            return Err(NoMemory);
-        };
-        let Ok(more) = note_settled(alloc, &self.wrote, into, changed) else {
+        let Ok(more) = note_settled(alloc, &self.wrote, into, settled) else {
             return Err(NoMemory);
         };
         let Ok(()) = fill(alloc, &mut self.wrote, into) else {
             return Err(NoMemory);
         };
-        let Ok(()) = pad_all(alloc, &mut self.chains, &noted, view) else {
+        let Ok(()) = pad_all(alloc, &mut self.chains, settled) else {
             return Err(NoMemory);
         };
         let Ok(()) = self.family.close_applied(alloc, name, into) else {
             return Err(NoMemory);
         };
         let id = self.family.handed();
-        raise_all(&mut self.chains, &noted, view.len(), id);
-        self.wrote[into as usize] = more;
+        raise_noted(&mut self.chains, &self.wrote, name, self.objects.len(), id);
+        stamp_settled(&mut self.stamps, into, settled);
+        set_noted(&mut self.wrote, into, more);
+        clear_noted_objects(alloc, &mut self.wrote, name);
         self.clock += 1;
         Ok(())
+    }
+
+    // Applies a snapshot without conflicts.
+    fn merge(&mut self, alloc: Global, name: Name, into: Name) -> Result<(), NoMemory>
+        requires live { (member self.old.family.members.items name).is_live ≡ true }
+        requires inner { 0 < name }
+        requires parent { (member self.old.family.members.items name).parent ≡ into }
+        requires above { (member self.old.family.members.items into).is_live ≡ true }
+        requires room { self.old.clock < 2 ^ 60 }
+        requires none { HasNoClash P.rules (parts_of self.old) name into }
+        ensures ok { OnOk result (Merges (parts_of self.old) (parts_of self.new) name into
+            (choice_at P.rules (parts_of self.old) name into)) }
+        ensures err { OnErr result (Pads (parts_of self.old) (parts_of self.new)) }
+    {
+        let Ok(settled) = self.settle(alloc, name, into) else {
+            return Err(NoMemory);
+        };
+        self.put_settled(alloc, name, into, &settled)
     }
 
     // Returns the refusal of a dispose, if there is one.
@@ -476,10 +598,16 @@ impl<P: Policy> RecordWorld<P> {
         let Ok(()) = self.objects.reserve(1) else {
             return Err(NoMemory);
         };
+        let Ok(()) = self.stamps.reserve(1) else {
+            return Err(NoMemory);
+        };
         let Ok(x) = self.chains.add_object_with(alloc, 1, value, 0) else {
             return Err(NoMemory);
         };
         let Ok(()) = self.objects.push(Object { ty, policy }) else {
+            unreachable!();
+        };
+        let Ok(()) = self.stamps.push(0) else {
             unreachable!();
         };
         Ok(x)
@@ -510,11 +638,10 @@ impl<P: Policy> RecordWorld<P> {
         ensures ok { IfOk result (λ r. IsTakeFor (parts_of self.old) (parts_of self.new) caller watcher r.0 r.1) }
         ensures err { OnErr result (IsUnchanged (parts_of self.old) (parts_of self.new)) }
     {
-        let count = self.objects.len();
-        let id = self.family.id(0);
-        let Ok(stamps) = stamps_of(alloc, &self.chains, count, id, self.family.invalid(0)) else {
+        let Ok(stamps) = Vec::from_slice(alloc, &self.stamps) else {
             return Err(NoMemory);
         };
+        let stamps = Objects::of(stamps);
         let Ok(changed) = find_changed_objects(alloc, &self.lasts[watcher as usize], &stamps) else {
             return Err(NoMemory);
         };
@@ -530,11 +657,11 @@ impl<P: Policy> Versions for RecordWorld<P> {
     ghost use Rattle.std.specs.Prelude.{◌≡◌, ◌≢◌, true, None, length, IsOk, Err};
     ghost use Rattle.rt_values.specs.Maps.{value_at};
     ghost use Rattle.rt_values.specs.Values.{is_flat};
-    ghost use Rattle.snap_api.specs.Calls.{Calls, Logs, IsOwn, taken_reply, taken_for_reply, read_reply, write_reply, dispose_reply};
+    ghost use Rattle.snap_api.specs.Calls.{Calls, Logs, IsOwn, taken_reply, taken_for_reply, read_reply, write_reply, apply_reply, dispose_reply};
     ghost use Rattle.snap_api.specs.World.{World, snapshot_of};
     ghost use Rattle.snap_api.specs.declared.data.Refusal.TheVariants as Refusal;
     ghost use Rattle.snap_api.specs.declared.data.Request.TheVariants as Request;
-    ghost use Rattle.snap_laws.specs.FreeRefusals.{IsFreelyRefused};
+    ghost use Rattle.snap_laws.specs.FreeRefusals.{IsFreelyRefused, IsApplyFreelyRefused};
     ghost use Rattle.snap_laws.specs.Represents.{Represents};
     ghost use Rattle.snap_world.specs.Holding.{parts_of, counts_of};
 
@@ -684,19 +811,24 @@ impl<P: Policy> Versions for RecordWorld<P> {
         }
     }
 
-    fn apply(&mut self, alloc: Global, caller: Caller, name: Name) -> Result<(), Refusal> {
+    fn apply(&mut self, alloc: Global, caller: Caller, name: Name) -> Result<(), Refusal>
+        ensures call { Calls P.rules (Represents (parts_of self.old)) (Represents (parts_of self.new)) caller
+            (Request.Apply name)
+            (apply_reply result) }
+        ensures log { Logs None None caller (Request.Apply name) (apply_reply result) }
+        ensures refused { IsApplyFreelyRefused P.rules P.is_free_merge (Represents (parts_of self.old)) caller name
+            (apply_reply result) }
+    {
         if let Some(refusal) = self.apply_refusal(caller, name) {
             return Err(refusal);
         }
         let into = self.family.parent(name);
-        match self.settle(alloc, name, into) {
-            Ok(Outcome::Conflict(object)) => Err(Refusal::Conflict { object }),
-            Ok(Outcome::Merged(view, changed)) => {
-                match self.put_settled(alloc, name, into, &view, &changed) {
-                    Ok(()) => Ok(()),
-                    Err(_) => Err(Refusal::NoMemory),
-                }
-            }
+        match self.find_conflict(alloc, name, into) {
+            Ok(Some(object)) => Err(Refusal::Conflict { object }),
+            Ok(None) => match self.merge(alloc, name, into) {
+                Ok(()) => Ok(()),
+                Err(_) => Err(Refusal::NoMemory),
+            },
             Err(_) => Err(Refusal::NoMemory),
         }
     }

@@ -10,7 +10,7 @@ invariant_of-self g c =
     let old = c.args.self.now in
     let ms = old.family.members.items in
     let many : length c.close_disposed.new.self.members.items ≡ length ms = ap (λ (l : List Member). length l) c.close_disposed.ensures.ok ∙ closed_count ms old.family.handed c.args.name old.family.sound c.requires.live in
-    record { in_time = old.in_time; few = omega (arith, c.close_disposed.ensures.handed, old.few); many = old.many; blank = λ n past. old.blank n (omega (arith, past, many)) }
+    record { in_time = old.in_time; few = omega (arith, c.close_disposed.ensures.handed, old.few); many = old.many; stamped = old.stamped; blank = λ n past. old.blank n (omega (arith, past, many)) }
 
 pub returns : goal.returns
 returns g c =
@@ -25,6 +25,7 @@ returns g c =
         names = ap (λ (l : List Member). length l) e ∙ closed_count ms old.family.handed c.args.name old.family.sound c.requires.live;
         owner = λ n. ap (λ (l : List Member). (member l n).owner) e ∙ (stays n).0;
         kind = λ n. ap (λ (l : List Member). (member l n).kind) e ∙ (stays n).1;
+        stamps = refl;
         watchers = refl;
       };
       handed = c.close_disposed.ensures.handed;

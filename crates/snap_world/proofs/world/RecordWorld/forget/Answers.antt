@@ -22,7 +22,7 @@ invariant_of-self g c =
     let old = c.args.self.now in
     let ms = old.family.members.items in
     let many : length c.forget.new.self.members.items ≡ length ms = c.forget.ensures.ok.count in
-    record { in_time = old.in_time; few = omega (arith, c.forget.ensures.handed, old.few); many = c.clear_noted.ensures.many ∙ old.many; blank = λ n past. old.blank n (omega (arith, past, many)) }
+    record { in_time = old.in_time; few = omega (arith, c.forget.ensures.handed, old.few); many = c.clear_noted.ensures.many ∙ old.many; stamped = old.stamped; blank = λ n past. old.blank n (omega (arith, past, many)) }
 
 pub returns : goal.returns
 returns g c = λ w s.
@@ -42,6 +42,7 @@ returns g c = λ w s.
         names = c.forget.ensures.ok.count;
         owner = λ n. (stays n).0;
         kind = λ n. (stays n).1;
+        stamps = refl;
         watchers = refl;
       };
       handed = c.forget.ensures.handed;

@@ -16,6 +16,7 @@ returns-in_default-clause-err g c =
         names = ap (λ (l : List Member). length l) e;
         owner = λ n. ap (λ (l : List Member). (member l n).owner) e;
         kind = λ n. ap (λ (l : List Member). (member l n).kind) e;
+        stamps = refl;
         watchers = refl;
       };
       handed = c.in_default.ensures.err_handed;
@@ -28,7 +29,7 @@ pub invariant_of-self : goal.invariant_of-self
 invariant_of-self g c =
     let old = c.args.self.now in
     let many : length c.take.new.self.members.items ≡ length old.family.members.items = ap (λ (l : List Member). length l) c.in_default.ensures.err in
-    record { in_time = old.in_time; few = omega (arith, c.in_default.ensures.err_handed, old.few); many = old.many; blank = λ n past. old.blank n (omega (arith, past, many)) }
+    record { in_time = old.in_time; few = omega (arith, c.in_default.ensures.err_handed, old.few); many = old.many; stamped = old.stamped; blank = λ n past. old.blank n (omega (arith, past, many)) }
 
 pub invariant_of-self-2 : goal.invariant_of-self-2
 invariant_of-self-2 g c =
@@ -39,6 +40,7 @@ invariant_of-self-2 g c =
       in_time = omega (arith, c.requires.room);
       few = omega (arith, c.in-Ok.ensures.handed, old.few);
       many = old.many;
+      stamped = old.stamped;
       blank = λ n past. old.blank n (omega (arith, past, many));
     }
 
@@ -69,6 +71,7 @@ returns-clause-ok g c =
         kinds = λ n other. ap (λ (l : List Member). (member l n).kind) e ∙ (taken_others ms handed parent c.args.kind c.args.caller a up n other).1;
         watchers = refl;
         chains = refl;
+        stamps = refl;
         noted = λ x. ap (λ (l : List ℕ). contains x l) (c.args.self.now.blank (length ms) (omega arith));
         noted_others = λ n x other. refl;
       };

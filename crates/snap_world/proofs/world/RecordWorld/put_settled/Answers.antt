@@ -1,10 +1,11 @@
-use Rattle.std.proofs.Common.{◌≡◌, ◌≢◌, ℕ, ◌+◌, List, [], length, refl, sym, ap, ◌∙◌, subst, arith}
-use Rattle.std.proofs.lemmas.List.{get_or-set_same, get_or-set_other}
+use Rattle.std.proofs.Common.{◌≡◌, ◌≢◌, ℕ, ◌+◌, ◌<◌, ◌&&◌, ◌||◌, nat_lt, List, [], length, refl, sym, ap, ◌∙◌, subst, Bool, true, false, Some, Option, cond, arith, inl, inr}
 use Rattle.std.proofs.lemmas.Option.{slice_get_within}
-use Rattle.std.specs.Prelude.{slice_index_or}
+use Rattle.std.specs.Option.{unwrap_or}
+use Rattle.std.specs.Prelude.{slice_index_or, slice_get}
 use Rattle.rt_values.specs.Maps.{contains}
-use Rattle.snap_api.specs.World.{with_members}
-use Rattle.snap_api.proofs.ValidSteps.{contains-with_members}
+use Rattle.rt_values.specs.declared.maps.StampedValue.{StampedValue}
+use Rattle.snap_settle.specs.Choices.{entry_of_choice, is_changed}
+use Rattle.snap_settle.specs.declared.choice.Choice.{Choice}
 use Rattle.snap_records.specs.Edits.{with_head_id}
 use Rattle.snap_nested.specs.Moves.{Applies}
 use Rattle.snap_records.proofs.Padding.{padded_same}
@@ -13,14 +14,19 @@ use Rattle.snap_nested.specs.declared.family.Member.{Member}
 use Rattle.snap_nested.proofs.Members.{dated, live_member}
 use Rattle.snap_nested.proofs.Merging.{high_own, advances_between, applies_merged, merged_count, merged_stays}
 use Rattle.snap_records.specs.Chains.{chain_of}
+use Rattle.snap_laws.specs.Applies.{choice_at}
+use Rattle.snap_world.specs.Choices.{EntriesAre, objects_of, is_taken, with_taken}
+use Rattle.snap_world.specs.Holding.{parts_of}
+use Rattle.snap_world.specs.declared.settling.Settled.{Settled}
+use Rattle.snap_world.proofs.Settled.{entry_settled, changed_settled, find_settled, taken_is, contains-with_taken}
 use Rattle.snap_world.proofs.world.RecordWorld.put_settled.Goals as goal
 
-pub invariant_of-self : goal.invariant_of-self
-invariant_of-self g c = let old = c.args.self.now in record { in_time = old.in_time; few = old.few; many = old.many; blank = λ n past. c.fill.ensures.same n ∙ old.blank n past }
+pub invariant_of-self-in_default-fill : goal.invariant_of-self-in_default-fill
+invariant_of-self-in_default-fill g c = let old = c.args.self.now in record { in_time = old.in_time; few = old.few; many = old.many; stamped = old.stamped; blank = λ n past. c.fill.ensures.same n ∙ old.blank n past }
 
 pub returns-in_default-fill-clause-err : goal.returns-in_default-fill-clause-err
 returns-in_default-fill-clause-err g c = record {
-  same = record { clock = refl; objects = refl; names = refl; owner = λ n. refl; kind = λ n. refl; watchers = refl };
+  same = record { clock = refl; objects = refl; names = refl; owner = λ n. refl; kind = λ n. refl; stamps = refl; watchers = refl };
   handed = refl;
   ids = refl;
   chains = λ x. padded_same (chain_of c.args.self.now.chains x);
@@ -28,11 +34,11 @@ returns-in_default-fill-clause-err g c = record {
 }
 
 pub invariant_of-self-in_default-pad_all : goal.invariant_of-self-in_default-pad_all
-invariant_of-self-in_default-pad_all g c = let old = c.args.self.now in record { in_time = old.in_time; few = old.few; many = c.pad_all.ensures.many ∙ old.many; blank = λ n past. c.fill.ensures.same n ∙ old.blank n past }
+invariant_of-self-in_default-pad_all g c = let old = c.args.self.now in record { in_time = old.in_time; few = old.few; many = c.pad_all.ensures.many ∙ old.many; stamped = old.stamped; blank = λ n past. c.fill.ensures.same n ∙ old.blank n past }
 
 pub returns-in_default-pad_all-clause-err : goal.returns-in_default-pad_all-clause-err
 returns-in_default-pad_all-clause-err g c = record {
-  same = record { clock = refl; objects = refl; names = refl; owner = λ n. refl; kind = λ n. refl; watchers = refl };
+  same = record { clock = refl; objects = refl; names = refl; owner = λ n. refl; kind = λ n. refl; stamps = refl; watchers = refl };
   handed = refl;
   ids = refl;
   chains = c.pad_all.ensures.padded;
@@ -43,7 +49,7 @@ pub invariant_of-self-in_default-close_applied : goal.invariant_of-self-in_defau
 invariant_of-self-in_default-close_applied g c =
     let old = c.args.self.now in
     let many : length c.close_applied.new.self.members.items ≡ length old.family.members.items = ap (λ (l : List Member). length l) c.in_default-close_applied.ensures.err in
-    record { in_time = old.in_time; few = omega (arith, c.in_default-close_applied.ensures.err_handed, old.few); many = c.pad_all.ensures.many ∙ old.many; blank = λ n past. c.fill.ensures.same n ∙ old.blank n (omega (arith, past, many)) }
+    record { in_time = old.in_time; few = omega (arith, c.in_default-close_applied.ensures.err_handed, old.few); many = c.pad_all.ensures.many ∙ old.many; stamped = old.stamped; blank = λ n past. c.fill.ensures.same n ∙ old.blank n (omega (arith, past, many)) }
 
 pub returns-in_default-close_applied-clause-err : goal.returns-in_default-close_applied-clause-err
 returns-in_default-close_applied-clause-err g c =
@@ -55,6 +61,7 @@ returns-in_default-close_applied-clause-err g c =
         names = ap (λ (l : List Member). length l) e;
         owner = λ n. ap (λ (l : List Member). (member l n).owner) e;
         kind = λ n. ap (λ (l : List Member). (member l n).kind) e;
+        stamps = refl;
         watchers = refl;
       };
       handed = c.in_default-close_applied.ensures.err_handed;
@@ -63,9 +70,16 @@ returns-in_default-close_applied-clause-err g c =
       noted = λ n x. ap (λ (l : List ℕ). contains x l) (c.fill.ensures.same n);
     }
 
-pub raise_all-requires-clause-some : goal.raise_all-requires-clause-some
-raise_all-requires-clause-some g c = λ x within noted.
-    let head = c.in-Ok-pad_all.ensures.head x (omega (arith, within, c.len.ensures)) noted in
+pub raise_noted-requires-clause-within : goal.raise_noted-requires-clause-within
+raise_noted-requires-clause-within g c = omega (arith, c.len.ensures, c.args.self.now.objects.ok.0, c.args.self.now.many, c.pad_all.ensures.many)
+
+pub raise_noted-requires-clause-some : goal.raise_noted-requires-clause-some
+raise_noted-requires-clause-some g c = λ x small noted.
+    let old = c.args.self.now in
+    let choices : ℕ → Choice = λ y. choice_at g.P.Policy.rules (parts_of old) c.args.name c.args.into y in
+    let are : EntriesAre (λ y. entry_of_choice (choices y)) c.args.settled.now = λ i s there. entry_settled s ∙ ap entry_of_choice (c.requires.each i s there).0 in
+    let listed : contains x (objects_of c.args.settled.now) ≡ true = ap (λ (l : List ℕ). contains x l) (c.requires.objects ∙ sym (c.fill.ensures.same c.args.name) ∙ ap (λ (l : List (List ℕ)). slice_index_or l c.args.name []) (sym c.deref-2.ensures.value)) ∙ noted in
+    let head = c.in-Ok-pad_all.ensures.head (λ y. entry_of_choice (choices y)) are x (omega (arith, small, c.len.ensures, old.objects.ok.0, old.many)) listed in
     omega (arith, slice_get_within (chain_of c.pad_all.new.chains x) 0 _ head)
 
 pub invariant_of-self-2 : goal.invariant_of-self-2
@@ -76,25 +90,38 @@ invariant_of-self-2 g c =
     record {
       in_time = omega (arith, c.requires.room);
       few = omega (arith, c.in-Ok-close_applied.ensures.handed, old.few);
-      many = c.raise_all.ensures.many ∙ c.pad_all.ensures.many ∙ old.many;
+      many = c.raise_noted.ensures.many ∙ c.pad_all.ensures.many ∙ old.many;
+      stamped = c.stamp_settled.ensures.many ∙ old.stamped;
       blank = λ n past.
           let other : n ≢ c.args.into = λ same. omega (arith, same, past, many, live_member ms c.args.into c.requires.above) in
-          get_or-set_other c.fill.new.wrote.items c.args.into n c.in-Ok-note_settled.more [] other ∙ c.fill.ensures.same n ∙ old.blank n (omega (arith, past, many));
+          let outer : n ≢ c.args.name = λ same. omega (arith, same, past, many, live_member ms c.args.name c.requires.live) in
+          c.clear_noted_objects.ensures n outer ∙ c.set_noted.ensures.others n other ∙ c.fill.ensures.same n ∙ old.blank n (omega (arith, past, many));
     }
 
 pub returns-clause-ok : goal.returns-clause-ok
 returns-clause-ok g c =
     let old = c.args.self.now in
+    let h = parts_of old in
     let ms = old.family.members.items in
     let handed = old.family.handed in
     let name = c.args.name in
     let into = c.args.into in
+    let settled : List Settled = c.args.settled.now in
     let a = old.family.sound in
     let r = c.requires in
     let e : c.close_applied.new.self.members.items ≡ members_after_apply (members_after_advance ms handed into) name into = c.in-Ok-close_applied.ensures.ok in
-    let nt : c.in-Ok.noted ≡ slice_index_or old.wrote.items name [] = c.in-Ok.ensures ∙ ap (λ (l : List (List ℕ)). slice_index_or l name []) c.deref.ensures.value in
     let stays = merged_stays ms handed name into a r.live r.inner r.parent r.above in
     let id : c.handed-id.result ≡ handed + 1 = c.handed-id.ensures ∙ c.in-Ok-close_applied.ensures.handed in
+    let choices : ℕ → Choice = λ y. choice_at g.P.Policy.rules h name into y in
+    let are : EntriesAre (λ y. entry_of_choice (choices y)) settled = λ i s there. entry_settled s ∙ ap entry_of_choice (r.each i s there).0 in
+    let kinds : (i : ℕ) (s : Settled) → slice_get settled i ≡ Some s → s.is_changed ≡ is_changed (choices s.object) = λ i s there. changed_settled s ∙ ap is_changed (r.each i s there).0 in
+    let listed : (x : ℕ) → h.noted name x ≡ true → contains x (objects_of settled) ≡ true = λ x noted. ap (λ (l : List ℕ). contains x l) r.objects ∙ noted in
+    let within : (x : ℕ) → h.noted name x ≡ true → x < length old.objects.items = λ x noted. let f = find_settled x settled (listed x noted) in omega (arith, (r.each f.at f.one f.there).1, f.same) in
+    let wrote : slice_index_or c.deref-2.result.now name [] ≡ slice_index_or old.wrote.items name [] = ap (λ (l : List (List ℕ)). slice_index_or l name []) c.deref-2.ensures.value ∙ c.fill.ensures.same name in
+    let unlike : into ≢ name = λ same. a.sound.above name r.live r.inner (r.parent ∙ same) in
+    let before : List ℕ = slice_index_or old.wrote.items into [] in
+    let more : unwrap_or c.in-Ok.more before ≡ cond (nat_lt 0 into) (with_taken settled before) before =
+    ap (λ (l : List (List ℕ)). unwrap_or c.in-Ok.more (slice_index_or l into [])) (sym c.deref.ensures.value) ∙ c.in-Ok.ensures ∙ ap (λ (l : List (List ℕ)). cond (nat_lt 0 into) (with_taken settled (slice_index_or l into [])) (slice_index_or l into [])) c.deref.ensures.value in
     record {
       clock = refl;
       objects = refl;
@@ -111,10 +138,19 @@ returns-clause-ok g c =
       dated = dated c.close_applied.new.self.members.items;
       padded = λ x. chain_of c.pad_all.new.chains x;
       pads = c.pad_all.ensures.padded;
-      head = λ x within noted. c.in-Ok-pad_all.ensures.head x (omega (arith, within, r.full)) (ap (λ (l : List ℕ). contains x l) nt ∙ noted);
-      put = λ x within noted. c.raise_all.ensures.put x (omega (arith, within, r.full, c.len.ensures)) (ap (λ (l : List ℕ). contains x l) nt ∙ noted) ∙ ap (λ (i : ℕ). with_head_id i (chain_of c.pad_all.new.chains x)) id;
-      left = λ x none. c.raise_all.ensures.left x (ap (λ (l : List ℕ). contains x l) nt ∙ none);
-      noted_into = λ x. ap (λ (l : List ℕ). contains x l) (get_or-set_same c.fill.new.wrote.items into c.in-Ok-note_settled.more [] c.in-Ok-fill.ensures.there ∙ c.in-Ok-note_settled.ensures)
-          ∙ ap (λ (l : List (List ℕ)). contains x (with_members c.args.changed.now (slice_index_or l into []))) c.deref-2.ensures.value ∙ contains-with_members x c.args.changed.now (slice_index_or old.wrote.items into []);
-      noted_others = λ n x one two. ap (λ (l : List ℕ). contains x l) (get_or-set_other c.fill.new.wrote.items into n c.in-Ok-note_settled.more [] two ∙ c.fill.ensures.same n);
-    }
+      head = λ x noted. c.in-Ok-pad_all.ensures.head (λ y. entry_of_choice (choices y)) are x (omega (arith, within x noted, old.many)) (listed x noted);
+      put = λ x noted. c.raise_noted.ensures.put x (omega (arith, within x noted, c.len.ensures, old.objects.ok.0)) (ap (λ (l : List ℕ). contains x l) wrote ∙ noted) ∙ ap (λ (i : ℕ). with_head_id i (chain_of c.pad_all.new.chains x)) id;
+      left = λ x none. c.raise_noted.ensures.left x (ap (λ (l : List ℕ). contains x l) wrote ∙ none);
+      noted_into = λ x. ap (λ (l : List ℕ). contains x l) (c.clear_noted_objects.ensures into unlike ∙ c.set_noted.ensures.here ∙ ap (λ (l : List ℕ). unwrap_or c.in-Ok.more l) (c.fill.ensures.same into) ∙ more)
+          ∙ merged (nat_lt 0 into) x settled before (h.noted name x) (is_changed (choices x)) (taken_is (λ y. is_changed (choices y)) settled kinds x ∙ ap (λ (l : List ℕ). contains x l && is_changed (choices x)) r.objects);
+      noted_others = λ n x one two. ap (λ (l : List ℕ). contains x l) (c.clear_noted_objects.ensures n one ∙ c.set_noted.ensures.others n two ∙ c.fill.ensures.same n);
+      stamps_count = c.stamp_settled.ensures.many;
+      stamps_put = λ x root noted. c.stamp_settled.ensures.put root (λ y. entry_of_choice (choices y)) are x (omega (arith, within x noted, old.stamped)) (listed x noted);
+      stamps_left = λ x out. elim out [
+        | inl above ↦ ap (λ (l : List ℕ). slice_index_or l x 0) (c.stamp_settled.ensures.other above)
+        | inr none ↦ c.stamp_settled.ensures.left x (ap (λ (l : List ℕ). contains x l) r.objects ∙ none)
+      ];
+    } where
+      merged : (b : Bool) (x : ℕ) (settled : List Settled) (xs : List ℕ) (noted changed : Bool) → is_taken x settled ≡ (noted && changed) → contains x (cond b (with_taken settled xs) xs) ≡ ((b && (noted && changed)) || contains x xs)
+      merged true x settled xs noted changed is = contains-with_taken x settled xs ∙ ap (λ (c : Bool). c || contains x xs) is
+      merged false x settled xs noted changed is = refl

@@ -1,37 +1,79 @@
-use Rattle.std.proofs.Common.{◌≡◌, ℕ, List, [], sym, ap, ◌∙◌, subst, None, refl}
-use Rattle.std.specs.Prelude.{slice_index_or}
-use Rattle.snap_api.specs.Settle.{settled, conflict}
-use Rattle.snap_laws.specs.Applies.{apply_refusal, settled_by_records, Merges}
+use Rattle.std.proofs.Common.{◌≡◌, ◌<◌, ℕ, sym, ap, ◌∙◌, subst, true, false, None, Option, Some}
+use Rattle.std.specs.Prelude.{slice_index_or, []}
+use Rattle.snap_settle.specs.Choices.{is_clash}
+use Rattle.snap_laws.specs.Applies.{apply_refusal, choice_at, HasNoClash, IsLeastClash, Merges}
+use Rattle.snap_laws.specs.FreeRefusals.{IsMergeFree}
+use Rattle.snap_laws.proofs.FreeRefusals.{apply_not_refused, apply_conflicts}
+use Rattle.snap_laws.proofs.Merging.{pads_stand, applies_answer, apply_good}
 use Rattle.snap_laws.proofs.Takes.{like_itself, does_refused}
-use Rattle.snap_laws.proofs.Merging.{pads_stand, applies_answer}
-use Rattle.snap_world.specs.Choices.{outcome_verdict}
+use Rattle.snap_world.specs.Choices.{IsLeast}
 use Rattle.snap_world.specs.Holding.{parts_of}
 use Rattle.snap_world.proofs.world.RecordWorldVersions.apply.Goals as goal
 
 pub returns-in-Some-clause-call : goal.returns-in-Some-clause-call
-returns-in-Some-clause-call g c = does_refused _ _ _ c.in-Some.refusal (λ w s. s) (λ w s. (applies_answer g.P.Policy.rules (parts_of c.args.self.now) _ w c.args.caller c.args.name (slice_index_or c.args.self.now.wrote.items c.args.name []) s (λ x. refl)).0 c.in-Some.refusal (sym c.apply_refusal.ensures ∙ c.in-Some.is) (like_itself _))
+returns-in-Some-clause-call g c = does_refused _ _ _ c.in-Some.refusal (λ w s. s) (λ w s. (applies_answer g.P.Policy.rules (parts_of c.args.self.now) _ w c.args.caller c.args.name s).0 c.in-Some.refusal (sym c.apply_refusal.ensures ∙ c.in-Some.is) (like_itself _))
 
-pub returns-in-Ok-Conflict-clause-call : goal.returns-in-Ok-Conflict-clause-call
-returns-in-Ok-Conflict-clause-call g c = λ w s.
+pub returns-in-Some-clause-refused : goal.returns-in-Some-clause-refused
+returns-in-Some-clause-refused g c = λ w s e is free. ((applies_answer g.P.Policy.rules (parts_of c.args.self.now) _ w c.args.caller c.args.name s).0 c.in-Some.refusal (sym c.apply_refusal.ensures ∙ c.in-Some.is) (like_itself _)).0 ∙ is
+
+pub returns-in-Ok-Some-clause-call : goal.returns-in-Ok-Some-clause-call
+returns-in-Ok-Some-clause-call g c = λ w s.
     let h = parts_of c.args.self.now in
-    let wrote : List ℕ = slice_index_or c.args.self.now.wrote.items c.args.name [] in
+    let rules = g.P.Policy.rules in
     let good : apply_refusal h c.args.caller c.args.name ≡ None = sym c.apply_refusal.ensures ∙ c.in_default.is in
     let into : c.parent-into.result ≡ h.ids.parent c.args.name = c.parent-into.ensures in
-    let clash : settled_by_records g.P.Policy.rules h wrote c.args.name (h.ids.parent c.args.name) ≡ conflict c.in-Ok-Conflict.object =
-    ap (λ (n : ℕ). settled_by_records g.P.Policy.rules h wrote c.args.name n) (sym into) ∙ sym c.in-Ok-Conflict.ensures.is ∙ ap outcome_verdict c.in-Ok-Conflict.field-0-is in
-    (applies_answer g.P.Policy.rules h _ w c.args.caller c.args.name wrote s (λ x. refl)).1 c.in-Ok-Conflict.object good clash (like_itself _)
+    let l : IsLeast (λ x. is_clash (choice_at rules h c.args.name c.parent-into.result x)) (slice_index_or c.args.self.now.wrote.items c.args.name []) (Some c.in-Ok-Some.object) =
+    subst (λ (o : Option ℕ). IsLeast (λ x. is_clash (choice_at rules h c.args.name c.parent-into.result x)) (slice_index_or c.args.self.now.wrote.items c.args.name []) o) c.in-Ok-Some.field-0-is c.in-Ok-Some.ensures.is in
+    let clash : IsLeastClash rules h c.args.name (h.ids.parent c.args.name) c.in-Ok-Some.object = subst (λ (n : ℕ). IsLeastClash rules h c.args.name n c.in-Ok-Some.object) into (record { noted = l.0; clash = l.1; least = l.2 }) in
+    (applies_answer rules h _ w c.args.caller c.args.name s).1 c.in-Ok-Some.object good clash (like_itself _)
+
+pub returns-in-Ok-Some-clause-refused : goal.returns-in-Ok-Some-clause-refused
+returns-in-Ok-Some-clause-refused g c = λ w s e is free.
+    let h = parts_of c.args.self.now in
+    let rules = g.P.Policy.rules in
+    let good : apply_refusal h c.args.caller c.args.name ≡ None = sym c.apply_refusal.ensures ∙ c.in_default.is in
+    let into : c.parent-into.result ≡ h.ids.parent c.args.name = c.parent-into.ensures in
+    let l : IsLeast (λ x. is_clash (choice_at rules h c.args.name c.parent-into.result x)) (slice_index_or c.args.self.now.wrote.items c.args.name []) (Some c.in-Ok-Some.object) =
+    subst (λ (o : Option ℕ). IsLeast (λ x. is_clash (choice_at rules h c.args.name c.parent-into.result x)) (slice_index_or c.args.self.now.wrote.items c.args.name []) o) c.in-Ok-Some.field-0-is c.in-Ok-Some.ensures.is in
+    let clash : IsLeastClash rules h c.args.name (h.ids.parent c.args.name) c.in-Ok-Some.object = subst (λ (n : ℕ). IsLeastClash rules h c.args.name n c.in-Ok-Some.object) into (record { noted = l.0; clash = l.1; least = l.2 }) in
+    ((applies_answer rules h h w c.args.caller c.args.name s).1 c.in-Ok-Some.object good clash (like_itself h)).0 ∙ is
 
 pub returns-in-Ok-clause-call : goal.returns-in-Ok-clause-call
 returns-in-Ok-clause-call g c = λ w s.
     let h = parts_of c.args.self.now in
-    let k = parts_of c.put_settled.new.self in
-    let wrote : List ℕ = slice_index_or c.args.self.now.wrote.items c.args.name [] in
+    let k = parts_of c.merge.new.self in
+    let rules = g.P.Policy.rules in
     let good : apply_refusal h c.args.caller c.args.name ≡ None = sym c.apply_refusal.ensures ∙ c.in_default.is in
     let into : c.parent-into.result ≡ h.ids.parent c.args.name = c.parent-into.ensures in
-    let all : settled_by_records g.P.Policy.rules h wrote c.args.name (h.ids.parent c.args.name) ≡ settled c.in-Ok-Merged.view c.in-Ok-Merged.changed =
-    ap (λ (n : ℕ). settled_by_records g.P.Policy.rules h wrote c.args.name n) (sym into) ∙ sym c.in-Ok-Merged.ensures.is ∙ ap outcome_verdict c.in-Ok-Merged.field-0-is in
-    (applies_answer g.P.Policy.rules h k w c.args.caller c.args.name wrote s (λ x. refl)).2 c.in-Ok-Merged.view c.in-Ok-Merged.changed good all
-    (subst (λ (n : ℕ). Merges h k c.args.name n c.in-Ok-Merged.view c.in-Ok-Merged.changed) into c.in-Ok.ensures.ok)
+    (applies_answer rules h k w c.args.caller c.args.name s).2 good (subst (λ (n : ℕ). HasNoClash rules h c.args.name n) into (subst (λ (o : Option ℕ). IsLeast (λ x. is_clash (choice_at rules h c.args.name c.parent-into.result x)) (slice_index_or c.args.self.now.wrote.items c.args.name []) o) c.in-Ok-None.field-0-is c.in-Ok-None.ensures.is))
+    (subst (λ (n : ℕ). Merges h k c.args.name n (λ x. choice_at rules h c.args.name n x)) into c.in-Ok.ensures.ok)
 
-pub returns-in-Ok-Merged-clause-call : goal.returns-in-Ok-Merged-clause-call
-returns-in-Ok-Merged-clause-call g c = λ w s. pads_stand g.P.Policy.rules _ _ w s c.in-Err-put_settled.ensures.err
+pub returns-in-Ok-clause-refused : goal.returns-in-Ok-clause-refused
+returns-in-Ok-clause-refused g c = λ w s e is free.
+    let h = parts_of c.args.self.now in
+    let rules = g.P.Policy.rules in
+    let good : apply_refusal h c.args.caller c.args.name ≡ None = sym c.apply_refusal.ensures ∙ c.in_default.is in
+    let into : c.parent-into.result ≡ h.ids.parent c.args.name = c.parent-into.ensures in
+    absurd (apply_not_refused rules s c.args.caller c.args.name good (subst (λ (n : ℕ). HasNoClash rules h c.args.name n) into (subst (λ (o : Option ℕ). IsLeast (λ x. is_clash (choice_at rules h c.args.name c.parent-into.result x)) (slice_index_or c.args.self.now.wrote.items c.args.name []) o) c.in-Ok-None.field-0-is c.in-Ok-None.ensures.is)) e is)
+
+pub returns-in-Err-merge-clause-call : goal.returns-in-Err-merge-clause-call
+returns-in-Err-merge-clause-call g c = λ w s. pads_stand g.P.Policy.rules _ _ w s c.in-Err-merge.ensures.err
+
+pub returns-in-Err-merge-clause-refused : goal.returns-in-Err-merge-clause-refused
+returns-in-Err-merge-clause-refused g c = λ w s e is free.
+    let h = parts_of c.args.self.now in
+    let rules = g.P.Policy.rules in
+    let good : apply_refusal h c.args.caller c.args.name ≡ None = sym c.apply_refusal.ensures ∙ c.in_default.is in
+    let into : c.parent-into.result ≡ h.ids.parent c.args.name = c.parent-into.ensures in
+    absurd (apply_not_refused rules s c.args.caller c.args.name good (subst (λ (n : ℕ). HasNoClash rules h c.args.name n) into (subst (λ (o : Option ℕ). IsLeast (λ x. is_clash (choice_at rules h c.args.name c.parent-into.result x)) (slice_index_or c.args.self.now.wrote.items c.args.name []) o) c.in-Ok-None.field-0-is c.in-Ok-None.ensures.is)) e is)
+
+pub returns-in-Err-clause-refused : goal.returns-in-Err-clause-refused
+returns-in-Err-clause-refused g c = λ w s e is free.
+    let h = parts_of c.args.self.now in
+    let good : apply_refusal h c.args.caller c.args.name ≡ None = sym c.apply_refusal.ensures ∙ c.in_default.is in
+    let into : c.parent-into.result ≡ h.ids.parent c.args.name = c.parent-into.ensures in
+    let m = apply_good h c.args.caller c.args.name good in
+    let frees = apply_conflicts g.P.Policy.rules g.P.Policy.is_free_merge s c.args.caller c.args.name good e is free in
+    absurd (no_bool (c.in-Err.ensures.free w s m.inner (λ x noted. subst (λ (n : ℕ). IsMergeFree g.P.Policy.is_free_merge w c.args.name n x) (sym into) (frees x noted)))) where
+      no_bool : false ≡ true → ⊥
+      no_bool h = cc
