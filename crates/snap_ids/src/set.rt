@@ -27,6 +27,20 @@ impl Model for IdSet {
     ghost view = { λ s. s.ids.items };
 }
 
+// Returns an index before which all ids are less than `id`: a high one if `id` is above all but the last ids, which are read
+// most.
+fn recent_start(ids: &[u64], id: u64) -> usize
+    requires rising { IsRising ids.now }
+    ensures within { result ≤ length ids.now }
+    ensures before { (j : ℕ) → j < result → slice_index_or ids.now j 0 < id }
+{
+    let len = ids.len();
+    if len >= 8 && ids[len - 8] < id {
+        return len - 7;
+    }
+    0
+}
+
 // Returns the number of ids less than `id`, by binary search.
 fn lower_bound(ids: &[u64], id: u64) -> usize
     requires rising { IsRising ids.now }
@@ -34,7 +48,7 @@ fn lower_bound(ids: &[u64], id: u64) -> usize
     ensures before { (j : ℕ) → j < result → slice_index_or ids.now j 0 < id }
     ensures after { result < length ids.now → id ≤ slice_index_or ids.now result 0 }
 {
-    let mut low = 0;
+    let mut low = recent_start(ids, id);
     let mut high = ids.len();
     while low < high {
         let middle = low + (high - low) / 2;
@@ -180,7 +194,8 @@ impl IdSet {
     /// Returns the ids in increasing order.
     #[inline]
     pub fn ids(&self) -> &[u64]
-        ensures { result.now ≡ self.now }
+        ensures ids { result.now ≡ self.now }
+        ensures rising { IsRising result.now }
     {
         &self.ids
     }

@@ -16,3 +16,4 @@ pub mod Gets
 pub mod TakesFor
 pub mod FreeRefusals
 pub mod Reuse
+pub mod Counting

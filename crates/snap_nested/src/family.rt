@@ -2,6 +2,7 @@
 ghost use Rattle.std.specs.Prelude.{◌≡◌, ℕ, ◌+◌, ◌≤◌, ◌<◌, ◌^◌, true, false, List, [], ◌∷◌, length, IfOk, IfSome, IfNone, OnOk, OnErr};
 ghost use Rattle.snap_nested.specs.Members.{member, ids_of, AreMembers, members_after_enter, members_after_advance, members_after_close, members_after_apply, AreOpen, IsForgotten, is_free, global};
 ghost use Rattle.rt_values.specs.Maps.{contains};
+ghost use Rattle.snap_ids.specs.IdLists.{IsRising};
 ghost use Rattle.snap_nested.specs.Moves.{Enters, Advances, AppliesAdvanced, Disposes, Forgets};
 
 use crate::changes::{
@@ -159,7 +160,8 @@ impl Family {
 
     /// Returns the names that are live, or closed and not forgotten, in ascending order.
     pub fn open_names(&self) -> &[Name]
-        ensures { result.now ≡ self.now.held }
+        ensures names { result.now ≡ self.now.held }
+        ensures rising { IsRising result.now }
     {
         self.held.ids()
     }

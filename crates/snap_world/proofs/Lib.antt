@@ -4,3 +4,4 @@ pub mod Reading
 pub mod Forgetting
 pub mod NotedLoops
 pub mod Settled
+pub mod Needed

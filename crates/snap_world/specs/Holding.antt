@@ -1,5 +1,5 @@
 -- Trusted: the parts of a `RecordWorld`.
-use Rattle.std.specs.Prelude.{◌≡◌, ℕ, ◌<◌, Bool, [], length, slice_index_or, slice_get, Some, IsSome, List, Option}
+use Rattle.std.specs.Prelude.{◌≡◌, ℕ, ◌<◌, Bool, [], length, slice_index_or, slice_get, true, Some, IsSome, List, Option}
 use Rattle.std.specs.Option.{option_map}
 use Rattle.std.proofs.Common.{ap, sym, ◌∙◌}
 use Rattle.std.proofs.lemmas.List.{length-map}
@@ -8,7 +8,7 @@ use Rattle.rt_values.specs.declared.maps.StampedValue.{StampedValue}
 use Rattle.rt_values.specs.declared.value.Value.{Value}
 use Rattle.snap_policy.specs.Rules.{Rules}
 use Rattle.snap_api.specs.declared.data.Object.{Object}
-use Rattle.snap_records.specs.Records.{Reads}
+use Rattle.snap_records.specs.Records.{Rec, Has, AreApart, Reads}
 use Rattle.slab.specs.Slab.{get}
 use Rattle.snap_nested.specs.Ids.{valid_for_base}
 use Rattle.snap_laws.specs.Maps.{read_entry}
@@ -45,6 +45,11 @@ pub record IsComparison {P : Type 0} (rules : Rules P) (h : WorldParts P) (name 
   pub entry : StampedValue
   pub reads : Reads (h.ids.sees name) (h.chains x) entry
   pub is : rules.equiv object.policy entry.value value ≡ like
+
+-- The records have different ids except for 0, and these are in the list.
+pub record IsWithin (ids : List ℕ) (chain : List Rec) : Type 0 where
+  pub apart : AreApart chain
+  pub listed : (p : Rec) → Has chain p → 0 < p.id → contains p.id ids ≡ true
 
 -- The records carry the values of the snapshot's base, of its parent's view and of its own view.
 pub record AreRead {P : Type 0} (s : RecordWorld P) (name into x : ℕ) (r : ReadRecords) : Type 0 where

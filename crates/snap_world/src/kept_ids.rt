@@ -1,5 +1,5 @@
 // The records of an object that a write must keep.
-ghost use Rattle.std.specs.Prelude.{◌≡◌, ◌≢◌, ℕ, Bool, true, ◌<◌, length, IfOk, OnOk, IfSome, IsSome};
+ghost use Rattle.std.specs.Prelude.{◌≡◌, ◌≢◌, ℕ, Bool, true, ◌+◌, ◌*◌, ◌<◌, ◌≤◌, ◌⊎◌, if◌then◌else◌, length, IfOk, OnOk, IfSome, IsSome};
 ghost use Rattle.std.specs.Option.{option_map};
 ghost use Rattle.slab.specs.Slab.{get};
 ghost use Rattle.rt_values.specs.Maps.{contains};
@@ -7,7 +7,7 @@ ghost use Rattle.snap_records.specs.Chains.{record_at, chain_of};
 ghost use Rattle.snap_nested.specs.Ids.{valid_for_base};
 ghost use Rattle.snap_nested.specs.Members.{ids_of, member};
 ghost use Rattle.snap_reuse.specs.Readers.{has_id, IsReadWithin};
-ghost use Rattle.snap_laws.specs.Coverage.{AreReadWithin};
+ghost use Rattle.snap_laws.specs.Coverage.{AreReadWithin, AreLiveNames, IsNeeded, live_count};
 
 use rt_values::{Name, NoMemory, ObjectNo};
 use snap_ids::IdSet;
@@ -29,6 +29,11 @@ pub fn find_kept_ids(
     ensures own { IfOk result (λ ids. contains (member family.now.members.items name).id ids ≡ true) }
     ensures read { IfOk result (λ ids. AreReadWithin (ids_of family.now.members.items) name
         (chain_of chains.now x) ids) }
+    ensures needed { IfOk result (λ ids. (i : ℕ) → contains i ids ≡ true
+        → IsNeeded (ids_of family.now.members.items) name (chain_of chains.now x) i) }
+    ensures few { IfOk result (λ ids. length ids
+        ≤ 2 * live_count (ids_of family.now.members.items).live family.now.held + 1) }
+    ensures names { IfOk result (λ ids. AreLiveNames (ids_of family.now.members.items) family.now.held) }
 {
     let mut ids = IdSet::of(alloc, family.id(name))?;
     for reader in family.open_names() {
@@ -53,6 +58,9 @@ fn add_read_ids(
         → IsReadWithin ((ids_of family.now.members.items).sees reader) (chain_of chains.now x) ids.new) }
     ensures base { OnOk result ((ids_of family.now.members.items).live reader ≡ true → 0 < reader
         → IsReadWithin (valid_for_base (ids_of family.now.members.items) reader) (chain_of chains.now x) ids.new) }
+    ensures needed { OnOk result ((i : ℕ) → contains i ids.new ≡ true → (contains i ids.old ≡ true)
+        ⊎ IsNeeded (ids_of family.now.members.items) name (chain_of chains.now x) i) }
+    ensures few { OnOk result (length ids.new ≤ length ids.old + (if (ids_of family.now.members.items).live reader then 2 else 0)) }
 {
     if !family.live(reader) {
         return Ok(());
@@ -76,6 +84,9 @@ fn add_view_id(
     ensures more { (i : ℕ) → contains i ids.old ≡ true → contains i ids.new ≡ true }
     ensures view { OnOk result (reader ≢ name
         → IsReadWithin ((ids_of family.now.members.items).sees reader) (chain_of chains.now x) ids.new) }
+    ensures needed { OnOk result ((i : ℕ) → contains i ids.new ≡ true → (contains i ids.old ≡ true)
+        ⊎ IsNeeded (ids_of family.now.members.items) name (chain_of chains.now x) i) }
+    ensures few { OnOk result (length ids.new ≤ length ids.old + 1) }
 {
     if reader == name {
         return Ok(());
@@ -97,6 +108,9 @@ fn add_base_id(
     ensures more { (i : ℕ) → contains i ids.old ≡ true → contains i ids.new ≡ true }
     ensures base { OnOk result (0 < reader
         → IsReadWithin (valid_for_base (ids_of family.now.members.items) reader) (chain_of chains.now x) ids.new) }
+    ensures needed { OnOk result ((name i : ℕ) → contains i ids.new ≡ true → (contains i ids.old ≡ true)
+        ⊎ IsNeeded (ids_of family.now.members.items) name (chain_of chains.now x) i) }
+    ensures few { OnOk result (length ids.new ≤ length ids.old + 1) }
 {
     if reader == 0 {
         return Ok(());
@@ -116,6 +130,9 @@ fn add_record_id(chains: &Chains, found: Option<RecordNo>, ids: &mut IdSet) -> R
     ensures more { (i : ℕ) → contains i ids.old ≡ true → contains i ids.new ≡ true }
     ensures added { OnOk result ((i : ℕ) → has_id i (option_map (λ r. record_at chains.now r.0) found) ≡ true
         → contains i ids.new ≡ true) }
+    ensures only { OnOk result ((i : ℕ) → contains i ids.new ≡ true → (contains i ids.old ≡ true)
+        ⊎ (has_id i (option_map (λ r. record_at chains.now r.0) found) ≡ true)) }
+    ensures few { OnOk result (length ids.new ≤ length ids.old + 1) }
 {
     match found {
         Some(r) => {

@@ -43,7 +43,7 @@ impl<P: Policy> RecordWorld<P> {
     ghost use Rattle.snap_api.specs.World.{make_refusal, world_after_write};
     ghost use Rattle.snap_laws.specs.TakesFor.{take_for_refusal, IsTakeFor};
     ghost use Rattle.snap_laws.specs.Steps.{MakesTo};
-    ghost use Rattle.snap_laws.specs.Coverage.{AreReadWithin};
+    ghost use Rattle.snap_laws.specs.Coverage.{AreReadWithin, IsSwept};
     ghost use Rattle.snap_laws.specs.Reads.{read_refusal};
     ghost use Rattle.snap_records.specs.Chains.{record_at};
     ghost use Rattle.snap_api.specs.World.{World};
@@ -57,7 +57,7 @@ impl<P: Policy> RecordWorld<P> {
     ghost use Rattle.snap_laws.specs.Represents.{Represents};
     ghost use Rattle.snap_laws.specs.Steps.{IsUnchanged, IsTake, take_refusal, WritesTo};
     ghost use Rattle.snap_laws.specs.Writes.{write_refusal, object_refusal};
-    ghost use Rattle.snap_world.specs.Holding.{parts_of, IsComparison, AreRead, AreSettled};
+    ghost use Rattle.snap_world.specs.Holding.{parts_of, IsComparison, AreRead, AreSettled, IsWithin};
     ghost use Rattle.snap_records.specs.Records.{AreApart, Reads};
     ghost use Rattle.snap_records.specs.Chains.{chain_of};
     ghost use Rattle.rt_values.specs.declared.maps.StampedValue.{StampedValue};
@@ -213,6 +213,8 @@ impl<P: Policy> RecordWorld<P> {
         requires read { AreReadWithin (parts_of self.old).ids name ((parts_of self.old).chains object) kept.now }
         ensures ok { OnOk result ((w : World P) → Represents (parts_of self.old) w
             → WritesTo (parts_of self.old) (parts_of self.new) name object value) }
+        ensures swept { OnOk result ((w : World P) → Represents (parts_of self.old) w
+            → IsWithin kept.now ((parts_of self.new).chains object)) }
         ensures err { OnErr result (IsUnchanged (parts_of self.old) (parts_of self.new)) }
     {
         let Ok(()) = fill(alloc, &mut self.wrote, name) else {
@@ -244,6 +246,9 @@ impl<P: Policy> RecordWorld<P> {
         requires room { self.old.clock < 2 ^ 60 }
         ensures ok { OnOk result ((w : World P) → Represents (parts_of self.old) w
             → Represents (parts_of self.new) (world_after_write w name object value)) }
+        ensures swept { OnOk result ((w : World P) → Represents (parts_of self.old) w
+            → IsSwept (parts_of self.old).ids name self.old.family.held
+            ((parts_of self.old).chains object) ((parts_of self.new).chains object)) }
         ensures err { OnErr result (IsUnchanged (parts_of self.old) (parts_of self.new)) }
     {
         let Ok(kept) = find_kept_ids(alloc, &self.family, &self.chains, object, name) else {
@@ -654,13 +659,14 @@ impl<P: Policy> RecordWorld<P> {
 }
 
 impl<P: Policy> Versions for RecordWorld<P> {
-    ghost use Rattle.std.specs.Prelude.{◌≡◌, ◌≢◌, true, None, length, IsOk, Err};
+    ghost use Rattle.std.specs.Prelude.{◌≡◌, ◌≢◌, true, None, length, IsOk, Ok, Err};
     ghost use Rattle.rt_values.specs.Maps.{value_at};
     ghost use Rattle.rt_values.specs.Values.{is_flat};
     ghost use Rattle.snap_api.specs.Calls.{Calls, Logs, IsOwn, taken_reply, taken_for_reply, read_reply, write_reply, apply_reply, dispose_reply};
     ghost use Rattle.snap_api.specs.World.{World, snapshot_of};
     ghost use Rattle.snap_api.specs.declared.data.Refusal.TheVariants as Refusal;
     ghost use Rattle.snap_api.specs.declared.data.Request.TheVariants as Request;
+    ghost use Rattle.snap_laws.specs.Coverage.{IsSwept};
     ghost use Rattle.snap_laws.specs.FreeRefusals.{IsFreelyRefused, IsApplyFreelyRefused};
     ghost use Rattle.snap_laws.specs.Represents.{Represents};
     ghost use Rattle.snap_world.specs.Holding.{parts_of, counts_of};
@@ -797,6 +803,9 @@ impl<P: Policy> Versions for RecordWorld<P> {
         ensures refused { IsFreelyRefused P.rules (Represents (parts_of self.old)) caller
             (Request.Write name object value)
             (write_reply result) }
+        ensures swept { result ≡ Ok true → (w : World P) → Represents (parts_of self.old) w
+            → IsSwept (parts_of self.old).ids name self.old.family.held
+            ((parts_of self.old).chains object) ((parts_of self.new).chains object) }
     {
         if let Some(refusal) = self.write_refusal(caller, name, object, &value) {
             return Err(refusal);

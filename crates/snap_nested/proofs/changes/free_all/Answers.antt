@@ -12,7 +12,7 @@ pub free_at-requires : goal.free_at-requires
 free_at-requires c =
     let items = c.ids-name-items.result.now in
     let n = slice_index_or items c.loop-name.name-index 0 in
-    omega (arith, c.requires.within n (ap (λ (l : List ℕ). contains n l) (sym c.ids-name-items.ensures) ∙ contains-at items c.loop-name.name-index c.loop-name-test.true), c.loop-name.invariant.count)
+    omega (arith, c.requires.within n (ap (λ (l : List ℕ). contains n l) (sym c.ids-name-items.ensures.ids) ∙ contains-at items c.loop-name.name-index c.loop-name-test.true), c.loop-name.invariant.count)
 
 pub loop-name-preserved : goal.loop-name-preserved
 loop-name-preserved c =
@@ -23,7 +23,7 @@ loop-name-preserved c =
     let before = c.args.members.now.items in
     let cur = c.loop-name.members.items in
     let inv = c.loop-name.invariant in
-    let there : n < length cur = omega (arith, c.requires.within n (ap (λ (l : List ℕ). contains n l) (sym c.ids-name-items.ensures) ∙ contains-at items at c.loop-name-test.true), inv.count) in
+    let there : n < length cur = omega (arith, c.requires.within n (ap (λ (l : List ℕ). contains n l) (sym c.ids-name-items.ensures.ids) ∙ contains-at items at c.loop-name-test.true), inv.count) in
     record {
       count = ap (λ (l : List Member). length l) c.free_at.ensures ∙ length-set cur n (without_invalid own (member cur n)) ∙ inv.count;
       all = λ k. ap (λ (l : List Member). without_invalid own (member l k)) c.free_at.ensures ∙ all_stepped own before cur n there inv.all k;

@@ -104,3 +104,8 @@ returns-clause-ok g c = λ w s.
       listed : (b : Bool) (y x : ℕ) (xs : List ℕ) → contains y (cond b (with_member x xs) xs) ≡ (contains y xs || (b && y == x))
       listed true y x xs = contains-noted y x xs
       listed false y x xs = none (contains y xs)
+
+pub returns-clause-swept : goal.returns-clause-swept
+returns-clause-swept g c = λ w s.
+    let put = c.in-Ok-put.ensures.ok (s.kept.chained.apart c.args.object) c.id-id.ensures.positive in
+    record { apart = put.put.apart; listed = put.swept }
