@@ -1,1 +1,2 @@
 pub mod Reusing
+pub mod Lowest

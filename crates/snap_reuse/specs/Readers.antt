@@ -1,12 +1,13 @@
 -- Trusted: which records of a chain are read, and which may be reused.
-use Rattle.std.specs.Prelude.{◌≡◌, ℕ, ◌<◌, ◌==◌, Bool, true, false, not, ◌||◌, List, slice_get, Option, Some, None}
+use Rattle.std.specs.Prelude.{◌≡◌, ◌≢◌, ℕ, ◌<◌, ◌≤◌, ◌==◌, nat_le, Bool, true, false, not, ◌||◌, ◌⊎◌, List, length, slice_get, Option, Some, None, IfSome, if◌then◌else◌}
 use Rattle.std.specs.List.{list_any}
 use Rattle.rt_values.specs.Maps.{contains}
 use Rattle.snap_ids.specs.IdLists.{is_valid}
 use Rattle.snap_records.specs.Records.{Rec, Has, Puts}
 use Rattle.snap_records.specs.Edits.{readable}
-use Rattle.snap_records.specs.Chains.{record_at, keys_at, chain_of}
+use Rattle.snap_records.specs.Chains.{record_at, keys_at, chain_of, Found}
 use Rattle.snap_records.specs.declared.chains.Chains.{Chains}
+use Rattle.snap_records.specs.declared.slots.RecordNo.{RecordNo}
 use Rattle.snap_reuse.specs.declared.readers.Reader.{Reader}
 
 -- Whether there is a record, and it has this id.
@@ -22,15 +23,36 @@ is_read_by c i reader = has_id i (readable (is_valid reader.id reader.invalid) c
 abbrev pub is_read : List Rec → ℕ → List Reader → Bool
 is_read c i readers = list_any (is_read_by c i) readers
 
--- Whether a record may be overwritten: it has id 0, or no reader reads it.
-abbrev pub is_reusable : List Rec → List Reader → Rec → Bool
-is_reusable c readers r = r.id == 0 || not (is_read c r.id readers)
+-- The record, if no reader reads it and its id is lower than that of the best one so far, and else that one.
+abbrev pub lower_record : Chains → RecordNo → Option RecordNo → Bool → Option RecordNo
+lower_record c r best false = best
+lower_record c r None true = Some r
+lower_record c r (Some b) true = if nat_le (record_at c b.0).id (record_at c r.0).id then Some b else Some r
 
--- The record of the object may be overwritten.
-pub record Reusable (c : Chains) (x : ℕ) (readers : List Reader) (r : ℕ) : Type 0 where
+-- Record r is among the first n of the object's, no reader reads it, and of those it has the lowest id.
+pub record LowestUnread (c : Chains) (x : ℕ) (readers : List Reader) (n r : ℕ) : Type 0 where
   pub at : ℕ
+  pub below : at < n
   pub key : slice_get (keys_at c x) at ≡ Some r
-  pub is : is_reusable (chain_of c x) readers (record_at c r) ≡ true
+  pub unread : is_read (chain_of c x) (record_at c r).id readers ≡ false
+  pub lowest : (k q : ℕ) → k < n → slice_get (keys_at c x) k ≡ Some q
+      → is_read (chain_of c x) (record_at c q).id readers ≡ false → (record_at c r).id ≤ (record_at c q).id
+
+-- The record with the lowest id among the first n that no reader reads, or none if each of them is read.
+abbrev pub IsLowestUnread : Chains → ℕ → List Reader → ℕ → Option RecordNo → Type 0
+IsLowestUnread c x readers n None = (k q : ℕ) → k < n → slice_get (keys_at c x) k ≡ Some q
+    → is_read (chain_of c x) (record_at c q).id readers ≡ true
+IsLowestUnread c x readers n (Some b) = LowestUnread c x readers n b.0
+
+-- No record of the object has id 0.
+abbrev pub AreUsed : Chains → ℕ → Type 0
+AreUsed c x = (k q : ℕ) → slice_get (keys_at c x) k ≡ Some q → (record_at c q).id ≢ 0
+
+-- The record that a write may overwrite: one with id 0, or, if there is no such record, the one with the lowest id that no
+-- reader reads. None if no record has id 0 and each is read.
+abbrev pub IsReusable : Chains → ℕ → List Reader → Option RecordNo → Type 0
+IsReusable c x readers r =
+    IfSome r (λ b. Found c x 0 b.0) ⊎ (AreUsed c x × IsLowestUnread c x readers (length (keys_at c x)) r)
 
 -- The readable record by these valid ids, if there is one, has an id of the list.
 abbrev pub IsReadWithin : (ℕ → Bool) → List Rec → List ℕ → Type 0

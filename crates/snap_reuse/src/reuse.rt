@@ -1,11 +1,11 @@
 // Records that may be overwritten.
-ghost use Rattle.std.specs.Prelude.{◌≡◌, ◌≢◌, ◌≤◌, ◌<◌, ℕ, true, false, Some, None, IsSome, IfSome, IfNone, OnOk, OnErr, length, slice_get};
+ghost use Rattle.std.specs.Prelude.{◌≡◌, ◌≢◌, ◌<◌, ℕ, true, IsSome, IfSome, OnOk, OnErr, length};
 ghost use Rattle.slab.specs.Slab.{get};
 ghost use Rattle.snap_records.specs.Records.{AreApart};
-ghost use Rattle.snap_records.specs.Chains.{record_at, keys_at, chain_of};
+ghost use Rattle.snap_records.specs.Chains.{keys_at, chain_of};
 ghost use Rattle.rt_values.specs.Maps.{contains};
 ghost use Rattle.snap_records.specs.Records.{Puts};
-ghost use Rattle.snap_reuse.specs.Readers.{is_read_by, is_read, is_reusable, is_unkept, Reusable, PutsKeeping};
+ghost use Rattle.snap_reuse.specs.Readers.{is_read_by, is_read, is_unkept, lower_record, IsLowestUnread, IsReusable, PutsKeeping};
 
 use crate::{Reader, Readers};
 use rt_values::{NoMemory, ObjectNo, Value};
@@ -36,32 +36,53 @@ pub fn is_read(chains: &Chains, x: ObjectNo, id: u64, readers: &Readers) -> bool
     false
 }
 
-// Returns whether the record with this id may be overwritten.
-fn is_reusable(chains: &Chains, x: ObjectNo, r: RecordNo, readers: &Readers) -> bool
-    requires object { x < length chains.now.heads.items }
+// Returns `r` if no reader reads it and its id is lower than that of `best`, and else `best`.
+fn lower_record(
+    chains: &Chains,
+    r: RecordNo,
+    best: Option<RecordNo>,
+    is_unread: bool,
+) -> Option<RecordNo>
     requires there { IsSome (get chains.now.slots r.0) }
-    ensures { result ≡ is_reusable (chain_of chains.now x) readers.now (record_at chains.now r.0) }
+    requires behind { IfSome best (λ b. IsSome (get chains.now.slots b.0)) }
+    ensures is { result ≡ lower_record chains.now r best is_unread }
+    ensures there { IfSome result (λ b. IsSome (get chains.now.slots b.0)) }
 {
-    let id = chains.id(r);
-    id == 0 || !is_read(chains, x, id, readers)
+    if !is_unread {
+        return best;
+    }
+    match best {
+        Some(other) if chains.id(other) <= chains.id(r) => best,
+        _ => Some(r),
+    }
 }
 
-/// Returns a record of object `x` that may be overwritten: the first with id 0, or else the first that no reader reads.
-/// Takes no memory.
-pub fn reusable(chains: &Chains, x: ObjectNo, readers: &Readers) -> Option<RecordNo>
+// Returns the record of object `x` with the lowest id that no reader reads.
+fn lowest_unread(chains: &Chains, x: ObjectNo, readers: &Readers) -> Option<RecordNo>
     requires { x < length chains.now.heads.items }
-    ensures some { IfSome result (λ r. Reusable chains.now x readers.now r.0) }
+    ensures is { IsLowestUnread chains.now x readers.now (length (keys_at chains.now x)) result }
     ensures there { IfSome result (λ r. IsSome (get chains.now.slots r.0)) }
-    ensures none { IfNone result ((k r : ℕ) → slice_get (keys_at chains.now x) k ≡ Some r
-        → is_reusable (chain_of chains.now x) readers.now (record_at chains.now r) ≡ false) }
 {
+    let mut best = None;
     for i in 0..chains.count(x) {
         let r = chains.at(x, i);
-        if is_reusable(chains, x, r, readers) {
-            return Some(r);
-        }
+        let is_unread = !is_read(chains, x, chains.id(r), readers);
+        best = lower_record(chains, r, best, is_unread);
     }
-    None
+    best
+}
+
+/// Returns a record of object `x` that may be overwritten: one with id 0, or else the one with the lowest id that no reader
+/// reads. Takes no memory.
+pub fn reusable(chains: &Chains, x: ObjectNo, readers: &Readers) -> Option<RecordNo>
+    requires { x < length chains.now.heads.items }
+    ensures is { IsReusable chains.now x readers.now result }
+    ensures there { IfSome result (λ r. IsSome (get chains.now.slots r.0)) }
+{
+    match chains.find(x, 0) {
+        Some(r) => Some(r),
+        None => lowest_unread(chains, x, readers),
+    }
 }
 
 // Puts a record into the chain of object `x`: in place of the record with the same id, or else of the first whose id is

@@ -61,3 +61,17 @@ fn sets_are_combined(rt: HostRuntime) -> Result<(), Fail> {
     );
     Ok(())
 }
+
+#[test]
+fn ids_far_apart_are_kept(rt: HostRuntime) -> Result<(), Fail> {
+    let alloc = rt.alloc();
+    let mut set = IdSet::new(alloc);
+    for id in &[3, 200, 500] {
+        set.set(*id)?;
+    }
+    assert_eq!(rt; set.lowest(0), 3);
+    set.clear(3);
+    assert_eq!(rt; set.lowest(0), 200);
+    assert!(rt; !set.get(328));
+    Ok(())
+}
