@@ -1,22 +1,15 @@
 // The parent's view after an apply.
 ghost use Rattle.std.specs.Prelude.{Bool, true, ◌+◌, ◌≡◌, ℕ, ◌<◌, length, Some, None, IfOk, IsOk, if◌then◌else◌};
 ghost use Rattle.std.specs.Bool.{MatchBool};
-ghost use Rattle.snap_api.specs.Settle.{Settled, settled, conflict, settle, put_verdict};
+ghost use Rattle.snap_api.specs.Settle.{Settled, settled, conflict};
 ghost use Rattle.snap_plain.specs.Choices.{choice_verdict, put_all};
 ghost use Rattle.snap_plain.specs.CallParts.{settle_one, settle_shot, conflict_of, AreFree};
 
 use rt_values::{Map, NoMemory, ObjectNo, Objects, StampedValue};
 use snap_api::{Object, Snapshot};
 use snap_policy::Policy;
+use snap_settle::Choice;
 use std::alloc::Global;
-
-/// The verdict on one object: a new stamped value for the parent, the parent's own one, or a conflict.
-#[derive(Drop)]
-pub enum Choice {
-    Changed(StampedValue),
-    Kept(StampedValue),
-    Clash,
-}
 
 // Checks whether the snapshot wrote an object, and the two changes of it conflict.
 #[tactic(auto, using(crate::proofs::Settles::conflicts))]
@@ -34,16 +27,10 @@ fn is_conflict<P: Policy>(
     ensures free { (wrote ≡ true → P.is_free_merge policy.now previous.now.value current.now.value
         applied.now.value) → IsOk result }
 {
-    if !wrote || previous.stamp == current.stamp {
+    if !wrote {
         return Ok(false);
     }
-    if policy.equivalent(&current.value, &applied.value) {
-        return Ok(false);
-    }
-    match policy.merge(alloc, &previous.value, &current.value, &applied.value)? {
-        Some(_) => Ok(false),
-        None => Ok(true),
-    }
+    snap_settle::is_conflict(alloc, policy, previous, current, applied)
 }
 
 /// Finds the least object that conflicts, by the snapshot's base, its parent's view and its own view. Takes
@@ -79,31 +66,6 @@ pub fn least_conflict<P: Policy>(
     Ok(None)
 }
 
-// Decides the verdict on an object that the snapshot wrote.
-fn decide<P: Policy>(
-    alloc: Global,
-    policy: &P,
-    previous: &StampedValue,
-    current: &StampedValue,
-    applied: &StampedValue,
-    now: u64,
-) -> Result<Choice, NoMemory>
-    ensures { IfOk result (λ ch. (x : ℕ) (rest : Settled) →
-        choice_verdict x ch rest ≡ put_verdict x current.now
-        (settle P.rules policy.now previous.now current.now applied.now now) rest) }
-{
-    if previous.stamp == current.stamp {
-        return Ok(Choice::Changed(applied.copy(alloc)?));
-    }
-    if policy.equivalent(&current.value, &applied.value) {
-        return Ok(Choice::Kept(current.copy(alloc)?));
-    }
-    match policy.merge(alloc, &previous.value, &current.value, &applied.value)? {
-        Some(value) => Ok(Choice::Changed(StampedValue { value, stamp: now })),
-        None => Ok(Choice::Clash),
-    }
-}
-
 // Decides the verdict on an object, written or not.
 fn choose<P: Policy>(
     alloc: Global,
@@ -118,7 +80,7 @@ fn choose<P: Policy>(
         choice_verdict x ch rest ≡ settle_one P.rules wrote policy.now previous.now current.now applied.now now x rest) }
 {
     if wrote {
-        decide(alloc, policy, previous, current, applied, now)
+        snap_settle::choose(alloc, policy, previous, current, applied, now)
     } else {
         Ok(Choice::Kept(current.copy(alloc)?))
     }

@@ -27,10 +27,7 @@ pub fn is_conflict<P: Policy>(
         → found ≡ is_clash (choice_of (settle P.rules policy.now previous.now current.now applied.now now) current.now)) }
     ensures free { P.is_free_merge policy.now previous.now.value current.now.value applied.now.value → IsOk result }
 {
-    if previous.stamp == current.stamp {
-        return Ok(false);
-    }
-    if policy.equivalent(&current.value, &applied.value) {
+    if previous.stamp == current.stamp || policy.equivalent(&current.value, &applied.value) {
         return Ok(false);
     }
     match policy.merge(alloc, &previous.value, &current.value, &applied.value)? {
