@@ -8,6 +8,7 @@
 //! take, read or write takes no memory, nor does a dispose or the read of a number or a truth value.
 #![tactic(auto)]
 
+mod applying;
 mod kept_ids;
 mod moving;
 mod noting;

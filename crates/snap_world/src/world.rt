@@ -4,11 +4,8 @@ ghost use Rattle.rt_values.specs.Maps.{contains};
 ghost use Rattle.snap_nested.specs.Members.{ids_of, member};
 
 use crate::kept_ids::find_kept_ids;
-use crate::moving::{clear_noted, find_changed_objects, pad_all, raise_noted, stamp_object, stamp_settled};
-use crate::noting::{
-    clear_noted_objects, fill, note_object, note_settled, noted, set_noted, unnote_object,
-};
-use crate::settling::{ReadRecords, Settled, lesser, settled_of};
+use crate::moving::{clear_noted, find_changed_objects, stamp_object};
+use crate::noting::{fill, note_object, unnote_object};
 use rt_values::{Caller, Kind, Name, NoMemory, ObjectNo, Objects, Ty, Value, WatcherNo};
 use snap_api::{CLOCK_LIMIT, Object, Refusal, Versions};
 use snap_ids::IdSet;
@@ -16,20 +13,19 @@ use snap_nested::Family;
 use snap_policy::Policy;
 use snap_records::{Chains, RecordNo};
 use snap_reuse::put;
-use snap_settle::{Choice, choose, is_conflict};
 use std::alloc::Global;
 
 /// A world of snapshots with state records: the clock, the objects, the ids of the snapshots, the chains of records, the
 /// objects that each snapshot wrote, the stamps of global's view, and the stamps of each watcher's last map.
 #[derive(Drop)]
 pub struct RecordWorld<P> {
-    clock: u64,
-    objects: Vec<Object<P>>,
-    family: Family,
-    chains: Chains,
-    wrote: Vec<Objects>,
-    stamps: Vec<u64>,
-    lasts: Vec<Option<Objects>>,
+    pub(crate) clock: u64,
+    pub(crate) objects: Vec<Object<P>>,
+    pub(crate) family: Family,
+    pub(crate) chains: Chains,
+    pub(crate) wrote: Vec<Objects>,
+    pub(crate) stamps: Vec<u64>,
+    pub(crate) lasts: Vec<Option<Objects>>,
     ghost in_time: { clock ≤ 2 ^ 60 },
     ghost few: { family.handed ≤ 3 * clock + 1 },
     ghost many: { length chains.heads.items ≡ length objects.items },
@@ -50,14 +46,11 @@ impl<P: Policy> RecordWorld<P> {
     ghost use Rattle.snap_nested.specs.Members.{is_free};
     ghost use Rattle.snap_laws.specs.Disposes.{dispose_refusal};
     ghost use Rattle.snap_laws.specs.Steps.{DisposesTo};
-    ghost use Rattle.snap_laws.specs.Applies.{apply_refusal, choice_at, HasNoClash, Pads, Merges};
-    ghost use Rattle.snap_laws.specs.FreeRefusals.{IsMergeFree};
-    ghost use Rattle.snap_settle.specs.Choices.{is_clash};
-    ghost use Rattle.snap_world.specs.Choices.{objects_of, IsLeast};
+    ghost use Rattle.snap_laws.specs.Applies.{apply_refusal};
     ghost use Rattle.snap_laws.specs.Represents.{Represents};
     ghost use Rattle.snap_laws.specs.Steps.{IsUnchanged, IsTake, take_refusal, WritesTo};
     ghost use Rattle.snap_laws.specs.Writes.{write_refusal, object_refusal};
-    ghost use Rattle.snap_world.specs.Holding.{parts_of, IsComparison, AreRead, AreSettled, IsWithin};
+    ghost use Rattle.snap_world.specs.Holding.{parts_of, IsComparison, IsWithin};
     ghost use Rattle.snap_records.specs.Records.{AreApart, Reads};
     ghost use Rattle.snap_records.specs.Chains.{chain_of};
     ghost use Rattle.rt_values.specs.declared.maps.StampedValue.{StampedValue};
@@ -282,198 +275,6 @@ impl<P: Policy> RecordWorld<P> {
             return Some(Refusal::ParentClosed);
         }
         None
-    }
-
-    // Returns the records of an object that a snapshot reads for its base, that its parent reads, and that the snapshot reads.
-    // There are such records in every represented world.
-    fn find_read(&self, name: Name, into: Name, object: ObjectNo) -> Option<ReadRecords>
-        requires live { (member self.now.family.members.items name).is_live ≡ true }
-        requires above { (member self.now.family.members.items into).is_live ≡ true }
-        requires there { object < length self.now.objects.items }
-        ensures is { IfSome result (AreRead self.now name into object) }
-        ensures none { IfNone result ((w : World P) → Represents (parts_of self.now) w → 0 < name → ⊥) }
-    {
-        let id = self.family.id(name);
-        let invalid = self.family.invalid(name);
-        let own = self.family.ids(name);
-        let Some(previous) = self.chains.readable_for_base(object, id, invalid, own) else {
-            return None;
-        };
-        let above = self.family.invalid(into);
-        let Some(current) = self.chains.readable(object, self.family.id(into), above) else {
-            return None;
-        };
-        let Some(applied) = self.chains.readable(object, id, invalid) else {
-            return None;
-        };
-        Some(ReadRecords {
-            previous,
-            current,
-            applied,
-        })
-    }
-
-    // Returns whether the changes of an object conflict.
-    fn is_clash(
-        &self,
-        alloc: Global,
-        name: Name,
-        into: Name,
-        object: ObjectNo,
-    ) -> Result<bool, NoMemory>
-        requires live { (member self.now.family.members.items name).is_live ≡ true }
-        requires above { (member self.now.family.members.items into).is_live ≡ true }
-        requires there { object < length self.now.objects.items }
-        ensures is { IfOk result (λ found. found ≡ is_clash (choice_at P.rules (parts_of self.now) name into object)) }
-        ensures free { (w : World P) → Represents (parts_of self.now) w → 0 < name
-            → IsMergeFree P.is_free_merge w name into object → IsOk result }
-    {
-        let Some(read) = self.find_read(name, into, object) else {
-            return Err(NoMemory);
-        };
-        is_conflict(
-            alloc,
-            &self.objects[object as usize].policy,
-            self.chains.entry(read.previous),
-            self.chains.entry(read.current),
-            self.chains.entry(read.applied),
-        )
-    }
-
-    // Decides the verdict on an object that a snapshot wrote.
-    fn choose(
-        &self,
-        alloc: Global,
-        name: Name,
-        into: Name,
-        object: ObjectNo,
-    ) -> Result<Choice, NoMemory>
-        requires live { (member self.now.family.members.items name).is_live ≡ true }
-        requires above { (member self.now.family.members.items into).is_live ≡ true }
-        requires there { object < length self.now.objects.items }
-        ensures { IfOk result (λ choice. choice ≡ choice_at P.rules (parts_of self.now) name into object) }
-    {
-        let Some(read) = self.find_read(name, into, object) else {
-            return Err(NoMemory);
-        };
-        choose(
-            alloc,
-            &self.objects[object as usize].policy,
-            self.chains.entry(read.previous),
-            self.chains.entry(read.current),
-            self.chains.entry(read.applied),
-            self.clock + 1,
-        )
-    }
-
-    // Finds the least object that a snapshot wrote and that conflicts. Every such object is known in a represented world.
-    fn find_conflict(
-        &self,
-        alloc: Global,
-        name: Name,
-        into: Name,
-    ) -> Result<Option<ObjectNo>, NoMemory>
-        requires live { (member self.now.family.members.items name).is_live ≡ true }
-        requires above { (member self.now.family.members.items into).is_live ≡ true }
-        ensures is { IfOk result (IsLeast (λ x. is_clash (choice_at P.rules (parts_of self.now) name into x))
-            (slice_index_or self.now.wrote.items name [])) }
-        ensures free { (w : World P) → Represents (parts_of self.now) w → 0 < name
-            → ((x : ℕ) → (parts_of self.now).noted name x ≡ true → IsMergeFree P.is_free_merge w name into x)
-            → IsOk result }
-    {
-        let mut least = None;
-        for x in noted(&self.wrote, name) {
-            if *x as usize >= self.objects.len() {
-                return Err(NoMemory);
-            }
-            let Ok(found) = self.is_clash(alloc, name, into, *x) else {
-                return Err(NoMemory);
-            };
-            least = lesser(found, *x, least);
-        }
-        Ok(least)
-    }
-
-    // Settles the objects that a snapshot wrote. Every such object is known in a represented world.
-    fn settle(&self, alloc: Global, name: Name, into: Name) -> Result<Vec<Settled>, NoMemory>
-        requires live { (member self.now.family.members.items name).is_live ≡ true }
-        requires above { (member self.now.family.members.items into).is_live ≡ true }
-        requires none { HasNoClash P.rules (parts_of self.now) name into }
-        ensures objects { IfOk result (λ settled. objects_of settled.items
-            ≡ slice_index_or self.now.wrote.items name []) }
-        ensures each { IfOk result (λ settled. AreSettled P.rules (parts_of self.now) name into settled.items) }
-    {
-        let mut settled = Vec::new(alloc);
-        for x in noted(&self.wrote, name) {
-            if *x as usize >= self.objects.len() {
-                return Err(NoMemory);
-            }
-            let Ok(choice) = self.choose(alloc, name, into, *x) else {
-                return Err(NoMemory);
-            };
-            let Ok(()) = settled.push(settled_of(*x, choice)) else {
-                return Err(NoMemory);
-            };
-        }
-        Ok(settled)
-    }
-
-    // Puts the settled values into the parent.
-    fn put_settled(
-        &mut self,
-        alloc: Global,
-        name: Name,
-        into: Name,
-        settled: &[Settled],
-    ) -> Result<(), NoMemory>
-        requires live { (member self.old.family.members.items name).is_live ≡ true }
-        requires inner { 0 < name }
-        requires parent { (member self.old.family.members.items name).parent ≡ into }
-        requires above { (member self.old.family.members.items into).is_live ≡ true }
-        requires room { self.old.clock < 2 ^ 60 }
-        requires objects { objects_of settled.now ≡ slice_index_or self.old.wrote.items name [] }
-        requires each { AreSettled P.rules (parts_of self.old) name into settled.now }
-        ensures ok { OnOk result (Merges (parts_of self.old) (parts_of self.new) name into
-            (choice_at P.rules (parts_of self.old) name into)) }
-        ensures err { OnErr result (Pads (parts_of self.old) (parts_of self.new)) }
-    {
-        let Ok(more) = note_settled(alloc, &self.wrote, into, settled) else {
-            return Err(NoMemory);
-        };
-        let Ok(()) = fill(alloc, &mut self.wrote, into) else {
-            return Err(NoMemory);
-        };
-        let Ok(()) = pad_all(alloc, &mut self.chains, settled) else {
-            return Err(NoMemory);
-        };
-        let Ok(()) = self.family.close_applied(alloc, name, into) else {
-            return Err(NoMemory);
-        };
-        let id = self.family.handed();
-        raise_noted(&mut self.chains, &self.wrote, name, self.objects.len(), id);
-        stamp_settled(&mut self.stamps, into, settled);
-        set_noted(&mut self.wrote, into, more);
-        clear_noted_objects(alloc, &mut self.wrote, name);
-        self.clock += 1;
-        Ok(())
-    }
-
-    // Applies a snapshot without conflicts.
-    fn merge(&mut self, alloc: Global, name: Name, into: Name) -> Result<(), NoMemory>
-        requires live { (member self.old.family.members.items name).is_live ≡ true }
-        requires inner { 0 < name }
-        requires parent { (member self.old.family.members.items name).parent ≡ into }
-        requires above { (member self.old.family.members.items into).is_live ≡ true }
-        requires room { self.old.clock < 2 ^ 60 }
-        requires none { HasNoClash P.rules (parts_of self.old) name into }
-        ensures ok { OnOk result (Merges (parts_of self.old) (parts_of self.new) name into
-            (choice_at P.rules (parts_of self.old) name into)) }
-        ensures err { OnErr result (Pads (parts_of self.old) (parts_of self.new)) }
-    {
-        let Ok(settled) = self.settle(alloc, name, into) else {
-            return Err(NoMemory);
-        };
-        self.put_settled(alloc, name, into, &settled)
     }
 
     // Returns the refusal of a dispose, if there is one.
