@@ -173,8 +173,8 @@ module _ {P : Type 0} (rules : Rules P) (h k : WorldParts P) (w : World P) (name
         | inr t ↦ ap (λ (e : StampedValue). e.stamp) (sym (view_into x) ∙ keeps_view x inside t) ∙ ap (λ (n : ℕ). (views_of w n x).stamp) root
             ∙ sym (get_or-map (λ (e : StampedValue). e.stamp) (snapshot_of w 0).view x no_entry 0 full_root) ∙ ap (λ (l : List ℕ). slice_index_or l x 0) s.fresh ∙ sym (a.stamps_left x (inr t))
       ]) where
-    size : length (stamps_of m) ≡ length h.objects
-    size = length-map m (λ (e : StampedValue). e.stamp) ∙ right.full ∙ count
+        size : length (stamps_of m) ≡ length h.objects
+        size = length-map m (λ (e : StampedValue). e.stamp) ∙ right.full ∙ count
 
   fresh_after : stamps_of (snapshot_of (world_after_apply w name m changed) 0).view ≡ k.stamps
   fresh_after = elim (same_or_other 0 into) [

@@ -1,7 +1,6 @@
 -- How many records with an id a chain has.
-use Rattle.std.proofs.Common.{◌≡◌, ◌≢◌, ℕ, zero, suc, ◌+◌, ◌<◌, ◌≤◌, ◌==◌, ◌||◌, nat_lt, List, [], ◌∷◌, length, refl, sym, ap, ◌∙◌, Some, Bool, true, false, cond, arith, inl, inr}
-use Rattle.std.proofs.lemmas.Bool.Decides.{Decides-eqb, Decides-ltb, eqb_tells}
-use Rattle.std.specs.Prelude.{slice_get}
+use Rattle.std.proofs.Common.{◌≡◌, ◌≢◌, ℕ, suc, ◌+◌, ◌<◌, ◌≤◌, ◌==◌, ◌||◌, nat_lt, List, [], ◌∷◌, length, refl, sym, ap, ◌∙◌, Bool, true, false, cond, arith, inl, inr}
+use Rattle.std.proofs.lemmas.Bool.Decides.{Decides-ltb, eqb_tells}
 use Rattle.rt_values.specs.Maps.{contains}
 use Rattle.snap_records.specs.Records.{Rec, Has, AreApart}
 use Rattle.snap_laws.specs.Coverage.{used_count}
@@ -48,7 +47,7 @@ used_within (r ∷ c) ids apart listed = by (nat_lt 0 r.id) refl (used_within c)
       let here : contains r.id ids ≡ true = listed r (record { at = 0; is = refl }) positive in
       let less : length (remove_one r.id ids) + 1 ≡ length ids = shorter r.id ids here in
       let few : used_count c ≤ length (remove_one r.id ids) = again (remove_one r.id ids) apart_later (λ p there pos. still r.id p.id ids (listed p (record { at = suc there.at; is = there.is }) pos) (λ same.
-          let clash : suc there.at ≡ 0 = apart (suc there.at) 0 p r there.is refl pos same in
-          omega (arith, clash))) in
+      let clash : suc there.at ≡ 0 = apart (suc there.at) 0 p r there.is refl pos same in
+      omega (arith, clash))) in
       omega (arith, less, few)
   by false e again = again ids apart_later (λ p there pos. listed p (record { at = suc there.at; is = there.is }) pos)

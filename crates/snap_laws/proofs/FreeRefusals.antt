@@ -82,13 +82,13 @@ module _ {P : Type 0} (rules : Rules P) (is_free : P → Value → Value → Val
       let is = apply_answers rules s caller name ∙ ap (λ (o : Option Refusal). answered w (apply_to rules w caller name (settled_of rules w caller name)) o) good in
       let frees = of (settled_of rules w caller name) e (sym (ap (λ (a : World P × Reply). a.1) is) ∙ refused) free in
       subst (λ (n : ℕ). IsMergeFree is_free w name n x) (s.parents name g.live) (frees x (s.wrote name x g.live g.inner ∙ noted)) where
-    of : (v : Settled) (e : Refusal) → (apply_to rules w caller name v).1 ≡ reply.Refused e → IsFreeApplyRefusal is_free w name e → (y : ℕ) → contains y (snapshot_of w name).wrote ≡ true → IsMergeFree is_free w name (snapshot_of w name).parent y
-    of (settled m changed) e r f = absurd (applied e r) where
-      applied : (e : Refusal) → reply.Applied ≡ reply.Refused e → ⊥
-      applied e r = cc
-    of (conflict z) e r f = subst (λ (d : Refusal). IsFreeApplyRefusal is_free w name d) (sym (same e r)) f where
-      same : (e : Refusal) → reply.Refused (refusal.Conflict z) ≡ reply.Refused e → refusal.Conflict z ≡ e
-      same e r = cc
+        of : (v : Settled) (e : Refusal) → (apply_to rules w caller name v).1 ≡ reply.Refused e → IsFreeApplyRefusal is_free w name e → (y : ℕ) → contains y (snapshot_of w name).wrote ≡ true → IsMergeFree is_free w name (snapshot_of w name).parent y
+        of (settled m changed) e r f = absurd (applied e r) where
+          applied : (e : Refusal) → reply.Applied ≡ reply.Refused e → ⊥
+          applied e r = cc
+        of (conflict z) e r f = subst (λ (d : Refusal). IsFreeApplyRefusal is_free w name d) (sym (same e r)) f where
+          same : (e : Refusal) → reply.Refused (refusal.Conflict z) ≡ reply.Refused e → refusal.Conflict z ≡ e
+          same e r = cc
 
 -- a refusal of a dispose or of a read is not that memory ran out
 pub dispose_in_memory : {P : Type 0} (h : WorldParts P) (caller name : ℕ) (r : Refusal) → dispose_refusal h caller name ≡ Some r → r ≢ refusal.NoMemory

@@ -1,12 +1,12 @@
 -- The record with the lowest id that no reader reads, with one record more.
-use Rattle.std.proofs.Common.{◌≡◌, ℕ, ◌+◌, ◌<◌, ◌≤◌, List, sym, ap, ◌∙◌, subst, Option, Some, None, Bool, true, false, not, cond, arith, inl, inr}
+use Rattle.std.proofs.Common.{◌≡◌, ℕ, ◌+◌, List, sym, ap, ◌∙◌, subst, Option, Some, None, Bool, true, false, not, cond, arith, inl, inr}
 use Rattle.std.proofs.lemmas.Bool.Decides.{leb_tells}
 use Rattle.std.specs.Prelude.{slice_get}
 use Rattle.snap_ids.proofs.Booleans.{same_or_other, not_both}
 use Rattle.snap_records.specs.Chains.{record_at, keys_at, chain_of}
 use Rattle.snap_records.specs.declared.chains.Chains.{Chains}
 use Rattle.snap_records.specs.declared.slots.RecordNo.{RecordNo}
-use Rattle.snap_reuse.specs.Readers.{is_read, lower_record, LowestUnread, IsLowestUnread}
+use Rattle.snap_reuse.specs.Readers.{is_read, lower_record, IsLowestUnread}
 use Rattle.snap_reuse.specs.declared.readers.Reader.{Reader}
 
 module _ (c : Chains) (x : ℕ) (readers : List Reader) (n : ℕ) (r : RecordNo) (key : slice_get (keys_at c x) n ≡ Some r.0) where

@@ -1,5 +1,5 @@
 -- The ids that a write keeps are those of records that are read, and few.
-use Rattle.std.proofs.Common.{◌≡◌, ℕ, ◌+◌, ◌*◌, ◌≤◌, ◌<◌, ◌==◌, nat_lt, List, [], ◌∷◌, ◌++◌, length, take, get_or, refl, sym, ap, ◌∙◌, Bool, true, false, cond, suc, arith}
+use Rattle.std.proofs.Common.{◌≡◌, ℕ, ◌+◌, ◌*◌, ◌≤◌, ◌<◌, ◌==◌, nat_lt, List, [], ◌∷◌, ◌++◌, length, take, get_or, refl, ap, ◌∙◌, Bool, true, false, cond, suc, arith}
 use Rattle.std.proofs.lemmas.List.{take_more}
 use Rattle.snap_ids.specs.IdLists.{with_id}
 use Rattle.snap_laws.specs.Coverage.{live_count}

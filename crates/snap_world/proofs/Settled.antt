@@ -1,15 +1,14 @@
 -- The settled objects of an apply, and the least object that conflicts.
-use Rattle.std.proofs.Common.{◌≡◌, ◌≢◌, ℕ, zero, suc, ◌+◌, ◌<◌, ◌≤◌, ◌==◌, ◌&&◌, ◌||◌, ◌⊎◌, List, [], ◌∷◌, ◌++◌, length, take, get_or, map, refl, sym, ap, ◌∙◌, subst, Option, Some, None, Bool, true, false, cond, arith, inl, inr}
+use Rattle.std.proofs.Common.{◌≡◌, ℕ, zero, suc, ◌+◌, ◌<◌, ◌==◌, ◌&&◌, ◌||◌, ◌⊎◌, List, [], ◌∷◌, ◌++◌, length, take, get_or, refl, sym, ap, ◌∙◌, subst, Option, Some, None, Bool, true, false, cond, arith, inl, inr}
 use Rattle.std.proofs.lemmas.Bool.Decides.{Decides-eqb, eqb_tells, leb_tells}
 use Rattle.std.proofs.lemmas.List.{take_more}
 use Rattle.std.proofs.lemmas.List.{length-map}
 use Rattle.std.proofs.lemmas.Option.{slice_get_within}
-use Rattle.std.specs.Prelude.{slice_get, slice_index_or, nat_le, not}
+use Rattle.std.specs.Prelude.{slice_get, slice_index_or, not}
 use Rattle.rt_values.specs.Maps.{contains, with_member}
 use Rattle.rt_values.specs.declared.maps.StampedValue.{StampedValue}
 use Rattle.snap_ids.proofs.Booleans.{or_true, or_left, or_right}
 use Rattle.snap_settle.specs.Choices.{is_changed, entry_of_choice}
-use Rattle.snap_settle.specs.declared.choice.Choice.{Choice}
 use Rattle.snap_settle.specs.declared.choice.Choice.TheVariants.{Changed, Kept}
 use Rattle.snap_world.specs.Choices.{choice_of_settled, objects_of, is_taken, with_taken, lesser, IsLeast}
 use Rattle.snap_world.specs.declared.settling.Settled.{Settled}
@@ -125,23 +124,39 @@ least_last test xs y false None e none = λ x listed. elim (or_true (contains x 
   | inl t ↦ none x t
   | inr t ↦ ap test (sym ((Decides-eqb y x).0 t)) ∙ e
 ]
-least_last test xs y false (Some z) e l = (contains_last z y xs ∙ or_left (contains z xs) (y == z) l.0, l.1, λ x lower listed. elim (or_true (contains x xs) (y == x) (sym (contains_last x y xs) ∙ listed)) [
-  | inl t ↦ l.2 x lower t
-  | inr t ↦ ap test (sym ((Decides-eqb y x).0 t)) ∙ e
-])
-least_last test xs y true None e none = (contains_last y y xs ∙ or_right (contains y xs) (y == y) ((Decides-eqb y y).1 refl), e, λ x lower listed. elim (or_true (contains x xs) (y == x) (sym (contains_last x y xs) ∙ listed)) [
-  | inl t ↦ none x t
-  | inr t ↦ absurd (omega (arith, lower, (Decides-eqb y x).0 t))
-])
-least_last test xs y true (Some z) e l = elim (leb_tells z y) [
-  | inl h ↦ subst (λ (b : Bool). IsLeast test (xs ++ y ∷ []) (cond b (Some z) (Some y))) (sym h.0) (contains_last z y xs ∙ or_left (contains z xs) (y == z) l.0, l.1, λ x lower listed. elim (or_true (contains x xs) (y == x) (sym (contains_last x y xs) ∙ listed)) [
+least_last test xs y false (Some z) e l = (
+  contains_last z y xs ∙ or_left (contains z xs) (y == z) l.0,
+  l.1,
+  λ x lower listed. elim (or_true (contains x xs) (y == x) (sym (contains_last x y xs) ∙ listed)) [
     | inl t ↦ l.2 x lower t
-    | inr t ↦ absurd (omega (arith, lower, h.1, (Decides-eqb y x).0 t))
-  ])
-  | inr h ↦ subst (λ (b : Bool). IsLeast test (xs ++ y ∷ []) (cond b (Some z) (Some y))) (sym h.0) (contains_last y y xs ∙ or_right (contains y xs) (y == y) ((Decides-eqb y y).1 refl), e, λ x lower listed. elim (or_true (contains x xs) (y == x) (sym (contains_last x y xs) ∙ listed)) [
-    | inl t ↦ l.2 x (omega (arith, lower, h.1)) t
+    | inr t ↦ ap test (sym ((Decides-eqb y x).0 t)) ∙ e
+  ],
+)
+least_last test xs y true None e none = (
+  contains_last y y xs ∙ or_right (contains y xs) (y == y) ((Decides-eqb y y).1 refl),
+  e,
+  λ x lower listed. elim (or_true (contains x xs) (y == x) (sym (contains_last x y xs) ∙ listed)) [
+    | inl t ↦ none x t
     | inr t ↦ absurd (omega (arith, lower, (Decides-eqb y x).0 t))
-  ])
+  ],
+)
+least_last test xs y true (Some z) e l = elim (leb_tells z y) [
+  | inl h ↦ subst (λ (b : Bool). IsLeast test (xs ++ y ∷ []) (cond b (Some z) (Some y))) (sym h.0) (
+    contains_last z y xs ∙ or_left (contains z xs) (y == z) l.0,
+    l.1,
+    λ x lower listed. elim (or_true (contains x xs) (y == x) (sym (contains_last x y xs) ∙ listed)) [
+      | inl t ↦ l.2 x lower t
+      | inr t ↦ absurd (omega (arith, lower, h.1, (Decides-eqb y x).0 t))
+    ],
+  )
+  | inr h ↦ subst (λ (b : Bool). IsLeast test (xs ++ y ∷ []) (cond b (Some z) (Some y))) (sym h.0) (
+    contains_last y y xs ∙ or_right (contains y xs) (y == y) ((Decides-eqb y y).1 refl),
+    e,
+    λ x lower listed. elim (or_true (contains x xs) (y == x) (sym (contains_last x y xs) ∙ listed)) [
+      | inl t ↦ l.2 x (omega (arith, lower, h.1)) t
+      | inr t ↦ absurd (omega (arith, lower, (Decides-eqb y x).0 t))
+    ],
+  )
 ]
 
 pub least_more : (test : ℕ → Bool) (items : List ℕ) (i : ℕ) (b : Bool) (least : Option ℕ) → i < length items → test (get_or items i 0) ≡ b → IsLeast test (take i items) least → IsLeast test (take (i + 1) items) (lesser b (get_or items i 0) least)

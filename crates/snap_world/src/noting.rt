@@ -39,11 +39,7 @@ fn has_more(noted: &[ObjectNo], settled: &[Settled]) -> bool
 }
 
 // Returns `noted` with the objects that the parent takes.
-fn with_taken(
-    alloc: Global,
-    noted: &[ObjectNo],
-    settled: &[Settled],
-) -> Result<Objects, NoMemory>
+fn with_taken(alloc: Global, noted: &[ObjectNo], settled: &[Settled]) -> Result<Objects, NoMemory>
     ensures { IfOk result (λ o. o ≡ with_taken settled.now noted.now) }
 {
     let mut all = Objects::of(Vec::from_slice(alloc, noted)?);
@@ -77,11 +73,7 @@ pub fn note_settled(
 }
 
 /// Notes that a snapshot wrote an object, unless the snapshot is global. Returns whether the object is new in its list.
-pub fn note_object(
-    wrote: &mut Vec<Objects>,
-    name: Name,
-    object: ObjectNo,
-) -> Result<bool, NoMemory>
+pub fn note_object(wrote: &mut Vec<Objects>, name: Name, object: ObjectNo) -> Result<bool, NoMemory>
     requires { name < length wrote.old.items }
     ensures ok { IfOk result (IsNoted wrote.old.items wrote.new.items name object) }
     ensures err { OnErr result ((n : ℕ) → slice_index_or wrote.new.items n [] ≡ slice_index_or wrote.old.items n []) }

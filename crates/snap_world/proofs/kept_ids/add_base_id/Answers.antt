@@ -24,9 +24,9 @@ returns-clause-needed c =
     on_ok_more c.add_record_id.result (λ only. λ name i h. elim (only i h) [
       | inl t ↦ inl t
       | inr t ↦ inr (base c.args.reader c.requires.live (positive c.args.reader c.if-reader-eq0.false) (sym (ap (has_id i) (c.readable_for_base-found.ensures.is
-        ∙ ap (λ (l : List ℕ). readable (is_valid_except l c.id.result c.invalid.result.now) chain) c.ids.ensures
-        ∙ ap (λ (n : ℕ). readable (is_valid_except m.ids n c.invalid.result.now) chain) c.id.ensures.id
-        ∙ ap (λ (l : List ℕ). readable (is_valid_except m.ids m.id l) chain) c.invalid.ensures)) ∙ t))
+          ∙ ap (λ (l : List ℕ). readable (is_valid_except l c.id.result c.invalid.result.now) chain) c.ids.ensures
+          ∙ ap (λ (n : ℕ). readable (is_valid_except m.ids n c.invalid.result.now) chain) c.id.ensures.id
+          ∙ ap (λ (l : List ℕ). readable (is_valid_except m.ids m.id l) chain) c.invalid.ensures)) ∙ t))
     ]) c.add_record_id.ensures.only where
       positive : (n : ℕ) → n ≢ 0 → 0 < n
       positive n other = omega (arith, other)

@@ -1,11 +1,11 @@
-use Rattle.std.proofs.Common.{◌≡◌, ℕ, ◌+◌, ◌≤◌, ◌==◌, List, length, take, refl, sym, ap, ◌∙◌, Some, inl, inr, arith}
+use Rattle.std.proofs.Common.{◌≡◌, ℕ, ◌≤◌, ◌==◌, List, length, take, refl, sym, ap, ◌∙◌, Some, inl, inr, arith}
 use Rattle.std.proofs.lemmas.Bool.Decides.{Decides-eqb}
 use Rattle.std.proofs.lemmas.List.{take_all, length-map}
 use Rattle.std.proofs.lemmas.Option.{slice_get_read}
-use Rattle.std.specs.Prelude.{slice_index_or, slice_get}
+use Rattle.std.specs.Prelude.{slice_get}
 use Rattle.rt_values.specs.Maps.{contains}
 use Rattle.rt_values.specs.declared.maps.StampedValue.{StampedValue}
-use Rattle.snap_ids.proofs.Booleans.{same_or_other, or_true, or_left}
+use Rattle.snap_ids.proofs.Booleans.{same_or_other, or_true}
 use Rattle.snap_world.specs.Choices.{objects_of}
 use Rattle.snap_world.specs.declared.settling.Settled.{Settled}
 use Rattle.snap_world.proofs.Settled.{contains_object}

@@ -1,12 +1,10 @@
-use Rattle.std.proofs.Common.{◌≡◌, ℕ, ◌+◌, ◌<◌, sym, ap, ◌∙◌, Some, length, refl, subst}
+use Rattle.std.proofs.Common.{◌≡◌, ◌+◌, ap, ◌∙◌, Some, length, refl}
 use Rattle.std.specs.Prelude.{slice_get}
 use Rattle.std.proofs.lemmas.Option.{slice_get_read}
-use Rattle.rt_values.specs.Maps.{entry_at}
 use Rattle.rt_values.specs.declared.maps.StampedValue.{StampedValue}
 use Rattle.snap_api.specs.Settle.{settle}
-use Rattle.snap_api.specs.World.{snapshot_of}
 use Rattle.snap_api.specs.declared.data.Object.{Object}
-use Rattle.snap_settle.specs.Choices.{choice_of, is_clash}
+use Rattle.snap_settle.specs.Choices.{choice_of}
 use Rattle.snap_laws.specs.Applies.{choice_at}
 use Rattle.snap_records.specs.Chains.{record_at}
 use Rattle.snap_world.specs.Holding.{parts_of}

@@ -1,6 +1,5 @@
 use Rattle.std.proofs.Common.{ℕ, List, ap, ◌∙◌}
-use Rattle.snap_nested.specs.Ids.{valid_for_base}
-use Rattle.snap_nested.specs.Members.{member, ids_of}
+use Rattle.snap_nested.specs.Members.{member}
 use Rattle.snap_nested.specs.declared.family.Member.{Member}
 use Rattle.snap_ids.specs.IdLists.{is_valid}
 use Rattle.snap_records.specs.Records.{Rec}

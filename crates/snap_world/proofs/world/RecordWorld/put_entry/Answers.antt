@@ -1,4 +1,4 @@
-use Rattle.std.proofs.Common.{◌≤◌, ◌+◌, ◌*◌, length, arith}
+use Rattle.std.proofs.Common.{◌≤◌, length, arith}
 use Rattle.snap_laws.specs.Coverage.{used_count}
 use Rattle.snap_laws.proofs.Counting.{used_within}
 use Rattle.snap_laws.proofs.Written.{writes_stand}

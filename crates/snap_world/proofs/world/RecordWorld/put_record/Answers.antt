@@ -1,8 +1,7 @@
-use Rattle.std.proofs.Common.{◌≡◌, ◌≢◌, ℕ, ◌+◌, ◌==◌, ◌||◌, ◌&&◌, nat_lt, List, [], ◌∷◌, ◌++◌, length, sym, ap, ◌∙◌, subst, arith, refl, Bool, true, false, cond, inl, inr, length-set}
+use Rattle.std.proofs.Common.{◌≡◌, ◌≢◌, ℕ, ◌+◌, ◌==◌, ◌||◌, ◌&&◌, nat_lt, List, [], length, ap, ◌∙◌, subst, arith, refl, Bool, true, false, cond, length-set}
 use Rattle.std.specs.Prelude.{slice_index_or, slice_set}
 use Rattle.rt_values.specs.Maps.{contains, with_member}
 use Rattle.rt_values.specs.declared.maps.StampedValue.{StampedValue}
-use Rattle.snap_ids.proofs.Booleans.{true_or_false}
 use Rattle.snap_records.specs.Records.{Puts}
 use Rattle.snap_records.specs.Chains.{chain_of}
 use Rattle.snap_reuse.specs.Readers.{is_unkept}

@@ -1,9 +1,8 @@
-use Rattle.std.proofs.Common.{◌≡◌, ◌≢◌, ℕ, ◌+◌, ◌<◌, ◌&&◌, ◌||◌, nat_lt, List, [], length, refl, sym, ap, ◌∙◌, subst, Bool, true, false, Some, Option, cond, arith, inl, inr}
+use Rattle.std.proofs.Common.{◌≡◌, ◌≢◌, ℕ, ◌+◌, ◌<◌, ◌&&◌, ◌||◌, nat_lt, List, [], length, refl, sym, ap, ◌∙◌, subst, Bool, true, false, Some, cond, arith, inl, inr}
 use Rattle.std.proofs.lemmas.Option.{slice_get_within}
 use Rattle.std.specs.Option.{unwrap_or}
 use Rattle.std.specs.Prelude.{slice_index_or, slice_get}
 use Rattle.rt_values.specs.Maps.{contains}
-use Rattle.rt_values.specs.declared.maps.StampedValue.{StampedValue}
 use Rattle.snap_settle.specs.Choices.{entry_of_choice, is_changed}
 use Rattle.snap_settle.specs.declared.choice.Choice.{Choice}
 use Rattle.snap_records.specs.Edits.{with_head_id}

@@ -1,4 +1,4 @@
-use Rattle.std.proofs.Common.{◌≡◌, ℕ, ◌+◌, ◌≤◌, ◌<◌, List, [], ◌∷◌, ◌++◌, length, take, sym, ap, ◌∙◌, subst, true, arith, inl, inr}
+use Rattle.std.proofs.Common.{◌≡◌, ℕ, ◌≤◌, ◌<◌, List, [], ◌∷◌, ◌++◌, length, take, sym, ap, ◌∙◌, subst, true, arith, inl, inr}
 use Rattle.std.proofs.lemmas.List.{take_all, take_more, map-append}
 use Rattle.std.specs.Prelude.{slice_index_or, slice_get}
 use Rattle.rt_values.specs.Maps.{contains}

@@ -1,4 +1,4 @@
-use Rattle.std.proofs.Common.{◌≡◌, ◌<◌, ℕ, sym, ap, ◌∙◌, subst, true, false, None, Option, Some}
+use Rattle.std.proofs.Common.{◌≡◌, ℕ, sym, ◌∙◌, subst, true, false, None, Option, Some}
 use Rattle.std.specs.Prelude.{slice_index_or, []}
 use Rattle.snap_settle.specs.Choices.{is_clash}
 use Rattle.snap_laws.specs.Applies.{apply_refusal, choice_at, HasNoClash, IsLeastClash, Merges}
