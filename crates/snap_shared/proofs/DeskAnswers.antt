@@ -1,5 +1,5 @@
 -- The clauses of the calls of a seat's desk.
-use Rattle.std.proofs.Common.{ℕ, List, ◌≡◌, ◌++◌, ◌∷◌, [], refl, sym, ap, ◌∙◌, subst, Option, Some, false, true, Bool, cond, append-nil, Err}
+use Rattle.std.proofs.Common.{ℕ, List, ◌≡◌, ◌++◌, ◌∷◌, [], refl, sym, ap, ◌∙◌, subst, Option, Some, false, true, Bool, cond, append_assoc, append-nil, Err}
 use Rattle.rt_values.specs.Maps.{Map, value_at}
 use Rattle.rt_values.specs.Values.{no_value}
 use Rattle.rt_values.specs.Views.{Grew}
@@ -18,7 +18,7 @@ use Rattle.snap_api.specs.declared.data.Request.{Request}
 use Rattle.snap_api.specs.declared.data.Request.TheVariants as request
 use Rattle.snap_shared.specs.SharedCalls.{own_calls, entries_added, SeesOwnCall}
 use Rattle.snap_shared.specs.HistoryEffects.{kept_sees}
-use Rattle.snap_shared.specs.SeatDesk.{IsOnlyTaker, IsPossibleWorld, SeesMap, ClockIsAtLeast, SeatAfterReads, objects_of_read, objects_read}
+use Rattle.snap_shared.specs.SeatDesk.{IsOnlyTaker, IsPossibleWorld, SeesMap, ClockIsAtLeast, SeesFurther, SeatAfterReads, objects_of_read, objects_read}
 use Rattle.snap_shared.proofs.OwnCalls.{entry, own_new, objects_read-append, logs_own}
 use Rattle.snap_shared.proofs.DeskCalls.{alone_old, keeps_read, asked_one, asked_part, value_got, value_unknown, took_good, took_shown, took_bad, spent_good, spent_bad, refused_lasts, refused_sees, disposed_last, own_seen}
 
@@ -50,6 +50,9 @@ module _ {W P : Type 0} (rules : Rules P) (keeps : KeepsTypes rules) (stands : W
         by : (b : Bool) → objects_read (cond b [] (entry number q r ∷ [])) ≡ []
         by true = refl
         by false = append-nil (objects_of_read q) ∙ none
+
+  pub view_further : (q : Request) (r : Reply) → SeesOwnCall rules stands key number old new q r → SeesFurther rules (stands key) old new
+  view_further q r c = record { begins = (c.continues.between ++ entries_added number q r, c.continues.is ∙ append_assoc old c.continues.between (entries_added number q r)); legal = λ o h l. c.legal o h }
 
   pub view_log : (q : Request) (r : Reply) → SeesOwnCall rules stands key number old new q r → Logs (Some (own_calls number old)) (Some (own_calls number' new)) number q r
   view_log q r c = subst (λ (n : ℕ). Logs (Some (own_calls number old)) (Some (own_calls n new)) number q r) (sym same) (logs_own number q r old new c.continues)

@@ -17,7 +17,7 @@ use Rattle.snap_api.specs.declared.data.Request.TheVariants as request
 use Rattle.snap_api.specs.declared.data.Snapshot.{Snapshot}
 use Rattle.snap_shared.specs.SharedCalls.{own_calls}
 use Rattle.snap_shared.specs.CallEffects.{stays_call, one_keeps}
-use Rattle.snap_shared.specs.SeatDesk.{IsOwnReadonly, IsPossibleWorld, SeesMap, ClockIsAtLeast, SeatAfterReads, AreOthersOrReads, IsOnlyTaker, is_read, is_take_for, objects_read}
+use Rattle.snap_shared.specs.SeatDesk.{IsOwnReadonly, IsPossibleWorld, SeesMap, ClockIsAtLeast, SeesFurther, SeatAfterReads, AreOthersOrReads, IsOnlyTaker, is_read, is_take_for, objects_read}
 
 module _ {P : Type 0} (rules : Rules P) where
   pub after_append : (w : World P) (a b : List Entry) → world_after rules w (a ++ b) ≡ world_after rules (world_after rules w a) b
@@ -170,6 +170,9 @@ module _ {P : Type 0} {rules : Rules P} {opens opens' : World P → Type 0} {see
   pub only_taker_before : (n : ℕ) → IsOnlyTaker number' n seen' → IsOnlyTaker number n seen
   only_taker_before n alone = (only_taker_parts rules number n seen k.more (subst (λ (s : List Entry). IsOnlyTaker number n s) k.is (subst (λ (i : ℕ). IsOnlyTaker i n seen') k.same_number alone))).0
 
+  pub further_of : SeesFurther rules opens seen seen'
+  further_of = record { begins = (k.more, k.is); legal = k.legal_on }
+
   pub asked_of : AskedAndLogged (objects_read (own_calls number seen)) (objects_read (own_calls number' seen')) (Some (own_calls number seen)) (Some (own_calls number' seen')) number opened
   asked_of = record { more = k.read; asks = k.asks; tells = k.tells }
 
@@ -181,6 +184,17 @@ module _ {P : Type 0} {rules : Rules P} {opens opens' : World P → Type 0} {see
     by : (o : Option ℕ) → LogsReadsIn (Some (own_calls number seen)) (Some (own_calls number' seen')) number o k.read → AreLegal rules (λ w. ⊥) (Some (own_calls number seen)) (Some (own_calls number' seen'))
     by None t = record { more = []; log_is = t.0 ∙ ap (λ (l : List Entry). Some l) (sym (append-nil (own_calls number seen))); legal = λ w b. absurd b; leaves = λ w b. absurd b }
     by (Some name) t = record { more = t.more; log_is = t.log_is; legal = λ w b. absurd b; leaves = λ w b. absurd b }
+
+-- What a seat has seen without a call in between.
+pub further_itself : {P : Type 0} (rules : Rules P) (opens : World P → Type 0) (seen : List Entry) → SeesFurther rules opens seen seen
+further_itself rules opens seen = record { begins = ([], sym (append-nil seen)); legal = λ o h l. l }
+
+-- What a seat has seen goes on twice.
+pub further_on : {W P : Type 0} {rules : Rules P} (stands : W → World P → Type 0) {one other : W} {a b c : List Entry} → other ≡ one → SeesFurther rules (stands one) a b → SeesFurther rules (stands other) b c → SeesFurther rules (stands one) a c
+further_on {W} {P} {rules} stands {one} {other} {a} {b} {c} same h k = record {
+  begins = (h.begins.0 ++ k.begins.0, k.begins.1 ∙ ap (λ (l : List Entry). l ++ k.begins.0) h.begins.1 ∙ append_assoc a h.begins.0 k.begins.0);
+  legal = λ o p l. k.legal o (subst (λ (w : W). stands w o) (sym same) p) (h.legal o p l);
+}
 
 -- A desk without a call in between.
 pub keeps_itself : {P : Type 0} (rules : Rules P) (opens : World P → Type 0) (seen : List Entry) (number : ℕ) (opened : Option ℕ) → SeatAfterReads rules opens opens seen seen number number opened opened

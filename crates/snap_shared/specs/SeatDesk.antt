@@ -10,6 +10,7 @@ use Rattle.snap_api.specs.World.{World, snapshot_of, is_closed, world_after, IsL
 use Rattle.snap_api.specs.declared.data.Entry.{Entry}
 use Rattle.snap_api.specs.declared.data.Request.{Request}
 use Rattle.snap_api.specs.declared.data.Request.TheVariants as request
+use Rattle.snap_shared.specs.Histories.{StartsWith}
 use Rattle.snap_shared.specs.SharedCalls.{own_calls}
 
 -- Whether a request is a read.
@@ -80,6 +81,12 @@ pub record ClockIsAtLeast {P : Type 0} (rules : Rules P) (opens : World P → Ty
   pub world : World P
   pub now : IsPossibleWorld rules opens log world
   pub reached : k ≤ world.clock
+
+-- A seat has seen more of one history: what it has seen now begins with what it had seen, and is legal from each opening
+-- world from which that was legal.
+pub record SeesFurther {P : Type 0} (rules : Rules P) (opens : World P → Type 0) (seen seen' : List Entry) : Type 0 where
+  pub begins : StartsWith seen' seen
+  pub legal : (o : World P) → opens o → IsLegal rules o seen → IsLegal rules o seen'
 
 -- A desk after reads is of the same caller and shows the same snapshot. What it has seen grew by other callers' calls
 -- and these reads only.

@@ -16,6 +16,7 @@ use rt_values::NoMemory;
 use snap_api::{Entry, LogWorld, Versions};
 use std::alloc::Global;
 use std::snapshot::Snapshot;
+use std::sync::Wait;
 
 // Returns a list with the one slot of the table.
 fn slot_for<W: Versions + Drop>(alloc: Global, world: W) -> Result<Vec<Option<W>>, NoMemory>
@@ -141,9 +142,11 @@ impl<W: Versions + Drop> Shared<W> {
 impl<V: Versions + Drop> Shared<LogWorld<V>> {
     /// Shares a world among `count` callers, and returns it with the seats of the callers 0 to `count` - 1, in order.
     ///
-    /// The shared world represents each plain world of `world` in which only the global snapshot is live. Each take through a seat also reserves memory for the log entry of a dispose. This project's own
-    /// rule.
-    pub fn new(
+    /// The shared world represents each plain world of `world` in which only the global snapshot is live. Each take
+    /// through a seat also reserves memory for the log entry of a dispose. `new` does not wait: it takes the runtime so
+    /// that a world is shared only where calls can wait. This project's own rule.
+    pub fn new<R: Wait>(
+        _rt: &R,
         alloc: Global,
         world: V,
         count: usize,

@@ -1,9 +1,9 @@
 // The desk of a seat.
 ghost use Rattle.std.specs.Prelude.{◌≡◌, ℕ, Option, Some, None};
-ghost use Rattle.std.proofs.Common.{refl, ◌∙◌};
+ghost use Rattle.std.proofs.Common.{refl, ap, ◌∙◌};
 ghost use Rattle.snap_api.specs.Desks.{Lasts};
-ghost use Rattle.snap_shared.specs.HistoryEffects.{keeps_itself, keeps_on, kept_lasts, kept_clock, only_taker_before, asked_of, grows_of, legal_of};
-ghost use Rattle.snap_shared.specs.SeatDesk.{IsPossibleWorld, SeesMap, ClockIsAtLeast, SeatAfterReads, IsOnlyTaker, objects_read};
+ghost use Rattle.snap_shared.specs.HistoryEffects.{keeps_itself, keeps_on, further_on, further_of, kept_lasts, kept_clock, only_taker_before, asked_of, grows_of, legal_of};
+ghost use Rattle.snap_shared.specs.SeatDesk.{IsPossibleWorld, SeesMap, ClockIsAtLeast, SeesFurther, SeatAfterReads, IsOnlyTaker, objects_read};
 ghost use Rattle.snap_shared.specs.Seats.{opening_of, number_of, seen_by, mine_of, IsSeat};
 
 use crate::shared::{Seat, Shared};
@@ -118,7 +118,8 @@ impl<W: Versions + Drop, R: Wait, G: Gate> Desk for SeatView<'_, W, R, G> {
 
     ghost opened = { λ s. s.opened };
 
-    ghost lends = { λ s t. (t.shared.now ≡ s.shared.now) × (number_of t.seat ≡ number_of s.seat) };
+    ghost lends = { λ s t. (t.shared.now ≡ s.shared.now) × (number_of t.seat ≡ number_of s.seat)
+        × SeesFurther W.P.rules (W.stands (opening_of s.shared.now)) (seen_by s.seat) (seen_by t.seat) };
 
     ghost clock = { λ s k. ClockIsAtLeast W.P.rules (W.stands (opening_of s.shared.now)) (seen_by s.seat) k };
 
@@ -127,9 +128,9 @@ impl<W: Versions + Drop, R: Wait, G: Gate> Desk for SeatView<'_, W, R, G> {
 
     ghost alone = { λ s n. IsOnlyTaker (number_of s.seat) n (seen_by s.seat) };
 
-    ghost lends_on = { λ r s t h k. (k.0 ∙ h.0, k.1 ∙ h.1) };
+    ghost lends_on = { λ r s t h k. (k.0 ∙ h.0, k.1 ∙ h.1, further_on W.stands (ap opening_of h.0) h.2 k.2) };
 
-    ghost lends_kept = { λ s t k. (k.0, k.1.same_number) };
+    ghost lends_kept = { λ s t k. (k.0, k.1.same_number, further_of k.1) };
 
     ghost behind_kept = { λ s t w k h. h };
 

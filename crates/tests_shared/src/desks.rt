@@ -28,7 +28,7 @@ impl Gate for CountingGate {
 #[test]
 fn a_desk_shows_its_snapshot_while_others_write(rt: HostRuntime) -> Result<(), Fail> {
     let alloc = rt.alloc();
-    let (shared, mut seats) = shared_counter(alloc, 2)?;
+    let (shared, mut seats) = shared_counter(&rt, alloc, 2)?;
     let (Some(mut second), Some(first)) = (seats.pop(), seats.pop()) else {
         unreachable!()
     };
@@ -56,7 +56,7 @@ fn a_desk_shows_its_snapshot_while_others_write(rt: HostRuntime) -> Result<(), F
 #[test]
 fn a_desk_opens_a_snapshot_of_its_seat(rt: HostRuntime) -> Result<(), Fail> {
     let alloc = rt.alloc();
-    let (shared, mut seats) = shared_counter(alloc, 1)?;
+    let (shared, mut seats) = shared_counter(&rt, alloc, 1)?;
     let Some(mut seat) = seats.pop() else {
         unreachable!()
     };
@@ -76,7 +76,7 @@ fn a_desk_opens_a_snapshot_of_its_seat(rt: HostRuntime) -> Result<(), Fail> {
 #[test]
 fn a_desk_passes_the_gate_before_each_call(rt: HostRuntime) -> Result<(), Fail> {
     let alloc = rt.alloc();
-    let (shared, mut seats) = shared_counter(alloc, 3)?;
+    let (shared, mut seats) = shared_counter(&rt, alloc, 3)?;
     let Some(seat) = seats.pop() else {
         unreachable!()
     };

@@ -8,6 +8,7 @@ use snap_plain::PlainWorld;
 use snap_policy::BuiltIn;
 use snap_shared::{Seat, Shared};
 use std::alloc::Global;
+use std::sync::Wait;
 use std::test::Fail;
 
 pub(crate) type World = LogWorld<PlainWorld<BuiltIn>>;
@@ -25,7 +26,8 @@ pub(crate) fn counter_world(alloc: Global) -> Result<PlainWorld<BuiltIn>, Fail> 
 }
 
 // Shares a counter world among `count` callers.
-pub(crate) fn shared_counter(
+pub(crate) fn shared_counter<R: Wait>(
+    rt: &R,
     alloc: Global,
     count: usize,
 ) -> Result<(Shared<World>, Vec<Seat<World>>), Fail>
@@ -35,7 +37,7 @@ pub(crate) fn shared_counter(
     ensures seats { IfOk result (λ r. All (λ x. IsSeat r.0 x) r.1.items) }
 {
     let world = counter_world(alloc)?;
-    let (shared, seats) = Shared::new(alloc, world, count)?;
+    let (shared, seats) = Shared::new(rt, alloc, world, count)?;
     Ok((shared, seats))
 }
 

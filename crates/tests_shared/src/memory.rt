@@ -116,7 +116,7 @@ fn a_call_without_memory_is_not_in_the_history(rt: HostRuntime) -> Result<(), Fa
         world: counter_world(alloc)?,
         is_short: true,
     };
-    let (shared, mut seats) = Shared::new(alloc, world, 1)?;
+    let (shared, mut seats) = Shared::new(&rt, alloc, world, 1)?;
     let Some(mut seat) = seats.pop() else {
         unreachable!()
     };

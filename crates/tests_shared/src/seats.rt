@@ -7,7 +7,7 @@ use std::test::Fail;
 #[test]
 fn a_write_is_read_after_a_meeting(rt: HostRuntime) -> Result<(), Fail> {
     let alloc = rt.alloc();
-    let (shared, mut seats) = shared_counter(alloc, 2)?;
+    let (shared, mut seats) = shared_counter(&rt, alloc, 2)?;
     let (Some(mut second), Some(mut first)) = (seats.pop(), seats.pop()) else {
         unreachable!()
     };
@@ -32,7 +32,7 @@ fn a_write_is_read_after_a_meeting(rt: HostRuntime) -> Result<(), Fail> {
 #[test]
 fn the_history_has_every_call_with_its_caller(rt: HostRuntime) -> Result<(), Fail> {
     let alloc = rt.alloc();
-    let (shared, mut seats) = shared_counter(alloc, 2)?;
+    let (shared, mut seats) = shared_counter(&rt, alloc, 2)?;
     let (Some(mut second), Some(mut first)) = (seats.pop(), seats.pop()) else {
         unreachable!()
     };

@@ -96,7 +96,7 @@ fn count_of_caller(history: &[Entry], caller: Caller) -> usize {
 #[test]
 fn ten_thousand_calls_are_those_of_a_plain_world(rt: HostRuntime) -> Result<(), Fail> {
     let alloc = rt.alloc();
-    let (shared, mut seats) = shared_counter(alloc, THREADS)?;
+    let (shared, mut seats) = shared_counter(&rt, alloc, THREADS)?;
     work_together(&rt, alloc, &shared, seats.as_mut_slice());
     let (mut world, history) = shared.into_parts(seats);
     assert_eq!(rt; history.len(), 10_000);

@@ -3,7 +3,7 @@ use Rattle.snap_api.specs.Calls.{Logs}
 use Rattle.snap_api.specs.declared.data.Reply.TheVariants as reply
 use Rattle.snap_api.specs.declared.data.Request.TheVariants.{Dispose}
 use Rattle.snap_shared.specs.SharedCalls.{own_calls}
-use Rattle.snap_shared.proofs.DeskAnswers.{asks_none, view_log, view_alone, view_last, view_last_bad, view_still, view_own}
+use Rattle.snap_shared.proofs.DeskAnswers.{asks_none, view_further, view_log, view_alone, view_last, view_last_bad, view_still, view_own}
 use Rattle.snap_shared.proofs.seat_view.SeatViewDesk.dispose.Goals as goal
 
 some_same : {A : Type 0} (a b : A) → Some a ≡ Some b → a ≡ b
@@ -44,3 +44,9 @@ returns-in-Err-clause-disposed g c m name h is inner =
 
 pub returns-in-Err-clause-still : goal.returns-in-Err-clause-still
 returns-in-Err-clause-still g c m h = view_still g.W.P.Policy.rules g.met.W.P.Policy.merge_keeps_type g.W.Versions.stands c.args.self.now.shared.now.table.shared.key.world.value c.args.self.now.seat.number c.dispose.new.seat.number c.args.self.now.seat.seat.me.0.seen c.dispose.new.seat.seat.me.0.seen c.dispose.ensures.number (Dispose c.in-Some.name) c.in-Err.refusal c.in-Err.ensures.call c.args.self.now.opened m h
+
+pub returns-in-Ok-clause-lends : goal.returns-in-Ok-clause-lends
+returns-in-Ok-clause-lends g c = (refl, c.dispose.ensures.number, view_further g.W.P.Policy.rules g.met.W.P.Policy.merge_keeps_type g.W.Versions.stands c.args.self.now.shared.now.table.shared.key.world.value c.args.self.now.seat.number c.dispose.new.seat.number c.args.self.now.seat.seat.me.0.seen c.dispose.new.seat.seat.me.0.seen c.dispose.ensures.number (Dispose c.in-Some.name) reply.Disposed c.in-Ok.ensures.call)
+
+pub returns-in-Err-clause-lends : goal.returns-in-Err-clause-lends
+returns-in-Err-clause-lends g c = (refl, c.dispose.ensures.number, view_further g.W.P.Policy.rules g.met.W.P.Policy.merge_keeps_type g.W.Versions.stands c.args.self.now.shared.now.table.shared.key.world.value c.args.self.now.seat.number c.dispose.new.seat.number c.args.self.now.seat.seat.me.0.seen c.dispose.new.seat.seat.me.0.seen c.dispose.ensures.number (Dispose c.in-Some.name) (reply.Refused c.in-Err.refusal) c.in-Err.ensures.call)

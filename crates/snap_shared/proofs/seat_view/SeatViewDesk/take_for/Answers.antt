@@ -2,7 +2,7 @@ use Rattle.std.proofs.Common.{refl}
 use Rattle.snap_api.specs.declared.data.Reply.TheVariants as reply
 use Rattle.snap_api.specs.declared.data.Request.TheVariants.{TakeFor}
 use Rattle.snap_shared.specs.SeatDesk.{SeesMap}
-use Rattle.snap_shared.proofs.DeskAnswers.{asks_none, view_log, view_alone, view_took, view_shown, view_still, view_refused, view_spent, view_spent_bad}
+use Rattle.snap_shared.proofs.DeskAnswers.{asks_none, view_further, view_log, view_alone, view_took, view_shown, view_still, view_refused, view_spent, view_spent_bad}
 use Rattle.snap_shared.proofs.seat_view.SeatViewDesk.take_for.Goals as goal
 
 pub returns-in-Ok-clause-log : goal.returns-in-Ok-clause-log
@@ -40,3 +40,9 @@ returns-in-Ok-clause-shown g c types l h = view_shown g.W.P.Policy.rules g.met.W
 
 pub returns-in-Err-clause-still : goal.returns-in-Err-clause-still
 returns-in-Err-clause-still g c m h = view_still g.W.P.Policy.rules g.met.W.P.Policy.merge_keeps_type g.W.Versions.stands c.args.self.now.shared.now.table.shared.key.world.value c.args.self.now.seat.number c.take_for.new.seat.number c.args.self.now.seat.seat.me.0.seen c.take_for.new.seat.seat.me.0.seen c.take_for.ensures.number (TakeFor c.args.watcher) c.in-Err.refusal c.in-Err.ensures.call c.args.self.now.opened m h
+
+pub returns-in-Ok-clause-lends : goal.returns-in-Ok-clause-lends
+returns-in-Ok-clause-lends g c = (refl, c.take_for.ensures.number, view_further g.W.P.Policy.rules g.met.W.P.Policy.merge_keeps_type g.W.Versions.stands c.args.self.now.shared.now.table.shared.key.world.value c.args.self.now.seat.number c.take_for.new.seat.number c.args.self.now.seat.seat.me.0.seen c.take_for.new.seat.seat.me.0.seen c.take_for.ensures.number (TakeFor c.args.watcher) (reply.TakenFor c.in-Ok.name c.in-Ok.changed) c.in-Ok.ensures.call)
+
+pub returns-in-Err-clause-lends : goal.returns-in-Err-clause-lends
+returns-in-Err-clause-lends g c = (refl, c.take_for.ensures.number, view_further g.W.P.Policy.rules g.met.W.P.Policy.merge_keeps_type g.W.Versions.stands c.args.self.now.shared.now.table.shared.key.world.value c.args.self.now.seat.number c.take_for.new.seat.number c.args.self.now.seat.seat.me.0.seen c.take_for.new.seat.seat.me.0.seen c.take_for.ensures.number (TakeFor c.args.watcher) (reply.Refused c.in-Err.refusal) c.in-Err.ensures.call)
