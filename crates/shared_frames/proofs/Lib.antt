@@ -1,0 +1,2 @@
+pub mod TakePlaces
+pub mod SeatFrames

@@ -1,0 +1,16 @@
+use Rattle.std.proofs.Common.{subst}
+use Rattle.recomposer.specs.Compositions.{IsAt}
+use Rattle.snap_shared.specs.SeatDesk.{IsOnlyTaker}
+use Rattle.snap_shared.specs.Seats.{number_of, seen_by}
+use Rattle.snap_shared.specs.declared.shared.Seat.{Seat}
+use Rattle.shared_frames.proofs.SeatFrames.{begun_ok}
+use Rattle.shared_frames.proofs.frames.begin_among.Goals as goal
+
+pub returns-clause-good : goal.returns-clause-good
+returns-clause-good g c k types l h last alone =
+    let watcher = c.args.composition.now.watcher in
+    let desk = c.begin-outcome.new.desk in
+    let back = c.into_seat-seat.ensures.0 in
+    let there = subst (λ (s : Seat g.row.W.Denot). IsOnlyTaker (number_of s) watcher (seen_by s)) back alone in
+    begun_ok g.W.P.Policy.rules g.W.Versions.stands c.args.view.shared.now desk.shared.now c.args.view.seat desk.seat c.into_seat-seat.result.0 watcher types c.begin-outcome.ensures.lends.0 back c.begin-outcome.ensures.caller alone
+    (IsAt c.begin-outcome.new.self k) l desk.opened c.begin-outcome.result c.begin-outcome.ensures.name c.begin-outcome.ensures.log (c.begin-outcome.ensures.good k types l h last there)

@@ -1,0 +1,45 @@
+-- Trusted: what a frame through a seat finds in the shared history.
+use Rattle.std.specs.Prelude.{◌≡◌, ℕ, List, ◌∷◌, ◌++◌, Option, Some, None}
+use Rattle.rt_values.specs.Maps.{Map}
+use Rattle.rt_values.specs.declared.value.Ty.{Ty}
+use Rattle.snap_policy.specs.Rules.{Rules}
+use Rattle.snap_api.specs.Desks.{Lasts}
+use Rattle.snap_api.specs.World.{World, snapshot_of}
+use Rattle.snap_api.specs.declared.data.Entry.{Entry}
+use Rattle.snap_api.specs.declared.data.Reply.TheVariants.{TakenFor}
+use Rattle.snap_api.specs.declared.data.Request.TheVariants.{TakeFor}
+use Rattle.snap_shared.specs.SeatDesk.{IsPossibleWorld, SeesMap}
+use Rattle.snap_shared.specs.Seats.{opening_of, number_of, seen_by, mine_of}
+use Rattle.snap_shared.specs.SharedCalls.{own_calls}
+use Rattle.snap_shared.specs.declared.shared.Seat.{Seat}
+use Rattle.snap_shared.specs.declared.shared.Shared.{Shared}
+
+-- The caller's take for the watcher is located in the history directly after the caller's earlier calls `mine`, and `m` is
+-- what global shows in a world that is possible after all entries before the take.
+pub record IsMapAtTake {P : Type 0} (rules : Rules P) (opens : World P → Type 0) (seen mine : List Entry)
+    (number watcher : ℕ) (m : Map) : Type 0 where
+  pub before : List Entry
+  pub name : ℕ
+  pub changed : List ℕ
+  pub after : List Entry
+  pub is : seen ≡ before ++ record { caller = number; request = TakeFor watcher; reply = TakenFor name changed } ∷ after
+  pub mine_before : own_calls number before ≡ mine
+  pub world : World P
+  pub possible : IsPossibleWorld rules opens before world
+  pub shows : m ≡ (snapshot_of world 0).view
+
+module _ {W P : Type 0} (rules : Rules P) (stands : W → World P → Type 0) (shared : Shared W P) where
+  -- The watcher's last map after what the seat has seen, with the types of the objects.
+  abbrev pub HasLast : Seat W → ℕ → List Ty → Option Map → Type 0
+  HasLast seat watcher types l = Lasts rules (IsPossibleWorld rules (stands (opening_of shared)) (seen_by seat)) watcher types l
+
+  -- The seat's snapshot shows this map.
+  abbrev pub ShowsIn : Seat W → Option ℕ → Map → Type 0
+  ShowsIn seat opened m = SeesMap rules (stands (opening_of shared)) (seen_by seat) (number_of seat) opened m
+
+  -- The seat has made a take for the watcher since it was `before`, and the map at that take is the watcher's last one.
+  abbrev pub HasTaken : Seat W → Seat W → ℕ → List Ty → Option Map → Type 0
+  HasTaken before seat watcher types None = ⊥
+  HasTaken before seat watcher types (Some m) =
+      HasLast seat watcher types (Some m)
+      × IsMapAtTake rules (stands (opening_of shared)) (seen_by seat) (mine_of before) (number_of before) watcher m
