@@ -6,20 +6,21 @@ use Rattle.rt_groups.specs.Frames.{LastFrame}
 use Rattle.rt_groups.specs.declared.report.Report.{Report}
 use Rattle.lang_checks.specs.declared.checks.Checked.{Checked}
 use Rattle.recomposer.specs.declared.composition.Begun.{Begun}
+use Rattle.recomposer.specs.declared.composition.Composition.{Composition}
 use Rattle.recomposer.specs.declared.composition.FrameStop.{FrameStop}
-use Rattle.recomposer.specs.Compositions.{BeginsFrame, MakesFrame, MakesNoFrame, LogsFrame}
+use Rattle.recomposer.specs.Compositions.{IsAt, BeginsFrame, MakesFrame, MakesNoFrame, LogsFrame}
 use Rattle.snap_policy.specs.Rules.{Rules}
 use Rattle.snap_api.specs.Calls.{Logs}
 use Rattle.snap_api.specs.World.{World}
 use Rattle.snap_api.specs.declared.data.Entry.{Entry}
 use Rattle.snap_api.specs.declared.data.Reply.TheVariants as reply
 use Rattle.snap_api.specs.declared.data.Request.TheVariants as request
-use Rattle.snap_shared.specs.SeatDesk.{IsOnlyTaker, objects_read}
+use Rattle.snap_shared.specs.SeatDesk.{SeesMap, IsOnlyTaker, objects_read}
 use Rattle.snap_shared.specs.Seats.{opening_of, number_of, seen_by, mine_of}
 use Rattle.snap_shared.specs.SharedCalls.{own_calls}
 use Rattle.snap_shared.specs.declared.shared.Seat.{Seat}
 use Rattle.snap_shared.specs.declared.shared.Shared.{Shared}
-use Rattle.shared_frames.specs.SeatFrames.{HasLast, ShowsIn, HasTaken}
+use Rattle.shared_frames.specs.SeatFrames.{HasLast, ShowsIn, HasTaken, MakesThrough}
 use Rattle.shared_frames.proofs.TakePlaces.{TakesNone, reads_take_none, map_at_take}
 
 some_same : {A : Type 0} (a b : A) → Some a ≡ Some b → a ≡ b
@@ -75,20 +76,20 @@ module _ {W P : Type 0} (rules : Rules P) (stands : W → World P → Type 0) (s
     (same_world : other ≡ shared) (is_back : back ≡ after) (same : number_of after ≡ number_of before) (only : IsOnlyTaker (number_of back) watcher (seen_by back)) where
   begun_back : {at_map : Option Map → Type 0} {l : Option Map} (opened : Option ℕ) (name : ℕ) (changed : List ℕ) → opened ≡ Some name →
       Logs (Some (mine_of before)) (Some (mine_of after)) (number_of before) (request.TakeFor watcher) (reply.TakenFor name changed) →
-      BeginsFrame at_map (λ m. ShowsIn rules stands other after opened m) (λ k. HasLast rules stands other after watcher types k) l name changed →
-      BeginsFrame at_map (λ m. ShowsIn rules stands shared back (Some name) m) (λ k. HasTaken rules stands shared before back watcher types k) l name changed
+      BeginsFrame at_map (λ m. SeesMap rules (stands (opening_of other)) (seen_by after) (number_of after) opened m) (λ k. HasLast rules stands other after watcher types k) l name changed →
+      BeginsFrame at_map (λ m. ShowsIn rules stands shared back name m) (λ k. HasTaken rules stands shared before back watcher types k) l name changed
   begun_back {at_map} {l} opened name changed is logged b =
-      let here = subst (λ (v : Shared W P). BeginsFrame at_map (λ m. ShowsIn rules stands v after opened m) (λ k. HasLast rules stands v after watcher types k) l name changed) same_world b in
-      let of_back = subst (λ (s : Seat W). BeginsFrame at_map (λ m. ShowsIn rules stands shared s opened m) (λ k. HasLast rules stands shared s watcher types k) l name changed) (sym is_back) here in
-      let named = subst (λ (o : Option ℕ). BeginsFrame at_map (λ m. ShowsIn rules stands shared back o m) (λ k. HasLast rules stands shared back watcher types k) l name changed) is of_back in
+      let here = subst (λ (v : Shared W P). BeginsFrame at_map (λ m. SeesMap rules (stands (opening_of v)) (seen_by after) (number_of after) opened m) (λ k. HasLast rules stands v after watcher types k) l name changed) same_world b in
+      let of_back = subst (λ (s : Seat W). BeginsFrame at_map (λ m. SeesMap rules (stands (opening_of shared)) (seen_by s) (number_of s) opened m) (λ k. HasLast rules stands shared s watcher types k) l name changed) (sym is_back) here in
+      let named = subst (λ (o : Option ℕ). BeginsFrame at_map (λ m. SeesMap rules (stands (opening_of shared)) (seen_by back) (number_of back) o m) (λ k. HasLast rules stands shared back watcher types k) l name changed) is of_back in
       begun_taken rules stands shared before back watcher types (ap number_of is_back ∙ same) only
           (subst (λ (s : Seat W). Logs (Some (mine_of before)) (Some (mine_of s)) (number_of before) (request.TakeFor watcher) (reply.TakenFor name changed)) (sym is_back) logged) named
 
   -- A good beginning of a frame.
   pub begun_ok : (at_map : Option Map → Type 0) (l : Option Map) (opened : Option ℕ) (r : Result Begun FrameStop) → IfOk r (λ b. opened ≡ Some b.name) →
       IfOk r (λ b. Logs (Some (mine_of before)) (Some (mine_of after)) (number_of before) (request.TakeFor watcher) (reply.TakenFor b.name b.changed)) →
-      IfOk r (λ b. BeginsFrame at_map (λ m. ShowsIn rules stands other after opened m) (λ k. HasLast rules stands other after watcher types k) l b.name b.changed) →
-      IfOk r (λ b. BeginsFrame at_map (λ m. ShowsIn rules stands shared back (Some b.name) m) (λ k. HasTaken rules stands shared before back watcher types k) l b.name b.changed)
+      IfOk r (λ b. BeginsFrame at_map (λ m. SeesMap rules (stands (opening_of other)) (seen_by after) (number_of after) opened m) (λ k. HasLast rules stands other after watcher types k) l b.name b.changed) →
+      IfOk r (λ b. BeginsFrame at_map (λ m. ShowsIn rules stands shared back b.name m) (λ k. HasTaken rules stands shared before back watcher types k) l b.name b.changed)
   begun_ok at_map l opened (Ok b) is logged f = begun_back opened b.name b.changed is logged f
   begun_ok at_map l opened (Err e) is logged f = tt
 
@@ -103,12 +104,18 @@ module _ {W P : Type 0} (rules : Rules P) (stands : W → World P → Type 0) (s
       let of_back = subst (λ (s : Seat W). MakesFrame p k at_frame (λ l. HasLast rules stands shared s watcher types l) (Does s) told) (sym is_back) here in
       frame_taken rules stands shared before back watcher types (ap number_of is_back ∙ same) only of_back
 
-  -- A good frame.
-  pub frame_ok : (p : Checked) (k : LastFrame) (at_frame : LastFrame → Option Map → Type 0) (r : Result Report FrameStop) →
-      IfOk r (MakesFrame p k at_frame (λ l. HasLast rules stands other after watcher types l) (Does after)) →
-      IfOk r (MakesFrame p k at_frame (λ l. HasTaken rules stands shared before back watcher types l) (Does back))
-  frame_ok p k at_frame (Ok told) f = frame_back f
-  frame_ok p k at_frame (Err e) f = tt
+  -- A good frame. `c` is the composition after it.
+  pub frame_ok : (old c : Composition) → c.program ≡ old.program → c.watcher ≡ old.watcher → old.watcher ≡ watcher → (k : LastFrame) (r : Result Report FrameStop) →
+      IfOk r (MakesFrame old.program.now k (IsAt c) (λ l. HasLast rules stands other after watcher types l) (Does after)) →
+      IfOk r (MakesThrough rules stands shared c k before back types)
+  frame_ok old c program same_watcher is k (Ok told) f =
+      let made = subst (λ (p : Checked). MakesFrame p k (IsAt c) (λ l. HasTaken rules stands shared before back watcher types l) (Does back) told) (ap (λ q. q.now) (sym program)) (frame_back f) in
+      with_watcher (c.watcher) (sym is ∙ sym same_watcher) made
+    where
+      with_watcher : (n : ℕ) → watcher ≡ n → MakesFrame c.program.now k (IsAt c) (λ l. HasTaken rules stands shared before back watcher types l) (Does back) told →
+          MakesFrame c.program.now k (IsAt c) (λ l. HasTaken rules stands shared before back n types l) (λ xs. (objects_read (mine_of back) ≡ objects_read (mine_of before) ++ xs) × LogsFrame (Some (mine_of before)) (Some (mine_of back)) (number_of before) n xs) told
+      with_watcher n e made = subst (λ (w : ℕ). MakesFrame c.program.now k (IsAt c) (λ l. HasTaken rules stands shared before back w types l) (λ xs. (objects_read (mine_of back) ≡ objects_read (mine_of before) ++ xs) × LogsFrame (Some (mine_of before)) (Some (mine_of back)) (number_of before) w xs) told) e made
+  frame_ok old c program same_watcher is k (Err e) f = tt
 
   -- A frame that was not made.
   pub frame_err : (p : Checked) (k : LastFrame) (at_map : Option Map → Type 0) (r : Result Report FrameStop) →

@@ -2,13 +2,17 @@
 use Rattle.std.specs.Prelude.{◌≡◌, ℕ, List, ◌∷◌, ◌++◌, Option, Some, None}
 use Rattle.rt_values.specs.Maps.{Map}
 use Rattle.rt_values.specs.declared.value.Ty.{Ty}
+use Rattle.rt_groups.specs.Frames.{LastFrame}
+use Rattle.rt_groups.specs.declared.report.Report.{Report}
+use Rattle.recomposer.specs.declared.composition.Composition.{Composition}
+use Rattle.recomposer.specs.Compositions.{IsAt, BeginsFrame, MakesFrame, LogsFrame}
 use Rattle.snap_policy.specs.Rules.{Rules}
 use Rattle.snap_api.specs.Desks.{Lasts}
 use Rattle.snap_api.specs.World.{World, snapshot_of}
 use Rattle.snap_api.specs.declared.data.Entry.{Entry}
 use Rattle.snap_api.specs.declared.data.Reply.TheVariants.{TakenFor}
 use Rattle.snap_api.specs.declared.data.Request.TheVariants.{TakeFor}
-use Rattle.snap_shared.specs.SeatDesk.{IsPossibleWorld, SeesMap}
+use Rattle.snap_shared.specs.SeatDesk.{IsPossibleWorld, SeesMap, IsOnlyTaker, objects_read}
 use Rattle.snap_shared.specs.Seats.{opening_of, number_of, seen_by, mine_of}
 use Rattle.snap_shared.specs.SharedCalls.{own_calls}
 use Rattle.snap_shared.specs.declared.shared.Seat.{Seat}
@@ -33,9 +37,9 @@ module _ {W P : Type 0} (rules : Rules P) (stands : W → World P → Type 0) (s
   abbrev pub HasLast : Seat W → ℕ → List Ty → Option Map → Type 0
   HasLast seat watcher types l = Lasts rules (IsPossibleWorld rules (stands (opening_of shared)) (seen_by seat)) watcher types l
 
-  -- The seat's snapshot shows this map.
-  abbrev pub ShowsIn : Seat W → Option ℕ → Map → Type 0
-  ShowsIn seat opened m = SeesMap rules (stands (opening_of shared)) (seen_by seat) (number_of seat) opened m
+  -- The seat's open snapshot `name` shows this map.
+  abbrev pub ShowsIn : Seat W → ℕ → Map → Type 0
+  ShowsIn seat name m = SeesMap rules (stands (opening_of shared)) (seen_by seat) (number_of seat) (Some name) m
 
   -- The seat has made a take for the watcher since it was `before`, and the map at that take is the watcher's last one.
   abbrev pub HasTaken : Seat W → Seat W → ℕ → List Ty → Option Map → Type 0
@@ -43,3 +47,25 @@ module _ {W P : Type 0} (rules : Rules P) (stands : W → World P → Type 0) (s
   HasTaken before seat watcher types (Some m) =
       HasLast seat watcher types (Some m)
       × IsMapAtTake rules (stands (opening_of shared)) (seen_by seat) (mine_of before) (number_of before) watcher m
+
+  -- The composition has kept the state `k` of its last good frame, its watcher's last map is `l` before the frame, and no
+  -- other caller has taken for the watcher until after the frame.
+  abbrev pub MayCompose : Composition → LastFrame → Seat W → Seat W → List Ty → Option Map → Type 0
+  MayCompose c k before after types l =
+      IsAt c k l × HasLast before c.watcher types l × IsOnlyTaker (number_of after) c.watcher (seen_by after)
+
+  -- The composition has begun the frame of the map `m`, which the seat's snapshot `name` shows.
+  abbrev pub HasBegun : Composition → LastFrame → Seat W → ℕ → Map → Type 0
+  HasBegun c k seat name m = IsAt c k (Some m) × ShowsIn seat name m
+
+  -- A frame begins well between the two states of the seat: its map is shown, and is the one at its take.
+  abbrev pub BeginsThrough : Composition → LastFrame → Seat W → Seat W → List Ty → Option Map → ℕ → List ℕ → Type 0
+  BeginsThrough c k before after types l name changed =
+      BeginsFrame (IsAt c k) (ShowsIn after name) (HasTaken before after c.watcher types) l name changed
+
+  -- A frame is made between the two states of the seat: its map is the one at its take, the objects that the caller has read
+  -- grow by the frame's reads, and the caller's own calls by the frame's calls.
+  abbrev pub MakesThrough : Composition → LastFrame → Seat W → Seat W → List Ty → Report → Type 0
+  MakesThrough c k before after types = MakesFrame c.program.now k (IsAt c) (HasTaken before after c.watcher types)
+      (λ xs. (objects_read (mine_of after) ≡ objects_read (mine_of before) ++ xs)
+      × LogsFrame (Some (mine_of before)) (Some (mine_of after)) (number_of before) c.watcher xs)

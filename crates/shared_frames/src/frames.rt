@@ -7,10 +7,10 @@ ghost use Rattle.rt_values.specs.declared.value.Ty.{Ty};
 ghost use Rattle.rt_groups.specs.Frames.{LastFrame};
 ghost use Rattle.compose_model.specs.Frame.{frame as frame_of};
 ghost use Rattle.composer.specs.FrameDrafts.{functions_of};
-ghost use Rattle.recomposer.specs.Compositions.{IsAt, kept_after, frame_reads, BeginsFrame, EndsFrame, MakesFrame, MakesNoFrame, LogsFrame};
+ghost use Rattle.recomposer.specs.Compositions.{IsAt, kept_after, frame_reads, EndsFrame, MakesNoFrame};
 ghost use Rattle.snap_shared.specs.SeatDesk.{SeesFurther, IsOnlyTaker, objects_read};
 ghost use Rattle.snap_shared.specs.Seats.{opening_of, number_of, seen_by, mine_of, IsSeat};
-ghost use Rattle.shared_frames.specs.SeatFrames.{HasLast, ShowsIn, HasTaken};
+ghost use Rattle.shared_frames.specs.SeatFrames.{HasLast, HasBegun, MayCompose, BeginsThrough, MakesThrough};
 
 use recomposer::{Begun, Composition, FrameStop};
 use rt_groups::Report;
@@ -32,12 +32,12 @@ pub fn begin_among<W: Versions + Drop, R: Wait, G: Gate>(
 ) -> (Seat<W>, u64, Result<Begun, FrameStop>)
     ensures fits { IsSeat view.entry.shared.now result.0 }
     ensures number { number_of result.0 ≡ number_of view.entry.seat }
-    ensures further { SeesFurther W.P.rules (W.stands (opening_of view.entry.shared.now)) (seen_by view.entry.seat) (seen_by result.0) }
-    ensures good { (k : LastFrame) (types : List Ty) (l : Option Map) → IsAt composition.old k l
-        → HasLast W.P.rules W.stands view.entry.shared.now view.entry.seat composition.old.watcher types l
-        → IsOnlyTaker (number_of result.0) composition.old.watcher (seen_by result.0)
-        → IfOk result.2 (λ b. BeginsFrame (IsAt composition.new k) (ShowsIn W.P.rules W.stands view.entry.shared.now result.0 (Some b.name))
-        (HasTaken W.P.rules W.stands view.entry.shared.now view.entry.seat result.0 composition.old.watcher types) l b.name b.changed) }
+    ensures further { SeesFurther W.P.rules (W.stands (opening_of view.entry.shared.now))
+        (seen_by view.entry.seat) (seen_by result.0) }
+    ensures good { (k : LastFrame) (types : List Ty) (l : Option Map) →
+        MayCompose W.P.rules W.stands view.entry.shared.now composition.old k view.entry.seat result.0 types l →
+        IfOk result.2 (λ b. BeginsThrough W.P.rules W.stands view.entry.shared.now composition.new k
+        view.entry.seat result.0 types l b.name b.changed) }
     ensures err { OnErr result.2 (composition.new ≡ composition.old) }
     ensures program { composition.new.program ≡ composition.old.program }
     ensures watcher { composition.new.watcher ≡ composition.old.watcher }
@@ -48,7 +48,8 @@ pub fn begin_among<W: Versions + Drop, R: Wait, G: Gate>(
 }
 
 /// Ends a frame that has begun, through a desk of its snapshot, and returns the seat and the number of its next call at
-/// the gate (`Composition::finish`). Waits while other seats have the turn. Fails like `finish`.
+/// the gate (`Composition::finish`). Other callers' calls since the take leave the frame's map. Waits while other seats
+/// have the turn. Fails like `finish`.
 pub fn finish_among<W: Versions + Drop, R: Wait, G: Gate, L: Ledger>(
     mut view: SeatView<'_, W, R, G>,
     alloc: Global,
@@ -59,27 +60,34 @@ pub fn finish_among<W: Versions + Drop, R: Wait, G: Gate, L: Ledger>(
     requires { view.opened ≡ Some begun.name }
     ensures fits { IsSeat view.entry.shared.now result.0 }
     ensures number { number_of result.0 ≡ number_of view.entry.seat }
-    ensures further { SeesFurther W.P.rules (W.stands (opening_of view.entry.shared.now)) (seen_by view.entry.seat) (seen_by result.0) }
-    ensures good { (k : LastFrame) (m : Map) → IsAt composition.old k (Some m)
-        → ShowsIn W.P.rules W.stands view.entry.shared.now view.entry.seat (Some begun.name) m
-        → OnOk result.2 (IsAt composition.new (kept_after k (frame_of (functions_of composition.old.program.now) k m)) (Some m)) }
-    ensures report { (k : LastFrame) (m : Map) → IsAt composition.old k (Some m)
-        → ShowsIn W.P.rules W.stands view.entry.shared.now view.entry.seat (Some begun.name) m
-        → IfOk result.2 (λ r. Some r ≡ option_map (λ g. g.told) (frame_of (functions_of composition.old.program.now) k m)) }
-    ensures many { (k : LastFrame) (m : Map) → IsAt composition.old k (Some m)
-        → ShowsIn W.P.rules W.stands view.entry.shared.now view.entry.seat (Some begun.name) m
-        → result.2 ≡ Err FrameStop.TooManyGroups → frame_of (functions_of composition.old.program.now) k m ≡ None }
-    ensures asks { (k : LastFrame) (m : Map) → IsAt composition.old k (Some m)
-        → ShowsIn W.P.rules W.stands view.entry.shared.now view.entry.seat (Some begun.name) m
-        → OnOk result.2 (objects_read (mine_of result.0) ≡ objects_read (mine_of view.entry.seat) ++ frame_reads composition.old.program.now k m) }
-    ensures part { (k : LastFrame) (m : Map) → IsAt composition.old k (Some m)
-        → ShowsIn W.P.rules W.stands view.entry.shared.now view.entry.seat (Some begun.name) m
-        → OnErr result.2 (Grew (objects_read (mine_of view.entry.seat)) (objects_read (mine_of result.0)) (frame_reads composition.old.program.now k m)) }
-    ensures log { (k : LastFrame) (m : Map) → IsAt composition.old k (Some m)
-        → ShowsIn W.P.rules W.stands view.entry.shared.now view.entry.seat (Some begun.name) m → 0 < begun.name
-        → OnOk result.2 (EndsFrame (Some (mine_of view.entry.seat)) (Some (mine_of result.0)) (number_of view.entry.seat) begun.name (frame_reads composition.old.program.now k m)) }
-    ensures last { (n : ℕ) (types : List Ty) (l : Option Map) → HasLast W.P.rules W.stands view.entry.shared.now view.entry.seat n types l
-        → IsOnlyTaker (number_of result.0) n (seen_by result.0) → HasLast W.P.rules W.stands view.entry.shared.now result.0 n types l }
+    ensures further { SeesFurther W.P.rules (W.stands (opening_of view.entry.shared.now))
+        (seen_by view.entry.seat) (seen_by result.0) }
+    ensures good { (k : LastFrame) (m : Map) →
+        HasBegun W.P.rules W.stands view.entry.shared.now composition.old k view.entry.seat begun.name m →
+        OnOk result.2 (IsAt composition.new
+        (kept_after k (frame_of (functions_of composition.old.program.now) k m)) (Some m)) }
+    ensures report { (k : LastFrame) (m : Map) →
+        HasBegun W.P.rules W.stands view.entry.shared.now composition.old k view.entry.seat begun.name m →
+        IfOk result.2 (λ r. Some r ≡ option_map (λ g. g.told) (frame_of (functions_of composition.old.program.now) k m)) }
+    ensures many { (k : LastFrame) (m : Map) →
+        HasBegun W.P.rules W.stands view.entry.shared.now composition.old k view.entry.seat begun.name m →
+        result.2 ≡ Err FrameStop.TooManyGroups → frame_of (functions_of composition.old.program.now) k m ≡ None }
+    ensures asks { (k : LastFrame) (m : Map) →
+        HasBegun W.P.rules W.stands view.entry.shared.now composition.old k view.entry.seat begun.name m →
+        OnOk result.2 (objects_read (mine_of result.0)
+        ≡ objects_read (mine_of view.entry.seat) ++ frame_reads composition.old.program.now k m) }
+    ensures part { (k : LastFrame) (m : Map) →
+        HasBegun W.P.rules W.stands view.entry.shared.now composition.old k view.entry.seat begun.name m →
+        OnErr result.2 (Grew (objects_read (mine_of view.entry.seat)) (objects_read (mine_of result.0))
+        (frame_reads composition.old.program.now k m)) }
+    ensures log { (k : LastFrame) (m : Map) →
+        HasBegun W.P.rules W.stands view.entry.shared.now composition.old k view.entry.seat begun.name m →
+        0 < begun.name → OnOk result.2 (EndsFrame (Some (mine_of view.entry.seat)) (Some (mine_of result.0))
+        (number_of view.entry.seat) begun.name (frame_reads composition.old.program.now k m)) }
+    ensures last { (n : ℕ) (types : List Ty) (l : Option Map) →
+        HasLast W.P.rules W.stands view.entry.shared.now view.entry.seat n types l →
+        IsOnlyTaker (number_of result.0) n (seen_by result.0) →
+        HasLast W.P.rules W.stands view.entry.shared.now result.0 n types l }
     ensures err { OnErr result.2 (composition.new ≡ composition.old) }
     ensures program { composition.new.program ≡ composition.old.program }
     ensures watcher { composition.new.watcher ≡ composition.old.watcher }
@@ -99,18 +107,15 @@ pub fn frame_among<W: Versions + Drop, R: Wait, G: Gate, L: Ledger>(
 ) -> (Seat<W>, u64, Result<Report, FrameStop>)
     ensures fits { IsSeat view.entry.shared.now result.0 }
     ensures number { number_of result.0 ≡ number_of view.entry.seat }
-    ensures further { SeesFurther W.P.rules (W.stands (opening_of view.entry.shared.now)) (seen_by view.entry.seat) (seen_by result.0) }
-    ensures good { (k : LastFrame) (types : List Ty) (l : Option Map) → IsAt composition.old k l
-        → HasLast W.P.rules W.stands view.entry.shared.now view.entry.seat composition.old.watcher types l
-        → IsOnlyTaker (number_of result.0) composition.old.watcher (seen_by result.0)
-        → IfOk result.2 (MakesFrame composition.old.program.now k (IsAt composition.new)
-        (HasTaken W.P.rules W.stands view.entry.shared.now view.entry.seat result.0 composition.old.watcher types)
-        (λ xs. (objects_read (mine_of result.0) ≡ objects_read (mine_of view.entry.seat) ++ xs)
-        × LogsFrame (Some (mine_of view.entry.seat)) (Some (mine_of result.0)) (number_of view.entry.seat) composition.old.watcher xs)) }
-    ensures err { (k : LastFrame) (types : List Ty) (l : Option Map) → IsAt composition.old k l
-        → HasLast W.P.rules W.stands view.entry.shared.now view.entry.seat composition.old.watcher types l
-        → IsOnlyTaker (number_of result.0) composition.old.watcher (seen_by result.0)
-        → IfErr result.2 (MakesNoFrame composition.old.program.now k (IsAt composition.new k)
+    ensures further { SeesFurther W.P.rules (W.stands (opening_of view.entry.shared.now))
+        (seen_by view.entry.seat) (seen_by result.0) }
+    ensures good { (k : LastFrame) (types : List Ty) (l : Option Map) →
+        MayCompose W.P.rules W.stands view.entry.shared.now composition.old k view.entry.seat result.0 types l →
+        IfOk result.2 (MakesThrough W.P.rules W.stands view.entry.shared.now composition.new k
+        view.entry.seat result.0 types) }
+    ensures err { (k : LastFrame) (types : List Ty) (l : Option Map) →
+        MayCompose W.P.rules W.stands view.entry.shared.now composition.old k view.entry.seat result.0 types l →
+        IfErr result.2 (MakesNoFrame composition.old.program.now k (IsAt composition.new k)
         (HasLast W.P.rules W.stands view.entry.shared.now result.0 composition.old.watcher types)) }
     ensures program { composition.new.program ≡ composition.old.program }
     ensures watcher { composition.new.watcher ≡ composition.old.watcher }
