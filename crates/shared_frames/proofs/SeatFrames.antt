@@ -1,5 +1,5 @@
 -- The frames of a seat's desk.
-use Rattle.std.proofs.Common.{ℕ, List, ◌≡◌, ◌++◌, ◌∷◌, [], refl, sym, ap, ◌∙◌, subst, Option, Some, None, Result, Ok, Err, IfOk, IfErr, append_assoc}
+use Rattle.std.proofs.Common.{ℕ, List, ◌≡◌, ◌++◌, ◌∷◌, [], refl, sym, ap, ◌∙◌, subst, Option, Some, Result, Ok, Err, IfOk, IfErr, append_assoc}
 use Rattle.rt_values.specs.Maps.{Map}
 use Rattle.rt_values.specs.declared.value.Ty.{Ty}
 use Rattle.rt_groups.specs.Frames.{LastFrame}
@@ -54,15 +54,15 @@ module _ {W P : Type 0} (rules : Rules P) (stands : W → World P → Type 0) (s
   -- A whole frame took its map at one place of the history.
   pub frame_taken : {p : Checked} {k : LastFrame} {at_frame : LastFrame → Option Map → Type 0} {told : Report} →
       MakesFrame p k at_frame (λ l. HasLast rules stands shared after watcher types l)
-          (λ xs. (objects_read (mine_of after) ≡ objects_read (mine_of before) ++ xs) × LogsFrame (Some (mine_of before)) (Some (mine_of after)) (number_of before) watcher xs) told →
+      (λ xs. (objects_read (mine_of after) ≡ objects_read (mine_of before) ++ xs) × LogsFrame (Some (mine_of before)) (Some (mine_of after)) (number_of before) watcher xs) told →
       MakesFrame p k at_frame (λ l. HasTaken rules stands shared before after watcher types l)
-          (λ xs. (objects_read (mine_of after) ≡ objects_read (mine_of before) ++ xs) × LogsFrame (Some (mine_of before)) (Some (mine_of after)) (number_of before) watcher xs) told
+      (λ xs. (objects_read (mine_of after) ≡ objects_read (mine_of before) ++ xs) × LogsFrame (Some (mine_of before)) (Some (mine_of after)) (number_of before) watcher xs) told
   frame_taken f =
       let whole = f.done.1 in
       let take : Entry = record { caller = number_of before; request = request.TakeFor watcher; reply = reply.TakenFor whole.name whole.changed } in
       let dispose : Entry = record { caller = number_of before; request = request.Dispose whole.name; reply = reply.Disposed } in
       let grew : mine_of after ≡ mine_of before ++ take ∷ (whole.rest.more ++ dispose ∷ []) =
-          some_same _ _ whole.rest.log_is ∙ append_assoc (mine_of before ++ take ∷ []) whole.rest.more (dispose ∷ []) ∙ append_assoc (mine_of before) (take ∷ []) (whole.rest.more ++ dispose ∷ []) in
+      some_same _ _ whole.rest.log_is ∙ append_assoc (mine_of before ++ take ∷ []) whole.rest.more (dispose ∷ []) ∙ append_assoc (mine_of before) (take ∷ []) (whole.rest.more ++ dispose ∷ []) in
       record {
         map = f.map;
         is_at = f.is_at;
@@ -83,7 +83,7 @@ module _ {W P : Type 0} (rules : Rules P) (stands : W → World P → Type 0) (s
       let of_back = subst (λ (s : Seat W). BeginsFrame at_map (λ m. SeesMap rules (stands (opening_of shared)) (seen_by s) (number_of s) opened m) (λ k. HasLast rules stands shared s watcher types k) l name changed) (sym is_back) here in
       let named = subst (λ (o : Option ℕ). BeginsFrame at_map (λ m. SeesMap rules (stands (opening_of shared)) (seen_by back) (number_of back) o m) (λ k. HasLast rules stands shared back watcher types k) l name changed) is of_back in
       begun_taken rules stands shared before back watcher types (ap number_of is_back ∙ same) only
-          (subst (λ (s : Seat W). Logs (Some (mine_of before)) (Some (mine_of s)) (number_of before) (request.TakeFor watcher) (reply.TakenFor name changed)) (sym is_back) logged) named
+      (subst (λ (s : Seat W). Logs (Some (mine_of before)) (Some (mine_of s)) (number_of before) (request.TakeFor watcher) (reply.TakenFor name changed)) (sym is_back) logged) named
 
   -- A good beginning of a frame.
   pub begun_ok : (at_map : Option Map → Type 0) (l : Option Map) (opened : Option ℕ) (r : Result Begun FrameStop) → IfOk r (λ b. opened ≡ Some b.name) →

@@ -1,5 +1,5 @@
 -- The place of a take in the shared history, and the last map that it leaves.
-use Rattle.std.proofs.Common.{ℕ, List, ◌≡◌, ◌++◌, ◌∷◌, [], refl, sym, ap, ◌∙◌, subst, Option, Some, None, Bool, true, false, not, map, ◌==◌, cond, ◌&&◌}
+use Rattle.std.proofs.Common.{ℕ, List, ◌≡◌, ◌++◌, ◌∷◌, [], refl, sym, ap, ◌∙◌, subst, Some, Bool, true, false, not, map, ◌==◌, cond, ◌&&◌}
 use Rattle.rt_values.specs.Maps.{Map}
 use Rattle.rt_values.specs.declared.value.Ty.{Ty}
 use Rattle.snap_policy.specs.Rules.{Rules}
@@ -118,7 +118,7 @@ module _ {P : Type 0} (rules : Rules P) (opens : World P → Type 0) (seen mine 
       let only_after = (only_taker_parts rules number watcher p.before (e ∷ p.after) (subst (λ (l : List Entry). IsOnlyTaker number watcher l) p.is only)).1.1 in
       let stays = last_stays rules number watcher (call rules w number (request.TakeFor watcher)).0 p.after only_after (subst (λ (l : List Entry). TakesNone watcher l) (sym p.second) none) in
       let world_is : h.world ≡ world_after rules (call rules w number (request.TakeFor watcher)).0 p.after =
-          h.stands_for.is ∙ ap (λ (l : List Entry). world_after rules o l) p.is ∙ after_append rules o p.before (e ∷ p.after) in
+      h.stands_for.is ∙ ap (λ (l : List Entry). world_after rules o l) p.is ∙ after_append rules o p.before (e ∷ p.after) in
       let last : Some m ≡ Some (snapshot_of w 0).view = sym h.is ∙ ap (λ (v : World P). last_of v watcher) world_is ∙ stays ∙ took.last in
       record {
         before = p.before;
