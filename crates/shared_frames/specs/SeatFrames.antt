@@ -12,7 +12,7 @@ use Rattle.snap_api.specs.World.{World, snapshot_of}
 use Rattle.snap_api.specs.declared.data.Entry.{Entry}
 use Rattle.snap_api.specs.declared.data.Reply.TheVariants.{TakenFor}
 use Rattle.snap_api.specs.declared.data.Request.TheVariants.{TakeFor}
-use Rattle.snap_shared.specs.SeatDesk.{IsPossibleWorld, SeesMap, IsOnlyTaker, objects_read}
+use Rattle.snap_shared.specs.SeatDesk.{IsPossibleWorld, SeesMap, ClockIsAtLeast, IsOnlyTaker, objects_read}
 use Rattle.snap_shared.specs.Seats.{opening_of, number_of, seen_by, mine_of}
 use Rattle.snap_shared.specs.SharedCalls.{own_calls}
 use Rattle.snap_shared.specs.declared.shared.Seat.{Seat}
@@ -36,6 +36,10 @@ module _ {W P : Type 0} (rules : Rules P) (stands : W → World P → Type 0) (s
   -- The watcher's last map after what the seat has seen, with the types of the objects.
   abbrev pub HasLast : Seat W → ℕ → List Ty → Option Map → Type 0
   HasLast seat watcher types l = Lasts rules (IsPossibleWorld rules (stands (opening_of shared)) (seen_by seat)) watcher types l
+
+  -- The clock is at least `n` after what the seat has seen.
+  abbrev pub HasClock : Seat W → ℕ → Type 0
+  HasClock seat n = ClockIsAtLeast rules (stands (opening_of shared)) (seen_by seat) n
 
   -- The seat's open snapshot `name` shows this map.
   abbrev pub ShowsIn : Seat W → ℕ → Map → Type 0

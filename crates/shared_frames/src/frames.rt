@@ -7,10 +7,10 @@ ghost use Rattle.rt_values.specs.declared.value.Ty.{Ty};
 ghost use Rattle.rt_groups.specs.Frames.{LastFrame};
 ghost use Rattle.compose_model.specs.Frame.{frame as frame_of};
 ghost use Rattle.composer.specs.FrameDrafts.{functions_of};
-ghost use Rattle.recomposer.specs.Compositions.{IsAt, kept_after, frame_reads, EndsFrame, MakesNoFrame};
+ghost use Rattle.recomposer.specs.Compositions.{IsAt, StopsAtEnd, kept_after, frame_reads, EndsFrame, MakesNoFrame};
 ghost use Rattle.snap_shared.specs.SeatDesk.{SeesFurther, IsOnlyTaker, objects_read};
 ghost use Rattle.snap_shared.specs.Seats.{opening_of, number_of, seen_by, mine_of, IsSeat};
-ghost use Rattle.shared_frames.specs.SeatFrames.{HasLast, HasBegun, MayCompose, BeginsThrough, MakesThrough};
+ghost use Rattle.shared_frames.specs.SeatFrames.{HasLast, HasClock, HasBegun, MayCompose, BeginsThrough, MakesThrough};
 
 use recomposer::{Begun, Composition, FrameStop};
 use rt_groups::Report;
@@ -38,6 +38,13 @@ pub fn begin_among<W: Versions + Drop, R: Wait, G: Gate>(
         MayCompose W.P.rules W.stands view.entry.shared.now composition.old k view.entry.seat result.0 types l →
         IfOk result.2 (λ b. BeginsThrough W.P.rules W.stands view.entry.shared.now composition.new k
         view.entry.seat result.0 types l b.name b.changed) }
+    ensures asks { objects_read (mine_of result.0) ≡ objects_read (mine_of view.entry.seat) }
+    ensures last { (k : LastFrame) (types : List Ty) (l : Option Map) →
+        MayCompose W.P.rules W.stands view.entry.shared.now composition.old k view.entry.seat result.0 types l →
+        OnErr result.2 (HasLast W.P.rules W.stands view.entry.shared.now result.0 composition.old.watcher types l) }
+    ensures spent { (n : ℕ) → HasClock W.P.rules W.stands view.entry.shared.now view.entry.seat n →
+        StopsAtEnd (HasClock W.P.rules W.stands view.entry.shared.now result.0) n result.2 }
+    ensures few { result.2 ≡ Err FrameStop.TooManyGroups → ⊥ }
     ensures err { OnErr result.2 (composition.new ≡ composition.old) }
     ensures program { composition.new.program ≡ composition.old.program }
     ensures watcher { composition.new.watcher ≡ composition.old.watcher }
