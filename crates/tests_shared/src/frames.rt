@@ -1,0 +1,240 @@
+// Frames through a seat, while another thread writes.
+ghost use Rattle.std.specs.Prelude.{◌≡◌, ◌<◌, ◌∷◌, [], IfOk};
+ghost use Rattle.lang_ast.specs.SyntaxView.{stmt_view};
+ghost use Rattle.lang_ast.specs.Programs.{program_view};
+ghost use Rattle.lang_checks.specs.Numbers.{IsNumberedProgram, stmt_sites};
+ghost use Rattle.snap_shared.specs.Seats.{IsSeat};
+ghost use Rattle.tests_shared.specs.Calls.{CallsNothing};
+
+use crate::fixture::{World, shared_counter};
+use lang_ast::{Expression, Function, Ident, Program, State, Statement};
+use lang_checks::{Checked, check};
+use recomposer::{Composition, FrameStop};
+use rt_groups::{GroupKind, Report};
+use rt_streams::OpenGate;
+use rt_values::{Steps, Ty, Value, Word};
+use shared_frames::frame_among;
+use slot_table::Table;
+use snap_api::Request;
+use snap_policy::BuiltIn;
+use snap_shared::{Seat, SeatView, Shared};
+use std::alloc::Global;
+use std::marker::Brand;
+use std::sync::Wait;
+use std::sync::ledger::{Blank, Ledger};
+use std::test::Fail;
+use std::thread::{self, Threads};
+
+const FRAMES: u64 = 200;
+
+const WRITES: i64 = 2000;
+
+fn ident(alloc: Global, name: &[u8]) -> Result<Ident, Fail> {
+    let text = Word::of(alloc, name)?;
+    Ok(Ident { at: 0, text })
+}
+
+// Returns the statement `(key (get total))`.
+fn key_statement(alloc: Global) -> Result<Statement, Fail>
+    ensures { IfOk result (λ s. (stmt_sites (stmt_view s) ≡ 1 ∷ []) × CallsNothing (stmt_view s)) }
+{
+    let name = ident(alloc, b"total")?;
+    Ok(Statement::Key {
+        at: 0,
+        site: 1,
+        key: Expression::Get {
+            at: 0,
+            name,
+            number: 0,
+        },
+        body: Vec::new(alloc),
+    })
+}
+
+// Returns the program `(compose 1) (state total Int Counter 0) (fun root () (key (get total)))`.
+fn counter_program(alloc: Global) -> Result<Program, Fail>
+    ensures { IfOk result (λ p. IsNumberedProgram (program_view p)) }
+{
+    let total = State {
+        at: 0,
+        name: ident(alloc, b"total")?,
+        ty: Ty::Int,
+        policy: BuiltIn::Counter,
+        initial: Value::Int(0),
+    };
+    let root = Function {
+        at: 0,
+        name: ident(alloc, b"root")?,
+        parameters: Vec::new(alloc),
+        body: vec![in alloc; key_statement(alloc)?]?,
+    };
+    Ok(Program {
+        header: 0,
+        states: vec![in alloc; total]?,
+        functions: vec![in alloc; root]?,
+    })
+}
+
+fn checked_program(alloc: Global) -> Result<Checked, Fail> {
+    let program = counter_program(alloc)?;
+    Ok(check(alloc, program)?)
+}
+
+// Returns the number in the root's group with a key, or -1 without such a group.
+fn shown_number(table: &Table) -> i64 {
+    if table.len() < 2 {
+        return -1;
+    }
+    match table.kind(1) {
+        GroupKind::Key(Value::Int(number)) => *number,
+        _ => -1,
+    }
+}
+
+// Makes a frame through the seat. `blank` is the ledger of the steps, which no test reads.
+fn frame_counting<R: Wait, L: Ledger>(
+    rt: &R,
+    alloc: Global,
+    shared: &Shared<World>,
+    seat: Seat<World>,
+    step: u64,
+    composition: &mut Composition,
+    blank: Blank,
+) -> (Seat<World>, u64, Result<Report, FrameStop>)
+    requires seat { IsSeat shared.now seat }
+    requires name { blank.name ≡ L.name }
+    requires parts { blank.parts ≡ L.parts }
+    requires some { 0 < L.parts }
+    ensures { IsSeat shared.now result.0 }
+{
+    let (book, share) = blank.open();
+    let mut steps: Steps<L> = Steps::new(book, share);
+    let view = SeatView::new(rt, shared, seat, &OpenGate, step, None);
+    frame_among(view, alloc, composition, &mut steps)
+}
+
+// Makes a frame through the seat, and returns it with the number of its next call at the gate.
+fn make_frame<R: Wait>(
+    rt: &R,
+    alloc: Global,
+    shared: &Shared<World>,
+    seat: Seat<World>,
+    step: u64,
+    composition: &mut Composition,
+) -> (Seat<World>, u64, Result<Report, FrameStop>)
+    requires { IsSeat shared.now seat }
+    ensures { IsSeat shared.now result.0 }
+{
+    frame_counting::<R, Brand>(rt, alloc, shared, seat, step, composition, Blank::new(1))
+}
+
+// Makes frames through the seat, and returns it with the number that each frame shows. Stops at a failed frame.
+fn compose_frames<R: Wait>(
+    rt: &R,
+    alloc: Global,
+    shared: &Shared<World>,
+    seat: Seat<World>,
+    composition: &mut Composition,
+) -> (Seat<World>, Vec<i64>)
+    requires { IsSeat shared.now seat }
+    ensures { IsSeat shared.now result.0 }
+{
+    let mut shown = Vec::new(alloc);
+    let mut held = seat;
+    let mut step = 0;
+    for _ in 0..FRAMES {
+        let (next, after, outcome) = make_frame(rt, alloc, shared, held, step, composition);
+        held = next;
+        step = after;
+        let Ok(_) = outcome else {
+            return (held, shown);
+        };
+        let Ok(()) = shown.push(shown_number(composition.table())) else {
+            return (held, shown);
+        };
+    }
+    (held, shown)
+}
+
+// Writes the numbers 1 to `WRITES` to the counter in global, one after another.
+fn write_numbers<R: Wait>(
+    rt: &R,
+    alloc: Global,
+    shared: &Shared<World>,
+    seat: Seat<World>,
+) -> Seat<World>
+    requires { IsSeat shared.now seat }
+    ensures { IsSeat shared.now result }
+{
+    let mut held = seat;
+    for number in 0..WRITES {
+        let write = Request::Write {
+            name: 0,
+            object: 0,
+            value: Value::Int(number.wrapping_add(1)),
+        };
+        shared.call(rt, alloc, &mut held, write);
+    }
+    held
+}
+
+// Lets one seat write in another thread while the other seat's composition makes its frames in this one.
+fn compose_while_writing<R: Threads + Wait + Sync>(
+    rt: &R,
+    alloc: Global,
+    shared: &Shared<World>,
+    writer: Seat<World>,
+    reader: Seat<World>,
+    composition: &mut Composition,
+) -> (Seat<World>, Seat<World>, Vec<i64>)
+    requires writer { IsSeat shared.now writer }
+    requires reader { IsSeat shared.now reader }
+    ensures writer { IsSeat shared.now result.0 }
+    ensures reader { IsSeat shared.now result.1 }
+{
+    let (writer, (reader, shown)) = thread::join(
+        rt,
+        || write_numbers(rt, alloc, shared, writer),
+        || compose_frames(rt, alloc, shared, reader, composition),
+    );
+    (writer, reader, shown)
+}
+
+#[test]
+fn each_frame_shows_the_value_at_its_take(rt: HostRuntime) -> Result<(), Fail> {
+    let alloc = rt.alloc();
+    let program = checked_program(alloc)?;
+    let mut composition = Composition::new(alloc, &program, 0)?;
+    let (shared, mut seats) = shared_counter(&rt, alloc, 2)?;
+    let (Some(writer), Some(reader)) = (seats.pop(), seats.pop()) else {
+        unreachable!()
+    };
+    let (writer, reader, shown) = compose_while_writing(
+        &rt,
+        alloc,
+        &shared,
+        writer,
+        reader,
+        &mut composition,
+    );
+    let ends = vec![in alloc; writer, reader]?;
+    let (_, history) = shared.into_parts(ends);
+    let mut global = 0;
+    let mut frames = shown.iter();
+    for entry in &history {
+        match &entry.request {
+            Request::Write {
+                value: Value::Int(number),
+                ..
+            } => global = *number,
+            Request::TakeFor { .. } => {
+                assert!(rt; matches!(frames.next(), Some(number) if *number == global));
+            }
+            _ => {}
+        }
+    }
+    assert_eq!(rt; shown.len(), 200);
+    assert!(rt; frames.next().is_none());
+    assert_eq!(rt; global, WRITES);
+    Ok(())
+}
