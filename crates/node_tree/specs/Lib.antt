@@ -1,0 +1,4 @@
+pub mod NodeTrees
+pub mod Calls
+pub mod Placing
+pub mod Premises
