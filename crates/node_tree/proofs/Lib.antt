@@ -3,3 +3,8 @@ pub mod Numbers
 pub mod ChildCalls
 pub mod SetCalls
 pub mod InnerCalls
+pub mod Exchanges
+pub mod StoredNodes
+pub mod FirstNodes
+pub mod NamedAttributes
+pub mod TreeSteps

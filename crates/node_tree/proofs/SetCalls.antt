@@ -12,7 +12,7 @@ use Rattle.rt_groups.specs.GroupForest.{Attribute}
 use Rattle.node_tree.specs.declared.ops.Op.{Op}
 use Rattle.node_tree.specs.declared.ops.Op.TheVariants as op
 use Rattle.node_tree.specs.NodeTrees.{TreeNode, OpenNode}
-use Rattle.node_tree.specs.Calls.{attribute_after_set, has_attribute}
+use Rattle.node_tree.specs.Calls.{attributes_after_set, has_attribute}
 use Rattle.node_tree.specs.Placing.{set_calls}
 use Rattle.node_tree.specs.Premises.{HaveDistinctNames, names_of}
 use Rattle.node_tree.proofs.Turning.{Turns, tree, opened, none_turns, one_turns, then_turns, turns_from, turns_to}
@@ -33,25 +33,6 @@ other_way xs ys lacks = by (bytes_eq ys xs) refl
     by : (b : Bool) → bytes_eq ys xs ≡ b → b ≡ false
     by true is = absurd (true≢false (sym ((bytes_eq-Decides xs ys).1 (sym ((bytes_eq-Decides ys xs).0 is))) ∙ lacks))
     by false is = refl
-
--- A `set` of a name that no attribute has leaves the attributes.
-unset : (name : List ℕ) (v : Value) (as_ : List Attribute) → has_attribute name as_ ≡ false → map (attribute_after_set name v) as_ ≡ as_
-unset name v [] lacks = refl
-unset name v (a ∷ as_) lacks =
-    let p = or_parts (bytes_eq a.name name) (has_attribute name as_) lacks in
-    ap (λ (b : Bool). (if b then record { name = a.name; value = v } else a) ∷ map (attribute_after_set name v) as_) p.0
-    ∙ ap (λ l. a ∷ l) (unset name v as_ p.1)
-
--- Whether there is an attribute with a name depends on the names.
-by_names : (name : List ℕ) (as_ bs : List Attribute) → names_of as_ ≡ names_of bs → has_attribute name as_ ≡ has_attribute name bs
-by_names name [] [] e = refl
-by_names name [] (b ∷ bs) e = absurd cc
-by_names name (a ∷ as_) [] e = absurd cc
-by_names name (a ∷ as_) (b ∷ bs) e =
-    let first : a.name ≡ b.name = cc in
-    let later : names_of as_ ≡ names_of bs = cc in
-    ap (λ (n : List ℕ). bytes_eq n name || has_attribute name as_) first
-    ∙ ap (λ (c : Bool). bytes_eq b.name name || c) (by_names name as_ bs later)
 
 joined_names : (name : List ℕ) (as_ bs : List Attribute) → has_attribute name as_ ≡ false → has_attribute name bs ≡ false → has_attribute name (as_ ++ bs) ≡ false
 joined_names name [] bs lacks none = none
@@ -79,16 +60,16 @@ apart_more done (m ∷ new) n apart lacks =
     let p = or_parts (bytes_eq m.name n.name) (has_attribute n.name new) lacks in
     (joined_names m.name done (n ∷ []) apart.0 (or_none (bytes_eq n.name m.name) false (other_way m.name n.name p.0) refl), apart_more done new n apart.1 p.1)
 
-set_one : (done more : List Attribute) (o n : Attribute) → o.name ≡ n.name → has_attribute n.name done ≡ false → has_attribute n.name more ≡ false
-    → map (attribute_after_set n.name n.value) (done ++ (o ∷ more)) ≡ done ++ (n ∷ more)
-set_one done more o n e none lacks =
+set_one : (done more : List Attribute) (o n : Attribute) → o.name ≡ n.name → has_attribute n.name done ≡ false
+    → attributes_after_set n.name n.value (done ++ (o ∷ more)) ≡ done ++ (n ∷ more)
+set_one [] more o n e none =
     let is : bytes_eq o.name n.name ≡ true = ap (λ (x : List ℕ). bytes_eq x n.name) e ∙ same_name n.name in
-    let one : attribute_after_set n.name n.value o ≡ n =
-        ap (λ (b : Bool). if b then record { name = o.name; value = n.value } else o) is ∙ ap (λ (x : List ℕ). record { name = x; value = n.value }) e in
-    map-append (attribute_after_set n.name n.value) done (o ∷ more)
-    ∙ ap (λ l. l ++ (attribute_after_set n.name n.value o ∷ map (attribute_after_set n.name n.value) more)) (unset n.name n.value done none)
-    ∙ ap (λ x. done ++ (x ∷ map (attribute_after_set n.name n.value) more)) one
-    ∙ ap (λ l. done ++ (n ∷ l)) (unset n.name n.value more lacks)
+    ap (λ (b : Bool). if b then record { name = o.name; value = n.value } ∷ more else o ∷ attributes_after_set n.name n.value more) is
+    ∙ ap (λ (x : List ℕ). record { name = x; value = n.value } ∷ more) e
+set_one (d ∷ done) more o n e none =
+    let p = or_parts (bytes_eq d.name n.name) (has_attribute n.name done) none in
+    ap (λ (b : Bool). if b then record { name = d.name; value = n.value } ∷ (done ++ (o ∷ more)) else d ∷ attributes_after_set n.name n.value (done ++ (o ∷ more))) p.0
+    ∙ ap (λ l. d ∷ l) (set_one done more o n e p.1)
 
 sets_turn : (old new done : List Attribute) (children before after : List TreeNode) (number : ℕ) (kind : List ℕ) (os : List OpenNode)
     → names_of old ≡ names_of new → HaveDistinctNames new → Apart done new
@@ -120,7 +101,7 @@ sets_turn (o ∷ old) (n ∷ new) done children before after number kind os e d 
         none_turns _ _ (as_one (ap (λ (a : Attribute). done ++ (a ∷ old)) same))
     by false is = one_turns (op.Set n.name n.value) _ _
         (in_the_middle n.name done old o (ap (λ (x : List ℕ). bytes_eq x n.name) first ∙ same_name n.name))
-        (as_one (set_one done old o n first apart.0 (by_names n.name old new later ∙ d.0)))
+        (as_one (set_one done old o n first apart.0))
 
 none_done : (new : List Attribute) → Apart [] new
 unfolding Apart

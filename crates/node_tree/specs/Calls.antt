@@ -1,10 +1,12 @@
 -- Trusted: the calls on an applier, when each may come, and the tree after each.
-use Rattle.std.specs.Prelude.{ℕ, ◌+◌, ◌≤◌, ◌<◌, List, [], ◌∷◌, ◌++◌, map, length, take, drop, Bool, false, if◌then◌else◌, IsTrue}
+use Rattle.std.specs.Prelude.{ℕ, ◌+◌, ◌≤◌, ◌<◌, List, [], ◌∷◌, ◌++◌, map, length, take, drop, Bool, false, Option, Some, None, if◌then◌else◌, IsTrue, ◌≡◌}
 use Rattle.std.specs.List.{insert, list_any}
 use Rattle.std.specs.Str.{bytes_eq}
+use Rattle.std.specs.Option.{option_map}
 use Rattle.rt_values.specs.declared.value.Value.{Value}
 use Rattle.rt_groups.specs.GroupForest.{Attribute}
-use Rattle.rt_groups.specs.Nodes.{Nodes, None}
+use Rattle.rt_groups.specs.Nodes.{Nodes}
+use Rattle.rt_groups.specs.Nodes as nodes
 use Rattle.rt_groups.specs.declared.groups.Attribute.{Attribute as AttributeData}
 use Rattle.gap_buffer.specs.Buffer.{list_after_move}
 use Rattle.node_tree.specs.declared.ops.NewNode.{NewNode}
@@ -17,11 +19,15 @@ attribute_of a = record { name = a.name; value = a.value }
 
 -- An inserted node, which has no children.
 abbrev pub inserted_node : NewNode → TreeNode
-inserted_node node = tree_node node.number node.kind (map attribute_of node.attributes) None
+inserted_node node = tree_node node.number node.kind (map attribute_of node.attributes) nodes.None
 
--- The attribute with the value, if it has this name.
-abbrev pub attribute_after_set : List ℕ → Value → Attribute → Attribute
-attribute_after_set name value a = if bytes_eq a.name name then record { name = a.name; value = value } else a
+-- The attributes with another value of the first attribute with this name.
+abbrev pub attributes_after_set : List ℕ → Value → List Attribute → List Attribute
+attributes_after_set name value [] = []
+attributes_after_set name value (a ∷ rest) =
+    if bytes_eq a.name name
+    then record { name = a.name; value = value } ∷ rest
+    else a ∷ attributes_after_set name value rest
 
 -- Whether there is an attribute with this name.
 abbrev pub has_attribute : List ℕ → List Attribute → Bool
@@ -47,7 +53,7 @@ tree_after_up children (o ∷ open_nodes) = record {
 abbrev pub open_after_set : List ℕ → Value → List OpenNode → List OpenNode
 open_after_set name value [] = []
 open_after_set name value (o ∷ open_nodes) =
-    record o { attributes = map (attribute_after_set name value) o.attributes } ∷ open_nodes
+    record o { attributes = attributes_after_set name value o.attributes } ∷ open_nodes
 
 -- The tree with other children of the current node.
 abbrev pub with_children : List TreeNode → CursorTree → CursorTree
@@ -90,3 +96,37 @@ MayCome op.Clear t = Unit {0}
 abbrev pub AllMayCome : CursorTree → List Op → Type 0
 AllMayCome t [] = Unit {0}
 AllMayCome t (call ∷ calls) = MayCome call t × AllMayCome (tree_after call t) calls
+
+-- A call may come on an applier, if the applier knows its tree.
+abbrev pub Allows : Option CursorTree → Op → Type 0
+Allows None call = Unit {0}
+Allows (Some t) call = MayCome call t
+
+-- The known tree after a call.
+abbrev pub Becomes : Option CursorTree → Option CursorTree → Op → Type 0
+Becomes before now call = now ≡ option_map (tree_after call) before
+
+-- All calls may come in order, if the applier knows its tree.
+abbrev pub AllAllowed : Option CursorTree → List Op → Type 0
+AllAllowed None calls = Unit {0}
+AllAllowed (Some t) calls = AllMayCome t calls
+
+-- The known tree after calls in order.
+abbrev pub BecomesAfter : Option CursorTree → Option CursorTree → List Op → Type 0
+BecomesAfter before now calls = now ≡ option_map (λ t. carry t calls) before
+
+-- The number of top-down inserts of a call.
+abbrev pub inserts_of : Op → ℕ
+inserts_of (op.Down index) = 0
+inserts_of op.Up = 0
+inserts_of (op.InsertTopDown index node) = 1
+inserts_of (op.InsertBottomUp index node) = 0
+inserts_of (op.Remove index count) = 0
+inserts_of (op.Move from to count) = 0
+inserts_of (op.Set name value) = 0
+inserts_of op.Clear = 0
+
+-- The number of top-down inserts.
+abbrev pub insert_count : List Op → ℕ
+insert_count [] = 0
+insert_count (call ∷ calls) = inserts_of call + insert_count calls

@@ -1,8 +1,14 @@
 //! The node tree.
 #![tactic(auto)]
 
+mod applier;
+mod kept;
 mod laws;
+mod lists;
 mod ops;
+mod tree;
 
+pub use applier::Applier;
 pub use laws::ops_turn_the_old_tree_into_the_new;
 pub use ops::{NewNode, NodeAttributes, Op, Ops};
+pub use tree::NodeTree;

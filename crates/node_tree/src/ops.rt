@@ -1,9 +1,13 @@
 // The calls on an applier as data.
-ghost use Rattle.std.specs.Prelude.{◌≡◌, ◌<◌, ◌++◌, ◌∷◌, [], IfOk, OnOk, OnErr, length, slice_index_or, slice_set};
+ghost use Rattle.std.specs.Prelude.{◌≡◌, ◌<◌, ◌++◌, ◌∷◌, [], length, slice_set, slice_index_or, OnOk, OnErr, IfSome, IsNone};
+ghost use Rattle.std.specs.Str.{bytes_eq};
+ghost use Rattle.rt_values.specs.declared.value.Value.{Value as value_data};
 ghost use Rattle.rt_groups.specs.declared.groups.Attribute.{Attribute as attribute_data};
+ghost use Rattle.node_tree.specs.StoredTree.{data_after_set};
+ghost use Rattle.node_tree.specs.Calls.{insert_count};
 
 use rt_groups::Attribute;
-use rt_values::{Items, NoMemory, Value, Word};
+use rt_values::{NoMemory, Value, Word};
 use std::alloc::Global;
 use std::marker::Model;
 
@@ -51,14 +55,119 @@ pub enum Op {
     Clear,
 }
 
-/// The calls on an applier, in order.
-pub type Ops = Items<Op>;
+/// The calls on an applier, in order (`ChangeList`).
+#[derive(Drop)]
+pub struct Ops {
+    items: Vec<Op>,
+}
+
+impl Model for Ops {
+    ghost use Rattle.std.specs.Prelude.{List};
+    ghost use Rattle.node_tree.specs.declared.ops.Op.{Op};
+
+    ghost Value = { List Op };
+
+    ghost view = { λ l. l.items.items };
+}
 
 impl NodeAttributes {
+    /// Returns the empty list.
+    pub fn new(alloc: Global) -> Self
+        ensures { result ≡ [] }
+    {
+        NodeAttributes {
+            items: Vec::new(alloc),
+        }
+    }
+
     /// Returns the attributes, in order.
     pub fn items(&self) -> &[Attribute]
         ensures { result.now ≡ self.now }
     {
         &self.items
+    }
+
+    /// Appends `attribute`. After `NoMemory` the list is unchanged.
+    pub fn push(&mut self, attribute: Attribute) -> Result<(), NoMemory>
+        ensures ok { OnOk result (self.new ≡ self.old ++ attribute ∷ []) }
+        ensures err { OnErr result (self.new ≡ self.old) }
+    {
+        self.items.push(attribute)?;
+        Ok(())
+    }
+}
+
+impl NodeAttributes {
+    // Replaces the value of the first attribute with this name.
+    pub(crate) fn set(&mut self, name: &Word, value: Value)
+        ensures { self.new ≡ data_after_set name.now value self.old }
+    {
+        if let Some(index) = index_of_name(&self.items, name) {
+            self.items[index].value = value;
+        }
+    }
+}
+
+// Whether the attribute has this name.
+fn has_name(attribute: &Attribute, name: &Word) -> bool
+    ensures { result ≡ bytes_eq attribute.now.name name.now }
+{
+    attribute.name.bytes() == name.bytes()
+}
+
+// Returns the index of the first attribute with this name.
+#[tactic(auto, using(crate::proofs::NamedAttributes::name_passed, crate::proofs::NamedAttributes::name_found, crate::proofs::NamedAttributes::no_name))]
+fn index_of_name(attributes: &[Attribute], name: &Word) -> Option<usize>
+    ensures none { (value : value_data) → IsNone result → data_after_set name.now value attributes.now ≡ attributes.now }
+    ensures inside { IfSome result (λ i. i < length attributes.now) }
+    ensures some { (value : value_data) (a : attribute_data) → IfSome result (λ i.
+        a ≡ slice_index_or attributes.now i a →
+        data_after_set name.now value attributes.now ≡ slice_set attributes.now i (record a { value = value })) }
+{
+    for (index, attribute) in attributes.iter().enumerate() {
+        if has_name(attribute, name) {
+            return Some(index);
+        }
+    }
+    None
+}
+
+impl Ops {
+    /// Returns the empty list.
+    pub fn new(alloc: Global) -> Self
+        ensures { result ≡ [] }
+    {
+        Ops {
+            items: Vec::new(alloc),
+        }
+    }
+
+    /// Returns the calls, in order.
+    pub fn items(&self) -> &[Op]
+        ensures { result.now ≡ self.now }
+    {
+        &self.items
+    }
+
+    /// Appends `op`. After `NoMemory` the list is unchanged.
+    pub fn push(&mut self, op: Op) -> Result<(), NoMemory>
+        ensures ok { OnOk result (self.new ≡ self.old ++ op ∷ []) }
+        ensures err { OnErr result (self.new ≡ self.old) }
+    {
+        self.items.push(op)?;
+        Ok(())
+    }
+
+    /// Returns the number of top-down inserts.
+    pub fn insert_count(&self) -> usize
+        ensures { result ≡ insert_count self.now }
+    {
+        let mut count = 0;
+        for op in &self.items {
+            if let Op::InsertTopDown { .. } = op {
+                count += 1;
+            }
+        }
+        count
     }
 }
