@@ -2,6 +2,7 @@
 #![tactic(auto)]
 
 mod applier;
+mod carrying;
 mod kept;
 mod laws;
 mod lists;
@@ -9,6 +10,7 @@ mod ops;
 mod tree;
 
 pub use applier::Applier;
+pub use carrying::carry;
 pub use laws::ops_turn_the_old_tree_into_the_new;
 pub use ops::{NewNode, NodeAttributes, Op, Ops};
 pub use tree::NodeTree;

@@ -158,6 +158,13 @@ impl Ops {
         Ok(())
     }
 
+    /// Returns the calls as a vector.
+    pub fn into_vec(self) -> Vec<Op>
+        ensures { result.items ≡ self }
+    {
+        self.items
+    }
+
     /// Returns the number of top-down inserts.
     pub fn insert_count(&self) -> usize
         ensures { result ≡ insert_count self.now }
