@@ -8,3 +8,5 @@ pub mod StoredNodes
 pub mod FirstNodes
 pub mod NamedAttributes
 pub mod TreeSteps
+pub mod CountLevels
+pub mod NextSiblings

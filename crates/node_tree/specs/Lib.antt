@@ -4,3 +4,6 @@ pub mod Placing
 pub mod Premises
 pub mod KeptNodes
 pub mod StoredTree
+pub mod Counting
+pub mod FlatNodes
+pub mod SiblingLists

@@ -3,14 +3,18 @@
 
 mod applier;
 mod carrying;
+mod counts;
+mod flat;
 mod kept;
 mod laws;
 mod lists;
 mod ops;
+mod siblings;
 mod tree;
 
 pub use applier::Applier;
 pub use carrying::carry;
+pub use flat::NodeRef;
 pub use laws::ops_turn_the_old_tree_into_the_new;
 pub use ops::{NewNode, NodeAttributes, Op, Ops};
 pub use tree::NodeTree;

@@ -1,0 +1,25 @@
+// Trees of nodes as lists in preorder.
+
+use rt_groups::Attributes;
+use rt_values::Word;
+use std::marker::Model;
+
+/// A node of a tree that is a list in preorder, without a copy of its values.
+#[derive(Drop)]
+pub struct NodeRef<'a> {
+    /// The number of nodes inside it.
+    pub inner: usize,
+    pub number: u64,
+    pub kind: &'a Word,
+    pub attributes: &'a Attributes,
+}
+
+impl<'a> Model for NodeRef<'a> {
+    ghost use Rattle.std.specs.Prelude.{map};
+    ghost use Rattle.node_tree.specs.FlatNodes.{FlatNode, flat_node};
+    ghost use Rattle.node_tree.specs.Calls.{attribute_of};
+
+    ghost Value = { FlatNode };
+
+    ghost view = { λ n. flat_node n.inner n.number n.kind.now (map attribute_of n.attributes.now) };
+}
