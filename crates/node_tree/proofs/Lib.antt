@@ -10,3 +10,4 @@ pub mod NamedAttributes
 pub mod TreeSteps
 pub mod CountLevels
 pub mod NextSiblings
+pub mod CopiedNodes

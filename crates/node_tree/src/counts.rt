@@ -1,5 +1,6 @@
 // Counts of the old siblings that are left, by index.
-ghost use Rattle.std.specs.Prelude.{◌≡◌, ◌+◌, ◌-◌, ◌≤◌, ◌<◌, ◌^◌, ◌++◌, ◌∷◌, [], length, take, slice_index_or, slice_set, IfOk, OnOk, IsTrue, ◌↔◌};
+ghost use Rattle.std.specs.Prelude.{◌≡◌, ◌+◌, ◌-◌, ◌≤◌, ◌<◌, ◌^◌, ◌++◌, ◌∷◌, [], length, take, slice_index_or, slice_set, IfOk, OnOk, IsTrue, ◌↔◌, ◌==◌, Some};
+ghost use Rattle.node_tree.specs.SiblingLists.{distance_of, counts_after};
 ghost use Rattle.node_tree.specs.Counting.{total, pairs, first_level, AreLevels, levels_after};
 
 use rt_values::NoMemory;
@@ -50,7 +51,7 @@ impl CountLevel {
 
     // Returns the sums of neighbouring counts.
     fn pairs(&self, alloc: Global) -> Result<Self, NoMemory>
-        requires { total self.now < 2 ^ 64 }
+        requires { total self.now < 2 ^ 63 }
         ensures { IfOk result (λ l. l ≡ pairs self.now) }
     {
         let mut counts = Vec::new(alloc);
@@ -82,14 +83,14 @@ impl Model for Counts {
     ghost view = { λ c. first_level c.levels.items };
 
     ghost invariant = { λ c. AreLevels (first_level c.levels.items) c.levels.items
-        × (total (first_level c.levels.items) < 2 ^ 64) };
+        × (total (first_level c.levels.items) < 2 ^ 63) };
 }
 
 // Returns the sum of the counts before `index`.
 #[tactic(auto, using(crate::proofs::CountLevels::level_step, crate::proofs::CountLevels::odd_sum, crate::proofs::CountLevels::half_sum))]
 fn sum_before(levels: &[CountLevel], index: usize) -> usize
     requires levels { AreLevels (first_level levels.now) levels.now }
-    requires few { total (first_level levels.now) < 2 ^ 64 }
+    requires few { total (first_level levels.now) < 2 ^ 63 }
     requires inside { index ≤ length (first_level levels.now) }
     ensures { result ≡ total (take index (first_level levels.now)) }
 {
@@ -121,7 +122,7 @@ fn subtract_one(levels: &mut [CountLevel], index: usize)
 // Appends the levels above `level`, which is appended first, up to a level without pairs.
 fn add_levels(levels: &mut Vec<CountLevel>, alloc: Global, first: CountLevel) -> Result<(), NoMemory>
     requires empty { levels.old.items ≡ [] }
-    requires few { total first < 2 ^ 64 }
+    requires few { total first < 2 ^ 63 }
     ensures levels { OnOk result (AreLevels first levels.new.items) }
     ensures first { OnOk result (first_level levels.new.items ≡ first) }
 {
@@ -137,7 +138,7 @@ fn add_levels(levels: &mut Vec<CountLevel>, alloc: Global, first: CountLevel) ->
 impl Counts {
     // Returns these counts.
     pub(crate) fn new(alloc: Global, counts: Vec<usize>) -> Result<Self, NoMemory>
-        requires { total counts.items < 2 ^ 64 }
+        requires { total counts.items < 2 ^ 63 }
         ensures { IfOk result (λ c. c ≡ counts.items) }
     {
         let mut levels = Vec::new(alloc);
@@ -153,9 +154,32 @@ impl Counts {
         sum_before(&self.levels, index)
     }
 
+    // Subtracts 1 from the count at `index`, and returns the sum of the counts before it. Returns `None` if the count
+    // is 0 or there is no such index.
+    pub(crate) fn take_out(&mut self, index: usize) -> Option<usize>
+        ensures distance { result ≡ distance_of (Some index) self.old }
+        ensures counts { self.new ≡ counts_after (Some index) self.old }
+    {
+        if self.is_out(index) {
+            return None;
+        }
+        let before = self.before(index);
+        self.subtract(index);
+        Some(before)
+    }
+
+    // Whether the count at `index` is 0 or there is no such index.
+    fn is_out(&self, index: usize) -> bool
+        ensures { result ≡ (slice_index_or self.now index 0 == 0) }
+    {
+        match self.levels.first() {
+            Some(level) => level.get(index) == 0,
+            None => true,
+        }
+    }
+
     // Subtracts 1 from the count at `index`.
-    #[tactic(auto, using(crate::proofs::CountLevels::after_all))]
-    pub(crate) fn take_out(&mut self, index: usize)
+    fn subtract(&mut self, index: usize)
         requires { 0 < slice_index_or self.old index 0 }
         ensures { self.new ≡ slice_set self.old index (slice_index_or self.old index 0 - 1) }
     {

@@ -7,6 +7,7 @@ mod counts;
 mod flat;
 mod kept;
 mod laws;
+mod level;
 mod lists;
 mod ops;
 mod siblings;

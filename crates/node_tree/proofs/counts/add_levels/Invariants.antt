@@ -6,7 +6,7 @@ abbrev pub invariant-levels : goal.invariant-levels
 invariant-levels l = record {
   levels : (ls : List (List ℕ)) → AreLevels l.level ls → AreLevels l.fn.first (l.levels.items ++ ls);
   first : first_level (l.levels.items ++ l.level ∷ []) ≡ l.fn.first;
-  few : total l.level < 2 ^ 64;
+  few : total l.level < 2 ^ 63;
 }
 
 abbrev pub decreases-levels : goal.decreases-levels

@@ -7,7 +7,7 @@ invariant-loop-level l = record {
   levels : AreLevels (first_level l.rest) l.rest;
   sums : l.before + total (take l.at (first_level l.rest)) ≡ total (take l.index (first_level l.levels));
   inside : l.at ≤ length (first_level l.rest);
-  few : total (take l.index (first_level l.levels)) < 2 ^ 64;
+  few : total (take l.index (first_level l.levels)) < 2 ^ 63;
 }
 
 abbrev pub decreases-loop-level : goal.decreases-loop-level

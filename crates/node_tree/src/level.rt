@@ -1,0 +1,205 @@
+// The calls that turn the old children of one node into the new ones.
+ghost use Rattle.std.specs.Prelude.{◌≡◌, ◌++◌, ◌∷◌, [], ℕ, map, slice_get, OnOk, IfOk};
+ghost use Rattle.std.specs.Ordering.{nat_cmp};
+ghost use Rattle.std.specs.BTreeMap.{get as mapped};
+ghost use Rattle.std.specs.declared.option.Option.{Option};
+ghost use Rattle.node_tree.specs.Calls.{attribute_of};
+ghost use Rattle.node_tree.specs.Placing.{move_to, set_calls};
+ghost use Rattle.node_tree.specs.SiblingLists.{removals_at, arrange_at, insert_of, flat_new, part, part_of, distance_of, counts_after};
+
+use crate::counts::Counts;
+use crate::flat::NodeRef;
+use crate::ops::{NewNode, NodeAttributes, Op, Ops};
+use crate::siblings::Sibling;
+use rt_groups::Attribute;
+use rt_values::NoMemory;
+use std::alloc::Global;
+use std::collections::BTreeMap;
+
+// Appends a removal of each old sibling whose count is 0, from the last to the first.
+pub(crate) fn push_removals(counts: &[usize], ops: &mut Ops) -> Result<(), NoMemory>
+    ensures { OnOk result (ops.new ≡ ops.old ++ removals_at 0 counts.now) }
+{
+    let mut index = counts.len();
+    while index > 0 {
+        index -= 1;
+        if counts[index] == 0 {
+            ops.push(Op::Remove { index, count: 1 })?;
+        }
+    }
+    Ok(())
+}
+
+// Returns a copy of an attribute.
+fn copy_attribute(alloc: Global, attribute: &Attribute) -> Result<Attribute, NoMemory>
+    ensures { IfOk result (λ a. a ≡ attribute.now) }
+{
+    Ok(Attribute {
+        name: attribute.name.copy()?,
+        value: attribute.value.copy(alloc)?,
+    })
+}
+
+// Returns a copy of the attributes.
+fn copy_attributes(alloc: Global, attributes: &[Attribute]) -> Result<NodeAttributes, NoMemory>
+    ensures { IfOk result (λ all. all ≡ attributes.now) }
+{
+    let mut copied = NodeAttributes::new(alloc);
+    for attribute in attributes {
+        copied.push(copy_attribute(alloc, attribute)?)?;
+    }
+    Ok(copied)
+}
+
+// Returns a copy of a node, to insert it.
+fn copy_node<'n>(alloc: Global, node: &NodeRef<'n>) -> Result<NewNode, NoMemory>
+    ensures { IfOk result (λ n. n ≡ flat_new node.now) }
+{
+    let kind = node.kind;
+    let attributes = node.attributes;
+    Ok(NewNode {
+        number: node.number,
+        kind: kind.copy()?,
+        attributes: copy_attributes(alloc, attributes.items())?,
+    })
+}
+
+// Appends an insert of the node at `start`.
+fn push_insert<'n>(
+    alloc: Global,
+    index: usize,
+    start: usize,
+    new: &[NodeRef<'n>],
+    ops: &mut Ops,
+) -> Result<(), NoMemory>
+    ensures { OnOk result (ops.new ≡ ops.old ++ insert_of index (slice_get new.now start)) }
+{
+    let Some(inserted) = new.get(start) else {
+        return Ok(());
+    };
+    let node = copy_node(alloc, inserted)?;
+    ops.push(Op::InsertTopDown { index, node })?;
+    Ok(())
+}
+
+// Takes the old sibling with the number out of those that are left, and returns the number of those before it. Returns
+// `None` if none is left.
+fn take_left(counts: &mut Counts, indexes: &BTreeMap<u64, usize>, number: u64) -> Option<usize>
+    ensures distance { result ≡ distance_of (mapped nat_cmp indexes.now number) counts.old }
+    ensures counts { counts.new ≡ counts_after (mapped nat_cmp indexes.now number) counts.old }
+{
+    match indexes.get(&number) {
+        Some(index) => counts.take_out(*index),
+        None => None,
+    }
+}
+
+// Appends a move of each new sibling that is left of the old ones and not at its index yet, and an insert of each other
+// one, in order.
+pub(crate) fn push_arrangements<'n>(
+    alloc: Global,
+    mut counts: Counts,
+    indexes: &BTreeMap<u64, usize>,
+    siblings: &[Sibling],
+    new: &[NodeRef<'n>],
+    ops: &mut Ops,
+) -> Result<(), NoMemory>
+    ensures { (find : ℕ → Option ℕ) → ((number : ℕ) → mapped nat_cmp indexes.now number ≡ find number) →
+        OnOk result (ops.new ≡ ops.old ++ arrange_at 0 find counts new.now siblings.now) }
+{
+    for (index, sibling) in siblings.iter().enumerate() {
+        match take_left(&mut counts, indexes, sibling.number) {
+            Some(distance) => push_move(index, distance, ops)?,
+            None => push_insert(alloc, index, sibling.start, new, ops)?,
+        }
+    }
+    Ok(())
+}
+
+// Appends a move of the child that is `distance` after the index, if it is not at the index.
+fn push_move(index: usize, distance: usize, ops: &mut Ops) -> Result<(), NoMemory>
+    ensures { OnOk result (ops.new ≡ ops.old ++ move_to index distance) }
+{
+    if distance > 0 {
+        let Some(from) = index.checked_add(distance) else {
+            return Err(NoMemory);
+        };
+        ops.push(Op::Move {
+            from,
+            to: index,
+            count: 1,
+        })?;
+    }
+    Ok(())
+}
+
+// Appends a `set` for each attribute whose value differs.
+pub(crate) fn push_sets(
+    alloc: Global,
+    old: &[Attribute],
+    new: &[Attribute],
+    ops: &mut Ops,
+) -> Result<(), NoMemory>
+    ensures { OnOk result (ops.new ≡ ops.old ++ set_calls (map attribute_of old.now) (map attribute_of new.now)) }
+{
+    let mut old_rest = old;
+    let mut new_rest = new;
+    while let Some((before, old_more)) = old_rest.split_first() {
+        let Some((now, new_more)) = new_rest.split_first() else {
+            break;
+        };
+        push_set(alloc, before, now, ops)?;
+        old_rest = old_more;
+        new_rest = new_more;
+    }
+    Ok(())
+}
+
+// Appends a `set` if the values of the attribute differ.
+fn push_set(
+    alloc: Global,
+    before: &Attribute,
+    now: &Attribute,
+    ops: &mut Ops,
+) -> Result<(), NoMemory>
+    ensures { OnOk result (ops.new ≡ ops.old ++ set_calls (attribute_of before.now ∷ []) (attribute_of now.now ∷ [])) }
+{
+    if !before.value.same(&now.value) {
+        let copied = copy_attribute(alloc, now)?;
+        ops.push(Op::Set {
+            name: copied.name,
+            value: copied.value,
+        })?;
+    }
+    Ok(())
+}
+
+// Returns the nodes from `start` to before `end`.
+pub(crate) fn part_of_nodes<'s, 'n>(
+    nodes: &'s [NodeRef<'n>],
+    start: usize,
+    end: usize,
+) -> &'s [NodeRef<'n>]
+    ensures { result.now ≡ part start end nodes.now }
+{
+    let below = end.min(nodes.len());
+    &nodes[start.min(below)..below]
+}
+
+// Returns the old sibling with the number and the nodes inside it, or nothing if there is none.
+pub(crate) fn old_part<'s, 'n>(
+    nodes: &'s [NodeRef<'n>],
+    siblings: &[Sibling],
+    indexes: &BTreeMap<u64, usize>,
+    number: u64,
+) -> &'s [NodeRef<'n>]
+    ensures { result.now ≡ part_of siblings.now nodes.now (mapped nat_cmp indexes.now number) }
+{
+    let Some(index) = indexes.get(&number) else {
+        return part_of_nodes(nodes, 0, 0);
+    };
+    let Some(sibling) = siblings.get(*index) else {
+        return part_of_nodes(nodes, 0, 0);
+    };
+    part_of_nodes(nodes, sibling.start, sibling.end)
+}
