@@ -104,12 +104,12 @@ move_turns (y ∷ before) done after x os index e =
     (children_same _ _ os (moved_list done (y ∷ before) after x index (length before) e refl))
 
 -- What is left of the old children when the rest of the new ones is to be placed.
-record Left (old rest new : List TreeNode) : Type 0 where
-  same : (j : ℕ) → has_number j new ≡ true → numbered_node j rest ≡ numbered_node j old
-  all : (j : ℕ) → has_number j rest ≡ true → has_number j new ≡ true
-  distinct : HaveDistinctNumbers rest
+pub record Left (old rest new : List TreeNode) : Type 0 where
+  pub same : (j : ℕ) → has_number j new ≡ true → numbered_node j rest ≡ numbered_node j old
+  pub all : (j : ℕ) → has_number j rest ≡ true → has_number j new ≡ true
+  pub distinct : HaveDistinctNumbers rest
 
-has_first : (n : TreeNode) (ns : List TreeNode) → has_number n.number (n ∷ ns) ≡ true
+pub has_first : (n : TreeNode) (ns : List TreeNode) → has_number n.number (n ∷ ns) ≡ true
 has_first n ns = ap (λ (b : Bool). b || has_number n.number ns) (eq-eqb n.number n.number refl)
 
 has_later : (j : ℕ) (n : TreeNode) (ns : List TreeNode) → has_number j ns ≡ true → has_number j (n ∷ ns) ≡ true
@@ -125,7 +125,7 @@ has_rest j n ns ne h = sym (ap (λ (b : Bool). b || has_number j ns) (ne_eqb n.n
 not_here : (j : ℕ) (n : TreeNode) (ns : List TreeNode) → has_number n.number ns ≡ false → has_number j ns ≡ true → n.number ≡ j → ⊥
 not_here j n ns lacks h e = true≢false (sym h ∙ ap (λ (i : ℕ). has_number i ns) (sym e) ∙ lacks)
 
-left_after_move : (old rest new : List TreeNode) (n : TreeNode) → has_number n.number new ≡ false → Left old rest (n ∷ new) → Left old (without n.number rest) new
+pub left_after_move : (old rest new : List TreeNode) (n : TreeNode) → has_number n.number new ≡ false → Left old rest (n ∷ new) → Left old (without n.number rest) new
 left_after_move old rest new n lacks left = record {
   same = λ j h. other_numbered n.number j rest (not_here j n new lacks h) ∙ left.same j (has_later j n new h);
   all = λ j h. has_rest j n new
@@ -134,7 +134,7 @@ left_after_move old rest new n lacks left = record {
   distinct = distinct_without n.number rest left.distinct;
 }
 
-left_after_insert : (old rest new : List TreeNode) (n : TreeNode) → has_number n.number old ≡ false → Left old rest (n ∷ new) → Left old rest new
+pub left_after_insert : (old rest new : List TreeNode) (n : TreeNode) → has_number n.number old ≡ false → Left old rest (n ∷ new) → Left old rest new
 left_after_insert old rest new n lacks left = record {
   same = λ j h. left.same j (has_later j n new h);
   all = λ j h. has_rest j n new

@@ -11,3 +11,5 @@ pub mod TreeSteps
 pub mod CountLevels
 pub mod NextSiblings
 pub mod CopiedNodes
+pub mod SiblingNodes
+pub mod SiblingCalls
