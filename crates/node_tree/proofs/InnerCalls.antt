@@ -8,10 +8,11 @@ use Rattle.rt_groups.specs.Nodes as nodes
 use Rattle.node_tree.specs.declared.ops.Op.{Op}
 use Rattle.node_tree.specs.NodeTrees.{TreeNode, tree_node, node_list, OpenNode}
 use Rattle.node_tree.specs.Placing.{numbered_node, child_calls, sets_since, children_since, calls_inside, inner_calls}
-use Rattle.node_tree.specs.Premises.{HaveDistinctNumbers, HaveDistinctNames, KeepsShape, CanFollow, Follows, OpsTurnTheOldTreeIntoTheNew}
+use Rattle.node_tree.specs.Premises.{HaveDistinctNumbers, HaveDistinctNames, KeepsShape, AreDistinct, KeepShapes, Follows, OpsTurnTheOldTreeIntoTheNew}
 use Rattle.node_tree.proofs.Turning.{Turns, tree, opened, none_turns, then_turns, turns_from, turns_to, children_same, inside_turns}
 use Rattle.node_tree.proofs.ChildCalls.{started, started_as, child_calls_turn}
 use Rattle.node_tree.proofs.SetCalls.{set_calls_turn}
+use Rattle.node_tree.proofs.DistinctNodes.{distinct_list, EachIsDistinct, each_distinct, since_distinct}
 
 -- A node that was found has the number.
 abbrev numbered : Option TreeNode → ℕ → Type 0
@@ -46,21 +47,22 @@ completed (Some o) number kind attributes children done more os index e is shape
         (then_turns _ _ _ _ _ (child_calls_turn (node_list o.children) (node_list children) (opened done o.number o.kind attributes more os) old_numbers new_numbers)
             (inner (opened done o.number o.kind attributes more os)))))
 
-inner_calls_turn : (new : Nodes) (old done : List TreeNode) (os : List OpenNode) (index : ℕ) → length done ≡ index → CanFollow old new
+inner_calls_turn : (new : Nodes) (old done : List TreeNode) (os : List OpenNode) (index : ℕ) → length done ≡ index → EachIsDistinct old → AreDistinct new → KeepShapes old new
     → Turns (tree (done ++ map (started old) (node_list new)) os) (inner_calls index old new) (tree (done ++ node_list new) os)
-inner_calls_turn nodes.None old done os index e can = none_turns _ _ refl
-inner_calls_turn (Branch number kind attributes children rest) old done os index e can =
+inner_calls_turn nodes.None old done os index e each distinct shapes = none_turns _ _ refl
+inner_calls_turn (Branch number kind attributes children rest) old done os index e each distinct shapes =
     let n : TreeNode = tree_node number kind attributes children in
     let longer : length (done ++ n ∷ []) ≡ index + 1 = omega (arith, length-append done (n ∷ [])) in
+    let since = since_distinct number old each in
     then_turns _ _ _ _ _
-    (completed (numbered_node number old) number kind attributes children done (map (started old) (node_list rest)) os index e (numbered_has number old) can.0 can.1 can.2 can.3
-        (λ os. inner_calls_turn children (children_since (numbered_node number old)) [] os 0 refl can.4))
+    (completed (numbered_node number old) number kind attributes children done (map (started old) (node_list rest)) os index e (numbered_has number old) shapes.0 shapes.1 since.0 (distinct_list children distinct.1)
+        (λ os. inner_calls_turn children (children_since (numbered_node number old)) [] os 0 refl since.1 distinct.1 shapes.2))
     (turns_from _ _ _ _ (children_same _ _ os (sym (append_assoc done (n ∷ []) (map (started old) (node_list rest)))))
         (turns_to _ _ _ _ (children_same _ _ os (append_assoc done (n ∷ []) (node_list rest)))
-        (inner_calls_turn rest old (done ++ n ∷ []) os (index + 1) longer can.5)))
+        (inner_calls_turn rest old (done ++ n ∷ []) os (index + 1) longer each distinct.2 shapes.3)))
 
 pub ops_turn : OpsTurnTheOldTreeIntoTheNew
 ops_turn old new follows =
-    let turns = then_turns _ _ _ _ _ (child_calls_turn (node_list old) (node_list new) [] follows.old_numbers follows.new_numbers)
-        (inner_calls_turn new (node_list old) [] [] 0 refl follows.all) in
+    let turns = then_turns _ _ _ _ _ (child_calls_turn (node_list old) (node_list new) [] (distinct_list old follows.old_numbers) (distinct_list new follows.new_numbers))
+        (inner_calls_turn new (node_list old) [] [] 0 refl (each_distinct old follows.old_numbers) follows.new_numbers follows.shapes) in
     (turns.carried, turns.may)

@@ -13,3 +13,4 @@ pub mod NextSiblings
 pub mod CopiedNodes
 pub mod SiblingNodes
 pub mod SiblingCalls
+pub mod DistinctNodes

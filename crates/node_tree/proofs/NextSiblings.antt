@@ -11,6 +11,7 @@ use Rattle.std.proofs.lemmas.Bool.{cases_order, eq-eqb, ne_eqb}
 use Rattle.std.proofs.lemmas.List.{drop_more, take_more, map-append, drop-drop, length-drop}
 use Rattle.node_tree.specs.declared.siblings.Sibling.{Sibling}
 use Rattle.node_tree.specs.FlatNodes.{FlatNode}
+use Rattle.node_tree.specs.Counting.{total}
 use Rattle.node_tree.specs.SiblingLists.{sibling_list, last_index, index_in, kept_counts}
 
 -- Skipping nodes leaves the siblings of the list after them.
@@ -76,3 +77,7 @@ one_count new old d i count o found now below is counted pushed so =
     pushed ∙ ap (λ n. found ++ n ∷ []) (counted ∙ ap (λ (p : Option ℕ). if is_some p then 1 else 0) is)
     ∙ ap (λ l. l ++ (if is_some (index_in (get_or old i d).number new) then 1 else 0) ∷ []) so
     ∙ sym (ap (λ l. kept_counts new l) (take_more old i d below) ∙ map-append (λ (s : Sibling). if is_some (index_in s.number new) then 1 else 0) (take i old) (get_or old i d ∷ []))
+
+pub total_more : (cs : List ℕ) (c : ℕ) → total (cs ++ c ∷ []) ≡ total cs + c
+total_more [] c = omega arith
+total_more (x ∷ cs) c = omega (arith, total_more cs c)

@@ -27,23 +27,26 @@ abbrev pub KeepsShape : Option TreeNode → List ℕ → List Attribute → Type
 KeepsShape None kind attributes = Unit {0}
 KeepsShape (Some old) kind attributes = (old.kind ≡ kind) × (names_of old.attributes ≡ names_of attributes)
 
--- The old children of a node and the new ones, at every level: siblings have distinct numbers, the attributes of a node
--- have distinct names, and a kept node keeps its shape.
-abbrev pub CanFollow : List TreeNode → Nodes → Type 0
-CanFollow old nodes.None = Unit {0}
-CanFollow old (Branch number kind attributes children rest) =
+-- At every level of a tree siblings have distinct numbers.
+abbrev pub AreDistinct : Nodes → Type 0
+AreDistinct nodes.None = Unit {0}
+AreDistinct (Branch number kind attributes children rest) =
+    (has_number number (node_list rest) ≡ false) × AreDistinct children × AreDistinct rest
+
+-- At every level the attributes of a new node have distinct names, and a kept node keeps its shape.
+abbrev pub KeepShapes : List TreeNode → Nodes → Type 0
+KeepShapes old nodes.None = Unit {0}
+KeepShapes old (Branch number kind attributes children rest) =
     KeepsShape (numbered_node number old) kind attributes
     × HaveDistinctNames attributes
-    × HaveDistinctNumbers (children_since (numbered_node number old))
-    × HaveDistinctNumbers (node_list children)
-    × CanFollow (children_since (numbered_node number old)) children
-    × CanFollow old rest
+    × KeepShapes (children_since (numbered_node number old)) children
+    × KeepShapes old rest
 
 -- The new tree can follow the old one.
 pub record Follows (old new : Nodes) : Type 0 where
-  pub old_numbers : HaveDistinctNumbers (node_list old)
-  pub new_numbers : HaveDistinctNumbers (node_list new)
-  pub all : CanFollow (node_list old) new
+  pub old_numbers : AreDistinct old
+  pub new_numbers : AreDistinct new
+  pub shapes : KeepShapes (node_list old) new
 
 -- If the new tree can follow the old one, the calls between them turn the old tree into the new one, and each call may
 -- come.

@@ -10,6 +10,7 @@ mod laws;
 mod level;
 mod lists;
 mod ops;
+mod placing;
 mod siblings;
 mod tree;
 

@@ -1,9 +1,10 @@
 // The siblings of a list of nodes in preorder.
-ghost use Rattle.std.specs.Prelude.{◌≡◌, ℕ, List, IfOk, if◌then◌else◌};
+ghost use Rattle.std.specs.Prelude.{◌≡◌, ◌≤◌, ℕ, List, length, IfOk, if◌then◌else◌};
 ghost use Rattle.std.specs.Option.{is_some};
 ghost use Rattle.std.specs.Ordering.{nat_cmp};
 ghost use Rattle.std.specs.BTreeMap.{get as mapped};
 ghost use Rattle.node_tree.specs.declared.siblings.Sibling.{Sibling as sibling_data};
+ghost use Rattle.node_tree.specs.Counting.{total};
 ghost use Rattle.node_tree.specs.SiblingLists.{sibling_list, index_in, kept_counts};
 
 use crate::flat::NodeRef;
@@ -57,7 +58,8 @@ pub(crate) fn index_siblings(
 
 // Returns 1 if a sibling has the number, else 0.
 fn count_of(indexes: &BTreeMap<u64, usize>, number: u64) -> usize
-    ensures { result ≡ (if is_some (mapped nat_cmp indexes.now number) then 1 else 0) }
+    ensures count { result ≡ (if is_some (mapped nat_cmp indexes.now number) then 1 else 0) }
+    ensures few { result ≤ 1 }
 {
     if indexes.get(&number).is_some() { 1 } else { 0 }
 }
@@ -68,8 +70,9 @@ pub(crate) fn count_kept(
     old: &[Sibling],
     new_indexes: &BTreeMap<u64, usize>,
 ) -> Result<Vec<usize>, NoMemory>
-    ensures { (new : List sibling_data) → ((number : ℕ) → mapped nat_cmp new_indexes.now number ≡ index_in number new) →
+    ensures counts { (new : List sibling_data) → ((number : ℕ) → mapped nat_cmp new_indexes.now number ≡ index_in number new) →
         IfOk result (λ v. v.items ≡ kept_counts new old.now) }
+    ensures few { IfOk result (λ v. total v.items ≤ length old.now) }
 {
     let mut counts = Vec::new(alloc);
     for sibling in old {
