@@ -4,7 +4,7 @@ use Rattle.rt_groups.specs.Nodes.{Nodes, Branch}
 use Rattle.rt_groups.specs.Nodes as nodes
 use Rattle.node_tree.specs.NodeTrees.{TreeNode, node_list}
 use Rattle.node_tree.specs.Placing.{numbered_node, children_since}
-use Rattle.node_tree.specs.Premises.{HaveDistinctNumbers, AreDistinct}
+use Rattle.node_tree.specs.Premises.{HaveDistinctNumbers, AreDistinct, ChildrenAreDistinct}
 
 pub distinct_list : (n : Nodes) → AreDistinct n → HaveDistinctNumbers (node_list n)
 distinct_list nodes.None d = tt
@@ -18,10 +18,6 @@ EachIsDistinct (t ∷ ts) = AreDistinct t.children × EachIsDistinct ts
 pub each_distinct : (n : Nodes) → AreDistinct n → EachIsDistinct (node_list n)
 each_distinct nodes.None d = tt
 each_distinct (Branch number kind attributes children rest) d = (d.1, each_distinct rest d.2)
-
-abbrev pub ChildrenAreDistinct : Option TreeNode → Type 0
-ChildrenAreDistinct None = Unit {0}
-ChildrenAreDistinct (Some t) = AreDistinct t.children
 
 pub found_distinct : (q : ℕ) (ts : List TreeNode) → EachIsDistinct ts → ChildrenAreDistinct (numbered_node q ts)
 found_distinct q [] d = tt

@@ -14,3 +14,4 @@ pub mod CopiedNodes
 pub mod SiblingNodes
 pub mod SiblingCalls
 pub mod DistinctNodes
+pub mod PlacedLevels

@@ -33,6 +33,11 @@ AreDistinct nodes.None = Unit {0}
 AreDistinct (Branch number kind attributes children rest) =
     (has_number number (node_list rest) ≡ false) × AreDistinct children × AreDistinct rest
 
+-- The children of a node, if there is one, have distinct numbers at every level.
+abbrev pub ChildrenAreDistinct : Option TreeNode → Type 0
+ChildrenAreDistinct None = Unit {0}
+ChildrenAreDistinct (Some t) = AreDistinct t.children
+
 -- At every level the attributes of a new node have distinct names, and a kept node keeps its shape.
 abbrev pub KeepShapes : List TreeNode → Nodes → Type 0
 KeepShapes old nodes.None = Unit {0}

@@ -19,4 +19,5 @@ pub use carrying::carry;
 pub use flat::NodeRef;
 pub use laws::ops_turn_the_old_tree_into_the_new;
 pub use ops::{NewNode, NodeAttributes, Op, Ops};
+pub use placing::place;
 pub use tree::NodeTree;

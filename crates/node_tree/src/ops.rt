@@ -1,10 +1,11 @@
 // The calls on an applier as data.
-ghost use Rattle.std.specs.Prelude.{◌≡◌, ◌<◌, ◌++◌, ◌∷◌, [], length, slice_set, slice_index_or, OnOk, OnErr, IfSome, IsNone};
+ghost use Rattle.std.specs.Prelude.{◌≡◌, ◌<◌, ◌++◌, ◌∷◌, [], List, length, slice_set, slice_index_or, OnOk, OnErr, IfSome, IsNone};
 ghost use Rattle.std.specs.Str.{bytes_eq};
 ghost use Rattle.rt_values.specs.declared.value.Value.{Value as value_data};
 ghost use Rattle.rt_groups.specs.declared.groups.Attribute.{Attribute as attribute_data};
 ghost use Rattle.node_tree.specs.StoredTree.{data_after_set};
 ghost use Rattle.node_tree.specs.Calls.{insert_count};
+ghost use Rattle.node_tree.specs.declared.ops.Op.{Op as op_data};
 
 use rt_groups::Attribute;
 use rt_values::{NoMemory, Value, Word};
@@ -156,6 +157,20 @@ impl Ops {
     {
         self.items.push(op)?;
         Ok(())
+    }
+
+    /// Returns the number of calls.
+    pub fn len(&self) -> usize
+        ensures { result ≡ length self.now }
+    {
+        self.items.len()
+    }
+
+    // Removes the last call.
+    pub(crate) fn pop(&mut self)
+        ensures { (calls : List op_data) (op : op_data) → self.old ≡ calls ++ op ∷ [] → self.new ≡ calls }
+    {
+        let _ = self.items.pop();
     }
 
     /// Returns the calls as a vector.

@@ -1,11 +1,13 @@
 // The calls that turn one tree of nodes into the next.
-ghost use Rattle.std.specs.Prelude.{◌≡◌, ◌++◌, ℕ, OnOk};
+ghost use Rattle.std.specs.Prelude.{◌≡◌, ◌++◌, ◌∷◌, ℕ, List, Option, length, drop, OnOk, IfOk};
 ghost use Rattle.std.specs.Ordering.{nat_cmp};
 ghost use Rattle.std.specs.BTreeMap.{get as mapped};
 ghost use Rattle.rt_groups.specs.Nodes.{Nodes};
+ghost use Rattle.node_tree.specs.declared.ops.Op.{Op as op_data};
+ghost use Rattle.node_tree.specs.declared.ops.Op.TheVariants as op;
 ghost use Rattle.node_tree.specs.NodeTrees.{TreeNode, node_list};
-ghost use Rattle.node_tree.specs.Placing.{sets_since, children_since, calls_inside, ops_between, ops};
-ghost use Rattle.node_tree.specs.Premises.{AreDistinct};
+ghost use Rattle.node_tree.specs.Placing.{set_calls, sets_since, children_since, calls_inside, ops_between, ops};
+ghost use Rattle.node_tree.specs.Premises.{AreDistinct, ChildrenAreDistinct};
 ghost use Rattle.node_tree.specs.FlatNodes.{FlatNode, flat_nodes};
 ghost use Rattle.node_tree.specs.SiblingLists.{index_in, sibling_calls, flat_before};
 
@@ -36,4 +38,120 @@ fn push_child_calls<'n>(
     let left = Counts::new(alloc, counts)?;
     push_arrangements(alloc, left, indexes, new, nodes, ops)?;
     Ok(())
+}
+
+// Ends the calls inside a child, where `ops` had `start` calls before `down`: with `up`, or without `down` if there is
+// no call inside.
+fn end_inside(start: usize, ops: &mut Ops) -> Result<(), NoMemory>
+    ensures { (before calls : List op_data) (index : ℕ) → ops.old ≡ before ++ (op.Down index ∷ calls) → length before ≡ start →
+        OnOk result (ops.new ≡ before ++ calls_inside index calls) }
+{
+    if ops.len() == start.saturating_add(1) {
+        ops.pop();
+        return Ok(());
+    }
+    ops.push(Op::Up)
+}
+
+// Appends a `set` for each attribute of a node whose value differs.
+fn push_node_sets<'o, 'n>(
+    alloc: Global,
+    old: &NodeRef<'o>,
+    new: &NodeRef<'n>,
+    ops: &mut Ops,
+) -> Result<(), NoMemory>
+    ensures { OnOk result (ops.new ≡ ops.old ++ set_calls old.now.attributes new.now.attributes) }
+{
+    let before = old.attributes;
+    let now = new.attributes;
+    push_sets(alloc, before.items(), now.items(), ops)
+}
+
+// Appends the `set` calls of a new node. The list `old` has what the node was and the nodes inside it, or nothing.
+fn push_sets_since<'o, 'n>(
+    alloc: Global,
+    old: &[NodeRef<'o>],
+    new: &NodeRef<'n>,
+    ops: &mut Ops,
+) -> Result<(), NoMemory>
+    ensures { (before : Option TreeNode) → old.now ≡ flat_before before →
+        OnOk result (ops.new ≡ ops.old ++ sets_since before new.now.attributes) }
+{
+    match old.first() {
+        Some(before) => push_node_sets(alloc, before, new, ops),
+        None => Ok(()),
+    }
+}
+
+// Returns the nodes after the first one.
+fn after_first<'s, 'n>(nodes: &'s [NodeRef<'n>]) -> &'s [NodeRef<'n>]
+    ensures { result.now ≡ drop 1 nodes.now }
+{
+    part_of_nodes(nodes, 1, nodes.len())
+}
+
+// Appends the calls inside a new node. The list `new` has the node and the nodes inside it, and `old` has what the node
+// was, or nothing.
+#[cycle(place)]
+fn push_inner<'o, 'n>(
+    alloc: Global,
+    index: usize,
+    old: &[NodeRef<'o>],
+    new: &[NodeRef<'n>],
+    ops: &mut Ops,
+) -> Result<(), NoMemory>
+    ensures { (before : Option TreeNode) (node : FlatNode) (children : Nodes) →
+        old.now ≡ flat_before before → new.now ≡ node ∷ flat_nodes children →
+        ChildrenAreDistinct before → AreDistinct children →
+        OnOk result (ops.new ≡ ops.old ++ calls_inside index
+            (sets_since before node.attributes ++ ops_between (children_since before) children)) }
+{
+    let Some((node, inside)) = new.split_first() else {
+        return Ok(());
+    };
+    let start = ops.len();
+    ops.push(Op::Down { index })?;
+    push_sets_since(alloc, old, node, ops)?;
+    push_level(alloc, after_first(old), inside, ops)?;
+    end_inside(start, ops)
+}
+
+// Appends the calls that turn the old nodes of one level, and all inside them, into the new ones.
+#[cycle(place)]
+fn push_level<'o, 'n>(
+    alloc: Global,
+    old: &[NodeRef<'o>],
+    new: &[NodeRef<'n>],
+    ops: &mut Ops,
+) -> Result<(), NoMemory>
+    ensures { (o n : Nodes) → old.now ≡ flat_nodes o → new.now ≡ flat_nodes n → AreDistinct o → AreDistinct n →
+        OnOk result (ops.new ≡ ops.old ++ ops_between (node_list o) n) }
+{
+    let old_siblings = list_siblings(alloc, old)?;
+    let new_siblings = list_siblings(alloc, new)?;
+    let indexes = index_siblings(alloc, &old_siblings)?;
+    push_child_calls(alloc, &old_siblings, &indexes, &new_siblings, new, ops)?;
+    for (index, sibling) in new_siblings.iter().enumerate() {
+        let before = old_part(old, &old_siblings, &indexes, sibling.number);
+        let after = part_of_nodes(new, sibling.start, sibling.end);
+        push_inner(alloc, index, before, after, ops)?;
+    }
+    Ok(())
+}
+
+/// Returns the calls that turn the old tree into the new one. The lists have the nodes of the trees in preorder.
+///
+/// Nodes are compared by their numbers. A node that keeps its number keeps what is inside it, where only what differs
+/// is changed. Takes time n log n in the number of nodes.
+pub fn place<'o, 'n>(
+    alloc: Global,
+    old: &[NodeRef<'o>],
+    new: &[NodeRef<'n>],
+) -> Result<Ops, NoMemory>
+    ensures { (o n : Nodes) → old.now ≡ flat_nodes o → new.now ≡ flat_nodes n → AreDistinct o → AreDistinct n →
+        IfOk result (λ calls. calls ≡ ops o n) }
+{
+    let mut calls = Ops::new(alloc);
+    push_level(alloc, old, new, &mut calls)?;
+    Ok(calls)
 }
