@@ -11,8 +11,8 @@ ghost use Rattle.composer.specs.WrittenGroups.{kept_of};
 use crate::old_groups::OldGroup;
 use crate::owed::Owed;
 use lang_meaning::Env;
-use rt_groups::{Deps, GroupKind};
-use rt_values::{NoMemory, Value};
+use rt_groups::GroupKind;
+use rt_values::{NoMemory, ObjectNo, Value};
 use std::alloc::Global;
 
 /// Returns the value of a key group.
@@ -115,10 +115,10 @@ pub fn kept_value(
 }
 
 /// Returns whether a call with these reads reads an owed object.
-pub fn meet(reads: &Deps, owed: &Owed) -> bool
+pub fn meet(reads: &[ObjectNo], owed: &Owed) -> bool
     ensures { result ≡ meets reads.now owed.now.objects }
 {
-    for x in reads.numbers() {
+    for x in reads {
         if owed.has(*x) {
             return true;
         }

@@ -17,7 +17,7 @@ ghost use Rattle.composer.specs.OldSiblings.{old_group};
 ghost use Rattle.composer.specs.Recomposes.{Recomposes, Continues, RanBeside, Writes, HasRoom, HasRoomToWrite, group_at_level, statement_at, body_at, call_at, loop_at, BodyRan, GroupSkipped, GroupsSkipped, FrameWritten, any_calculation, is_container, is_call_kept};
 
 use crate::compared::{call_is_run, kept_value, key_of, meet};
-use crate::copies::{copy_kind, copy_values};
+use crate::copies::copy_values;
 use crate::draft::{Draft, Held};
 use crate::old_groups::OldGroup;
 use crate::owed::Owed;
@@ -545,7 +545,7 @@ fn run_body<'a, V: View, L: Ledger>(
     run_all(&inside, &callee.body, &mut inner, view, steps)?;
     let own = inner.reads;
     let mut written = inner.writer;
-    written.end_call(place, own)?;
+    written.end_call(level.alloc, place, own)?;
     *writer = written;
     Ok(())
 }
@@ -644,7 +644,7 @@ fn skip_inside<'a, V: View, L: Ledger>(
     )
 }
 
-// Appends a copy of an old group.
+// Appends an old group, which shares its slots with the table.
 fn keep_group(
     level: &Level,
     site: u32,
@@ -657,10 +657,8 @@ fn keep_group(
     ensures fits { OnOk result (length writer.new.groups ≤ most_groups) }
     ensures full { result ≡ Err ComposeStop.TooManyGroups → length writer.old.groups ≡ most_groups }
 {
-    let what = copy_kind(level.alloc, old.kind())?;
-    let reads = old.reads().copy(level.alloc)?;
     let number = kept_number(old.kind(), old.number());
-    writer.keep(level.depth, site, number, what, reads)
+    writer.keep(old.share()?.placed(level.depth, site, number))
 }
 
 // Returns the number that a group keeps: that of a node.

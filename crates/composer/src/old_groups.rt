@@ -1,10 +1,11 @@
 // The groups of the last frame.
-ghost use Rattle.std.specs.Prelude.{◌≡◌, ◌<◌, ◌+◌, length};
+ghost use Rattle.std.specs.Prelude.{◌≡◌, ◌<◌, ◌+◌, length, IfOk};
 ghost use Rattle.rt_groups.specs.declared.groups.Group.{Group as group_data};
 ghost use Rattle.composer.specs.OldSiblings.{old_group};
 
-use rt_groups::{Deps, GroupKind};
-use slot_table::Table;
+use rt_groups::GroupKind;
+use rt_values::{NoMemory, ObjectNo};
+use slot_table::{SharedGroup, Table};
 use std::marker::Model;
 
 /// A group of the last frame's slot table (`KeyInfo`).
@@ -96,9 +97,16 @@ impl<'a> OldGroup<'a> {
     }
 
     /// Returns what the group depends on itself.
-    pub fn reads(&self) -> &'a Deps
+    pub fn reads(&self) -> &'a [ObjectNo]
         ensures { result.now ≡ (old_group self.now).reads }
     {
         self.table.reads(self.index)
+    }
+
+    /// Returns the group, which shares its slots with the table.
+    pub fn share(&self) -> Result<SharedGroup, NoMemory>
+        ensures { IfOk result (λ g. g ≡ old_group self.now) }
+    {
+        self.table.share(self.index)
     }
 }

@@ -14,7 +14,7 @@ use crate::old_groups::OldGroup;
 use crate::stop::ComposeStop;
 use rt_groups::{Deps, Group, GroupKind, Report};
 use rt_values::NoMemory;
-use slot_table::Table;
+use slot_table::{SharedGroup, Table};
 use std::alloc::Global;
 use std::marker::Model;
 
@@ -25,7 +25,7 @@ const MOST_GROUPS: usize = 1000000;
 /// calls that ran, the cells that were calculated, and the reads of the calls that ran and ended.
 #[derive(Drop)]
 pub struct Writer {
-    groups: Vec<Group>,
+    groups: Vec<SharedGroup>,
     next: u64,
     ran: u64,
     calculated: u64,
@@ -86,7 +86,7 @@ impl Writer {
     }
 
     // Appends a group. Fails if there are 1,000,000 groups already.
-    fn push(&mut self, group: Group) -> Result<(), ComposeStop>
+    fn push(&mut self, group: SharedGroup) -> Result<(), ComposeStop>
         requires { length self.old.groups ≤ most_groups }
         ensures added { OnOk result (self.new ≡ record {
           groups = self.old.groups ++ group ∷ [];
@@ -127,13 +127,8 @@ impl Writer {
         let Some(calculated) = self.calculated.checked_add(cell_count(&what, found)) else {
             return Err(ComposeStop::NoMemory); // There are fewer cells than groups.
         };
-        self.push(Group {
-            depth,
-            site,
-            number,
-            what,
-            reads: Deps::new(alloc),
-        })?;
+        let group = new_group(alloc, depth, site, number, what)?;
+        self.push(group)?;
         self.next = next;
         self.calculated = calculated;
         Ok(())
@@ -156,43 +151,25 @@ impl Writer {
         let Some(ran) = self.ran.checked_add(one_where(runs)) else {
             return Err(ComposeStop::NoMemory); // There are fewer calls than groups.
         };
-        self.push(Group {
-            depth,
-            site,
-            number: 0,
-            what: call,
-            reads: Deps::new(alloc),
-        })?;
+        let group = new_group(alloc, depth, site, 0, call)?;
+        self.push(group)?;
         self.ran = ran;
         Ok(())
     }
 
     /// Appends an old group that is kept, with its number and its reads.
-    pub fn keep(
-        &mut self,
-        depth: u32,
-        site: u32,
-        number: u64,
-        what: GroupKind,
-        reads: Deps,
-    ) -> Result<(), ComposeStop>
+    pub fn keep(&mut self, group: SharedGroup) -> Result<(), ComposeStop>
         requires { length self.old.groups ≤ most_groups }
-        ensures added { OnOk result (self.new ≡ written_kept depth site number what reads self.old) }
+        ensures added { OnOk result (self.new ≡ written_kept group.depth group.site group.number group.what group.reads self.old) }
         ensures fits { OnOk result (length self.new.groups ≤ most_groups) }
         ensures full { result ≡ Err ComposeStop.TooManyGroups → length self.old.groups ≡ most_groups }
     {
-        self.push(Group {
-            depth,
-            site,
-            number,
-            what,
-            reads,
-        })
+        self.push(group)
     }
 
     /// Gives the call at index `place`, which ran, its own reads, and counts them.
     #[tactic(auto, using(rt_groups::proofs::ReplacedItems::set_seam, rt_groups::proofs::ReplacedItems::got_seam))]
-    pub fn end_call(&mut self, place: usize, own: Deps) -> Result<(), NoMemory>
+    pub fn end_call(&mut self, alloc: Global, place: usize, own: Deps) -> Result<(), NoMemory>
         requires { place < length self.old.groups }
         ensures len { OnOk result (length self.new.groups ≡ length self.old.groups) }
         ensures groups { (before after : List group_data) (g : group_data) →
@@ -206,10 +183,30 @@ impl Writer {
         let Some(reads) = self.reads.checked_add(own.numbers().len() as u64) else {
             return Err(NoMemory); // No memory holds so many reads.
         };
+        self.groups[place].set_reads(alloc, own)?;
         self.reads = reads;
-        self.groups[place].reads = own;
         Ok(())
     }
+}
+
+// Returns a group without reads.
+fn new_group(
+    alloc: Global,
+    depth: u32,
+    site: u32,
+    number: u64,
+    what: GroupKind,
+) -> Result<SharedGroup, NoMemory>
+    ensures { IfOk result (λ g. g ≡ flat_group depth site number what []) }
+{
+    let group = Group {
+        depth,
+        site,
+        number,
+        what,
+        reads: Deps::new(alloc),
+    };
+    SharedGroup::new(alloc, group)
 }
 
 // Returns the number of a node and the next unused number: the number of the old group, or the next one.
@@ -260,14 +257,14 @@ fn one_where(truth: bool) -> u64
 }
 
 // Whether a group is a node.
-fn is_node(group: &Group) -> bool
+fn is_node(group: &SharedGroup) -> bool
     ensures { result ≡ node group.now }
 {
-    matches!(&group.what, GroupKind::Node { .. })
+    matches!(group.kind(), GroupKind::Node { .. })
 }
 
 // Counts the nodes among the groups.
-fn node_count(groups: &[Group]) -> usize
+fn node_count(groups: &[SharedGroup]) -> usize
     ensures { result ≡ nodes_in groups.now }
 {
     let mut count = 0;

@@ -14,10 +14,9 @@ ghost use Rattle.slot_edit.specs.Patches.{Patches, anchor_index};
 
 mod inverse;
 
-use rt_groups::Group;
 use rt_values::NoMemory;
 use slot_anchors::Anchors;
-use slot_table::Table;
+use slot_table::{SharedGroup, Table};
 use std::alloc::Global;
 use std::marker::Model;
 
@@ -49,7 +48,7 @@ impl Patch {
     /// group with its path, or `None` if the group is new. Takes all the memory that `apply` needs.
     pub fn new(
         alloc: Global,
-        groups: Vec<Group>,
+        groups: Vec<SharedGroup>,
         olds: Vec<Option<usize>>,
     ) -> Result<Patch, NoMemory>
         ensures groups { IfOk result (λ p. p.groups ≡ groups.items) }

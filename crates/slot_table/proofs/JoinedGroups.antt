@@ -4,7 +4,7 @@ use Rattle.std.specs.List.{insert}
 use Rattle.rt_groups.specs.declared.groups.Group.{Group}
 use Rattle.rt_groups.specs.PreorderGroups.{flat_group}
 use Rattle.slot_table.specs.declared.storage.GroupHead.{GroupHead}
-use Rattle.slot_table.specs.declared.storage.GroupSlots.{GroupSlots}
+use Rattle.slot_table.specs.SharedSlots.{GroupSlots}
 use Rattle.slot_table.specs.TableGroups.{group_at}
 use Rattle.slot_table.specs.Storage.{joined_groups}
 

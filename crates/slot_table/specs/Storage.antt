@@ -3,7 +3,7 @@ use Rattle.std.specs.Prelude.{List, [], ◌∷◌}
 use Rattle.rt_groups.specs.declared.groups.Group.{Group}
 use Rattle.rt_groups.specs.PreorderGroups.{flat_group}
 use Rattle.slot_table.specs.declared.storage.GroupHead.{GroupHead}
-use Rattle.slot_table.specs.declared.storage.GroupSlots.{GroupSlots}
+use Rattle.slot_table.specs.SharedSlots.{GroupSlots}
 
 -- The groups with these fields and slots.
 abbrev pub joined_groups : List GroupHead → List GroupSlots → List Group

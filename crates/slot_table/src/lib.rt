@@ -3,7 +3,8 @@
 //! `Table` is the `SlotTable` of Compose and `Reader` its `SlotReader`. Contracts see the table as the list of its
 //! groups in preorder (`specs/TableGroups.antt`), and the reader as the groups that are left and the open groups
 //! (`specs/ReaderStates.antt`). The table keeps for each group the number of groups inside it, so a skip takes constant
-//! time. The fields of fixed size and the slots are in two gap buffers. Only `slot_edit` changes a table; other
+//! time. The fields of fixed size and the slots are in two gap buffers, and tables that have the same group
+//! share its slots. Only `slot_edit` changes a table; other
 //! crates read it. Promises: a reader visits exactly the table's groups, counts one step for each group that it
 //! opens, and lends their values without a copy.
 #![tactic(auto)]
@@ -15,6 +16,7 @@ mod storage;
 mod table;
 
 pub use reader::Reader;
+pub use storage::SharedGroup;
 pub use table::Table;
 
 /// States that skipping a group of a forest leaves its later siblings and what follows them.

@@ -7,8 +7,8 @@ ghost use Rattle.slot_table.specs.ReaderStates.{OpenGroup, after_deep, inner_dep
 ghost use Rattle.slot_table.specs.InnerCounts.{open_groups_at, AreIndexes};
 
 use crate::table::Table;
-use rt_groups::{Deps, GroupKind};
-use rt_values::{NoMemory, Steps, Value};
+use rt_groups::GroupKind;
+use rt_values::{NoMemory, ObjectNo, Steps, Value};
 use std::alloc::Global;
 use std::marker::Model;
 use std::sync::ledger::Ledger;
@@ -145,7 +145,7 @@ impl<'a> Reader<'a> {
     }
 
     /// Returns what the innermost open group depends on itself, in the order of its reads.
-    pub fn reads(&self) -> &'a Deps
+    pub fn reads(&self) -> &'a [ObjectNo]
         requires { 0 < length self.now.open_groups }
         ensures { (o : OpenGroup) (os : List OpenGroup) → self.now.open_groups ≡ o ∷ os → result.now ≡ o.group.reads }
     {

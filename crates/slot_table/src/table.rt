@@ -5,10 +5,10 @@ ghost use Rattle.slot_table.specs.TableGroups.{group_at};
 ghost use Rattle.slot_table.specs.ReaderStates.{after_deep};
 ghost use Rattle.slot_table.specs.InnerCounts.{leading_deep, inner_counts};
 
-use crate::storage::{GroupHead, GroupSlots, split};
+use crate::storage::{GroupHead, SharedGroup, Slots, split};
 use gap_buffer::GapBuf;
-use rt_groups::{Deps, Group, GroupKind};
-use rt_values::NoMemory;
+use rt_groups::GroupKind;
+use rt_values::{NoMemory, ObjectNo};
 use std::alloc::Global;
 use std::marker::Model;
 
@@ -16,8 +16,8 @@ use std::marker::Model;
 #[derive(Drop)]
 pub struct Table {
     groups: GapBuf<GroupHead>,
-    // For each group its kind with its values, and its reads.
-    slots: GapBuf<GroupSlots>,
+    // For each group its slots, which other tables may share.
+    slots: GapBuf<Slots>,
     // For each group the number of groups inside it (`groupSize` less 1).
     counts: Vec<usize>,
 }
@@ -52,7 +52,7 @@ impl Table {
     }
 
     /// Returns the table of `groups`, which are in preorder. Takes time linear in their number.
-    pub fn from_groups(alloc: Global, groups: Vec<Group>) -> Result<Self, NoMemory>
+    pub fn from_groups(alloc: Global, groups: Vec<SharedGroup>) -> Result<Self, NoMemory>
         ensures { IfOk result (λ t. t.groups ≡ groups.items) }
     {
         let counts = count_all_inside(alloc, &groups)?;
@@ -93,7 +93,7 @@ impl Table {
     }
 
     // Returns the slots of the group at index `i`.
-    fn slot(&self, i: usize) -> &GroupSlots
+    fn slot(&self, i: usize) -> &Slots
         requires { i < length self.now.groups }
         ensures what { result.now.what ≡ (group_at self.now.groups i).what }
         ensures reads { result.now.reads ≡ (group_at self.now.groups i).reads }
@@ -130,15 +130,23 @@ impl Table {
         requires { i < length self.now.groups }
         ensures { result.now ≡ (group_at self.now.groups i).what }
     {
-        &self.slot(i).what
+        self.slot(i).what()
     }
 
     /// Returns what the group at index `i` depends on itself.
-    pub fn reads(&self, i: usize) -> &Deps
+    pub fn reads(&self, i: usize) -> &[ObjectNo]
         requires { i < length self.now.groups }
         ensures { result.now ≡ (group_at self.now.groups i).reads }
     {
-        &self.slot(i).reads
+        self.slot(i).reads()
+    }
+
+    /// Returns the group at index `i`, which shares its slots with this table.
+    pub fn share(&self, i: usize) -> Result<SharedGroup, NoMemory>
+        requires { i < length self.now.groups }
+        ensures { IfOk result (λ g. g ≡ group_at self.now.groups i) }
+    {
+        SharedGroup::sharing(*self.head(i), self.slot(i))
     }
 
     /// Returns the index after the group at index `i` and all groups inside it.
@@ -155,7 +163,7 @@ impl Table {
 }
 
 // Returns the group at index `i`.
-fn item(groups: &[Group], i: usize) -> &Group
+fn item(groups: &[SharedGroup], i: usize) -> &SharedGroup
     requires { i < length groups.now }
     ensures { result.now ≡ slice_index_or groups.now i result.now }
 {
@@ -163,17 +171,17 @@ fn item(groups: &[Group], i: usize) -> &Group
 }
 
 // Counts the groups inside the group at index `i`. The counts of the groups after it are known.
-fn count_inside(groups: &[Group], counts: &[usize], i: usize) -> usize
+fn count_inside(groups: &[SharedGroup], counts: &[usize], i: usize) -> usize
     requires inside { i < length groups.now }
     requires long { length counts.now ≡ length groups.now }
     requires after { drop (i + 1) counts.now ≡ inner_counts (drop (i + 1) groups.now) }
     ensures { (g : group_data) (rest : List group_data) → drop i groups.now ≡ g ∷ rest →
         result ≡ length (leading_deep (g.depth + 1) rest) }
 {
-    let depth = item(groups, i).depth;
+    let depth = item(groups, i).depth();
     let mut next = i + 1;
     while next < groups.len() {
-        if item(groups, next).depth <= depth {
+        if item(groups, next).depth() <= depth {
             return next - i - 1;
         }
         next = next + 1 + counts[next];
@@ -182,7 +190,7 @@ fn count_inside(groups: &[Group], counts: &[usize], i: usize) -> usize
 }
 
 // Counts for each group the groups inside it, from the last group to the first.
-fn count_all_inside(alloc: Global, groups: &[Group]) -> Result<Vec<usize>, NoMemory>
+fn count_all_inside(alloc: Global, groups: &[SharedGroup]) -> Result<Vec<usize>, NoMemory>
     ensures { IfOk result (λ counts. counts.items ≡ inner_counts groups.now) }
 {
     let mut at = groups.len();

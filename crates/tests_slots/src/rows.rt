@@ -1,23 +1,25 @@
 // The groups of a composition with one row for each key.
 use rt_groups::{Attribute, Attributes, Group, GroupKind, Values};
 use rt_values::{NoMemory, Objects, Value, Word};
+use slot_table::SharedGroup;
 use std::alloc::Global;
 
 // Appends a group with the number 9 that read object 7.
 fn append(
     alloc: Global,
-    groups: &mut Vec<Group>,
+    groups: &mut Vec<SharedGroup>,
     depth: u32,
     site: u32,
     what: GroupKind,
 ) -> Result<(), NoMemory> {
-    groups.push(Group {
+    let group = Group {
         depth,
         site,
         number: 9,
         what,
         reads: Objects::of(vec![in alloc; 7]?),
-    })?;
+    };
+    groups.push(SharedGroup::new(alloc, group)?)?;
     Ok(())
 }
 
@@ -35,7 +37,7 @@ fn row(alloc: Global, key: i64) -> Result<GroupKind, NoMemory> {
 }
 
 // Returns the call of the root with the argument -1, and inside it for each key a key group with a row.
-pub fn row_groups(alloc: Global, keys: &[i64]) -> Result<Vec<Group>, NoMemory> {
+pub fn row_groups(alloc: Global, keys: &[i64]) -> Result<Vec<SharedGroup>, NoMemory> {
     let mut groups = Vec::new(alloc);
     let mut arguments = Values::new(alloc);
     arguments.push(Value::Int(-1))?;

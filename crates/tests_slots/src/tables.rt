@@ -54,7 +54,7 @@ fn visit_next<L: Ledger>(
     reader.open_group(steps)?;
     values.push(kind_code(reader.kind()))?;
     values.push(if reader.number() == 9 { 9 } else { 0 })?;
-    values.push(if reader.reads().numbers() == [7u64].as_slice() {
+    values.push(if reader.reads() == [7u64].as_slice() {
         7
     } else {
         0
