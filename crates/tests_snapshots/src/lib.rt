@@ -3,8 +3,6 @@
 #![tactic(auto)]
 
 #[cfg(test)]
-mod call_tables;
-#[cfg(test)]
 mod desks;
 #[cfg(test)]
 mod plain_worlds;
