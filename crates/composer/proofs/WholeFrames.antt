@@ -28,7 +28,8 @@ use Rattle.composer.specs.OwedObjects.{OwedObjects}
 use Rattle.composer.specs.FrameDrafts.{DraftGroups, IsOwing, IsFrameDraft, ComposesFrame}
 use Rattle.composer.specs.FrameStates.{IsSound, frame_state}
 use Rattle.composer.specs.OldGroups.{Begins}
-use Rattle.composer.specs.WrittenGroups.{WrittenGroups, state_of, draft_of, nodes_in, is_node_kept}
+use Rattle.slot_table.specs.TableGroups.{is_node_kind}
+use Rattle.composer.specs.WrittenGroups.{WrittenGroups, state_of, draft_of, nodes_in}
 use Rattle.composer.proofs.OldParts.{since_all}
 use Rattle.composer.proofs.Machine.{same_state, composed_is, skipped_is, state_after_work, state_after_walk}
 use Rattle.composer.proofs.Reaching.{reached_at}
@@ -123,7 +124,7 @@ nodes_more : (gs hs : List FlatGroup) → nodes_in (gs ++ hs) ≡ nodes_in gs + 
 nodes_more [] hs = omega arith
 nodes_more (g ∷ gs) hs = let e = nodes_more gs hs in omega (arith, e)
 
-node_kept : (what : GroupKind) → is_node_kept (flat_kind what) ≡ is_node what
+node_kept : (what : GroupKind) → is_node_kind (flat_kind what) ≡ is_node what
 node_kept (Call f vs) = refl
 node_kept (Node kind attributes) = refl
 node_kept (Key v) = refl

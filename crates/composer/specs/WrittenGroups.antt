@@ -6,6 +6,7 @@ use Rattle.rt_groups.specs.declared.groups.Group.{Group}
 use Rattle.rt_groups.specs.declared.groups.GroupKind.{GroupKind}
 use Rattle.rt_groups.specs.declared.groups.GroupKind.TheVariants as what
 use Rattle.rt_groups.specs.PreorderGroups.{flat_group}
+use Rattle.slot_table.specs.TableGroups.{is_node_kind}
 use Rattle.composer.specs.OldSiblings.{KeyInfo, old_group}
 use Rattle.composer.specs.FrameDrafts.{DraftGroups}
 use Rattle.composer.specs.Comparisons.{other_keys}
@@ -90,15 +91,9 @@ abbrev pub kept_of : Option KeyInfo → List Value → Option Value
 kept_of None ks = None
 kept_of (Some k) ks = kept_in (old_group k).what ks
 
-abbrev pub is_node_kept : GroupKind → Bool
-is_node_kept (what.Call f vs) = false
-is_node_kept (what.Node kind attributes) = true
-is_node_kept (what.Key v) = false
-is_node_kept (what.Cell ks v) = false
-
 -- Whether a group is a node.
 abbrev pub is_node : Group → Bool
-is_node g = is_node_kept g.what
+is_node g = is_node_kind g.what
 
 -- The count of nodes in a list of groups.
 abbrev pub nodes_in : List Group → ℕ

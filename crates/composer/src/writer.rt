@@ -260,7 +260,7 @@ fn one_where(truth: bool) -> u64
 fn is_node(group: &SharedGroup) -> bool
     ensures { result ≡ node group.now }
 {
-    matches!(group.kind(), GroupKind::Node { .. })
+    group.is_node()
 }
 
 // Counts the nodes among the groups.

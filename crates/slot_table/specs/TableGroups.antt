@@ -1,7 +1,8 @@
 -- Trusted: a slot table as contracts see it.
-use Rattle.std.specs.Prelude.{ℕ, List, [], slice_index_or}
+use Rattle.std.specs.Prelude.{ℕ, List, [], Bool, true, false, slice_index_or}
 use Rattle.rt_values.specs.Values.{no_value}
 use Rattle.rt_groups.specs.declared.groups.Group.{Group}
+use Rattle.rt_groups.specs.declared.groups.GroupKind.{GroupKind}
 use Rattle.rt_groups.specs.declared.groups.GroupKind.TheVariants as what
 use Rattle.rt_groups.specs.PreorderGroups.{flat_group}
 
@@ -13,3 +14,10 @@ pub record TableGroups : Type 0 where
 -- The group at an index, or a key group of the default value if there is none.
 abbrev pub group_at : List Group → ℕ → Group
 group_at gs i = slice_index_or gs i (flat_group 0 0 0 (what.Key no_value) [])
+
+-- Whether a group of this kind is a node.
+abbrev pub is_node_kind : GroupKind → Bool
+is_node_kind (what.Call f vs) = false
+is_node_kind (what.Node kind attributes) = true
+is_node_kind (what.Key v) = false
+is_node_kind (what.Cell ks v) = false

@@ -3,6 +3,7 @@ ghost use Rattle.std.specs.Prelude.{◌≡◌, ◌≤◌, ◌<◌, ◌+◌, ◌+
 ghost use Rattle.rt_groups.specs.PreorderGroups.{flat_group};
 ghost use Rattle.slot_table.specs.Storage.{joined_groups};
 ghost use Rattle.slot_table.specs.SharedSlots.{reads_in};
+ghost use Rattle.slot_table.specs.TableGroups.{is_node_kind};
 
 use gap_buffer::GapBuf;
 use rt_groups::{Deps, Group, GroupKind};
@@ -94,16 +95,28 @@ impl Slots {
 #[derive(Drop)]
 pub struct SharedGroup {
     head: GroupHead,
+    is_node: bool,
     slots: Slots,
 }
 
 impl Model for SharedGroup {
     ghost use Rattle.rt_groups.specs.declared.groups.Group.{Group as group_data};
+    ghost use Rattle.std.specs.Prelude.{◌≡◌};
     ghost use Rattle.rt_groups.specs.PreorderGroups.{flat_group};
+    ghost use Rattle.slot_table.specs.TableGroups.{is_node_kind};
 
     ghost Value = { group_data };
 
     ghost view = { λ g. flat_group g.head.depth g.head.site g.head.number g.slots.what g.slots.reads };
+
+    ghost invariant = { λ g. g.is_node ≡ is_node_kind g.slots.what };
+}
+
+// Returns whether the kind is that of a node.
+fn is_node_kind(what: &GroupKind) -> bool
+    ensures { result ≡ is_node_kind what.now }
+{
+    matches!(what, GroupKind::Node { .. })
 }
 
 impl SharedGroup {
@@ -123,16 +136,26 @@ impl SharedGroup {
             site,
             number,
         };
+        let is_node = is_node_kind(&what);
         let slots = Slots::new(alloc, what, reads)?;
-        Ok(SharedGroup { head, slots })
+        Ok(SharedGroup {
+            head,
+            is_node,
+            slots,
+        })
     }
 
-    // Returns the group with this head, which shares `slots`.
-    pub(crate) fn sharing(head: GroupHead, slots: &Slots) -> Result<Self, NoMemory>
+    // Returns the group with this head, which shares `slots`. `is_node` says whether they are those of a node.
+    pub(crate) fn sharing(head: GroupHead, is_node: bool, slots: &Slots) -> Result<Self, NoMemory>
+        requires { is_node ≡ is_node_kind slots.now.what }
         ensures { IfOk result (λ g. g ≡ flat_group head.depth head.site head.number slots.now.what slots.now.reads) }
     {
         let slots = slots.copy()?;
-        Ok(SharedGroup { head, slots })
+        Ok(SharedGroup {
+            head,
+            is_node,
+            slots,
+        })
     }
 
     /// Returns the number of groups that contain it.
@@ -142,11 +165,11 @@ impl SharedGroup {
         self.head.depth
     }
 
-    /// Returns the kind of the group, with its values.
-    pub fn kind(&self) -> &GroupKind
-        ensures { result.now ≡ self.now.what }
+    /// Returns whether the group is a node.
+    pub fn is_node(&self) -> bool
+        ensures { result ≡ is_node_kind self.now.what }
     {
-        self.slots.what()
+        self.is_node
     }
 
     /// Returns the group at another depth and site, with another number.
@@ -159,6 +182,7 @@ impl SharedGroup {
                 site,
                 number,
             },
+            is_node: self.is_node,
             slots: self.slots,
         }
     }

@@ -1,7 +1,7 @@
 // The groups of a composition.
-ghost use Rattle.std.specs.Prelude.{◌≡◌, ◌≤◌, ◌<◌, ◌+◌, ◌∷◌, [], List, length, drop, slice_index_or, IfOk, OnOk};
+ghost use Rattle.std.specs.Prelude.{◌≡◌, ◌≤◌, ◌<◌, ◌+◌, ◌∷◌, [], List, length, drop, map, slice_index_or, IfOk, OnOk};
 ghost use Rattle.rt_groups.specs.declared.groups.Group.{Group as group_data};
-ghost use Rattle.slot_table.specs.TableGroups.{group_at};
+ghost use Rattle.slot_table.specs.TableGroups.{group_at, is_node_kind};
 ghost use Rattle.slot_table.specs.ReaderStates.{after_deep};
 ghost use Rattle.slot_table.specs.InnerCounts.{leading_deep, inner_counts};
 
@@ -20,11 +20,13 @@ pub struct Table {
     slots: GapBuf<Slots>,
     // For each group the number of groups inside it (`groupSize` less 1).
     counts: Vec<usize>,
+    // For each group whether it is a node (`isNode`).
+    nodes: Vec<bool>,
 }
 
 impl Model for Table {
-    ghost use Rattle.std.specs.Prelude.{◌≡◌, length, min};
-    ghost use Rattle.slot_table.specs.TableGroups.{TableGroups};
+    ghost use Rattle.std.specs.Prelude.{◌≡◌, length, map, min};
+    ghost use Rattle.slot_table.specs.TableGroups.{TableGroups, is_node_kind};
     ghost use Rattle.slot_table.specs.InnerCounts.{inner_counts as counts_of};
     ghost use Rattle.slot_table.specs.Storage.{joined_groups as joined};
 
@@ -36,7 +38,8 @@ impl Model for Table {
     } };
 
     ghost invariant = { λ t. (length t.groups.items ≡ length t.slots.items)
-        × (t.counts.items ≡ counts_of (joined t.groups.items t.slots.items)) };
+        × (t.counts.items ≡ counts_of (joined t.groups.items t.slots.items))
+        × (t.nodes.items ≡ map (λ g. is_node_kind g.what) (joined t.groups.items t.slots.items)) };
 }
 
 impl Table {
@@ -48,6 +51,7 @@ impl Table {
             groups: GapBuf::new(alloc),
             slots: GapBuf::new(alloc),
             counts: Vec::new(alloc),
+            nodes: Vec::new(alloc),
         }
     }
 
@@ -56,11 +60,13 @@ impl Table {
         ensures { IfOk result (λ t. t.groups ≡ groups.items) }
     {
         let counts = count_all_inside(alloc, &groups)?;
+        let nodes = find_nodes(alloc, &groups)?;
         let (groups, slots) = split(alloc, groups)?;
         Ok(Table {
             groups,
             slots,
             counts,
+            nodes,
         })
     }
 
@@ -125,6 +131,14 @@ impl Table {
         self.head(i).number
     }
 
+    /// Returns whether the group at index `i` is a node.
+    pub fn is_node(&self, i: usize) -> bool
+        requires { i < length self.now.groups }
+        ensures { result ≡ is_node_kind (group_at self.now.groups i).what }
+    {
+        self.nodes[i]
+    }
+
     /// Returns the kind of the group at index `i`, with its values.
     pub fn kind(&self, i: usize) -> &GroupKind
         requires { i < length self.now.groups }
@@ -146,7 +160,7 @@ impl Table {
         requires { i < length self.now.groups }
         ensures { IfOk result (λ g. g ≡ group_at self.now.groups i) }
     {
-        SharedGroup::sharing(*self.head(i), self.slot(i))
+        SharedGroup::sharing(*self.head(i), self.is_node(i), self.slot(i))
     }
 
     /// Returns the index after the group at index `i` and all groups inside it.
@@ -200,4 +214,15 @@ fn count_all_inside(alloc: Global, groups: &[SharedGroup]) -> Result<Vec<usize>,
         counts[at] = count_inside(groups, &counts, at);
     }
     Ok(counts)
+}
+
+// Returns for each group whether it is a node.
+fn find_nodes(alloc: Global, groups: &[SharedGroup]) -> Result<Vec<bool>, NoMemory>
+    ensures { IfOk result (λ nodes. nodes.items ≡ map (λ g. is_node_kind g.what) groups.now) }
+{
+    let mut nodes = Vec::with_capacity(alloc, groups.len())?;
+    for group in groups {
+        nodes.push(group.is_node())?;
+    }
+    Ok(nodes)
 }
