@@ -3,3 +3,4 @@ pub mod Reports
 pub mod Owings
 pub mod Frames
 pub mod Logs
+pub mod Draws

@@ -1,5 +1,5 @@
 -- Trusted: when a composition has kept the state of the last good frame, and what a frame adds to the log of a world.
-use Rattle.std.specs.Prelude.{◌≡◌, ℕ, ◌<◌, ◌≤◌, List, [], ◌∷◌, ◌++◌, length, map, true, false, Option, Some, None, Result, Ok, Err}
+use Rattle.std.specs.Prelude.{◌≡◌, ◌⊎◌, ℕ, ◌<◌, ◌≤◌, List, [], ◌∷◌, ◌++◌, length, map, true, false, Option, Some, None, Result, Ok, Err, OnOk}
 use Rattle.std.specs.Option.{option_map}
 use Rattle.rt_values.specs.Maps.{Map, differ, contains}
 use Rattle.rt_groups.specs.declared.report.Report.{Report}
@@ -11,13 +11,15 @@ use Rattle.lang_checks.specs.declared.checks.Checked.{Checked}
 use Rattle.recompose_laws.specs.Numbering.{without_numbers}
 use Rattle.recompose_laws.specs.Idle.{IsNumbered}
 use Rattle.snap_policy.specs.Rules.{Rules}
+use Rattle.snap_api.specs.Calls.{Logs}
 use Rattle.snap_api.specs.Desks.{Follows}
-use Rattle.snap_api.specs.DeskReads.{call_of, reads_of}
+use Rattle.snap_api.specs.DeskReads.{call_of, reads_of, LogsReads}
 use Rattle.snap_api.specs.World.{World, call, clock_limit}
 use Rattle.snap_api.specs.declared.data.Entry.{Entry}
 use Rattle.snap_api.specs.declared.data.Refusal.TheVariants as refusal
 use Rattle.snap_api.specs.declared.data.Reply.{Reply}
 use Rattle.snap_api.specs.declared.data.Reply.TheVariants as reply
+use Rattle.snap_api.specs.declared.data.Request.{Request}
 use Rattle.snap_api.specs.declared.data.Request.TheVariants.{TakeFor, Dispose}
 use Rattle.composer.specs.OwedObjects.{OwedObjects}
 use Rattle.composer.specs.FrameDrafts.{Holds, functions_of, root_of}
@@ -55,12 +57,13 @@ abbrev pub kept_after : LastFrame → Option FrameResult → LastFrame
 kept_after k None = k
 kept_after k (Some good) = good.left
 
--- No frame begins if the clock `k` is at its limit, and the clock is at its limit if the frame stops as `Spent`.
+-- No frame begins if the clock `k` is at its limit, and the clock is at its limit if the frame stops as `Spent`. A frame with
+-- too many groups has begun.
 abbrev pub StopsAtEnd : (ℕ → Type 0) → ℕ → {U : Type 0} → Result U FrameStop → Type 0
 StopsAtEnd clock k (Ok u) = k ≡ clock_limit → ⊥
 StopsAtEnd clock k (Err Spent) = clock clock_limit
 StopsAtEnd clock k (Err NoMemory) = Unit {0}
-StopsAtEnd clock k (Err TooManyGroups) = ⊥
+StopsAtEnd clock k (Err TooManyGroups) = k ≡ clock_limit → ⊥
 
 -- The reply of the take of a frame that did not begin.
 abbrev pub refused_take : FrameStop → Reply
@@ -93,6 +96,47 @@ abbrev pub EndsFrame : Option (List Entry) → Option (List Entry) → ℕ → �
 EndsFrame None new caller name xs = new ≡ None
 EndsFrame (Some old) new caller name xs = Ended old new caller name xs
 
+-- A log grew by a first part of these reads and the dispose.
+pub record EndsPart (old new : Option (List Entry)) (caller name : ℕ) (all : List ℕ) : Type 0 where
+  pub xs : List ℕ
+  pub rest : List ℕ
+  pub is : xs ++ rest ≡ all
+  pub ends : EndsFrame old new caller name xs
+
+-- What the end of a frame adds to a log, whatever its result: the list of reads and the log grew by the same reads of the
+-- frame's snapshot, and then came the dispose with some reply. The snapshot was disposed if the frame is good, and whenever
+-- the desk showed it and it is not global.
+pub record ClosesFrame {U : Type 0} (shows : Map → Type 0) (asked asked' : List ℕ) (old new : Option (List Entry))
+    (caller name : ℕ) (result : Result U FrameStop) : Type 0 where
+  pub xs : List ℕ
+  pub asks : asked' ≡ asked ++ xs
+  pub after_reads : Option (List Entry)
+  pub reads : LogsReads old after_reads caller name xs
+  pub answer : Reply
+  pub closes : Logs after_reads new caller (Dispose name) answer
+  pub good : OnOk result (answer ≡ reply.Disposed)
+  pub shown : (m : Map) → shows m → 0 < name → answer ≡ reply.Disposed
+
+-- A take for a watcher is for watcher `n`.
+abbrev pub IsTakeOnlyFor : ℕ → Request → Type 0
+IsTakeOnlyFor n (TakeFor watcher) = watcher ≡ n
+IsTakeOnlyFor n _ = Unit {0}
+
+-- Each take for a watcher is for watcher `n`.
+abbrev pub TakesOnlyFor : ℕ → List Entry → Type 0
+TakesOnlyFor n [] = Unit {0}
+TakesOnlyFor n (e ∷ es) = IsTakeOnlyFor n e.request × TakesOnlyFor n es
+
+-- A log grew by calls that take for no watcher except `n`.
+pub record GrownFor (n : ℕ) (old : List Entry) (new : Option (List Entry)) : Type 0 where
+  pub more : List Entry
+  pub log_is : new ≡ Some (old ++ more)
+  pub only : TakesOnlyFor n more
+
+abbrev pub GrowsFor : ℕ → Option (List Entry) → Option (List Entry) → Type 0
+GrowsFor n None new = new ≡ None
+GrowsFor n (Some old) new = GrownFor n old new
+
 -- A log grew by a whole frame: the take for a watcher, the reads of these objects, and the dispose.
 pub record WholeFrame (old : List Entry) (new : Option (List Entry)) (caller watcher : ℕ) (xs : List ℕ) : Type 0 where
   pub name : ℕ
@@ -104,6 +148,26 @@ abbrev pub LogsFrame : Option (List Entry) → Option (List Entry) → ℕ → �
 LogsFrame None new caller watcher xs = new ≡ None
 LogsFrame (Some old) new caller watcher xs = WholeFrame old new caller watcher xs
 
+-- The list of reads grew by some reads, and the log by a whole frame with these reads.
+pub record MakesReads (asked asked' : List ℕ) (old new : Option (List Entry)) (caller watcher : ℕ) : Type 0 where
+  pub xs : List ℕ
+  pub asks : asked' ≡ asked ++ xs
+  pub logs : LogsFrame old new caller watcher xs
+
+-- A log grew by a whole frame with a first part of these reads.
+pub record PartOfFrame (old new : Option (List Entry)) (caller watcher : ℕ) (all : List ℕ) : Type 0 where
+  pub xs : List ℕ
+  pub rest : List ℕ
+  pub is : xs ++ rest ≡ all
+  pub logs : LogsFrame old new caller watcher xs
+
+-- What a frame that was not made adds to a log, `last` being the watcher's last map then: the refusal of its take, or the
+-- take, a first part of the reads that the frame owes in this map, and the dispose.
+abbrev pub LogsNoFrame : Checked → LastFrame → Option (List Entry) → Option (List Entry) → ℕ → ℕ → FrameStop → Option Map → Type 0
+LogsNoFrame p k old new caller watcher stop last =
+    Logs old new caller (TakeFor watcher) (refused_take stop)
+    ⊎ ((m : Map) × (last ≡ Some m) × PartOfFrame old new caller watcher (frame_reads p k m))
+
 -- A frame was made in the map `map` after the kept state `k`: `at_frame` and `last` say what is kept and which map is the
 -- watcher's last one, `told` is the report, and `does` says what the frame's reads did.
 pub record MakesFrame (p : Checked) (k : LastFrame) (at_frame : LastFrame → Option Map → Type 0) (last : Option Map → Type 0)
@@ -114,13 +178,14 @@ pub record MakesFrame (p : Checked) (k : LastFrame) (at_frame : LastFrame → Op
   pub told_is : Some told ≡ option_map (λ g. g.told) (frame (functions_of p) k map)
   pub done : does (frame_reads p k map)
 
--- A frame was not made: the kept state stays, and what changed up to the watcher's last map is owed. If there are too many
--- groups, the frame of that map has no result.
+-- A frame was not made: the kept state stays, and what changed up to the watcher's last map is owed. `logs` says what the
+-- log is then. If there are too many groups, the frame of that map has no result.
 pub record MakesNoFrame (p : Checked) (k : LastFrame) (at_map : Option Map → Type 0) (last : Option Map → Type 0)
-    (stop : FrameStop) : Type 0 where
+    (logs : FrameStop → Option Map → Type 0) (stop : FrameStop) : Type 0 where
   pub map : Option Map
   pub is_at : at_map map
   pub is_last : last map
+  pub log_is : logs stop map
   pub many : stop ≡ TooManyGroups → (m : Map) × (map ≡ Some m) × (frame (functions_of p) k m ≡ None)
 
 -- The world after a frame: after its take and its dispose. The reads change no world.

@@ -12,7 +12,7 @@ ghost use Rattle.snap_api.specs.Calls.{Calls, Logs};
 ghost use Rattle.snap_api.specs.Desks.{FollowsLast};
 ghost use Rattle.snap_api.specs.World.{World};
 ghost use Rattle.recomposer.specs.Composed.{IsComposed};
-ghost use Rattle.recomposer.specs.Compositions.{IsAt, StopsAtEnd, refused_take, kept_after, frame_reads, BeginsFrame, EndsFrame, MakesFrame, MakesNoFrame, LogsFrame, world_of_frame};
+ghost use Rattle.recomposer.specs.Compositions.{IsAt, StopsAtEnd, refused_take, kept_after, frame_reads, BeginsFrame, EndsFrame, EndsPart, ClosesFrame, GrowsFor, MakesFrame, MakesNoFrame, MakesReads, LogsFrame, LogsNoFrame, world_of_frame};
 
 use composer::{ComposeStop, Draft, Held, Owed, compose};
 use lang_checks::Checked;
@@ -44,7 +44,8 @@ pub enum FrameStop {
 
 // Returns why the frame of this composition did not happen.
 fn frame_stop(stop: ComposeStop) -> FrameStop
-    ensures { result ≡ FrameStop.TooManyGroups → stop ≡ ComposeStop.TooManyGroups }
+    ensures many { result ≡ FrameStop.TooManyGroups → stop ≡ ComposeStop.TooManyGroups }
+    ensures not_spent { result ≡ FrameStop.Spent → ⊥ }
 {
     match stop {
         ComposeStop::TooManyGroups => FrameStop::TooManyGroups,
@@ -133,6 +134,7 @@ impl<'p> Composition<'p> {
             (Request.TakeFor self.old.watcher) (Reply.TakenFor b.name b.changed)) }
         ensures log { IfOk result (λ b. Logs (D.log desk.old) (D.log desk.new) (D.caller desk.old)
             (Request.TakeFor self.old.watcher) (Reply.TakenFor b.name b.changed)) }
+        ensures draws { GrowsFor self.old.watcher (D.log desk.old) (D.log desk.new) }
         ensures alone { (n : ℕ) → D.alone desk.new n → D.alone desk.old n }
         ensures lends { D.lends desk.old desk.new }
         ensures caller { D.caller desk.new ≡ D.caller desk.old }
@@ -273,9 +275,16 @@ impl<'p> Composition<'p> {
         ensures world { (m : Map) → D.shows desk.old m → 0 < begun.name →
             Calls D.P.rules (D.behind desk.old) (D.behind desk.new) (D.caller desk.old)
             (Request.Dispose begun.name) Reply.Disposed }
-        ensures log { (k : LastFrame) (m : Map) → IsAt self.old k (Some m) → D.shows desk.old m → 0 < begun.name →
+        ensures log { (k : LastFrame) (m : Map) → IsAt self.old k (Some m) → D.shows desk.old m →
             OnOk result (EndsFrame (D.log desk.old) (D.log desk.new) (D.caller desk.old) begun.name
             (frame_reads self.old.program.now k m)) }
+        ensures refused { (k : LastFrame) (m : Map) → IsAt self.old k (Some m) → D.shows desk.old m → 0 < begun.name →
+            OnErr result (EndsPart (D.log desk.old) (D.log desk.new) (D.caller desk.old) begun.name
+            (frame_reads self.old.program.now k m)) }
+        ensures closed { ClosesFrame (D.shows desk.old) (D.asked desk.old) (D.asked desk.new) (D.log desk.old)
+            (D.log desk.new) (D.caller desk.old) begun.name result }
+        ensures draws { (n : ℕ) → GrowsFor n (D.log desk.old) (D.log desk.new) }
+        ensures not_spent { result ≡ Err FrameStop.Spent → ⊥ }
         ensures last { (n : ℕ) (types : List Ty) (l : Option Map) → D.last desk.old n types l → D.alone desk.new n →
             D.last desk.new n types l }
         ensures alone { (n : ℕ) → D.alone desk.new n → D.alone desk.old n }
@@ -294,7 +303,8 @@ impl<'p> Composition<'p> {
 
     /// Makes a frame: begins it and ends it (`recompose`).
     ///
-    /// Fails like `begin` and `finish`. What is kept stays then, and what is owed stays owed.
+    /// Fails like `begin` and `finish`, with `Spent` exactly if the world's clock is at its limit. What is kept stays then,
+    /// and what is owed stays owed.
     pub fn frame<D: Desk, L: Ledger>(
         &mut self,
         alloc: Global,
@@ -308,7 +318,12 @@ impl<'p> Composition<'p> {
             × LogsFrame (D.log desk.old) (D.log desk.new) (D.caller desk.old) self.old.watcher xs)) }
         ensures err { (k : LastFrame) (types : List Ty) (l : Option Map) → IsAt self.old k l →
             D.last desk.old self.old.watcher types l → D.alone desk.new self.old.watcher →
-            IfErr result (MakesNoFrame self.old.program.now k (IsAt self.new k) (D.last desk.new self.old.watcher types)) }
+            IfErr result (MakesNoFrame self.old.program.now k (IsAt self.new k) (D.last desk.new self.old.watcher types)
+            (LogsNoFrame self.old.program.now k (D.log desk.old) (D.log desk.new) (D.caller desk.old) self.old.watcher)) }
+        ensures spent { (k : ℕ) → D.clock desk.old k → StopsAtEnd (D.clock desk.new) k result }
+        ensures log { OnOk result (MakesReads (D.asked desk.old) (D.asked desk.new) (D.log desk.old) (D.log desk.new)
+            (D.caller desk.old) self.old.watcher) }
+        ensures draws { GrowsFor self.old.watcher (D.log desk.old) (D.log desk.new) }
         ensures world { (k : LastFrame) (types : List Ty) (l : Option Map) (w : World D.P) → IsAt self.old k l →
             D.last desk.old self.old.watcher types l → D.alone desk.new self.old.watcher → D.behind desk.old w →
             OnOk result (D.behind desk.new (world_of_frame D.P.rules w (D.caller desk.old) self.old.watcher)) }

@@ -1,9 +1,11 @@
-use Rattle.std.proofs.Common.{rules, ◌≡◌, ◌∙◌, sym, subst, Err}
+use Rattle.std.proofs.Common.{rules, ◌≡◌, ◌∙◌, refl, sym, ap, subst, Err}
+use Rattle.snap_api.specs.Calls.{dispose_reply}
 use Rattle.rt_values.specs.Views.{Grew}
 use Rattle.composer.specs.declared.stop.ComposeStop.TheVariants.{TooManyGroups}
 use Rattle.recomposer.specs.Compositions.{frame_reads}
 use Rattle.recomposer.proofs.Frames.{grew_in_all}
-use Rattle.recomposer.proofs.Logs.{always_disposed, ends_of}
+use Rattle.recomposer.proofs.Draws.{grows_finish}
+use Rattle.recomposer.proofs.Logs.{always_disposed, closes, ends_of, ends_part}
 use Rattle.recomposer.proofs.composition.Composition.finish.Goals as goal
 
 pub returns-in_default-clause-world : goal.returns-in_default-clause-world
@@ -69,9 +71,77 @@ pub returns-in-Ok-composed-clause-asks : goal.returns-in-Ok-composed-clause-asks
 returns-in-Ok-composed-clause-asks g c k m h shows = c.dispose.ensures.asks ∙ c.in-Ok-composed.ensures.asks k m h shows
 
 pub returns-in-Ok-composed-clause-log : goal.returns-in-Ok-composed-clause-log
-returns-in-Ok-composed-clause-log g c k m h shows inner =
+returns-in-Ok-composed-clause-log g c k m h shows =
     let kept = c.compose_owed-composed.ensures.keeps in
     let opened = g.met.D.Desk.opened_kept _ _ kept ∙ c.requires in
     ends_of (g.D.Desk.log c.args.desk.now) (g.D.Desk.log c.compose_owed-composed.new.view) (g.D.Desk.log c.dispose.new.self) (g.D.View.asked c.args.desk.now) (g.D.View.asked c.compose_owed-composed.new.view) (frame_reads c.args.self.now.program.now k m)
     (g.D.Desk.caller c.args.desk.now) (g.D.Desk.caller c.compose_owed-composed.new.view) c.args.begun.name (g.D.Desk.opened c.args.desk.now) (g.met.D.Desk.reads_told _ _ kept) c.requires
     (c.in-Ok-composed.ensures.asks k m h shows) (g.met.D.Desk.caller_kept _ _ kept) (c.in-Ok.ensures.log c.args.begun.name opened)
+
+pub returns-in_default-clause-draws : goal.returns-in_default-clause-draws
+returns-in_default-clause-draws g c n =
+    let kept = c.compose_owed-composed.ensures.keeps in
+    grows_finish n (g.D.Desk.log c.args.desk.now) (g.D.Desk.log c.compose_owed-composed.new.view) (g.D.Desk.log c.dispose.new.self) (g.D.View.asked c.args.desk.now) (g.D.View.asked c.compose_owed-composed.new.view)
+    (g.D.Desk.caller c.args.desk.now) (g.D.Desk.caller c.compose_owed-composed.new.view) c.args.begun.name (g.D.Desk.opened c.args.desk.now) (dispose_reply c.dispose.result) (g.met.D.Desk.reads_told _ _ kept)
+    (c.dispose.ensures.log c.args.begun.name (g.met.D.Desk.opened_kept _ _ kept ∙ c.requires))
+
+pub returns-in_default-clause-closed : goal.returns-in_default-clause-closed
+returns-in_default-clause-closed g c =
+    let kept = c.compose_owed-composed.ensures.keeps in
+    let opened = g.met.D.Desk.opened_kept _ _ kept ∙ c.requires in
+    closes (g.D.View.shows c.args.desk.now) (g.D.Desk.log c.args.desk.now) (g.D.Desk.log c.compose_owed-composed.new.view) (g.D.Desk.log c.dispose.new.self) (g.D.View.asked c.args.desk.now) (g.D.View.asked c.compose_owed-composed.new.view) (g.D.View.asked c.dispose.new.self)
+    (g.D.Desk.caller c.args.desk.now) (g.D.Desk.caller c.compose_owed-composed.new.view) c.args.begun.name (g.D.Desk.opened c.args.desk.now) c.dispose.result _ (g.met.D.Desk.reads_told _ _ kept) c.requires c.dispose.ensures.asks
+    (g.met.D.Desk.caller_kept _ _ kept) (c.dispose.ensures.log c.args.begun.name opened) tt
+    (λ m shows inner. c.dispose.ensures.disposed m c.args.begun.name (c.compose_owed-composed.ensures.same m shows) opened inner)
+
+pub returns-in_default-clause-refused : goal.returns-in_default-clause-refused
+returns-in_default-clause-refused g c k m h shows inner =
+    let kept = c.compose_owed-composed.ensures.keeps in
+    let opened = g.met.D.Desk.opened_kept _ _ kept ∙ c.requires in
+    let asked = g.D.View.asked c.compose_owed-composed.new.view in
+    ends_part (g.D.Desk.log c.args.desk.now) (g.D.Desk.log c.compose_owed-composed.new.view) (g.D.Desk.log c.dispose.new.self) (g.D.View.asked c.args.desk.now) asked (frame_reads c.args.self.now.program.now k m)
+    (g.D.Desk.caller c.args.desk.now) (g.D.Desk.caller c.compose_owed-composed.new.view) c.args.begun.name (g.D.Desk.opened c.args.desk.now) c.dispose.result (g.met.D.Desk.reads_told _ _ kept) c.requires
+    (grew_in_all c.compose_owed-composed.result (g.D.View.asked c.args.desk.now) asked asked (frame_reads c.args.self.now.program.now k m) refl (c.compose_owed-composed.ensures.asks k m h shows) (c.compose_owed-composed.ensures.part k m h shows))
+    (g.met.D.Desk.caller_kept _ _ kept) (c.dispose.ensures.disposed m c.args.begun.name (c.compose_owed-composed.ensures.same m shows) opened inner) (c.dispose.ensures.log c.args.begun.name opened)
+
+pub returns-in-Ok-composed-clause-draws : goal.returns-in-Ok-composed-clause-draws
+returns-in-Ok-composed-clause-draws g c n =
+    let kept = c.compose_owed-composed.ensures.keeps in
+    grows_finish n (g.D.Desk.log c.args.desk.now) (g.D.Desk.log c.compose_owed-composed.new.view) (g.D.Desk.log c.dispose.new.self) (g.D.View.asked c.args.desk.now) (g.D.View.asked c.compose_owed-composed.new.view)
+    (g.D.Desk.caller c.args.desk.now) (g.D.Desk.caller c.compose_owed-composed.new.view) c.args.begun.name (g.D.Desk.opened c.args.desk.now) (dispose_reply c.dispose.result) (g.met.D.Desk.reads_told _ _ kept)
+    (c.dispose.ensures.log c.args.begun.name (g.met.D.Desk.opened_kept _ _ kept ∙ c.requires))
+
+pub returns-in-Ok-composed-clause-closed : goal.returns-in-Ok-composed-clause-closed
+returns-in-Ok-composed-clause-closed g c =
+    let kept = c.compose_owed-composed.ensures.keeps in
+    let opened = g.met.D.Desk.opened_kept _ _ kept ∙ c.requires in
+    closes (g.D.View.shows c.args.desk.now) (g.D.Desk.log c.args.desk.now) (g.D.Desk.log c.compose_owed-composed.new.view) (g.D.Desk.log c.dispose.new.self) (g.D.View.asked c.args.desk.now) (g.D.View.asked c.compose_owed-composed.new.view) (g.D.View.asked c.dispose.new.self)
+    (g.D.Desk.caller c.args.desk.now) (g.D.Desk.caller c.compose_owed-composed.new.view) c.args.begun.name (g.D.Desk.opened c.args.desk.now) c.dispose.result _ (g.met.D.Desk.reads_told _ _ kept) c.requires c.dispose.ensures.asks
+    (g.met.D.Desk.caller_kept _ _ kept) (c.dispose.ensures.log c.args.begun.name opened) (ap dispose_reply c.in-Ok.is)
+    (λ m shows inner. c.dispose.ensures.disposed m c.args.begun.name (c.compose_owed-composed.ensures.same m shows) opened inner)
+
+pub returns-clause-draws : goal.returns-clause-draws
+returns-clause-draws g c n =
+    let kept = c.compose_owed-composed.ensures.keeps in
+    grows_finish n (g.D.Desk.log c.args.desk.now) (g.D.Desk.log c.compose_owed-composed.new.view) (g.D.Desk.log c.dispose.new.self) (g.D.View.asked c.args.desk.now) (g.D.View.asked c.compose_owed-composed.new.view)
+    (g.D.Desk.caller c.args.desk.now) (g.D.Desk.caller c.compose_owed-composed.new.view) c.args.begun.name (g.D.Desk.opened c.args.desk.now) (dispose_reply c.dispose.result) (g.met.D.Desk.reads_told _ _ kept)
+    (c.dispose.ensures.log c.args.begun.name (g.met.D.Desk.opened_kept _ _ kept ∙ c.requires))
+
+pub returns-clause-closed : goal.returns-clause-closed
+returns-clause-closed g c =
+    let kept = c.compose_owed-composed.ensures.keeps in
+    let opened = g.met.D.Desk.opened_kept _ _ kept ∙ c.requires in
+    closes (g.D.View.shows c.args.desk.now) (g.D.Desk.log c.args.desk.now) (g.D.Desk.log c.compose_owed-composed.new.view) (g.D.Desk.log c.dispose.new.self) (g.D.View.asked c.args.desk.now) (g.D.View.asked c.compose_owed-composed.new.view) (g.D.View.asked c.dispose.new.self)
+    (g.D.Desk.caller c.args.desk.now) (g.D.Desk.caller c.compose_owed-composed.new.view) c.args.begun.name (g.D.Desk.opened c.args.desk.now) c.dispose.result _ (g.met.D.Desk.reads_told _ _ kept) c.requires c.dispose.ensures.asks
+    (g.met.D.Desk.caller_kept _ _ kept) (c.dispose.ensures.log c.args.begun.name opened) tt
+    (λ m shows inner. c.dispose.ensures.disposed m c.args.begun.name (c.compose_owed-composed.ensures.same m shows) opened inner)
+
+pub returns-clause-refused : goal.returns-clause-refused
+returns-clause-refused g c k m h shows inner =
+    let kept = c.compose_owed-composed.ensures.keeps in
+    let opened = g.met.D.Desk.opened_kept _ _ kept ∙ c.requires in
+    let asked = g.D.View.asked c.compose_owed-composed.new.view in
+    ends_part (g.D.Desk.log c.args.desk.now) (g.D.Desk.log c.compose_owed-composed.new.view) (g.D.Desk.log c.dispose.new.self) (g.D.View.asked c.args.desk.now) asked (frame_reads c.args.self.now.program.now k m)
+    (g.D.Desk.caller c.args.desk.now) (g.D.Desk.caller c.compose_owed-composed.new.view) c.args.begun.name (g.D.Desk.opened c.args.desk.now) c.dispose.result (g.met.D.Desk.reads_told _ _ kept) c.requires
+    (grew_in_all c.compose_owed-composed.result (g.D.View.asked c.args.desk.now) asked asked (frame_reads c.args.self.now.program.now k m) refl (c.compose_owed-composed.ensures.asks k m h shows) (c.compose_owed-composed.ensures.part k m h shows))
+    (g.met.D.Desk.caller_kept _ _ kept) (c.dispose.ensures.disposed m c.args.begun.name (c.compose_owed-composed.ensures.same m shows) opened inner) (c.dispose.ensures.log c.args.begun.name opened)

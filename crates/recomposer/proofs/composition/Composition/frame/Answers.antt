@@ -1,11 +1,12 @@
-use Rattle.std.proofs.Common.{◌≡◌, ◌++◌, ◌∙◌, refl, ap, sym, subst, Some, None, Err}
+use Rattle.std.proofs.Common.{◌≡◌, ◌++◌, ◌∙◌, refl, ap, sym, subst, inl, inr, Some, None, Err}
 use Rattle.compose_model.specs.Frame.{frame}
 use Rattle.lang_checks.specs.declared.checks.Checked.{Checked}
 use Rattle.composer.specs.FrameDrafts.{functions_of}
 use Rattle.recomposer.specs.declared.composition.Composition.{Composition}
-use Rattle.recomposer.specs.Compositions.{IsAt, frame_reads}
+use Rattle.recomposer.specs.Compositions.{IsAt, PartOfFrame, frame_reads}
 use Rattle.recomposer.proofs.Frames.{made_frame}
-use Rattle.recomposer.proofs.Logs.{whole_frame, frame_world}
+use Rattle.recomposer.proofs.Draws.{grows_on}
+use Rattle.recomposer.proofs.Logs.{whole_frame, part_of_frame, makes_reads, frame_world}
 use Rattle.recomposer.proofs.composition.Composition.frame.Goals as goal
 
 pub returns-in-Ok-finish-clause-good : goal.returns-in-Ok-finish-clause-good
@@ -22,7 +23,7 @@ returns-in-Ok-finish-clause-good g c k types l h last alone =
       done = (
         c.in-Ok-finish.ensures.asks k began.map began.at_now began.shown ∙ ap (λ l. l ++ reads) c.in-Ok.ensures.asks,
         whole_frame (g.D.Desk.log c.args.desk.now) (g.D.Desk.log c.begin.new.desk) (g.D.Desk.log c.finish.new.desk) (g.D.Desk.caller c.args.desk.now) (g.D.Desk.caller c.begin.new.desk) watcher c.in-Ok.begun.name c.in-Ok.begun.changed reads
-            c.in-Ok.ensures.log c.in-Ok.ensures.caller (c.in-Ok-finish.ensures.log k began.map began.at_now began.shown began.inner),
+            c.in-Ok.ensures.log c.in-Ok.ensures.caller (c.in-Ok-finish.ensures.log k began.map began.at_now began.shown),
       );
     })
 
@@ -39,6 +40,7 @@ returns-in-Err-clause-err g c k types l h last alone =
       map = l;
       is_at = subst (λ (s : Composition). IsAt s k l) (sym c.in-Err.ensures.err) h;
       is_last = c.in-Err.ensures.last types l last alone;
+      log_is = inl (c.in-Err.ensures.refused types l last alone).1;
       many = λ e. absurd (c.begin.ensures.few (c.in-Err.is ∙ ap Err e));
     }
 
@@ -50,9 +52,29 @@ returns-in-Err-finish-clause-err g c k types l h last alone =
       map = Some began.map;
       is_at = subst (λ (s : Composition). IsAt s k (Some began.map)) (sym c.in-Err-finish.ensures.err) began.at_now;
       is_last = c.in-Err-finish.ensures.last watcher types (Some began.map) began.is_last alone;
+      log_is = inr (
+        began.map,
+        refl,
+        subst (λ (p : Checked). PartOfFrame (g.D.Desk.log c.args.desk.now) (g.D.Desk.log c.finish.new.desk) (g.D.Desk.caller c.args.desk.now) watcher (frame_reads p k began.map)) (ap (λ q. q.now) c.in-Ok.ensures.program)
+            (part_of_frame (g.D.Desk.log c.args.desk.now) (g.D.Desk.log c.begin.new.desk) (g.D.Desk.log c.finish.new.desk) (g.D.Desk.caller c.args.desk.now) (g.D.Desk.caller c.begin.new.desk) watcher c.in-Ok.begun.name c.in-Ok.begun.changed _
+            c.in-Ok.ensures.log c.in-Ok.ensures.caller (c.in-Err-finish.ensures.refused k began.map began.at_now began.shown began.inner)),
+      );
       many = λ e. (
         began.map,
         refl,
         subst (λ (p : Checked). frame (functions_of p) k began.map ≡ None) (ap (λ q. q.now) c.in-Ok.ensures.program) (c.finish.ensures.many k began.map began.at_now began.shown (c.in-Err-finish.is ∙ ap Err e)),
       );
     }
+
+pub returns-in-Ok-finish-clause-log : goal.returns-in-Ok-finish-clause-log
+returns-in-Ok-finish-clause-log g c =
+    makes_reads (g.D.View.shows c.begin.new.desk) (g.D.Desk.log c.args.desk.now) (g.D.Desk.log c.begin.new.desk) (g.D.Desk.log c.finish.new.desk) (g.D.View.asked c.args.desk.now) (g.D.View.asked c.begin.new.desk) (g.D.View.asked c.finish.new.desk)
+    (g.D.Desk.caller c.args.desk.now) (g.D.Desk.caller c.begin.new.desk) c.args.self.now.watcher c.in-Ok.begun.name c.in-Ok.begun.changed c.in-Ok-finish.report c.in-Ok.ensures.log c.in-Ok.ensures.caller c.in-Ok.ensures.asks c.in-Ok-finish.ensures.closed
+
+pub returns-in-Ok-finish-clause-draws : goal.returns-in-Ok-finish-clause-draws
+returns-in-Ok-finish-clause-draws g c =
+    grows_on c.args.self.now.watcher (g.D.Desk.log c.args.desk.now) (g.D.Desk.log c.begin.new.desk) (g.D.Desk.log c.finish.new.desk) c.begin.ensures.draws (c.finish.ensures.draws c.args.self.now.watcher)
+
+pub returns-in-Err-finish-clause-draws : goal.returns-in-Err-finish-clause-draws
+returns-in-Err-finish-clause-draws g c =
+    grows_on c.args.self.now.watcher (g.D.Desk.log c.args.desk.now) (g.D.Desk.log c.begin.new.desk) (g.D.Desk.log c.finish.new.desk) c.begin.ensures.draws (c.finish.ensures.draws c.args.self.now.watcher)
