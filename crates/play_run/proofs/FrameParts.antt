@@ -15,6 +15,7 @@ use Rattle.snap_policy.specs.TableLaws.{table_merge_keeps_type}
 use Rattle.snap_api.specs.declared.data.Reply.{Reply}
 use Rattle.snap_api.specs.declared.data.Reply.TheVariants as reply
 use Rattle.snap_api.specs.declared.data.Request.TheVariants as request
+use Rattle.snap_api.specs.declared.data.Entry.{Entry}
 use Rattle.snap_api.specs.declared.data.Snapshot.{Snapshot}
 use Rattle.snap_api.specs.Desks.{FollowsLast}
 use Rattle.snap_api.specs.ShownMap.{ShownMap}
@@ -27,8 +28,9 @@ use Rattle.script_lang.specs.Lines.{Titles, entry_line, frame_lines, kept_after,
 use Rattle.script_lang.specs.StepCalls.{BeginFrame, EndFrame, of_actor, frame_begun, entry, watcher_number, end_request}
 use Rattle.script_lang.specs.NamesInMemory.{Holds}
 use Rattle.play_run.specs.RunOutput.{Run, request_lines, run_after_request, part_lines, part_after, parts_lines}
-use Rattle.play_run.specs.RunState.{AreKnown, RunFacts, IsRun, flat}
+use Rattle.play_run.specs.RunState.{AreKnown, RunFacts, IsRun, IsLogged, AddsEntry, LogsFrameReads, flat}
 use Rattle.play_run.specs.declared.memory.RunMemory.{RunMemory}
+use Rattle.play_run.proofs.RunLogs.{logged_call, logged_end}
 use Rattle.play_run.proofs.OpenFrames.{same_last, few_after, grown, within}
 
 follows_of : (l : Option Map) (m : Map) → MovedOn (unwrap_or l []) m →
@@ -66,6 +68,9 @@ abbrev taken_run : ℕ → Run → Reply → Run
 taken_run actor r y = record {
   standing = record { world = after_take r.standing.world actor; kept = r.standing.kept; frames = r.standing.frames ++ frame_taken (request.TakeFor watcher_number) y };
   notes = record r.notes { frame = frame_begun y };
+  made = r.made ++ entry r.standing.world actor (request.TakeFor watcher_number) ∷ [];
+  first = r.first;
+  log = r.log;
 }
 
 module _ {functions : List Func} {V : Type 0} {stands : V → World BuiltIn → Type 0} {world world' : V} {kept kept' : Composition} (actor : ℕ) (r : Run) where
@@ -77,7 +82,7 @@ module _ {functions : List Func} {V : Type 0} {stands : V → World BuiltIn → 
       let w = r.standing.world in
       let same = noted.refused none in
       let still : after_take w actor ≡ w = refused_take w actor _ (did table w actor (request.TakeFor watcher_number)) (ap frame_begun (sym is) ∙ none) in
-      let facts : RunFacts functions stands world' kept' actor None (record { standing = record { world = after_take w actor; kept = r.standing.kept; frames = r.standing.frames ++ [] }; notes = record r.notes { frame = None } }) = record {
+      let facts : RunFacts functions stands world' kept' actor None (record (taken_run actor r y) { standing = record { world = after_take w actor; kept = r.standing.kept; frames = r.standing.frames ++ [] }; notes = record r.notes { frame = None } }) = record {
         world_stands = stood;
         valid = subst (IsValid table) (sym still) h.valid;
         few = few_after w actor (request.TakeFor watcher_number) h.few;
@@ -88,8 +93,8 @@ module _ {functions : List Func} {V : Type 0} {stands : V → World BuiltIn → 
         noted = refl;
         at_frame = append-nil r.standing.frames ∙ h.at_frame;
       } in
-      subst (λ (fs : List ℕ). RunFacts functions stands world' kept' actor (frame_begun y) (record { standing = record { world = after_take w actor; kept = r.standing.kept; frames = r.standing.frames ++ fs }; notes = record r.notes { frame = frame_begun y } })) (sym untaken)
-      (subst (λ (o : Option ℕ). RunFacts functions stands world' kept' actor o (record { standing = record { world = after_take w actor; kept = r.standing.kept; frames = r.standing.frames ++ [] }; notes = record r.notes { frame = o } })) (sym none) facts)
+      subst (λ (fs : List ℕ). RunFacts functions stands world' kept' actor (frame_begun y) (record (taken_run actor r y) { standing = record { world = after_take w actor; kept = r.standing.kept; frames = r.standing.frames ++ fs }; notes = record r.notes { frame = frame_begun y } })) (sym untaken)
+      (subst (λ (o : Option ℕ). RunFacts functions stands world' kept' actor o (record (taken_run actor r y) { standing = record { world = after_take w actor; kept = r.standing.kept; frames = r.standing.frames ++ [] }; notes = record r.notes { frame = o } })) (sym none) facts)
 
   taken_facts : (y : Reply) → y ≡ answer r.standing.world actor → RunFacts functions stands world kept actor None r → stands world' (after_take r.standing.world actor) → Noted y kept kept' →
       RunFacts functions stands world' kept' actor (frame_begun y) (taken_run actor r y)
@@ -152,6 +157,9 @@ abbrev ended : List Func → Run → ℕ → ℕ → Run
 ended functions r actor name = record {
   standing = record { world = after_dispose r actor name; kept = kept_after r.standing.kept (outcome functions r name); frames = [] };
   notes = record r.notes { frame = None };
+  made = r.made ++ entry r.standing.world actor (request.Dispose name) ∷ [];
+  first = r.first;
+  log = r.log;
 }
 
 module _ {functions : List Func} {V : Type 0} {stands : V → World BuiltIn → Type 0} {world : V} {kept : Composition} (actor name : ℕ) (r : Run) (h : RunFacts functions stands world kept actor (Some name) r) where
@@ -200,6 +208,13 @@ module _ {functions : List Func} {V : Type 0} {stands : V → World BuiltIn → 
       } in
       subst (RunFacts functions stands world' kept' actor None) (sym end_after) facts
 
+  -- The log after the end of a frame.
+  pub end_logged : (now mid now' : Option (List Entry)) → IsLogged functions r r.log now → LogsFrameReads functions (stands world) actor name r.standing.kept (frame_map r name) now mid → AddsEntry mid now' (entry r.standing.world actor (request.Dispose name)) →
+      IsLogged functions (part_after functions r (of_actor actor EndFrame)) (part_after functions r (of_actor actor EndFrame)).log now'
+  end_logged now mid now' logged reads adds =
+      subst (λ o. IsLogged functions (run_after_request functions r (of_actor actor EndFrame) o) (run_after_request functions r (of_actor actor EndFrame) o).log now') (sym asks)
+      (logged_end functions r (of_actor actor EndFrame) name (stands world) h.world_stands h.at_frame.frames r.log now mid now' logged reads adds)
+
   -- The end of a frame keeps the names.
   pub end_names : (part_after functions r (of_actor actor EndFrame)).notes.names ≡ r.notes.names
   end_names = ap (λ o. (run_after_request functions r (of_actor actor EndFrame) o).notes.names) asks
@@ -209,9 +224,9 @@ module _ {functions : List Func} {V : Type 0} {stands : V → World BuiltIn → 
   end_bytes t = ap flat (append-nil (part_lines t functions r (of_actor actor EndFrame)) ∙ end_lines t)
 
 -- The state after the part that begins a frame, with the table of names.
-pub begun_run : {functions : List Func} {V : Type 0} {stands : V → World BuiltIn → Type 0} {world world' : V} {memory : RunMemory} (memory' : RunMemory) (actor : ℕ) (r : Run) (y : Reply) (x : Option ℕ) → y ≡ answer r.standing.world actor →
-    x ≡ frame_begun y → Noted y memory.composition memory'.composition → IsRun functions stands world memory actor None r → stands world' (after_take r.standing.world actor) → memory'.names ≡ memory.names →
-    IsRun functions stands world' memory' actor x (part_after functions r (of_actor actor BeginFrame))
-begun_run {functions = functions} {stands = stands} {world' = world'} memory' actor r y x is begins noted h stood names =
-    subst (λ o. IsRun functions stands world' memory' actor o (part_after functions r (of_actor actor BeginFrame))) (sym begins)
-    (record { facts = begun actor r y is h.facts stood noted; named = subst (λ m. Holds m r.notes.names) (sym names) h.named })
+pub begun_run : {functions : List Func} {V : Type 0} {stands : V → World BuiltIn → Type 0} {log : V → Option (List Entry)} {world world' : V} {memory : RunMemory} (memory' : RunMemory) (actor : ℕ) (r : Run) (y : Reply) (x : Option ℕ) → y ≡ answer r.standing.world actor →
+    x ≡ frame_begun y → Noted y memory.composition memory'.composition → IsRun functions stands log world memory actor None r → stands world' (after_take r.standing.world actor) → AddsEntry (log world) (log world') (entry r.standing.world actor (request.TakeFor watcher_number)) → memory'.names ≡ memory.names →
+    IsRun functions stands log world' memory' actor x (part_after functions r (of_actor actor BeginFrame))
+begun_run {functions = functions} {stands = stands} {log = log} {world = world} {world' = world'} memory' actor r y x is begins noted h stood adds names =
+    subst (λ o. IsRun functions stands log world' memory' actor o (part_after functions r (of_actor actor BeginFrame))) (sym begins)
+    (record { facts = begun actor r y is h.facts stood noted; named = subst (λ m. Holds m r.notes.names) (sym names) h.named; logged = logged_call functions r (of_actor actor BeginFrame) (request.TakeFor watcher_number) r.log (log world) (log world') refl refl h.logged adds })

@@ -2,6 +2,7 @@ pub mod Written
 pub mod Frames
 pub mod CallLines
 pub mod OpenFrames
+pub mod RunLogs
 pub mod RunParts
 pub mod Sequences
 pub mod FrameParts

@@ -18,6 +18,7 @@ use Rattle.lang_checks.specs.ProgramFaults.{program_faults, states_faults, is_we
 use Rattle.snap_policy.specs.declared.policy.BuiltIn.{BuiltIn}
 use Rattle.snap_policy.specs.Table.{table, table_fits}
 use Rattle.snap_api.specs.Valid.{IsValid}
+use Rattle.snap_api.specs.declared.data.Entry.{Entry}
 use Rattle.snap_api.specs.World.{World, start, last_of, world_after_make, make_refusal, with_object}
 use Rattle.snap_api.proofs.ValidMade.{valid_start, valid_made, makeable}
 use Rattle.snap_api.proofs.ValidMoves.{valid_watched}
@@ -27,7 +28,8 @@ use Rattle.composer.specs.FrameDrafts.{functions_of}
 use Rattle.recomposer.specs.Compositions.{IsAt}
 use Rattle.play_run.specs.Opening.{StatesFit}
 use Rattle.play_run.specs.RunOutput.{first_run}
-use Rattle.play_run.specs.RunState.{IsRun}
+use Rattle.play_run.specs.RunState.{IsRun, IsLogged}
+use Rattle.play_run.proofs.RunLogs.{logged_first}
 use Rattle.play_run.specs.declared.memory.RunMemory.{RunMemory}
 
 -- Making states makes no watcher.
@@ -60,10 +62,10 @@ clock-states : (w : World BuiltIn) (ss : List State) → (with_states w ss).cloc
 clock-states w [] = refl
 clock-states w (s ∷ more) = clock-states (world_after_make w (type_of s.initial) s.policy s.initial) more
 
-pub opened : {functions : List Func} {V : Type 0} {stands : V → World BuiltIn → Type 0} {world : V} {memory : RunMemory} (actor : ℕ) (states : List State) → StatesFit states →
+pub opened : {functions : List Func} {V : Type 0} {stands : V → World BuiltIn → Type 0} {log : V → Option (List Entry)} {world : V} {memory : RunMemory} (actor : ℕ) (states : List State) (began : Option (List Entry)) → StatesFit states → log world ≡ began →
     stands world (opening_world states) → IsAt memory.composition no_last_frame None → functions_of memory.composition.program.now ≡ functions → Holds memory.names [] →
-    IsRun functions stands world memory actor None (first_run states)
-opened {memory = memory} actor states fit stood at same holds =
+    IsRun functions stands log world memory actor None (first_run states began)
+opened {functions = functions} {log = log} {world = world} {memory = memory} actor states began fit untold stood at same holds =
     let counted = count-states (start 0) states in
     let last : last_of (opening_world states) watcher_number ≡ None = ap (λ (ls : List (Option Map)). slice_index_or (ls ++ None ∷ []) watcher_number None) (lasts-states (start 0) states) in
     record {
@@ -78,6 +80,7 @@ opened {memory = memory} actor states fit stood at same holds =
         at_frame = refl;
       };
       named = holds;
+      logged = subst (λ l. IsLogged functions (first_run states began) began l) (sym untold) (logged_first functions states began);
     }
 
 -- The states of a program without faults fit.

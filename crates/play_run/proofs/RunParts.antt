@@ -19,13 +19,15 @@ use Rattle.snap_api.specs.World.{World, call, is_mutable}
 use Rattle.snap_api.specs.declared.data.Reply.{Reply}
 use Rattle.snap_api.specs.declared.data.Request.{Request}
 use Rattle.snap_api.specs.declared.data.Request.TheVariants as request
+use Rattle.snap_api.specs.declared.data.Entry.{Entry}
 use Rattle.snap_api.specs.declared.data.Snapshot.{Snapshot}
 use Rattle.script_lang.specs.SnapshotNames.{NamedNumber, latest, snapshot_number, never_taken}
 use Rattle.script_lang.specs.StepCalls.{Part, Take, Read, Write, WriteSum, Apply, Dispose, BeginFrame, EndFrame, ActorPart, of_actor, Notes, request_of, sum_request, notes_after, number_taken, entry, watcher_number}
 use Rattle.script_lang.specs.Lines.{Titles, entry_line, ends_frame, frame_taken}
 use Rattle.recomposer.specs.Compositions.{IsAt}
 use Rattle.play_run.specs.RunOutput.{Run, request_lines, run_after_request, part_lines, part_after, parts_lines, parts_after}
-use Rattle.play_run.specs.RunState.{IsAtFrame, RunFacts, IsRun, IsPlain, KeepsNames, RunsAt, flat}
+use Rattle.play_run.specs.RunLog.{reads_frame}
+use Rattle.play_run.specs.RunState.{IsAtFrame, RunFacts, IsRun, IsLogged, AddsEntry, IsPlain, KeepsNames, RunsAt, flat}
 use Rattle.play_run.specs.RunPromise.{WritesBytes}
 use Rattle.recomposer.specs.declared.composition.Composition.{Composition}
 use Rattle.play_run.specs.declared.memory.RunMemory.{RunMemory}
@@ -34,6 +36,7 @@ use Rattle.script_lang.specs.NamesInMemory.{Holds, number_in}
 use Rattle.rt_streams.specs.Streams.{AppendsPart}
 use Rattle.rt_values.specs.declared.names.Kind.{Kind}
 use Rattle.play_run.proofs.OpenFrames.{IsPlainCall, Avoids, same_last, few_after, grown, same_snapshot, taken, own_after, within}
+use Rattle.play_run.proofs.RunLogs.{logged_call}
 use Rattle.play_run.proofs.Written.{says_same}
 
 -- A part that keeps the names neither begins nor ends a frame.
@@ -111,6 +114,34 @@ ends_no_other name (request.Write n x v) avoids = refl
 ends_no_other name (request.Apply n) avoids = refl
 ends_no_other name (request.Dispose n) avoids = ap (λ b. b || false) (other_number name n (λ e. avoids (sym e)))
 
+-- A plain call does not read the snapshot of the open frame.
+reads_none : (q : Request) → reads_frame [] q ≡ false
+reads_none (request.Take parent kind) = refl
+reads_none (request.TakeFor watcher) = refl
+reads_none (request.Read n x) = refl
+reads_none (request.Write n x v) = refl
+reads_none (request.Apply n) = refl
+reads_none (request.Dispose n) = refl
+
+sum_unread : (fs : List ℕ) (n x : ℕ) (a : ℤ) (o : Option Value) (q : Request) → sum_request n x a o ≡ Some q → reads_frame fs q ≡ false
+sum_unread fs n x a (Some (value.Int z)) q is = let e : request.Write n x (value.Int (sum_of z a)) ≡ q = cc in subst (λ r. reads_frame fs r ≡ false) e refl
+sum_unread fs n x a (Some (value.Bool b)) q is = absurd cc
+sum_unread fs n x a (Some (value.Text t)) q is = absurd cc
+sum_unread fs n x a (Some (value.Ints l)) q is = absurd cc
+sum_unread fs n x a None q is = absurd cc
+
+unread_call : (n : Notes) (p : Part) (q : Request) → IsPlain p → request_of n p ≡ Some q → (name : ℕ) → ((s : SnapshotRef) → snapshot_number n.names s ≢ name) → reads_frame (name ∷ []) q ≡ false
+unread_call n (Take other kind parent) q plain is name apart = let e : request.Take (snapshot_number n.names parent) kind ≡ q = cc in subst (λ r. reads_frame (name ∷ []) r ≡ false) e refl
+unread_call n (Read s x) q plain is name apart =
+    let e : request.Read (snapshot_number n.names s) x ≡ q = cc in
+    subst (λ r. reads_frame (name ∷ []) r ≡ false) e (ap (λ b. b || false) (other_number name (snapshot_number n.names s) (λ e. apart s (sym e))))
+unread_call n (Write s x v) q plain is name apart = let e : request.Write (snapshot_number n.names s) x v ≡ q = cc in subst (λ r. reads_frame (name ∷ []) r ≡ false) e refl
+unread_call n (WriteSum s x a) q plain is name apart = sum_unread (name ∷ []) (snapshot_number n.names s) x a n.value q is
+unread_call n (Apply s) q plain is name apart = let e : request.Apply (snapshot_number n.names s) ≡ q = cc in subst (λ r. reads_frame (name ∷ []) r ≡ false) e refl
+unread_call n (Dispose s) q plain is name apart = let e : request.Dispose (snapshot_number n.names s) ≡ q = cc in subst (λ r. reads_frame (name ∷ []) r ≡ false) e refl
+unread_call n BeginFrame q plain is name apart = absurd plain
+unread_call n EndFrame q plain is name apart = absurd plain
+
 takes_no_frame : (q : Request) (y : Reply) → IsPlainCall q → frame_taken q y ≡ []
 takes_no_frame (request.Take parent kind) y plain = refl
 takes_no_frame (request.TakeFor watcher) y plain = absurd plain
@@ -168,6 +199,9 @@ module _ (t : Titles) (functions : List Func) (r : Run) (actor : ℕ) (p : Part)
   quiet = record {
     standing = record { world = after_call; kept = r.standing.kept; frames = r.standing.frames };
     notes = notes_after r.notes p answer;
+    made = r.made ++ entry r.standing.world actor q ∷ [];
+    first = r.first;
+    log = r.log;
   }
 
   pub quiet_lines : request_of r.notes p ≡ Some q → ends_frame r.standing.frames q ≡ false → part_lines t functions r (of_actor actor p) ≡ entry_line t (entry r.standing.world actor q) ∷ []
@@ -176,7 +210,7 @@ module _ (t : Titles) (functions : List Func) (r : Run) (actor : ℕ) (p : Part)
   quiet_after : request_of r.notes p ≡ Some q → ends_frame r.standing.frames q ≡ false → frame_taken q answer ≡ [] → part_after functions r (of_actor actor p) ≡ quiet
   quiet_after is none untaken =
       ap (run_after_request functions r (of_actor actor p)) is
-      ∙ rw none (ap (λ (fs : List ℕ). record { standing = record { world = after_call; kept = r.standing.kept; frames = fs }; notes = notes_after r.notes p answer }) (ap (λ l. r.standing.frames ++ l) untaken ∙ append-nil r.standing.frames))
+      ∙ rw none (ap (λ (fs : List ℕ). record { standing = record { world = after_call; kept = r.standing.kept; frames = fs }; notes = notes_after r.notes p answer; made = r.made ++ entry r.standing.world actor q ∷ []; first = r.first; log = r.log }) (ap (λ l. r.standing.frames ++ l) untaken ∙ append-nil r.standing.frames))
 
   -- The notes after the part.
   pub plain_notes : request_of r.notes p ≡ Some q → (part_after functions r (of_actor actor p)).notes ≡ notes_after r.notes p answer
@@ -209,6 +243,21 @@ module _ (t : Titles) (functions : List Func) (r : Run) (actor : ℕ) (p : Part)
         let in_w = within r.standing.world actor name h.valid h.few f.own in
         let pl = plain_call r.notes p q plain is name (λ s. number_apart r.notes.names name s f.own.inner in_w.1 f.apart) in
         ap (λ fs. ends_frame fs q) f.frames ∙ ends_no_other name q pl.1
+
+    -- The part does not read the snapshot of the open frame.
+    plain_unread : (frame : Option ℕ) → RunFacts functions stands world kept actor frame r → reads_frame r.standing.frames q ≡ false
+    plain_unread None h = ap (λ fs. reads_frame fs q) h.at_frame ∙ reads_none q
+    plain_unread (Some name) h =
+        let f = h.at_frame in
+        let in_w = within r.standing.world actor name h.valid h.few f.own in
+        ap (λ fs. reads_frame fs q) f.frames ∙ unread_call r.notes p q plain is name (λ s. number_apart r.notes.names name s f.own.inner in_w.1 f.apart)
+
+    -- The log after the part.
+    pub plain_logged : (frame : Option ℕ) (now now' : Option (List Entry)) → RunFacts functions stands world kept actor frame r → IsLogged functions r r.log now → AddsEntry now now' (entry r.standing.world actor q) →
+        IsLogged functions (part_after functions r (of_actor actor p)) (part_after functions r (of_actor actor p)).log now'
+    plain_logged frame now now' h logged adds =
+        subst (λ o. IsLogged functions (run_after_request functions r (of_actor actor p) o) (run_after_request functions r (of_actor actor p) o).log now') (sym is)
+        (logged_call functions r (of_actor actor p) q r.log now now' (plain_unread frame h) (plain_quiet frame h) logged adds)
 
     plain_frame : (frame : Option ℕ) → RunFacts functions stands world kept actor frame r → IsAtFrame actor frame quiet
     plain_frame None h = h.at_frame
@@ -253,12 +302,12 @@ module _ (t : Titles) (functions : List Func) where
   after_append r (p ∷ ps) qs = after_append (part_after functions r p) ps qs
 
 -- A single call was made and its line was written. The part keeps the names.
-pub ran_single : {T : Type 0} {V : Type 0} {stands : V → World BuiltIn → Type 0} {world world' : V} {memory memory' : RunMemory} (t : Titles) (functions : List Func) (actor : ℕ) (frame : Option ℕ) (r : Run) (p : Part) (q : Request) (written written' : Option (List ℕ)) (result : Result T Stop) →
-    KeepsNames p → IsRun functions stands world memory actor frame r → request_of r.notes p ≡ Some q →
+pub ran_single : {T : Type 0} {V : Type 0} {stands : V → World BuiltIn → Type 0} {log : V → Option (List Entry)} {world world' : V} {memory memory' : RunMemory} (t : Titles) (functions : List Func) (actor : ℕ) (frame : Option ℕ) (r : Run) (p : Part) (q : Request) (written written' : Option (List ℕ)) (result : Result T Stop) →
+    KeepsNames p → IsRun functions stands log world memory actor frame r → request_of r.notes p ≡ Some q →
     WritesBytes written written' (entry_line t (entry r.standing.world actor q)) result →
-    OnOk result (stands world' (call table r.standing.world actor q).0) → memory'.composition ≡ memory.composition → memory'.names ≡ memory.names →
-    RunsAt {T = T} t functions stands actor (of_actor actor p ∷ []) world' memory' frame written written' r result
-ran_single {stands = stands} {world = world} {world' = world'} {memory = memory} {memory' = memory'} t functions actor frame r p q written written' (Ok x) keeps h is says stood kept names =
+    OnOk result (stands world' (call table r.standing.world actor q).0) → OnOk result (AddsEntry (log world) (log world') (entry r.standing.world actor q)) → memory'.composition ≡ memory.composition → memory'.names ≡ memory.names →
+    RunsAt {T = T} t functions stands log actor (of_actor actor p ∷ []) world' memory' frame written written' r result
+ran_single {stands = stands} {log = log} {world = world} {world' = world'} {memory = memory} {memory' = memory'} t functions actor frame r p q written written' (Ok x) keeps h is says stood adds kept names =
     let facts = plain_facts t functions r actor p q {stands = stands} {world = world} {kept = memory.composition} (is_plain p keeps) is frame h.facts stood in
     record {
       says = says_same (Ok x) written written' _ _ (sym (plain_line t functions r actor p q {stands = stands} {world = world} {kept = memory.composition} (is_plain p keeps) is frame h.facts)) says;
@@ -266,21 +315,22 @@ ran_single {stands = stands} {world = world} {world' = world'} {memory = memory}
         facts = subst (λ k. RunFacts functions stands world' k actor frame (part_after functions r (of_actor actor p))) (sym kept) facts;
         named = subst (λ m. Holds m (part_after functions r (of_actor actor p)).notes.names) (sym names)
             (subst (Holds memory.names) (sym (ap (λ (n : Notes). n.names) (plain_notes t functions r actor p q is) ∙ same_names r.notes p _ keeps)) h.named);
+        logged = plain_logged t functions r actor p q {stands = stands} {world = world} {kept = memory.composition} (is_plain p keeps) is frame (log world) (log world') h.facts h.logged adds;
       };
     }
-ran_single {stands = stands} {world = world} {world' = world'} {memory = memory} t functions actor frame r p q written written' (Err e) keeps h is says stood kept names = record {
+ran_single {stands = stands} {world = world} {world' = world'} {memory = memory} t functions actor frame r p q written written' (Err e) keeps h is says stood adds kept names = record {
   says = says_same (Err e) written written' _ _ (sym (plain_line t functions r actor p q {stands = stands} {world = world} {kept = memory.composition} (is_plain p keeps) is frame h.facts)) says;
   left = tt;
 }
 
 -- A take was made, its line was written, and its number was noted.
-pub ran_take : {T : Type 0} {V : Type 0} {stands : V → World BuiltIn → Type 0} {world world' : V} {memory memory' : RunMemory} (t : Titles) (functions : List Func) (actor : ℕ) (frame : Option ℕ) (r : Run) (name : List ℕ) (kind : Kind) (parent : SnapshotRef) (q : Request) (y : Reply) (written written' : Option (List ℕ)) (x : T) →
-    IsRun functions stands world memory actor frame r → request_of r.notes (Take name kind parent) ≡ Some q →
+pub ran_take : {T : Type 0} {V : Type 0} {stands : V → World BuiltIn → Type 0} {log : V → Option (List Entry)} {world world' : V} {memory memory' : RunMemory} (t : Titles) (functions : List Func) (actor : ℕ) (frame : Option ℕ) (r : Run) (name : List ℕ) (kind : Kind) (parent : SnapshotRef) (q : Request) (y : Reply) (written written' : Option (List ℕ)) (x : T) →
+    IsRun functions stands log world memory actor frame r → request_of r.notes (Take name kind parent) ≡ Some q →
     Appends written written' (entry_line t (entry r.standing.world actor q)) → y ≡ (call table r.standing.world actor q).1 →
-    stands world' (call table r.standing.world actor q).0 → memory'.composition ≡ memory.composition →
+    stands world' (call table r.standing.world actor q).0 → AddsEntry (log world) (log world') (entry r.standing.world actor q) → memory'.composition ≡ memory.composition →
     ((other : List ℕ) → number_in memory'.names other ≡ cond (bytes_eq name other) (Some (number_taken y)) (number_in memory.names other)) →
-    RunsAt {T = T} t functions stands actor (of_actor actor (Take name kind parent) ∷ []) world' memory' frame written written' r (Ok x)
-ran_take {stands = stands} {world = world} {world' = world'} {memory = memory} {memory' = memory'} t functions actor frame r name kind parent q y written written' x h is wrote told stood kept put =
+    RunsAt {T = T} t functions stands log actor (of_actor actor (Take name kind parent) ∷ []) world' memory' frame written written' r (Ok x)
+ran_take {stands = stands} {log = log} {world = world} {world' = world'} {memory = memory} {memory' = memory'} t functions actor frame r name kind parent q y written written' x h is wrote told stood adds kept put =
     let p = Take name kind parent in
     let facts = plain_facts t functions r actor p q {stands = stands} {world = world} {kept = memory.composition} tt is frame h.facts stood in
     let names = ap (λ (n : Notes). n.names) (plain_notes t functions r actor p q is) in
@@ -291,24 +341,25 @@ ran_take {stands = stands} {world = world} {world' = world'} {memory = memory} {
         named = subst (Holds memory'.names) (sym names)
             (λ other. put other ∙ ap (λ (z : Reply). cond (bytes_eq name other) (Some (number_taken z)) (number_in memory.names other)) told
             ∙ ap (λ o. cond (bytes_eq name other) (Some (number_taken (call table r.standing.world actor q).1)) o) (h.named other));
+        logged = plain_logged t functions r actor p q {stands = stands} {world = world} {kept = memory.composition} tt is frame (log world) (log world') h.facts h.logged adds;
       };
     }
 
 -- A take's line was written up to an error.
-pub stopped_take : {T : Type 0} {V : Type 0} {stands : V → World BuiltIn → Type 0} {world world' : V} {memory memory' : RunMemory} (t : Titles) (functions : List Func) (actor : ℕ) (frame : Option ℕ) (r : Run) (name : List ℕ) (kind : Kind) (parent : SnapshotRef) (q : Request) (written written' : Option (List ℕ)) (e : Stop) →
-    IsRun functions stands world memory actor frame r → request_of r.notes (Take name kind parent) ≡ Some q →
+pub stopped_take : {T : Type 0} {V : Type 0} {stands : V → World BuiltIn → Type 0} {log : V → Option (List Entry)} {world world' : V} {memory memory' : RunMemory} (t : Titles) (functions : List Func) (actor : ℕ) (frame : Option ℕ) (r : Run) (name : List ℕ) (kind : Kind) (parent : SnapshotRef) (q : Request) (written written' : Option (List ℕ)) (e : Stop) →
+    IsRun functions stands log world memory actor frame r → request_of r.notes (Take name kind parent) ≡ Some q →
     AppendsPart written written' (entry_line t (entry r.standing.world actor q)) →
-    RunsAt {T = T} t functions stands actor (of_actor actor (Take name kind parent) ∷ []) world' memory' frame written written' r (Err e)
+    RunsAt {T = T} t functions stands log actor (of_actor actor (Take name kind parent) ∷ []) world' memory' frame written written' r (Err e)
 stopped_take {T = T} {stands = stands} {world = world} {memory = memory} t functions actor frame r name kind parent q written written' e h is wrote = record {
   says = says_same {T = T} (Err e) written written' _ _ (sym (plain_line t functions r actor (Take name kind parent) q {stands = stands} {world = world} {kept = memory.composition} tt is frame h.facts)) (record { all = tt; part = wrote });
   left = tt;
 }
 
 -- Nothing is written of a sum that is not made.
-pub no_sum : {T : Type 0} {V : Type 0} {stands : V → World BuiltIn → Type 0} {world : V} {memory : RunMemory} (t : Titles) (functions : List Func) (actor : ℕ) (frame : Option ℕ) (r : Run) (p : Part) (written : Option (List ℕ)) (x : T) →
-    IsRun functions stands world memory actor frame r → request_of r.notes p ≡ None → WritesBytes {T = T} {E = Stop} written written [] (Ok x) →
-    RunsAt {T = T} t functions stands actor (of_actor actor p ∷ []) world memory frame written written r (Ok x)
-no_sum {stands = stands} {world = world} {memory = memory} t functions actor frame r p written x h is says = record {
+pub no_sum : {T : Type 0} {V : Type 0} {stands : V → World BuiltIn → Type 0} {log : V → Option (List Entry)} {world : V} {memory : RunMemory} (t : Titles) (functions : List Func) (actor : ℕ) (frame : Option ℕ) (r : Run) (p : Part) (written : Option (List ℕ)) (x : T) →
+    IsRun functions stands log world memory actor frame r → request_of r.notes p ≡ None → WritesBytes {T = T} {E = Stop} written written [] (Ok x) →
+    RunsAt {T = T} t functions stands log actor (of_actor actor p ∷ []) world memory frame written written r (Ok x)
+no_sum {stands = stands} {log = log} {world = world} {memory = memory} t functions actor frame r p written x h is says = record {
   says = says_same {E = Stop} (Ok x) written written [] _ (ap (λ o. flat (request_lines t functions r actor o ++ [])) (sym is)) says;
-  left = subst (IsRun functions stands world memory actor frame) (sym (ap (run_after_request functions r (of_actor actor p)) is)) h;
+  left = subst (IsRun functions stands log world memory actor frame) (sym (ap (run_after_request functions r (of_actor actor p)) is)) h;
 }

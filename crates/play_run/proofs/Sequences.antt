@@ -8,6 +8,7 @@ use Rattle.lang_ast.specs.declared.script.ScriptForm.{ScriptForm}
 use Rattle.lang_ast.specs.declared.script.ScriptForm.TheVariants.{Once, Repeat}
 use Rattle.snap_policy.specs.declared.policy.BuiltIn.{BuiltIn}
 use Rattle.snap_api.specs.World.{World}
+use Rattle.snap_api.specs.declared.data.Entry.{Entry}
 use Rattle.script_lang.specs.Scripts.{repeated, times_of, written_out}
 use Rattle.script_lang.specs.StepCalls.{Part, ActorPart, of_actor, step_parts, steps_parts}
 use Rattle.script_lang.specs.Lines.{Titles}
@@ -33,28 +34,28 @@ pub form_first : (f : ScriptForm) (more : List ScriptForm) → written_out (f �
 form_first (Once s) more = refl
 form_first (Repeat at times steps) more = sym (append_assoc (repeated (times_of times) steps) [] (written_out more))
 
-module _ {V : Type 0} {stands : V → World BuiltIn → Type 0} (t : Titles) (functions : List Func) (actor : ℕ) where
+module _ {V : Type 0} {stands : V → World BuiltIn → Type 0} {log : V → Option (List Entry)} (t : Titles) (functions : List Func) (actor : ℕ) where
   -- Nothing was run yet.
-  pub runs_none : {T : Type 0} {world : V} {memory : RunMemory} (frame : Option ℕ) (written : Option (List ℕ)) (r : Run) (x : T) → IsRun functions stands world memory actor frame r →
-      WritesBytes {T = T} {E = Stop} written written [] (Ok x) → RunsAt {T = T} t functions stands actor [] world memory frame written written r (Ok x)
+  pub runs_none : {T : Type 0} {world : V} {memory : RunMemory} (frame : Option ℕ) (written : Option (List ℕ)) (r : Run) (x : T) → IsRun functions stands log world memory actor frame r →
+      WritesBytes {T = T} {E = Stop} written written [] (Ok x) → RunsAt {T = T} t functions stands log actor [] world memory frame written written r (Ok x)
   runs_none frame written r x h says = record { says = says; left = h }
 
   -- Parts were run, and then more parts.
   pub runs_then : {T U : Type 0} {world' world'' : V} {memory' memory'' : RunMemory} (frame' frame'' : Option ℕ) (written written' written'' : Option (List ℕ)) (r : Run) (x : T) (result : Result U Stop) (ps qs : List ActorPart) →
-      RunsAt {T = T} t functions stands actor ps world' memory' frame' written written' r (Ok x) →
-      RunsAt t functions stands actor qs world'' memory'' frame'' written' written'' (parts_after functions r ps) result →
-      RunsAt t functions stands actor (ps ++ qs) world'' memory'' frame'' written written'' r result
+      RunsAt {T = T} t functions stands log actor ps world' memory' frame' written written' r (Ok x) →
+      RunsAt t functions stands log actor qs world'' memory'' frame'' written' written'' (parts_after functions r ps) result →
+      RunsAt t functions stands log actor (ps ++ qs) world'' memory'' frame'' written written'' r result
   runs_then {world'' = world''} {memory'' = memory''} frame' frame'' written written' written'' r x result ps qs one two = record {
     says = says_same result written written'' _ _
         (sym (flat_map-append (λ l. l) (parts_lines t functions r ps) (parts_lines t functions (parts_after functions r ps) qs)) ∙ ap flat (sym (lines_append t functions r ps qs)))
         (says_behind result written written' written'' _ _ one.says.all two.says);
-    left = subst (λ s. OnOk result (IsRun functions stands world'' memory'' actor frame'' s)) (sym (after_append t functions r ps qs)) two.left;
+    left = subst (λ s. OnOk result (IsRun functions stands log world'' memory'' actor frame'' s)) (sym (after_append t functions r ps qs)) two.left;
   }
 
   -- Parts were run up to an error.
   pub runs_stopped : {T U : Type 0} {world' world'' : V} {memory' memory'' : RunMemory} (frame' frame'' : Option ℕ) (written written' : Option (List ℕ)) (r : Run) (e f : Stop) (ps qs : List ActorPart) →
-      RunsAt {T = T} t functions stands actor ps world' memory' frame' written written' r (Err e) →
-      RunsAt {T = U} t functions stands actor (ps ++ qs) world'' memory'' frame'' written written' r (Err f)
+      RunsAt {T = T} t functions stands log actor ps world' memory' frame' written written' r (Err e) →
+      RunsAt {T = U} t functions stands log actor (ps ++ qs) world'' memory'' frame'' written written' r (Err f)
   runs_stopped frame' frame'' written written' r e f ps qs one = record {
     says = says_same _ written written' _ _
         (sym (flat_map-append (λ l. l) (parts_lines t functions r ps) (parts_lines t functions (parts_after functions r ps) qs)) ∙ ap flat (sym (lines_append t functions r ps qs)))
@@ -64,51 +65,52 @@ module _ {V : Type 0} {stands : V → World BuiltIn → Type 0} (t : Titles) (fu
 
   -- The same parts in another form.
   pub runs_same : {U : Type 0} {world' : V} {memory' : RunMemory} (frame' : Option ℕ) (written written' : Option (List ℕ)) (r : Run) (result : Result U Stop) (ps qs : List ActorPart) → ps ≡ qs →
-      RunsAt t functions stands actor ps world' memory' frame' written written' r result → RunsAt t functions stands actor qs world' memory' frame' written written' r result
-  runs_same {world' = world'} {memory' = memory'} frame' written written' r result ps qs e h = subst (λ l. RunsAt t functions stands actor l world' memory' frame' written written' r result) e h
+      RunsAt t functions stands log actor ps world' memory' frame' written written' r result → RunsAt t functions stands log actor qs world' memory' frame' written written' r result
+  runs_same {world' = world'} {memory' = memory'} frame' written written' r result ps qs e h = subst (λ l. RunsAt t functions stands log actor l world' memory' frame' written written' r result) e h
 
 -- While no frame is open, the actor does not matter.
-pub run_as : {V : Type 0} {stands : V → World BuiltIn → Type 0} {functions : List Func} {world : V} {memory : RunMemory} {r : Run} (a b : ℕ) → IsRun functions stands world memory a None r → IsRun functions stands world memory b None r
+pub run_as : {V : Type 0} {stands : V → World BuiltIn → Type 0} {log : V → Option (List Entry)} {functions : List Func} {world : V} {memory : RunMemory} {r : Run} (a b : ℕ) → IsRun functions stands log world memory a None r → IsRun functions stands log world memory b None r
 run_as a b h = record {
   facts = record { world_stands = h.facts.world_stands; valid = h.facts.valid; few = h.facts.few; known = h.facts.known; is_at = h.facts.is_at; same_program = h.facts.same_program; noted = h.facts.noted; at_frame = h.facts.at_frame };
   named = h.named;
+  logged = h.logged;
 }
 
-pub runs_as : {V T : Type 0} {stands : V → World BuiltIn → Type 0} {t : Titles} {functions : List Func} {world : V} {memory : RunMemory} {r : Run} (a b : ℕ) (ps : List ActorPart) (written written' : Option (List ℕ)) (result : Result T Stop) →
-    RunsAt t functions stands a ps world memory None written written' r result → RunsAt t functions stands b ps world memory None written written' r result
+pub runs_as : {V T : Type 0} {stands : V → World BuiltIn → Type 0} {log : V → Option (List Entry)} {t : Titles} {functions : List Func} {world : V} {memory : RunMemory} {r : Run} (a b : ℕ) (ps : List ActorPart) (written written' : Option (List ℕ)) (result : Result T Stop) →
+    RunsAt t functions stands log a ps world memory None written written' r result → RunsAt t functions stands log b ps world memory None written written' r result
 runs_as a b ps written written' (Ok x) h = record { says = h.says; left = run_as a b h.left }
 runs_as a b ps written written' (Err e) h = record { says = h.says; left = tt }
 
 -- The same outcome with another value.
-pub runs_ok : {V T U : Type 0} {stands : V → World BuiltIn → Type 0} {t : Titles} {functions : List Func} {world : V} {memory : RunMemory} {r : Run} {actor : ℕ} {frame : Option ℕ} {ps : List ActorPart} {written written' : Option (List ℕ)} (a : Result T Stop) (x : T) (b : Result U Stop) (y : U) → a ≡ Ok x → b ≡ Ok y →
-    RunsAt t functions stands actor ps world memory frame written written' r a → RunsAt t functions stands actor ps world memory frame written written' r b
-runs_ok {stands = stands} {t = t} {functions = functions} {world = world} {memory = memory} {r = r} {actor = actor} {frame = frame} {ps = ps} {written = written} {written' = written'} a x b y is same h =
-    subst (λ c. RunsAt t functions stands actor ps world memory frame written written' r c) (sym same)
-    (let at = subst (λ c. RunsAt t functions stands actor ps world memory frame written written' r c) is h in
+pub runs_ok : {V T U : Type 0} {stands : V → World BuiltIn → Type 0} {log : V → Option (List Entry)} {t : Titles} {functions : List Func} {world : V} {memory : RunMemory} {r : Run} {actor : ℕ} {frame : Option ℕ} {ps : List ActorPart} {written written' : Option (List ℕ)} (a : Result T Stop) (x : T) (b : Result U Stop) (y : U) → a ≡ Ok x → b ≡ Ok y →
+    RunsAt t functions stands log actor ps world memory frame written written' r a → RunsAt t functions stands log actor ps world memory frame written written' r b
+runs_ok {stands = stands} {log = log} {t = t} {functions = functions} {world = world} {memory = memory} {r = r} {actor = actor} {frame = frame} {ps = ps} {written = written} {written' = written'} a x b y is same h =
+    subst (λ c. RunsAt t functions stands log actor ps world memory frame written written' r c) (sym same)
+    (let at = subst (λ c. RunsAt t functions stands log actor ps world memory frame written written' r c) is h in
     record { says = record { all = at.says.all; part = tt }; left = at.left })
 
-pub runs_err : {V T U : Type 0} {stands : V → World BuiltIn → Type 0} {t : Titles} {functions : List Func} {world : V} {memory : RunMemory} {r : Run} {actor : ℕ} {frame : Option ℕ} {ps : List ActorPart} {written written' : Option (List ℕ)} (a : Result T Stop) (e : Stop) (b : Result U Stop) (f : Stop) → a ≡ Err e → b ≡ Err f →
-    RunsAt t functions stands actor ps world memory frame written written' r a → RunsAt t functions stands actor ps world memory frame written written' r b
-runs_err {stands = stands} {t = t} {functions = functions} {world = world} {memory = memory} {r = r} {actor = actor} {frame = frame} {ps = ps} {written = written} {written' = written'} a e b f is same h =
-    subst (λ c. RunsAt t functions stands actor ps world memory frame written written' r c) (sym same)
-    (let at = subst (λ c. RunsAt t functions stands actor ps world memory frame written written' r c) is h in
+pub runs_err : {V T U : Type 0} {stands : V → World BuiltIn → Type 0} {log : V → Option (List Entry)} {t : Titles} {functions : List Func} {world : V} {memory : RunMemory} {r : Run} {actor : ℕ} {frame : Option ℕ} {ps : List ActorPart} {written written' : Option (List ℕ)} (a : Result T Stop) (e : Stop) (b : Result U Stop) (f : Stop) → a ≡ Err e → b ≡ Err f →
+    RunsAt t functions stands log actor ps world memory frame written written' r a → RunsAt t functions stands log actor ps world memory frame written written' r b
+runs_err {stands = stands} {log = log} {t = t} {functions = functions} {world = world} {memory = memory} {r = r} {actor = actor} {frame = frame} {ps = ps} {written = written} {written' = written'} a e b f is same h =
+    subst (λ c. RunsAt t functions stands log actor ps world memory frame written written' r c) (sym same)
+    (let at = subst (λ c. RunsAt t functions stands log actor ps world memory frame written written' r c) is h in
     record { says = record { all = tt; part = at.says.part }; left = tt })
 
 -- A loop over parts: those that were run, those that are run next, and the rest.
-module _ {V : Type 0} {stands : V → World BuiltIn → Type 0} (t : Titles) (functions : List Func) (actor : ℕ) (frame : Option ℕ) (written written' written'' : Option (List ℕ)) (r : Run) (done here rest left all : List ActorPart) where
+module _ {V : Type 0} {stands : V → World BuiltIn → Type 0} {log : V → Option (List Entry)} (t : Titles) (functions : List Func) (actor : ℕ) (frame : Option ℕ) (written written' written'' : Option (List ℕ)) (r : Run) (done here rest left all : List ActorPart) where
   pub loop_next : {world' world'' : V} {memory' memory'' : RunMemory} → left ≡ here ++ rest → done ++ left ≡ all →
-      RunsAt {T = Unit {0}} t functions stands actor done world' memory' frame written written' r (Ok tt) →
-      RunsAt {T = Unit {0}} t functions stands actor here world'' memory'' frame written' written'' (parts_after functions r done) (Ok tt) →
-      ((done ++ here) ++ rest ≡ all) × RunsAt {T = Unit {0}} t functions stands actor (done ++ here) world'' memory'' frame written written'' r (Ok tt)
+      RunsAt {T = Unit {0}} t functions stands log actor done world' memory' frame written written' r (Ok tt) →
+      RunsAt {T = Unit {0}} t functions stands log actor here world'' memory'' frame written' written'' (parts_after functions r done) (Ok tt) →
+      ((done ++ here) ++ rest ≡ all) × RunsAt {T = Unit {0}} t functions stands log actor (done ++ here) world'' memory'' frame written written'' r (Ok tt)
   loop_next {world' = world'} {world'' = world''} {memory' = memory'} {memory'' = memory''} split is one two = (
     append_assoc done here rest ∙ ap (λ l. done ++ l) (sym split) ∙ is,
     runs_then t functions actor {world' = world'} {world'' = world''} {memory' = memory'} {memory'' = memory''} frame frame written written' written'' r tt (Ok tt) done here one two,
   )
 
   pub loop_stopped : {world' world'' : V} {memory' memory'' : RunMemory} (e : Stop) → left ≡ here ++ rest → done ++ left ≡ all →
-      RunsAt {T = Unit {0}} t functions stands actor done world' memory' frame written written' r (Ok tt) →
-      RunsAt {T = Unit {0}} t functions stands actor here world'' memory'' frame written' written'' (parts_after functions r done) (Err e) →
-      RunsAt {T = Unit {0}} t functions stands actor all world'' memory'' frame written written'' r (Err e)
+      RunsAt {T = Unit {0}} t functions stands log actor done world' memory' frame written written' r (Ok tt) →
+      RunsAt {T = Unit {0}} t functions stands log actor here world'' memory'' frame written' written'' (parts_after functions r done) (Err e) →
+      RunsAt {T = Unit {0}} t functions stands log actor all world'' memory'' frame written written'' r (Err e)
   loop_stopped {world' = world'} {world'' = world''} {memory' = memory'} {memory'' = memory''} e split is one two =
       runs_same t functions actor frame written written'' r (Err e) (done ++ (here ++ rest)) all (ap (λ l. done ++ l) (sym split) ∙ is)
       (runs_then t functions actor {world' = world'} {world'' = world''} {memory' = memory'} {memory'' = memory''} frame frame written written' written'' r tt (Err e) done (here ++ rest) one

@@ -1,4 +1,5 @@
 pub mod RunPromise
+pub mod RunLog
 pub mod Opening
 pub mod RunOutput
 pub mod RunState

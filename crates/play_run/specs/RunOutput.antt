@@ -4,18 +4,24 @@ use Rattle.lang_ast.specs.declared.program.State.{State}
 use Rattle.lang_ast.specs.Terms.{Func}
 use Rattle.snap_policy.specs.Table.{table}
 use Rattle.snap_api.specs.declared.data.Request.{Request}
-use Rattle.snap_api.specs.World.{call}
+use Rattle.snap_api.specs.declared.data.Entry.{Entry}
+use Rattle.snap_api.specs.World.{History, call}
 use Rattle.script_lang.specs.StepCalls.{Part, ActorPart, of_actor, Notes, no_notes, request_of, notes_after, entry}
 use Rattle.script_lang.specs.Lines.{Titles, Standing, initial_standing, lines_at, next}
 
--- The state of a run between two parts: what its lines depend on, and what its calls depend on.
+-- The state of a run between two parts: what its lines depend on, what its calls depend on, and the calls so far that are
+-- printed. `first` is the state of the walk before the first part, and `log` the log of the world then.
 pub record Run : Type 0 where
   pub standing : Standing
   pub notes : Notes
+  pub made : History
+  pub first : Standing
+  pub log : Option (List Entry)
 
--- The state before the first part.
-abbrev pub first_run : List State → Run
-first_run states = record { standing = initial_standing states; notes = no_notes }
+-- The state before the first part, with the world's log.
+abbrev pub first_run : List State → Option (List Entry) → Run
+first_run states log =
+    record { standing = initial_standing states; notes = no_notes; made = []; first = initial_standing states; log = log }
 
 module _ (t : Titles) (functions : List Func) where
   -- The lines of the call that an actor makes, if it makes one.
@@ -34,6 +40,9 @@ module _ (functions : List Func) where
   run_after_request r p (Some q) = record {
     standing = next functions r.standing (entry r.standing.world p.actor q);
     notes = notes_after r.notes p.part (call table r.standing.world p.actor q).1;
+    made = r.made ++ entry r.standing.world p.actor q ∷ [];
+    first = r.first;
+    log = r.log;
   }
 
   -- The state after a part.

@@ -1,13 +1,17 @@
 -- Internal: how the state of a run in memory represents the state of the definitions, and what was written.
-use Rattle.std.specs.Prelude.{◌≡◌, ◌≢◌, ◌⊎◌, ◌<◌, ◌≤◌, ◌+◌, ℕ, List, [], ◌∷◌, false, length, Option, Some, None, Result, OnOk}
+use Rattle.std.specs.Prelude.{◌≡◌, ◌≢◌, ◌⊎◌, ◌<◌, ◌≤◌, ◌+◌, ℕ, List, [], ◌∷◌, ◌++◌, All, false, length, map, Option, Some, None, Result, OnOk}
 use Rattle.std.specs.List.{flat_map}
+use Rattle.rt_values.specs.Maps.{Map}
+use Rattle.rt_groups.specs.Frames.{LastFrame}
 use Rattle.lang_ast.specs.Terms.{Func}
 use Rattle.composer.specs.FrameDrafts.{functions_of}
 use Rattle.recomposer.specs.Compositions.{IsAt}
 use Rattle.recomposer.specs.declared.composition.Composition.{Composition}
 use Rattle.snap_policy.specs.Table.{table}
 use Rattle.snap_policy.specs.declared.policy.BuiltIn.{BuiltIn}
-use Rattle.snap_api.specs.World.{World, last_of, snapshot_of, is_mutable}
+use Rattle.snap_api.specs.declared.data.Entry.{Entry}
+use Rattle.snap_api.specs.DeskReads.{call_of, reads_of}
+use Rattle.snap_api.specs.World.{World, History, IsLegal, world_after, last_of, snapshot_of, is_mutable}
 use Rattle.snap_api.specs.Valid.{IsValid}
 use Rattle.snap_api.specs.Calls.{IsOwn}
 use Rattle.script_lang.specs.SnapshotNames.{NamedNumber, latest, never_taken}
@@ -15,6 +19,7 @@ use Rattle.script_lang.specs.NamesInMemory.{Holds}
 use Rattle.script_lang.specs.StepCalls.{Part, Take, BeginFrame, EndFrame, ActorPart, watcher_number}
 use Rattle.script_lang.specs.Lines.{Titles}
 use Rattle.play_run.specs.RunPromise.{WritesBytes}
+use Rattle.play_run.specs.RunLog.{printed, frames_in, ReadsOwed}
 use Rattle.play_run.specs.RunOutput.{Run, parts_lines, parts_after}
 use Rattle.play_run.specs.declared.memory.RunMemory.{RunMemory}
 use Rattle.play_run.specs.declared.write_lines.Stop.{Stop}
@@ -53,11 +58,48 @@ pub record RunFacts {V : Type 0} (functions : List Func) (stands : V → World B
   pub noted : r.notes.frame ≡ frame
   pub at_frame : IsAtFrame actor frame r
 
--- The same with the table of names in memory.
-pub record IsRun {V : Type 0} (functions : List Func) (stands : V → World BuiltIn → Type 0) (world : V) (memory : RunMemory)
-    (actor : ℕ) (frame : Option ℕ) (r : Run) : Type 0 where
+-- What the log `now` says of the calls so far: it grew from `old` by these calls, each reply is the plain world's, the
+-- printed calls are `r.made`, and each frame that ended read what it owes. The last three facts are stated for every history
+-- `es` that may follow.
+pub record LogSoFar (functions : List Func) (r : Run) (old : List Entry) (now : Option (List Entry)) : Type 0 where
+  pub more : History
+  pub log_is : now ≡ Some (old ++ more)
+  pub legal : (es : History) → IsLegal table r.standing.world es → IsLegal table r.first.world (more ++ es)
+  pub printed_is : (es : History) → printed r.first.frames (more ++ es) ≡ r.made ++ printed r.standing.frames es
+  pub frames_read : (es : History) → All (ReadsOwed functions) (frames_in functions r.standing [] es)
+      → All (ReadsOwed functions) (frames_in functions r.first [] (more ++ es))
+
+abbrev pub IsLogged : List Func → Run → Option (List Entry) → Option (List Entry) → Type 0
+IsLogged functions r None now = now ≡ None
+IsLogged functions r (Some old) now = LogSoFar functions r old now
+
+-- A log, if there is one, grew by one call.
+abbrev pub AddsEntry : Option (List Entry) → Option (List Entry) → Entry → Type 0
+AddsEntry None new e = new ≡ None
+AddsEntry (Some old) new e = new ≡ Some (old ++ e ∷ [])
+
+-- A log grew by the reads of a frame after the kept state `k` in the map `m`. Their replies are those of each represented
+-- plain world, which they do not change, and the frame read what it owes.
+pub record FrameReadsLogged (functions : List Func) (stands : World BuiltIn → Type 0) (caller name : ℕ) (k : LastFrame) (m : Map)
+    (old : List Entry) (new : Option (List Entry)) : Type 0 where
+  pub more : History
+  pub log_is : new ≡ Some (old ++ more)
+  pub xs : List ℕ
+  pub reads : map call_of more ≡ reads_of caller name xs
+  pub legal : (w : World BuiltIn) → stands w → IsLegal table w more
+  pub leaves : (w : World BuiltIn) → stands w → world_after table w more ≡ w
+  pub owed : ReadsOwed functions (record { kept = k; map = m; reads = xs })
+
+abbrev pub LogsFrameReads : List Func → (World BuiltIn → Type 0) → ℕ → ℕ → LastFrame → Map → Option (List Entry) → Option (List Entry) → Type 0
+LogsFrameReads functions stands caller name k m None new = new ≡ None
+LogsFrameReads functions stands caller name k m (Some old) new = FrameReadsLogged functions stands caller name k m old new
+
+-- The same with the table of names in memory, and with the log of the world.
+pub record IsRun {V : Type 0} (functions : List Func) (stands : V → World BuiltIn → Type 0) (log : V → Option (List Entry))
+    (world : V) (memory : RunMemory) (actor : ℕ) (frame : Option ℕ) (r : Run) : Type 0 where
   pub facts : RunFacts functions stands world memory.composition actor frame r
   pub named : Holds memory.names r.notes.names
+  pub logged : IsLogged functions r r.log (log world)
 
 -- A part that neither begins nor ends a frame.
 abbrev pub IsPlain : Part → Type 0
@@ -74,16 +116,16 @@ KeepsNames _ = Unit {0}
 
 -- The lines of the parts after the state `r` were written, and the state after them is represented. `frame` is the open
 -- frame before the parts, and `frame'` the one after them.
-pub record RunsAt {V T : Type 0} (t : Titles) (functions : List Func) (stands : V → World BuiltIn → Type 0) (actor : ℕ)
-    (parts : List ActorPart) (world' : V) (memory' : RunMemory) (frame' : Option ℕ)
+pub record RunsAt {V T : Type 0} (t : Titles) (functions : List Func) (stands : V → World BuiltIn → Type 0)
+    (log : V → Option (List Entry)) (actor : ℕ) (parts : List ActorPart) (world' : V) (memory' : RunMemory) (frame' : Option ℕ)
     (written written' : Option (List ℕ)) (r : Run) (result : Result T Stop) : Type 0 where
   pub says : WritesBytes written written' (flat (parts_lines t functions r parts)) result
-  pub left : OnOk result (IsRun functions stands world' memory' actor frame' (parts_after functions r parts))
+  pub left : OnOk result (IsRun functions stands log world' memory' actor frame' (parts_after functions r parts))
 
 -- The same for every state that is represented before.
-abbrev pub RunsParts : {V T : Type 0} (t : Titles) (functions : List Func) (stands : V → World BuiltIn → Type 0) (actor : ℕ)
-    (parts : List ActorPart) (world world' : V) (memory memory' : RunMemory) (frame frame' : Option ℕ)
+abbrev pub RunsParts : {V T : Type 0} (t : Titles) (functions : List Func) (stands : V → World BuiltIn → Type 0)
+    (log : V → Option (List Entry)) (actor : ℕ) (parts : List ActorPart) (world world' : V) (memory memory' : RunMemory) (frame frame' : Option ℕ)
     (written written' : Option (List ℕ)) (result : Result T Stop) → Type 0
-RunsParts t functions stands actor parts world world' memory memory' frame frame' written written' result =
-    (r : Run) → IsRun functions stands world memory actor frame r →
-    RunsAt t functions stands actor parts world' memory' frame' written written' r result
+RunsParts t functions stands log actor parts world world' memory memory' frame frame' written written' result =
+    (r : Run) → IsRun functions stands log world memory actor frame r →
+    RunsAt t functions stands log actor parts world' memory' frame' written written' r result

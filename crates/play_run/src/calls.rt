@@ -11,7 +11,7 @@ ghost use Rattle.script_lang.specs.StepCalls.{Part, Take, Read, WriteSum, reques
 ghost use Rattle.script_lang.specs.Lines.{entry_line};
 ghost use Rattle.play_run.specs.RunOutput.{Run, parts_of};
 ghost use Rattle.play_run.specs.RunPromise.{job_titles, job_functions};
-ghost use Rattle.play_run.specs.RunState.{KeepsNames, IsRun, RunsAt, RunsParts};
+ghost use Rattle.play_run.specs.RunState.{KeepsNames, AddsEntry, IsRun, RunsAt, RunsParts};
 ghost use Rattle.play_run.specs.RunPromise.{WritesBytes, FaultsAfter};
 
 use crate::job::Job;
@@ -49,6 +49,8 @@ pub fn make_call<V: Versions<P = BuiltIn>, K: Sink>(
         IfOk result (λ r. r ≡ (call table w actor.entry.number request).1) }
     ensures left { (w : World built_in) → V.stands world.old w →
         OnOk result (V.stands world.new (call table w actor.entry.number request).0) }
+    ensures log { (w : World built_in) → V.stands world.old w →
+        OnOk result (AddsEntry (V.log world.old) (V.log world.new) (entry w actor.entry.number request)) }
     ensures faults { FaultsAfter (K.faults sink.old) (K.faults sink.new) result }
 {
     text.clear();
@@ -79,9 +81,9 @@ fn run_part<V: Versions<P = BuiltIn>, K: Sink>(
     sink: &mut K,
 ) -> Result<Reply, Stop>
     ensures runs { (frame : Option ℕ) (r : Run) (p : Part) → KeepsNames p →
-        IsRun (job_functions actor.entry.job.now) V.stands world.old memory.old actor.entry.number frame r →
+        IsRun (job_functions actor.entry.job.now) V.stands V.log world.old memory.old actor.entry.number frame r →
         request_of r.notes p ≡ Some request →
-        RunsAt (job_titles actor.entry.job.now) (job_functions actor.entry.job.now) V.stands actor.entry.number
+        RunsAt (job_titles actor.entry.job.now) (job_functions actor.entry.job.now) V.stands V.log actor.entry.number
         (parts_of actor.entry.number (p ∷ []))
         world.new memory.new frame (K.written sink.old) (K.written sink.new) r result }
     ensures reply { (w : World built_in) → V.stands world.old w →
@@ -112,9 +114,9 @@ fn run_take<V: Versions<P = BuiltIn>, K: Sink>(
     sink: &mut K,
 ) -> Result<(), Stop>
     ensures runs { (frame : Option ℕ) (r : Run) (kind : kind_data) (parent : snapshot_ref) →
-        IsRun (job_functions actor.entry.job.now) V.stands world.old memory.old actor.entry.number frame r →
+        IsRun (job_functions actor.entry.job.now) V.stands V.log world.old memory.old actor.entry.number frame r →
         request_of r.notes (Take name.now kind parent) ≡ Some request →
-        RunsAt (job_titles actor.entry.job.now) (job_functions actor.entry.job.now) V.stands actor.entry.number
+        RunsAt (job_titles actor.entry.job.now) (job_functions actor.entry.job.now) V.stands V.log actor.entry.number
         (parts_of actor.entry.number (Take name.now kind parent ∷ []))
         world.new memory.new frame (K.written sink.old) (K.written sink.new) r result }
     ensures faults { FaultsAfter (K.faults sink.old) (K.faults sink.new) result }
@@ -154,9 +156,9 @@ fn run_add<V: Versions<P = BuiltIn>, K: Sink>(
     sink: &mut K,
 ) -> Result<(), Stop>
     ensures runs { (frame : Option ℕ) (r : Run) (snapshot : snapshot_ref) →
-        IsRun (job_functions actor.entry.job.now) V.stands world.old memory.old actor.entry.number frame r →
+        IsRun (job_functions actor.entry.job.now) V.stands V.log world.old memory.old actor.entry.number frame r →
         snapshot_number r.notes.names snapshot ≡ name →
-        RunsAt (job_titles actor.entry.job.now) (job_functions actor.entry.job.now) V.stands actor.entry.number
+        RunsAt (job_titles actor.entry.job.now) (job_functions actor.entry.job.now) V.stands V.log actor.entry.number
         (parts_of actor.entry.number (Read snapshot object ∷ WriteSum snapshot object amount ∷ []))
         world.new memory.new frame (K.written sink.old) (K.written sink.new) r result }
     ensures faults { FaultsAfter (K.faults sink.old) (K.faults sink.new) result }
@@ -191,9 +193,9 @@ fn run_single<V: Versions<P = BuiltIn>, K: Sink>(
     sink: &mut K,
 ) -> Result<(), Stop>
     ensures runs { (frame : Option ℕ) (r : Run) (p : Part) → KeepsNames p →
-        IsRun (job_functions actor.entry.job.now) V.stands world.old memory.old actor.entry.number frame r →
+        IsRun (job_functions actor.entry.job.now) V.stands V.log world.old memory.old actor.entry.number frame r →
         request_of r.notes p ≡ Some request →
-        RunsAt (job_titles actor.entry.job.now) (job_functions actor.entry.job.now) V.stands actor.entry.number
+        RunsAt (job_titles actor.entry.job.now) (job_functions actor.entry.job.now) V.stands V.log actor.entry.number
         (parts_of actor.entry.number (p ∷ []))
         world.new memory.new frame (K.written sink.old) (K.written sink.new) r result }
     ensures faults { FaultsAfter (K.faults sink.old) (K.faults sink.new) result }
@@ -216,9 +218,9 @@ fn run_write<V: Versions<P = BuiltIn>, K: Sink>(
     sink: &mut K,
 ) -> Result<(), Stop>
     ensures runs { (frame : Option ℕ) (r : Run) (p : Part) → KeepsNames p →
-        IsRun (job_functions actor.entry.job.now) V.stands world.old memory.old actor.entry.number frame r →
+        IsRun (job_functions actor.entry.job.now) V.stands V.log world.old memory.old actor.entry.number frame r →
         request_of r.notes p ≡ Some (request_data.Write name object value.now) →
-        RunsAt (job_titles actor.entry.job.now) (job_functions actor.entry.job.now) V.stands actor.entry.number
+        RunsAt (job_titles actor.entry.job.now) (job_functions actor.entry.job.now) V.stands V.log actor.entry.number
         (parts_of actor.entry.number (p ∷ []))
         world.new memory.new frame (K.written sink.old) (K.written sink.new) r result }
     ensures faults { FaultsAfter (K.faults sink.old) (K.faults sink.new) result }
@@ -244,7 +246,7 @@ pub fn run_call<V: Versions<P = BuiltIn>, K: Sink>(
     sink: &mut K,
 ) -> Result<(), Stop>
     ensures runs { (frame : Option ℕ) → RunsParts (job_titles actor.entry.job.now)
-        (job_functions actor.entry.job.now) V.stands actor.entry.number
+        (job_functions actor.entry.job.now) V.stands V.log actor.entry.number
         (parts_of actor.entry.number (call_parts form.now)) world.old world.new memory.old memory.new frame frame
         (K.written sink.old) (K.written sink.new) result }
     ensures faults { FaultsAfter (K.faults sink.old) (K.faults sink.new) result }
@@ -314,7 +316,7 @@ pub fn run_calls<V: Versions<P = BuiltIn>, K: Sink>(
     sink: &mut K,
 ) -> Result<(), Stop>
     ensures runs { (frame : Option ℕ) → RunsParts (job_titles actor.entry.job.now)
-        (job_functions actor.entry.job.now) V.stands actor.entry.number
+        (job_functions actor.entry.job.now) V.stands V.log actor.entry.number
         (parts_of actor.entry.number (calls_parts forms.now)) world.old world.new memory.old memory.new frame frame
         (K.written sink.old) (K.written sink.new) result }
     ensures faults { FaultsAfter (K.faults sink.old) (K.faults sink.new) result }

@@ -18,7 +18,7 @@ ghost use Rattle.script_lang.specs.Lines.{line, report_line, frame_lines, kept_a
 ghost use Rattle.script_lang.specs.GroupLines.{group_lines, open_after, group_line};
 ghost use Rattle.play_run.specs.RunOutput.{Run, parts_of, parts_lines, parts_after};
 ghost use Rattle.play_run.specs.RunPromise.{job_titles, job_functions};
-ghost use Rattle.play_run.specs.RunState.{IsRun, RunsParts, flat};
+ghost use Rattle.play_run.specs.RunState.{IsRun, LogsFrameReads, RunsParts, flat};
 ghost use Rattle.play_run.specs.RunPromise.{WritesBytes, FaultsAfter};
 
 use crate::calls::{JobActor, make_call, run_calls};
@@ -60,6 +60,10 @@ fn compose<V: Versions<P = BuiltIn>, L: Ledger>(
         IsAt memory.old.composition k (Some m) →
         let good = frame_of (functions_of memory.old.composition.program.now) k m in
         OnOk result (IsAt memory.new.composition (kept_after k good) (Some m)) }
+    ensures log { (k : LastFrame) (m : Map) → ShownMap table (V.stands world.old) caller (Some name) m →
+        IsAt memory.old.composition k (Some m) →
+        let functions = functions_of memory.old.composition.program.now in
+        OnOk result (LogsFrameReads functions (V.stands world.old) caller name k m (V.log world.old) (V.log world.new)) }
     ensures program { memory.new.composition.program ≡ memory.old.composition.program }
     ensures names { memory.new.names ≡ memory.old.names }
     ensures fault { result ≢ Err Stop.WriteFault }
@@ -207,14 +211,14 @@ fn begin_frame<V: Versions<P = BuiltIn>, K: Sink>(
     world: &mut V,
     sink: &mut K,
 ) -> Result<Option<Name>, Stop>
-    ensures says { (r : Run) → IsRun (job_functions actor.entry.job.now) V.stands world.old memory.old
+    ensures says { (r : Run) → IsRun (job_functions actor.entry.job.now) V.stands V.log world.old memory.old
         actor.entry.number None r →
         WritesBytes (K.written sink.old) (K.written sink.new)
         (flat (parts_lines (job_titles actor.entry.job.now) (job_functions actor.entry.job.now) r
         (parts_of actor.entry.number (BeginFrame ∷ [])))) result }
-    ensures left { (r : Run) → IsRun (job_functions actor.entry.job.now) V.stands world.old memory.old
+    ensures left { (r : Run) → IsRun (job_functions actor.entry.job.now) V.stands V.log world.old memory.old
         actor.entry.number None r →
-        IfOk result (λ o. IsRun (job_functions actor.entry.job.now) V.stands world.new memory.new actor.entry.number o
+        IfOk result (λ o. IsRun (job_functions actor.entry.job.now) V.stands V.log world.new memory.new actor.entry.number o
         (parts_after (job_functions actor.entry.job.now) r (parts_of actor.entry.number (BeginFrame ∷ [])))) }
     ensures faults { FaultsAfter (K.faults sink.old) (K.faults sink.new) result }
 {
@@ -235,7 +239,7 @@ fn finish_frame<V: Versions<P = BuiltIn>, K: Sink>(
     world: &mut V,
     sink: &mut K,
 ) -> Result<(), Stop>
-    ensures runs { RunsParts (job_titles actor.entry.job.now) (job_functions actor.entry.job.now) V.stands
+    ensures runs { RunsParts (job_titles actor.entry.job.now) (job_functions actor.entry.job.now) V.stands V.log
         actor.entry.number
         (parts_of actor.entry.number (EndFrame ∷ [])) world.old world.new memory.old memory.new (Some name) None
         (K.written sink.old) (K.written sink.new) result }
@@ -267,7 +271,7 @@ fn end_frame<V: Versions<P = BuiltIn>, K: Sink>(
     world: &mut V,
     sink: &mut K,
 ) -> Result<(), Stop>
-    ensures runs { RunsParts (job_titles actor.entry.job.now) (job_functions actor.entry.job.now) V.stands
+    ensures runs { RunsParts (job_titles actor.entry.job.now) (job_functions actor.entry.job.now) V.stands V.log
         actor.entry.number
         (parts_of actor.entry.number (EndFrame ∷ [])) world.old world.new memory.old memory.new frame None
         (K.written sink.old) (K.written sink.new) result }
@@ -290,7 +294,7 @@ pub fn run_frame<V: Versions<P = BuiltIn>, K: Sink>(
     world: &mut V,
     sink: &mut K,
 ) -> Result<(), Stop>
-    ensures runs { RunsParts (job_titles actor.entry.job.now) (job_functions actor.entry.job.now) V.stands
+    ensures runs { RunsParts (job_titles actor.entry.job.now) (job_functions actor.entry.job.now) V.stands V.log
         actor.entry.number
         (parts_of actor.entry.number (BeginFrame ∷ (calls_parts during.now ++ EndFrame ∷ [])))
         world.old world.new memory.old memory.new None None (K.written sink.old) (K.written sink.new) result }

@@ -22,9 +22,10 @@ fn make_state<V: Versions<P = BuiltIn>>(
 ) -> Result<(), NoMemory>
     requires few { V.object_count world.old < 65536 }
     requires fits { table_fits state.now.policy (type_of state.now.initial) ≡ true }
-    ensures { (w : World built_in) → V.stands world.old w →
+    ensures made { (w : World built_in) → V.stands world.old w →
         OnOk result (V.stands world.new (world_after_make w (type_of state.now.initial) state.now.policy
         state.now.initial)) }
+    ensures log { V.log world.new ≡ V.log world.old }
 {
     let initial = state.initial.copy(alloc)?;
     match world.make(alloc, state.initial.ty(), state.policy, initial) {
@@ -47,7 +48,8 @@ fn make_states<V: Versions<P = BuiltIn>>(
     requires start { V.stands world.old (start 0) }
     requires few { length states.now ≤ 256 }
     requires fit { StatesFit states.now }
-    ensures { OnOk result (V.stands world.new (with_states (start 0) states.now)) }
+    ensures made { OnOk result (V.stands world.new (with_states (start 0) states.now)) }
+    ensures log { V.log world.new ≡ V.log world.old }
 {
     let mut rest = states;
     while let Some((state, more)) = rest.split_first() {
@@ -66,7 +68,8 @@ fn open_world<V: Versions<P = BuiltIn>>(
     requires start { V.stands world.old (start 0) }
     requires few { length states.now ≤ 256 }
     requires fit { StatesFit states.now }
-    ensures { OnOk result (V.stands world.new (opening_world states.now)) }
+    ensures opened { OnOk result (V.stands world.new (opening_world states.now)) }
+    ensures log { V.log world.new ≡ V.log world.old }
 {
     make_states(alloc, states, world)?;
     match world.watch(alloc) {
@@ -83,7 +86,8 @@ pub fn set_up_world<V: Versions<P = BuiltIn>>(
 ) -> Result<(), NoMemory>
     requires start { V.stands world.old (start 0) }
     requires few { length program.now.states.items ≤ 256 }
-    ensures { OnOk result (V.stands world.new (opening_world program.now.states.items)) }
+    ensures opened { OnOk result (V.stands world.new (opening_world program.now.states.items)) }
+    ensures log { V.log world.new ≡ V.log world.old }
 {
     open_world(alloc, program.states(), world)
 }

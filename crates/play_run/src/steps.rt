@@ -7,6 +7,7 @@ ghost use Rattle.script_lang.specs.StepCalls.{step_parts, steps_parts, script_pa
 ghost use Rattle.script_lang.specs.Lines.{run_text};
 ghost use Rattle.play_run.specs.RunOutput.{Run, parts_of};
 ghost use Rattle.play_run.specs.RunPromise.{job_titles, job_functions};
+ghost use Rattle.play_run.specs.RunLog.{LogsRun};
 ghost use Rattle.play_run.specs.RunState.{RunsParts, flat};
 ghost use Rattle.play_run.specs.RunPromise.{WritesBytes, FaultsAfter};
 
@@ -32,7 +33,7 @@ fn run_step<V: Versions<P = BuiltIn>, K: Sink>(
     world: &mut V,
     sink: &mut K,
 ) -> Result<(), Stop>
-    ensures runs { RunsParts (job_titles actor.entry.job.now) (job_functions actor.entry.job.now) V.stands
+    ensures runs { RunsParts (job_titles actor.entry.job.now) (job_functions actor.entry.job.now) V.stands V.log
         actor.entry.number
         (parts_of actor.entry.number (step_parts step.now)) world.old world.new memory.old memory.new None None
         (K.written sink.old) (K.written sink.new) result }
@@ -56,7 +57,7 @@ fn run_steps<V: Versions<P = BuiltIn>, K: Sink>(
     world: &mut V,
     sink: &mut K,
 ) -> Result<(), Stop>
-    ensures runs { RunsParts (job_titles actor.entry.job.now) (job_functions actor.entry.job.now) V.stands
+    ensures runs { RunsParts (job_titles actor.entry.job.now) (job_functions actor.entry.job.now) V.stands V.log
         actor.entry.number
         (parts_of actor.entry.number (steps_parts steps.now)) world.old world.new memory.old memory.new None None
         (K.written sink.old) (K.written sink.new) result }
@@ -89,7 +90,7 @@ fn run_repeat<V: Versions<P = BuiltIn>, K: Sink>(
     world: &mut V,
     sink: &mut K,
 ) -> Result<(), Stop>
-    ensures runs { RunsParts (job_titles actor.entry.job.now) (job_functions actor.entry.job.now) V.stands
+    ensures runs { RunsParts (job_titles actor.entry.job.now) (job_functions actor.entry.job.now) V.stands V.log
         actor.entry.number
         (parts_of actor.entry.number (steps_parts (repeated times steps.now))) world.old world.new memory.old
         memory.new None None
@@ -115,7 +116,7 @@ fn run_form<V: Versions<P = BuiltIn>, K: Sink>(
     world: &mut V,
     sink: &mut K,
 ) -> Result<(), Stop>
-    ensures runs { RunsParts (job_titles actor.entry.job.now) (job_functions actor.entry.job.now) V.stands
+    ensures runs { RunsParts (job_titles actor.entry.job.now) (job_functions actor.entry.job.now) V.stands V.log
         actor.entry.number
         (parts_of actor.entry.number (steps_parts (written_out (form.now ∷ [])))) world.old world.new memory.old
         memory.new None None
@@ -145,7 +146,7 @@ fn run_forms<V: Versions<P = BuiltIn>, K: Sink>(
     world: &mut V,
     sink: &mut K,
 ) -> Result<(), Stop>
-    ensures runs { RunsParts (job_titles actor.entry.job.now) (job_functions actor.entry.job.now) V.stands
+    ensures runs { RunsParts (job_titles actor.entry.job.now) (job_functions actor.entry.job.now) V.stands V.log
         actor.entry.number
         (parts_of actor.entry.number (steps_parts (written_out forms.now))) world.old world.new memory.old memory.new
         None None
@@ -171,7 +172,7 @@ fn run_do_forms<V: Versions<P = BuiltIn>, K: Sink>(
     sink: &mut K,
 ) -> Result<(), Stop>
     // The number of an actor matters only while a frame is open.
-    ensures runs { RunsParts (job_titles job.now) (job_functions job.now) V.stands 0
+    ensures runs { RunsParts (job_titles job.now) (job_functions job.now) V.stands V.log 0
         (script_parts job.now.script.actors.items job.now.script.forms.items) world.old world.new memory.old
         memory.new None None
         (K.written sink.old) (K.written sink.new) result }
@@ -203,6 +204,8 @@ pub fn run_script<V: Versions<P = BuiltIn>, K: Sink>(
     ensures says { let parts = script_parts job.now.script.actors.items job.now.script.forms.items in
         WritesBytes (K.written sink.old) (K.written sink.new)
         (run_text (job_titles job.now) (job_functions job.now) parts) result }
+    ensures log { let parts = script_parts job.now.script.actors.items job.now.script.forms.items in
+        OnOk result (LogsRun (job_titles job.now) (job_functions job.now) parts (V.log world.old) (V.log world.new)) }
     ensures faults { FaultsAfter (K.faults sink.old) (K.faults sink.new) result }
 {
     let Ok(mut memory) = RunMemory::new(alloc, &job.program) else {

@@ -7,7 +7,7 @@ pub returns-in-Ok-clause-left : goal.returns-in-Ok-clause-left
 returns-in-Ok-clause-left g c r h =
     begun_run _ c.args.actor.number r c.in-Ok.reply c.note_frame.result (c.in-Ok.ensures.reply r.standing.world h.facts.world_stands) c.note_frame.ensures.frame
     (record { taken = c.note_frame.ensures.noted; refused = c.note_frame.ensures.refused; program = c.note_frame.ensures.program }) h
-    (c.in-Ok.ensures.left r.standing.world h.facts.world_stands) refl
+    (c.in-Ok.ensures.left r.standing.world h.facts.world_stands) (c.in-Ok.ensures.log r.standing.world h.facts.world_stands) refl
 
 pub returns-in-Err-clause-says : goal.returns-in-Err-clause-says
 returns-in-Err-clause-says g c r h =

@@ -7,8 +7,9 @@ use Rattle.script_lang.specs.NamesInMemory.{Holds}
 use Rattle.script_lang.specs.Lines.{kept_after}
 use Rattle.script_lang.specs.StepCalls.{EndFrame, of_actor}
 use Rattle.play_run.specs.RunOutput.{part_after}
+use Rattle.play_run.specs.RunState.{LogsFrameReads}
 use Rattle.play_run.specs.RunPromise.{job_titles, job_functions}
-use Rattle.play_run.proofs.FrameParts.{frame_map, outcome, frame_shows, frame_at, frame_is, end_facts, end_names, end_bytes}
+use Rattle.play_run.proofs.FrameParts.{frame_map, outcome, frame_shows, frame_at, frame_is, end_facts, end_logged, end_names, end_bytes}
 use Rattle.play_run.proofs.Written.{says_behind, says_same, anyway}
 use Rattle.play_run.proofs.frame.finish_frame.Goals as goal
 
@@ -32,6 +33,9 @@ returns-in-Ok-composed-clause-runs g c r h =
         facts = end_facts a c.args.name r h.facts (c.in-Ok.ensures.left r.standing.world stood) left c.compose-composed.ensures.program;
         named = subst (λ n. Holds n (part_after fs r (of_actor a EndFrame)).notes.names) (sym c.compose-composed.ensures.names)
             (subst (Holds c.args.memory.now.names) (sym (end_names a c.args.name r h.facts)) h.named);
+        logged = end_logged a c.args.name r h.facts (g.V.Versions.log c.args.world.now) (g.V.Versions.log c.compose-composed.new.world) (g.V.Versions.log c.make_call.new.world) h.logged
+            (subst (λ f. LogsFrameReads f (g.V.Versions.stands c.args.world.now) a c.args.name k m (g.V.Versions.log c.args.world.now) (g.V.Versions.log c.compose-composed.new.world)) h.facts.same_program (c.in-Ok-composed.ensures.log k m shows at))
+            (c.in-Ok.ensures.log r.standing.world stood);
       });
     }
 

@@ -1,0 +1,81 @@
+-- Trusted: what a run adds to the log of a world: which calls are printed, and which objects each frame reads.
+use Rattle.std.specs.Prelude.{◌≡◌, ℕ, ◌==◌, not, List, [], ◌∷◌, ◌++◌, All, Bool, false, Option, Some, None, if◌then◌else◌}
+use Rattle.std.specs.List.{filter}
+use Rattle.rt_values.specs.Maps.{Map, differ, contains}
+use Rattle.rt_groups.specs.Frames.{LastFrame, reads}
+use Rattle.lang_ast.specs.Terms.{Func}
+use Rattle.lang_ast.specs.Programs.{root_number}
+use Rattle.compose_model.specs.Composing.{forest}
+use Rattle.compose_model.specs.Frame.{FrameResult, frame}
+use Rattle.snap_policy.specs.Table.{table}
+use Rattle.snap_api.specs.declared.data.Entry.{Entry}
+use Rattle.snap_api.specs.declared.data.Request.{Request}
+use Rattle.snap_api.specs.declared.data.Request.TheVariants as request
+use Rattle.snap_api.specs.World.{History, IsLegal, snapshot_of}
+use Rattle.script_lang.specs.StepCalls.{ActorPart, no_notes, opening_world, sequential}
+use Rattle.script_lang.specs.Lines.{Titles, Standing, initial_standing, next, ends_frame, frame_taken, name_in}
+
+-- Whether a call reads the snapshot of an open frame.
+abbrev pub reads_frame : List ℕ → Request → Bool
+reads_frame frames (request.Read name x) = contains name frames
+reads_frame frames _ = false
+
+-- The object of a read.
+abbrev pub object_read : Request → ℕ
+object_read (request.Read name x) = x
+object_read _ = 0
+
+-- The snapshots of the frames that are open after a call.
+abbrev pub frames_after : List ℕ → Entry → List ℕ
+frames_after frames e =
+    if ends_frame frames e.request then filter (λ n. not (n == name_in e.request)) frames
+    else frames ++ frame_taken e.request e.reply
+
+-- The calls of a history that are printed: all except the reads of the snapshots of open frames.
+abbrev pub printed : List ℕ → History → History
+printed frames [] = []
+printed frames (e ∷ es) =
+    if reads_frame frames e.request then printed frames es else e ∷ printed (frames_after frames e) es
+
+-- A frame that a history ends: what was kept before it, the map of its snapshot, and the objects that it read, in order.
+pub record FrameReads : Type 0 where
+  pub kept : LastFrame
+  pub map : Map
+  pub reads : List ℕ
+
+-- The frames that a history ends, from a state of the walk on. The open frame has read the objects `xs` so far.
+abbrev pub frames_in : List Func → Standing → List ℕ → History → List FrameReads
+frames_in functions s xs [] = []
+frames_in functions s xs (e ∷ es) =
+    if reads_frame s.frames e.request then frames_in functions s (xs ++ object_read e.request ∷ []) es
+    else if ends_frame s.frames e.request
+    then record { kept = s.kept; map = (snapshot_of s.world (name_in e.request)).view; reads = xs } ∷ frames_in functions (next functions s e) [] es
+    else frames_in functions (next functions s e) xs es
+
+-- The reads of the calls that a frame in the map `m` runs, if the limit on groups is left out.
+abbrev pub owed_reads : List Func → LastFrame → Map → List ℕ
+owed_reads functions k m = reads (differ k.seen m) k.trail (forest functions (root_number functions) m)
+
+-- A good frame made all these reads, and a refused frame a first part.
+abbrev pub ReadsForResult : Option FrameResult → List ℕ → List ℕ → Type 0
+ReadsForResult None all xs = (rest : List ℕ) × (xs ++ rest ≡ all)
+ReadsForResult (Some good) all xs = xs ≡ all
+
+-- A frame read exactly what it owes, or a first part of that if it was refused because it has too many groups.
+abbrev pub ReadsOwed : List Func → FrameReads → Type 0
+ReadsOwed functions f = ReadsForResult (frame functions f.kept f.map) (owed_reads functions f.kept f.map) f.reads
+
+-- A log grew by the calls of these parts. Each reply is the plain world's. The printed calls are those that the steps make
+-- one after the other, and each frame read what it owes.
+pub record RunLogged (t : Titles) (functions : List Func) (parts : List ActorPart) (old : List Entry)
+    (new : Option (List Entry)) : Type 0 where
+  pub more : History
+  pub log_is : new ≡ Some (old ++ more)
+  pub legal : IsLegal table (opening_world t.states) more
+  pub printed_is : printed [] more ≡ sequential (opening_world t.states) no_notes parts
+  pub frames_read : All (ReadsOwed functions) (frames_in functions (initial_standing t.states) [] more)
+
+-- The log grew so, if there is one.
+abbrev pub LogsRun : Titles → List Func → List ActorPart → Option (List Entry) → Option (List Entry) → Type 0
+LogsRun t functions parts None new = new ≡ None
+LogsRun t functions parts (Some old) new = RunLogged t functions parts old new
