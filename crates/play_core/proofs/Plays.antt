@@ -1,7 +1,7 @@
 -- What a command writes is what the definitions say.
 use Rattle.std.proofs.Common.{Ok, Err, ◌≡◌, ℕ, List, sym, ap, ◌∙◌, subst, refl, Option, Some, None, ◌⊎◌, inl, inr, ◌<◌, ◌≤◌, ◌≢◌, ◌+◌, length, arith}
 use Rattle.std.specs.declared.result.Result.{Result}
-use Rattle.std.specs.Prelude.{IfSome}
+use Rattle.std.specs.Prelude.{IfSome, OnOk}
 use Rattle.std.specs.Io.KnownBytes.{Appends, Keeps, Consumes, IsAtEnd}
 use Rattle.std.proofs.KnownBytes.{Consumes-whole}
 use Rattle.rt_streams.specs.Streams.{AppendsPart, Rose, rise}
@@ -21,10 +21,12 @@ use Rattle.play_core.specs.Texts.{IsText, IsRead, IsNoText, IsOutput, run_output
 use Rattle.play_core.specs.Faults.{IsFault, WritesPart, fault_line}
 use Rattle.play_core.specs.declared.fault.Fault.{Fault}
 use Rattle.play_core.specs.CommandOutput.{SaysOutput, run_status}
+use Rattle.snap_api.specs.declared.data.Entry.{Entry}
+use Rattle.play_run.specs.RunLog.{LogsRun}
 use Rattle.play_run.specs.RunPromise.{FaultsAfter}
 use Rattle.play_run.specs.declared.write_lines.Stop.{Stop}
 use Rattle.play_run.specs.declared.write_lines.Stop.TheVariants as stop
-use Rattle.play_core.specs.Promise.{Streams, HasFailed, WritesOutput, WritesFault, CommandMeets, LeavesWorld}
+use Rattle.play_core.specs.Promise.{Streams, HasFailed, WritesOutput, WritesFault, CommandMeets, LeavesWorld, LogsText}
 use Rattle.play_core.proofs.Uniques.{text_one}
 use Rattle.play_core.proofs.OneFault.{one_fault, faulty_is_no_text}
 
@@ -38,6 +40,22 @@ run-is {bytes = bytes} {functions = functions} {actors = actors} {forms = forms}
     ∙ ap (λ l. run_text (record { states = h.source.program.states; actors = actors_of h.source.script }) l (script_parts (actors_of h.source.script) forms)) h.functions_are
     ∙ ap (λ l. run_text (record { states = h.source.program.states; actors = actors_of h.source.script }) h.source.program.functions (script_parts (actors_of h.source.script) l)) h.forms_are
     ∙ ap run_output (text_one bytes h.source p h.text t)
+
+-- The log of the parsed program and script is that of the source text.
+pub logs-is : {bytes : List ℕ} {states : List State} {functions : List Func} {actors : List (List ℕ)} {forms : List DoForm} {T : Type 0} (h : IsRead bytes states functions actors forms) (p : Source) → IsText bytes p → (r : Result T Stop) (old new : Option (List Entry)) →
+    OnOk r (LogsRun (record { states = states; actors = actors }) functions (script_parts actors forms) old new) → OnOk r (LogsText p old new)
+logs-is {bytes = bytes} {functions = functions} {actors = actors} {forms = forms} h p t r old new x =
+    subst (λ (q : Source). OnOk r (LogsText q old new)) (text_one bytes h.source p h.text t)
+    (subst (λ l. OnOk r (LogsRun (record { states = h.source.program.states; actors = actors_of h.source.script }) h.source.program.functions (script_parts (actors_of h.source.script) l) old new)) h.forms_are
+    (subst (λ l. OnOk r (LogsRun (record { states = h.source.program.states; actors = actors_of h.source.script }) l (script_parts (actors_of h.source.script) forms) old new)) h.functions_are
+    (subst (λ l. OnOk r (LogsRun (record { states = h.source.program.states; actors = l }) functions (script_parts l forms) old new)) h.actors_are
+    (subst (λ ss. OnOk r (LogsRun (record { states = ss; actors = actors }) functions (script_parts actors forms) old new)) h.states_are x))))
+
+-- What is true after a command that is done.
+pub done-after : {T P : Type 0} (r : Result T Stop) → run_status r ≡ status.Done → OnOk r P → P
+done-after (Ok x) e h = h
+done-after (Err stop.WriteFault) e h = absurd cc
+done-after (Err stop.NoMemory) e h = absurd cc
 
 -- A part of the output of a source text, which has no fault.
 pub text-part : (command : Command) (bytes : List ℕ) (a z : Option (List ℕ)) → ((fault : Fault) → IsFault bytes fault → ⊥) → ((p : Source) → IsText bytes p → (out : List ℕ) × IsOutput command (Some p) out × AppendsPart a z out) → WritesPart command bytes a z

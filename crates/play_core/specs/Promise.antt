@@ -5,8 +5,12 @@ use Rattle.rt_streams.specs.Streams.{Rose, AppendsPart, rise}
 use Rattle.lang_forms.specs.Sources.{Source}
 use Rattle.play_args.specs.CommandWords.{command_of_args}
 use Rattle.play_args.specs.declared.command.Command.{Command}
-use Rattle.play_args.specs.declared.command.Command.TheVariants.{Check}
-use Rattle.play_core.specs.Texts.{IsText, IsNoText, IsOutput, usage_line, long_line, input_limit}
+use Rattle.play_args.specs.declared.command.Command.TheVariants.{Run, Check}
+use Rattle.script_lang.specs.Scripts.{actors_of}
+use Rattle.script_lang.specs.StepCalls.{script_parts}
+use Rattle.snap_api.specs.declared.data.Entry.{Entry}
+use Rattle.play_run.specs.RunLog.{LogsRun}
+use Rattle.play_core.specs.Texts.{IsText, IsNoText, IsOutput, titles, usage_line, long_line, input_limit}
 use Rattle.play_core.specs.Faults.{IsFault, WritesPart, fault_line}
 use Rattle.play_core.specs.declared.fault.Fault.{Fault}
 use Rattle.play_core.specs.declared.top.Status.{Status}
@@ -112,6 +116,15 @@ pub record PlayMeets (words : List (List ℕ)) (before after : Streams) (result 
   pub reads : result ≢ status.ReadFault → after.read_faults ≡ before.read_faults
   -- No write failed, unless the result is WriteFault.
   pub writes : result ≢ status.WriteFault → after.write_faults ≡ before.write_faults
+
+-- A log grew by the calls of a run of this source text, if there is one.
+abbrev pub LogsText : Source → Option (List Entry) → Option (List Entry) → Type 0
+LogsText t old new = LogsRun (titles t) t.program.functions (script_parts (actors_of t.script) t.script) old new
+
+-- If `run` is done, the log of the world grew by the calls of the run.
+abbrev pub LogsCommand : Option Command → Status → Option (List ℕ) → Option (List Entry) → Option (List Entry) → Type 0
+LogsCommand o result left old new =
+    o ≡ Some Run → result ≡ status.Done → IfSome left (λ bytes. (t : Source) → IsText bytes t → LogsText t old new)
 
 -- The cases in which the world is unchanged: no command, `check`, and every rejected input.
 abbrev pub LeavesWorld : Option Command → Status → Type 0

@@ -7,7 +7,7 @@ ghost use Rattle.snap_api.specs.World.{start};
 ghost use Rattle.play_args.specs.CommandWords.{command_of_args, texts};
 ghost use Rattle.play_core.specs.Texts.{IsText, IsInput, IsNoText, IsOutput, usage_line, long_line, input_limit};
 ghost use Rattle.play_core.specs.Faults.{IsFault, WritesPart, fault_line};
-ghost use Rattle.play_core.specs.Promise.{streams, CommandMeets, PlayMeets, LeavesWorld};
+ghost use Rattle.play_core.specs.Promise.{streams, CommandMeets, PlayMeets, LeavesWorld, LogsText, LogsCommand};
 ghost use Rattle.play_core.specs.declared.fault.Fault.{Fault as fault_data};
 ghost use Rattle.play_core.specs.CommandOutput.{SaysOutput, run_status};
 ghost use Rattle.play_run.specs.RunPromise.{FaultsAfter};
@@ -91,6 +91,8 @@ fn do_command<V: Versions<P = BuiltIn>, K: Sink>(
         SaysOutput (K.written sink.old) (K.written sink.new) command t result }
     ensures faults { FaultsAfter (K.faults sink.old) (K.faults sink.new) result }
     ensures world { command ≡ Command.Check → world.new ≡ world.old }
+    ensures log { (bytes : List ℕ) (t : source_data) → command ≡ Command.Run → IsInput bytes input → IsText bytes t →
+        OnOk result (LogsText t (V.log world.old) (V.log world.new)) }
 {
     match command {
         Command::Run => {
@@ -132,6 +134,8 @@ fn play_bytes<V: Versions<P = BuiltIn>, K: Sink>(
     ensures others { (result ≢ Status.Usage) × (result ≢ Status.ReadFault) × (result ≢ Status.TooLong) }
     ensures check { command ≡ Command.Check → world.new ≡ world.old }
     ensures refused { result ≡ Status.BadInput → world.new ≡ world.old }
+    ensures log { command ≡ Command.Run → result ≡ Status.Done →
+        (t : source_data) → IsText bytes.now t → LogsText t (V.log world.old) (V.log world.new) }
 {
     match parse_input(alloc, bytes) {
         Ok(input) => status_of(do_command(alloc, command, world, input, sink)),
@@ -156,6 +160,9 @@ fn play_input<V: Versions<P = BuiltIn>, S: Source, K: Sink>(
     ensures check { command ≡ Command.Check → world.new ≡ world.old }
     ensures refused { (result ≡ Status.BadInput) ⊎ ((result ≡ Status.TooLong) ⊎ (result ≡ Status.ReadFault)) →
         world.new ≡ world.old }
+    ensures log { command ≡ Command.Run → result ≡ Status.Done →
+        IfSome (S.left source.old) (λ bytes. (t : source_data) → IsText bytes t →
+        LogsText t (V.log world.old) (V.log world.new)) }
 {
     match read_all(alloc, source, INPUT_LIMIT) {
         Err(ReadStop::NoMemory) => Status::NoMemory,
@@ -188,6 +195,9 @@ pub fn play_alone<V: Versions<P = BuiltIn>, S: Source, K: Sink>(
     ensures unread { command_of_args (texts words.now.items) ≡ None → source.new ≡ source.old }
     // Without a command, after `check` and after each rejected input the world is unchanged.
     ensures world { LeavesWorld (command_of_args (texts words.now.items)) result → world.new ≡ world.old }
+    // After `run` the log of the world, if it has one, grew by the calls of the run.
+    ensures log { LogsCommand (command_of_args (texts words.now.items)) result (S.left source.old) (V.log world.old)
+        (V.log world.new) }
 {
     let Ok(wanted) = parse_args(alloc, words) else {
         return Status::NoMemory;
@@ -221,6 +231,9 @@ pub fn play<R: Threads + Wait + Sync, V: Versions<P = BuiltIn>, S: Source, K: Si
     ensures unread { command_of_args (texts words.now.items) ≡ None → source.new ≡ source.old }
     // Without a command, after `check` and after each rejected input the world is unchanged.
     ensures world { LeavesWorld (command_of_args (texts words.now.items)) result → world.new ≡ world.old }
+    // After `run` the log of the world, if it has one, grew by the calls of the run.
+    ensures log { LogsCommand (command_of_args (texts words.now.items)) result (S.left source.old) (V.log world.old)
+        (V.log world.new) }
 {
     play_alone(alloc, words, world, source, sink)
 }

@@ -90,9 +90,11 @@ pub record FrameReadsLogged (functions : List Func) (stands : World BuiltIn → 
   pub leaves : (w : World BuiltIn) → stands w → world_after table w more ≡ w
   pub owed : ReadsOwed functions (record { kept = k; map = m; reads = xs })
 
-abbrev pub LogsFrameReads : List Func → (World BuiltIn → Type 0) → ℕ → ℕ → LastFrame → Map → Option (List Entry) → Option (List Entry) → Type 0
+abbrev pub LogsFrameReads : List Func → (World BuiltIn → Type 0) → ℕ → ℕ → LastFrame → Map → Option (List Entry)
+    → Option (List Entry) → Type 0
 LogsFrameReads functions stands caller name k m None new = new ≡ None
-LogsFrameReads functions stands caller name k m (Some old) new = FrameReadsLogged functions stands caller name k m old new
+LogsFrameReads functions stands caller name k m (Some old) new =
+    FrameReadsLogged functions stands caller name k m old new
 
 -- The same with the table of names in memory, and with the log of the world.
 pub record IsRun {V : Type 0} (functions : List Func) (stands : V → World BuiltIn → Type 0) (log : V → Option (List Entry))

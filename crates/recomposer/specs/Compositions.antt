@@ -163,7 +163,8 @@ pub record PartOfFrame (old new : Option (List Entry)) (caller watcher : ℕ) (a
 
 -- What a frame that was not made adds to a log, `last` being the watcher's last map then: the refusal of its take, or the
 -- take, a first part of the reads that the frame owes in this map, and the dispose.
-abbrev pub LogsNoFrame : Checked → LastFrame → Option (List Entry) → Option (List Entry) → ℕ → ℕ → FrameStop → Option Map → Type 0
+abbrev pub LogsNoFrame : Checked → LastFrame → Option (List Entry) → Option (List Entry) → ℕ → ℕ → FrameStop
+    → Option Map → Type 0
 LogsNoFrame p k old new caller watcher stop last =
     Logs old new caller (TakeFor watcher) (refused_take stop)
     ⊎ ((m : Map) × (last ≡ Some m) × PartOfFrame old new caller watcher (frame_reads p k m))

@@ -4,7 +4,7 @@ use Rattle.sexp_text.specs.View.{forest_view}
 use Rattle.play_core.specs.CommandOutput.{SaysOutput}
 use Rattle.play_core.specs.Texts.{run_output, check_output}
 use Rattle.play_core.proofs.TreeLines.{check-is}
-use Rattle.play_core.proofs.Plays.{run-is}
+use Rattle.play_core.proofs.Plays.{run-is, logs-is}
 use Rattle.play_run.proofs.Written.{says_same}
 use Rattle.play_core.proofs.top.do_command.Goals as goal
 
@@ -17,3 +17,7 @@ pub returns-in-Check-clause-says : goal.returns-in-Check-clause-says
 returns-in-Check-clause-says g c bytes p read text =
     subst (λ k. SaysOutput (g.K.Sink.written c.args.sink.now) (g.K.Sink.written c.write_canonical.new.sink) k p c.write_canonical.result) (sym c.in-Check.is)
     (check_output p, refl, says_same _ _ _ _ _ (ap (λ ts. lines (forest_view ts)) c.deref.ensures.value ∙ check-is bytes c.args.input.trees.items p read.spelled text) c.write_canonical.ensures.says)
+
+pub returns-in-Run-clause-log : goal.returns-in-Run-clause-log
+returns-in-Run-clause-log g c bytes p run read text =
+    logs-is read.read p text c.run_script.result (g.V.Versions.log c.args.world.now) (g.V.Versions.log c.run_script.new.world) c.run_script.ensures.log

@@ -1,5 +1,6 @@
 use Rattle.std.proofs.Common.{sym, ap, ◌∙◌, arith, refl, inl, inr}
 use Rattle.play_args.specs.CommandWords.{command_of_args, texts}
+use Rattle.play_args.specs.declared.command.Command.TheVariants.{Run}
 use Rattle.play_core.proofs.Plays.{one-command, command-same, memory-meets, keeps-same, leaves}
 use Rattle.play_core.proofs.top.play_alone.Goals as goal
 
@@ -34,3 +35,8 @@ returns-in-None-clause-meets g c =
 
 pub returns-in_default-clause-meets : goal.returns-in_default-clause-meets
 returns-in_default-clause-meets g c = record { no_command = λ none. inr (inr (refl, keeps-same _)); command = λ k told. memory-meets k _ _ _ _ _ _ _ _ (omega arith); reads = λ e. refl; writes = λ e. refl }
+
+pub returns-in-Some-clause-log : goal.returns-in-Some-clause-log
+returns-in-Some-clause-log g c run e =
+    let asks = ap (λ ws. command_of_args (texts ws)) (sym c.deref.ensures.value) ∙ sym c.in-Ok.ensures ∙ c.in-Some.is in
+    c.play_input.ensures.log (one-command (command_of_args (texts c.args.words.now.items)) c.in-Some.command Run asks run) e

@@ -3,7 +3,7 @@ use Rattle.play_core.specs.Faults.{IsFault}
 use Rattle.play_core.specs.declared.fault.Fault.{Fault}
 use Rattle.play_core.specs.declared.top.Status.TheVariants as status
 use Rattle.play_core.specs.CommandOutput.{run_status}
-use Rattle.play_core.proofs.Plays.{nothing-part, refused-part, text-part, done-says, stopped-says, rose-after, clean-after, run-others}
+use Rattle.play_core.proofs.Plays.{nothing-part, refused-part, text-part, done-after, done-says, stopped-says, rose-after, clean-after, run-others}
 use Rattle.play_core.proofs.top.play_bytes.Goals as goal
 
 pub returns-in-Ok-clause-done : goal.returns-in-Ok-clause-done
@@ -48,3 +48,7 @@ returns-in-Err-Bad-clause-part g c e =
 
 pub returns-in-Err-NoMemory-clause-part : goal.returns-in-Err-NoMemory-clause-part
 returns-in-Err-NoMemory-clause-part g c e = nothing-part c.args.command (Some c.args.bytes.now) _
+
+pub returns-in-Ok-clause-log : goal.returns-in-Ok-clause-log
+returns-in-Ok-clause-log g c run e t text =
+    done-after c.do_command.result (sym c.status_of.ensures ∙ e) (c.do_command.ensures.log c.args.bytes.now t run c.in-Ok.ensures.ok text)

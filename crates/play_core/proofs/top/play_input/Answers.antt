@@ -1,7 +1,10 @@
-use Rattle.std.proofs.Common.{◌∙◌, ap, Err, subst}
+use Rattle.std.proofs.Common.{◌∙◌, ap, Err, subst, List, ℕ}
+use Rattle.std.proofs.KnownBytes.{Consumes-whole}
+use Rattle.lang_forms.specs.Sources.{Source}
 use Rattle.rt_streams.specs.declared.source.ReadStop.TheVariants as stop
 use Rattle.play_core.specs.Faults.{WritesPart}
-use Rattle.play_core.specs.Promise.{streams, WritesOutput, WritesFault}
+use Rattle.play_core.specs.Promise.{streams, WritesOutput, WritesFault, LogsText}
+use Rattle.play_core.specs.Texts.{IsText}
 use Rattle.play_core.proofs.Plays.{memory-meets, read-fault-meets, long-meets, read-meets, not-long}
 use Rattle.play_core.proofs.top.play_input.Goals as goal
 
@@ -31,3 +34,8 @@ returns-in-Ok-clause-meets g c =
     (λ e. subst (WritesFault before after) bytes (played.bad_input e))
     (λ e. subst (λ bs. WritesPart c.args.command bs before.written after.written) bytes (played.part e))
     played.write_fault played.others
+
+pub returns-in-Ok-clause-log : goal.returns-in-Ok-clause-log
+returns-in-Ok-clause-log g c run e =
+    let Logged : List ℕ → Type 0 = λ bs. (t : Source) → IsText bs t → LogsText t (g.V.Versions.log c.args.world.now) (g.V.Versions.log c.play_bytes.new.world) in
+    Consumes-whole _ _ c.in-Ok.bytes.items Logged c.in-Ok.ensures.bytes.0 c.in-Ok.ensures.bytes.1 (subst Logged c.deref.ensures.value (c.play_bytes.ensures.log run e))
