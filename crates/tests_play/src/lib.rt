@@ -15,6 +15,8 @@ mod kept_groups;
 #[cfg(test)]
 mod lines;
 #[cfg(test)]
+mod logs;
+#[cfg(test)]
 mod map_view;
 #[cfg(test)]
 mod programs;

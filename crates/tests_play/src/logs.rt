@@ -1,0 +1,99 @@
+// The log of the world after a run.
+
+use play_core::{Status, play_alone};
+use rt_streams::{MemSink, MemSource};
+use rt_values::Value;
+use snap_api::{Entry, LogWorld, Reply, Request};
+use snap_plain::PlainWorld;
+use snap_policy::BuiltIn;
+use std::alloc::Global;
+use std::test::Fail;
+
+// Three nested calls. The write changes what the innermost call reads, and no other call reads a state.
+const NESTED: &[u8] = b"(compose 1)
+(state a Int Structural 1)
+(fun leaf () (node Leaf ((a (get a)))))
+(fun mid ((n Int)) (node Mid ((n n)) (call leaf)))
+(fun root () (call mid 7))
+(do main (frame) (write global a 2) (frame))
+";
+
+// Two calls with three reads. The write changes what the second call reads, and the last frame owes nothing.
+const TWO_CALLS: &[u8] = b"(compose 1)
+(state a Int Structural 1)
+(state b Int Structural 2)
+(fun left () (node Left ((a (get a)))))
+(fun right () (node Right ((b (get b)) (c (get b)))))
+(fun root () (call left) (call right))
+(do main (frame) (write global b 3) (frame (during (read global a))) (frame))
+";
+
+// Runs `input` on an empty plain world. Returns the status and the log of the world.
+fn run_with_log(alloc: Global, input: &[u8]) -> Result<(Status, Vec<Entry>), Fail> {
+    let mut words = Vec::new(alloc);
+    words.push("run".to_string(alloc)?)?;
+    let plain = PlainWorld::<BuiltIn>::new(alloc)?;
+    let mut world = LogWorld::new(alloc, plain);
+    let mut source = MemSource::new(input.to_vec(alloc)?, 4096, Vec::new(alloc));
+    let mut sink = MemSink::new(alloc, 4096, 4096, Vec::new(alloc))?;
+    let status = play_alone(alloc, &words, &mut world, &mut source, &mut sink);
+    let (_, entries) = world.into_parts();
+    Ok((status, entries))
+}
+
+// Returns a letter and two numbers for an entry: the kind of the call, its snapshot, and its object or the value read.
+fn told(entry: &Entry) -> (char, u64, i64) {
+    match (&entry.request, &entry.reply) {
+        (Request::TakeFor { .. }, Reply::TakenFor(name, _)) => ('t', *name, 0),
+        (Request::Read { name, .. }, Reply::Got(Value::Int(value))) => ('r', *name, *value),
+        (Request::Write { name, .. }, Reply::Wrote { changed: true }) => ('w', *name, 0),
+        (Request::Dispose { name }, Reply::Disposed) => ('d', *name, 0),
+        _ => ('x', 0, 0),
+    }
+}
+
+#[test]
+fn each_frame_logs_the_reads_of_the_calls_that_run(rt: HostRuntime) -> Result<(), Fail> {
+    let alloc = rt.alloc();
+    let rows: [(&[u8], &[(char, u64, i64)]); 2] = [
+        (
+            NESTED,
+            &[
+                ('t', 1, 0),
+                ('r', 1, 1),
+                ('d', 1, 0),
+                ('w', 0, 0),
+                ('t', 2, 0),
+                ('r', 2, 2),
+                ('d', 2, 0),
+            ],
+        ),
+        (
+            TWO_CALLS,
+            &[
+                ('t', 1, 0),
+                ('r', 1, 1),
+                ('r', 1, 2),
+                ('r', 1, 2),
+                ('d', 1, 0),
+                ('w', 0, 0),
+                ('t', 2, 0),
+                ('r', 0, 1),
+                ('r', 2, 3),
+                ('r', 2, 3),
+                ('d', 2, 0),
+                ('t', 3, 0),
+                ('d', 3, 0),
+            ],
+        ),
+    ];
+    for (input, wanted) in rows {
+        let (status, entries) = run_with_log(alloc, input)?;
+        assert!(rt; status == Status::Done);
+        assert_eq!(rt; entries.len(), wanted.len());
+        for (entry, row) in entries.iter().zip(wanted) {
+            assert!(rt; told(entry) == *row);
+        }
+    }
+    Ok(())
+}
