@@ -1,17 +1,21 @@
 // Trees of nodes as lists in preorder.
 
-use rt_groups::Attributes;
+use rt_groups::Attribute;
 use rt_values::Word;
 use std::marker::Model;
 
-/// A node of a tree that is a list in preorder, without a copy of its values.
+/// A node of a tree that is a list in preorder, without a copy of its values. The list has each node before the nodes
+/// inside it. A rule of this project: `place` reads both trees from such lists.
 #[derive(Drop)]
 pub struct NodeRef<'a> {
     /// The number of nodes inside it.
     pub inner: usize,
+    /// The number of the node.
     pub number: u64,
+    /// The kind of the node.
     pub kind: &'a Word,
-    pub attributes: &'a Attributes,
+    /// The attributes of the node, in order.
+    pub attributes: &'a [Attribute],
 }
 
 impl<'a> Model for NodeRef<'a> {

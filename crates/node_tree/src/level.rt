@@ -60,7 +60,7 @@ fn copy_node<'n>(alloc: Global, node: &NodeRef<'n>) -> Result<NewNode, NoMemory>
     Ok(NewNode {
         number: node.number,
         kind: kind.copy()?,
-        attributes: copy_attributes(alloc, attributes.items())?,
+        attributes: copy_attributes(alloc, attributes)?,
     })
 }
 

@@ -30,29 +30,32 @@ impl Model for NodeAttributes {
 /// A node to insert, without children.
 #[derive(Drop)]
 pub struct NewNode {
+    /// The number of the node, which it keeps as long as its group is composed.
     pub number: u64,
+    /// The kind of the node.
     pub kind: Word,
+    /// The attributes of the node, in order.
     pub attributes: NodeAttributes,
 }
 
-/// One call on an `Applier`.
+/// One call on an `Applier`. Indexes are those of the children of the current node.
 #[derive(Drop)]
 pub enum Op {
-    /// `down`: the child at `index` becomes the current node.
+    /// `down`: makes the child at `index` the current node.
     Down { index: usize },
-    /// `up`: the parent of the current node becomes the current node.
+    /// `up`: makes the parent of the current node the current node.
     Up,
-    /// `insertTopDown`: the node becomes the child at `index`.
+    /// `insertTopDown`: inserts the node before the child at `index`.
     InsertTopDown { index: usize, node: NewNode },
-    /// `insertBottomUp`: the child at `index`, which is this node, is complete.
+    /// `insertBottomUp`: reports that the child at `index`, which is this node, has all its children.
     InsertBottomUp { index: usize, node: NewNode },
-    /// `remove`: the `count` children at `index` are removed.
+    /// `remove`: removes the `count` children at `index`.
     Remove { index: usize, count: usize },
-    /// `move`: the `count` children at `from` are moved to before the child at `to`.
+    /// `move`: moves the `count` children at `from` to before the child at `to`.
     Move { from: usize, to: usize, count: usize },
-    /// `set`: the attribute of the current node gets the value.
+    /// Replaces the value of an attribute of the current node.
     Set { name: Word, value: Value },
-    /// `clear`: all nodes are removed.
+    /// `clear`: removes all nodes.
     Clear,
 }
 

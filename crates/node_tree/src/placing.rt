@@ -64,7 +64,7 @@ fn push_node_sets<'o, 'n>(
 {
     let before = old.attributes;
     let now = new.attributes;
-    push_sets(alloc, before.items(), now.items(), ops)
+    push_sets(alloc, before, now, ops)
 }
 
 // Appends the `set` calls of a new node. The list `old` has what the node was and the nodes inside it, or nothing.

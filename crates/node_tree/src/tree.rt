@@ -18,12 +18,12 @@ use std::collections::LinkedList;
 use std::marker::Model;
 use std::mem::replace;
 
-// The maximum number of nodes that are inserted in the life of a tree.
+// The number of inserts that a tree does not reach.
 const MOST_NODES: u64 = 1 << 62;
 
-/// A tree of nodes in memory, whose calls never fail (`AbstractApplier`).
+/// A tree of nodes in memory, an applier whose calls never fail (`AbstractApplier`).
 ///
-/// A call at a child's index walks over the siblings on the shorter side of it.
+/// A call walks over the siblings of a child at its index, from the nearer end. A tree takes at most 2^62 inserts.
 #[derive(Drop)]
 pub struct NodeTree {
     children: LinkedList<KeptNode>,

@@ -1,5 +1,5 @@
-//! Tests of `gap_buffer`, `slot_table`, `slot_anchors`, `slot_edit`, `group_keys`, `read_links` and `remember_cells`
-//! from outside.
+//! Tests of `gap_buffer`, `node_tree`, `slot_table`, `slot_anchors`, `slot_edit`, `group_keys`, `read_links` and
+//! `remember_cells` from outside.
 #![tactic(auto)]
 
 #[cfg(test)]
@@ -12,6 +12,8 @@ mod gap_buffers;
 mod keys;
 #[cfg(test)]
 mod links;
+#[cfg(test)]
+mod node_trees;
 #[cfg(test)]
 mod rows;
 #[cfg(test)]

@@ -1,0 +1,167 @@
+// Calls between two node trees, made on a node tree in memory.
+use node_tree::{Applier, NodeRef, NodeTree, Op, carry, place};
+use rt_groups::Attribute;
+use rt_values::{Value, Word};
+use std::alloc::{AllocError, Global};
+use std::test::Fail;
+
+// The kind and the attributes of rows, which their nodes refer to. Each row has a number and the attribute `item`.
+#[derive(Drop)]
+struct Rows {
+    kind: Word,
+    attributes: Vec<Attribute>,
+    numbers: Vec<u64>,
+}
+
+fn make_rows(alloc: Global, numbers: &[u64], items: &[i64]) -> Result<Rows, Fail> {
+    let mut attributes = Vec::new(alloc);
+    for item in items {
+        attributes.push(Attribute {
+            name: Word::of(alloc, b"item")?,
+            value: Value::Int(*item),
+        })?;
+    }
+    Ok(Rows {
+        kind: Word::of(alloc, b"Row")?,
+        attributes,
+        numbers: numbers.to_vec(alloc)?,
+    })
+}
+
+// Returns the nodes of the rows, in order. The first row has the other rows inside if `nested`.
+fn nodes<'r>(alloc: Global, rows: &'r Rows, nested: bool) -> Result<Vec<NodeRef<'r>>, Fail> {
+    let mut list = Vec::new(alloc);
+    let count = rows.numbers.len();
+    for (index, number) in rows.numbers.iter().enumerate() {
+        if index < rows.attributes.len() {
+            let inner = if nested && index == 0 { count.saturating_sub(1) } else { 0 };
+            list.push(NodeRef {
+                inner,
+                number: *number,
+                kind: &rows.kind,
+                attributes: &rows.attributes[index..index + 1],
+            })?;
+        }
+    }
+    Ok(list)
+}
+
+// Returns the name and the numbers of a call.
+fn line(alloc: Global, op: &Op) -> Result<String, AllocError> {
+    match op {
+        Op::Down { index } => format!(in alloc; "down {index}"),
+        Op::Up => format!(in alloc; "up"),
+        Op::InsertTopDown { index, node } => {
+            format!(in alloc; "insertTopDown {index} #{}", node.number)
+        }
+        Op::InsertBottomUp { index, node } => {
+            format!(in alloc; "insertBottomUp {index} #{}", node.number)
+        }
+        Op::Remove { index, count } => format!(in alloc; "remove {index} {count}"),
+        Op::Move { from, to, count } => format!(in alloc; "move {from} {to} {count}"),
+        Op::Set { .. } => format!(in alloc; "set"),
+        Op::Clear => format!(in alloc; "clear"),
+    }
+}
+
+// Returns the lines of the calls between two lists of rows, each with one blank after it.
+fn lines(alloc: Global, old: &Rows, new: &Rows, nested: bool) -> Result<String, Fail> {
+    let ops = place(alloc, &nodes(alloc, old, nested)?, &nodes(alloc, new, nested)?)?;
+    let mut all = String::new(alloc);
+    for op in ops.items() {
+        all.push_str(line(alloc, op)?.as_str())?;
+        all.push_str(";")?;
+    }
+    Ok(all)
+}
+
+// Whether the calls between these lists of rows have these lines. The rows have their numbers as items.
+fn keyed(alloc: Global, old: &[u64], new: &[u64], expected: &str) -> Result<bool, Fail> {
+    let old = make_rows(alloc, old, &[7; 8])?;
+    let new = make_rows(alloc, new, &[7; 8])?;
+    Ok(lines(alloc, &old, &new, false)?.as_str() == expected)
+}
+
+#[test]
+fn keyed_rows_are_removed_then_inserted_and_moved(rt: HostRuntime) -> Result<(), Fail> {
+    let alloc = rt.alloc();
+    let filled = "insertTopDown 0 #1;insertTopDown 1 #2;insertTopDown 2 #3;";
+    assert!(rt; keyed(alloc, &[], &[1, 2, 3], filled)?);
+    assert!(rt; keyed(alloc, &[1, 2, 3], &[3, 1, 2], "move 2 0 1;")?);
+    assert!(rt; keyed(alloc, &[1, 2], &[1, 2, 3], "insertTopDown 2 #3;")?);
+    assert!(rt; keyed(alloc, &[1, 2, 3, 4], &[1, 3], "remove 3 1;remove 1 1;")?);
+    assert!(rt; keyed(alloc, &[1, 2, 3, 4], &[4, 9, 2], "remove 2 1;remove 0 1;move 1 0 1;insertTopDown 1 #9;")?);
+    assert!(rt; keyed(alloc, &[1, 2, 3], &[3, 2, 1], "move 2 0 1;move 2 1 1;")?);
+    assert!(rt; keyed(alloc, &[1, 2, 3], &[1, 2, 3], "")?);
+    assert!(rt; keyed(alloc, &[1, 2], &[], "remove 1 1;remove 0 1;")?);
+    Ok(())
+}
+
+#[test]
+fn kept_rows_get_only_their_new_values(rt: HostRuntime) -> Result<(), Fail> {
+    let alloc = rt.alloc();
+    let old = make_rows(alloc, &[1, 2, 3], &[1, 2, 3])?;
+    let new = make_rows(alloc, &[1, 2, 3], &[3, 2, 1])?;
+    assert_eq!(rt; lines(alloc, &old, &new, false)?.as_str(), "down 0;set;up;down 2;set;up;");
+    Ok(())
+}
+
+#[test]
+fn nodes_inside_an_inserted_node_are_inserted_after_it(rt: HostRuntime) -> Result<(), Fail> {
+    let alloc = rt.alloc();
+    let none = make_rows(alloc, &[], &[])?;
+    let new = make_rows(alloc, &[1, 2, 3], &[1, 2, 3])?;
+    assert_eq!(rt;
+        lines(alloc, &none, &new, true)?.as_str(),
+        "insertTopDown 0 #1;down 0;insertTopDown 0 #2;insertTopDown 1 #3;up;"
+    );
+    Ok(())
+}
+
+// Returns the number of calls from one list of 4,000 rows to the next, after the calls are made on the tree.
+fn count_calls(
+    alloc: Global,
+    tree: &mut NodeTree,
+    old: &[u64],
+    new: &[u64],
+) -> Result<Option<usize>, Fail> {
+    let mut items = Vec::new(alloc);
+    for _ in 0..4000u32 {
+        items.push(0)?;
+    }
+    let old = make_rows(alloc, old, &items)?;
+    let new = make_rows(alloc, new, &items)?;
+    let ops = place(alloc, &nodes(alloc, &old, false)?, &nodes(alloc, &new, false)?)?;
+    let count = ops.items().len();
+    tree.reserve(alloc, &ops)?;
+    match carry(tree, ops) {
+        Ok(()) => Ok(Some(count)),
+        Err(_) => Ok(None),
+    }
+}
+
+// Returns the numbers from 1 to 4,000 from `first` on and then those before it, each times `factor` modulo 4,001.
+fn spread(alloc: Global, first: u64, factor: u64) -> Result<Vec<u64>, Fail> {
+    let mut numbers = Vec::new(alloc);
+    for index in 0..4000u64 {
+        let number = first.wrapping_add(index) % 4000;
+        numbers.push((number + 1).wrapping_mul(factor) % 4001)?;
+    }
+    Ok(numbers)
+}
+
+#[test]
+fn four_thousand_rows_are_filled_turned_shuffled_and_emptied(rt: HostRuntime) -> Result<(), Fail> {
+    let alloc = rt.alloc();
+    let mut tree = NodeTree::new(alloc);
+    let rising = spread(alloc, 0, 1)?;
+    let falling = spread(alloc, 0, 4000)?;
+    let shuffled = spread(alloc, 0, 1234)?;
+    let rotated = spread(alloc, 1, 1234)?;
+    assert_eq!(rt; count_calls(alloc, &mut tree, &[], &rising)?, Some(4000usize));
+    assert_eq!(rt; count_calls(alloc, &mut tree, &rising, &falling)?, Some(3999usize));
+    assert!(rt; count_calls(alloc, &mut tree, &falling, &shuffled)?.is_some());
+    assert_eq!(rt; count_calls(alloc, &mut tree, &shuffled, &rotated)?, Some(3999usize));
+    assert_eq!(rt; count_calls(alloc, &mut tree, &rotated, &[])?, Some(4000usize));
+    Ok(())
+}
