@@ -3,7 +3,6 @@ use Rattle.std.proofs.Common.{◌≡◌, ℕ, zero, suc, ◌≤◌, ◌<◌, Lis
 use Rattle.std.specs.Prelude.{slice_get}
 use Rattle.rt_groups.specs.PreorderGroups.{flat_attribute}
 use Rattle.rt_groups.specs.declared.groups.Attribute.{Attribute as AttributeData}
-use Rattle.node_tree.specs.declared.ops.NewNode.{NewNode}
 use Rattle.node_tree.specs.Calls.{attribute_of}
 use Rattle.node_tree.specs.FlatNodes.{FlatNode, flat_node}
 use Rattle.node_tree.specs.SiblingLists.{flat_new}

@@ -1,6 +1,6 @@
 -- The levels of counts give the total of all counts before an index.
-use Rattle.std.proofs.Common.{◌≡◌, ℕ, zero, suc, ◌+◌, ◌-◌, ◌*◌, ◌/◌, ◌%◌, ◌≤◌, ◌<◌, List, [], ◌∷◌, take, drop, set, get_or, length, refl, ap, sym, ◌∙◌, subst, arith, append_assoc, ◌++◌, ◌⊎◌, inl, inr}
-use Rattle.std.proofs.lemmas.List.{take_more_set, drop-set-lt, drop_more, take_at, append-nil}
+use Rattle.std.proofs.Common.{◌≡◌, ℕ, zero, suc, ◌+◌, ◌-◌, ◌/◌, ◌%◌, ◌≤◌, ◌<◌, List, [], ◌∷◌, take, drop, set, get_or, length, refl, ap, sym, ◌∙◌, subst, arith, append_assoc, ◌++◌, ◌⊎◌, inl, inr}
+use Rattle.std.proofs.lemmas.List.{take_more_set, drop-set-lt, drop_more, append-nil}
 use Rattle.node_tree.specs.Counting.{total, pairs, AreLevels, first_level, levels_after}
 
 -- The total of an even number of counts is the total of half as many pairs.
@@ -62,28 +62,30 @@ pairs_after [] at h = (refl, inr (omega arith))
 pairs_after (x ∷ []) zero h = (refl, inr (omega arith))
 pairs_after (x ∷ []) (suc at) h = (refl, inr (omega arith))
 pairs_after (x ∷ (y ∷ ys)) zero h = elim h [
-  inl some ↦ (let e : (x - 1) + y ≡ (x + y) - 1 = omega arith in ap (λ n. n ∷ pairs ys) e, inl (omega arith))
+  | inl some ↦ (let e : (x - 1) + y ≡ (x + y) - 1 = omega arith in ap (λ n. n ∷ pairs ys) e, inl (omega arith))
   | inr past ↦ absurd (omega arith)
 ]
 pairs_after (x ∷ (y ∷ ys)) (suc zero) h = elim h [
-  inl some ↦ (let e : x + (y - 1) ≡ (x + y) - 1 = omega arith in ap (λ n. n ∷ pairs ys) e, inl (omega arith))
+  | inl some ↦ (let e : x + (y - 1) ≡ (x + y) - 1 = omega arith in ap (λ n. n ∷ pairs ys) e, inl (omega arith))
   | inr past ↦ absurd (omega arith)
 ]
 pairs_after (x ∷ (y ∷ ys)) (suc (suc at)) h =
     let half : suc (suc at) / 2 ≡ suc (at / 2) = omega arith in
-    let rest = pairs_after ys at (elim h [ inl some ↦ inl some | inr past ↦ inr (omega arith) ]) in
-    (ap (λ l. (x + y) ∷ l) rest.0 ∙ ap (λ n. set (pairs (x ∷ (y ∷ ys))) n (get_or (pairs (x ∷ (y ∷ ys))) n 0 - 1)) (sym half),
-     elim rest.1 [
-       inl some ↦ inl (subst (λ (n : ℕ). 0 < get_or (pairs (x ∷ (y ∷ ys))) n 0) (sym half) some)
-       | inr past ↦ inr (omega (arith, half))
-     ])
+    let rest = pairs_after ys at (elim h [ inl some ↦ inl some | inr past ↦ inr (omega arith) ]) in (
+      ap (λ l. (x + y) ∷ l) rest.0 ∙ ap (λ n. set (pairs (x ∷ (y ∷ ys))) n (get_or (pairs (x ∷ (y ∷ ys))) n 0 - 1)) (sym half),
+      elim rest.1 [
+        | inl some ↦ inl (subst (λ (n : ℕ). 0 < get_or (pairs (x ∷ (y ∷ ys))) n 0) (sym half) some)
+        | inr past ↦ inr (omega (arith, half))
+      ],
+    )
 
 after_levels : (ls : List (List ℕ)) (l : List ℕ) (at : ℕ) → (0 < get_or l at 0) ⊎ (length l ≤ at) → AreLevels l ls → AreLevels (set l at (get_or l at 0 - 1)) (levels_after at ls)
 after_levels [] l at h is = ap (λ xs. set xs at (get_or l at 0 - 1)) is
 after_levels (m ∷ ls) l at h is =
-    let up = pairs_after l at h in
-    (ap (λ xs. set xs at (get_or xs at 0 - 1)) is.0,
-     subst (λ (xs : List ℕ). AreLevels xs (levels_after (at / 2) ls)) (sym up.0) (after_levels ls (pairs l) (at / 2) up.1 is.1))
+    let up = pairs_after l at h in (
+      ap (λ xs. set xs at (get_or xs at 0 - 1)) is.0,
+      subst (λ (xs : List ℕ). AreLevels xs (levels_after (at / 2) ls)) (sym up.0) (after_levels ls (pairs l) (at / 2) up.1 is.1),
+    )
 
 first_after : (ls : List (List ℕ)) (at : ℕ) → first_level (levels_after at ls) ≡ set (first_level ls) at (get_or (first_level ls) at 0 - 1)
 first_after [] at = refl
@@ -100,10 +102,11 @@ pub after_all : (ls : List (List ℕ)) (at : ℕ) → AreLevels (first_level ls)
     × (total (first_level (levels_after at ls)) ≤ total (first_level ls))
     × (first_level (levels_after at ls) ≡ set (first_level ls) at (get_or (first_level ls) at 0 - 1))
 after_all ls at is some =
-    let first = first_after ls at in
-    (subst (λ (xs : List ℕ). AreLevels xs (levels_after at ls)) (sym first) (after_levels ls (first_level ls) at (inl some) is),
-     subst (λ (xs : List ℕ). total xs ≤ total (first_level ls)) (sym first) (less_after (first_level ls) at),
-     first)
+    let first = first_after ls at in (
+      subst (λ (xs : List ℕ). AreLevels xs (levels_after at ls)) (sym first) (after_levels ls (first_level ls) at (inl some) is),
+      subst (λ (xs : List ℕ). total xs ≤ total (first_level ls)) (sym first) (less_after (first_level ls) at),
+      first,
+    )
 
 -- One step of a loop over the levels.
 pub after_step : (now : List (List ℕ)) (i at : ℕ) (l : List ℕ) → i < length now → l ≡ get_or now i l

@@ -1,5 +1,5 @@
 -- Trees whose siblings have distinct numbers.
-use Rattle.std.proofs.Common.{◌≡◌, ℕ, ◌==◌, Bool, true, false, List, [], ◌∷◌, Option, Some, None, if◌then◌else◌}
+use Rattle.std.proofs.Common.{ℕ, ◌==◌, Bool, true, false, List, [], ◌∷◌, Option, Some, None, if◌then◌else◌}
 use Rattle.rt_groups.specs.Nodes.{Nodes, Branch}
 use Rattle.rt_groups.specs.Nodes as nodes
 use Rattle.node_tree.specs.NodeTrees.{TreeNode, node_list}

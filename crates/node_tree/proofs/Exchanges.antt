@@ -1,5 +1,5 @@
 -- Splitting a list three times and joining the parts in another order.
-use Rattle.std.proofs.Common.{◌≡◌, ℕ, ◌≤◌, List, ◌++◌, take, drop, refl, ap, sym, ◌∙◌, append_assoc}
+use Rattle.std.proofs.Common.{◌≡◌, ℕ, ◌≤◌, List, ◌++◌, take, drop, ap, ◌∙◌, append_assoc}
 use Rattle.std.proofs.lemmas.List.{take-take}
 use Rattle.gap_buffer.specs.Buffer.{exchanged_list}
 

@@ -1,5 +1,5 @@
 -- The siblings of a list of nodes in preorder.
-use Rattle.std.proofs.Common.{◌≡◌, ℕ, zero, suc, ◌+◌, ◌-◌, ◌≤◌, ◌<◌, min, List, [], ◌∷◌, ◌++◌, length, take, drop, get_or, refl, ap, sym, ◌∙◌, subst, arith, append_assoc, add-one}
+use Rattle.std.proofs.Common.{◌≡◌, ℕ, zero, suc, ◌+◌, ◌-◌, ◌≤◌, ◌<◌, min, List, [], ◌∷◌, ◌++◌, length, take, drop, get_or, ap, sym, ◌∙◌, arith, append_assoc}
 use Rattle.std.proofs.Common.{◌==◌, inl, inr, Bool, cond, Option, Some, if◌then◌else◌}
 use Rattle.std.specs.Option.{is_some}
 use Rattle.std.specs.Ordering.{nat_cmp, is_eq}
@@ -45,19 +45,20 @@ pub one_more : (xs : List FlatNode) (x y : FlatNode) (at end : ℕ) (found now w
     → now ≡ found ++ record { number = y.number; start = at; end = end } ∷ [] → found ++ sibling_list 0 at (drop at xs) ≡ whole
     → (now ++ sibling_list 0 end (drop end xs) ≡ whole) × (end ≤ length xs)
 one_more xs x y at end found now whole below read same is pushed so =
-    let there : end ≡ at + 1 + min x.inner (length xs - at - 1) = is ∙ ap (λ (z : FlatNode). at + 1 + min z.inner (length xs - at - 1)) same in
-    (ap (λ l. l ++ sibling_list 0 end (drop end xs)) pushed
-     ∙ append_assoc found (record { number = y.number; start = at; end = end } ∷ []) (sibling_list 0 end (drop end xs))
-     ∙ ap (λ (z : FlatNode). found ++ (record { number = z.number; start = at; end = end } ∷ sibling_list 0 end (drop end xs))) same
-     ∙ ap (λ l. found ++ l) (sym (next_sibling xs x at end below read there)) ∙ so,
-     omega (arith, there))
+    let there : end ≡ at + 1 + min x.inner (length xs - at - 1) = is ∙ ap (λ (z : FlatNode). at + 1 + min z.inner (length xs - at - 1)) same in (
+      ap (λ l. l ++ sibling_list 0 end (drop end xs)) pushed
+          ∙ append_assoc found (record { number = y.number; start = at; end = end } ∷ []) (sibling_list 0 end (drop end xs))
+          ∙ ap (λ (z : FlatNode). found ++ (record { number = z.number; start = at; end = end } ∷ sibling_list 0 end (drop end xs))) same
+          ∙ ap (λ l. found ++ l) (sym (next_sibling xs x at end below read there)) ∙ so,
+      omega (arith, there),
+    )
 
 -- Whether two numbers compare as equal.
 at_number : (a q : ℕ) → is_at (nat_cmp a) q ≡ (a == q)
 at_number a q = elim (cases_order a q) [
-  inl same ↦ ap (λ (r : Ordering). is_eq r) (sym (nat_cmp_is a q Equal same)) ∙ sym (eq-eqb a q same)
+  | inl same ↦ ap (λ (r : Ordering). is_eq r) (sym (nat_cmp_is a q Equal same)) ∙ sym (eq-eqb a q same)
   | inr apart ↦ elim apart [
-    inl less ↦ ap (λ (r : Ordering). is_eq r) (sym (nat_cmp_is a q Less less)) ∙ sym (ne_eqb a q (λ e. absurd (omega arith)))
+    | inl less ↦ ap (λ (r : Ordering). is_eq r) (sym (nat_cmp_is a q Less less)) ∙ sym (ne_eqb a q (λ e. absurd (omega arith)))
     | inr more ↦ ap (λ (r : Ordering). is_eq r) (sym (nat_cmp_is a q Greater more)) ∙ sym (ne_eqb a q (λ e. absurd (omega arith)))
   ]
 ]

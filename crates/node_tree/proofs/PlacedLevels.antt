@@ -12,7 +12,7 @@ use Rattle.node_tree.specs.Premises.{AreDistinct, ChildrenAreDistinct}
 use Rattle.node_tree.specs.FlatNodes.{FlatNode, flat_node, flat_nodes}
 use Rattle.node_tree.specs.SiblingLists.{sibling_list, siblings_of, index_in, sibling_calls, flat_before, nodes_from, part, part_of}
 use Rattle.node_tree.proofs.DistinctNodes.{distinct_list, each_distinct, found_distinct}
-use Rattle.node_tree.proofs.SiblingNodes.{siblings_are, SiblingAt, sibling_at, part_found}
+use Rattle.node_tree.proofs.SiblingNodes.{siblings_are, sibling_at, part_found}
 use Rattle.node_tree.proofs.SiblingCalls.{sibling_calls_are}
 
 -- The siblings that are listed are those of the tree.
@@ -23,8 +23,8 @@ pub level_begins : (o n : Nodes) (so sn : List Sibling) (new : List FlatNode) (b
     → now ≡ before ++ sibling_calls so sn new → now ++ inner_calls 0 (node_list o) n ≡ before ++ ops_between (node_list o) n
 level_begins o n so sn new before now e f g d h is =
     ap (λ l. l ++ inner_calls 0 (node_list o) n) (
-        is ∙ ap (λ s. before ++ sibling_calls s sn new) e ∙ ap (λ s. before ++ sibling_calls (siblings_of 0 o) s new) f ∙ ap (λ l. before ++ sibling_calls (siblings_of 0 o) (siblings_of 0 n) l) g
-        ∙ ap (λ l. before ++ l) (sibling_calls_are o n (distinct_list o d) (distinct_list n h)))
+    is ∙ ap (λ s. before ++ sibling_calls s sn new) e ∙ ap (λ s. before ++ sibling_calls (siblings_of 0 o) s new) f ∙ ap (λ l. before ++ sibling_calls (siblings_of 0 o) (siblings_of 0 n) l) g
+    ∙ ap (λ l. before ++ l) (sibling_calls_are o n (distinct_list o d) (distinct_list n h)))
     ∙ append_assoc before _ (inner_calls 0 (node_list o) n)
 
 distinct_from : (i : ℕ) (n : Nodes) → AreDistinct n → AreDistinct (nodes_from i n)
@@ -59,11 +59,11 @@ level_goes_on o n so sn d find old new before after i was now whole e f g h dist
     let sibling : get_or sn i d ≡ record { number = s.number; start = s.start; end = s.end } = ap (λ (l : List Sibling). get_or l i d) f ∙ s.sibling d in
     let t : Option TreeNode = numbered_node s.number (node_list o) in
     let first : before ≡ flat_before t =
-        is_before ∙ ap (λ (k : Option ℕ). part_of so old k) (found ∙ ap (λ (x : Sibling). index_in x.number so) sibling)
-        ∙ ap (λ (l : List Sibling). part_of l old (index_in s.number l)) e ∙ ap (λ (l : List FlatNode). part_of (siblings_of 0 o) l (index_in s.number (siblings_of 0 o))) g
-        ∙ part_found o s.number (distinct_list o distinct_old) in
+    is_before ∙ ap (λ (k : Option ℕ). part_of so old k) (found ∙ ap (λ (x : Sibling). index_in x.number so) sibling)
+    ∙ ap (λ (l : List Sibling). part_of l old (index_in s.number l)) e ∙ ap (λ (l : List FlatNode). part_of (siblings_of 0 o) l (index_in s.number (siblings_of 0 o))) g
+    ∙ part_found o s.number (distinct_list o distinct_old) in
     let second : after ≡ flat_node (length (flat_nodes s.children)) s.number s.kind s.attributes ∷ flat_nodes s.children =
-        is_after ∙ ap (λ (x : Sibling). part x.start x.end new) sibling ∙ ap (λ (l : List FlatNode). part s.start s.end l) h ∙ s.part in
+    is_after ∙ ap (λ (x : Sibling). part x.start x.end new) sibling ∙ ap (λ (l : List FlatNode). part s.start s.end l) h ∙ s.part in
     let children : AreDistinct s.children = (subst (λ (r : Nodes). AreDistinct r) s.here (distinct_from i n distinct_new)).1 in
     let one = inner t (flat_node (length (flat_nodes s.children)) s.number s.kind s.attributes) s.children first second (found_distinct s.number (node_list o) (each_distinct o distinct_old)) children in
     let rest : List Op = inner_calls (i + 1) (node_list o) (nodes_from (i + 1) n) in

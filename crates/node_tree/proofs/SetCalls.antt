@@ -1,15 +1,12 @@
 -- The `set` calls give the current node the new attributes.
-use Rattle.std.proofs.Common.{◌≡◌, ℕ, Bool, true, false, ◌||◌, List, [], ◌∷◌, ◌++◌, map, refl, ap, sym, ◌∙◌, subst, append_assoc, IsTrue, if◌then◌else◌}
-use Rattle.std.specs.List.{All, list_any}
+use Rattle.std.proofs.Common.{◌≡◌, ℕ, Bool, true, false, ◌||◌, List, [], ◌∷◌, ◌++◌, refl, ap, sym, ◌∙◌, append_assoc, if◌then◌else◌}
 use Rattle.std.specs.Str.{bytes_eq}
-use Rattle.std.proofs.lemmas.Bool.{true≢false, false≢true}
-use Rattle.std.proofs.lemmas.List.{map-append}
+use Rattle.std.proofs.lemmas.Bool.{true≢false}
 use Rattle.std.proofs.lemmas.Slice.Eq.{bytes_eq-Decides}
 use Rattle.rt_values.specs.declared.value.Value.{Value}
 use Rattle.rt_values.specs.Values.{same_value}
 use Rattle.rt_values.proofs.Equal.{same_value_decides}
 use Rattle.rt_groups.specs.GroupForest.{Attribute}
-use Rattle.node_tree.specs.declared.ops.Op.{Op}
 use Rattle.node_tree.specs.declared.ops.Op.TheVariants as op
 use Rattle.node_tree.specs.NodeTrees.{TreeNode, OpenNode}
 use Rattle.node_tree.specs.Calls.{attributes_after_set, has_attribute}
@@ -81,8 +78,8 @@ sets_turn (o ∷ old) [] done children before after number kind os e d apart = a
 sets_turn (o ∷ old) (n ∷ new) done children before after number kind os e d apart =
     then_turns _ _ _ _ _ (by (same_value o.value n.value) refl)
     (turns_from _ _ _ _ (as_one (sym (append_assoc done (n ∷ []) old)))
-        (turns_to _ _ _ _ (as_one (append_assoc done (n ∷ []) new))
-        (sets_turn old new (done ++ n ∷ []) children before after number kind os later d.1 (apart_more done new n apart.1 d.0))))
+    (turns_to _ _ _ _ (as_one (append_assoc done (n ∷ []) new))
+    (sets_turn old new (done ++ n ∷ []) children before after number kind os later d.1 (apart_more done new n apart.1 d.0))))
   where
     first : o.name ≡ n.name
     first = cc

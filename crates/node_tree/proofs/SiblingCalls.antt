@@ -1,21 +1,19 @@
 -- The calls that are made from siblings and counts are those of the definition.
-use Rattle.std.proofs.Common.{◌≡◌, ℕ, zero, suc, ◌+◌, ◌-◌, ◌≤◌, ◌<◌, ◌==◌, inl, inr, Bool, true, false, ◌||◌, List, [], ◌∷◌, ◌++◌, map, length, take, drop, get_or, set, Option, Some, None, cond, if◌then◌else◌, refl, ap, sym, ◌∙◌, subst, arith, append_assoc}
+use Rattle.std.proofs.Common.{◌≡◌, ℕ, zero, suc, ◌+◌, ◌-◌, ◌≤◌, ◌<◌, ◌==◌, Bool, true, false, ◌||◌, List, [], ◌∷◌, ◌++◌, map, length, take, get_or, set, Option, Some, None, cond, if◌then◌else◌, refl, ap, sym, ◌∙◌, subst, arith, append_assoc}
 use Rattle.std.specs.Prelude.{slice_get}
 use Rattle.std.specs.Option.{is_some}
-use Rattle.std.proofs.lemmas.Bool.{eqb-true, eq-eqb, ne_eqb, true≢false, false≢true, cases_Bool}
-use Rattle.std.proofs.lemmas.List.{append-nil, get_or_at, length-append}
+use Rattle.std.proofs.lemmas.Bool.{eq-eqb, ne_eqb, true≢false, false≢true}
+use Rattle.std.proofs.lemmas.List.{get_or_at, length-append}
 use Rattle.rt_groups.specs.Nodes.{Nodes, Branch}
 use Rattle.rt_groups.specs.Nodes as nodes
-use Rattle.node_tree.specs.declared.ops.Op.{Op}
 use Rattle.node_tree.specs.declared.ops.Op.TheVariants as op
-use Rattle.node_tree.specs.declared.siblings.Sibling.{Sibling}
 use Rattle.node_tree.specs.NodeTrees.{TreeNode, tree_node, node_list}
 use Rattle.node_tree.specs.Counting.{total}
-use Rattle.node_tree.specs.Placing.{has_number, numbered_node, index_of, without, removals, staying, move_to, new_node, arrangements, child_calls}
+use Rattle.node_tree.specs.Placing.{has_number, numbered_node, index_of, nodes_without, removals, staying_nodes, move_to, new_node, arrangements, child_calls}
 use Rattle.node_tree.specs.Premises.{HaveDistinctNumbers}
 use Rattle.node_tree.specs.FlatNodes.{FlatNode, flat_node, flat_nodes}
-use Rattle.node_tree.specs.SiblingLists.{siblings_of, index_in, kept_counts, removals_at, counted_nodes, distance_of, counts_after, flat_new, insert_of, arrangement, arrange_at, sibling_calls}
-use Rattle.node_tree.proofs.Numbers.{has_is_some, stays, staying_is_new, distinct_staying, distinct_without}
+use Rattle.node_tree.specs.SiblingLists.{siblings_of, index_in, kept_counts, removals_at, counted_nodes, distance_of, counts_after, insert_of, arrangement, arrange_at, sibling_calls}
+use Rattle.node_tree.proofs.Numbers.{has_is_some, stays, staying_is_new, distinct_staying}
 use Rattle.node_tree.proofs.ChildCalls.{Left, left_after_move, left_after_insert, has_first}
 use Rattle.node_tree.proofs.CopiedNodes.{got_some}
 use Rattle.node_tree.proofs.SiblingNodes.{is_some_index, IsNumberedAt, LooksUp, look_up}
@@ -39,12 +37,12 @@ removals_are new (o ∷ old) i = by (has_number o.number new) (removals_are new 
     by true e = ap (λ l. l ++ []) e
     by false e = ap (λ l. l ++ op.Remove i 1 ∷ []) e
 
-counted_are : (new old : List TreeNode) → counted_nodes (stay_counts new old) old ≡ staying new old
+counted_are : (new old : List TreeNode) → counted_nodes (stay_counts new old) old ≡ staying_nodes new old
 counted_are new [] = refl
 counted_are new (o ∷ old) = by (has_number o.number new) (counted_are new old)
   where
-    by : (b : Bool) → counted_nodes (stay_counts new old) old ≡ staying new old
-        → (if (if b then 1 else 0) == 0 then counted_nodes (stay_counts new old) old else o ∷ counted_nodes (stay_counts new old) old) ≡ cond b (o ∷ staying new old) (staying new old)
+    by : (b : Bool) → counted_nodes (stay_counts new old) old ≡ staying_nodes new old
+        → (if (if b then 1 else 0) == 0 then counted_nodes (stay_counts new old) old else o ∷ counted_nodes (stay_counts new old) old) ≡ cond b (o ∷ staying_nodes new old) (staying_nodes new old)
     by true e = ap (λ l. o ∷ l) e
     by false e = e
 
@@ -115,13 +113,13 @@ left_count (o ∷ os) (zero ∷ cs) (suc i) q d at h = left_count os cs i q d.1 
 left_count (o ∷ os) (suc c ∷ cs) (suc i) q d at h =
     let some : (suc c == 0) ≡ false = ne_eqb (suc c) 0 (λ e. absurd (omega arith)) in
     left_count os cs i q d.1 at (
-        sym (ap (λ (b : Bool). b || has_number q (counted_nodes cs os)) (other_first o os i q d.0 at))
-        ∙ sym (ap (λ (b : Bool). has_number q (if b then counted_nodes cs os else o ∷ counted_nodes cs os)) some) ∙ h)
+    sym (ap (λ (b : Bool). b || has_number q (counted_nodes cs os)) (other_first o os i q d.0 at))
+    ∙ sym (ap (λ (b : Bool). has_number q (if b then counted_nodes cs os else o ∷ counted_nodes cs os)) some) ∙ h)
 
 -- A node that is left, by its index among all.
 record IsLeftAt (os : List TreeNode) (cs : List ℕ) (i q : ℕ) : Type 0 where
   index : index_of q (counted_nodes cs os) ≡ total (take i cs)
-  rest : without q (counted_nodes cs os) ≡ counted_nodes (set cs i (get_or cs i 0 - 1)) os
+  rest : nodes_without q (counted_nodes cs os) ≡ counted_nodes (set cs i (get_or cs i 0 - 1)) os
 
 left_at : (os : List TreeNode) (cs : List ℕ) (i q : ℕ) → HaveDistinctNumbers os → IsNumberedAt os i q → AreSmall cs → 0 < get_or cs i 0 → IsLeftAt os cs i q
 unfolding AreSmall
@@ -132,7 +130,7 @@ left_at (o ∷ os) (suc zero ∷ cs) zero q d at s h =
     let here : (o.number == q) ≡ true = eq-eqb o.number q at in
     record {
       index = ap (λ (b : Bool). if b then 0 else 1 + index_of q (counted_nodes cs os)) here;
-      rest = ap (λ (b : Bool). if b then counted_nodes cs os else o ∷ without q (counted_nodes cs os)) here;
+      rest = ap (λ (b : Bool). if b then counted_nodes cs os else o ∷ nodes_without q (counted_nodes cs os)) here;
     }
 left_at (o ∷ os) (suc (suc c) ∷ cs) zero q d at s h = absurd (let le : suc (suc c) ≤ 1 = s.0 in omega arith)
 left_at (o ∷ os) (zero ∷ cs) (suc i) q d at s h =
@@ -143,7 +141,7 @@ left_at (o ∷ os) (suc zero ∷ cs) (suc i) q d at s h =
     let apart : (o.number == q) ≡ false = other_first o os i q d.0 at in
     record {
       index = ap (λ (b : Bool). if b then 0 else 1 + index_of q (counted_nodes cs os)) apart ∙ ap (λ n. 1 + n) later.index;
-      rest = ap (λ (b : Bool). if b then counted_nodes cs os else o ∷ without q (counted_nodes cs os)) apart ∙ ap (λ l. o ∷ l) later.rest;
+      rest = ap (λ (b : Bool). if b then counted_nodes cs os else o ∷ nodes_without q (counted_nodes cs os)) apart ∙ ap (λ l. o ∷ l) later.rest;
     }
 left_at (o ∷ os) (suc (suc c) ∷ cs) (suc i) q d at s h = absurd (let le : suc (suc c) ≤ 1 = s.0 in omega arith)
 
@@ -157,8 +155,8 @@ arranged nodes.None o whole counts front index at e d new small left = refl
 arranged (Branch number kind attributes children rest) o whole counts front index at e d new small left =
     by (has_number number old) refl (numbered_node number old) refl (look_up o number d)
     (λ counts small left.
-        ap (λ l. arrange_at (index + 1) (λ q. index_in q (siblings_of 0 o)) counts l (siblings_of later rest)) (sym (append_assoc front (x ∷ flat_nodes children) (flat_nodes rest)))
-        ∙ arranged rest o whole counts (front ++ (x ∷ flat_nodes children)) (index + 1) later (omega (arith, length-append front (x ∷ flat_nodes children))) d new.1 small left)
+    ap (λ l. arrange_at (index + 1) (λ q. index_in q (siblings_of 0 o)) counts l (siblings_of later rest)) (sym (append_assoc front (x ∷ flat_nodes children) (flat_nodes rest)))
+    ∙ arranged rest o whole counts (front ++ (x ∷ flat_nodes children)) (index + 1) later (omega (arith, length-append front (x ∷ flat_nodes children))) d new.1 small left)
   where
     x : FlatNode
     x = flat_node (length (flat_nodes children)) number kind attributes
@@ -188,25 +186,25 @@ arranged (Branch number kind attributes children rest) o whole counts front inde
     by : (b : Bool) → has_number number old ≡ b → (t : Option TreeNode) → numbered_node number old ≡ t → LooksUp o number 0 0 [] None (find number) t → Rest
         → arrangement index (distance_of (find number) counts) (slice_get list at) ++ arrange_at (index + 1) find (counts_after (find number) counts) list (siblings_of later rest)
         ≡ (if b
-           then move_to index (index_of number (counted_nodes counts old)) ++ arrangements (index + 1) old (without number (counted_nodes counts old)) (node_list rest)
-           else op.InsertTopDown index (new_node n) ∷ arrangements (index + 1) old (counted_nodes counts old) (node_list rest))
+        then move_to index (index_of number (counted_nodes counts old)) ++ arrangements (index + 1) old (nodes_without number (counted_nodes counts old)) (node_list rest)
+        else op.InsertTopDown index (new_node n) ∷ arrangements (index + 1) old (counted_nodes counts old) (node_list rest))
     by true has None none looked go = absurd (true≢false (sym has ∙ has_is_some number old ∙ ap (λ (p : Option TreeNode). is_some p) none))
     by true has (Some t) some looked go =
         let i : ℕ = looked.index in
         let found : find number ≡ Some i = looked.is ∙ ap (λ k. Some k) (let same : 0 + i ≡ i = omega arith in same) in
         let there : has_number number (counted_nodes counts old) ≡ true =
-            has_is_some number (counted_nodes counts old) ∙ ap (λ (p : Option TreeNode). is_some p) (left.same number (has_first n (node_list rest)) ∙ some) in
+        has_is_some number (counted_nodes counts old) ∙ ap (λ (p : Option TreeNode). is_some p) (left.same number (has_first n (node_list rest)) ∙ some) in
         let more : 0 < get_or counts i 0 = left_count old counts i number d looked.numbered there in
         let out : (get_or counts i 0 == 0) ≡ false = ne_eqb (get_or counts i 0) 0 (λ e. absurd (omega arith)) in
         let place = left_at old counts i number d looked.numbered small more in
         let distance : distance_of (find number) counts ≡ Some (index_of number (counted_nodes counts old)) =
-            ap (λ (k : Option ℕ). distance_of k counts) found
-            ∙ ap (λ (b : Bool). if b then None else Some (total (take i counts))) out
-            ∙ ap (λ k. Some k) (sym place.index) in
+        ap (λ (k : Option ℕ). distance_of k counts) found
+        ∙ ap (λ (b : Bool). if b then None else Some (total (take i counts))) out
+        ∙ ap (λ k. Some k) (sym place.index) in
         let after : counts_after (find number) counts ≡ set counts i (get_or counts i 0 - 1) = ap (λ (k : Option ℕ). counts_after k counts) found in
         let less : get_or counts i 0 - 1 ≤ 1 = (let h = small_get counts i small in omega (arith, h)) in
         let next : Left old (counted_nodes (set counts i (get_or counts i 0 - 1)) old) (node_list rest) =
-            subst (λ (l : List TreeNode). Left old l (node_list rest)) place.rest (left_after_move old (counted_nodes counts old) (node_list rest) n new.0 left) in
+        subst (λ (l : List TreeNode). Left old l (node_list rest)) place.rest (left_after_move old (counted_nodes counts old) (node_list rest) n new.0 left) in
         ap (λ (k : Option ℕ). arrangement index k (slice_get list at) ++ arrange_at (index + 1) find (counts_after (find number) counts) list (siblings_of later rest)) distance
         ∙ ap (λ cs. move_to index (index_of number (counted_nodes counts old)) ++ arrange_at (index + 1) find cs list (siblings_of later rest)) after
         ∙ ap (λ l. move_to index (index_of number (counted_nodes counts old)) ++ l) (go (set counts i (get_or counts i 0 - 1)) (small_set counts i (get_or counts i 0 - 1) less small) next)
@@ -225,11 +223,11 @@ sibling_calls_are o n d e =
     let new : List TreeNode = node_list n in
     let find : ℕ → Option ℕ = λ q. index_in q (siblings_of 0 o) in
     let left : Left old (counted_nodes (stay_counts new old) old) new =
-        subst (λ (l : List TreeNode). Left old l new) (sym (counted_are new old)) (record {
-          same = λ j h. stays j new old h;
-          all = λ j h. staying_is_new j new old h;
-          distinct = distinct_staying new old d;
-        }) in
+    subst (λ (l : List TreeNode). Left old l new) (sym (counted_are new old)) (record {
+      same = λ j h. stays j new old h;
+      all = λ j h. staying_is_new j new old h;
+      distinct = distinct_staying new old d;
+    }) in
     ap (λ cs. removals_at 0 cs ++ arrange_at 0 find cs (flat_nodes n) (siblings_of 0 n)) (counts_are o n 0)
     ∙ ap (λ l. l ++ arrange_at 0 find (stay_counts new old) (flat_nodes n) (siblings_of 0 n)) (removals_are new old 0)
     ∙ ap (λ l. removals 0 new old ++ l) (arranged n o n (stay_counts new old) [] 0 0 refl d e (small_counts new old) left)

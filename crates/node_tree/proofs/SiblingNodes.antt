@@ -1,8 +1,8 @@
 -- The siblings of a tree that is a list in preorder.
-use Rattle.std.proofs.Common.{◌≡◌, ℕ, zero, suc, ◌+◌, ◌-◌, ◌≤◌, ◌<◌, ◌==◌, min, ◌⊎◌, inl, inr, Bool, true, false, ◌||◌, List, [], ◌∷◌, ◌++◌, map, length, take, drop, get_or, Option, Some, None, if◌then◌else◌, refl, ap, sym, ◌∙◌, subst, arith, append_assoc}
+use Rattle.std.proofs.Common.{◌≡◌, ℕ, zero, suc, ◌+◌, ◌-◌, ◌<◌, ◌==◌, min, Bool, true, false, ◌||◌, List, [], ◌∷◌, ◌++◌, length, take, get_or, Option, Some, None, if◌then◌else◌, refl, ap, sym, ◌∙◌, arith, append_assoc}
 use Rattle.std.specs.Prelude.{slice_get}
 use Rattle.std.specs.Option.{is_some}
-use Rattle.std.proofs.lemmas.Bool.{eqb-true, eq-eqb, ne_eqb, true≢false, false≢true}
+use Rattle.std.proofs.lemmas.Bool.{eqb-true, true≢false}
 use Rattle.std.proofs.lemmas.List.{append-nil, length-append, drop_at, take_at}
 use Rattle.rt_groups.specs.GroupForest.{Attribute}
 use Rattle.rt_groups.specs.Nodes.{Nodes, Branch}
@@ -29,10 +29,10 @@ siblings_then (Branch number kind attributes children rest) ys at =
     let far : at + 1 + length c + length r ≡ at + suc (length (c ++ r)) = omega (arith, length-append c r) in
     ap (λ n. record { number = number; start = at; end = at + 1 + n } ∷ sibling_list (length c) (at + 1) ((c ++ r) ++ ys)) few
     ∙ ap (λ l. record { number = number; start = at; end = at + 1 + length c } ∷ l) (
-        ap (λ l. sibling_list (length c) (at + 1) l) (append_assoc c r ys)
-        ∙ skip_front c (r ++ ys) (at + 1)
-        ∙ siblings_then rest ys (at + 1 + length c)
-        ∙ ap (λ n. siblings_of (at + 1 + length c) rest ++ sibling_list 0 n ys) far)
+    ap (λ l. sibling_list (length c) (at + 1) l) (append_assoc c r ys)
+    ∙ skip_front c (r ++ ys) (at + 1)
+    ∙ siblings_then rest ys (at + 1 + length c)
+    ∙ ap (λ n. siblings_of (at + 1 + length c) rest ++ sibling_list 0 n ys) far)
 
 -- The siblings of the list are those of the tree.
 pub siblings_are : (n : Nodes) → sibling_list 0 0 (flat_nodes n) ≡ siblings_of 0 n

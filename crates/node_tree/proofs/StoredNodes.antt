@@ -1,9 +1,9 @@
 -- Stored nodes, their number and what they represent.
 use Rattle.std.proofs.Common.{◌≡◌, ℕ, ◌+◌, ◌≤◌, List, [], ◌∷◌, ◌++◌, map, length, take, drop, refl, ap, sym, ◌∙◌, arith}
-use Rattle.std.proofs.lemmas.List.{take-map, drop-map, map-append, length-map, take-append-drop}
-use Rattle.rt_groups.specs.Nodes.{Nodes, None, Branch}
-use Rattle.node_tree.specs.NodeTrees.{TreeNode, node_list, nodes_of}
-use Rattle.node_tree.specs.KeptNodes.{KeptNodes, KeptValue, NoNode, Kept, kept_of, kept_list, list_weight, nodes_kept, node_kept, open_kept}
+use Rattle.std.proofs.lemmas.List.{take-append-drop}
+use Rattle.rt_groups.specs.Nodes.{Branch}
+use Rattle.node_tree.specs.NodeTrees.{node_list, nodes_of}
+use Rattle.node_tree.specs.KeptNodes.{KeptNodes, KeptValue, NoNode, Kept, kept_of, kept_list, list_weight, nodes_kept, node_kept}
 
 pub kept_back : (ks : List KeptValue) → kept_list (kept_of ks) ≡ ks
 kept_back [] = refl

@@ -1,18 +1,18 @@
 -- The stored tree after a call represents the tree after the call.
-use Rattle.std.proofs.Common.{◌≡◌, ℕ, ◌+◌, ◌≤◌, ◌<◌, Bool, true, false, List, [], ◌∷◌, ◌++◌, map, length, take, drop, refl, ap, sym, ◌∙◌, arith, append_assoc, if◌then◌else◌, cond, nat_lt, IsTrue}
-use Rattle.std.specs.List.{insert, list_any}
+use Rattle.std.proofs.Common.{◌≡◌, ℕ, ◌+◌, ◌≤◌, ◌<◌, Bool, true, false, List, [], ◌∷◌, ◌++◌, map, length, take, drop, refl, ap, sym, ◌∙◌, arith, append_assoc, if◌then◌else◌, nat_lt, IsTrue}
+use Rattle.std.specs.List.{insert}
 use Rattle.std.specs.Str.{bytes_eq}
 use Rattle.std.proofs.lemmas.Bool.{false≢true}
-use Rattle.std.proofs.lemmas.List.{take-map, drop-map, map-append, length-map, length-drop}
+use Rattle.std.proofs.lemmas.List.{take-map, drop-map, map-append, length-drop}
 use Rattle.rt_values.specs.declared.value.Value.{Value}
-use Rattle.rt_groups.specs.Nodes.{Nodes, None, Branch}
+use Rattle.rt_groups.specs.Nodes.{Nodes}
 use Rattle.rt_groups.specs.declared.groups.Attribute.{Attribute as AttributeData}
 use Rattle.gap_buffer.specs.Buffer.{list_after_move, exchanged_list}
-use Rattle.node_tree.specs.NodeTrees.{TreeNode, tree_node, node_list, nodes_of, OpenNode, CursorTree}
-use Rattle.node_tree.specs.Calls.{attribute_of, attributes_after_set, open_after_set, tree_after_down, tree_after_up, sets_attribute}
-use Rattle.node_tree.specs.KeptNodes.{KeptNodes, KeptValue, kept_of, kept_list, nodes_kept, node_kept, open_kept, list_weight, weight}
+use Rattle.node_tree.specs.NodeTrees.{TreeNode, tree_node, node_list}
+use Rattle.node_tree.specs.Calls.{attribute_of, attributes_after_set, open_after_set, tree_after_down, tree_after_up, has_open_attribute}
+use Rattle.node_tree.specs.KeptNodes.{KeptValue, kept_list, nodes_kept, node_kept, open_kept, list_weight, weight}
 use Rattle.node_tree.specs.StoredTree.{StoredTree, stored_tree, cursor_tree, opened_value, closed_value, with_attributes, stored_after_down, stored_after_up, data_after_set, stored_after_set}
-use Rattle.node_tree.proofs.StoredNodes.{kept_back, list_back, weight_append, weight_split, nodes_listed, nodes_joined}
+use Rattle.node_tree.proofs.StoredNodes.{kept_back, list_back, weight_split, nodes_listed, nodes_joined}
 
 down_kept : (before after : List KeptValue) (s : StoredTree) → cursor_tree (stored_after_down before after s) ≡ tree_after_down (map node_kept before) (map node_kept after) (cursor_tree s)
 down_kept before [] s = refl
@@ -35,8 +35,8 @@ pub up_is : (children open_nodes : List KeptValue) (spare : ℕ)
 up_is children [] spare = refl
 up_is children (o ∷ open_nodes) spare =
     ap (λ (l : List TreeNode). record { children = l; open_nodes = map open_kept open_nodes }) (
-        map-append node_kept (kept_list o.before) (closed_value children o ∷ kept_list o.after)
-        ∙ ap (λ (ns : Nodes). map node_kept (kept_list o.before) ++ (tree_node o.number o.kind (map attribute_of o.attributes) ns ∷ map node_kept (kept_list o.after))) (nodes_joined children))
+    map-append node_kept (kept_list o.before) (closed_value children o ∷ kept_list o.after)
+    ∙ ap (λ (ns : Nodes). map node_kept (kept_list o.before) ++ (tree_node o.number o.kind (map attribute_of o.attributes) ns ∷ map node_kept (kept_list o.after))) (nodes_joined children))
 
 set_data : (name : List ℕ) (v : Value) (as_ : List AttributeData) → map attribute_of (data_after_set name v as_) ≡ attributes_after_set name v (map attribute_of as_)
 set_data name v [] = refl
@@ -87,7 +87,7 @@ move_is xs from to count = by (nat_lt to from) (nat_lt (from + count) to)
     by false true = exchange_is xs from (from + count) to
     by false false = refl
 
-pub set_needs_open : (name : List ℕ) (os : List KeptValue) → IsTrue (sets_attribute name (map open_kept os)) → 0 < length os
+pub set_needs_open : (name : List ℕ) (os : List KeptValue) → IsTrue (has_open_attribute name (map open_kept os)) → 0 < length os
 set_needs_open name [] h = absurd (false≢true h)
 set_needs_open name (o ∷ os) h = omega arith
 
@@ -105,9 +105,10 @@ down_parts (k ∷ ds) before after opened new children s h e f so =
     let first = so k [] e in
     let one : new ≡ opened_value before k ds ∷ [] = first.0 ∙ ap (λ (l : List KeptValue). opened_value before k l ∷ []) f in
     let inside : list_weight children ≡ weight k.children = ap list_weight first.1 ∙ ap (λ ks. weight ks) (list_back k.children) in
-    let whole : list_weight new ≡ list_weight (opened_value before k ds ∷ []) = ap list_weight one in
-    (ap (λ (l : List KeptValue). stored_tree children (l ++ s.open_nodes) s.spare) one ∙ ap (λ (l : List KeptValue). stored_tree l (opened_value before k ds ∷ s.open_nodes) s.spare) first.1,
-     omega (arith, inside, whole))
+    let whole : list_weight new ≡ list_weight (opened_value before k ds ∷ []) = ap list_weight one in (
+      ap (λ (l : List KeptValue). stored_tree children (l ++ s.open_nodes) s.spare) one ∙ ap (λ (l : List KeptValue). stored_tree l (opened_value before k ds ∷ s.open_nodes) s.spare) first.1,
+      omega (arith, inside, whole),
+    )
 
 pub opens : (s : StoredTree) (index : ℕ) (front back opened after before new children outer : List KeptValue) → index < length s.children
     → front ≡ take index s.children → back ≡ drop index s.children → opened ≡ take 1 back → after ≡ drop 1 back → before ≡ front → outer ≡ s.open_nodes
@@ -117,7 +118,7 @@ opens s index front back opened after before new children outer below f b o a sa
     let long : 0 < length back = omega (arith, ap length b, length-drop index s.children) in
     let parts = down_parts back before after opened new children s long o a so in
     let whole : list_weight front + list_weight back ≡ list_weight s.children =
-        ap (λ l. list_weight l + list_weight back) f ∙ ap (λ l. list_weight (take index s.children) + list_weight l) b ∙ weight_split index s.children in
+    ap (λ l. list_weight l + list_weight back) f ∙ ap (λ l. list_weight (take index s.children) + list_weight l) b ∙ weight_split index s.children in
     record {
       tree = ap (λ (l : List KeptValue). stored_tree children (new ++ l) s.spare) out ∙ parts.0
           ∙ ap (λ (l : List KeptValue). stored_after_down l back s) (same ∙ f) ∙ ap (λ (l : List KeptValue). stored_after_down (take index s.children) l s) b;
@@ -139,13 +140,14 @@ up_parts children (o ∷ os) closed new before after outer spare h e f so =
     let left : list_weight before ≡ weight o.before = ap list_weight first.1 ∙ ap (λ ks. weight ks) (list_back o.before) in
     let right : list_weight after ≡ weight o.after = ap list_weight first.2 ∙ ap (λ ks. weight ks) (list_back o.after) in
     let one : list_weight new ≡ list_weight (closed_value children o ∷ []) = ap list_weight first.0 in
-    let rest : list_weight outer ≡ list_weight os = ap list_weight f in
-    (ap (λ (l : List KeptValue). stored_tree ((before ++ l) ++ after) outer spare) first.0
-     ∙ ap (λ (l : List KeptValue). stored_tree ((l ++ closed_value children o ∷ []) ++ after) outer spare) first.1
-     ∙ ap (λ (l : List KeptValue). stored_tree ((kept_list o.before ++ closed_value children o ∷ []) ++ l) outer spare) first.2
-     ∙ ap (λ (l : List KeptValue). stored_tree l outer spare) (append_assoc (kept_list o.before) (closed_value children o ∷ []) (kept_list o.after))
-     ∙ ap (λ (l : List KeptValue). stored_tree (kept_list o.before ++ (closed_value children o ∷ kept_list o.after)) l spare) f,
-     omega (arith, left, right, one, rest))
+    let rest : list_weight outer ≡ list_weight os = ap list_weight f in (
+      ap (λ (l : List KeptValue). stored_tree ((before ++ l) ++ after) outer spare) first.0
+          ∙ ap (λ (l : List KeptValue). stored_tree ((l ++ closed_value children o ∷ []) ++ after) outer spare) first.1
+          ∙ ap (λ (l : List KeptValue). stored_tree ((kept_list o.before ++ closed_value children o ∷ []) ++ l) outer spare) first.2
+          ∙ ap (λ (l : List KeptValue). stored_tree l outer spare) (append_assoc (kept_list o.before) (closed_value children o ∷ []) (kept_list o.after))
+          ∙ ap (λ (l : List KeptValue). stored_tree (kept_list o.before ++ (closed_value children o ∷ kept_list o.after)) l spare) f,
+      omega (arith, left, right, one, rest),
+    )
 
 pub closes : (s : StoredTree) (closed outer children before new after : List KeptValue) → 0 < length s.open_nodes
     → closed ≡ take 1 s.open_nodes → outer ≡ drop 1 s.open_nodes → children ≡ s.children

@@ -71,14 +71,14 @@ tree_after (op.Set name value) t = record { children = t.children; open_nodes = 
 tree_after op.Clear t = record { children = []; open_nodes = [] }
 
 -- The tree after calls in order.
-abbrev pub carry : CursorTree → List Op → CursorTree
-carry t [] = t
-carry t (call ∷ calls) = carry (tree_after call t) calls
+abbrev pub tree_after_calls : CursorTree → List Op → CursorTree
+tree_after_calls t [] = t
+tree_after_calls t (call ∷ calls) = tree_after_calls (tree_after call t) calls
 
 -- Whether the current node is not the unseen root and has an attribute with this name.
-abbrev pub sets_attribute : List ℕ → List OpenNode → Bool
-sets_attribute name [] = false
-sets_attribute name (o ∷ open_nodes) = has_attribute name o.attributes
+abbrev pub has_open_attribute : List ℕ → List OpenNode → Bool
+has_open_attribute name [] = false
+has_open_attribute name (o ∷ open_nodes) = has_attribute name o.attributes
 
 -- A call may come: its indexes are those of children of the current node, or the end for an insert and for the target
 -- of a move. `up` needs a current node that is not the unseen root, and `set` needs an attribute of that node.
@@ -89,7 +89,7 @@ MayCome (op.InsertTopDown index node) t = index ≤ length t.children
 MayCome (op.InsertBottomUp index node) t = index < length t.children
 MayCome (op.Remove index count) t = index + count ≤ length t.children
 MayCome (op.Move from to count) t = (from + count ≤ length t.children) × (to ≤ length t.children)
-MayCome (op.Set name value) t = IsTrue (sets_attribute name t.open_nodes)
+MayCome (op.Set name value) t = IsTrue (has_open_attribute name t.open_nodes)
 MayCome op.Clear t = Unit {0}
 
 -- Each call may come at the tree that the earlier calls leave.
@@ -113,7 +113,7 @@ AllAllowed (Some t) calls = AllMayCome t calls
 
 -- The known tree after calls in order.
 abbrev pub BecomesAfter : Option CursorTree → Option CursorTree → List Op → Type 0
-BecomesAfter before now calls = now ≡ option_map (λ t. carry t calls) before
+BecomesAfter before now calls = now ≡ option_map (λ t. tree_after_calls t calls) before
 
 -- The number of top-down inserts of a call.
 abbrev pub inserts_of : Op → ℕ

@@ -1,12 +1,12 @@
 -- Internal: the nodes of a node tree as they are stored, and the tree that they represent.
-use Rattle.std.specs.Prelude.{◌≡◌, ℕ, ◌+◌, List, [], ◌∷◌, ◌++◌, map, length, Option, Some, refl, ◌<◌, ◌^◌}
+use Rattle.std.specs.Prelude.{◌≡◌, ℕ, ◌+◌, List, [], ◌∷◌, map, Option, Some, refl}
 use Rattle.std.specs.Prelude.{None as Absent}
 use Rattle.std.proofs.Common.{◌∙◌, ap, ◌≤◌, arith}
 use denote.Param.Weighed.{most}
 use Rattle.std.specs.Coded.{Coded, code_by, coded×, coded_ℕ, coded_list, coded_option}
 use Rattle.rt_groups.specs.Nodes.{Nodes, None, Branch}
 use Rattle.rt_groups.specs.declared.groups.Attribute.{Attribute as AttributeData}
-use Rattle.node_tree.specs.NodeTrees.{TreeNode, tree_node, node_list, nodes_of, OpenNode, CursorTree}
+use Rattle.node_tree.specs.NodeTrees.{TreeNode, tree_node, OpenNode}
 use Rattle.node_tree.specs.Calls.{attribute_of}
 
 -- Stored nodes in order. A node keeps its children, and its siblings before it and after it while it is open.

@@ -26,9 +26,9 @@ index_of number [] = 0
 index_of number (n ∷ ns) = if n.number == number then 0 else 1 + index_of number ns
 
 -- The list without its first node with this number.
-abbrev pub without : ℕ → List TreeNode → List TreeNode
-without number [] = []
-without number (n ∷ ns) = if n.number == number then ns else n ∷ without number ns
+abbrev pub nodes_without : ℕ → List TreeNode → List TreeNode
+nodes_without number [] = []
+nodes_without number (n ∷ ns) = if n.number == number then ns else n ∷ nodes_without number ns
 
 -- The removals from the last node to the first, where `old` begins at the index: each node whose number is not in `new`.
 abbrev pub removals : ℕ → List TreeNode → List TreeNode → List Op
@@ -37,8 +37,8 @@ removals index new (o ∷ old) =
     removals (index + 1) new old ++ (if has_number o.number new then [] else op.Remove index 1 ∷ [])
 
 -- The old nodes that stay.
-abbrev pub staying : List TreeNode → List TreeNode → List TreeNode
-staying new old = filter (λ o. has_number o.number new) old
+abbrev pub staying_nodes : List TreeNode → List TreeNode → List TreeNode
+staying_nodes new old = filter (λ o. has_number o.number new) old
 
 -- The move of a node that is `distance` after the index, if it is not at the index yet.
 abbrev pub move_to : ℕ → ℕ → List Op
@@ -55,12 +55,12 @@ abbrev pub arrangements : ℕ → List TreeNode → List TreeNode → List TreeN
 arrangements index old rest [] = []
 arrangements index old rest (n ∷ new) =
     if has_number n.number old
-    then move_to index (index_of n.number rest) ++ arrangements (index + 1) old (without n.number rest) new
+    then move_to index (index_of n.number rest) ++ arrangements (index + 1) old (nodes_without n.number rest) new
     else op.InsertTopDown index (new_node n) ∷ arrangements (index + 1) old rest new
 
 -- The calls that give the current node the new children, each with the attributes and the children that it had.
 abbrev pub child_calls : List TreeNode → List TreeNode → List Op
-child_calls old new = removals 0 new old ++ arrangements 0 old (staying new old) new
+child_calls old new = removals 0 new old ++ arrangements 0 old (staying_nodes new old) new
 
 -- A `set` for each attribute whose value differs.
 abbrev pub set_calls : List Attribute → List Attribute → List Op
@@ -88,8 +88,8 @@ inner_calls index old nodes.None = []
 inner_calls index old (Branch number kind attributes children rest) =
     let before = children_since (numbered_node number old) in
     calls_inside index
-        (sets_since (numbered_node number old) attributes
-        ++ (child_calls before (node_list children) ++ inner_calls 0 before children))
+    (sets_since (numbered_node number old) attributes
+    ++ (child_calls before (node_list children) ++ inner_calls 0 before children))
     ++ inner_calls (index + 1) old rest
 
 -- The calls that turn the old children of the current node into the new ones.

@@ -1,12 +1,10 @@
 -- Trusted: what two trees need so that the calls turn the old one into the new one.
-use Rattle.std.specs.Prelude.{◌≡◌, ℕ, List, [], ◌∷◌, map, Bool, false, Option, Some, None}
-use Rattle.std.specs.Str.{bytes_eq}
-use Rattle.std.specs.List.{list_any}
+use Rattle.std.specs.Prelude.{◌≡◌, ℕ, List, [], ◌∷◌, map, false, Option, Some, None}
 use Rattle.rt_groups.specs.GroupForest.{Attribute}
 use Rattle.rt_groups.specs.Nodes.{Nodes, Branch}
 use Rattle.rt_groups.specs.Nodes as nodes
 use Rattle.node_tree.specs.NodeTrees.{TreeNode, node_list, tree_at_root}
-use Rattle.node_tree.specs.Calls.{has_attribute, carry, AllMayCome}
+use Rattle.node_tree.specs.Calls.{has_attribute, tree_after_calls, AllMayCome}
 use Rattle.node_tree.specs.Placing.{has_number, numbered_node, children_since, ops}
 
 -- No two nodes of the list have one number.
@@ -58,4 +56,4 @@ pub record Follows (old new : Nodes) : Type 0 where
 abbrev pub OpsTurnTheOldTreeIntoTheNew : Type 0
 OpsTurnTheOldTreeIntoTheNew =
     (old new : Nodes) → Follows old new →
-    (carry (tree_at_root old) (ops old new) ≡ tree_at_root new) × AllMayCome (tree_at_root old) (ops old new)
+    (tree_after_calls (tree_at_root old) (ops old new) ≡ tree_at_root new) × AllMayCome (tree_at_root old) (ops old new)

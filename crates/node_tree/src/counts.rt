@@ -120,7 +120,11 @@ fn subtract_one(levels: &mut [CountLevel], index: usize)
 }
 
 // Appends the levels above `level`, which is appended first, up to a level without pairs.
-fn add_levels(levels: &mut Vec<CountLevel>, alloc: Global, first: CountLevel) -> Result<(), NoMemory>
+fn add_levels(
+    levels: &mut Vec<CountLevel>,
+    alloc: Global,
+    first: CountLevel,
+) -> Result<(), NoMemory>
     requires empty { levels.old.items ≡ [] }
     requires few { total first < 2 ^ 63 }
     ensures levels { OnOk result (AreLevels first levels.new.items) }

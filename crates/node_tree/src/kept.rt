@@ -41,7 +41,7 @@ impl Model for KeptNode {
     ghost use Rattle.node_tree.specs.KeptNodes.{most_weight};
 
     ghost size_decreases = { λ a h.
-      omega (arith, most_weight a.children, most_weight a.before, most_weight a.after) };
+        omega (arith, most_weight a.children, most_weight a.before, most_weight a.after) };
 }
 
 impl KeptNode {

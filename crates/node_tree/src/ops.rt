@@ -42,19 +42,37 @@ pub struct NewNode {
 #[derive(Drop)]
 pub enum Op {
     /// `down`: makes the child at `index` the current node.
-    Down { index: usize },
+    Down {
+        index: usize,
+    },
     /// `up`: makes the parent of the current node the current node.
     Up,
     /// `insertTopDown`: inserts the node before the child at `index`.
-    InsertTopDown { index: usize, node: NewNode },
+    InsertTopDown {
+        index: usize,
+        node: NewNode,
+    },
     /// `insertBottomUp`: reports that the child at `index`, which is this node, has all its children.
-    InsertBottomUp { index: usize, node: NewNode },
+    InsertBottomUp {
+        index: usize,
+        node: NewNode,
+    },
     /// `remove`: removes the `count` children at `index`.
-    Remove { index: usize, count: usize },
+    Remove {
+        index: usize,
+        count: usize,
+    },
     /// `move`: moves the `count` children at `from` to before the child at `to`.
-    Move { from: usize, to: usize, count: usize },
+    Move {
+        from: usize,
+        to: usize,
+        count: usize,
+    },
     /// Replaces the value of an attribute of the current node.
-    Set { name: Word, value: Value },
+    Set {
+        name: Word,
+        value: Value,
+    },
     /// `clear`: removes all nodes.
     Clear,
 }

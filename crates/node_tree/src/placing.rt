@@ -104,7 +104,7 @@ fn push_inner<'o, 'n>(
         old.now ≡ flat_before before → new.now ≡ node ∷ flat_nodes children →
         ChildrenAreDistinct before → AreDistinct children →
         OnOk result (ops.new ≡ ops.old ++ calls_inside index
-            (sets_since before node.attributes ++ ops_between (children_since before) children)) }
+        (sets_since before node.attributes ++ ops_between (children_since before) children)) }
 {
     let Some((node, inside)) = new.split_first() else {
         return Ok(());

@@ -9,7 +9,9 @@ ghost use Rattle.rt_groups.specs.Nodes.{None as no_nodes};
 
 use crate::applier::Applier;
 use crate::kept::KeptNode;
-use crate::lists::{close_first, exchange, fill_first, fill_up, join, open_first, set_in_first, split, take_all};
+use crate::lists::{
+    close_first, exchange, fill_first, fill_up, join, open_first, set_in_first, split, take_all,
+};
 use crate::ops::{NewNode, Ops};
 use rt_streams::Failed;
 use rt_values::{NoMemory, Value, Word};

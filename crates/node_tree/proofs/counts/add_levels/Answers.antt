@@ -1,4 +1,4 @@
-use Rattle.std.proofs.Common.{◌≡◌, ◌<◌, ◌≤◌, ◌^◌, ◌++◌, ◌∷◌, ℕ, List, [], ap, ◌∙◌, arith, length, sym, refl}
+use Rattle.std.proofs.Common.{◌≡◌, ◌≤◌, ◌++◌, ◌∷◌, [], ap, arith, length, refl}
 use Rattle.std.proofs.lemmas.Bool.{false≢true}
 use Rattle.node_tree.specs.Counting.{total, pairs}
 use Rattle.node_tree.proofs.CountLevels.{pairs_shorter, levels_grow, first_stays, levels_done, pairs_few}

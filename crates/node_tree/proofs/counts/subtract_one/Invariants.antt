@@ -1,5 +1,5 @@
 use Rattle.std.proofs.Common.{◌≡◌, ◌++◌, take, drop}
-use Rattle.node_tree.specs.Counting.{total, levels_after}
+use Rattle.node_tree.specs.Counting.{levels_after}
 use Rattle.node_tree.proofs.counts.subtract_one.Given as goal
 
 abbrev pub invariant-loop-level : goal.invariant-loop-level

@@ -1,5 +1,5 @@
-use Rattle.std.proofs.Common.{◌≤◌, arith, take, ◌+◌, ◌≡◌}
-use Rattle.node_tree.specs.Counting.{total, first_level}
+use Rattle.std.proofs.Common.{arith}
+use Rattle.node_tree.specs.Counting.{first_level}
 use Rattle.node_tree.proofs.CountLevels.{take_less, steps_on}
 use Rattle.node_tree.proofs.counts.sum_before.Goals as goal
 use Rattle.node_tree.proofs.counts.sum_before.Goals.{then-at-eq1, else-at-eq1}
@@ -15,7 +15,7 @@ loop-level-preserved c =
     record {
       levels = step.levels;
       sums = elim c.if-at-eq1.branch [
-        then-at-eq1 w ↦ omega (arith, step.odd w.if-at-eq1.true, w.before-is, w.get-before.ensures, c.loop-level.invariant.sums)
+        | then-at-eq1 w ↦ omega (arith, step.odd w.if-at-eq1.true, w.before-is, w.get-before.ensures, c.loop-level.invariant.sums)
         | else-at-eq1 w ↦ omega (arith, step.even w.if-at-eq1.false, w.before-is, c.loop-level.invariant.sums)
       ];
       inside = step.inside;

@@ -1,4 +1,4 @@
-use Rattle.std.proofs.Common.{◌≡◌, ◌≤◌, length, max}
+use Rattle.std.proofs.Common.{◌≤◌, length, max}
 use Rattle.node_tree.proofs.lists.fill_up.Given as goal
 
 abbrev pub invariant-loop : goal.invariant-loop

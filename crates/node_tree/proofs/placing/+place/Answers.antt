@@ -2,7 +2,6 @@ use Rattle.std.proofs.Common.{◌≡◌, ℕ, ap, sym, ◌∙◌, ◌++◌}
 use Rattle.std.specs.Ordering.{nat_cmp}
 use Rattle.std.specs.BTreeMap.{get}
 use Rattle.std.proofs.Common.{get_or}
-use Rattle.node_tree.specs.NodeTrees.{node_list}
 use Rattle.node_tree.specs.Placing.{sets_since, children_since, ops_between}
 use Rattle.node_tree.specs.SiblingLists.{index_in}
 use Rattle.node_tree.proofs.PlacedLevels.{listed, level_begins, level_ends, level_goes_on, old_children, inside_before, distinct_before, same_first, inside_all}
@@ -13,7 +12,7 @@ push_inner-returns t c = λ before node children e f d distinct.
     let same = same_first c.args.new.now c.in-Some.inside.now node c.in-Some.node.now children f c.in-Some.ensures.cases.0 in
     let level = c.in_ok-push_level.ensures (old_children before) children (inside_before before c.args.old.now c.after_first.result.now e c.after_first.ensures) same.1 (distinct_before before d) distinct in
     let all = inside_all before node c.in-Some.node.now children c.args.index c.args.ops.now c.push.new.self c.push_sets_since.new.ops c.push_level.new.ops same.0
-        c.in_ok-push.ensures.ok (c.in_ok-push_sets_since.ensures before e) level in
+    c.in_ok-push.ensures.ok (c.in_ok-push_sets_since.ensures before e) level in
     c.end_inside.ensures c.args.ops.now (sets_since before node.attributes ++ ops_between (children_since before) children) c.args.index all (sym c.len-start.ensures)
 
 pub push_level-loop-index-init : goal.push_level-loop-index-init
@@ -21,7 +20,7 @@ push_level-loop-index-init t c = λ o n e f d distinct.
     let old = listed o c.args.old.now c.deref-2.result.now c.in_ok-old_siblings.old_siblings.items e c.deref-2.ensures.value c.in_ok-old_siblings.ensures in
     let new = listed n c.args.new.now c.deref-3.result.now c.in_ok-new_siblings.new_siblings.items f c.deref-3.ensures.value c.in_ok-new_siblings.ensures in
     let found : (number : ℕ) → get nat_cmp c.in_ok-indexes.indexes number ≡ index_in number c.deref-2.result.now =
-        λ number. c.in_ok-indexes.ensures number ∙ ap (λ l. index_in number l) (c.deref.ensures.value ∙ sym c.deref-2.ensures.value) in
+    λ number. c.in_ok-indexes.ensures number ∙ ap (λ l. index_in number l) (c.deref.ensures.value ∙ sym c.deref-2.ensures.value) in
     level_begins o n c.deref-2.result.now c.deref-3.result.now c.args.new.now c.args.ops.now c.push_child_calls.new.ops old new f d distinct (c.in_ok-push_child_calls.ensures found)
 
 pub push_level-loop-index-preserved : goal.push_level-loop-index-preserved
@@ -30,7 +29,7 @@ push_level-loop-index-preserved t c = λ o n e f d distinct.
     let new = listed n c.args.new.now c.deref-sibling-items.result.now c.in_ok-new_siblings.new_siblings.items f c.deref-sibling-items.ensures.value c.in_ok-new_siblings.ensures in
     let s = get_or c.deref-sibling-items.result.now c.loop-index.index (record { number = 0; start = 0; end = 0 }) in
     let found : get nat_cmp c.in_ok-indexes.indexes s.number ≡ index_in s.number c.deref-in-loop-index.result.now =
-        c.in_ok-indexes.ensures s.number ∙ ap (λ l. index_in s.number l) (c.deref.ensures.value ∙ sym c.deref-in-loop-index.ensures.value) in
+    c.in_ok-indexes.ensures s.number ∙ ap (λ l. index_in s.number l) (c.deref.ensures.value ∙ sym c.deref-in-loop-index.ensures.value) in
     level_goes_on o n c.deref-in-loop-index.result.now c.deref-sibling-items.result.now (record { number = 0; start = 0; end = 0 }) (get nat_cmp c.in_ok-indexes.indexes s.number)
     c.args.old.now c.args.new.now c.old_part-before.result.now c.part_of_nodes-after.result.now c.loop-index.index c.loop-index.ops c.push_inner.new.ops _
     old new e f d distinct c.loop-index-test.true found c.old_part-before.ensures c.part_of_nodes-after.ensures c.in_ok-push_inner.ensures (c.loop-index.invariant o n e f d distinct)

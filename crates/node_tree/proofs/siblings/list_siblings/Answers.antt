@@ -1,5 +1,5 @@
-use Rattle.std.proofs.Common.{◌≡◌, ◌+◌, ◌-◌, min, ap, length}
-use Rattle.node_tree.specs.FlatNodes.{FlatNode, flat_node}
+use Rattle.std.proofs.Common.{◌+◌, ap}
+use Rattle.node_tree.specs.FlatNodes.{flat_node}
 use Rattle.node_tree.specs.Calls.{attribute_of}
 use Rattle.std.proofs.Common.{map}
 use Rattle.node_tree.specs.SiblingLists.{sibling_list}

@@ -1,4 +1,4 @@
-use Rattle.std.proofs.Common.{◌<◌, ◌≤◌, ◌+◌, arith, length, subst, sym}
+use Rattle.std.proofs.Common.{◌<◌, arith, length, subst, sym}
 use Rattle.node_tree.specs.StoredTree.{StoredTree}
 use Rattle.node_tree.proofs.TreeSteps.{set_weight}
 use Rattle.node_tree.proofs.tree.NodeTree.set_attribute.Goals as goal

@@ -1,5 +1,5 @@
 use Rattle.std.proofs.Common.{ap, ◌∙◌, Some, List, map}
-use Rattle.node_tree.specs.NodeTrees.{TreeNode, OpenNode, CursorTree}
+use Rattle.node_tree.specs.NodeTrees.{TreeNode}
 use Rattle.node_tree.specs.KeptNodes.{KeptValue, node_kept, open_kept}
 use Rattle.std.specs.List.{insert}
 use Rattle.node_tree.specs.Calls.{inserted_node}

@@ -1,5 +1,5 @@
 use Rattle.std.proofs.Common.{ap, ◌∙◌, Some, List, map}
-use Rattle.node_tree.specs.NodeTrees.{TreeNode, OpenNode, CursorTree}
+use Rattle.node_tree.specs.NodeTrees.{TreeNode}
 use Rattle.node_tree.specs.KeptNodes.{KeptValue, node_kept, open_kept}
 use Rattle.gap_buffer.specs.Buffer.{list_after_move}
 use Rattle.node_tree.proofs.TreeSteps.{move_is}

@@ -1,5 +1,5 @@
 use Rattle.std.proofs.Common.{ap, ◌∙◌, Some, List, map}
-use Rattle.node_tree.specs.NodeTrees.{TreeNode, OpenNode, CursorTree}
+use Rattle.node_tree.specs.NodeTrees.{TreeNode}
 use Rattle.node_tree.specs.KeptNodes.{KeptValue, node_kept, open_kept}
 use Rattle.std.proofs.Common.{◌+◌, ◌++◌, take, drop}
 use Rattle.node_tree.proofs.TreeSteps.{remove_is}

@@ -1,7 +1,6 @@
 use Rattle.std.proofs.Common.{ap, ◌∙◌, Some, List, map}
-use Rattle.node_tree.specs.NodeTrees.{TreeNode, OpenNode, CursorTree}
+use Rattle.node_tree.specs.NodeTrees.{OpenNode}
 use Rattle.node_tree.specs.KeptNodes.{KeptValue, node_kept, open_kept}
-use Rattle.node_tree.specs.Calls.{open_after_set}
 use Rattle.node_tree.proofs.TreeSteps.{set_is}
 use Rattle.node_tree.proofs.tree.NodeTreeApplier.set.Goals as goal
 

@@ -1,5 +1,5 @@
-use Rattle.std.proofs.Common.{ap, ◌∙◌, Some, List, map}
-use Rattle.node_tree.specs.NodeTrees.{TreeNode, OpenNode, CursorTree}
+use Rattle.std.proofs.Common.{ap, ◌∙◌, Some}
+use Rattle.node_tree.specs.NodeTrees.{CursorTree}
 use Rattle.node_tree.specs.StoredTree.{StoredTree, cursor_tree}
 use Rattle.node_tree.proofs.TreeSteps.{up_is}
 use Rattle.node_tree.proofs.tree.NodeTreeApplier.up.Goals as goal
