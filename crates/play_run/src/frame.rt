@@ -118,6 +118,12 @@ fn write_group<K: Sink>(
     ensures opened { OnOk result (open_groups.new ≡ open_after open_groups.old (group_at table.now.groups i)) }
     ensures faults { FaultsAfter (K.faults sink.old) (K.faults sink.new) result }
 {
+    if !table.is_node(i) {
+        let Ok(()) = open_groups.open_other(table.depth(i)) else {
+            return Err(Stop::NoMemory);
+        };
+        return Ok(());
+    }
     text.clear();
     let Ok(()) = open_groups.add_group(text, table.depth(i), table.number(i), table.kind(i)) else {
         return Err(Stop::NoMemory);

@@ -145,23 +145,24 @@ impl OpenGroups {
             OnOk result (text.new.items ≡ text.old.items ++ this) }
         ensures opened { OnOk result (self.new ≡ take depth self.old ++ is_node kind.now ∷ []) }
     {
-        self.nodes.truncate(depth as usize);
         match kind {
             GroupKind::Node { kind, attributes } => {
+                self.nodes.truncate(depth as usize);
                 add_node(text, &self.nodes, number, kind, attributes)?;
                 self.nodes.push(true)?;
                 Ok(())
             }
-            GroupKind::Call { .. } => self.open(),
-            GroupKind::Key(_) => self.open(),
-            GroupKind::Cell { .. } => self.open(),
+            GroupKind::Call { .. } => self.open_other(depth),
+            GroupKind::Key(_) => self.open_other(depth),
+            GroupKind::Cell { .. } => self.open_other(depth),
         }
     }
 
-    // Opens a group that is not a node.
-    fn open(&mut self) -> Result<(), NoMemory>
-        ensures { OnOk result (self.new ≡ self.old ++ false ∷ []) }
+    /// Opens the next group in preorder, which has this depth and is not a node. It has no line.
+    pub fn open_other(&mut self, depth: u32) -> Result<(), NoMemory>
+        ensures { OnOk result (self.new ≡ take depth self.old ++ false ∷ []) }
     {
+        self.nodes.truncate(depth as usize);
         self.nodes.push(false)?;
         Ok(())
     }
