@@ -55,8 +55,8 @@ pub fn begin_among<W: Versions + Drop, R: Wait, G: Gate>(
 }
 
 /// Ends a frame that has begun, through a desk of its snapshot, and returns the seat and the number of its next call at
-/// the gate (`Composition::finish`). Other callers' calls since the take leave the frame's map. Waits while other seats
-/// have the turn. Fails like `finish`.
+/// the gate (`Composition::finish`). Calls that other callers made since the take do not change the frame's map. Waits
+/// while other seats have the turn. Fails like `finish`.
 pub fn finish_among<W: Versions + Drop, R: Wait, G: Gate, L: Ledger>(
     mut view: SeatView<'_, W, R, G>,
     alloc: Global,
@@ -75,7 +75,8 @@ pub fn finish_among<W: Versions + Drop, R: Wait, G: Gate, L: Ledger>(
         (kept_after k (frame_of (functions_of composition.old.program.now) k m)) (Some m)) }
     ensures report { (k : LastFrame) (m : Map) →
         HasBegun W.P.rules W.stands view.entry.shared.now composition.old k view.entry.seat begun.name m →
-        IfOk result.2 (λ r. Some r ≡ option_map (λ g. g.told) (frame_of (functions_of composition.old.program.now) k m)) }
+        IfOk result.2 (λ r. Some r
+        ≡ option_map (λ g. g.told) (frame_of (functions_of composition.old.program.now) k m)) }
     ensures many { (k : LastFrame) (m : Map) →
         HasBegun W.P.rules W.stands view.entry.shared.now composition.old k view.entry.seat begun.name m →
         result.2 ≡ Err FrameStop.TooManyGroups → frame_of (functions_of composition.old.program.now) k m ≡ None }
