@@ -33,12 +33,17 @@ attributes_after_set name value (a ∷ rest) =
 abbrev pub has_attribute : List ℕ → List Attribute → Bool
 has_attribute name attributes = list_any (λ a. bytes_eq a.name name) attributes
 
+-- A node that is opened between its siblings.
+abbrev pub opened_node : List TreeNode → TreeNode → List TreeNode → OpenNode
+opened_node before n after =
+    record { before = before; number = n.number; kind = n.kind; attributes = n.attributes; after = after }
+
 -- The tree after `down`: the node at the index is open.
 abbrev pub tree_after_down : List TreeNode → List TreeNode → CursorTree → CursorTree
 tree_after_down before [] t = t
 tree_after_down before (n ∷ after) t = record {
   children = node_list n.children;
-  open_nodes = record { before = before; number = n.number; kind = n.kind; attributes = n.attributes; after = after } ∷ t.open_nodes;
+  open_nodes = opened_node before n after ∷ t.open_nodes;
 }
 
 -- The tree after `up`: the current node is closed again.

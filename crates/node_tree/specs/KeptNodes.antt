@@ -12,7 +12,8 @@ use Rattle.node_tree.specs.Calls.{attribute_of}
 -- Stored nodes in order. A node keeps its children, and its siblings before it and after it while it is open.
 pub data KeptNodes : Type 0 where
   NoNode : KeptNodes
-  Kept : (number : ℕ) → (kind : List ℕ) → (attributes : List AttributeData) → (children before after rest : KeptNodes) → KeptNodes
+  Kept : (number : ℕ) → (kind : List ℕ) → (attributes : List AttributeData) →
+      (children before after rest : KeptNodes) → KeptNodes
 
 -- One stored node.
 pub record KeptValue : Type 0 where
@@ -23,6 +24,10 @@ pub record KeptValue : Type 0 where
   pub before : KeptNodes
   pub after : KeptNodes
 
+abbrev pub kept_value : ℕ → List ℕ → List AttributeData → KeptNodes → KeptNodes → KeptNodes → KeptValue
+kept_value number kind attributes children before after =
+    record { number = number; kind = kind; attributes = attributes; children = children; before = before; after = after }
+
 abbrev pub kept_of : List KeptValue → KeptNodes
 kept_of [] = NoNode
 kept_of (k ∷ ks) = Kept k.number k.kind k.attributes k.children k.before k.after (kept_of ks)
@@ -30,12 +35,13 @@ kept_of (k ∷ ks) = Kept k.number k.kind k.attributes k.children k.before k.aft
 abbrev pub kept_list : KeptNodes → List KeptValue
 kept_list NoNode = []
 kept_list (Kept number kind attributes children before after rest) =
-    record { number = number; kind = kind; attributes = attributes; children = children; before = before; after = after } ∷ kept_list rest
+    kept_value number kind attributes children before after ∷ kept_list rest
 
 -- The number of stored nodes, with those inside.
 abbrev pub weight : KeptNodes → ℕ
 weight NoNode = 0
-weight (Kept number kind attributes children before after rest) = 1 + (weight children + (weight before + weight after)) + weight rest
+weight (Kept number kind attributes children before after rest) =
+    1 + (weight children + (weight before + weight after)) + weight rest
 
 -- The number of stored nodes of a list, with those inside.
 abbrev pub list_weight : List KeptValue → ℕ
@@ -79,7 +85,8 @@ put_node number kind attributes [] = []
 put_node number kind attributes (rest ∷ []) = []
 put_node number kind attributes (rest ∷ (after ∷ [])) = []
 put_node number kind attributes (rest ∷ (after ∷ (before ∷ []))) = []
-put_node number kind attributes (rest ∷ (after ∷ (before ∷ (children ∷ more)))) = Kept number kind attributes children before after rest ∷ more
+put_node number kind attributes (rest ∷ (after ∷ (before ∷ (children ∷ more)))) =
+    Kept number kind attributes children before after rest ∷ more
 
 abbrev pub nodes_read : List Token → List KeptNodes → List KeptNodes
 nodes_read [] read = read
@@ -90,7 +97,9 @@ abbrev pub first_read : List KeptNodes → KeptNodes
 first_read [] = NoNode
 first_read (n ∷ ns) = n
 
-abbrev pub tokens_are_read : (n : KeptNodes) (more : List Token) (read : List KeptNodes) → nodes_read (tokens n more) read ≡ nodes_read more (n ∷ read)
+-- Reading the tokens of nodes gives the nodes.
+abbrev pub tokens_are_read : (n : KeptNodes) (more : List Token) (read : List KeptNodes) →
+    nodes_read (tokens n more) read ≡ nodes_read more (n ∷ read)
 tokens_are_read NoNode more read = refl
 tokens_are_read (Kept number kind attributes children before after rest) more read =
     let last = Some (number, (kind, attributes)) ∷ more in
@@ -113,9 +122,10 @@ abbrev pub kept_value_code : Coded AttributeData → Coded KeptValue
 kept_value_code attribute =
     code_by
     (ℕ × (List ℕ × (List AttributeData × (KeptNodes × (KeptNodes × KeptNodes)))))
-    (coded× coded_ℕ (coded× (coded_list coded_ℕ) (coded× (coded_list attribute) (coded× (kept_code attribute) (coded× (kept_code attribute) (kept_code attribute))))))
+    (coded× coded_ℕ (coded× (coded_list coded_ℕ) (coded× (coded_list attribute)
+    (coded× (kept_code attribute) (coded× (kept_code attribute) (kept_code attribute))))))
     (λ k. (k.number, (k.kind, (k.attributes, (k.children, (k.before, k.after))))))
-    (λ p. record { number = p.0; kind = p.1.0; attributes = p.1.1.0; children = p.1.1.1.0; before = p.1.1.1.1.0; after = p.1.1.1.1.1 })
+    (λ p. kept_value p.0 p.1.0 p.1.1.0 p.1.1.1.0 p.1.1.1.1.0 p.1.1.1.1.1)
     (λ _. refl)
 
 -- No stored node has more inside it than all stored nodes of its list have together.

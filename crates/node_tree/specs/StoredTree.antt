@@ -82,7 +82,8 @@ with_attributes attributes k = record {
 -- The stored tree after `down`, with the children before the index and those from it on.
 abbrev pub stored_after_down : List KeptValue → List KeptValue → StoredTree → StoredTree
 stored_after_down before [] s = s
-stored_after_down before (k ∷ after) s = stored_tree (kept_list k.children) (opened_value before k after ∷ s.open_nodes) s.spare
+stored_after_down before (k ∷ after) s =
+    stored_tree (kept_list k.children) (opened_value before k after ∷ s.open_nodes) s.spare
 
 -- The stored tree after `up`.
 abbrev pub stored_after_up : List KeptValue → List KeptValue → ℕ → StoredTree

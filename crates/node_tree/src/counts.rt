@@ -87,7 +87,7 @@ impl Model for Counts {
 }
 
 // Returns the sum of the counts before `index`.
-#[tactic(auto, using(crate::proofs::CountLevels::level_step, crate::proofs::CountLevels::odd_sum, crate::proofs::CountLevels::half_sum))]
+#[tactic(auto, using(crate::proofs::CountLevels::level_step, crate::proofs::CountLevels::odd_sum))]
 fn sum_before(levels: &[CountLevel], index: usize) -> usize
     requires levels { AreLevels (first_level levels.now) levels.now }
     requires few { total (first_level levels.now) < 2 ^ 63 }

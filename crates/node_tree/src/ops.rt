@@ -140,7 +140,8 @@ fn has_name(attribute: &Attribute, name: &Word) -> bool
 // Returns the index of the first attribute with this name.
 #[tactic(auto, using(crate::proofs::NamedAttributes::name_passed, crate::proofs::NamedAttributes::name_found, crate::proofs::NamedAttributes::no_name))]
 fn index_of_name(attributes: &[Attribute], name: &Word) -> Option<usize>
-    ensures none { (value : value_data) → IsNone result → data_after_set name.now value attributes.now ≡ attributes.now }
+    ensures none { (value : value_data) → IsNone result →
+        data_after_set name.now value attributes.now ≡ attributes.now }
     ensures inside { IfSome result (λ i. i < length attributes.now) }
     ensures some { (value : value_data) (a : attribute_data) → IfSome result (λ i.
         a ≡ slice_index_or attributes.now i a →

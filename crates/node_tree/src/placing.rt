@@ -43,7 +43,8 @@ fn push_child_calls<'n>(
 // Ends the calls inside a child, where `ops` had `start` calls before `down`: with `up`, or without `down` if there is
 // no call inside.
 fn end_inside(start: usize, ops: &mut Ops) -> Result<(), NoMemory>
-    ensures { (before calls : List op_data) (index : ℕ) → ops.old ≡ before ++ (op.Down index ∷ calls) → length before ≡ start →
+    ensures { (before calls : List op_data) (index : ℕ) →
+        ops.old ≡ before ++ (op.Down index ∷ calls) → length before ≡ start →
         OnOk result (ops.new ≡ before ++ calls_inside index calls) }
 {
     if ops.len() == start.saturating_add(1) {

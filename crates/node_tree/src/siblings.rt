@@ -70,7 +70,8 @@ pub(crate) fn count_kept(
     old: &[Sibling],
     new_indexes: &BTreeMap<u64, usize>,
 ) -> Result<Vec<usize>, NoMemory>
-    ensures counts { (new : List sibling_data) → ((number : ℕ) → mapped nat_cmp new_indexes.now number ≡ index_in number new) →
+    ensures counts { (new : List sibling_data) →
+        ((number : ℕ) → mapped nat_cmp new_indexes.now number ≡ index_in number new) →
         IfOk result (λ v. v.items ≡ kept_counts new old.now) }
     ensures few { IfOk result (λ v. total v.items ≤ length old.now) }
 {

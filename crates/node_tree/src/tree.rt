@@ -63,9 +63,7 @@ impl NodeTree {
             made: 0,
         }
     }
-}
 
-impl NodeTree {
     // Opens the child at `index`.
     fn open_child(&mut self, index: usize)
         requires { index < length self.old.children }
