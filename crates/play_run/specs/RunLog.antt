@@ -50,7 +50,7 @@ frames_in functions s xs (e ∷ es) =
     if reads_frame s.frames e.request then frames_in functions s (xs ++ object_read e.request ∷ []) es
     else if ends_frame s.frames e.request
     then record { kept = s.kept; map = (snapshot_of s.world (name_in e.request)).view; reads = xs }
-        ∷ frames_in functions (next functions s e) [] es
+    ∷ frames_in functions (next functions s e) [] es
     else frames_in functions (next functions s e) xs es
 
 -- The reads of the calls that a frame in the map `m` runs, if the limit on groups is left out.

@@ -4,7 +4,8 @@
 //! In Compose this is the work of `Recomposer` (`composeInitial`, `recompose`) and of a test driver. Scripts and lines are
 //! rules of this project.
 //! Promises: the bytes written are those of `run_text`, the lines of the history that the steps make in the plain world,
-//! or a first part of them after an error.
+//! or a first part of them after an error. The log of the world, if it has one, grows by that history and by the reads
+//! that each frame owes.
 #![tactic(auto)]
 
 mod calls;
