@@ -34,7 +34,11 @@ fn nodes<'r>(alloc: Global, rows: &'r Rows, nested: bool) -> Result<Vec<NodeRef<
     let count = rows.numbers.len();
     for (index, number) in rows.numbers.iter().enumerate() {
         if index < rows.attributes.len() {
-            let inner = if nested && index == 0 { count.saturating_sub(1) } else { 0 };
+            let inner = if nested && index == 0 {
+                count.saturating_sub(1)
+            } else {
+                0
+            };
             list.push(NodeRef {
                 inner,
                 number: *number,
@@ -66,7 +70,11 @@ fn line(alloc: Global, op: &Op) -> Result<String, AllocError> {
 
 // Returns the lines of the calls between two lists of rows, each with one blank after it.
 fn lines(alloc: Global, old: &Rows, new: &Rows, nested: bool) -> Result<String, Fail> {
-    let ops = place(alloc, &nodes(alloc, old, nested)?, &nodes(alloc, new, nested)?)?;
+    let ops = place(
+        alloc,
+        &nodes(alloc, old, nested)?,
+        &nodes(alloc, new, nested)?,
+    )?;
     let mut all = String::new(alloc);
     for op in ops.items() {
         all.push_str(line(alloc, op)?.as_str())?;
@@ -90,7 +98,14 @@ fn keyed_rows_are_removed_then_inserted_and_moved(rt: HostRuntime) -> Result<(),
     assert!(rt; keyed(alloc, &[1, 2, 3], &[3, 1, 2], "move 2 0 1;")?);
     assert!(rt; keyed(alloc, &[1, 2], &[1, 2, 3], "insertTopDown 2 #3;")?);
     assert!(rt; keyed(alloc, &[1, 2, 3, 4], &[1, 3], "remove 3 1;remove 1 1;")?);
-    assert!(rt; keyed(alloc, &[1, 2, 3, 4], &[4, 9, 2], "remove 2 1;remove 0 1;move 1 0 1;insertTopDown 1 #9;")?);
+    assert!(rt;
+        keyed(
+            alloc,
+            &[1, 2, 3, 4],
+            &[4, 9, 2],
+            "remove 2 1;remove 0 1;move 1 0 1;insertTopDown 1 #9;"
+        )?
+    );
     assert!(rt; keyed(alloc, &[1, 2, 3], &[3, 2, 1], "move 2 0 1;move 2 1 1;")?);
     assert!(rt; keyed(alloc, &[1, 2, 3], &[1, 2, 3], "")?);
     assert!(rt; keyed(alloc, &[1, 2], &[], "remove 1 1;remove 0 1;")?);
@@ -102,7 +117,10 @@ fn kept_rows_get_only_their_new_values(rt: HostRuntime) -> Result<(), Fail> {
     let alloc = rt.alloc();
     let old = make_rows(alloc, &[1, 2, 3], &[1, 2, 3])?;
     let new = make_rows(alloc, &[1, 2, 3], &[3, 2, 1])?;
-    assert_eq!(rt; lines(alloc, &old, &new, false)?.as_str(), "down 0;set;up;down 2;set;up;");
+    assert_eq!(rt;
+        lines(alloc, &old, &new, false)?.as_str(),
+        "down 0;set;up;down 2;set;up;"
+    );
     Ok(())
 }
 
@@ -131,7 +149,11 @@ fn count_calls(
     }
     let old = make_rows(alloc, old, &items)?;
     let new = make_rows(alloc, new, &items)?;
-    let ops = place(alloc, &nodes(alloc, &old, false)?, &nodes(alloc, &new, false)?)?;
+    let ops = place(
+        alloc,
+        &nodes(alloc, &old, false)?,
+        &nodes(alloc, &new, false)?,
+    )?;
     let count = ops.items().len();
     tree.reserve(alloc, &ops)?;
     match carry(tree, ops) {
@@ -158,10 +180,22 @@ fn four_thousand_rows_are_filled_turned_shuffled_and_emptied(rt: HostRuntime) ->
     let falling = spread(alloc, 0, 4000)?;
     let shuffled = spread(alloc, 0, 1234)?;
     let rotated = spread(alloc, 1, 1234)?;
-    assert_eq!(rt; count_calls(alloc, &mut tree, &[], &rising)?, Some(4000usize));
-    assert_eq!(rt; count_calls(alloc, &mut tree, &rising, &falling)?, Some(3999usize));
+    assert_eq!(rt;
+        count_calls(alloc, &mut tree, &[], &rising)?,
+        Some(4000usize)
+    );
+    assert_eq!(rt;
+        count_calls(alloc, &mut tree, &rising, &falling)?,
+        Some(3999usize)
+    );
     assert!(rt; count_calls(alloc, &mut tree, &falling, &shuffled)?.is_some());
-    assert_eq!(rt; count_calls(alloc, &mut tree, &shuffled, &rotated)?, Some(3999usize));
-    assert_eq!(rt; count_calls(alloc, &mut tree, &rotated, &[])?, Some(4000usize));
+    assert_eq!(rt;
+        count_calls(alloc, &mut tree, &shuffled, &rotated)?,
+        Some(3999usize)
+    );
+    assert_eq!(rt;
+        count_calls(alloc, &mut tree, &rotated, &[])?,
+        Some(4000usize)
+    );
     Ok(())
 }
