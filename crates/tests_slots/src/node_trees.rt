@@ -1,5 +1,5 @@
-// Calls between two node trees, made on a node tree in memory.
-use node_tree::{Applier, NodeRef, NodeTree, Op, carry, place};
+// Calls between two node trees.
+use node_tree::{NodeRef, Op, place};
 use rt_groups::Attribute;
 use rt_values::{Value, Word};
 use std::alloc::{AllocError, Global};
@@ -136,13 +136,8 @@ fn nodes_inside_an_inserted_node_are_inserted_after_it(rt: HostRuntime) -> Resul
     Ok(())
 }
 
-// Returns the number of calls from one list of 4,000 rows to the next, after the calls are made on the tree.
-fn count_calls(
-    alloc: Global,
-    tree: &mut NodeTree,
-    old: &[u64],
-    new: &[u64],
-) -> Result<Option<usize>, Fail> {
+// Returns the number of calls from one list of 4,000 rows to the next.
+fn count_calls(alloc: Global, old: &[u64], new: &[u64]) -> Result<usize, Fail> {
     let mut items = Vec::new(alloc);
     for _ in 0..4000u32 {
         items.push(0)?;
@@ -154,12 +149,7 @@ fn count_calls(
         &nodes(alloc, &old, false)?,
         &nodes(alloc, &new, false)?,
     )?;
-    let count = ops.items().len();
-    tree.reserve(alloc, &ops)?;
-    match carry(tree, ops) {
-        Ok(()) => Ok(Some(count)),
-        Err(_) => Ok(None),
-    }
+    Ok(ops.len())
 }
 
 // Returns the numbers from 1 to 4,000 from `first` on and then those before it, each times `factor` modulo 4,001.
@@ -175,27 +165,14 @@ fn spread(alloc: Global, first: u64, factor: u64) -> Result<Vec<u64>, Fail> {
 #[test]
 fn four_thousand_rows_are_filled_turned_shuffled_and_emptied(rt: HostRuntime) -> Result<(), Fail> {
     let alloc = rt.alloc();
-    let mut tree = NodeTree::new(alloc);
     let rising = spread(alloc, 0, 1)?;
     let falling = spread(alloc, 0, 4000)?;
     let shuffled = spread(alloc, 0, 1234)?;
     let rotated = spread(alloc, 1, 1234)?;
-    assert_eq!(rt;
-        count_calls(alloc, &mut tree, &[], &rising)?,
-        Some(4000usize)
-    );
-    assert_eq!(rt;
-        count_calls(alloc, &mut tree, &rising, &falling)?,
-        Some(3999usize)
-    );
-    assert!(rt; count_calls(alloc, &mut tree, &falling, &shuffled)?.is_some());
-    assert_eq!(rt;
-        count_calls(alloc, &mut tree, &shuffled, &rotated)?,
-        Some(3999usize)
-    );
-    assert_eq!(rt;
-        count_calls(alloc, &mut tree, &rotated, &[])?,
-        Some(4000usize)
-    );
+    assert_eq!(rt; count_calls(alloc, &[], &rising)?, 4000usize);
+    assert_eq!(rt; count_calls(alloc, &rising, &falling)?, 3999usize);
+    assert!(rt; count_calls(alloc, &falling, &shuffled)? < 4000);
+    assert_eq!(rt; count_calls(alloc, &shuffled, &rotated)?, 3999usize);
+    assert_eq!(rt; count_calls(alloc, &rotated, &[])?, 4000usize);
     Ok(())
 }
