@@ -8,7 +8,7 @@ use Rattle.lang_checks.specs.declared.checks.Checked.{Checked}
 use Rattle.recomposer.specs.declared.composition.Begun.{Begun}
 use Rattle.recomposer.specs.declared.composition.Composition.{Composition}
 use Rattle.recomposer.specs.declared.composition.FrameStop.{FrameStop}
-use Rattle.recomposer.specs.Compositions.{IsAt, BeginsFrame, MakesFrame, MakesNoFrame, LogsFrame}
+use Rattle.recomposer.specs.Compositions.{IsAt, BeginsFrame, MakesFrame, MakesNoFrame, LogsFrame, LogsNoFrame}
 use Rattle.snap_policy.specs.Rules.{Rules}
 use Rattle.snap_api.specs.Calls.{Logs}
 use Rattle.snap_api.specs.World.{World}
@@ -119,8 +119,8 @@ module _ {W P : Type 0} (rules : Rules P) (stands : W → World P → Type 0) (s
 
   -- A frame that was not made.
   pub frame_err : (p : Checked) (k : LastFrame) (at_map : Option Map → Type 0) (r : Result Report FrameStop) →
-      IfErr r (MakesNoFrame p k at_map (λ l. HasLast rules stands other after watcher types l)) →
-      IfErr r (MakesNoFrame p k at_map (λ l. HasLast rules stands shared back watcher types l))
+      IfErr r (MakesNoFrame p k at_map (λ l. HasLast rules stands other after watcher types l) (LogsNoFrame p k (Some (mine_of before)) (Some (mine_of after)) (number_of before) watcher)) →
+      IfErr r (MakesNoFrame p k at_map (λ l. HasLast rules stands shared back watcher types l) (LogsNoFrame p k (Some (mine_of before)) (Some (mine_of back)) (number_of before) watcher))
   frame_err p k at_map r f =
-      subst (λ (s : Seat W). IfErr r (MakesNoFrame p k at_map (λ l. HasLast rules stands shared s watcher types l))) (sym is_back)
-      (subst (λ (v : Shared W P). IfErr r (MakesNoFrame p k at_map (λ l. HasLast rules stands v after watcher types l))) same_world f)
+      subst (λ (s : Seat W). IfErr r (MakesNoFrame p k at_map (λ l. HasLast rules stands shared s watcher types l) (LogsNoFrame p k (Some (mine_of before)) (Some (mine_of s)) (number_of before) watcher))) (sym is_back)
+      (subst (λ (v : Shared W P). IfErr r (MakesNoFrame p k at_map (λ l. HasLast rules stands v after watcher types l) (LogsNoFrame p k (Some (mine_of before)) (Some (mine_of after)) (number_of before) watcher))) same_world f)

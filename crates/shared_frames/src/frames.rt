@@ -7,7 +7,7 @@ ghost use Rattle.rt_values.specs.declared.value.Ty.{Ty};
 ghost use Rattle.rt_groups.specs.Frames.{LastFrame};
 ghost use Rattle.compose_model.specs.Frame.{frame as frame_of};
 ghost use Rattle.composer.specs.FrameDrafts.{functions_of};
-ghost use Rattle.recomposer.specs.Compositions.{IsAt, StopsAtEnd, kept_after, frame_reads, EndsFrame, MakesNoFrame};
+ghost use Rattle.recomposer.specs.Compositions.{IsAt, StopsAtEnd, kept_after, frame_reads, EndsFrame, MakesNoFrame, LogsNoFrame};
 ghost use Rattle.snap_shared.specs.SeatDesk.{SeesFurther, IsOnlyTaker, objects_read};
 ghost use Rattle.snap_shared.specs.Seats.{opening_of, number_of, seen_by, mine_of, IsSeat};
 ghost use Rattle.shared_frames.specs.SeatFrames.{HasLast, HasClock, HasBegun, MayCompose, BeginsThrough, MakesThrough};
@@ -124,7 +124,9 @@ pub fn frame_among<W: Versions + Drop, R: Wait, G: Gate, L: Ledger>(
     ensures err { (k : LastFrame) (types : List Ty) (l : Option Map) →
         MayCompose W.P.rules W.stands view.entry.shared.now composition.old k view.entry.seat result.0 types l →
         IfErr result.2 (MakesNoFrame composition.old.program.now k (IsAt composition.new k)
-        (HasLast W.P.rules W.stands view.entry.shared.now result.0 composition.old.watcher types)) }
+        (HasLast W.P.rules W.stands view.entry.shared.now result.0 composition.old.watcher types)
+        (LogsNoFrame composition.old.program.now k (Some (mine_of view.entry.seat)) (Some (mine_of result.0))
+        (number_of view.entry.seat) composition.old.watcher)) }
     ensures program { composition.new.program ≡ composition.old.program }
     ensures watcher { composition.new.watcher ≡ composition.old.watcher }
 {
