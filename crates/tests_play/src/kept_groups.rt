@@ -96,7 +96,7 @@ fn is_group(table: &Table, i: usize, group: &Group) -> bool
     table.depth(i) == group.depth
         && table.site(i) == group.site
         && same_kind(table.kind(i), &group.what)
-        && table.reads(i).numbers() == group.reads.numbers()
+        && table.reads(i) == group.reads.numbers()
 }
 
 // Whether the table has these groups, with the numbers left out.
