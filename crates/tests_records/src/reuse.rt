@@ -1,41 +1,9 @@
-// Which record is reused, and how many records an object keeps.
+// How many records an object keeps.
 use rt_values::{Kind, Ty, Value};
 use snap_api::Versions;
-use snap_ids::IdSet;
 use snap_policy::BuiltIn;
-use snap_records::Chains;
-use snap_reuse::{Reader, Readers, reusable};
 use snap_world::RecordWorld;
-use std::alloc::Global;
 use std::test::Fail;
-
-// The readers with these ids, each with one invalid id.
-fn readers_of(alloc: Global, rows: &[(u64, u64)]) -> Result<Readers, Fail> {
-    let mut readers = Readers::new(alloc);
-    for (id, invalid) in rows {
-        let invalid = IdSet::of(alloc, *invalid)?;
-        readers.push(Reader { id: *id, invalid })?;
-    }
-    Ok(readers)
-}
-
-#[test]
-fn the_lowest_unread_record_is_reused(rt: HostRuntime) -> Result<(), Fail> {
-    let alloc = rt.alloc();
-    let mut chains = Chains::new(alloc);
-    let x = chains.add_object(alloc)?;
-    chains.prepend(x, 5, Value::Int(50), 5)?;
-    chains.prepend(x, 2, Value::Int(20), 2)?;
-    let last = chains.prepend(x, 7, Value::Int(70), 7)?;
-    let one = readers_of(alloc, &[(6, 0)])?;
-    let found = reusable(&chains, x, &one).map(|r| chains.id(r));
-    assert_eq!(rt; found, Some(2));
-    let three = readers_of(alloc, &[(6, 0), (6, 5), (9, 0)])?;
-    assert!(rt; reusable(&chains, x, &three).is_none());
-    chains.invalidate(last);
-    assert_eq!(rt; reusable(&chains, x, &three), Some(last));
-    Ok(())
-}
 
 // The number of records of object 0 whose id is not 0, and of all its records.
 fn counts(world: &RecordWorld<BuiltIn>) -> (usize, usize) {
