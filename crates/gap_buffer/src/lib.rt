@@ -51,6 +51,13 @@ impl<T> GapBuf<T> {
         }
     }
 
+    /// Returns the list of `items`. Takes no memory.
+    pub fn from_vec(items: Vec<T>) -> Self
+        ensures { result.items ≡ items.items }
+    {
+        GapBuf { items }
+    }
+
     /// Returns the number of items.
     pub fn len(&self) -> usize
         ensures { result ≡ length self.now.items }

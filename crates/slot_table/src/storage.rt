@@ -1,7 +1,8 @@
 // The parts of the groups of a table, in two gap buffers.
-ghost use Rattle.std.specs.Prelude.{◌≡◌, ◌≤◌, ◌<◌, ◌+◌, ◌++◌, ◌∷◌, [], length, IfOk, OnOk, OnErr};
+ghost use Rattle.std.specs.Prelude.{◌≡◌, ◌++◌, ◌∷◌, [], List, IfOk, OnOk, OnErr};
+ghost use Rattle.rt_groups.specs.declared.groups.Group.{Group as group_data};
 ghost use Rattle.rt_groups.specs.PreorderGroups.{flat_group};
-ghost use Rattle.slot_table.specs.Storage.{joined_groups};
+ghost use Rattle.slot_table.specs.Storage.{AreParts};
 ghost use Rattle.slot_table.specs.SharedSlots.{reads_in};
 ghost use Rattle.slot_table.specs.TableGroups.{is_node_kind};
 
@@ -18,6 +19,7 @@ pub struct GroupHead {
     pub depth: u32,
     pub site: u32,
     pub number: u64,
+    pub is_node: bool,
 }
 
 /// The slots of a group: its kind with its values, and its reads. Tables that have the same group share them.
@@ -95,7 +97,6 @@ impl Slots {
 #[derive(Drop)]
 pub struct SharedGroup {
     head: GroupHead,
-    is_node: bool,
     slots: Slots,
 }
 
@@ -109,7 +110,7 @@ impl Model for SharedGroup {
 
     ghost view = { λ g. flat_group g.head.depth g.head.site g.head.number g.slots.what g.slots.reads };
 
-    ghost invariant = { λ g. g.is_node ≡ is_node_kind g.slots.what };
+    ghost invariant = { λ g. g.head.is_node ≡ is_node_kind g.slots.what };
 }
 
 // Returns whether the kind is that of a node.
@@ -135,27 +136,19 @@ impl SharedGroup {
             depth,
             site,
             number,
+            is_node: is_node_kind(&what),
         };
-        let is_node = is_node_kind(&what);
         let slots = Slots::new(alloc, what, reads)?;
-        Ok(SharedGroup {
-            head,
-            is_node,
-            slots,
-        })
+        Ok(SharedGroup { head, slots })
     }
 
-    // Returns the group with this head, which shares `slots`. `is_node` says whether they are those of a node.
-    pub(crate) fn sharing(head: GroupHead, is_node: bool, slots: &Slots) -> Result<Self, NoMemory>
-        requires { is_node ≡ is_node_kind slots.now.what }
+    // Returns the group with this head, which shares `slots`.
+    pub(crate) fn sharing(head: GroupHead, slots: &Slots) -> Result<Self, NoMemory>
+        requires { head.is_node ≡ is_node_kind slots.now.what }
         ensures { IfOk result (λ g. g ≡ flat_group head.depth head.site head.number slots.now.what slots.now.reads) }
     {
         let slots = slots.copy()?;
-        Ok(SharedGroup {
-            head,
-            is_node,
-            slots,
-        })
+        Ok(SharedGroup { head, slots })
     }
 
     /// Returns the number of groups that contain it.
@@ -169,7 +162,7 @@ impl SharedGroup {
     pub fn is_node(&self) -> bool
         ensures { result ≡ is_node_kind self.now.what }
     {
-        self.is_node
+        self.head.is_node
     }
 
     /// Returns the group at another depth and site, with another number.
@@ -181,8 +174,8 @@ impl SharedGroup {
                 depth,
                 site,
                 number,
+                is_node: self.head.is_node,
             },
-            is_node: self.is_node,
             slots: self.slots,
         }
     }
@@ -198,19 +191,18 @@ impl SharedGroup {
     }
 }
 
-// Appends the parts of `group` to both buffers.
-fn append(heads: &mut GapBuf<GroupHead>, slots: &mut GapBuf<Slots>, group: SharedGroup)
-    requires len { length heads.old.items ≡ length slots.old.items }
-    requires heads { 0 < heads.old.spare }
-    requires slots { 0 < slots.old.spare }
-    ensures groups { joined_groups heads.new.items slots.new.items
-        ≡ joined_groups heads.old.items slots.old.items ++ group ∷ [] }
-    ensures len { length heads.new.items ≡ length slots.new.items }
-    ensures heads { heads.new.spare + 1 ≡ heads.old.spare }
-    ensures slots { slots.new.spare + 1 ≡ slots.old.spare }
+// Appends the parts of `group` to both lists.
+fn append(
+    heads: &mut Vec<GroupHead>,
+    slots: &mut Vec<Slots>,
+    group: SharedGroup,
+) -> Result<(), NoMemory>
+    ensures { (groups : List group_data) → AreParts heads.old.items slots.old.items groups →
+        OnOk result (AreParts heads.new.items slots.new.items (groups ++ group ∷ [])) }
 {
-    heads.insert(heads.len(), group.head);
-    slots.insert(slots.len(), group.slots);
+    heads.push(group.head)?;
+    slots.push(group.slots)?;
+    Ok(())
 }
 
 /// Moves the parts of the groups into two gap buffers.
@@ -218,15 +210,12 @@ pub fn split(
     alloc: Global,
     groups: Vec<SharedGroup>,
 ) -> Result<(GapBuf<GroupHead>, GapBuf<Slots>), NoMemory>
-    ensures groups { IfOk result (λ r. joined_groups r.0.items r.1.items ≡ groups.items) }
-    ensures len { IfOk result (λ r. length r.0.items ≡ length r.1.items) }
+    ensures { IfOk result (λ r. AreParts r.0.items r.1.items groups.items) }
 {
-    let mut heads = GapBuf::new(alloc);
-    let mut slots = GapBuf::new(alloc);
-    heads.reserve(groups.len())?;
-    slots.reserve(groups.len())?;
+    let mut heads = Vec::with_capacity(alloc, groups.len())?;
+    let mut slots = Vec::with_capacity(alloc, groups.len())?;
     for group in groups {
-        append(&mut heads, &mut slots, group);
+        append(&mut heads, &mut slots, group)?;
     }
-    Ok((heads, slots))
+    Ok((GapBuf::from_vec(heads), GapBuf::from_vec(slots)))
 }

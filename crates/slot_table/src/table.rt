@@ -1,5 +1,5 @@
 // The groups of a composition.
-ghost use Rattle.std.specs.Prelude.{◌≡◌, ◌≤◌, ◌<◌, ◌+◌, ◌∷◌, [], List, length, drop, map, slice_index_or, IfOk, OnOk};
+ghost use Rattle.std.specs.Prelude.{◌≡◌, ◌≤◌, ◌<◌, ◌+◌, ◌∷◌, [], List, length, drop, slice_index_or, IfOk, OnOk};
 ghost use Rattle.rt_groups.specs.declared.groups.Group.{Group as group_data};
 ghost use Rattle.slot_table.specs.TableGroups.{group_at, is_node_kind};
 ghost use Rattle.slot_table.specs.ReaderStates.{after_deep};
@@ -20,15 +20,13 @@ pub struct Table {
     slots: GapBuf<Slots>,
     // For each group the number of groups inside it (`groupSize` less 1).
     counts: Vec<usize>,
-    // For each group whether it is a node (`isNode`).
-    nodes: Vec<bool>,
 }
 
 impl Model for Table {
-    ghost use Rattle.std.specs.Prelude.{◌≡◌, length, map, min};
-    ghost use Rattle.slot_table.specs.TableGroups.{TableGroups, is_node_kind};
+    ghost use Rattle.std.specs.Prelude.{◌≡◌, length, min};
+    ghost use Rattle.slot_table.specs.TableGroups.{TableGroups};
     ghost use Rattle.slot_table.specs.InnerCounts.{inner_counts as counts_of};
-    ghost use Rattle.slot_table.specs.Storage.{joined_groups as joined};
+    ghost use Rattle.slot_table.specs.Storage.{joined_groups as joined, KnowNodes};
 
     ghost Value = { TableGroups };
 
@@ -39,7 +37,7 @@ impl Model for Table {
 
     ghost invariant = { λ t. (length t.groups.items ≡ length t.slots.items)
         × (t.counts.items ≡ counts_of (joined t.groups.items t.slots.items))
-        × (t.nodes.items ≡ map (λ g. is_node_kind g.what) (joined t.groups.items t.slots.items)) };
+        × KnowNodes t.groups.items t.slots.items };
 }
 
 impl Table {
@@ -51,7 +49,6 @@ impl Table {
             groups: GapBuf::new(alloc),
             slots: GapBuf::new(alloc),
             counts: Vec::new(alloc),
-            nodes: Vec::new(alloc),
         }
     }
 
@@ -60,13 +57,11 @@ impl Table {
         ensures { IfOk result (λ t. t.groups ≡ groups.items) }
     {
         let counts = count_all_inside(alloc, &groups)?;
-        let nodes = find_nodes(alloc, &groups)?;
         let (groups, slots) = split(alloc, groups)?;
         Ok(Table {
             groups,
             slots,
             counts,
-            nodes,
         })
     }
 
@@ -94,6 +89,7 @@ impl Table {
         ensures depth { result.now.depth ≡ (group_at self.now.groups i).depth }
         ensures site { result.now.site ≡ (group_at self.now.groups i).site }
         ensures number { result.now.number ≡ (group_at self.now.groups i).number }
+        ensures node { result.now.is_node ≡ is_node_kind (group_at self.now.groups i).what }
     {
         self.groups.get(i)
     }
@@ -136,7 +132,7 @@ impl Table {
         requires { i < length self.now.groups }
         ensures { result ≡ is_node_kind (group_at self.now.groups i).what }
     {
-        self.nodes[i]
+        self.head(i).is_node
     }
 
     /// Returns the kind of the group at index `i`, with its values.
@@ -160,7 +156,7 @@ impl Table {
         requires { i < length self.now.groups }
         ensures { IfOk result (λ g. g ≡ group_at self.now.groups i) }
     {
-        SharedGroup::sharing(*self.head(i), self.is_node(i), self.slot(i))
+        SharedGroup::sharing(*self.head(i), self.slot(i))
     }
 
     /// Returns the index after the group at index `i` and all groups inside it.
@@ -214,15 +210,4 @@ fn count_all_inside(alloc: Global, groups: &[SharedGroup]) -> Result<Vec<usize>,
         counts[at] = count_inside(groups, &counts, at);
     }
     Ok(counts)
-}
-
-// Returns for each group whether it is a node.
-fn find_nodes(alloc: Global, groups: &[SharedGroup]) -> Result<Vec<bool>, NoMemory>
-    ensures { IfOk result (λ nodes. nodes.items ≡ map (λ g. is_node_kind g.what) groups.now) }
-{
-    let mut nodes = Vec::with_capacity(alloc, groups.len())?;
-    for group in groups {
-        nodes.push(group.is_node())?;
-    }
-    Ok(nodes)
 }
