@@ -67,7 +67,7 @@ not_blank : (b : ℕ) → is_atom_byte b ≡ true → is_blank b ≡ false
 not_blank b e = false_from_ne_true (is_blank b) (λ s. let p : is_atom_byte b ≡ false = blank_no_atom b s in cc)
 
 -- an atom begins
-start_word : (at b : ℕ) (os : OpenLists) (f : Forest) → is_atom_byte b ≡ true → start at b os f ≡ Some (in_word at (b ∷ []), os, f)
+pub start_word : (at b : ℕ) (os : OpenLists) (f : Forest) → is_atom_byte b ≡ true → start at b os f ≡ Some (in_word at (b ∷ []), os, f)
 start_word at b os f e = rw (not_blank b e, other_than b 59 e refl, other_than b 40 e refl, other_than b 41 e refl, other_than b 34 e refl, e) refl
 
 -- the bytes of an atom continue it

@@ -9,3 +9,4 @@ pub mod Layouts
 pub mod Utf8
 pub mod Printed
 pub mod Sames
+pub mod Tokens

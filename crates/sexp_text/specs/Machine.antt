@@ -1,5 +1,5 @@
 -- Internal: the parser as a machine that takes one byte a step.
-use Rattle.std.specs.Prelude.{slice_index, ◌≡◌, ◌<◌, ◌≤◌, take, ℕ, ◌+◌, ◌==◌, nat_le, max, suc, List, [], ◌∷◌, ◌++◌, map, reverse, length, Option, Some, None, if◌then◌else◌, Vec}
+use Rattle.std.specs.Prelude.{slice_index, ◌≡◌, ◌<◌, ◌≤◌, take, ℕ, ◌+◌, ◌==◌, ◌&&◌, Bool, not, nat_le, max, suc, List, [], ◌∷◌, ◌++◌, map, reverse, length, Option, Some, None, if◌then◌else◌, Vec}
 use Rattle.std.specs.Option.{option_and_then, IsSomeAnd}
 use Rattle.std.specs.declared.alloc.Global.{Global}
 use Rattle.sexp_text.specs.Forest.{Forest, empty, atom, text, list, behind, nesting}
@@ -9,8 +9,6 @@ use Rattle.sexp_text.specs.declared.tree.Tree.{Tree}
 use Rattle.sexp_text.specs.declared.stop.TextStop.{TextStop}
 use Rattle.sexp_text.specs.declared.stop.TextStop.TheVariants as stops
 use Rattle.sexp_text.specs.declared.reader.Reader.{Reader}
-use Rattle.sexp_text.specs.declared.reader.LexerState as places
-use Rattle.sexp_text.specs.declared.reader.LexerState.TheVariants as kinds
 
 -- The token that a byte belongs to: none, a comment, an atom or a string that began at an offset, or an escape.
 pub data Mode : Type 0 where
@@ -96,13 +94,6 @@ abbrev pub depth_reached : OpenLists → Forest → ℕ
 depth_reached [] f = nesting f
 depth_reached (o ∷ os) f = max (depth_reached os o.1) (suc (length os) + nesting f)
 
-abbrev pub mode_of : places.LexerState → Mode
-mode_of kinds.Gap = gap
-mode_of kinds.Comment = in_comment
-mode_of (kinds.Atom from name) = in_word from name.items
-mode_of (kinds.Text from chars) = in_text from chars.items
-mode_of (kinds.Escape from chars) = in_escape from chars.items
-
 -- The open lists in memory, where the innermost is the last.
 abbrev pub around_view : List (ℕ × Vec Tree Global) → OpenLists
 around_view os = reverse (map (λ o. (o.0, forest_view o.1.items)) os)
@@ -114,9 +105,9 @@ lists r = around_view r.around.items
 abbrev pub trees : Reader → Forest
 trees r = forest_view r.current.items
 
--- The state of a parser.
-abbrev pub state_of : places.LexerState → Reader → State
-state_of place r = (mode_of place, lists r, trees r)
+-- The state of a parser between tokens.
+abbrev pub state_of : Reader → State
+state_of r = (gap, lists r, trees r)
 
 -- Why a byte is not taken: memory ran out, or the machine has no next state, or a parenthesis would open a list
 -- inside 100 others.
@@ -125,13 +116,6 @@ Stops after at b stops.NoMemory = Unit {0}
 Stops after at b (stops.Bad p) = (p ≡ at) × (after ≡ None)
 Stops after at b (stops.TooDeep p) = (p ≡ at) × (b ≡ 40) × IsSomeAnd after (λ t. 100 < length t.1)
 Stops after at b (stops.NotUtf8 p) = ⊥
-
--- Why the input is refused at its end: memory ran out, or a string or a list is still open.
-abbrev pub StopsAtEnd : Option Forest → ℕ → TextStop → Type 0
-StopsAtEnd whole at stops.NoMemory = Unit {0}
-StopsAtEnd whole at (stops.Bad p) = (p ≡ at) × (whole ≡ None)
-StopsAtEnd whole at (stops.TooDeep p) = ⊥
-StopsAtEnd whole at (stops.NotUtf8 p) = ⊥
 
 -- The state before the byte at an offset.
 abbrev pub state_at : List ℕ → ℕ → Option State
@@ -165,3 +149,32 @@ Refuses bytes stops.NoMemory = Unit {0}
 Refuses bytes (stops.Bad at) = Fails bytes at
 Refuses bytes (stops.TooDeep at) = GoesDeep bytes at
 Refuses bytes (stops.NotUtf8 at) = ⊥
+
+-- A byte that stands for itself in a string.
+abbrev pub is_plain : ℕ → Bool
+is_plain c = nat_le 32 c && not (c == 34) && not (c == 92)
+
+-- From the one mode at the one offset the machine comes to the other mode at the other offset, whatever lists are open.
+abbrev pub Leads : List ℕ → ℕ → Mode → ℕ → Mode → Type 0
+Leads bytes i m j n = (os : OpenLists) → (f : Forest) → state_at bytes i ≡ Some (m, os, f) → state_at bytes j ≡ Some (n, os, f)
+
+-- The string that begins at the one offset has these bytes and ends before the other.
+abbrev pub EndsText : List ℕ → ℕ → List ℕ → ℕ → Type 0
+EndsText bytes from chars end = (os : OpenLists) → (f : Forest) → state_at bytes (suc from) ≡ Some (in_text from [], os, f)
+    → state_at bytes end ≡ Some (gap, os, behind f (text from chars empty))
+
+-- The machine refuses the bytes if it is in the mode at the offset.
+abbrev pub RefusesAfter : List ℕ → ℕ → Mode → TextStop → Type 0
+RefusesAfter bytes i m stop = (os : OpenLists) → (f : Forest) → depth_reached os f ≤ 100
+    → state_at bytes i ≡ Some (m, os, f) → Refuses bytes stop
+
+-- The machine is between tokens at the offset, with these open lists and trees: it goes on as from a gap, also after
+-- an atom, and at the end of the input also in a comment.
+pub record Rests (bytes : List ℕ) (at : ℕ) (os : OpenLists) (f : Forest) : Type 0 where
+  pub state : State
+  pub here : state_at bytes at ≡ Some state
+  pub same_lists : state.1 ≡ os
+  pub reached : depth_reached state.1 state.2 ≡ depth_reached os f
+  pub shallow : depth_reached os f ≤ 100
+  pub goes_on : at < length bytes → next state at (slice_index bytes at) ≡ start at (slice_index bytes at) os f
+  pub ends : length bytes ≤ at → forest_at_end state ≡ all_closed os f

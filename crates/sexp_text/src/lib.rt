@@ -10,6 +10,7 @@
 #![tactic(auto)]
 
 mod laws;
+mod lexer;
 mod printer;
 mod reader;
 mod same;

@@ -1,12 +1,13 @@
-// Parsing of source text in one pass over the bytes.
-ghost use Rattle.std.specs.Prelude.{◌⊎◌, ◌≡◌, ◌≢◌, ◌∷◌, ◌++◌, ◌≤◌, ◌<◌, [], List, Some, None, Err, length, IfOk, IfErr, OnOk};
+// Parsing of source text in one pass over its tokens.
+ghost use Rattle.std.specs.Prelude.{◌⊎◌, ◌≡◌, ◌≢◌, ◌∷◌, ◌≤◌, ◌<◌, Some, None, Err, length, true, slice_index, IfOk, IfErr, OnOk};
 ghost use Rattle.std.specs.Str.{IsUtf8};
-ghost use Rattle.sexp_text.specs.Forest.{Forest, empty, behind, nesting};
+ghost use Rattle.sexp_text.specs.Forest.{Forest, empty, atom, behind, nesting};
 ghost use Rattle.sexp_text.specs.View.{tree_view, forest_view};
-ghost use Rattle.sexp_text.specs.Grammar.{is_blank, is_atom_byte, Spells};
+ghost use Rattle.sexp_text.specs.Grammar.{is_atom_byte, Spells};
 ghost use Rattle.sexp_text.specs.TextFaults.{Cause};
-ghost use Rattle.sexp_text.specs.Machine.{trees, lists, state_of, whole, Refuses, gap, in_word, in_text, in_escape, OpenLists, closed, Stops, StopsAtEnd, start, step, next, forest_at_end, first_state, mode_of};
+ghost use Rattle.sexp_text.specs.Machine.{trees, lists, state_of, first_state, whole, Refuses, gap, closed, all_closed, Rests};
 
+use crate::lexer::{atom_len, comment_len, is_blank_byte, is_byte_of_atom, parse_string};
 use crate::{TextStop, Tree};
 use std::alloc::Global;
 use std::{mem, str};
@@ -17,8 +18,8 @@ const DEEPEST: usize = 100;
 // The offset of an open list, and the trees before it in the list around it.
 type OpenList = (usize, Vec<Tree>);
 
-// The state of the parser: the open lists, the innermost last, and the trees of the innermost list
-// so far.
+// The state of the parser between tokens: the open lists, the innermost last, and the trees of the innermost list so
+// far.
 #[derive(Drop)]
 struct Reader {
     alloc: Global,
@@ -26,44 +27,19 @@ struct Reader {
     current: Vec<Tree>,
 }
 
-// The token that a byte belongs to.
-#[derive(Drop)]
-enum LexerState {
-    Gap,
-    Comment,
-    Atom(usize, Vec<u8>),
-    Text(usize, Vec<u8>),
-    Escape(usize, Vec<u8>),
-}
-
-fn is_blank_byte(b: u8) -> bool
-    ensures { result ≡ is_blank b }
-{
-    matches!(b, b' ' | b'\t' | b'\n' | b'\r')
-}
-
-fn is_byte_of_atom(b: u8) -> bool
-    ensures { result ≡ is_atom_byte b }
-{
-    matches!(b, b'a'..=b'z' | b'A'..=b'Z' | b'0'..=b'9')
-        || matches!(
-            b,
-            b'+' | b'-' | b'*' | b'/' | b'%' | b'<' | b'>' | b'=' | b'!' | b'?' | b'_'
-        )
-}
-
-// Appends `b` to the bytes of an atom or a string.
-fn push_byte(mut bytes: Vec<u8>, b: u8) -> Result<Vec<u8>, TextStop>
-    ensures ok { IfOk result (λ v. v.items ≡ bytes.items ++ b ∷ []) }
+// Moves trees into a list with no room for more.
+fn without_spare_room(alloc: Global, mut trees: Vec<Tree>) -> Result<Vec<Tree>, TextStop>
+    ensures ok { IfOk result (λ v. v.items ≡ trees.items) }
     ensures err { IfErr result (λ e. e ≡ TextStop.NoMemory) }
 {
-    bytes.push(b)?;
-    Ok(bytes)
+    let mut all = Vec::with_capacity(alloc, trees.len())?;
+    all.append(&mut trees)?;
+    Ok(all)
 }
 
 impl Reader {
     fn new(alloc: Global) -> Self
-        ensures { state_of LexerState.Gap result ≡ first_state }
+        ensures { state_of result ≡ first_state }
     {
         Reader {
             alloc,
@@ -86,8 +62,7 @@ impl Reader {
     // Opens a list at the offset `at`.
     #[tactic(auto, using(crate::proofs::Trees::pushes))]
     fn open_list(&mut self, at: usize) -> Result<(), TextStop>
-        ensures ok { OnOk result (state_of LexerState.Gap self.new
-            ≡ (gap, (at, trees self.old) ∷ lists self.old, empty)) }
+        ensures ok { OnOk result (state_of self.new ≡ (gap, (at, trees self.old) ∷ lists self.old, empty)) }
         ensures room { OnOk result (length (lists self.old) < 100) }
         ensures err { IfErr result (λ e. (e ≡ TextStop.NoMemory)
             ⊎ ((e ≡ TextStop.TooDeep at) × (100 ≤ length (lists self.old)))) }
@@ -103,8 +78,7 @@ impl Reader {
     // Closes the innermost list. Fails if no list is open.
     #[tactic(auto, using(crate::proofs::Trees::pushes))]
     fn close_list(&mut self, at: usize) -> Result<(), TextStop>
-        ensures ok { OnOk result (closed (lists self.old) (trees self.old)
-            ≡ Some (state_of LexerState.Gap self.new)) }
+        ensures ok { OnOk result (closed (lists self.old) (trees self.old) ≡ Some (state_of self.new)) }
         ensures err { IfErr result (λ e. (e ≡ TextStop.NoMemory)
             ⊎ ((e ≡ TextStop.Bad at) × (closed (lists self.old) (trees self.old) ≡ None))) }
     {
@@ -112,142 +86,84 @@ impl Reader {
             None => Err(TextStop::Bad { at }),
             Some((opened, before)) => {
                 let inner = mem::replace(&mut self.current, before);
+                let inner = without_spare_room(self.alloc, inner)?;
                 self.put(Tree::List(opened, inner))
             }
         }
     }
 
-    // Takes a byte between tokens.
+    // Parses the atom that begins at `at`, and returns the offset after it.
     #[tactic(auto, using(crate::proofs::Trees::pushes))]
-    fn begin(&mut self, at: usize, b: u8) -> Result<LexerState, TextStop>
-        ensures ok { IfOk result (λ place. start at b (lists self.old) (trees self.old)
-            ≡ Some (state_of place self.new)) }
-        ensures room { OnOk result (length (lists self.old) ≤ 100 → length (lists self.new) ≤ 100) }
-        ensures err { IfErr result (Stops (start at b (lists self.old) (trees self.old)) at b) }
+    fn read_atom(&mut self, bytes: &[u8], at: usize) -> Result<usize, TextStop>
+        requires inside { at < length bytes.now }
+        requires begins { is_atom_byte (slice_index bytes.now at) ≡ true }
+        ensures within { IfOk result (λ end. (at < end) × (end ≤ length bytes.now)) }
+        ensures ok { IfOk result (λ end. Rests bytes.now at (lists self.old) (trees self.old) →
+            Rests bytes.now end (lists self.new) (trees self.new)) }
+        ensures err { IfErr result (λ e. e ≡ TextStop.NoMemory) }
     {
+        let rest = &bytes[at..];
+        let name = &rest[..atom_len(rest)];
+        self.put(Tree::Atom(at, Vec::from_slice(self.alloc, name)?))?;
+        Ok(at + name.len())
+    }
+
+    // Parses the string that begins at `at`, and returns the offset after it.
+    #[tactic(auto, using(crate::proofs::Trees::pushes))]
+    fn read_text(&mut self, bytes: &[u8], at: usize) -> Result<usize, TextStop>
+        requires inside { at < length bytes.now }
+        requires begins { slice_index bytes.now at ≡ 34 }
+        ensures within { IfOk result (λ end. (at < end) × (end ≤ length bytes.now)) }
+        ensures ok { IfOk result (λ end. Rests bytes.now at (lists self.old) (trees self.old) →
+            Rests bytes.now end (lists self.new) (trees self.new)) }
+        ensures err { IfErr result (λ e. Rests bytes.now at (lists self.old) (trees self.old) →
+            Refuses bytes.now e) }
+    {
+        let (chars, end) = parse_string(self.alloc, bytes, at)?;
+        self.put(Tree::Text(at, chars))?;
+        Ok(end)
+    }
+
+    // Takes the byte or the token that begins at `at`, and returns the offset after it.
+    fn advance(&mut self, bytes: &[u8], at: usize) -> Result<usize, TextStop>
+        requires { at < length bytes.now }
+        ensures within { IfOk result (λ end. (at < end) × (end ≤ length bytes.now)) }
+        ensures ok { IfOk result (λ end. Rests bytes.now at (lists self.old) (trees self.old) →
+            Rests bytes.now end (lists self.new) (trees self.new)) }
+        ensures err { IfErr result (λ e. Rests bytes.now at (lists self.old) (trees self.old) →
+            Refuses bytes.now e) }
+    {
+        let b = bytes[at];
         if is_blank_byte(b) {
-            return Ok(LexerState::Gap);
+            return Ok(at + 1);
+        }
+        if is_byte_of_atom(b) {
+            return self.read_atom(bytes, at);
         }
         match b {
-            b';' => Ok(LexerState::Comment),
             b'(' => {
                 self.open_list(at)?;
-                Ok(LexerState::Gap)
+                Ok(at + 1)
             }
             b')' => {
                 self.close_list(at)?;
-                Ok(LexerState::Gap)
+                Ok(at + 1)
             }
-            b'"' => Ok(LexerState::Text(at, Vec::new(self.alloc))),
-            _ => {
-                if is_byte_of_atom(b) {
-                    Ok(LexerState::Atom(at, push_byte(Vec::new(self.alloc), b)?))
-                } else {
-                    Err(TextStop::Bad { at })
-                }
-            }
-        }
-    }
-
-    // Takes a byte of an atom, or the first byte after it.
-    #[tactic(auto, using(crate::proofs::Trees::pushes))]
-    fn advance_atom(
-        &mut self,
-        from: usize,
-        name: Vec<u8>,
-        at: usize,
-        b: u8,
-    ) -> Result<LexerState, TextStop>
-        ensures ok { IfOk result (λ place. step (in_word from name.items) (lists self.old)
-            (trees self.old) at b ≡ Some (state_of place self.new)) }
-        ensures room { OnOk result (length (lists self.old) ≤ 100 → length (lists self.new) ≤ 100) }
-        ensures err { IfErr result (Stops
-            (step (in_word from name.items) (lists self.old) (trees self.old) at b) at b) }
-    {
-        if is_byte_of_atom(b) {
-            return Ok(LexerState::Atom(from, push_byte(name, b)?));
-        }
-        self.put(Tree::Atom(from, name))?;
-        self.begin(at, b)
-    }
-
-    // Takes a byte of a string, or the quote that ends it.
-    #[tactic(auto, using(crate::proofs::Trees::pushes))]
-    fn advance_text(
-        &mut self,
-        from: usize,
-        chars: Vec<u8>,
-        at: usize,
-        b: u8,
-    ) -> Result<LexerState, TextStop>
-        ensures ok { IfOk result (λ place. step (in_text from chars.items) (lists self.old)
-            (trees self.old) at b ≡ Some (state_of place self.new)) }
-        ensures room { OnOk result (length (lists self.old) ≤ 100 → length (lists self.new) ≤ 100) }
-        ensures err { IfErr result (Stops
-            (step (in_text from chars.items) (lists self.old) (trees self.old) at b) at b) }
-    {
-        match b {
-            b'"' => {
-                self.put(Tree::Text(from, chars))?;
-                Ok(LexerState::Gap)
-            }
-            b'\\' => Ok(LexerState::Escape(from, chars)),
-            32.. => Ok(LexerState::Text(from, push_byte(chars, b)?)),
+            b'"' => self.read_text(bytes, at),
+            b';' => Ok(at + comment_len(&bytes[at..])),
             _ => Err(TextStop::Bad { at }),
         }
     }
 
-    // Takes one byte.
-    #[tactic(auto, using(crate::proofs::Trees::pushes))]
-    fn advance(&mut self, place: LexerState, at: usize, b: u8) -> Result<LexerState, TextStop>
-        ensures ok { IfOk result (λ after. next (state_of place self.old) at b
-            ≡ Some (state_of after self.new)) }
-        ensures room { OnOk result (length (lists self.old) ≤ 100 → length (lists self.new) ≤ 100) }
-        ensures err { IfErr result (Stops (next (state_of place self.old) at b) at b) }
-    {
-        match place {
-            LexerState::Gap => self.begin(at, b),
-            LexerState::Comment if b == b'\n' => Ok(LexerState::Gap),
-            LexerState::Comment => Ok(LexerState::Comment),
-            LexerState::Atom(from, name) => self.advance_atom(from, name, at, b),
-            LexerState::Text(from, chars) => self.advance_text(from, chars, at, b),
-            LexerState::Escape(from, chars) => advance_escape(from, chars, at, b),
-        }
-    }
-
-    // Returns the trees at the end of the input, whose length is `at`.
-    #[tactic(auto, using(crate::proofs::Trees::pushes))]
-    fn complete(mut self, place: LexerState, at: usize) -> Result<Vec<Tree>, TextStop>
-        ensures ok { IfOk result (λ trees. forest_at_end (state_of place self)
-            ≡ Some (forest_view trees.items)) }
-        ensures err { IfErr result (StopsAtEnd (forest_at_end (state_of place self)) at) }
+    // Returns the trees at the end of the input, whose length is `at`. Fails if a list is open.
+    fn complete(self, at: usize) -> Result<Vec<Tree>, TextStop>
+        ensures ok { IfOk result (λ v. all_closed (lists self) (trees self) ≡ Some (forest_view v.items)) }
+        ensures err { IfErr result (λ e. (e ≡ TextStop.Bad at) × (all_closed (lists self) (trees self) ≡ None)) }
     {
         if !self.around.is_empty() {
             return Err(TextStop::Bad { at });
         }
-        match place {
-            LexerState::Gap | LexerState::Comment => Ok(self.current),
-            LexerState::Atom(from, name) => {
-                self.put(Tree::Atom(from, name))?;
-                Ok(self.current)
-            }
-            LexerState::Text(..) | LexerState::Escape(..) => Err(TextStop::Bad { at }),
-        }
-    }
-}
-
-// Takes the byte after a backslash.
-fn advance_escape(from: usize, chars: Vec<u8>, at: usize, b: u8) -> Result<LexerState, TextStop>
-    ensures ok { (os : OpenLists) → (f : Forest) →
-        IfOk result (λ place. step (in_escape from chars.items) os f at b
-        ≡ Some (mode_of place, os, f)) }
-    ensures err { (os : OpenLists) → (f : Forest) →
-        IfErr result (Stops (step (in_escape from chars.items) os f at b) at b) }
-{
-    match b {
-        b'"' | b'\\' => Ok(LexerState::Text(from, push_byte(chars, b)?)),
-        b'n' => Ok(LexerState::Text(from, push_byte(chars, b'\n')?)),
-        _ => Err(TextStop::Bad { at }),
+        Ok(self.current)
     }
 }
 
@@ -258,11 +174,11 @@ fn read_trees(alloc: Global, bytes: &[u8]) -> Result<Vec<Tree>, TextStop>
     ensures err { IfErr result (Refuses bytes.now) }
 {
     let mut reader = Reader::new(alloc);
-    let mut place = LexerState::Gap;
-    for (at, b) in bytes.iter().enumerate() {
-        place = reader.advance(place, at, *b)?;
+    let mut at = 0;
+    while at < bytes.len() {
+        at = reader.advance(bytes, at)?;
     }
-    reader.complete(place, bytes.len())
+    reader.complete(at)
 }
 
 // Parses bytes that are UTF-8.

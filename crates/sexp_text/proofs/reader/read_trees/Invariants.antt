@@ -1,10 +1,12 @@
-use Rattle.std.proofs.Common.{◌≡◌, ◌≤◌, Some, length}
-use Rattle.sexp_text.specs.Machine.{state_at, state_of, lists, trees, depth_reached}
+use Rattle.std.proofs.Common.{◌≤◌, ◌-◌, length}
+use Rattle.sexp_text.specs.Machine.{Rests, lists, trees}
 use Rattle.sexp_text.proofs.reader.read_trees.Given as goal
 
 abbrev pub invariant-loop-at : goal.invariant-loop-at
 invariant-loop-at l = record {
-  here : state_at l.bytes l.at ≡ Some (state_of l.place l.reader);
-  few : length (lists l.reader) ≤ 100;
-  shallow : depth_reached (lists l.reader) (trees l.reader) ≤ 100;
+  within : l.at ≤ length l.bytes;
+  here : Rests l.bytes l.at (lists l.reader) (trees l.reader);
 }
+
+abbrev pub decreases-loop-at : goal.decreases-loop-at
+decreases-loop-at l = length l.bytes - l.at
