@@ -1,5 +1,5 @@
 -- Laws on whole tokens: where the machine is after each.
-use Rattle.std.proofs.Common.{subst, ◌≡◌, ◌≢◌, ◌-◌, ◌⊎◌, inl, inr, ◌≤◌, ◌<◌, ℕ, ◌+◌, ◌==◌, suc, max, Bool, true, false, cond, ◌&&◌, not, List, [], ◌∷◌, ◌++◌, Some, None, refl, sym, ap, ◌∙◌, zero, length, length-drop, get_or, take, drop, arith, append_assoc, nat_le, add-one}
+use Rattle.std.proofs.Common.{subst, ◌≡◌, ◌≢◌, ◌-◌, inl, inr, ◌≤◌, ◌<◌, ℕ, ◌+◌, ◌==◌, suc, Bool, true, false, ◌&&◌, not, List, [], ◌∷◌, ◌++◌, Some, None, refl, sym, ap, ◌∙◌, zero, length, length-drop, get_or, take, drop, arith, append_assoc, nat_le, add-one}
 use Rattle.std.proofs.Math.Seq.{take-add, drop-cons}
 use Rattle.std.proofs.Math.Nat.{eq-or-lt_of_le}
 use Rattle.std.proofs.lemmas.Bool.{eqb-true, false_from_ne_true}
@@ -9,13 +9,13 @@ use Rattle.std.proofs.lemmas.List.Folds.{list_all_more}
 use Rattle.std.proofs.lemmas.Option.{same_Some}
 use Rattle.std.specs.List.{list_all}
 use Rattle.std.specs.declared.option.Option.{Option}
-use Rattle.std.specs.Option.{option_and_then, IsSomeAnd}
+use Rattle.std.specs.Option.{option_and_then}
 use Rattle.sexp_text.specs.declared.stop.TextStop.{TextStop}
 use Rattle.sexp_text.specs.declared.stop.TextStop.TheVariants as stops
-use Rattle.sexp_text.specs.Forest.{Forest, empty, atom, text, list, behind, nesting}
+use Rattle.sexp_text.specs.Forest.{Forest, empty, atom, text, list, behind}
 use Rattle.sexp_text.specs.Grammar.{is_blank, is_atom_byte, is_comment}
-use Rattle.sexp_text.specs.Machine.{Mode, gap, in_comment, in_word, in_text, in_escape, OpenLists, State, closed, start, step, next, run, first_state, forest_at_end, all_closed, state_at, whole, depth_reached, IsShallow, Fails, Refuses, is_plain, Leads, EndsText, RefusesAfter, Rests}
-use Rattle.sexp_text.proofs.Walks.{run_on, walk_on, reached_same, depth_reached-behind, length_le-depth_reached, finish_reaches, whole_is, stops_refuses}
+use Rattle.sexp_text.specs.Machine.{Mode, gap, in_comment, in_word, in_text, in_escape, OpenLists, State, closed, start, step, next, run, first_state, forest_at_end, state_at, depth_reached, Refuses, is_plain, Leads, EndsText, RefusesAfter, Rests}
+use Rattle.sexp_text.proofs.Walks.{run_on, walk_on, reached_same, depth_reached-behind, length_le-depth_reached, whole_is, stops_refuses}
 use Rattle.sexp_text.proofs.Complete.{both, negated, name_on, comment_on, start_word}
 
 -- a scan goes on

@@ -1,5 +1,5 @@
 // Parsing of source text in one pass over its tokens.
-ghost use Rattle.std.specs.Prelude.{◌⊎◌, ◌≡◌, ◌≢◌, ◌∷◌, ◌≤◌, ◌<◌, Some, None, Err, length, true, slice_index, IfOk, IfErr, OnOk};
+ghost use Rattle.std.specs.Prelude.{◌⊎◌, ◌≡◌, ◌≢◌, ◌∷◌, ◌≤◌, ◌<◌, [], Some, None, Err, length, true, slice_index, IfOk, IfErr, OnOk};
 ghost use Rattle.std.specs.Str.{IsUtf8};
 ghost use Rattle.sexp_text.specs.Forest.{Forest, empty, atom, behind, nesting};
 ghost use Rattle.sexp_text.specs.View.{tree_view, forest_view};
@@ -19,22 +19,36 @@ const DEEPEST: usize = 100;
 type OpenList = (usize, Vec<Tree>);
 
 // The state of the parser between tokens: the open lists, the innermost last, and the trees of the innermost list so
-// far.
+// far. A closed list moves to memory of its exact size, and `spare` keeps the memory in which it grew for a later list.
 #[derive(Drop)]
 struct Reader {
     alloc: Global,
     around: Vec<OpenList>,
     current: Vec<Tree>,
+    spare: Vec<Vec<Tree>>,
 }
 
-// Moves trees into a list with no room for more.
-fn without_spare_room(alloc: Global, mut trees: Vec<Tree>) -> Result<Vec<Tree>, TextStop>
-    ensures ok { IfOk result (λ v. v.items ≡ trees.items) }
+// Moves all trees into a list of exactly their number.
+fn move_all(alloc: Global, trees: &mut Vec<Tree>) -> Result<Vec<Tree>, TextStop>
+    ensures ok { IfOk result (λ v. v.items ≡ trees.old.items) }
     ensures err { IfErr result (λ e. e ≡ TextStop.NoMemory) }
 {
     let mut all = Vec::with_capacity(alloc, trees.len())?;
-    all.append(&mut trees)?;
+    all.append(trees)?;
     Ok(all)
+}
+
+// Returns an empty list, in spare memory if there is some.
+fn empty_list(alloc: Global, spare: &mut Vec<Vec<Tree>>) -> Vec<Tree>
+    ensures { result.items ≡ [] }
+{
+    match spare.pop() {
+        Some(mut list) => {
+            list.clear();
+            list
+        }
+        None => Vec::new(alloc),
+    }
 }
 
 impl Reader {
@@ -45,6 +59,7 @@ impl Reader {
             alloc,
             around: Vec::new(alloc),
             current: Vec::new(alloc),
+            spare: Vec::new(alloc),
         }
     }
 
@@ -70,7 +85,8 @@ impl Reader {
         if self.around.len() >= DEEPEST {
             return Err(TextStop::TooDeep { at });
         }
-        let before = mem::replace(&mut self.current, Vec::new(self.alloc));
+        let inner = empty_list(self.alloc, &mut self.spare);
+        let before = mem::replace(&mut self.current, inner);
         self.around.push((at, before))?;
         Ok(())
     }
@@ -85,9 +101,10 @@ impl Reader {
         match self.around.pop() {
             None => Err(TextStop::Bad { at }),
             Some((opened, before)) => {
-                let inner = mem::replace(&mut self.current, before);
-                let inner = without_spare_room(self.alloc, inner)?;
-                self.put(Tree::List(opened, inner))
+                let mut inner = mem::replace(&mut self.current, before);
+                let trees = move_all(self.alloc, &mut inner)?;
+                self.spare.push(inner)?;
+                self.put(Tree::List(opened, trees))
             }
         }
     }

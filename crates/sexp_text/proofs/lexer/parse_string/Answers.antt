@@ -1,6 +1,6 @@
-use Rattle.std.proofs.Common.{◌∙◌, sym, ap, arith, suc, Some, add-one, subst, ℕ, List, ◌++◌, ◌∷◌, [], ◌≡◌}
+use Rattle.std.proofs.Common.{arith, suc, []}
 use Rattle.std.proofs.lemmas.Result.{err_from_is_err_and}
-use Rattle.sexp_text.specs.Machine.{in_text, Leads, EndsText}
+use Rattle.sexp_text.specs.Machine.{in_text}
 use Rattle.sexp_text.proofs.Tokens.{quote_ends, escape_leads, escape_refuses, char_refuses}
 use Rattle.sexp_text.proofs.lexer.parse_string.Goals as goal
 

@@ -1,4 +1,4 @@
-use Rattle.std.proofs.Common.{◌∙◌, sym, ap, arith, length, take, drop, ◌-◌, Some, length-drop, ℕ, List}
+use Rattle.std.proofs.Common.{◌∙◌, sym, ap, length, take, drop, ◌-◌, Some, ℕ, List}
 use Rattle.std.proofs.lemmas.List.{length-take-le}
 use Rattle.sexp_text.specs.Machine.{in_text}
 use Rattle.sexp_text.proofs.Tokens.{tail_is, plain_leads}

@@ -1,4 +1,4 @@
-use Rattle.std.proofs.Common.{◌∙◌, ◌⊎◌, inl, inr, ◌≡◌, ◌≢◌, ◌==◌, refl, sym, ap, subst, ℕ, ◌+◌, List, arith, get_or, not, None}
+use Rattle.std.proofs.Common.{◌∙◌, inl, inr, ◌≢◌, ◌==◌, refl, sym, ap, subst, ℕ, ◌+◌, List, arith, get_or, not}
 use Rattle.std.proofs.lemmas.Result.{err_from_is_err_and}
 use Rattle.sexp_text.specs.Forest.{Forest}
 use Rattle.sexp_text.specs.Machine.{OpenLists, State, Rests, lists, trees}
