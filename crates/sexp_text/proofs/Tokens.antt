@@ -41,7 +41,6 @@ pub gap_rests : (bytes : List ℕ) (at : ℕ) (os : OpenLists) (f : Forest) → 
 gap_rests bytes at os f here le = record {
   state = (gap, os, f);
   here = here;
-  same_lists = refl;
   reached = refl;
   shallow = le;
   goes_on = λ _. refl;
@@ -151,7 +150,6 @@ atom_rests bytes at (suc m) os f scan some r lt =
     record {
       state = (in_word at name, os, f);
       here = atom_here bytes at m os f r lt scan.all;
-      same_lists = refl;
       reached = sym same;
       shallow = omega (arith, same, r.shallow);
       goes_on = λ more. rw (scan_ends is_atom_byte bytes at (suc m) scan more) refl;
@@ -181,7 +179,6 @@ comment_rests bytes at zero os f scan some r lt e = absurd (omega (arith, some))
 comment_rests bytes at (suc m) os f scan some r lt e = record {
   state = (in_comment, os, f);
   here = comment_here bytes at m os f r lt e scan.all;
-  same_lists = refl;
   reached = refl;
   shallow = r.shallow;
   goes_on = λ more. rw (is_line_feed (get_or bytes (at + suc m) 0) (scan_ends (λ c. not (c == 10)) bytes at (suc m) scan more)) refl;

@@ -168,12 +168,11 @@ abbrev pub RefusesAfter : List ℕ → ℕ → Mode → TextStop → Type 0
 RefusesAfter bytes i m stop = (os : OpenLists) → (f : Forest) → depth_reached os f ≤ 100
     → state_at bytes i ≡ Some (m, os, f) → Refuses bytes stop
 
--- The machine is between tokens at the offset, with these open lists and trees: it goes on as from a gap, also after
--- an atom, and at the end of the input also in a comment.
+-- The machine is between tokens at the offset, with these open lists and trees. It goes on as from a gap, also after the
+-- last byte of an atom, and after the last byte of a comment before its LF.
 pub record Rests (bytes : List ℕ) (at : ℕ) (os : OpenLists) (f : Forest) : Type 0 where
   pub state : State
   pub here : state_at bytes at ≡ Some state
-  pub same_lists : state.1 ≡ os
   pub reached : depth_reached state.1 state.2 ≡ depth_reached os f
   pub shallow : depth_reached os f ≤ 100
   pub goes_on : at < length bytes → next state at (slice_index bytes at) ≡ start at (slice_index bytes at) os f
