@@ -272,7 +272,7 @@ kept-without_id i x (y ∷ ys) other = of (y == x) refl (kept-without_id i x ys 
   of false is later = ap (λ t. y == i || t) later
 
 -- a second removal changes nothing
-none_removed : (xs ys : List ℕ) → ((i : ℕ) → contains i xs ≡ true → contains i ys ≡ false) → without_ids xs ys ≡ xs
+pub none_removed : (xs ys : List ℕ) → ((i : ℕ) → contains i xs ≡ true → contains i ys ≡ false) → without_ids xs ys ≡ xs
 none_removed [] ys h = refl
 none_removed (x ∷ xs) ys h = ap (λ b. cond b (without_ids xs ys) (x ∷ without_ids xs ys)) (h x (ap (λ b. b || contains x xs) ((Decides-eqb x x).1 refl)))
     ∙ ap (λ (l : List ℕ). x ∷ l) (none_removed xs ys (λ i there. h i (or_last (x == i) (contains i xs) there)))

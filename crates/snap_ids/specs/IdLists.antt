@@ -1,5 +1,5 @@
 -- Trusted: sets of snapshot ids as lists in increasing order, and when an id is valid.
-use Rattle.std.specs.Prelude.{ℕ, ◌≡◌, Bool, true, false, not, ◌&&◌, zero, suc, ◌+◌, ◌<◌, ◌==◌, nat_lt, nat_le, List, [], ◌∷◌, if◌then◌else◌}
+use Rattle.std.specs.Prelude.{ℕ, ◌≡◌, Bool, true, false, not, ◌&&◌, zero, suc, ◌+◌, ◌<◌, ◌==◌, nat_lt, nat_le, List, [], ◌∷◌, if◌then◌else◌, Option, Some, None}
 use Rattle.std.specs.Coded.{×_prop, Π_prop, Unit-prop, le_prop}
 use Rattle.rt_values.specs.Maps.{contains}
 
@@ -41,6 +41,16 @@ with_ids xs (y ∷ ys) = with_ids (with_id y xs) ys
 abbrev pub without_ids : List ℕ → List ℕ → List ℕ
 without_ids [] ys = []
 without_ids (x ∷ xs) ys = if contains x ys then without_ids xs ys else x ∷ without_ids xs ys
+
+-- The ids of the list that are greater than x.
+abbrev pub ids_above : ℕ → List ℕ → List ℕ
+ids_above x [] = []
+ids_above x (y ∷ ys) = if nat_lt x y then y ∷ ids_above x ys else ids_above x ys
+
+-- The given id with the ids of the list that are greater. No given id: no ids.
+abbrev pub rest_from : Option ℕ → List ℕ → List ℕ
+rest_from None xs = []
+rest_from (Some x) xs = x ∷ ids_above x xs
 
 -- The lowest id of a list in increasing order. An empty list gives the default.
 abbrev pub lowest : List ℕ → ℕ → ℕ
