@@ -5,7 +5,7 @@ use Rattle.snap_nested.specs.Ids.{Ids, IsDated, IsSound, IsAlone, valid_for_base
 use Rattle.snap_nested.specs.Moves.{Advances}
 use Rattle.snap_ids.proofs.Booleans.{same_or_other, not_both, not_true, or_true, or_right, or_none, and_like, and_owned, and_unseen}
 
--- a live name sees no id that was not handed out
+-- an id that was not handed out is valid for no live name
 pub seen_within : {f : Ids} {handed : ℕ} → IsSound f handed → IsDated f → (n i : ℕ) → f.live n ≡ true → f.sees n i ≡ true → i ≤ handed
 seen_within {f} s dated n i live seen =
     let d = dated.by n i live seen in
@@ -66,7 +66,7 @@ module _ {f g : Ids} {handed name : ℕ} (a : Advances f g handed name) (s : IsS
   new_own : g.owns name (handed + 1) ≡ true
   new_own = a.owns (handed + 1) ∙ or_right (f.owns name (handed + 1)) (handed + 1 == handed + 1) ((Decides-eqb (handed + 1) (handed + 1)).1 refl)
 
-  -- the new id is seen by its name alone
+  -- the new id is valid only for its name
   pub new_unseen : (n : ℕ) → n ≢ name → f.live n ≡ true → g.sees n (handed + 1) ≡ false
   new_unseen n other live = (a.others n other).sees (handed + 1) ∙ unseen_above s dated n (handed + 1) live (omega arith)
 
@@ -161,7 +161,7 @@ module _ {f g : Ids} {handed name : ℕ} (a : Advances f g handed name) (s : IsS
     root_seen = λ m live. sees_advanced m 0 1 s.root ∙ s.root_seen m (was m live);
   }
 
-  -- it writes alone now, and who wrote alone still does
+  -- the new current id is valid only for its name, as the current ids of other names are
   pub alone_advanced : IsAlone g name
   alone_advanced m live seen = elim (same_or_other m name) [
     | inl e ↦ sym e

@@ -14,7 +14,7 @@ module _ {f g : Ids} {handed name into : ℕ} (a : Applies f g name into) (s : I
   into_first : f.owns into (f.first into) ≡ true
   into_first = s.first_own into (f.current into) (s.current_own into live_into)
 
-  -- the parent sees none of the child's ids before
+  -- none of the child's ids is valid for the parent before
   first_dark : f.sees into (f.first name) ≡ false
   first_dark =
       let not_into : f.owns (f.parent name) (f.first name) ≡ false = not_true (f.owns (f.parent name) (f.first name)) (λ h. distinct (sym is_parent ∙ s.apart (f.parent name) name (f.first name) h name_first)) in

@@ -1,4 +1,4 @@
--- A snapshot is disposed, and its ids are forgotten once nobody sees them.
+-- A snapshot is disposed, and its ids are forgotten once they are valid for no live snapshot.
 use Rattle.std.proofs.Common.{◌≡◌, ◌≢◌, ℕ, ◌<◌, sym, ◌∙◌, subst, true, false, arith, inl, inr}
 use Rattle.snap_nested.specs.Ids.{Ids, IsSound, AreAlone, valid_for_base}
 use Rattle.snap_nested.specs.Moves.{Disposes, Forgets}

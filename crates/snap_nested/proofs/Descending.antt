@@ -1,4 +1,4 @@
--- Who sees a name's first id is who descends from it.
+-- A name's first id is valid exactly for the snapshots that descend from the name.
 use Rattle.std.proofs.Common.{◌≡◌, ◌≢◌, ℕ, ◌+◌, ◌<◌, refl, sym, ap, ◌∙◌, subst, true, false, inl, inr}
 use Rattle.snap_nested.specs.Ids.{Ids, IsDated, IsSound, Descends, itself, under, FirstIdShowsDescent}
 use Rattle.snap_nested.specs.Moves.{Enters, Advances, Applies, Disposes, Forgets}
@@ -75,7 +75,7 @@ module _ {f g : Ids} {handed parent name : ℕ} (a : Enters f g handed parent na
   pub tells_entered : FirstIdShowsDescent g
   tells_entered = record { down = down; up = up_of }
 
--- where parents and first ids stay, who sees them too
+-- if parents and first ids are unchanged, so is for whom they are valid
 pub tells_on : {f g : Ids} → FirstIdShowsDescent f → ((n : ℕ) → g.parent n ≡ f.parent n) → ((n : ℕ) → g.live n ≡ true → f.live n ≡ true) →
     ((n i : ℕ) → g.owns n i ≡ true → (j : ℕ) × (f.owns n j ≡ true) × ((m : ℕ) → g.live m ≡ true → g.sees m (g.first n) ≡ f.sees m (f.first n))) → FirstIdShowsDescent g
 tells_on {f} {g} t parents was same = record {

@@ -31,7 +31,7 @@ module _ {f g : Ids} {handed parent name : ℕ} (a : Enters f g handed parent na
   pub still_owned_entered : (n i : ℕ) → f.owns n i ≡ true → g.owns n i ≡ true
   still_owned_entered n i own = owns_entered n i (s.owned n i own).1 ∙ own
 
-  -- what a name sees of the ids before, some name saw
+  -- an earlier id that is valid for a name was valid for some name
   pub record Source (n : ℕ) : Type 0 where
     pub of : ℕ
     pub live : f.live of ≡ true
@@ -101,7 +101,7 @@ module _ {f g : Ids} {handed parent name : ℕ} (a : Enters f g handed parent na
     ]
   ]
 
-  -- what concerns the new name, and what the others
+  -- the facts of the new name, and those of the other names
   nested_new : (m : ℕ) → g.live m ≡ true → g.sees m (g.first name) ≡ true → g.sees m (g.first parent) ≡ true
   nested_new m live seen = elim (same_or_other m name) [
     | inl d ↦
@@ -194,7 +194,7 @@ module _ {f g : Ids} {handed parent name : ℕ} (a : Enters f g handed parent na
     | inr e ↦ absurd (not_both (g.sees m (handed + 1)) (subst (λ (j : ℕ). g.sees m j ≡ true) a.current seen) (new_unseen_entered m e (was m e live)))
   ]
 
-  -- who wrote alone still does, but for the parent
+  -- a current id that was valid only for its snapshot still is, except for the parent's
   pub still_alone_entered : (n : ℕ) → n ≢ parent → f.live n ≡ true → IsAlone f n → IsAlone g n
   still_alone_entered n other live alone m live_m seen =
       let from = source m live_m in

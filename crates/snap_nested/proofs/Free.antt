@@ -13,7 +13,7 @@ both : (a b : Bool) → a ≡ true → b ≡ true → (a && b) ≡ true
 both true b h k = k
 both false b h k = absurd cc
 
--- a live one that sees the id is found
+-- a live snapshot for which the id is valid is found
 pub seen_found : (ms : List Member) (i n : ℕ) → (member ms n).is_live ≡ true → is_valid (member ms n).id (member ms n).invalid i ≡ true → is_seen ms i ≡ true
 seen_found [] i n live h = absurd cc
 seen_found (m ∷ ms) i zero live h = or_left (sees i m) (is_seen ms i) (both m.is_live (is_valid m.id m.invalid i) live h)
@@ -25,7 +25,7 @@ free_parts true b c h = absurd cc
 free_parts false true c h = absurd cc
 free_parts false false true h = absurd cc
 
--- it is closed, and no live one sees its first id
+-- it is closed, and its first id is valid for no live snapshot
 pub free_closed : (ms : List Member) (n : ℕ) → is_free ms (member ms n) ≡ true → (member ms n).is_live ≡ false
 free_closed ms n h = (free_parts (member ms n).is_live (is_empty (member ms n).ids) (is_seen ms (member ms n).first) h).0
 
@@ -37,7 +37,7 @@ pub some_own : (xs : List ℕ) → is_empty xs ≡ false → (i : ℕ) × (conta
 some_own [] h = absurd cc
 some_own (x ∷ xs) h = (x, or_left (x == x) (contains x xs) ((Decides-eqb x x).1 refl))
 
--- so none descends from it
+-- no live snapshot descends from it
 pub free_alone : (ms : List Member) (n : ℕ) → FirstIdShowsDescent (ids_of ms) → is_free ms (member ms n) ≡ true → (m : ℕ) → (ids_of ms).live m ≡ true → Descends (ids_of ms) m n → ⊥
 free_alone ms n t h m live d =
     let own = some_own (member ms n).ids (free_parts (member ms n).is_live (is_empty (member ms n).ids) (is_seen ms (member ms n).first) h).1 in
@@ -55,7 +55,7 @@ found (m ∷ ms) i h = elim (or_true (sees i m) (is_seen ms i) h) [
   | inr e ↦ let p = found ms i e in (suc p.0, p.1, p.2)
 ]
 
--- and one that, is closed and keeps ids some live one does
+-- a closed snapshot that keeps ids and has no live descendant is free
 pub kept_below : (ms : List Member) (n : ℕ) → FirstIdShowsDescent (ids_of ms) → (member ms n).is_live ≡ false → is_empty (member ms n).ids ≡ false → ((m : ℕ) → (ids_of ms).live m ≡ true → Descends (ids_of ms) m n → ⊥) → is_free ms (member ms n) ≡ true
 kept_below ms n t closed keeps none = parts (member ms n).is_live (is_empty (member ms n).ids) (is_seen ms (member ms n).first) closed keeps (not_true (is_seen ms (member ms n).first) (λ h.
     let f = found ms (member ms n).first h in

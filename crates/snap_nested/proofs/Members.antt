@@ -61,7 +61,7 @@ dated ms = record {
 abbrev spread : Member → ℕ → List ℕ
 spread m handed = with_run (m.id + 1) ((handed + 1) - (m.id + 1)) m.invalid
 
--- they hide what was handed out since, and nothing else
+-- the ids handed out since are invalid too, and no others
 spread_valid : (m : Member) (handed i : ℕ) → m.id ≤ handed → i ≤ handed → is_valid (handed + 1) (spread m handed) i ≡ is_valid m.id m.invalid i
 spread_valid m handed i low old = elim (valid_tells m.id i m.invalid) [
   | inl v ↦
@@ -134,7 +134,7 @@ same_truth true b f g = sym (f refl)
 same_truth false true f g = g refl
 same_truth false false f g = refl
 
--- a test of the open members is a test of all, where it finds open ones alone
+-- a test of the open members is a test of all members, if only open members pass it
 pub any_open : (t : Member → Bool) (os : List ℕ) (ms : List Member) → t no_member ≡ false → ((n : ℕ) → t (member ms n) ≡ true → contains n os ≡ true) → list_any (λ n. t (member ms n)) os ≡ list_any t ms
 any_open t os ms none is_open = same_truth (list_any (λ n. t (member ms n)) os) (list_any t ms)
     (λ h. let p = any_name (λ n. t (member ms n)) os h in member_any t ms p.0 none p.1)
@@ -181,7 +181,7 @@ contains-with_owned ms kept (x ∷ more) i = contains-with_owned ms (cond (is_ow
 contains-sealed : (ms : List Member) (m : Member) (handed i : ℕ) → contains i (invalid_after_advance ms m handed) ≡ (contains i (spread m handed) && is_owned ms i)
 contains-sealed ms m handed i = contains-with_owned ms [] (spread m handed) i
 
--- sealing hides the ids that were handed out since and that a member has, and nothing else
+-- a new id makes invalid the ids that were handed out since and that a member has, and no others
 pub sealed_valid : (ms : List Member) (m : Member) (handed k i : ℕ) → m.id ≤ handed → contains i (member ms k).ids ≡ true → i ≤ handed → is_valid (handed + 1) (invalid_after_advance ms m handed) i ≡ is_valid m.id m.invalid i
 sealed_valid ms m handed k i low known old =
     let same : contains i (invalid_after_advance ms m handed) ≡ contains i (spread m handed) = contains-sealed ms m handed i ∙ ap (λ b. contains i (spread m handed) && b) (owned_by ms k i known) ∙ and_end (contains i (spread m handed)) in

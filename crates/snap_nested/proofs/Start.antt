@@ -1,4 +1,4 @@
--- Global alone.
+-- The family with only global.
 use Rattle.std.proofs.Common.{◌≡◌, ◌≢◌, ℕ, zero, suc, ◌==◌, ◌<◌, ◌≤◌, List, [], ◌∷◌, length, refl, subst, Bool, true, false, ◌||◌, arith}
 use Rattle.std.proofs.lemmas.Bool.Decides.{Decides-eqb}
 use Rattle.rt_values.specs.Maps.{contains}

@@ -5,7 +5,7 @@ ghost use Rattle.snap_nested.specs.Members.{member, members_after_enter, members
 
 use crate::Member;
 use rt_values::{Caller, Kind, Name, NoMemory};
-use snap_ids::IdSet;
+use snap_ids::{IdList, IdSet};
 use std::alloc::Global;
 use std::mem::replace;
 
@@ -20,7 +20,7 @@ fn owns(members: &[Member], name: Name, id: u64) -> bool
 }
 
 // Returns whether a member has the id. Looks at the open names only.
-fn is_owned(members: &[Member], held: &IdSet, id: u64) -> bool
+fn is_owned(members: &[Member], held: &IdList, id: u64) -> bool
     requires { AreOpen held.now members.now }
     ensures { result ≡ is_owned members.now id }
 {
@@ -36,17 +36,19 @@ fn is_owned(members: &[Member], held: &IdSet, id: u64) -> bool
 fn keep_owned(
     alloc: Global,
     members: &[Member],
-    held: &IdSet,
+    held: &IdList,
     all: &IdSet,
 ) -> Result<IdSet, NoMemory>
     requires { AreOpen held.now members.now }
     ensures { IfOk result (λ s. s ≡ with_owned members.now [] all.now) }
 {
     let mut kept = IdSet::new(alloc);
-    for id in all.ids() {
-        if is_owned(members, held, *id) {
-            kept.set(*id)?;
+    let mut next = all.first();
+    while let Some(id) = next {
+        if is_owned(members, held, id) {
+            kept.set(id)?;
         }
+        next = all.next_above(id);
     }
     Ok(kept)
 }
@@ -55,7 +57,7 @@ fn keep_owned(
 fn seal(
     alloc: Global,
     members: &[Member],
-    held: &IdSet,
+    held: &IdList,
     handed: u64,
     name: Name,
 ) -> Result<IdSet, NoMemory>
@@ -75,7 +77,7 @@ fn seal(
 pub fn enter_member(
     alloc: Global,
     members: &mut Vec<Member>,
-    held: &IdSet,
+    held: &IdList,
     handed: u64,
     parent: Name,
     kind: Kind,
@@ -108,7 +110,7 @@ pub fn enter_member(
 pub fn advance_member(
     alloc: Global,
     members: &mut Vec<Member>,
-    held: &IdSet,
+    held: &IdList,
     handed: u64,
     name: Name,
 ) -> Result<(), NoMemory>
@@ -146,7 +148,7 @@ pub fn close_member(members: &mut Vec<Member>, name: Name)
 pub fn merge_member(
     alloc: Global,
     members: &mut Vec<Member>,
-    held: &IdSet,
+    held: &IdList,
     handed: u64,
     name: Name,
     into: Name,
@@ -178,8 +180,8 @@ pub fn merge_member(
 pub fn take_members(
     alloc: Global,
     members: &mut Vec<Member>,
-    held: &IdSet,
-    after: &IdSet,
+    held: &IdList,
+    after: &IdList,
     handed: u64,
     parent: Name,
     kind: Kind,
@@ -213,7 +215,7 @@ fn sees(members: &[Member], name: Name, id: u64) -> bool
 }
 
 // Returns whether the id is valid for a live member. Looks at the open names only.
-fn is_seen(members: &[Member], held: &IdSet, id: u64) -> bool
+fn is_seen(members: &[Member], held: &IdList, id: u64) -> bool
     requires { AreOpen held.now members.now }
     ensures { result ≡ is_seen members.now id }
 {
@@ -226,7 +228,7 @@ fn is_seen(members: &[Member], held: &IdSet, id: u64) -> bool
 }
 
 // Returns whether the member is closed and keeps ids, of which the first is valid for no live member.
-fn is_free(members: &[Member], held: &IdSet, name: Name) -> bool
+fn is_free(members: &[Member], held: &IdList, name: Name) -> bool
     requires { AreOpen held.now members.now }
     ensures { result ≡ is_free members.now (member members.now name) }
 {
@@ -239,7 +241,7 @@ fn is_free(members: &[Member], held: &IdSet, name: Name) -> bool
 }
 
 /// Returns the first name that is free: closed, with ids that no live member needs.
-pub fn first_free(members: &[Member], held: &IdSet) -> Option<Name>
+pub fn first_free(members: &[Member], held: &IdList) -> Option<Name>
     requires { AreOpen held.now members.now }
     ensures within { IfSome result (λ n. n < length members.now) }
     ensures free { IfSome result (λ n. is_free members.now (member members.now n) ≡ true) }
@@ -263,7 +265,7 @@ fn free_at(members: &mut Vec<Member>, name: Name, own: &IdSet)
 }
 
 // Removes `own` from the invalid ids of all members. Looks at the open names only: the others have no invalid ids.
-fn free_all(members: &mut Vec<Member>, held: &IdSet, own: &IdSet)
+fn free_all(members: &mut Vec<Member>, held: &IdList, own: &IdSet)
     requires within { (n : ℕ) → contains n held.now ≡ true → n < length members.old.items }
     requires shut { (n : ℕ) → contains n held.now ≡ false → (member members.old.items n).invalid ≡ [] }
     ensures count { length members.new.items ≡ length members.old.items }
@@ -275,7 +277,7 @@ fn free_all(members: &mut Vec<Member>, held: &IdSet, own: &IdSet)
 }
 
 /// Removes the ids of a member, and removes them from the invalid ids of all members.
-pub fn forget_member(members: &mut Vec<Member>, held: &IdSet, name: Name)
+pub fn forget_member(members: &mut Vec<Member>, held: &IdList, name: Name)
     requires open_names { AreOpen held.now members.old.items }
     requires there { name < length members.old.items }
     ensures { IsForgotten members.old.items members.new.items name }

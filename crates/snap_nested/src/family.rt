@@ -10,7 +10,7 @@ use crate::changes::{
     merge_member, take_members,
 };
 use rt_values::{Caller, Kind, Name, NoMemory};
-use snap_ids::IdSet;
+use snap_ids::{IdList, IdSet};
 use std::alloc::Global;
 
 /// A snapshot by its ids. `ids` and `invalid` are empty once the snapshot is applied or forgotten.
@@ -32,7 +32,7 @@ pub struct Member {
 pub struct Family {
     handed: u64,
     members: Vec<Member>,
-    held: IdSet,
+    held: IdList,
     ghost sound: { AreMembers members.items handed },
     ghost listed: { AreOpen held members.items },
 }
@@ -44,7 +44,7 @@ impl Family {
         ensures handed { IfOk result (λ f. f.handed ≡ 1) }
     {
         let members = global_alone(alloc)?;
-        let held = IdSet::of(alloc, 0)?;
+        let held = IdList::of(alloc, 0)?;
         Ok(Family {
             handed: 1,
             members,
