@@ -1,5 +1,5 @@
 // Chains of records in a slab.
-ghost use Rattle.std.specs.Prelude.{◌≡◌, ◌≢◌, ◌<◌, ◌+◌, ◌-◌, ℕ, List, [], ◌∷◌, Option, Some, None, length, slice_get, slice_set, slice_index_or, true, IfOk, OnOk, OnErr, IsSome, IfSome, IfNone, if◌then◌else◌};
+ghost use Rattle.std.specs.Prelude.{◌≡◌, ◌≢◌, ◌<◌, ◌+◌, ◌-◌, ℕ, List, [], ◌∷◌, Option, Some, None, length, slice_get, slice_set, slice_index_or, true, IfOk, OnOk, OnErr, IsSome, IfSome, IfNone, if◌then◌else◌, not, ◌&&◌};
 ghost use Rattle.rt_values.specs.Maps.{contains};
 ghost use Rattle.slab.specs.Slab.{get};
 ghost use Rattle.snap_records.specs.Places.{ArePlaced, AreOnce};
@@ -26,6 +26,13 @@ fn valid_except(own: &IdSet, id: u64, invalid: &IdSet, other: u64) -> bool
     ensures { result ≡ is_valid_except own.now id invalid.now other }
 {
     valid(id, invalid, other) && !own.get(other)
+}
+
+// Returns `is_valid`, or false if `own` contains `id`.
+fn except(own: &IdSet, id: u64, is_valid: bool) -> bool
+    ensures { result ≡ (is_valid && not (contains id own.now)) }
+{
+    is_valid && !own.get(id)
 }
 
 // Inserts a key before those of an object.
@@ -249,6 +256,37 @@ impl Chains {
             best = self.better(r, best, valid_except(own, id, invalid, self.id(r)));
         }
         best
+    }
+
+    /// Returns the readable records of object `x` for a snapshot's view and for its base, for which the snapshot's own ids
+    /// are invalid too.
+    pub fn readable_both(
+        &self,
+        x: ObjectNo,
+        id: u64,
+        invalid: &IdSet,
+        own: &IdSet,
+    ) -> (Option<RecordNo>, Option<RecordNo>)
+        requires { x < length self.now.heads.items }
+        ensures view { option_map (λ b. record_at self.now b.0) result.0
+            ≡ readable (is_valid id invalid.now) (chain_of self.now x) }
+        ensures base { option_map (λ b. record_at self.now b.0) result.1
+            ≡ readable (is_valid_except own.now id invalid.now) (chain_of self.now x) }
+        ensures view_there { IfSome result.0 (λ b. IsSome (get self.now.slots b.0)) }
+        ensures base_there { IfSome result.1 (λ b. IsSome (get self.now.slots b.0)) }
+    {
+        let mut view = None;
+        let mut base = None;
+        let mut i = self.count(x);
+        while i > 0 {
+            i -= 1;
+            let r = self.at(x, i);
+            let number = self.id(r);
+            let is_valid = valid(id, invalid, number);
+            view = self.better(r, view, is_valid);
+            base = self.better(r, base, except(own, number, is_valid));
+        }
+        (view, base)
     }
 
     /// Overwrites a record. No other record of its object may have the id, unless it is 0.
