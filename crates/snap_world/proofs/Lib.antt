@@ -5,3 +5,4 @@ pub mod Forgetting
 pub mod NotedLoops
 pub mod Settled
 pub mod Needed
+pub mod SameStamps

@@ -1,3 +1,4 @@
 pub mod Holding
 pub mod Choices
 pub mod Noting
+pub mod Stamps

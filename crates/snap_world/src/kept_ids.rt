@@ -60,11 +60,69 @@ fn add_read_ids(
         → IsReadWithin (valid_for_base (ids_of family.now.members.items) reader) (chain_of chains.now x) ids.new) }
     ensures needed { OnOk result ((i : ℕ) → contains i ids.new ≡ true → (contains i ids.old ≡ true)
         ⊎ IsNeeded (ids_of family.now.members.items) name (chain_of chains.now x) i) }
-    ensures few { OnOk result (length ids.new ≤ length ids.old + (if (ids_of family.now.members.items).live reader then 2 else 0)) }
+    ensures few { OnOk result (length ids.new
+        ≤ length ids.old + (if (ids_of family.now.members.items).live reader then 2 else 0)) }
 {
     if !family.live(reader) {
         return Ok(());
     }
+    if reader == 0 || reader == name {
+        return add_one_id(family, chains, x, name, reader, ids);
+    }
+    add_both_ids(family, chains, x, reader, ids)
+}
+
+// Adds the ids of the records of object `x` that a live snapshot other than global reads, for its view and for its base.
+fn add_both_ids(
+    family: &Family,
+    chains: &Chains,
+    x: ObjectNo,
+    reader: Name,
+    ids: &mut IdSet,
+) -> Result<(), NoMemory>
+    requires live { (member family.now.members.items reader).is_live ≡ true }
+    requires inner { 0 < reader }
+    requires there { x < length chains.now.heads.items }
+    ensures more { (i : ℕ) → contains i ids.old ≡ true → contains i ids.new ≡ true }
+    ensures view { OnOk result
+        (IsReadWithin ((ids_of family.now.members.items).sees reader) (chain_of chains.now x) ids.new) }
+    ensures base { OnOk result
+        (IsReadWithin (valid_for_base (ids_of family.now.members.items) reader) (chain_of chains.now x) ids.new) }
+    ensures needed { OnOk result ((name i : ℕ) → reader ≢ name → contains i ids.new ≡ true
+        → (contains i ids.old ≡ true) ⊎ IsNeeded (ids_of family.now.members.items) name (chain_of chains.now x) i) }
+    ensures few { OnOk result (length ids.new ≤ length ids.old + 2) }
+{
+    let read = chains.readable_both(
+        x,
+        family.id(reader),
+        family.invalid(reader),
+        family.ids(reader),
+    );
+    add_record_id(chains, read.0, ids)?;
+    add_record_id(chains, read.1, ids)
+}
+
+// Adds the ids of the records of object `x` that global or `name` reads, if it is live: for global's view, unless `name` is
+// global, and for the base of `name`, unless it is global.
+fn add_one_id(
+    family: &Family,
+    chains: &Chains,
+    x: ObjectNo,
+    name: Name,
+    reader: Name,
+    ids: &mut IdSet,
+) -> Result<(), NoMemory>
+    requires live { (member family.now.members.items reader).is_live ≡ true }
+    requires there { x < length chains.now.heads.items }
+    ensures more { (i : ℕ) → contains i ids.old ≡ true → contains i ids.new ≡ true }
+    ensures view { OnOk result (reader ≢ name
+        → IsReadWithin ((ids_of family.now.members.items).sees reader) (chain_of chains.now x) ids.new) }
+    ensures base { OnOk result (0 < reader
+        → IsReadWithin (valid_for_base (ids_of family.now.members.items) reader) (chain_of chains.now x) ids.new) }
+    ensures needed { OnOk result ((i : ℕ) → contains i ids.new ≡ true → (contains i ids.old ≡ true)
+        ⊎ IsNeeded (ids_of family.now.members.items) name (chain_of chains.now x) i) }
+    ensures few { OnOk result (length ids.new ≤ length ids.old + 2) }
+{
     add_view_id(family, chains, x, name, reader, ids)?;
     add_base_id(family, chains, x, reader, ids)?;
     Ok(())

@@ -1,5 +1,5 @@
 // What an apply and a dispose do to the records, and what changed for a watcher.
-ghost use Rattle.std.specs.Prelude.{◌≡◌, ℕ, ◌≤◌, ◌<◌, true, false, ◌≢◌, ◌==◌, length, slice_get, slice_index_or, slice_set, Some, [], IfOk, OnOk, if◌then◌else◌};
+ghost use Rattle.std.specs.Prelude.{◌≡◌, ℕ, ◌≤◌, ◌<◌, true, false, ◌≢◌, ◌==◌, length, slice_get, slice_index_or, slice_set, ◌+◌, drop, Some, [], IfOk, OnOk, if◌then◌else◌};
 ghost use Rattle.rt_values.specs.Maps.{contains};
 ghost use Rattle.rt_values.specs.declared.maps.StampedValue.{StampedValue};
 ghost use Rattle.snap_records.specs.Edits.{Padded, blank, with_head_id, chain_without_ids};
@@ -7,6 +7,7 @@ ghost use Rattle.snap_records.specs.Chains.{chain_of};
 ghost use Rattle.std.specs.Option.{unwrap_or};
 ghost use Rattle.snap_laws.specs.TakesFor.{stamp_differs, differ_stamps};
 ghost use Rattle.snap_world.specs.Choices.{EntriesAre, objects_of};
+ghost use Rattle.snap_world.specs.Stamps.{AreSame};
 
 use crate::settling::Settled;
 use rt_values::{Name, NoMemory, ObjectNo, Objects, StampedValue};
@@ -24,6 +25,45 @@ fn is_other(before: &[u64], x: usize, now: u64) -> bool
     }
 }
 
+// Returns whether the four stamps from index `i` on are the same in both lists.
+fn are_same(before: &[u64], now: &[u64], i: usize) -> bool
+    requires before { i + 4 ≤ length before.now }
+    requires now { i + 4 ≤ length now.now }
+    ensures { result ≡ true → AreSame before.now now.now i 4 }
+{
+    before[i] == now[i]
+        && before[i + 1] == now[i + 1]
+        && before[i + 2] == now[i + 2]
+        && before[i + 3] == now[i + 3]
+}
+
+// Returns the length of the shorter list.
+fn shorter_len(before: &[u64], now: &[u64]) -> usize
+    ensures before { result ≤ length before.now }
+    ensures now { result ≤ length now.now }
+{
+    if before.len() < now.len() {
+        return before.len();
+    }
+    now.len()
+}
+
+// Returns an index from `from` on before which no stamp differs. Compares four stamps at a time.
+fn skip_same(before: &[u64], now: &[u64], from: usize) -> usize
+    requires { from ≤ length now.now }
+    ensures within { result ≤ length now.now }
+    ensures from { from ≤ result }
+    ensures same { differ_stamps before.now result (drop result now.now)
+        ≡ differ_stamps before.now from (drop from now.now) }
+{
+    let len = shorter_len(before, now);
+    let mut i = from;
+    while i < len && len - i >= 4 && are_same(before, now, i) {
+        i += 4;
+    }
+    i
+}
+
 /// Returns the objects whose stamps differ from those in `before`, or that `before` lacks.
 pub fn find_differing_stamps(
     alloc: Global,
@@ -33,10 +73,12 @@ pub fn find_differing_stamps(
     ensures { IfOk result (λ o. o ≡ differ_stamps before.now 0 now.now) }
 {
     let mut found = Objects::new(alloc);
-    for (x, stamp) in now.iter().enumerate() {
-        if is_other(before, x, *stamp) {
+    let mut x = skip_same(before, now, 0);
+    while x < now.len() {
+        if is_other(before, x, now[x]) {
             found.push(x as u64)?;
         }
+        x = skip_same(before, now, x + 1);
     }
     Ok(found)
 }
