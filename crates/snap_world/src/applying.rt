@@ -33,14 +33,15 @@ impl<P: Policy> RecordWorld<P> {
         let id = self.family.id(name);
         let invalid = self.family.invalid(name);
         let own = self.family.ids(name);
-        let Some(previous) = self.chains.readable_for_base(object, id, invalid, own) else {
+        let both = self.chains.readable_both(object, id, invalid, own);
+        let Some(previous) = both.1 else {
             return None;
         };
         let above = self.family.invalid(into);
         let Some(current) = self.chains.readable(object, self.family.id(into), above) else {
             return None;
         };
-        let Some(applied) = self.chains.readable(object, id, invalid) else {
+        let Some(applied) = both.0 else {
             return None;
         };
         Some(ReadRecords {

@@ -72,7 +72,8 @@ fn add_read_ids(
     add_both_ids(family, chains, x, reader, ids)
 }
 
-// Adds the ids of the records of object `x` that a live snapshot other than global reads, for its view and for its base.
+// Adds the ids of the records of object `x` that a live snapshot reads for its view and for its base. The snapshot is not
+// global.
 fn add_both_ids(
     family: &Family,
     chains: &Chains,
@@ -102,8 +103,8 @@ fn add_both_ids(
     add_record_id(chains, read.1, ids)
 }
 
-// Adds the ids of the records of object `x` that global or `name` reads, if it is live: for global's view, unless `name` is
-// global, and for the base of `name`, unless it is global.
+// Adds the ids of the records of object `x` that a live snapshot reads: for its view, unless it is `name`, and for its
+// base, unless it is global.
 fn add_one_id(
     family: &Family,
     chains: &Chains,

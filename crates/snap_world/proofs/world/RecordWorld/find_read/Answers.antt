@@ -1,4 +1,6 @@
-use Rattle.std.proofs.Common.{ℕ, List, ap, ◌∙◌}
+use Rattle.std.proofs.Common.{ℕ, List, ap, sym, subst, option_map, IfSome, ◌∙◌}
+use Rattle.std.specs.Prelude.{IsSome}
+use Rattle.slab.specs.Slab.{get}
 use Rattle.snap_nested.specs.Members.{member}
 use Rattle.snap_nested.specs.declared.family.Member.{Member}
 use Rattle.snap_ids.specs.IdLists.{is_valid}
@@ -13,7 +15,7 @@ pub returns-in_default-clause-none : goal.returns-in_default-clause-none
 returns-in_default-clause-none g c = λ w s inner.
     let m : Member = member c.args.self.now.family.members.items c.args.name in
     let chain : List Rec = chain_of c.args.self.now.chains c.args.object in
-    read_none (is_valid_except m.ids m.id m.invalid) chain _ (c.in_default.ensures.is
+    read_none (is_valid_except m.ids m.id m.invalid) chain _ (ap (λ o. option_map (λ b. record_at c.args.self.now.chains b.0) o) (sym c.in_default.is) ∙ c.readable_both-both.ensures.base
     ∙ ap (λ (l : List ℕ). readable (is_valid_except l c.id-id.result c.invalid-invalid.result.now) chain) c.ids-own.ensures
     ∙ ap (λ (n : ℕ). readable (is_valid_except m.ids n c.invalid-invalid.result.now) chain) c.id-id.ensures.id
     ∙ ap (λ (l : List ℕ). readable (is_valid_except m.ids m.id l) chain) c.invalid-invalid.ensures) (s.kept.shown.bases c.args.name c.args.object c.requires.live inner c.requires.there)
@@ -25,11 +27,11 @@ returns-in_default-readable-clause-none g c = λ w s inner.
     read_none (is_valid m.id m.invalid) chain _ (c.in_default-readable.ensures.is ∙ ap (λ (n : ℕ). readable (is_valid n c.invalid-above.result.now) chain) c.id.ensures.id ∙ ap (λ (l : List ℕ). readable (is_valid m.id l) chain) c.invalid-above.ensures)
     (s.kept.shown.views c.args.into c.args.object c.requires.above c.requires.there)
 
-pub returns-in_default-readable-2-clause-none : goal.returns-in_default-readable-2-clause-none
-returns-in_default-readable-2-clause-none g c = λ w s inner.
+pub returns-in_default-0₀-clause-none : goal.returns-in_default-0₀-clause-none
+returns-in_default-0₀-clause-none g c = λ w s inner.
     let m : Member = member c.args.self.now.family.members.items c.args.name in
     let chain : List Rec = chain_of c.args.self.now.chains c.args.object in
-    read_none (is_valid m.id m.invalid) chain _ (c.in_default-readable-2.ensures.is ∙ ap (λ (n : ℕ). readable (is_valid n c.invalid-invalid.result.now) chain) c.id-id.ensures.id ∙ ap (λ (l : List ℕ). readable (is_valid m.id l) chain) c.invalid-invalid.ensures)
+    read_none (is_valid m.id m.invalid) chain _ (ap (λ o. option_map (λ b. record_at c.args.self.now.chains b.0) o) (sym c.in_default-0₀.is) ∙ c.readable_both-both.ensures.view ∙ ap (λ (n : ℕ). readable (is_valid n c.invalid-invalid.result.now) chain) c.id-id.ensures.id ∙ ap (λ (l : List ℕ). readable (is_valid m.id l) chain) c.invalid-invalid.ensures)
     (s.kept.shown.views c.args.name c.args.object c.requires.live c.requires.there)
 
 pub returns-clause-is : goal.returns-clause-is
@@ -38,13 +40,13 @@ returns-clause-is g c =
     let p : Member = member c.args.self.now.family.members.items c.args.into in
     let chain : List Rec = chain_of c.args.self.now.chains c.args.object in
     record {
-      previous = entry_found (is_valid_except m.ids m.id m.invalid) chain (record_at c.args.self.now.chains c.in-Some.previous.0) (c.in-Some.ensures.is
+      previous = entry_found (is_valid_except m.ids m.id m.invalid) chain (record_at c.args.self.now.chains c.in-Some.previous.0) (ap (λ o. option_map (λ b. record_at c.args.self.now.chains b.0) o) (sym c.in-Some.is) ∙ c.readable_both-both.ensures.base
           ∙ ap (λ (l : List ℕ). readable (is_valid_except l c.id-id.result c.invalid-invalid.result.now) chain) c.ids-own.ensures
           ∙ ap (λ (n : ℕ). readable (is_valid_except m.ids n c.invalid-invalid.result.now) chain) c.id-id.ensures.id
           ∙ ap (λ (l : List ℕ). readable (is_valid_except m.ids m.id l) chain) c.invalid-invalid.ensures);
       current = entry_found (is_valid p.id p.invalid) chain (record_at c.args.self.now.chains c.in-Some-readable.current.0) (c.in-Some-readable.ensures.is ∙ ap (λ (n : ℕ). readable (is_valid n c.invalid-above.result.now) chain) c.id.ensures.id ∙ ap (λ (l : List ℕ). readable (is_valid p.id l) chain) c.invalid-above.ensures);
-      applied = entry_found (is_valid m.id m.invalid) chain (record_at c.args.self.now.chains c.in-Some-readable-2.applied.0) (c.in-Some-readable-2.ensures.is ∙ ap (λ (n : ℕ). readable (is_valid n c.invalid-invalid.result.now) chain) c.id-id.ensures.id ∙ ap (λ (l : List ℕ). readable (is_valid m.id l) chain) c.invalid-invalid.ensures);
-      previous_there = c.in-Some.ensures.there;
+      applied = entry_found (is_valid m.id m.invalid) chain (record_at c.args.self.now.chains c.in-Some-0₀.applied.0) (ap (λ o. option_map (λ b. record_at c.args.self.now.chains b.0) o) (sym c.in-Some-0₀.is) ∙ c.readable_both-both.ensures.view ∙ ap (λ (n : ℕ). readable (is_valid n c.invalid-invalid.result.now) chain) c.id-id.ensures.id ∙ ap (λ (l : List ℕ). readable (is_valid m.id l) chain) c.invalid-invalid.ensures);
+      previous_there = subst (λ o. IfSome o (λ b. IsSome (get c.args.self.now.chains.slots b.0))) c.in-Some.is c.readable_both-both.ensures.base_there;
       current_there = c.in-Some-readable.ensures.there;
-      applied_there = c.in-Some-readable-2.ensures.there;
+      applied_there = subst (λ o. IfSome o (λ b. IsSome (get c.args.self.now.chains.slots b.0))) c.in-Some-0₀.is c.readable_both-both.ensures.view_there;
     }
