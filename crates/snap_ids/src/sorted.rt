@@ -31,6 +31,9 @@ fn lower_bound(ids: &[u64], id: u64) -> usize
     ensures before { (j : ℕ) → j < result → slice_index_or ids.now j 0 < id }
     ensures after { result < length ids.now → id ≤ slice_index_or ids.now result 0 }
 {
+    if ids.is_empty() || id <= ids[0] {
+        return 0;
+    }
     let mut low = recent_start(ids, id);
     let mut high = ids.len();
     while low < high {
