@@ -20,7 +20,7 @@ without_both x (y ∷ xs) ys there = of (y == x) refl (without_both x xs ys ther
 not_less : (x y : ℕ) → y ≡ x → nat_lt x y ≡ false
 not_less x y same = elim (leb_tells (suc x) y) [ inl e ↦ absurd (omega (arith, e.1, same)) | inr e ↦ e.0 ]
 
-above_without : (x : ℕ) (xs : List ℕ) → ids_above x (without_id x xs) ≡ ids_above x xs
+pub above_without : (x : ℕ) (xs : List ℕ) → ids_above x (without_id x xs) ≡ ids_above x xs
 above_without x [] = refl
 above_without x (y ∷ xs) = of (y == x) refl (above_without x xs) where
   of : (b : Bool) → (y == x) ≡ b → ids_above x (without_id x xs) ≡ ids_above x xs → ids_above x (cond b (without_id x xs) (y ∷ without_id x xs)) ≡ ids_above x (y ∷ xs)

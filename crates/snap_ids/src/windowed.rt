@@ -92,7 +92,8 @@ impl Windowed {
 
     /// Returns the lowest id.
     pub fn first(&self) -> Option<u64>
-        ensures { rest_from result (ids_in self.now) ≡ ids_in self.now }
+        ensures rest { rest_from result (ids_in self.now) ≡ ids_in self.now }
+        ensures rising { IsRising (ids_in self.now) }
     {
         match first_id(&self.older) {
             Some(id) => Some(id),

@@ -8,3 +8,4 @@ pub mod Start
 pub mod Free
 pub mod Open
 pub mod Merging
+pub mod Keeping

@@ -1,6 +1,7 @@
 // Changes of the list of members: each function returns an error only if memory ran out.
-ghost use Rattle.std.specs.Prelude.{◌≡◌, ◌≢◌, ℕ, ◌+◌, ◌≤◌, ◌<◌, ◌^◌, true, false, List, length, slice_set, [], ◌∷◌, IfOk, IfSome, IfNone, OnOk, OnErr};
+ghost use Rattle.std.specs.Prelude.{◌≡◌, ◌≢◌, ℕ, ◌+◌, ◌≤◌, ◌<◌, ◌^◌, true, false, List, length, slice_set, [], ◌∷◌, IfOk, IfSome, IfNone, OnOk, OnErr, if◌then◌else◌};
 ghost use Rattle.rt_values.specs.Maps.{contains};
+ghost use Rattle.snap_ids.specs.IdLists.{without_id};
 ghost use Rattle.snap_nested.specs.Members.{member, members_after_enter, members_after_advance, members_after_close, members_after_merge, sees, is_seen, is_owned, with_owned, invalid_after_advance, is_free, without_invalid, AreOpen, IsForgotten, global};
 
 use crate::Member;
@@ -32,25 +33,26 @@ fn is_owned(members: &[Member], held: &IdList, id: u64) -> bool
     false
 }
 
-// Returns the ids of `all` that a member has.
-fn keep_owned(
-    alloc: Global,
-    members: &[Member],
-    held: &IdList,
-    all: &IdSet,
-) -> Result<IdSet, NoMemory>
+// Removes `id` from `all`, unless a member has it.
+fn clear_unowned(members: &[Member], held: &IdList, id: u64, all: &mut IdSet)
     requires { AreOpen held.now members.now }
-    ensures { IfOk result (λ s. s ≡ with_owned members.now [] all.now) }
+    ensures { all.new ≡ (if is_owned members.now id then all.old else without_id id all.old) }
 {
-    let mut kept = IdSet::new(alloc);
+    if !is_owned(members, held, id) {
+        all.clear(id);
+    }
+}
+
+// Removes the ids that no member has from `all`.
+fn keep_owned(members: &[Member], held: &IdList, all: &mut IdSet)
+    requires { AreOpen held.now members.now }
+    ensures { all.new ≡ with_owned members.now [] all.old }
+{
     let mut next = all.first();
     while let Some(id) = next {
-        if is_owned(members, held, id) {
-            kept.set(id)?;
-        }
+        clear_unowned(members, held, id, all);
         next = all.next_above(id);
     }
-    Ok(kept)
 }
 
 // Returns the invalid ids of a member that gets a new id.
@@ -70,7 +72,8 @@ fn seal(
     let member = &members[name as usize];
     let mut all = member.invalid.copy(alloc)?;
     all.add_range(member.id + 1, handed + 1)?;
-    keep_owned(alloc, members, held, &all)
+    keep_owned(members, held, &mut all);
+    Ok(all)
 }
 
 /// Appends a member for which the ids are valid that are valid for its parent.
