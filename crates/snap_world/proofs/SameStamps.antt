@@ -1,5 +1,5 @@
 -- Stamps that are the same differ nowhere.
-use Rattle.std.proofs.Common.{◌≡◌, ◌≢◌, ℕ, zero, suc, ◌+◌, ◌==◌, ◌<◌, ◌≤◌, List, ◌∷◌, drop, refl, sym, ap, subst, ◌∙◌, Bool, true, false, not, cond, arith, Some}
+use Rattle.std.proofs.Common.{◌≡◌, ℕ, zero, suc, ◌+◌, ◌<◌, List, ◌∷◌, drop, sym, ap, ◌∙◌, false, not, cond, arith}
 use Rattle.std.specs.Prelude.{slice_get, slice_index_or, length}
 use Rattle.std.proofs.lemmas.Bool.Decides.{Decides-eqb}
 use Rattle.std.proofs.lemmas.List.{drop_more}

@@ -1,4 +1,4 @@
-use Rattle.std.proofs.Common.{◌≢◌, ℕ, List, sym, ap, ◌∙◌, inl, inr, arith}
+use Rattle.std.proofs.Common.{ℕ, List, sym, ap, ◌∙◌, inl, inr}
 use Rattle.snap_ids.specs.IdLists.{is_valid}
 use Rattle.snap_nested.specs.Members.{member}
 use Rattle.snap_nested.specs.declared.family.Member.{Member}
