@@ -1,5 +1,7 @@
 pub mod Texts
 pub mod Trees
+pub mod Jsons
+pub mod SortedNames
 pub mod FirstFault
 pub mod Capped
 pub mod HashedNames

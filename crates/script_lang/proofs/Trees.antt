@@ -17,7 +17,7 @@ abbrev bytes : List (List ℕ) → List ℕ
 bytes ls = flat_map (λ l. l) ls
 
 -- Attributes of groups are those of the forest.
-plain_attribute-flat_attribute : (as_ : List Attribute) → map plain_attribute (map flat_attribute as_) ≡ as_
+pub plain_attribute-flat_attribute : (as_ : List Attribute) → map plain_attribute (map flat_attribute as_) ≡ as_
 plain_attribute-flat_attribute [] = refl
 plain_attribute-flat_attribute (a ∷ more) = ap (λ l. a ∷ l) (plain_attribute-flat_attribute more)
 

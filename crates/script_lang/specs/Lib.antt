@@ -5,5 +5,8 @@ pub mod StepCalls
 pub mod StepLaws
 pub mod NamesInMemory
 pub mod NameScans
+pub mod TreeJson
 pub mod Lines
 pub mod GroupLines
+pub mod GroupJson
+pub mod SortedAttributes

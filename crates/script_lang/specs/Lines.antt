@@ -1,6 +1,6 @@
 -- Trusted: The lines that are printed of a history: one for each call, and the report and the tree after the dispose
 -- of a frame's snapshot.
-use Rattle.std.specs.Prelude.{ℕ, zero, suc, ◌+◌, ◌==◌, not, List, [], ◌∷◌, ◌++◌, Bool, true, false, codes, Option, Some, None, if◌then◌else◌, slice_get}
+use Rattle.std.specs.Prelude.{ℕ, zero, suc, ◌+◌, ◌==◌, not, List, [], ◌∷◌, ◌++◌, map, Bool, true, false, codes, Option, Some, None, if◌then◌else◌, slice_get}
 use Rattle.std.specs.List.{flat_map, filter}
 use Rattle.std.specs.Option.{option_map_or}
 use Rattle.std.specs.Fmt.{decimal}
@@ -20,6 +20,10 @@ use Rattle.lang_ast.specs.Terms.{Func}
 use Rattle.lang_ast.specs.SyntaxView.{functions_view}
 use Rattle.lang_checks.specs.declared.checks.Checked.{Checked}
 use Rattle.compose_model.specs.Frame.{FrameResult, frame}
+use Rattle.node_tree.specs.Calls.{attribute_of}
+use Rattle.node_tree.specs.declared.ops.NewNode.{NewNode}
+use Rattle.node_tree.specs.declared.ops.Op.{Op}
+use Rattle.node_tree.specs.declared.ops.Op.TheVariants as op
 use Rattle.snap_policy.specs.declared.policy.BuiltIn.{BuiltIn}
 use Rattle.snap_policy.specs.Table.{table}
 use Rattle.snap_api.specs.declared.data.Request.{Request}
@@ -30,9 +34,11 @@ use Rattle.snap_api.specs.declared.data.Refusal.{Refusal}
 use Rattle.snap_api.specs.declared.data.Refusal.TheVariants as refusal
 use Rattle.snap_api.specs.declared.data.Entry.{Entry}
 use Rattle.snap_api.specs.World.{World, History, call, snapshot_of}
+use Rattle.script_lang.specs.declared.flags.Flags.{Flags}
 use Rattle.script_lang.specs.declared.scripts.Script.{Script}
 use Rattle.script_lang.specs.SnapshotNames.{never_taken}
 use Rattle.script_lang.specs.StepCalls.{ActorPart, no_notes, opening_world, sequential}
+use Rattle.script_lang.specs.TreeJson.{tree_json}
 
 -- The names in lines: those of the states and those of the actors, by number.
 pub record Titles : Type 0 where
@@ -42,6 +48,11 @@ pub record Titles : Type 0 where
 -- The names that the lines of a script on a program have.
 abbrev pub titles_of : Checked → Script → Titles
 titles_of program script = record { states = program.states.items; actors = script.actors.items }
+
+-- What the lines of a run depend on besides its history: the names in lines, and the flags.
+pub record LineStyle : Type 0 where
+  pub titles : Titles
+  pub flags : Flags
 
 -- The functions of a checked program.
 abbrev pub functions_of : Checked → List Func
@@ -142,8 +153,12 @@ abbrev pub attributes_text : List Attribute → List ℕ
 attributes_text [] = []
 attributes_text (a ∷ more) = 32 ∷ a.name ++ 61 ∷ value_text a.value ++ attributes_text more
 
+-- A node: its number, its kind and its attributes.
+abbrev pub node_text : ℕ → List ℕ → List Attribute → List ℕ
+node_text number kind attributes = 35 ∷ decimal number ++ 32 ∷ kind ++ attributes_text attributes
+
 abbrev pub node_line : ℕ → ℕ → List ℕ → List Attribute → List ℕ
-node_line depth number kind attributes = line (margin depth ++ 35 ∷ decimal number ++ 32 ∷ kind ++ attributes_text attributes)
+node_line depth number kind attributes = line (margin depth ++ node_text number kind attributes)
 
 -- One line for each node, in preorder.
 abbrev pub tree_lines : ℕ → Nodes → List (List ℕ)
@@ -151,10 +166,32 @@ tree_lines depth tree.None = []
 tree_lines depth (Branch number kind attributes children rest) =
     node_line depth number kind attributes ∷ (tree_lines (depth + 1) children ++ tree_lines depth rest)
 
+-- A node that an applier inserts.
+abbrev pub new_node_text : NewNode → List ℕ
+new_node_text node = node_text node.number node.kind (map attribute_of node.attributes)
+
+-- A call on the applier with its arguments.
+abbrev pub op_text : Op → List ℕ
+op_text (op.Down index) = codes "down " ++ decimal index
+op_text op.Up = codes "up"
+op_text (op.InsertTopDown index node) = codes "insertTopDown " ++ decimal index ++ 32 ∷ new_node_text node
+op_text (op.InsertBottomUp index node) = codes "insertBottomUp " ++ decimal index ++ 32 ∷ new_node_text node
+op_text (op.Remove index count) = codes "remove " ++ decimal index ++ 32 ∷ decimal count
+op_text (op.Move from to count) = codes "move " ++ decimal from ++ 32 ∷ decimal to ++ 32 ∷ decimal count
+op_text (op.Set name value) = codes "set " ++ name ++ 32 ∷ value_text value
+op_text op.Clear = codes "clear"
+
+abbrev pub op_line : Op → List ℕ
+op_line call = line (codes "op: " ++ op_text call)
+
+-- One line for each node, or with `--json` one line for the whole tree.
+abbrev pub shown_tree : Flags → Nodes → List (List ℕ)
+shown_tree flags t = if flags.json then line (tree_json t) ∷ [] else tree_lines 0 t
+
 -- A good frame prints its report and its tree.
-abbrev pub frame_lines : Option FrameResult → List (List ℕ)
-frame_lines None = line (codes "refused: too many groups") ∷ []
-frame_lines (Some good) = report_line good.told ∷ tree_lines 0 (nodes good.left.trail)
+abbrev pub frame_lines : Flags → Option FrameResult → List (List ℕ)
+frame_lines flags None = line (codes "refused: too many groups") ∷ []
+frame_lines flags (Some good) = report_line good.told ∷ shown_tree flags (nodes good.left.trail)
 
 -- The state of a walk along a history: the plain world, what is kept of the last good frame, and the snapshots of
 -- frames that are not disposed yet.
@@ -187,8 +224,11 @@ frame_taken _ _ = []
 abbrev pub frame_at : List Func → Standing → Entry → Option FrameResult
 frame_at functions s e = frame functions s.kept (snapshot_of s.world (name_in e.request)).view
 
-abbrev pub lines_at : Titles → List Func → Standing → Entry → List (List ℕ)
-lines_at t functions s e = entry_line t e ∷ (if ends_frame s.frames e.request then frame_lines (frame_at functions s e) else [])
+-- The lines of a call, with those of the frame that it ends.
+abbrev pub lines_at : LineStyle → List Func → Standing → Entry → List (List ℕ)
+lines_at style functions s e =
+    entry_line style.titles e
+    ∷ (if ends_frame s.frames e.request then frame_lines style.flags (frame_at functions s e) else [])
 
 abbrev pub next : List Func → Standing → Entry → Standing
 next functions s e =
@@ -198,9 +238,9 @@ next functions s e =
     else record { world = world; kept = s.kept; frames = s.frames ++ frame_taken e.request e.reply }
 
 -- The lines of a history, from a state of the walk.
-abbrev pub lines : Titles → List Func → Standing → History → List (List ℕ)
-lines t functions s [] = []
-lines t functions s (e ∷ es) = lines_at t functions s e ++ lines t functions (next functions s e) es
+abbrev pub lines : LineStyle → List Func → Standing → History → List (List ℕ)
+lines style functions s [] = []
+lines style functions s (e ∷ es) = lines_at style functions s e ++ lines style functions (next functions s e) es
 
 -- The state of the walk after a history.
 abbrev pub standing_after : List Func → Standing → History → Standing
@@ -212,6 +252,8 @@ abbrev pub initial_standing : List State → Standing
 initial_standing states = record { world = opening_world states; kept = no_last_frame; frames = [] }
 
 -- All that a run prints: the lines of the history that the steps make one after the other.
-unfoldable pub run_text : Titles → List Func → List ActorPart → List ℕ
-run_text t functions parts =
-    flat_map (λ l. l) (lines t functions (initial_standing t.states) (sequential (opening_world t.states) no_notes parts))
+unfoldable pub run_text : LineStyle → List Func → List ActorPart → List ℕ
+run_text style functions parts =
+    flat_map (λ l. l)
+    (lines style functions (initial_standing style.titles.states)
+    (sequential (opening_world style.titles.states) no_notes parts))

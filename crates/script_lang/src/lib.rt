@@ -9,18 +9,24 @@
 #![tactic(auto)]
 
 mod faults;
+mod flags;
 mod laws;
 mod limits;
 mod line;
 mod names;
+mod op_lines;
 mod scripts;
 mod tree;
+mod tree_json;
 mod uses;
 
 pub use faults::ScriptStop;
-pub use laws::{groups_tell_the_tree, sequential_is_spelled};
+pub use flags::Flags;
+pub use laws::{groups_tell_the_json, groups_tell_the_tree, sequential_is_spelled};
 pub use limits::index_of;
 pub use line::{add_line, add_reply_line, add_request_line};
 pub use names::{NEVER_TAKEN, NameTable};
+pub use op_lines::add_op;
 pub use scripts::{Script, script_of};
 pub use tree::{OpenGroups, add_refused, add_report};
+pub use tree_json::TreeWriter;

@@ -1,7 +1,7 @@
 // Lines of frames.
 ghost use Rattle.std.specs.Prelude.{◌≡◌, ◌++◌, ◌∷◌, [], List, ℕ, Bool, false, OnOk, codes, map, take};
 ghost use Rattle.std.specs.Fmt.{decimal};
-ghost use Rattle.script_lang.specs.Lines.{report_line, count_text, work_text, size_text, margin, node_line, attributes_text, line};
+ghost use Rattle.script_lang.specs.Lines.{report_line, count_text, work_text, size_text, margin, node_text, node_line, attributes_text, line};
 ghost use Rattle.script_lang.specs.GroupLines.{plain_attribute, node_depth, line_of, is_node};
 
 use crate::line::{add, add_number};
@@ -85,6 +85,24 @@ fn add_margin(text: &mut Vec<u8>, outer: &[bool]) -> Result<(), NoMemory>
     Ok(())
 }
 
+// Appends a node: its number, its kind and its attributes.
+#[tactic(auto, using(crate::proofs::Texts::joins))]
+pub fn add_node_text(
+    text: &mut Vec<u8>,
+    number: u64,
+    kind: &Word,
+    attributes: &[Attribute],
+) -> Result<(), NoMemory>
+    ensures { let this = node_text number kind.now (map plain_attribute attributes.now) in
+        OnOk result (text.new.items ≡ text.old.items ++ this) }
+{
+    text.push(b'#')?;
+    add_number(text, number)?;
+    text.push(b' ')?;
+    add(text, kind.bytes())?;
+    add_attributes(text, attributes)
+}
+
 // Appends the line of a node: two blanks for each enclosing node, its number, its kind and its attributes.
 #[tactic(auto, using(crate::proofs::Texts::joins))]
 fn add_node(
@@ -98,11 +116,7 @@ fn add_node(
         OnOk result (text.new.items ≡ text.old.items ++ this) }
 {
     add_margin(text, outer)?;
-    text.push(b'#')?;
-    add_number(text, number)?;
-    text.push(b' ')?;
-    add(text, kind.bytes())?;
-    add_attributes(text, attributes.items())?;
+    add_node_text(text, number, kind, attributes.items())?;
     text.push(b'\n')?;
     Ok(())
 }
