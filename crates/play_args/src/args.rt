@@ -1,12 +1,13 @@
 // Parsing of command-line arguments.
 ghost use Rattle.std.specs.Prelude.{◌≡◌, [], ◌∷◌, Some, IfOk, codes, option_map};
 ghost use Rattle.clap.specs.Words.{app_of};
-ghost use Rattle.play_args.specs.CommandWords.{command_of_args, command_named, texts};
+ghost use Rattle.play_args.specs.CommandWords.{command_of_args, command_named, no_flags, flags_after, texts};
 ghost use Rattle.play_args.specs.CommandLine.{command_app};
 
 use crate::command::Command;
 use clap::error::ErrorKind;
 use rt_values::NoMemory;
+use script_lang::Flags;
 use std::alloc::{AllocError, Global};
 
 // Creates the command line, as `clap` describes it.
@@ -34,31 +35,52 @@ fn match_subcommand<'a>(alloc: Global, words: &'a [String]) -> Result<Option<&'a
     }
 }
 
-// Returns the command with this name.
-fn command_named(word: &str) -> Option<Command>
-    ensures { result ≡ command_named word.now }
+// Returns the flags of these words, each of which must be a flag that no earlier word is.
+fn parse_flags(words: &[String]) -> Option<Flags>
+    ensures { result ≡ flags_after no_flags (texts words.now) }
 {
-    if word == "run" {
-        Some(Command::Run)
-    } else if word == "check" {
-        Some(Command::Check)
-    } else {
-        None
+    let mut flags = Flags { json: false };
+    let mut rest = words;
+    while let Some((word, more)) = rest.split_first() {
+        if word.as_str() == "--json" && !flags.json {
+            flags.json = true;
+        } else {
+            return None;
+        }
+        rest = more;
     }
+    Some(flags)
 }
 
-/// Returns the command that the arguments after the program name ask for, or `None`. A command is one argument,
-/// its name; `--`, which `clap` accepts, is a second argument.
+// Returns the command with this name and these further words.
+fn command_named(word: &str, more: &[String]) -> Option<Command>
+    ensures { result ≡ command_named word.now (texts more.now) }
+{
+    if word == "run" {
+        return match parse_flags(more) {
+            Some(flags) => Some(Command::Run(flags)),
+            None => None,
+        };
+    }
+    if word == "check" && more.is_empty() {
+        return Some(Command::Check);
+    }
+    None
+}
+
+/// Returns the command that the arguments after the program name ask for, or `None`. The first argument is the name of a
+/// command, which `clap` finds. The others are its flags, each at most once.
 ///
 /// A rule of this project. Returns `NoMemory` if the process is out of memory.
 pub fn parse_args(alloc: Global, words: &[String]) -> Result<Option<Command>, NoMemory>
     ensures { IfOk result (λ o. o ≡ command_of_args (texts words.now)) }
 {
-    let [word] = words else {
+    if words.is_empty() {
         return Ok(None);
-    };
-    match match_subcommand(alloc, words)? {
-        Some(name) if name == word.as_str() => Ok(command_named(name)),
+    }
+    let (first, more) = words.split_at(1);
+    match match_subcommand(alloc, first)? {
+        Some(name) if name == first[0].as_str() => Ok(command_named(name, more)),
         _ => Ok(None),
     }
 }
