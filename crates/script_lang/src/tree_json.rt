@@ -183,7 +183,8 @@ fn add_member(text: &mut Vec<u8>, later: bool, attribute: &Attribute) -> Result<
 // Appends attributes as the members of an object, with its brackets.
 #[tactic(auto, using(crate::proofs::Texts::joins))]
 fn add_members(text: &mut Vec<u8>, attributes: &[&Attribute]) -> Result<(), NoMemory>
-    ensures { OnOk result (text.new.items ≡ text.old.items ++ 123 ∷ members_text false (sorted_members attributes.now)) }
+    ensures { let members = members_text false (sorted_members attributes.now) in
+        OnOk result (text.new.items ≡ text.old.items ++ 123 ∷ members) }
 {
     text.push(b'{')?;
     let mut later = false;
@@ -309,7 +310,8 @@ impl<'g> TreeWriter<'g> {
         kind: &'g GroupKind,
     ) -> Result<(), NoMemory>
         ensures text { let around = state_at depth self.old.open_nodes self.old.later in
-            OnOk result (text.new.items ≡ text.old.items ++ (ends_from depth self.old.open_nodes ++ json_of around.later kind.now)) }
+            let this = ends_from depth self.old.open_nodes ++ json_of around.later kind.now in
+            OnOk result (text.new.items ≡ text.old.items ++ this) }
         ensures state { let around = state_at depth self.old.open_nodes self.old.later in
             OnOk result (self.new ≡ json_after depth number kind.now around) }
     {
