@@ -10,7 +10,8 @@ use Rattle.lang_ast.specs.declared.program.State.{State}
 use Rattle.lang_ast.specs.declared.script.DoForm.{DoForm}
 use Rattle.lang_ast.specs.Terms.{Func}
 use Rattle.lang_forms.specs.Sources.{Source}
-use Rattle.script_lang.specs.Lines.{run_text}
+use Rattle.script_lang.specs.declared.flags.Flags.{Flags}
+use Rattle.script_lang.specs.Lines.{LineStyle, run_text}
 use Rattle.script_lang.specs.StepCalls.{script_parts}
 use Rattle.script_lang.specs.Scripts.{actors_of}
 use Rattle.play_core.specs.declared.top.Status.{Status}
@@ -30,16 +31,19 @@ use Rattle.play_core.specs.Promise.{Streams, HasFailed, WritesOutput, WritesFaul
 use Rattle.play_core.proofs.Uniques.{text_one}
 use Rattle.play_core.proofs.OneFault.{one_fault, faulty_is_no_text}
 
+abbrev line_style : List State → List (List ℕ) → Flags → LineStyle
+line_style states actors flags = record { titles = record { states = states; actors = actors }; flags = flags }
+
 -- The parsed program and script give the output of the source text.
-pub run-is : {bytes : List ℕ} {states : List State} {functions : List Func} {actors : List (List ℕ)} {forms : List DoForm} (h : IsRead bytes states functions actors forms) (p : Source) → IsText bytes p →
-    run_text (record { states = states; actors = actors }) functions (script_parts actors forms) ≡ run_output p
+pub run-is : {bytes : List ℕ} {states : List State} {functions : List Func} {actors : List (List ℕ)} {forms : List DoForm} (flags : Flags) (h : IsRead bytes states functions actors forms) (p : Source) → IsText bytes p →
+    run_text (line_style states actors flags) functions (script_parts actors forms) ≡ run_output flags p
 unfolding run_output
-run-is {bytes = bytes} {functions = functions} {actors = actors} {forms = forms} h p t =
-    ap (λ ss. run_text (record { states = ss; actors = actors }) functions (script_parts actors forms)) h.states_are
-    ∙ ap (λ l. run_text (record { states = h.source.program.states; actors = l }) functions (script_parts l forms)) h.actors_are
-    ∙ ap (λ l. run_text (record { states = h.source.program.states; actors = actors_of h.source.script }) l (script_parts (actors_of h.source.script) forms)) h.functions_are
-    ∙ ap (λ l. run_text (record { states = h.source.program.states; actors = actors_of h.source.script }) h.source.program.functions (script_parts (actors_of h.source.script) l)) h.forms_are
-    ∙ ap run_output (text_one bytes h.source p h.text t)
+run-is {bytes = bytes} {functions = functions} {actors = actors} {forms = forms} flags h p t =
+    ap (λ ss. run_text (line_style ss actors flags) functions (script_parts actors forms)) h.states_are
+    ∙ ap (λ l. run_text (line_style h.source.program.states l flags) functions (script_parts l forms)) h.actors_are
+    ∙ ap (λ l. run_text (line_style h.source.program.states (actors_of h.source.script) flags) l (script_parts (actors_of h.source.script) forms)) h.functions_are
+    ∙ ap (λ l. run_text (line_style h.source.program.states (actors_of h.source.script) flags) h.source.program.functions (script_parts (actors_of h.source.script) l)) h.forms_are
+    ∙ ap (run_output flags) (text_one bytes h.source p h.text t)
 
 -- The log of the parsed program and script is that of the source text.
 pub logs-is : {bytes : List ℕ} {states : List State} {functions : List Func} {actors : List (List ℕ)} {forms : List DoForm} {T : Type 0} (h : IsRead bytes states functions actors forms) (p : Source) → IsText bytes p → (r : Result T Stop) (old new : Option (List Entry)) →
@@ -77,7 +81,7 @@ refused-part command bytes fault a z none one part = record {
 
 -- Each command has an output.
 some-output : (command : Command) (p : Source) → (out : List ℕ) × IsOutput command (Some p) out
-some-output Run p = (run_output p, refl)
+some-output (Run flags) p = (run_output flags p, refl)
 some-output Check p = (check_output p, refl)
 
 -- Nothing was written.

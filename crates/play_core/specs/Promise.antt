@@ -6,6 +6,7 @@ use Rattle.lang_forms.specs.Sources.{Source}
 use Rattle.play_args.specs.CommandWords.{command_of_args}
 use Rattle.play_args.specs.declared.command.Command.{Command}
 use Rattle.play_args.specs.declared.command.Command.TheVariants.{Run, Check}
+use Rattle.script_lang.specs.declared.flags.Flags.{Flags}
 use Rattle.script_lang.specs.Scripts.{actors_of}
 use Rattle.script_lang.specs.StepCalls.{script_parts}
 use Rattle.snap_api.specs.declared.data.Entry.{Entry}
@@ -124,7 +125,8 @@ LogsText t old new = LogsRun (titles t) t.program.functions (script_parts (actor
 -- If `run` is done, the log of the world grew by the calls of the run.
 abbrev pub LogsCommand : Option Command → Status → Option (List ℕ) → Option (List Entry) → Option (List Entry) → Type 0
 LogsCommand o result left old new =
-    o ≡ Some Run → result ≡ status.Done → IfSome left (λ bytes. (t : Source) → IsText bytes t → LogsText t old new)
+    (flags : Flags) → o ≡ Some (Run flags) → result ≡ status.Done →
+    IfSome left (λ bytes. (t : Source) → IsText bytes t → LogsText t old new)
 
 -- The cases in which the world is unchanged: no command, `check`, and every rejected input.
 abbrev pub LeavesWorld : Option Command → Status → Type 0

@@ -13,7 +13,8 @@ use Rattle.lang_checks.specs.ProgramFaults.{program_faults}
 use Rattle.script_lang.specs.Scripts.{actors_of}
 use Rattle.script_lang.specs.ScriptFaults.{script_faults}
 use Rattle.script_lang.specs.StepCalls.{script_parts}
-use Rattle.script_lang.specs.Lines.{Titles, functions_of, line, run_text}
+use Rattle.script_lang.specs.declared.flags.Flags.{Flags}
+use Rattle.script_lang.specs.Lines.{Titles, LineStyle, functions_of, line, run_text}
 use Rattle.lang_ast.specs.declared.program.State.{State}
 use Rattle.lang_ast.specs.declared.script.DoForm.{DoForm}
 use Rattle.lang_ast.specs.Terms.{Func}
@@ -36,9 +37,14 @@ pub record IsText (bytes : List ℕ) (t : Source) : Type 0 where
 abbrev pub titles : Source → Titles
 titles t = record { states = t.program.states; actors = actors_of t.script }
 
--- The output of `run`: the lines of the history that the steps of all actors make in the plain world, in source order.
-unfoldable pub run_output : Source → List ℕ
-run_output t = run_text (titles t) t.program.functions (script_parts (actors_of t.script) t.script)
+-- How the lines of a source text are written with these flags.
+abbrev pub style : Source → Flags → LineStyle
+style t flags = record { titles = titles t; flags = flags }
+
+-- The output of `run` with these flags: the lines of the history that the steps of all actors make in the plain world, in
+-- source order.
+unfoldable pub run_output : Flags → Source → List ℕ
+run_output flags t = run_text (style t flags) t.program.functions (script_parts (actors_of t.script) t.script)
 
 -- The output of `check`: the trees of the forms of the program and the script, one a line.
 unfoldable pub check_output : Source → List ℕ
@@ -47,8 +53,8 @@ check_output t = lines (unplaced_sketch (text_forms t))
 -- `IsOutput command text bytes`: the command may write `bytes` for this source text; `None` is for a command without
 -- input.
 abbrev pub IsOutput : Command → Option Source → List ℕ → Type 0
-IsOutput Run (Some t) bytes = bytes ≡ run_output t
-IsOutput Run None bytes = ⊥
+IsOutput (Run flags) (Some t) bytes = bytes ≡ run_output flags t
+IsOutput (Run flags) None bytes = ⊥
 IsOutput Check (Some t) bytes = bytes ≡ check_output t
 IsOutput Check None bytes = ⊥
 

@@ -4,6 +4,7 @@ ghost use Rattle.std.specs.Io.KnownBytes.{Appends, Keeps, IsAtEnd};
 ghost use Rattle.rt_streams.specs.Streams.{Rose, AppendsPart, rise};
 ghost use Rattle.lang_forms.specs.Sources.{Source as source_data};
 ghost use Rattle.snap_api.specs.World.{start};
+ghost use Rattle.script_lang.specs.declared.flags.Flags.{Flags as flags_data};
 ghost use Rattle.play_args.specs.CommandWords.{command_of_args, texts};
 ghost use Rattle.play_core.specs.Texts.{IsText, IsInput, IsNoText, IsOutput, usage_line, long_line, input_limit};
 ghost use Rattle.play_core.specs.Faults.{IsFault, WritesPart, fault_line};
@@ -91,13 +92,14 @@ fn do_command<V: Versions<P = BuiltIn>, K: Sink>(
         SaysOutput (K.written sink.old) (K.written sink.new) command t result }
     ensures faults { FaultsAfter (K.faults sink.old) (K.faults sink.new) result }
     ensures world { command ≡ Command.Check → world.new ≡ world.old }
-    ensures log { (bytes : List ℕ) (t : source_data) → command ≡ Command.Run → IsInput bytes input → IsText bytes t →
+    ensures log { (bytes : List ℕ) (t : source_data) (flags : flags_data) → command ≡ Command.Run flags →
+        IsInput bytes input → IsText bytes t →
         OnOk result (LogsText t (V.log world.old) (V.log world.new)) }
 {
     match command {
-        Command::Run => {
+        Command::Run(flags) => {
             drop(input.trees);
-            run_script(alloc, &input.job, world, sink)
+            run_script(alloc, &input.job, flags, world, sink)
         }
         Command::Check => write_canonical(alloc, &input.trees, sink),
     }
@@ -134,7 +136,7 @@ fn play_bytes<V: Versions<P = BuiltIn>, K: Sink>(
     ensures others { (result ≢ Status.Usage) × (result ≢ Status.ReadFault) × (result ≢ Status.TooLong) }
     ensures check { command ≡ Command.Check → world.new ≡ world.old }
     ensures refused { result ≡ Status.BadInput → world.new ≡ world.old }
-    ensures log { command ≡ Command.Run → result ≡ Status.Done →
+    ensures log { (flags : flags_data) → command ≡ Command.Run flags → result ≡ Status.Done →
         (t : source_data) → IsText bytes.now t → LogsText t (V.log world.old) (V.log world.new) }
 {
     match parse_input(alloc, bytes) {
@@ -160,7 +162,7 @@ fn play_input<V: Versions<P = BuiltIn>, S: Source, K: Sink>(
     ensures check { command ≡ Command.Check → world.new ≡ world.old }
     ensures refused { (result ≡ Status.BadInput) ⊎ ((result ≡ Status.TooLong) ⊎ (result ≡ Status.ReadFault)) →
         world.new ≡ world.old }
-    ensures log { command ≡ Command.Run → result ≡ Status.Done →
+    ensures log { (flags : flags_data) → command ≡ Command.Run flags → result ≡ Status.Done →
         IfSome (S.left source.old) (λ bytes. (t : source_data) → IsText bytes t →
         LogsText t (V.log world.old) (V.log world.new)) }
 {
@@ -176,7 +178,7 @@ fn play_input<V: Versions<P = BuiltIn>, S: Source, K: Sink>(
 ///
 /// Reads a program with its script from `source`, and writes to `sink` line by line, each line with its LF as one
 /// piece. `run` makes the script's steps on `world`, which must be new, and writes the line of each call and of each
-/// frame when it is made. `check` writes the canonical text of the program and the script. Never blocks.
+/// frame when it is made, as its flags say. `check` writes the canonical text of the program and the script. Never blocks.
 ///
 /// `specs/Promise.antt` says what each status means: what was written, and what was taken from the source. In Compose
 /// this is the work of `Recomposer` and a test driver; the program and its lines are rules of this project.

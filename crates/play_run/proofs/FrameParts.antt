@@ -24,7 +24,7 @@ use Rattle.snap_api.specs.World.{World, call, snapshot_of, last_of, is_mutable}
 use Rattle.snap_api.proofs.LawsCases.{Did, did, refused, took_for}
 use Rattle.snap_api.proofs.Takes.{call-TakeFor, took_own}
 use Rattle.snap_api.proofs.ValidCalls.{valid_call}
-use Rattle.script_lang.specs.Lines.{Titles, entry_line, frame_lines, kept_after, frame_taken}
+use Rattle.script_lang.specs.Lines.{LineStyle, entry_line, frame_lines, kept_after, frame_taken}
 use Rattle.script_lang.specs.StepCalls.{BeginFrame, EndFrame, of_actor, frame_begun, entry, watcher_number, end_request}
 use Rattle.script_lang.specs.NamesInMemory.{Holds}
 use Rattle.play_run.specs.RunOutput.{Run, request_lines, run_after_request, part_lines, part_after, parts_lines}
@@ -136,7 +136,7 @@ module _ {functions : List Func} {V : Type 0} {stands : V → World BuiltIn → 
       RunFacts functions stands world' kept' actor (frame_begun y) (part_after functions r (of_actor actor BeginFrame))
   begun y is h stood noted = subst (λ z. RunFacts functions stands world' kept' actor (frame_begun y) (taken_run actor r z)) is (taken_facts y is h stood noted)
 
-pub begin_line : (t : Titles) (functions : List Func) (r : Run) (actor : ℕ) → part_lines t functions r (of_actor actor BeginFrame) ≡ entry_line t (entry r.standing.world actor (request.TakeFor watcher_number)) ∷ []
+pub begin_line : (t : LineStyle) (functions : List Func) (r : Run) (actor : ℕ) → part_lines t functions r (of_actor actor BeginFrame) ≡ entry_line t.titles (entry r.standing.world actor (request.TakeFor watcher_number)) ∷ []
 begin_line t functions r actor = refl
 
 itself : (n : ℕ) → (n == n) ≡ true
@@ -183,7 +183,7 @@ module _ {functions : List Func} {V : Type 0} {stands : V → World BuiltIn → 
   asks : end_request r.notes.frame ≡ Some (request.Dispose name)
   asks = ap end_request h.noted
 
-  pub end_lines : (t : Titles) → part_lines t functions r (of_actor actor EndFrame) ≡ entry_line t (entry r.standing.world actor (request.Dispose name)) ∷ frame_lines (outcome functions r name)
+  pub end_lines : (t : LineStyle) → part_lines t functions r (of_actor actor EndFrame) ≡ entry_line t.titles (entry r.standing.world actor (request.Dispose name)) ∷ frame_lines t.flags (outcome functions r name)
   end_lines t = ap (request_lines t functions r actor) asks ∙ rw h.at_frame.frames (rw (itself name) refl)
 
   end_after : part_after functions r (of_actor actor EndFrame) ≡ ended functions r actor name
@@ -220,7 +220,7 @@ module _ {functions : List Func} {V : Type 0} {stands : V → World BuiltIn → 
   end_names = ap (λ o. (run_after_request functions r (of_actor actor EndFrame) o).notes.names) asks
 
   -- The lines of the end of a frame, as bytes.
-  pub end_bytes : (t : Titles) → flat (parts_lines t functions r (of_actor actor EndFrame ∷ [])) ≡ entry_line t (entry r.standing.world actor (request.Dispose name)) ++ flat (frame_lines (outcome functions r name))
+  pub end_bytes : (t : LineStyle) → flat (parts_lines t functions r (of_actor actor EndFrame ∷ [])) ≡ entry_line t.titles (entry r.standing.world actor (request.Dispose name)) ++ flat (frame_lines t.flags (outcome functions r name))
   end_bytes t = ap flat (append-nil (part_lines t functions r (of_actor actor EndFrame)) ∙ end_lines t)
 
 -- The state after the part that begins a frame, with the table of names.

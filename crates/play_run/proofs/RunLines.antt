@@ -6,12 +6,12 @@ use Rattle.snap_api.specs.declared.data.Request.{Request}
 use Rattle.snap_api.specs.declared.data.Entry.{Entry}
 use Rattle.snap_api.specs.World.{call}
 use Rattle.script_lang.specs.StepCalls.{ActorPart, request_of, notes_after, entry, sequential}
-use Rattle.script_lang.specs.Lines.{Titles, lines, lines_at, next, run_text}
+use Rattle.script_lang.specs.Lines.{LineStyle, lines, lines_at, next, run_text}
 use Rattle.play_run.specs.RunOutput.{Run, first_run, request_lines, run_after_request, parts_lines}
 use Rattle.play_run.specs.RunState.{flat}
 use Rattle.play_run.proofs.RunLogs.{next_world}
 
-module _ (t : Titles) (functions : List Func) where
+module _ (t : LineStyle) (functions : List Func) where
   step_lines : (r : Run) (p : ActorPart) (ps : List ActorPart) (o : Option Request) →
       ((r' : Run) → lines t functions r'.standing (sequential r'.standing.world r'.notes ps) ≡ parts_lines t functions r' ps) →
       lines t functions r.standing (elim o [ None ↦ sequential r.standing.world r.notes ps | Some q ↦ entry r.standing.world p.actor q ∷ sequential (call table r.standing.world p.actor q).0 (notes_after r.notes p.part (call table r.standing.world p.actor q).1) ps ])
@@ -27,6 +27,6 @@ module _ (t : Titles) (functions : List Func) where
   run_lines r (p ∷ ps) = step_lines r p ps (request_of r.notes p.part) (λ r'. run_lines r' ps)
 
 -- All that a run prints.
-pub run_text_is : (t : Titles) (functions : List Func) (log : Option (List Entry)) (ps : List ActorPart) → run_text t functions ps ≡ flat (parts_lines t functions (first_run t.states log) ps)
+pub run_text_is : (t : LineStyle) (functions : List Func) (log : Option (List Entry)) (ps : List ActorPart) → run_text t functions ps ≡ flat (parts_lines t functions (first_run t.titles.states log) ps)
 unfolding run_text
-run_text_is t functions log ps = ap flat (run_lines t functions (first_run t.states log) ps)
+run_text_is t functions log ps = ap flat (run_lines t functions (first_run t.titles.states log) ps)

@@ -23,7 +23,7 @@ use Rattle.snap_api.specs.declared.data.Entry.{Entry}
 use Rattle.snap_api.specs.declared.data.Snapshot.{Snapshot}
 use Rattle.script_lang.specs.SnapshotNames.{NamedNumber, latest, snapshot_number, never_taken}
 use Rattle.script_lang.specs.StepCalls.{Part, Take, Read, Write, WriteSum, Apply, Dispose, BeginFrame, EndFrame, ActorPart, of_actor, Notes, request_of, sum_request, notes_after, number_taken, entry, watcher_number}
-use Rattle.script_lang.specs.Lines.{Titles, entry_line, ends_frame, frame_taken}
+use Rattle.script_lang.specs.Lines.{LineStyle, entry_line, ends_frame, frame_taken}
 use Rattle.recomposer.specs.Compositions.{IsAt}
 use Rattle.play_run.specs.RunOutput.{Run, request_lines, run_after_request, part_lines, part_after, parts_lines, parts_after}
 use Rattle.play_run.specs.RunLog.{reads_frame}
@@ -187,7 +187,7 @@ names_after P n (Dispose s) y plain old new other k is = old other k is
 names_after P n BeginFrame y plain old new other k is = absurd plain
 names_after P n EndFrame y plain old new other k is = absurd plain
 
-module _ (t : Titles) (functions : List Func) (r : Run) (actor : ℕ) (p : Part) (q : Request) where
+module _ (t : LineStyle) (functions : List Func) (r : Run) (actor : ℕ) (p : Part) (q : Request) where
   abbrev after_call : World BuiltIn
   after_call = (call table r.standing.world actor q).0
 
@@ -204,7 +204,7 @@ module _ (t : Titles) (functions : List Func) (r : Run) (actor : ℕ) (p : Part)
     log = r.log;
   }
 
-  pub quiet_lines : request_of r.notes p ≡ Some q → ends_frame r.standing.frames q ≡ false → part_lines t functions r (of_actor actor p) ≡ entry_line t (entry r.standing.world actor q) ∷ []
+  pub quiet_lines : request_of r.notes p ≡ Some q → ends_frame r.standing.frames q ≡ false → part_lines t functions r (of_actor actor p) ≡ entry_line t.titles (entry r.standing.world actor q) ∷ []
   quiet_lines is none = ap (request_lines t functions r actor) is ∙ rw none refl
 
   quiet_after : request_of r.notes p ≡ Some q → ends_frame r.standing.frames q ≡ false → frame_taken q answer ≡ [] → part_after functions r (of_actor actor p) ≡ quiet
@@ -284,15 +284,15 @@ module _ (t : Titles) (functions : List Func) (r : Run) (actor : ℕ) (p : Part)
 
     -- The line of the part.
     pub plain_line : (frame : Option ℕ) → RunFacts functions stands world kept actor frame r →
-        flat (parts_lines t functions r (of_actor actor p ∷ [])) ≡ entry_line t (entry r.standing.world actor q)
-    plain_line frame h = ap (λ ls. flat (ls ++ [])) (quiet_lines is (plain_quiet frame h)) ∙ append-nil (entry_line t (entry r.standing.world actor q))
+        flat (parts_lines t functions r (of_actor actor p ∷ [])) ≡ entry_line t.titles (entry r.standing.world actor q)
+    plain_line frame h = ap (λ ls. flat (ls ++ [])) (quiet_lines is (plain_quiet frame h)) ∙ append-nil (entry_line t.titles (entry r.standing.world actor q))
 
 -- One part in a list of its own.
-pub one_part_lines : (t : Titles) (functions : List Func) (r : Run) (p : ActorPart) → parts_lines t functions r (p ∷ []) ≡ part_lines t functions r p
+pub one_part_lines : (t : LineStyle) (functions : List Func) (r : Run) (p : ActorPart) → parts_lines t functions r (p ∷ []) ≡ part_lines t functions r p
 one_part_lines t functions r p = append-nil (part_lines t functions r p)
 
 -- The parts of two lists, one after the other.
-module _ (t : Titles) (functions : List Func) where
+module _ (t : LineStyle) (functions : List Func) where
   pub lines_append : (r : Run) (ps qs : List ActorPart) → parts_lines t functions r (ps ++ qs) ≡ parts_lines t functions r ps ++ parts_lines t functions (parts_after functions r ps) qs
   lines_append r [] qs = refl
   lines_append r (p ∷ ps) qs = ap (λ l. part_lines t functions r p ++ l) (lines_append (part_after functions r p) ps qs) ∙ sym (append_assoc (part_lines t functions r p) _ _)
@@ -302,9 +302,9 @@ module _ (t : Titles) (functions : List Func) where
   after_append r (p ∷ ps) qs = after_append (part_after functions r p) ps qs
 
 -- A single call was made and its line was written. The part keeps the names.
-pub ran_single : {T : Type 0} {V : Type 0} {stands : V → World BuiltIn → Type 0} {log : V → Option (List Entry)} {world world' : V} {memory memory' : RunMemory} (t : Titles) (functions : List Func) (actor : ℕ) (frame : Option ℕ) (r : Run) (p : Part) (q : Request) (written written' : Option (List ℕ)) (result : Result T Stop) →
+pub ran_single : {T : Type 0} {V : Type 0} {stands : V → World BuiltIn → Type 0} {log : V → Option (List Entry)} {world world' : V} {memory memory' : RunMemory} (t : LineStyle) (functions : List Func) (actor : ℕ) (frame : Option ℕ) (r : Run) (p : Part) (q : Request) (written written' : Option (List ℕ)) (result : Result T Stop) →
     KeepsNames p → IsRun functions stands log world memory actor frame r → request_of r.notes p ≡ Some q →
-    WritesBytes written written' (entry_line t (entry r.standing.world actor q)) result →
+    WritesBytes written written' (entry_line t.titles (entry r.standing.world actor q)) result →
     OnOk result (stands world' (call table r.standing.world actor q).0) → OnOk result (AddsEntry (log world) (log world') (entry r.standing.world actor q)) → memory'.composition ≡ memory.composition → memory'.names ≡ memory.names →
     RunsAt {T = T} t functions stands log actor (of_actor actor p ∷ []) world' memory' frame written written' r result
 ran_single {stands = stands} {log = log} {world = world} {world' = world'} {memory = memory} {memory' = memory'} t functions actor frame r p q written written' (Ok x) keeps h is says stood adds kept names =
@@ -324,9 +324,9 @@ ran_single {stands = stands} {world = world} {world' = world'} {memory = memory}
 }
 
 -- A take was made, its line was written, and its number was noted.
-pub ran_take : {T : Type 0} {V : Type 0} {stands : V → World BuiltIn → Type 0} {log : V → Option (List Entry)} {world world' : V} {memory memory' : RunMemory} (t : Titles) (functions : List Func) (actor : ℕ) (frame : Option ℕ) (r : Run) (name : List ℕ) (kind : Kind) (parent : SnapshotRef) (q : Request) (y : Reply) (written written' : Option (List ℕ)) (x : T) →
+pub ran_take : {T : Type 0} {V : Type 0} {stands : V → World BuiltIn → Type 0} {log : V → Option (List Entry)} {world world' : V} {memory memory' : RunMemory} (t : LineStyle) (functions : List Func) (actor : ℕ) (frame : Option ℕ) (r : Run) (name : List ℕ) (kind : Kind) (parent : SnapshotRef) (q : Request) (y : Reply) (written written' : Option (List ℕ)) (x : T) →
     IsRun functions stands log world memory actor frame r → request_of r.notes (Take name kind parent) ≡ Some q →
-    Appends written written' (entry_line t (entry r.standing.world actor q)) → y ≡ (call table r.standing.world actor q).1 →
+    Appends written written' (entry_line t.titles (entry r.standing.world actor q)) → y ≡ (call table r.standing.world actor q).1 →
     stands world' (call table r.standing.world actor q).0 → AddsEntry (log world) (log world') (entry r.standing.world actor q) → memory'.composition ≡ memory.composition →
     ((other : List ℕ) → number_in memory'.names other ≡ cond (bytes_eq name other) (Some (number_taken y)) (number_in memory.names other)) →
     RunsAt {T = T} t functions stands log actor (of_actor actor (Take name kind parent) ∷ []) world' memory' frame written written' r (Ok x)
@@ -346,9 +346,9 @@ ran_take {stands = stands} {log = log} {world = world} {world' = world'} {memory
     }
 
 -- A take's line was written up to an error.
-pub stopped_take : {T : Type 0} {V : Type 0} {stands : V → World BuiltIn → Type 0} {log : V → Option (List Entry)} {world world' : V} {memory memory' : RunMemory} (t : Titles) (functions : List Func) (actor : ℕ) (frame : Option ℕ) (r : Run) (name : List ℕ) (kind : Kind) (parent : SnapshotRef) (q : Request) (written written' : Option (List ℕ)) (e : Stop) →
+pub stopped_take : {T : Type 0} {V : Type 0} {stands : V → World BuiltIn → Type 0} {log : V → Option (List Entry)} {world world' : V} {memory memory' : RunMemory} (t : LineStyle) (functions : List Func) (actor : ℕ) (frame : Option ℕ) (r : Run) (name : List ℕ) (kind : Kind) (parent : SnapshotRef) (q : Request) (written written' : Option (List ℕ)) (e : Stop) →
     IsRun functions stands log world memory actor frame r → request_of r.notes (Take name kind parent) ≡ Some q →
-    AppendsPart written written' (entry_line t (entry r.standing.world actor q)) →
+    AppendsPart written written' (entry_line t.titles (entry r.standing.world actor q)) →
     RunsAt {T = T} t functions stands log actor (of_actor actor (Take name kind parent) ∷ []) world' memory' frame written written' r (Err e)
 stopped_take {T = T} {stands = stands} {world = world} {memory = memory} t functions actor frame r name kind parent q written written' e h is wrote = record {
   says = says_same {T = T} (Err e) written written' _ _ (sym (plain_line t functions r actor (Take name kind parent) q {stands = stands} {world = world} {kept = memory.composition} tt is frame h.facts)) (record { all = tt; part = wrote });
@@ -356,7 +356,7 @@ stopped_take {T = T} {stands = stands} {world = world} {memory = memory} t funct
 }
 
 -- Nothing is written of a sum that is not made.
-pub no_sum : {T : Type 0} {V : Type 0} {stands : V → World BuiltIn → Type 0} {log : V → Option (List Entry)} {world : V} {memory : RunMemory} (t : Titles) (functions : List Func) (actor : ℕ) (frame : Option ℕ) (r : Run) (p : Part) (written : Option (List ℕ)) (x : T) →
+pub no_sum : {T : Type 0} {V : Type 0} {stands : V → World BuiltIn → Type 0} {log : V → Option (List Entry)} {world : V} {memory : RunMemory} (t : LineStyle) (functions : List Func) (actor : ℕ) (frame : Option ℕ) (r : Run) (p : Part) (written : Option (List ℕ)) (x : T) →
     IsRun functions stands log world memory actor frame r → request_of r.notes p ≡ None → WritesBytes {T = T} {E = Stop} written written [] (Ok x) →
     RunsAt {T = T} t functions stands log actor (of_actor actor p ∷ []) world memory frame written written r (Ok x)
 no_sum {stands = stands} {log = log} {world = world} {memory = memory} t functions actor frame r p written x h is says = record {

@@ -11,7 +11,7 @@ use Rattle.snap_api.specs.World.{World}
 use Rattle.snap_api.specs.declared.data.Entry.{Entry}
 use Rattle.script_lang.specs.Scripts.{repeated, times_of, written_out}
 use Rattle.script_lang.specs.StepCalls.{Part, ActorPart, of_actor, step_parts, steps_parts}
-use Rattle.script_lang.specs.Lines.{Titles}
+use Rattle.script_lang.specs.Lines.{LineStyle}
 use Rattle.play_run.specs.RunOutput.{Run, parts_lines, parts_after, parts_of}
 use Rattle.play_run.specs.RunState.{IsRun, RunsAt, flat}
 use Rattle.play_run.specs.RunPromise.{WritesBytes}
@@ -34,7 +34,7 @@ pub form_first : (f : ScriptForm) (more : List ScriptForm) → written_out (f �
 form_first (Once s) more = refl
 form_first (Repeat at times steps) more = sym (append_assoc (repeated (times_of times) steps) [] (written_out more))
 
-module _ {V : Type 0} {stands : V → World BuiltIn → Type 0} {log : V → Option (List Entry)} (t : Titles) (functions : List Func) (actor : ℕ) where
+module _ {V : Type 0} {stands : V → World BuiltIn → Type 0} {log : V → Option (List Entry)} (t : LineStyle) (functions : List Func) (actor : ℕ) where
   -- Nothing was run yet.
   pub runs_none : {T : Type 0} {world : V} {memory : RunMemory} (frame : Option ℕ) (written : Option (List ℕ)) (r : Run) (x : T) → IsRun functions stands log world memory actor frame r →
       WritesBytes {T = T} {E = Stop} written written [] (Ok x) → RunsAt {T = T} t functions stands log actor [] world memory frame written written r (Ok x)
@@ -76,20 +76,20 @@ run_as a b h = record {
   logged = h.logged;
 }
 
-pub runs_as : {V T : Type 0} {stands : V → World BuiltIn → Type 0} {log : V → Option (List Entry)} {t : Titles} {functions : List Func} {world : V} {memory : RunMemory} {r : Run} (a b : ℕ) (ps : List ActorPart) (written written' : Option (List ℕ)) (result : Result T Stop) →
+pub runs_as : {V T : Type 0} {stands : V → World BuiltIn → Type 0} {log : V → Option (List Entry)} {t : LineStyle} {functions : List Func} {world : V} {memory : RunMemory} {r : Run} (a b : ℕ) (ps : List ActorPart) (written written' : Option (List ℕ)) (result : Result T Stop) →
     RunsAt t functions stands log a ps world memory None written written' r result → RunsAt t functions stands log b ps world memory None written written' r result
 runs_as a b ps written written' (Ok x) h = record { says = h.says; left = run_as a b h.left }
 runs_as a b ps written written' (Err e) h = record { says = h.says; left = tt }
 
 -- The same outcome with another value.
-pub runs_ok : {V T U : Type 0} {stands : V → World BuiltIn → Type 0} {log : V → Option (List Entry)} {t : Titles} {functions : List Func} {world : V} {memory : RunMemory} {r : Run} {actor : ℕ} {frame : Option ℕ} {ps : List ActorPart} {written written' : Option (List ℕ)} (a : Result T Stop) (x : T) (b : Result U Stop) (y : U) → a ≡ Ok x → b ≡ Ok y →
+pub runs_ok : {V T U : Type 0} {stands : V → World BuiltIn → Type 0} {log : V → Option (List Entry)} {t : LineStyle} {functions : List Func} {world : V} {memory : RunMemory} {r : Run} {actor : ℕ} {frame : Option ℕ} {ps : List ActorPart} {written written' : Option (List ℕ)} (a : Result T Stop) (x : T) (b : Result U Stop) (y : U) → a ≡ Ok x → b ≡ Ok y →
     RunsAt t functions stands log actor ps world memory frame written written' r a → RunsAt t functions stands log actor ps world memory frame written written' r b
 runs_ok {stands = stands} {log = log} {t = t} {functions = functions} {world = world} {memory = memory} {r = r} {actor = actor} {frame = frame} {ps = ps} {written = written} {written' = written'} a x b y is same h =
     subst (λ c. RunsAt t functions stands log actor ps world memory frame written written' r c) (sym same)
     (let at = subst (λ c. RunsAt t functions stands log actor ps world memory frame written written' r c) is h in
     record { says = record { all = at.says.all; part = tt }; left = at.left })
 
-pub runs_err : {V T U : Type 0} {stands : V → World BuiltIn → Type 0} {log : V → Option (List Entry)} {t : Titles} {functions : List Func} {world : V} {memory : RunMemory} {r : Run} {actor : ℕ} {frame : Option ℕ} {ps : List ActorPart} {written written' : Option (List ℕ)} (a : Result T Stop) (e : Stop) (b : Result U Stop) (f : Stop) → a ≡ Err e → b ≡ Err f →
+pub runs_err : {V T U : Type 0} {stands : V → World BuiltIn → Type 0} {log : V → Option (List Entry)} {t : LineStyle} {functions : List Func} {world : V} {memory : RunMemory} {r : Run} {actor : ℕ} {frame : Option ℕ} {ps : List ActorPart} {written written' : Option (List ℕ)} (a : Result T Stop) (e : Stop) (b : Result U Stop) (f : Stop) → a ≡ Err e → b ≡ Err f →
     RunsAt t functions stands log actor ps world memory frame written written' r a → RunsAt t functions stands log actor ps world memory frame written written' r b
 runs_err {stands = stands} {log = log} {t = t} {functions = functions} {world = world} {memory = memory} {r = r} {actor = actor} {frame = frame} {ps = ps} {written = written} {written' = written'} a e b f is same h =
     subst (λ c. RunsAt t functions stands log actor ps world memory frame written written' r c) (sym same)
@@ -97,7 +97,7 @@ runs_err {stands = stands} {log = log} {t = t} {functions = functions} {world = 
     record { says = record { all = tt; part = at.says.part }; left = tt })
 
 -- A loop over parts: those that were run, those that are run next, and the rest.
-module _ {V : Type 0} {stands : V → World BuiltIn → Type 0} {log : V → Option (List Entry)} (t : Titles) (functions : List Func) (actor : ℕ) (frame : Option ℕ) (written written' written'' : Option (List ℕ)) (r : Run) (done here rest left all : List ActorPart) where
+module _ {V : Type 0} {stands : V → World BuiltIn → Type 0} {log : V → Option (List Entry)} (t : LineStyle) (functions : List Func) (actor : ℕ) (frame : Option ℕ) (written written' written'' : Option (List ℕ)) (r : Run) (done here rest left all : List ActorPart) where
   pub loop_next : {world' world'' : V} {memory' memory'' : RunMemory} → left ≡ here ++ rest → done ++ left ≡ all →
       RunsAt {T = Unit {0}} t functions stands log actor done world' memory' frame written written' r (Ok tt) →
       RunsAt {T = Unit {0}} t functions stands log actor here world'' memory'' frame written' written'' (parts_after functions r done) (Ok tt) →

@@ -13,6 +13,7 @@ use Rattle.rt_groups.specs.declared.groups.GroupKind.TheVariants as what
 use Rattle.rt_groups.specs.PreorderGroups.{flat_group}
 use Rattle.slot_table.specs.TableGroups.{group_at}
 use Rattle.script_lang.specs.GroupLines.{group_lines, group_line, open_after}
+use Rattle.script_lang.specs.GroupJson.{JsonState, groups_json, group_json, json_after_group}
 use Rattle.play_run.specs.RunPromise.{WritesBytes}
 
 -- Some bytes were written, then a part of the next piece.
@@ -68,3 +69,15 @@ appends_none (Some bytes) = sym (append-nil bytes)
 
 pub says_none : {T E : Type 0} (a : Option (List ℕ)) (x : T) → WritesBytes {T = T} {E = E} a a [] (Ok x)
 says_none a x = record { all = appends_none a; part = tt }
+
+-- Nothing after a text.
+pub nothing_after : (xs : List ℕ) → xs ++ [] ≡ xs
+nothing_after xs = append-nil xs
+
+-- The JSON of the group at an index, then that of the groups after it.
+pub groups_json_at : (s : JsonState) (gs : List Group) (i : ℕ) → i < length gs → groups_json s (drop i gs) ≡ group_json s (group_at gs i) ++ groups_json (json_after_group s (group_at gs i)) (drop (i + 1) gs)
+groups_json_at s gs i h = ap (groups_json s) (drop_more gs i (flat_group 0 0 0 (what.Key no_value) []) h)
+
+-- The ends after the last group.
+pub no_json_after : (s : JsonState) (gs : List Group) (i : ℕ) → length gs ≤ i → groups_json s (drop i gs) ≡ groups_json s []
+no_json_after s gs i h = ap (groups_json s) (drop_of_length-le gs h)

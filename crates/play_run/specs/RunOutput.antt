@@ -1,5 +1,5 @@
 -- Internal: what the parts of steps print and leave.
-use Rattle.std.specs.Prelude.{ℕ, List, [], ◌∷◌, ◌++◌, map, Option, Some, None}
+use Rattle.std.specs.Prelude.{ℕ, List, [], ◌∷◌, ◌++◌, map, codes, if◌then◌else◌, Option, Some, None}
 use Rattle.lang_ast.specs.declared.program.State.{State}
 use Rattle.lang_ast.specs.Terms.{Func}
 use Rattle.snap_policy.specs.Table.{table}
@@ -7,7 +7,11 @@ use Rattle.snap_api.specs.declared.data.Request.{Request}
 use Rattle.snap_api.specs.declared.data.Entry.{Entry}
 use Rattle.snap_api.specs.World.{History, call}
 use Rattle.script_lang.specs.StepCalls.{Part, ActorPart, of_actor, Notes, no_notes, request_of, notes_after, entry}
-use Rattle.script_lang.specs.Lines.{Titles, Standing, initial_standing, lines_at, next}
+use Rattle.rt_groups.specs.declared.groups.Group.{Group}
+use Rattle.script_lang.specs.declared.flags.Flags.{Flags}
+use Rattle.script_lang.specs.GroupLines.{group_lines}
+use Rattle.script_lang.specs.GroupJson.{groups_json, initial_json}
+use Rattle.script_lang.specs.Lines.{LineStyle, Standing, initial_standing, lines_at, next}
 
 -- The state of a run between two parts: what its lines depend on, what its calls depend on, and the calls so far that are
 -- printed. `first` is the state of the walk before the first part, and `log` the log of the world then.
@@ -23,11 +27,11 @@ abbrev pub first_run : List State → Option (List Entry) → Run
 first_run states log =
     record { standing = initial_standing states; notes = no_notes; made = []; first = initial_standing states; log = log }
 
-module _ (t : Titles) (functions : List Func) where
+module _ (style : LineStyle) (functions : List Func) where
   -- The lines of the call that an actor makes, if it makes one.
   abbrev pub request_lines : Run → ℕ → Option Request → List (List ℕ)
   request_lines r actor None = []
-  request_lines r actor (Some q) = lines_at t functions r.standing (entry r.standing.world actor q)
+  request_lines r actor (Some q) = lines_at style functions r.standing (entry r.standing.world actor q)
 
   -- The lines of a part.
   abbrev pub part_lines : Run → ActorPart → List (List ℕ)
@@ -55,10 +59,19 @@ module _ (functions : List Func) where
   parts_after r (p ∷ ps) = parts_after (part_after r p) ps
 
 -- The lines of parts, one after the other.
-abbrev pub parts_lines : Titles → List Func → Run → List ActorPart → List (List ℕ)
-parts_lines t functions r [] = []
-parts_lines t functions r (p ∷ ps) = part_lines t functions r p ++ parts_lines t functions (part_after functions r p) ps
+abbrev pub parts_lines : LineStyle → List Func → Run → List ActorPart → List (List ℕ)
+parts_lines style functions r [] = []
+parts_lines style functions r (p ∷ ps) =
+    part_lines style functions r p ++ parts_lines style functions (part_after functions r p) ps
 
 -- The parts of an actor.
 abbrev pub parts_of : ℕ → List Part → List ActorPart
 parts_of actor ps = map (of_actor actor) ps
+
+-- The line of a tree as JSON, from its groups in preorder.
+abbrev pub json_line : List Group → List ℕ
+json_line groups = 91 ∷ groups_json initial_json groups ++ codes "]\n"
+
+-- The lines of a tree, from its groups in preorder.
+abbrev pub shown_groups : Flags → List Group → List ℕ
+shown_groups flags groups = if flags.json then json_line groups else group_lines [] groups

@@ -3,15 +3,26 @@ use Rattle.std.specs.Prelude.{◌≡◌, ℕ, List, Option, Result, Ok, Err, OnO
 use Rattle.std.specs.Io.KnownBytes.{Appends}
 use Rattle.rt_streams.specs.Streams.{AppendsPart, Rose}
 use Rattle.lang_ast.specs.Terms.{Func}
-use Rattle.script_lang.specs.Lines.{Titles, titles_of, functions_of}
+use Rattle.script_lang.specs.Lines.{Titles, LineStyle, titles_of, functions_of}
+use Rattle.script_lang.specs.declared.flags.Flags.{Flags}
+use Rattle.play_run.specs.declared.calls.JobActor.{JobActor}
 use Rattle.play_run.specs.declared.job.Job.{Job}
 use Rattle.play_run.specs.declared.write_lines.Stop.{Stop}
 use Rattle.play_run.specs.declared.write_lines.Stop.TheVariants as stop
 
--- The names and the functions of a checked program with its script.
+-- The names of a checked program with its script.
 abbrev pub job_titles : Job → Titles
 job_titles job = titles_of job.program job.script
 
+-- How the lines of a job are written with these flags.
+abbrev pub job_style : Job → Flags → LineStyle
+job_style job flags = record { titles = job_titles job; flags = flags }
+
+-- How the lines of an actor's calls and frames are written.
+abbrev pub style_of : JobActor → LineStyle
+style_of actor = job_style actor.job.now actor.flags
+
+-- The functions of the program.
 abbrev pub job_functions : Job → List Func
 job_functions job = functions_of job.program
 

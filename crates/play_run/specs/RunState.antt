@@ -17,7 +17,7 @@ use Rattle.snap_api.specs.Calls.{IsOwn}
 use Rattle.script_lang.specs.SnapshotNames.{NamedNumber, latest, never_taken}
 use Rattle.script_lang.specs.NamesInMemory.{Holds}
 use Rattle.script_lang.specs.StepCalls.{Part, Take, BeginFrame, EndFrame, ActorPart, watcher_number}
-use Rattle.script_lang.specs.Lines.{Titles}
+use Rattle.script_lang.specs.Lines.{LineStyle}
 use Rattle.play_run.specs.RunPromise.{WritesBytes}
 use Rattle.play_run.specs.RunLog.{printed, frames_in, ReadsOwed}
 use Rattle.play_run.specs.RunOutput.{Run, parts_lines, parts_after}
@@ -118,16 +118,16 @@ KeepsNames _ = Unit {0}
 
 -- The lines of the parts after the state `r` were written, and the state after them is represented. `frame` is the open
 -- frame before the parts, and `frame'` the one after them.
-pub record RunsAt {V T : Type 0} (t : Titles) (functions : List Func) (stands : V → World BuiltIn → Type 0)
+pub record RunsAt {V T : Type 0} (style : LineStyle) (functions : List Func) (stands : V → World BuiltIn → Type 0)
     (log : V → Option (List Entry)) (actor : ℕ) (parts : List ActorPart) (world' : V) (memory' : RunMemory) (frame' : Option ℕ)
     (written written' : Option (List ℕ)) (r : Run) (result : Result T Stop) : Type 0 where
-  pub says : WritesBytes written written' (flat (parts_lines t functions r parts)) result
+  pub says : WritesBytes written written' (flat (parts_lines style functions r parts)) result
   pub left : OnOk result (IsRun functions stands log world' memory' actor frame' (parts_after functions r parts))
 
 -- The same for every state that is represented before.
-abbrev pub RunsParts : {V T : Type 0} (t : Titles) (functions : List Func) (stands : V → World BuiltIn → Type 0)
+abbrev pub RunsParts : {V T : Type 0} (style : LineStyle) (functions : List Func) (stands : V → World BuiltIn → Type 0)
     (log : V → Option (List Entry)) (actor : ℕ) (parts : List ActorPart) (world world' : V) (memory memory' : RunMemory) (frame frame' : Option ℕ)
     (written written' : Option (List ℕ)) (result : Result T Stop) → Type 0
-RunsParts t functions stands log actor parts world world' memory memory' frame frame' written written' result =
+RunsParts style functions stands log actor parts world world' memory memory' frame frame' written written' result =
     (r : Run) → IsRun functions stands log world memory actor frame r →
-    RunsAt t functions stands log actor parts world' memory' frame' written written' r result
+    RunsAt style functions stands log actor parts world' memory' frame' written written' r result

@@ -10,7 +10,7 @@ ghost use Rattle.script_lang.specs.SnapshotNames.{snapshot_number};
 ghost use Rattle.script_lang.specs.StepCalls.{Part, Take, Read, WriteSum, request_of, number_taken, value_read, sum_request, entry, call_parts, calls_parts};
 ghost use Rattle.script_lang.specs.Lines.{entry_line};
 ghost use Rattle.play_run.specs.RunOutput.{Run, parts_of};
-ghost use Rattle.play_run.specs.RunPromise.{job_titles, job_functions};
+ghost use Rattle.play_run.specs.RunPromise.{job_titles, style_of, job_functions};
 ghost use Rattle.play_run.specs.RunState.{KeepsNames, AddsEntry, IsRun, RunsAt, RunsParts};
 ghost use Rattle.play_run.specs.RunPromise.{WritesBytes, FaultsAfter};
 
@@ -21,15 +21,16 @@ use lang_ast::CallForm;
 use rt_streams::Sink;
 use rt_values::operators::add;
 use rt_values::{Caller, Name, ObjectNo, Value, Word};
-use script_lang::{NEVER_TAKEN, add_reply_line, add_request_line};
+use script_lang::{Flags, NEVER_TAKEN, add_reply_line, add_request_line};
 use snap_api::{Reply, Request, Versions};
 use snap_policy::BuiltIn;
 use std::alloc::Global;
 
-/// An actor of a job.
+/// An actor of a job, with the flags of the run.
 #[derive(Clone, Copy)]
 pub struct JobActor<'a> {
     pub job: &'a Job,
+    pub flags: Flags,
     pub number: Caller,
 }
 
@@ -83,7 +84,7 @@ fn run_part<V: Versions<P = BuiltIn>, K: Sink>(
     ensures runs { (frame : Option ℕ) (r : Run) (p : Part) → KeepsNames p →
         IsRun (job_functions actor.entry.job.now) V.stands V.log world.old memory.old actor.entry.number frame r →
         request_of r.notes p ≡ Some request →
-        RunsAt (job_titles actor.entry.job.now) (job_functions actor.entry.job.now) V.stands V.log actor.entry.number
+        RunsAt (style_of actor.entry) (job_functions actor.entry.job.now) V.stands V.log actor.entry.number
         (parts_of actor.entry.number (p ∷ []))
         world.new memory.new frame (K.written sink.old) (K.written sink.new) r result }
     ensures reply { (w : World built_in) → V.stands world.old w →
@@ -116,7 +117,7 @@ fn run_take<V: Versions<P = BuiltIn>, K: Sink>(
     ensures runs { (frame : Option ℕ) (r : Run) (kind : kind_data) (parent : snapshot_ref) →
         IsRun (job_functions actor.entry.job.now) V.stands V.log world.old memory.old actor.entry.number frame r →
         request_of r.notes (Take name.now kind parent) ≡ Some request →
-        RunsAt (job_titles actor.entry.job.now) (job_functions actor.entry.job.now) V.stands V.log actor.entry.number
+        RunsAt (style_of actor.entry) (job_functions actor.entry.job.now) V.stands V.log actor.entry.number
         (parts_of actor.entry.number (Take name.now kind parent ∷ []))
         world.new memory.new frame (K.written sink.old) (K.written sink.new) r result }
     ensures faults { FaultsAfter (K.faults sink.old) (K.faults sink.new) result }
@@ -158,7 +159,7 @@ fn run_add<V: Versions<P = BuiltIn>, K: Sink>(
     ensures runs { (frame : Option ℕ) (r : Run) (snapshot : snapshot_ref) →
         IsRun (job_functions actor.entry.job.now) V.stands V.log world.old memory.old actor.entry.number frame r →
         snapshot_number r.notes.names snapshot ≡ name →
-        RunsAt (job_titles actor.entry.job.now) (job_functions actor.entry.job.now) V.stands V.log actor.entry.number
+        RunsAt (style_of actor.entry) (job_functions actor.entry.job.now) V.stands V.log actor.entry.number
         (parts_of actor.entry.number (Read snapshot object ∷ WriteSum snapshot object amount ∷ []))
         world.new memory.new frame (K.written sink.old) (K.written sink.new) r result }
     ensures faults { FaultsAfter (K.faults sink.old) (K.faults sink.new) result }
@@ -195,7 +196,7 @@ fn run_single<V: Versions<P = BuiltIn>, K: Sink>(
     ensures runs { (frame : Option ℕ) (r : Run) (p : Part) → KeepsNames p →
         IsRun (job_functions actor.entry.job.now) V.stands V.log world.old memory.old actor.entry.number frame r →
         request_of r.notes p ≡ Some request →
-        RunsAt (job_titles actor.entry.job.now) (job_functions actor.entry.job.now) V.stands V.log actor.entry.number
+        RunsAt (style_of actor.entry) (job_functions actor.entry.job.now) V.stands V.log actor.entry.number
         (parts_of actor.entry.number (p ∷ []))
         world.new memory.new frame (K.written sink.old) (K.written sink.new) r result }
     ensures faults { FaultsAfter (K.faults sink.old) (K.faults sink.new) result }
@@ -220,7 +221,7 @@ fn run_write<V: Versions<P = BuiltIn>, K: Sink>(
     ensures runs { (frame : Option ℕ) (r : Run) (p : Part) → KeepsNames p →
         IsRun (job_functions actor.entry.job.now) V.stands V.log world.old memory.old actor.entry.number frame r →
         request_of r.notes p ≡ Some (request_data.Write name object value.now) →
-        RunsAt (job_titles actor.entry.job.now) (job_functions actor.entry.job.now) V.stands V.log actor.entry.number
+        RunsAt (style_of actor.entry) (job_functions actor.entry.job.now) V.stands V.log actor.entry.number
         (parts_of actor.entry.number (p ∷ []))
         world.new memory.new frame (K.written sink.old) (K.written sink.new) r result }
     ensures faults { FaultsAfter (K.faults sink.old) (K.faults sink.new) result }
@@ -245,7 +246,7 @@ pub fn run_call<V: Versions<P = BuiltIn>, K: Sink>(
     world: &mut V,
     sink: &mut K,
 ) -> Result<(), Stop>
-    ensures runs { (frame : Option ℕ) → RunsParts (job_titles actor.entry.job.now)
+    ensures runs { (frame : Option ℕ) → RunsParts (style_of actor.entry)
         (job_functions actor.entry.job.now) V.stands V.log actor.entry.number
         (parts_of actor.entry.number (call_parts form.now)) world.old world.new memory.old memory.new frame frame
         (K.written sink.old) (K.written sink.new) result }
@@ -315,7 +316,7 @@ pub fn run_calls<V: Versions<P = BuiltIn>, K: Sink>(
     world: &mut V,
     sink: &mut K,
 ) -> Result<(), Stop>
-    ensures runs { (frame : Option ℕ) → RunsParts (job_titles actor.entry.job.now)
+    ensures runs { (frame : Option ℕ) → RunsParts (style_of actor.entry)
         (job_functions actor.entry.job.now) V.stands V.log actor.entry.number
         (parts_of actor.entry.number (calls_parts forms.now)) world.old world.new memory.old memory.new frame frame
         (K.written sink.old) (K.written sink.new) result }

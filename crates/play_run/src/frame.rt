@@ -16,8 +16,9 @@ ghost use Rattle.snap_api.specs.declared.data.Reply.TheVariants as reply_data;
 ghost use Rattle.script_lang.specs.StepCalls.{BeginFrame, EndFrame, calls_parts, frame_begun};
 ghost use Rattle.script_lang.specs.Lines.{line, report_line, frame_lines, kept_after};
 ghost use Rattle.script_lang.specs.GroupLines.{group_lines, open_after, group_line};
-ghost use Rattle.play_run.specs.RunOutput.{Run, parts_of, parts_lines, parts_after};
-ghost use Rattle.play_run.specs.RunPromise.{job_titles, job_functions};
+ghost use Rattle.script_lang.specs.GroupJson.{group_json, json_after_group};
+ghost use Rattle.play_run.specs.RunOutput.{Run, parts_of, parts_lines, parts_after, json_line, shown_groups};
+ghost use Rattle.play_run.specs.RunPromise.{style_of, job_functions};
 ghost use Rattle.play_run.specs.RunState.{IsRun, LogsFrameReads, RunsParts, flat};
 ghost use Rattle.play_run.specs.RunPromise.{WritesBytes, FaultsAfter};
 
@@ -28,8 +29,8 @@ use lang_ast::CallForm;
 use recomposer::{Composition, FrameStop};
 use rt_groups::Report;
 use rt_streams::Sink;
-use rt_values::{Caller, Name, Objects, Steps};
-use script_lang::{OpenGroups, add_refused, add_report};
+use rt_values::{Caller, Name, NoMemory, Objects, Steps};
+use script_lang::{Flags, OpenGroups, TreeWriter, add_refused, add_report};
 use slot_table::Table;
 use snap_api::{OwnDesk, Reply, Request, Versions};
 use snap_policy::BuiltIn;
@@ -152,20 +153,87 @@ fn write_tree<K: Sink>(
     Ok(())
 }
 
+// Appends the JSON of the group at index `i`.
+#[tactic(auto, using(crate::proofs::Written::nothing_after))]
+fn add_json_group<'t>(
+    table: &'t Table,
+    i: usize,
+    writer: &mut TreeWriter<'t>,
+    text: &mut Vec<u8>,
+) -> Result<(), NoMemory>
+    requires { i < length table.now.groups }
+    ensures text { let this = group_json writer.old (group_at table.now.groups i) in
+        OnOk result (text.new.items ≡ text.old.items ++ this) }
+    ensures state { OnOk result (writer.new ≡ json_after_group writer.old (group_at table.now.groups i)) }
+{
+    if !table.is_node(i) {
+        return writer.add_other(text, table.depth(i));
+    }
+    writer.add_group(text, table.depth(i), table.number(i), table.kind(i))
+}
+
+// Appends the line of the tree as JSON.
+fn add_json(alloc: Global, table: &Table, text: &mut Vec<u8>) -> Result<(), NoMemory>
+    ensures { OnOk result (text.new.items ≡ text.old.items ++ json_line table.now.groups) }
+{
+    let mut writer = TreeWriter::begin(alloc, text)?;
+    let mut i = 0;
+    while i < table.len() {
+        add_json_group(table, i, &mut writer, text)?;
+        i += 1;
+    }
+    writer.finish(text)
+}
+
+// Writes the line of the tree as JSON.
+fn write_json<K: Sink>(
+    alloc: Global,
+    table: &Table,
+    text: &mut Vec<u8>,
+    sink: &mut K,
+) -> Result<(), Stop>
+    ensures says { WritesBytes (K.written sink.old) (K.written sink.new) (json_line table.now.groups) result }
+    ensures faults { FaultsAfter (K.faults sink.old) (K.faults sink.new) result }
+{
+    text.clear();
+    let Ok(()) = add_json(alloc, table, text) else {
+        return Err(Stop::NoMemory);
+    };
+    write_piece(sink, text)
+}
+
+// Writes the tree as the flags say.
+fn write_shown_tree<K: Sink>(
+    alloc: Global,
+    flags: Flags,
+    table: &Table,
+    text: &mut Vec<u8>,
+    sink: &mut K,
+) -> Result<(), Stop>
+    ensures says { WritesBytes (K.written sink.old) (K.written sink.new) (shown_groups flags table.now.groups) result }
+    ensures faults { FaultsAfter (K.faults sink.old) (K.faults sink.new) result }
+{
+    if flags.json {
+        return write_json(alloc, table, text, sink);
+    }
+    write_tree(alloc, table, text, sink)
+}
+
 // Writes the lines of a good frame.
 fn write_good_frame<K: Sink>(
     alloc: Global,
+    flags: Flags,
     report: &Report,
     table: &Table,
     text: &mut Vec<u8>,
     sink: &mut K,
 ) -> Result<(), Stop>
-    ensures says { let lines = report_line report.now ++ group_lines [] table.now.groups in
+    ensures says { let lines = report_line report.now ++ shown_groups flags table.now.groups in
         WritesBytes (K.written sink.old) (K.written sink.new) lines result }
     ensures faults { FaultsAfter (K.faults sink.old) (K.faults sink.new) result }
 {
     match write_report(report, text, sink) {
-        Ok(()) => write_tree(alloc, table, text, sink),
+        Ok(()) => write_shown_tree(alloc, flags, table, text, sink),
         Err(stop) => Err(stop),
     }
 }
@@ -173,6 +241,7 @@ fn write_good_frame<K: Sink>(
 // Writes what a frame prints: the report and the tree of a good frame, or the line of a refused one.
 fn write_frame<K: Sink>(
     alloc: Global,
+    flags: Flags,
     report: &Option<Report>,
     composition: &Composition,
     text: &mut Vec<u8>,
@@ -180,11 +249,11 @@ fn write_frame<K: Sink>(
 ) -> Result<(), Stop>
     ensures says { (k : LastFrame) (l : Option Map) (good : Option FrameResult) →
         report.now ≡ option_map (λ g. g.told) good → IsAt composition.now (kept_after k good) l →
-        WritesBytes (K.written sink.old) (K.written sink.new) (flat (frame_lines good)) result }
+        WritesBytes (K.written sink.old) (K.written sink.new) (flat (frame_lines flags good)) result }
     ensures faults { FaultsAfter (K.faults sink.old) (K.faults sink.new) result }
 {
     match report {
-        Some(report) => write_good_frame(alloc, report, composition.table(), text, sink),
+        Some(report) => write_good_frame(alloc, flags, report, composition.table(), text, sink),
         None => write_refused(text, sink),
     }
 }
@@ -220,7 +289,7 @@ fn begin_frame<V: Versions<P = BuiltIn>, K: Sink>(
     ensures says { (r : Run) → IsRun (job_functions actor.entry.job.now) V.stands V.log world.old memory.old
         actor.entry.number None r →
         WritesBytes (K.written sink.old) (K.written sink.new)
-        (flat (parts_lines (job_titles actor.entry.job.now) (job_functions actor.entry.job.now) r
+        (flat (parts_lines (style_of actor.entry) (job_functions actor.entry.job.now) r
         (parts_of actor.entry.number (BeginFrame ∷ [])))) result }
     ensures left { (r : Run) → IsRun (job_functions actor.entry.job.now) V.stands V.log world.old memory.old
         actor.entry.number None r →
@@ -245,7 +314,7 @@ fn finish_frame<V: Versions<P = BuiltIn>, K: Sink>(
     world: &mut V,
     sink: &mut K,
 ) -> Result<(), Stop>
-    ensures runs { RunsParts (job_titles actor.entry.job.now) (job_functions actor.entry.job.now) V.stands V.log
+    ensures runs { RunsParts (style_of actor.entry) (job_functions actor.entry.job.now) V.stands V.log
         actor.entry.number
         (parts_of actor.entry.number (EndFrame ∷ [])) world.old world.new memory.old memory.new (Some name) None
         (K.written sink.old) (K.written sink.new) result }
@@ -261,7 +330,14 @@ fn finish_frame<V: Versions<P = BuiltIn>, K: Sink>(
         sink,
     ) {
         Ok(_) => match composed {
-            Ok(report) => write_frame(alloc, &report, &memory.composition, &mut memory.text, sink),
+            Ok(report) => write_frame(
+                alloc,
+                actor.flags,
+                &report,
+                &memory.composition,
+                &mut memory.text,
+                sink,
+            ),
             Err(stop) => Err(stop),
         },
         Err(stop) => Err(stop),
@@ -277,7 +353,7 @@ fn end_frame<V: Versions<P = BuiltIn>, K: Sink>(
     world: &mut V,
     sink: &mut K,
 ) -> Result<(), Stop>
-    ensures runs { RunsParts (job_titles actor.entry.job.now) (job_functions actor.entry.job.now) V.stands V.log
+    ensures runs { RunsParts (style_of actor.entry) (job_functions actor.entry.job.now) V.stands V.log
         actor.entry.number
         (parts_of actor.entry.number (EndFrame ∷ [])) world.old world.new memory.old memory.new frame None
         (K.written sink.old) (K.written sink.new) result }
@@ -300,7 +376,7 @@ pub fn run_frame<V: Versions<P = BuiltIn>, K: Sink>(
     world: &mut V,
     sink: &mut K,
 ) -> Result<(), Stop>
-    ensures runs { RunsParts (job_titles actor.entry.job.now) (job_functions actor.entry.job.now) V.stands V.log
+    ensures runs { RunsParts (style_of actor.entry) (job_functions actor.entry.job.now) V.stands V.log
         actor.entry.number
         (parts_of actor.entry.number (BeginFrame ∷ (calls_parts during.now ++ EndFrame ∷ [])))
         world.old world.new memory.old memory.new None None (K.written sink.old) (K.written sink.new) result }

@@ -6,7 +6,7 @@ ghost use Rattle.script_lang.specs.Scripts.{index_of, written_out, times_of, rep
 ghost use Rattle.script_lang.specs.StepCalls.{step_parts, steps_parts, script_parts};
 ghost use Rattle.script_lang.specs.Lines.{run_text};
 ghost use Rattle.play_run.specs.RunOutput.{Run, parts_of};
-ghost use Rattle.play_run.specs.RunPromise.{job_titles, job_functions};
+ghost use Rattle.play_run.specs.RunPromise.{job_titles, job_style, style_of, job_functions};
 ghost use Rattle.play_run.specs.RunLog.{LogsRun};
 ghost use Rattle.play_run.specs.RunState.{RunsParts, flat};
 ghost use Rattle.play_run.specs.RunPromise.{WritesBytes, FaultsAfter};
@@ -19,7 +19,7 @@ use crate::open::set_up_world;
 use crate::write_lines::Stop;
 use lang_ast::{ScriptForm, StepForm};
 use rt_streams::Sink;
-use script_lang::index_of;
+use script_lang::{Flags, index_of};
 use snap_api::Versions;
 use snap_policy::BuiltIn;
 use std::alloc::Global;
@@ -33,7 +33,7 @@ fn run_step<V: Versions<P = BuiltIn>, K: Sink>(
     world: &mut V,
     sink: &mut K,
 ) -> Result<(), Stop>
-    ensures runs { RunsParts (job_titles actor.entry.job.now) (job_functions actor.entry.job.now) V.stands V.log
+    ensures runs { RunsParts (style_of actor.entry) (job_functions actor.entry.job.now) V.stands V.log
         actor.entry.number
         (parts_of actor.entry.number (step_parts step.now)) world.old world.new memory.old memory.new None None
         (K.written sink.old) (K.written sink.new) result }
@@ -57,7 +57,7 @@ fn run_steps<V: Versions<P = BuiltIn>, K: Sink>(
     world: &mut V,
     sink: &mut K,
 ) -> Result<(), Stop>
-    ensures runs { RunsParts (job_titles actor.entry.job.now) (job_functions actor.entry.job.now) V.stands V.log
+    ensures runs { RunsParts (style_of actor.entry) (job_functions actor.entry.job.now) V.stands V.log
         actor.entry.number
         (parts_of actor.entry.number (steps_parts steps.now)) world.old world.new memory.old memory.new None None
         (K.written sink.old) (K.written sink.new) result }
@@ -90,7 +90,7 @@ fn run_repeat<V: Versions<P = BuiltIn>, K: Sink>(
     world: &mut V,
     sink: &mut K,
 ) -> Result<(), Stop>
-    ensures runs { RunsParts (job_titles actor.entry.job.now) (job_functions actor.entry.job.now) V.stands V.log
+    ensures runs { RunsParts (style_of actor.entry) (job_functions actor.entry.job.now) V.stands V.log
         actor.entry.number
         (parts_of actor.entry.number (steps_parts (repeated times steps.now))) world.old world.new memory.old
         memory.new None None
@@ -116,7 +116,7 @@ fn run_form<V: Versions<P = BuiltIn>, K: Sink>(
     world: &mut V,
     sink: &mut K,
 ) -> Result<(), Stop>
-    ensures runs { RunsParts (job_titles actor.entry.job.now) (job_functions actor.entry.job.now) V.stands V.log
+    ensures runs { RunsParts (style_of actor.entry) (job_functions actor.entry.job.now) V.stands V.log
         actor.entry.number
         (parts_of actor.entry.number (steps_parts (written_out (form.now ∷ [])))) world.old world.new memory.old
         memory.new None None
@@ -146,7 +146,7 @@ fn run_forms<V: Versions<P = BuiltIn>, K: Sink>(
     world: &mut V,
     sink: &mut K,
 ) -> Result<(), Stop>
-    ensures runs { RunsParts (job_titles actor.entry.job.now) (job_functions actor.entry.job.now) V.stands V.log
+    ensures runs { RunsParts (style_of actor.entry) (job_functions actor.entry.job.now) V.stands V.log
         actor.entry.number
         (parts_of actor.entry.number (steps_parts (written_out forms.now))) world.old world.new memory.old memory.new
         None None
@@ -167,12 +167,13 @@ fn run_forms<V: Versions<P = BuiltIn>, K: Sink>(
 fn run_do_forms<V: Versions<P = BuiltIn>, K: Sink>(
     alloc: Global,
     job: &Job,
+    flags: Flags,
     memory: &mut RunMemory,
     world: &mut V,
     sink: &mut K,
 ) -> Result<(), Stop>
     // The number of an actor matters only while a frame is open.
-    ensures runs { RunsParts (job_titles job.now) (job_functions job.now) V.stands V.log 0
+    ensures runs { RunsParts (job_style job.now flags) (job_functions job.now) V.stands V.log 0
         (script_parts job.now.script.actors.items job.now.script.forms.items) world.old world.new memory.old
         memory.new None None
         (K.written sink.old) (K.written sink.new) result }
@@ -182,7 +183,7 @@ fn run_do_forms<V: Versions<P = BuiltIn>, K: Sink>(
     let mut rest = job.script.forms.as_slice();
     while let Some((form, more)) = rest.split_first() {
         let number = index_of(form.actor.text.bytes(), actors) as u64;
-        let actor = JobActor { job, number };
+        let actor = JobActor { job, flags, number };
         match run_forms(alloc, actor, form.steps.items(), memory, world, sink) {
             Ok(()) => rest = more,
             Err(stop) => return Err(stop),
@@ -192,10 +193,11 @@ fn run_do_forms<V: Versions<P = BuiltIn>, K: Sink>(
 }
 
 /// Runs the script of a job in a new world: makes the program's states and all steps, and writes each line when it is
-/// made. Fails if the sink fails or the process is out of memory.
+/// made. `flags` say what is printed of a frame. Fails if the sink fails or the process is out of memory.
 pub fn run_script<V: Versions<P = BuiltIn>, K: Sink>(
     alloc: Global,
     job: &Job,
+    flags: Flags,
     world: &mut V,
     sink: &mut K,
 ) -> Result<(), Stop>
@@ -203,7 +205,7 @@ pub fn run_script<V: Versions<P = BuiltIn>, K: Sink>(
     requires few { length job.now.program.states.items ≤ 256 }
     ensures says { let parts = script_parts job.now.script.actors.items job.now.script.forms.items in
         WritesBytes (K.written sink.old) (K.written sink.new)
-        (run_text (job_titles job.now) (job_functions job.now) parts) result }
+        (run_text (job_style job.now flags) (job_functions job.now) parts) result }
     ensures log { let parts = script_parts job.now.script.actors.items job.now.script.forms.items in
         OnOk result (LogsRun (job_titles job.now) (job_functions job.now) parts (V.log world.old) (V.log world.new)) }
     ensures faults { FaultsAfter (K.faults sink.old) (K.faults sink.new) result }
@@ -214,5 +216,5 @@ pub fn run_script<V: Versions<P = BuiltIn>, K: Sink>(
     let Ok(()) = set_up_world(alloc, &job.program, world) else {
         return Err(Stop::NoMemory);
     };
-    run_do_forms(alloc, job, &mut memory, world, sink)
+    run_do_forms(alloc, job, flags, &mut memory, world, sink)
 }

@@ -11,7 +11,7 @@ use Rattle.play_core.proofs.top.do_command.Goals as goal
 pub returns-in-Run-clause-says : goal.returns-in-Run-clause-says
 returns-in-Run-clause-says g c bytes p read text =
     subst (λ k. SaysOutput (g.K.Sink.written c.args.sink.now) (g.K.Sink.written c.run_script.new.sink) k p c.run_script.result) (sym c.in-Run.is)
-    (run_output p, refl, says_same _ _ _ _ _ (run-is read.read p text) c.run_script.ensures.says)
+    (run_output c.in-Run.flags p, refl, says_same _ _ _ _ _ (run-is c.in-Run.flags read.read p text) c.run_script.ensures.says)
 
 pub returns-in-Check-clause-says : goal.returns-in-Check-clause-says
 returns-in-Check-clause-says g c bytes p read text =
@@ -19,5 +19,5 @@ returns-in-Check-clause-says g c bytes p read text =
     (check_output p, refl, says_same _ _ _ _ _ (ap (λ ts. lines (forest_view ts)) c.deref.ensures.value ∙ check-is bytes c.args.input.trees.items p read.spelled text) c.write_canonical.ensures.says)
 
 pub returns-in-Run-clause-log : goal.returns-in-Run-clause-log
-returns-in-Run-clause-log g c bytes p run read text =
+returns-in-Run-clause-log g c bytes p flags run read text =
     logs-is read.read p text c.run_script.result (g.V.Versions.log c.args.world.now) (g.V.Versions.log c.run_script.new.world) c.run_script.ensures.log

@@ -37,6 +37,6 @@ pub returns-in_default-clause-meets : goal.returns-in_default-clause-meets
 returns-in_default-clause-meets g c = record { no_command = λ none. inr (inr (refl, keeps-same _)); command = λ k told. memory-meets k _ _ _ _ _ _ _ _ (omega arith); reads = λ e. refl; writes = λ e. refl }
 
 pub returns-in-Some-clause-log : goal.returns-in-Some-clause-log
-returns-in-Some-clause-log g c run e =
+returns-in-Some-clause-log g c flags run e =
     let asks = ap (λ ws. command_of_args (texts ws)) (sym c.deref.ensures.value) ∙ sym c.in-Ok.ensures ∙ c.in-Some.is in
-    c.play_input.ensures.log (one-command (command_of_args (texts c.args.words.now.items)) c.in-Some.command Run asks run) e
+    c.play_input.ensures.log flags (one-command (command_of_args (texts c.args.words.now.items)) c.in-Some.command (Run flags) asks run) e

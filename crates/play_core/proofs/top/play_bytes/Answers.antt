@@ -50,5 +50,5 @@ pub returns-in-Err-NoMemory-clause-part : goal.returns-in-Err-NoMemory-clause-pa
 returns-in-Err-NoMemory-clause-part g c e = nothing-part c.args.command (Some c.args.bytes.now) _
 
 pub returns-in-Ok-clause-log : goal.returns-in-Ok-clause-log
-returns-in-Ok-clause-log g c run e t text =
-    done-after c.do_command.result (sym c.status_of.ensures ∙ e) (c.do_command.ensures.log c.args.bytes.now t run c.in-Ok.ensures.ok text)
+returns-in-Ok-clause-log g c flags run e t text =
+    done-after c.do_command.result (sym c.status_of.ensures ∙ e) (c.do_command.ensures.log c.args.bytes.now t flags run c.in-Ok.ensures.ok text)

@@ -36,6 +36,6 @@ returns-in-Ok-clause-meets g c =
     played.write_fault played.others
 
 pub returns-in-Ok-clause-log : goal.returns-in-Ok-clause-log
-returns-in-Ok-clause-log g c run e =
+returns-in-Ok-clause-log g c flags run e =
     let Logged : List ℕ → Type 0 = λ bs. (t : Source) → IsText bs t → LogsText t (g.V.Versions.log c.args.world.now) (g.V.Versions.log c.play_bytes.new.world) in
-    Consumes-whole _ _ c.in-Ok.bytes.items Logged c.in-Ok.ensures.bytes.0 c.in-Ok.ensures.bytes.1 (subst Logged c.deref.ensures.value (c.play_bytes.ensures.log run e))
+    Consumes-whole _ _ c.in-Ok.bytes.items Logged c.in-Ok.ensures.bytes.0 c.in-Ok.ensures.bytes.1 (subst Logged c.deref.ensures.value (c.play_bytes.ensures.log flags run e))

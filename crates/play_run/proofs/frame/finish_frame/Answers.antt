@@ -8,7 +8,7 @@ use Rattle.script_lang.specs.Lines.{kept_after}
 use Rattle.script_lang.specs.StepCalls.{EndFrame, of_actor}
 use Rattle.play_run.specs.RunOutput.{part_after}
 use Rattle.play_run.specs.RunState.{LogsFrameReads}
-use Rattle.play_run.specs.RunPromise.{job_titles, job_functions}
+use Rattle.play_run.specs.RunPromise.{job_style, job_functions}
 use Rattle.play_run.proofs.FrameParts.{frame_map, outcome, frame_shows, frame_at, frame_is, end_facts, end_logged, end_names, end_bytes}
 use Rattle.play_run.proofs.Written.{says_behind, says_same, anyway}
 use Rattle.play_run.proofs.frame.finish_frame.Goals as goal
@@ -25,7 +25,7 @@ returns-in-Ok-composed-clause-runs g c r h =
     let left = c.in-Ok-composed.ensures.left k m shows at in
     let good = frame_is a c.args.name r h.facts in
     record {
-      says = says_same c.write_frame.result _ _ _ _ (sym (end_bytes a c.args.name r h.facts (job_titles c.args.actor.job.now)))
+      says = says_same c.write_frame.result _ _ _ _ (sym (end_bytes a c.args.name r h.facts (job_style c.args.actor.job.now c.args.actor.flags)))
           (says_behind c.write_frame.result _ _ _ _ _ (c.in-Ok.ensures.says r.standing.world stood).all (c.write_frame.ensures.says k (Some m) (outcome fs r c.args.name)
           (c.in-Ok-composed.ensures.told k m shows at ∙ ap (λ (o : Option FrameResult). option_map (λ (f : FrameResult). f.told) o) good)
           (subst (λ (o : Option FrameResult). IsAt c.compose-composed.new.memory.composition (kept_after k o) (Some m)) good left)));
@@ -43,7 +43,7 @@ pub returns-in-Ok-clause-runs : goal.returns-in-Ok-clause-runs
 returns-in-Ok-clause-runs g c r h =
     let stood = c.compose-composed.ensures.same r.standing.world h.facts.world_stands in
     record {
-      says = says_same _ _ _ _ _ (sym (end_bytes c.args.actor.number c.args.name r h.facts (job_titles c.args.actor.job.now)))
+      says = says_same _ _ _ _ _ (sym (end_bytes c.args.actor.number c.args.name r h.facts (job_style c.args.actor.job.now c.args.actor.flags)))
           (record { all = tt; part = part-all _ _ _ _ (c.in-Ok.ensures.says r.standing.world stood).all });
       left = tt;
     }
@@ -52,7 +52,7 @@ pub returns-clause-runs : goal.returns-clause-runs
 returns-clause-runs g c r h =
     let stood = c.compose-composed.ensures.same r.standing.world h.facts.world_stands in
     record {
-      says = says_same _ _ _ _ _ (sym (end_bytes c.args.actor.number c.args.name r h.facts (job_titles c.args.actor.job.now)))
+      says = says_same _ _ _ _ _ (sym (end_bytes c.args.actor.number c.args.name r h.facts (job_style c.args.actor.job.now c.args.actor.flags)))
           (record { all = tt; part = part-front _ _ _ _ (c.in-Err.ensures.says r.standing.world stood).part });
       left = tt;
     }

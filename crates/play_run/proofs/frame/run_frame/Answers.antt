@@ -1,19 +1,19 @@
 use Rattle.std.proofs.Common.{◌++◌, ◌∷◌, [], sym, ap, None, Err}
 use Rattle.script_lang.specs.StepCalls.{BeginFrame, EndFrame, calls_parts}
 use Rattle.play_run.specs.RunOutput.{parts_of, parts_after}
-use Rattle.play_run.specs.RunPromise.{job_titles, job_functions}
+use Rattle.play_run.specs.RunPromise.{job_style, job_functions}
 use Rattle.play_run.proofs.Sequences.{parts_append, runs_stopped, runs_then, runs_same}
 use Rattle.play_run.proofs.frame.run_frame.Goals as goal
 
 pub returns-in-Err-clause-runs : goal.returns-in-Err-clause-runs
 returns-in-Err-clause-runs g c r h =
-    runs_stopped (job_titles c.args.actor.job.now) (job_functions c.args.actor.job.now) c.args.actor.number {world' = c.begin_frame.new.world} {memory' = c.begin_frame.new.memory} None None _ _ r c.in-Err.stop c.in-Err.stop
+    runs_stopped (job_style c.args.actor.job.now c.args.actor.flags) (job_functions c.args.actor.job.now) c.args.actor.number {world' = c.begin_frame.new.world} {memory' = c.begin_frame.new.memory} None None _ _ r c.in-Err.stop c.in-Err.stop
     (parts_of c.args.actor.number (BeginFrame ∷ [])) (parts_of c.args.actor.number (calls_parts c.args.during.now ++ EndFrame ∷ []))
     (record { says = c.in-Err.ensures.says r h; left = tt })
 
 pub returns-in-Ok-run_calls-clause-runs : goal.returns-in-Ok-run_calls-clause-runs
 returns-in-Ok-run_calls-clause-runs g c r h =
-    let t = job_titles c.args.actor.job.now in
+    let t = job_style c.args.actor.job.now c.args.actor.flags in
     let fs = job_functions c.args.actor.job.now in
     let a = c.args.actor.number in
     let calls = parts_of a (calls_parts c.args.during.now) in
@@ -29,7 +29,7 @@ returns-in-Ok-run_calls-clause-runs g c r h =
 
 pub returns-in-Err-run_calls-clause-runs : goal.returns-in-Err-run_calls-clause-runs
 returns-in-Err-run_calls-clause-runs g c r h =
-    let t = job_titles c.args.actor.job.now in
+    let t = job_style c.args.actor.job.now c.args.actor.flags in
     let fs = job_functions c.args.actor.job.now in
     let a = c.args.actor.number in
     let calls = parts_of a (calls_parts c.args.during.now) in

@@ -6,4 +6,4 @@ use Rattle.play_run.proofs.frame.write_frame.Goals as goal
 
 pub returns-in-Some-clause-says : goal.returns-in-Some-clause-says
 returns-in-Some-clause-says g c k l good told at =
-    says_same _ _ _ _ _ (good_lines good k c.in-Some.report c.table.result.now.groups (sym c.in-Some.is ∙ told) (c.table.ensures (kept_after k good) l at)) c.write_good_frame.ensures.says
+    says_same _ _ _ _ _ (good_lines c.args.flags good k c.in-Some.report c.table.result.now.groups (sym c.in-Some.is ∙ told) (c.table.ensures (kept_after k good) l at)) c.write_good_frame.ensures.says

@@ -3,7 +3,7 @@ use Rattle.composer.specs.FrameDrafts.{functions_of}
 use Rattle.lang_ast.specs.SyntaxView.{functions_view}
 use Rattle.script_lang.specs.StepCalls.{script_parts}
 use Rattle.play_run.specs.RunOutput.{first_run, parts_after}
-use Rattle.play_run.specs.RunPromise.{job_titles, job_functions}
+use Rattle.play_run.specs.RunPromise.{job_titles, job_style, job_functions}
 use Rattle.play_run.specs.RunState.{IsRun}
 use Rattle.play_run.proofs.Openings.{program-fits, opened}
 use Rattle.play_run.proofs.RunLines.{run_text_is}
@@ -16,7 +16,7 @@ returns-clause-says g c =
     let p = c.args.job.now.program in
     let parts = script_parts c.args.job.now.script.actors.items c.args.job.now.script.forms.items in
     let fit = program-fits p.header p.states.items (functions_view p.functions.items) p.fine in
-    says_same c.run_do_forms.result _ _ _ _ (sym (run_text_is (job_titles c.args.job.now) (job_functions c.args.job.now) (g.V.Versions.log c.args.world.now) parts))
+    says_same c.run_do_forms.result _ _ _ _ (sym (run_text_is (job_style c.args.job.now c.args.flags) (job_functions c.args.job.now) (g.V.Versions.log c.args.world.now) parts))
     (c.run_do_forms.ensures.runs (first_run p.states.items (g.V.Versions.log c.args.world.now)) (opened 0 p.states.items (g.V.Versions.log c.args.world.now) fit c.set_up_world.ensures.log c.in-Ok-set_up_world.ensures.opened c.in-Ok.ensures.composition (ap functions_of c.in-Ok.ensures.program) c.in-Ok.ensures.names)).says
 
 pub returns-clause-log : goal.returns-clause-log

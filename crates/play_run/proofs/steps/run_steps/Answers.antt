@@ -1,7 +1,7 @@
 use Rattle.std.proofs.Common.{◌++◌, ◌∙◌, ap, None}
 use Rattle.script_lang.specs.StepCalls.{step_parts, steps_parts}
 use Rattle.play_run.specs.RunOutput.{parts_of, parts_after}
-use Rattle.play_run.specs.RunPromise.{job_titles, job_functions}
+use Rattle.play_run.specs.RunPromise.{job_style, job_functions}
 use Rattle.play_run.proofs.Sequences.{parts_append, loop_next, loop_stopped}
 use Rattle.play_run.proofs.steps.run_steps.Goals as goal
 
@@ -13,7 +13,7 @@ loop-step-preserved g c = record {
       let here = parts_of c.args.actor.number (step_parts c.in-Some.step.now) in
       let rest = parts_of c.args.actor.number (steps_parts c.in-Some.more.now) in
       let split = ap (λ l. parts_of c.args.actor.number (steps_parts l)) c.in-Some.ensures.cases.0 ∙ parts_append c.args.actor.number (step_parts c.in-Some.step.now) (steps_parts c.in-Some.more.now) in
-      let both = loop_next (job_titles c.args.actor.job.now) (job_functions c.args.actor.job.now) c.args.actor.number None _ _ _ r run.0 here rest _ _ split run.1 run.2
+      let both = loop_next (job_style c.args.actor.job.now c.args.actor.flags) (job_functions c.args.actor.job.now) c.args.actor.number None _ _ _ r run.0 here rest _ _ split run.1 run.2
       (c.in-Ok.ensures.runs (parts_after (job_functions c.args.actor.job.now) r run.0) run.2.left) in
       (run.0 ++ here, both.0, both.1);
 }
@@ -24,5 +24,5 @@ returns-in-Err-clause-runs g c r h =
     let here = parts_of c.args.actor.number (step_parts c.in-Some.step.now) in
     let rest = parts_of c.args.actor.number (steps_parts c.in-Some.more.now) in
     let split = ap (λ l. parts_of c.args.actor.number (steps_parts l)) c.in-Some.ensures.cases.0 ∙ parts_append c.args.actor.number (step_parts c.in-Some.step.now) (steps_parts c.in-Some.more.now) in
-    loop_stopped (job_titles c.args.actor.job.now) (job_functions c.args.actor.job.now) c.args.actor.number None _ _ _ r run.0 here rest _ _ c.in-Err.stop split run.1 run.2
+    loop_stopped (job_style c.args.actor.job.now c.args.actor.flags) (job_functions c.args.actor.job.now) c.args.actor.number None _ _ _ r run.0 here rest _ _ c.in-Err.stop split run.1 run.2
     (c.in-Err.ensures.runs (parts_after (job_functions c.args.actor.job.now) r run.0) run.2.left)
