@@ -1,5 +1,6 @@
 // Arguments that are a command, and arguments that are none.
 use play_args::{Command, parse_args};
+use script_lang::Flags;
 use std::alloc::Global;
 use std::test::Fail;
 
@@ -13,14 +14,18 @@ fn answer(alloc: Global, words: &[&str]) -> Result<Option<Command>, Fail> {
 }
 
 #[test]
-fn a_command_is_its_one_word(rt: HostRuntime) -> Result<(), Fail> {
-    let rows: [(&[&str], Option<Command>); 7] = [
-        (&["run"], Some(Command::Run)),
+fn a_command_is_its_word_with_its_flags(rt: HostRuntime) -> Result<(), Fail> {
+    let rows: [(&[&str], Option<Command>); 11] = [
+        (&["run"], Some(Command::Run(Flags { json: false }))),
+        (&["run", "--json"], Some(Command::Run(Flags { json: true }))),
         (&["check"], Some(Command::Check)),
         (&[], None),
         (&["runs"], None),
         (&["run", "--"], None),
         (&["help", "run"], None),
+        (&["run", "--json", "--json"], None),
+        (&["--json", "run"], None),
+        (&["check", "--json"], None),
         (&["--help"], None),
     ];
     for (words, command) in rows {

@@ -2,9 +2,13 @@
 use crate::programs::parse_program;
 use lang_ast::Rest;
 use lang_checks::{Checked, check};
+use node_tree::{NewNode, NodeAttributes, Op};
 use rt_groups::{Attribute, Attributes, GroupKind, Report, Values};
-use rt_values::{Kind, Objects, Ty, Value, Word};
-use script_lang::{OpenGroups, Script, ScriptStop, add_line, add_refused, add_report, script_of};
+use rt_values::{Kind, Objects, Txt, Ty, Value, Word};
+use script_lang::{
+    OpenGroups, Script, ScriptStop, TreeWriter, add_line, add_op, add_refused, add_report,
+    script_of,
+};
 use snap_api::{Entry, Refusal, Reply, Request};
 use std::alloc::Global;
 use std::test::Fail;
@@ -253,5 +257,76 @@ fn frames_print_their_report_and_tree(rt: HostRuntime) -> Result<(), Fail> {
     let want =
         b"report: ran 1, calculated 2, reads 3, groups 4, nodes 5\n#12 Box width=10 height=-20\n  #13 Row width=10 height=-20\n#14 End width=10 height=-20\nrefused: too many groups\n";
     assert_eq!(rt; text.as_slice(), want.as_slice());
+    Ok(())
+}
+
+#[test]
+fn each_call_on_an_applier_has_its_words(rt: HostRuntime) -> Result<(), Fail> {
+    let alloc = rt.alloc();
+    let mut attributes = NodeAttributes::new(alloc);
+    attributes.push(attribute(alloc, b"item", 3)?)?;
+    let row = NewNode {
+        number: 7,
+        kind: Word::of(alloc, b"Row")?,
+        attributes,
+    };
+    let plain = NewNode {
+        number: 8,
+        kind: Word::of(alloc, b"End")?,
+        attributes: NodeAttributes::new(alloc),
+    };
+    let ops = [
+        Op::Down { index: 2 },
+        Op::InsertTopDown {
+            index: 0,
+            node: row,
+        },
+        Op::InsertBottomUp {
+            index: 1,
+            node: plain,
+        },
+        Op::Remove { index: 4, count: 2 },
+        Op::Move {
+            from: 5,
+            to: 1,
+            count: 3,
+        },
+        Op::Set {
+            name: Word::of(alloc, b"item")?,
+            value: Value::Bool(true),
+        },
+        Op::Up,
+        Op::Clear,
+    ];
+    let mut text = Vec::new(alloc);
+    for op in &ops {
+        add_op(&mut text, op)?;
+    }
+    let want =
+        b"op: down 2\nop: insertTopDown 0 #7 Row item=3\nop: insertBottomUp 1 #8 End\nop: remove 4 2\nop: move 5 1 3\nop: set item true\nop: up\nop: clear\n";
+    assert_eq!(rt; text.as_slice(), want.as_slice());
+    Ok(())
+}
+
+#[test]
+fn strings_have_the_escapes_of_json(rt: HostRuntime) -> Result<(), Fail> {
+    let alloc = rt.alloc();
+    let mut attributes = Attributes::new(alloc);
+    attributes.push(Attribute {
+        name: Word::of(alloc, b"b")?,
+        value: Value::Text(Txt::from_str(alloc, "q\" s\\ n\n t\t e\u{1b} \u{e9}")?),
+    })?;
+    attributes.push(attribute(alloc, b"a", -1)?)?;
+    let kind = GroupKind::Node {
+        kind: Word::of(alloc, b"N")?,
+        attributes,
+    };
+    let mut text = Vec::new(alloc);
+    let mut writer = TreeWriter::begin(alloc, &mut text)?;
+    writer.add_group(&mut text, 0, 5, &kind)?;
+    writer.finish(&mut text)?;
+    let want =
+        "[{\"attributes\":{\"a\":-1,\"b\":\"q\\\" s\\\\ n\\n t\\t e\\u001b \u{e9}\"},\"children\":[],\"kind\":\"N\",\"number\":5}]\n";
+    assert_eq!(rt; text.as_slice(), want.as_bytes());
     Ok(())
 }

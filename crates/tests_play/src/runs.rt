@@ -111,6 +111,24 @@ fn a_write_between_two_frames_shows_in_the_second(rt: HostRuntime) -> Result<(),
     Ok(())
 }
 
+#[test]
+fn trees_are_printed_as_json(rt: HostRuntime) -> Result<(), Fail> {
+    let alloc = rt.alloc();
+    let (status, written) = run(
+        &rt,
+        alloc,
+        &["run", "--json"],
+        COUNTER.to_vec(alloc)?,
+        SOUND,
+    )?;
+    let mut lines = COUNTER_LINES;
+    lines[3] = b"[{\"attributes\":{\"value\":0},\"children\":[],\"kind\":\"Text\",\"number\":1}]\n";
+    lines[8] = b"[{\"attributes\":{\"value\":1},\"children\":[],\"kind\":\"Text\",\"number\":1}]\n";
+    assert!(rt; status == Status::Done);
+    assert_eq!(rt; written, first_lines(alloc, &lines, 9)?);
+    Ok(())
+}
+
 // The counter with blanks and comments.
 const LOOSE_COUNTER: &[u8] = b"; counts
 (compose 1)(state  count Int Structural 0 )
@@ -229,7 +247,13 @@ fn the_input_has_at_most_1048576_bytes(rt: HostRuntime) -> Result<(), Fail> {
 fn other_arguments_print_the_usage_line(rt: HostRuntime) -> Result<(), Fail> {
     let alloc = rt.alloc();
     let usage = b"usage: compose_play run|threads [--json] [--ops] | check | gen NUMBER SIZE\n";
-    let others: [&[&str]; 4] = [&[], &["--help"], &["--"], &["check", "run"]];
+    let others: [&[&str]; 5] = [
+        &[],
+        &["--help"],
+        &["--"],
+        &["check", "run"],
+        &["run", "--json", "--json"],
+    ];
     for words in others {
         let input = COUNTER.to_vec(alloc)?;
         let (status, written) = run(
