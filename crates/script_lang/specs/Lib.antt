@@ -7,6 +7,7 @@ pub mod NamesInMemory
 pub mod NameScans
 pub mod TreeJson
 pub mod Lines
+pub mod PrintedCalls
 pub mod GroupLines
 pub mod GroupJson
 pub mod SortedAttributes

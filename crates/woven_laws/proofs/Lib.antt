@@ -1,0 +1,5 @@
+pub mod Prints
+pub mod Steps
+pub mod Callers
+pub mod Weaves
+pub mod Rests

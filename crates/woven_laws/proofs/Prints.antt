@@ -1,0 +1,109 @@
+-- What is printed of a history.
+use Rattle.std.proofs.Common.{◌≡◌, ℕ, ◌==◌, Bool, true, false, List, [], ◌∷◌, ◌++◌, refl, sym, ap, ◌∙◌, subst, cond, append-nil}
+use Rattle.std.proofs.lemmas.Bool.{eqb-true}
+use Rattle.snap_policy.specs.Rules.{Rules}
+use Rattle.snap_api.proofs.ReadLemmas.{call-read}
+use Rattle.snap_api.specs.World.{World, History, IsLegal, world_after, call}
+use Rattle.snap_api.specs.declared.data.Entry.{Entry}
+use Rattle.snap_api.specs.declared.data.Request.{Request}
+use Rattle.snap_api.specs.declared.data.Request.TheVariants as request
+use Rattle.snap_shared.specs.SharedCalls.{own_calls, HasOnlyCallersBelow}
+use Rattle.script_lang.specs.PrintedCalls.{reads_frame, frames_after, printed}
+use Rattle.woven_laws.specs.PrintedHistory.{no_frames, with_frames, printed_from, printed_history, frames_after_calls}
+use Rattle.woven_laws.specs.Woven.{ActorState, SpellsAll}
+use Rattle.woven_laws.specs.Laws.{PrintedIsLegal, PrintedByCaller, PrintedIsWoven, CallIsPrinted, FrameReadIsLeftOut}
+
+-- The open frames after a call that is printed.
+abbrev next : (ℕ → List ℕ) → Entry → ℕ → List ℕ
+next fs e = with_frames fs e.caller (frames_after (fs e.caller) e)
+
+module _ {P : Type 0} (rules : Rules P) where
+  -- A read of a frame leaves the world.
+  frame_read-leaves : (frames : List ℕ) (w : World P) (a : ℕ) (q : Request) → reads_frame frames q ≡ true → (call rules w a q).0 ≡ w
+  frame_read-leaves frames w a (request.Read name x) h = call-read rules w a name x
+  frame_read-leaves frames w a (request.Take p k) h = absurd cc
+  frame_read-leaves frames w a (request.TakeFor n) h = absurd cc
+  frame_read-leaves frames w a (request.Write n x v) h = absurd cc
+  frame_read-leaves frames w a (request.Apply n) h = absurd cc
+  frame_read-leaves frames w a (request.Dispose n) h = absurd cc
+
+  IsSameLegal : World P → History → History → Type 0
+  IsSameLegal w printed_part h = IsLegal rules w printed_part × (world_after rules w printed_part ≡ world_after rules w h)
+
+  legal_from : (w : World P) (fs : ℕ → List ℕ) (h : History) → IsLegal rules w h →
+      IsLegal rules w (printed_from fs h) × (world_after rules w (printed_from fs h) ≡ world_after rules w h)
+  legal_from w fs [] l = (tt, refl)
+  legal_from w fs (e ∷ es) l = by (λ gs. legal_from (call rules w e.caller e.request).0 gs es l.1) (reads_frame (fs e.caller) e.request) refl where
+    by : ((gs : ℕ → List ℕ) → IsLegal rules (call rules w e.caller e.request).0 (printed_from gs es) × (world_after rules (call rules w e.caller e.request).0 (printed_from gs es) ≡ world_after rules (call rules w e.caller e.request).0 es)) → (b : Bool) → reads_frame (fs e.caller) e.request ≡ b →
+        IsLegal rules w (cond b (printed_from fs es) (e ∷ printed_from (next fs e) es)) × (world_after rules w (cond b (printed_from fs es) (e ∷ printed_from (next fs e) es)) ≡ world_after rules w (e ∷ es))
+    by rest true h =
+        let same = frame_read-leaves (fs e.caller) w e.caller e.request h in
+        let more = rest fs in
+        (subst (λ (v : World P). IsLegal rules v (printed_from fs es)) same more.0, ap (λ (v : World P). world_after rules v (printed_from fs es)) (sym same) ∙ more.1)
+    by rest false h = let more = rest (next fs e) in ((l.0, more.0), more.1)
+
+  pub printed_is_legal : PrintedIsLegal rules
+  printed_is_legal w h l = legal_from w no_frames h l
+
+by_caller : (a : ℕ) (h : History) (fs : ℕ → List ℕ) → own_calls a (printed_from fs h) ≡ printed (fs a) (own_calls a h)
+by_caller a [] fs = refl
+by_caller a (e ∷ es) fs = by (λ gs. by_caller a es gs) (e.caller == a) refl (reads_frame (fs e.caller) e.request) refl where
+  by : ((gs : ℕ → List ℕ) → own_calls a (printed_from gs es) ≡ printed (gs a) (own_calls a es)) → (mine : Bool) → (e.caller == a) ≡ mine → (b : Bool) → reads_frame (fs e.caller) e.request ≡ b →
+      own_calls a (cond b (printed_from fs es) (e ∷ printed_from (next fs e) es)) ≡ printed (fs a) (cond mine (e ∷ own_calls a es) (own_calls a es))
+  by rest false m true r = rest fs
+  by rest false m false r =
+      ap (λ b. cond b (e ∷ own_calls a (printed_from (next fs e) es)) (own_calls a (printed_from (next fs e) es))) m
+      ∙ rest (next fs e) ∙ ap (λ b. printed (cond b (frames_after (fs e.caller) e) (fs a)) (own_calls a es)) m
+  by rest true m true r =
+      let read : reads_frame (fs a) e.request ≡ true = subst (λ (c : ℕ). reads_frame (fs c) e.request ≡ true) (eqb-true e.caller a m) r in
+      rest fs ∙ ap (λ b. cond b (printed (fs a) (own_calls a es)) (e ∷ printed (frames_after (fs a) e) (own_calls a es))) (sym read)
+  by rest true m false r =
+      let same = eqb-true e.caller a m in
+      let read : reads_frame (fs a) e.request ≡ false = subst (λ (c : ℕ). reads_frame (fs c) e.request ≡ false) same r in
+      ap (λ b. cond b (e ∷ own_calls a (printed_from (next fs e) es)) (own_calls a (printed_from (next fs e) es))) m
+      ∙ ap (λ l. e ∷ l) (rest (next fs e) ∙ ap (λ b. printed (cond b (frames_after (fs e.caller) e) (fs a)) (own_calls a es)) m ∙ ap (λ c. printed (frames_after (fs c) e) (own_calls a es)) same)
+      ∙ ap (λ b. cond b (printed (fs a) (own_calls a es)) (e ∷ printed (frames_after (fs a) e) (own_calls a es))) (sym read)
+
+pub printed_by_caller : PrintedByCaller
+printed_by_caller a h = by_caller a h no_frames
+
+-- No one else is printed.
+pub printed_callers : (n : ℕ) (h : History) → HasOnlyCallersBelow n h → HasOnlyCallersBelow n (printed_history h)
+printed_callers n h others a far = printed_by_caller a h ∙ ap (printed []) (others a far)
+
+pub printed_is_woven : {P : Type 0} (rules : Rules P) → PrintedIsWoven rules
+printed_is_woven rules n actors w h legal spells others = (
+    (printed_is_legal rules w h legal).0,
+    record {
+      each = λ a below. subst (λ (l : History). SpellsAll (actors a) l) (sym (printed_by_caller a h)) (spells a below);
+      others = printed_callers n h others;
+    },
+  )
+
+printed-append : (fs : List ℕ) (xs ys : History) → printed fs (xs ++ ys) ≡ printed fs xs ++ printed (frames_after_calls fs xs) ys
+printed-append fs [] ys = refl
+printed-append fs (x ∷ xs) ys = by (λ gs. printed-append gs xs ys) (reads_frame fs x.request) where
+  by : ((gs : List ℕ) → printed gs (xs ++ ys) ≡ printed gs xs ++ printed (frames_after_calls gs xs) ys) → (b : Bool) →
+      cond b (printed fs (xs ++ ys)) (x ∷ printed (frames_after fs x) (xs ++ ys))
+      ≡ cond b (printed fs xs) (x ∷ printed (frames_after fs x) xs) ++ printed (cond b (frames_after_calls fs xs) (frames_after_calls (frames_after fs x) xs)) ys
+  by rest true = rest fs
+  by rest false = ap (λ l. x ∷ l) (rest (frames_after fs x))
+
+frames-append : (fs : List ℕ) (xs ys : History) → frames_after_calls fs (xs ++ ys) ≡ frames_after_calls (frames_after_calls fs xs) ys
+frames-append fs [] ys = refl
+frames-append fs (x ∷ xs) ys = by (λ gs. frames-append gs xs ys) (reads_frame fs x.request) where
+  by : ((gs : List ℕ) → frames_after_calls gs (xs ++ ys) ≡ frames_after_calls (frames_after_calls gs xs) ys) → (b : Bool) →
+      cond b (frames_after_calls fs (xs ++ ys)) (frames_after_calls (frames_after fs x) (xs ++ ys))
+      ≡ frames_after_calls (cond b (frames_after_calls fs xs) (frames_after_calls (frames_after fs x) xs)) ys
+  by rest true = rest fs
+  by rest false = rest (frames_after fs x)
+
+pub call_is_printed : CallIsPrinted
+call_is_printed h e reads = printed-append [] h (e ∷ []) ∙ ap (λ b. printed [] h ++ cond b [] (e ∷ [])) reads
+
+pub frame_read_is_left_out : FrameReadIsLeftOut
+frame_read_is_left_out h e reads =
+    let fs = frames_after_calls [] h in (
+      printed-append [] h (e ∷ []) ∙ ap (λ b. printed [] h ++ cond b [] (e ∷ [])) reads ∙ append-nil (printed [] h),
+      frames-append [] h (e ∷ []) ∙ ap (λ b. cond b fs (frames_after fs e)) reads,
+    )

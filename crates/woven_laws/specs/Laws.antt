@@ -1,0 +1,103 @@
+-- Trusted: the laws of woven histories and of what is printed of them.
+use Rattle.std.specs.Prelude.{◌≡◌, ◌≢◌, ℕ, ◌<◌, List, [], ◌∷◌, ◌++◌, Bool, true, false, Some, None}
+use Rattle.std.specs.List.{flat_map}
+use Rattle.lang_ast.specs.Terms.{Func}
+use Rattle.snap_policy.specs.Rules.{Rules}
+use Rattle.snap_policy.specs.declared.policy.BuiltIn.{BuiltIn}
+use Rattle.snap_policy.specs.Table.{table}
+use Rattle.snap_api.specs.declared.data.Entry.{Entry}
+use Rattle.snap_api.specs.declared.data.Reply.{Reply}
+use Rattle.snap_api.specs.declared.data.Request.{Request}
+use Rattle.snap_api.specs.World.{World, History, IsLegal, world_after}
+use Rattle.snap_shared.specs.SharedCalls.{own_calls, HasOnlyCallersBelow}
+use Rattle.script_lang.specs.StepCalls.{Notes, ActorPart, no_notes, request_of, notes_after, sequential}
+use Rattle.script_lang.specs.Lines.{Titles, Standing, actor_name, lines}
+use Rattle.script_lang.specs.PrintedCalls.{reads_frame, printed}
+use Rattle.woven_laws.specs.PrintedHistory.{printed_history, frames_after_calls}
+use Rattle.woven_laws.specs.Woven.{ActorState, initial_actor, AreOf, SpellsAll, IsWoven}
+use Rattle.woven_laws.specs.FirstParts.{IsFirstPart, SpellsTo}
+
+-- The printed calls of a legal history are legal from the same world, and leave the same world.
+abbrev pub PrintedIsLegal : {P : Type 0} → Rules P → Type 0
+PrintedIsLegal {P} rules = (w : World P) (h : History) → IsLegal rules w h →
+    IsLegal rules w (printed_history h) × (world_after rules w (printed_history h) ≡ world_after rules w h)
+
+-- Of each caller the printed history has the calls that are printed of this caller alone.
+abbrev pub PrintedByCaller : Type 0
+PrintedByCaller = (a : ℕ) (h : History) → own_calls a (printed_history h) ≡ printed [] (own_calls a h)
+
+-- If each actor's own calls, as printed, are those that its parts make, and no one else calls, then the printed calls of a
+-- legal history are legal and woven.
+abbrev pub PrintedIsWoven : {P : Type 0} → Rules P → Type 0
+PrintedIsWoven {P} rules = (n : ℕ) (actors : ℕ → ActorState) (w : World P) (h : History) → IsLegal rules w h →
+    ((a : ℕ) → a < n → SpellsAll (actors a) (printed [] (own_calls a h))) → HasOnlyCallersBelow n h →
+    IsLegal rules w (printed_history h) × IsWoven n actors (printed_history h)
+
+-- A legal history in which each actor has made the calls of a first part of its steps can be continued to a legal and
+-- woven one.
+abbrev pub PartIsCompleted : Type 0
+PartIsCompleted = (n : ℕ) (parts : List ActorPart) (w : World BuiltIn) (h : History) → IsLegal table w h →
+    ((a : ℕ) → a < n → IsFirstPart (initial_actor parts a) (own_calls a h)) → HasOnlyCallersBelow n h →
+    (more : History) × IsLegal table w (h ++ more) × IsWoven n (initial_actor parts) (h ++ more)
+
+-- The same of a history with the reads of frames: what is printed of it can be continued.
+abbrev pub PrintedPartIsCompleted : Type 0
+PrintedPartIsCompleted = (n : ℕ) (parts : List ActorPart) (w : World BuiltIn) (h : History) → IsLegal table w h →
+    ((a : ℕ) → a < n → IsFirstPart (initial_actor parts a) (printed [] (own_calls a h))) → HasOnlyCallersBelow n h →
+    (more : History) × IsLegal table w (printed_history h ++ more) × IsWoven n (initial_actor parts) (printed_history h ++ more)
+
+-- A text without a colon (code 58).
+abbrev pub HasNoColon : List ℕ → Type 0
+HasNoColon [] = Unit {0}
+HasNoColon (c ∷ cs) = (c ≢ 58) × HasNoColon cs
+
+-- The names of the first `n` actors have no colon, and no two of them are equal.
+pub record AreActorNames (n : ℕ) (name : ℕ → List ℕ) : Type 0 where
+  pub plain : (a : ℕ) → a < n → HasNoColon (name a)
+  pub distinct : (a b : ℕ) → a < n → b < n → name a ≡ name b → a ≡ b
+
+-- The bytes of the lines of a history.
+abbrev pub text_of : Titles → List Func → Standing → History → List ℕ
+text_of t functions s h = flat_map (λ l. l) (lines t functions s h)
+
+-- Two histories that are legal and woven of the same actors are equal if their printed bytes are equal.
+abbrev pub LinesTellTheHistory : Type 0
+LinesTellTheHistory = (t : Titles) (functions : List Func) (n : ℕ) → AreActorNames n (actor_name t.actors) →
+    (s : Standing) (actors : ℕ → ActorState) (h k : History) → IsLegal table s.world h → IsLegal table s.world k →
+    IsWoven n actors h → IsWoven n actors k → text_of t functions s h ≡ text_of t functions s k → h ≡ k
+
+-- The sequential history of one actor is woven.
+abbrev pub SequentialIsWoven : Type 0
+SequentialIsWoven = (w : World BuiltIn) (parts : List ActorPart) → AreOf 0 parts →
+    IsWoven 1 (initial_actor parts) (sequential w no_notes parts)
+
+-- Before its first call an actor is in its own state.
+abbrev pub NothingIsSpelled : Type 0
+NothingIsSpelled = (s : ActorState) → SpellsTo s [] s
+
+-- The call of the next part is one call more.
+abbrev pub CallIsSpelled : Type 0
+CallIsSpelled = (before : ActorState) (h : History) (n : Notes) (p : ActorPart) (rest : List ActorPart) (q : Request) (r : Reply) →
+    SpellsTo before h (record { notes = n; left = p ∷ rest }) → request_of n p.part ≡ Some q →
+    SpellsTo before (h ++ record { caller = p.actor; request = q; reply = r } ∷ []) (record { notes = notes_after n p.part r; left = rest })
+
+-- A part that makes no call is passed.
+abbrev pub PartIsPassed : Type 0
+PartIsPassed = (before : ActorState) (h : History) (n : Notes) (p : ActorPart) (rest : List ActorPart) →
+    SpellsTo before h (record { notes = n; left = p ∷ rest }) → request_of n p.part ≡ None →
+    SpellsTo before h (record { notes = n; left = rest })
+
+-- If no part is left, the calls are all that the parts make.
+abbrev pub AllIsSpelled : Type 0
+AllIsSpelled = (before : ActorState) (h : History) (n : Notes) →
+    SpellsTo before h (record { notes = n; left = [] }) → SpellsAll before h
+
+-- A call of a caller that does not read an open frame is printed.
+abbrev pub CallIsPrinted : Type 0
+CallIsPrinted = (h : History) (e : Entry) → reads_frame (frames_after_calls [] h) e.request ≡ false →
+    printed [] (h ++ e ∷ []) ≡ printed [] h ++ e ∷ []
+
+-- A read of an open frame is not printed, and leaves the frames open.
+abbrev pub FrameReadIsLeftOut : Type 0
+FrameReadIsLeftOut = (h : History) (e : Entry) → reads_frame (frames_after_calls [] h) e.request ≡ true →
+    (printed [] (h ++ e ∷ []) ≡ printed [] h) × (frames_after_calls [] (h ++ e ∷ []) ≡ frames_after_calls [] h)

@@ -1,0 +1,4 @@
+pub mod PrintedHistory
+pub mod Woven
+pub mod FirstParts
+pub mod Laws

@@ -1,0 +1,38 @@
+-- Trusted: histories that are woven of the calls of several actors, each with notes of its own.
+use Rattle.std.specs.Prelude.{◌≡◌, ℕ, ◌<◌, List, [], ◌∷◌}
+use Rattle.snap_api.specs.World.{History}
+use Rattle.snap_shared.specs.Histories.{calls_by}
+use Rattle.snap_shared.specs.SharedCalls.{own_calls, HasOnlyCallersBelow}
+use Rattle.script_lang.specs.StepCalls.{Notes, ActorPart, no_notes}
+use Rattle.script_lang.specs.StepLaws.{Spells}
+
+-- The number of the actor that a part belongs to.
+abbrev pub actor_of : ActorPart → ℕ
+actor_of p = p.actor
+
+-- The parts of actor `a`, in order.
+abbrev pub parts_of : ℕ → List ActorPart → List ActorPart
+parts_of a parts = calls_by actor_of a parts
+
+-- All these parts belong to actor `a`.
+abbrev pub AreOf : ℕ → List ActorPart → Type 0
+AreOf a [] = Unit {0}
+AreOf a (p ∷ more) = (p.actor ≡ a) × AreOf a more
+
+-- What the next calls of an actor depend on: the notes of its own calls so far, and the parts of its steps that are left.
+pub record ActorState : Type 0 where
+  pub notes : Notes
+  pub left : List ActorPart
+
+-- Each actor before its first step has no notes, and all its parts are left.
+abbrev pub initial_actor : List ActorPart → ℕ → ActorState
+initial_actor parts a = record { notes = no_notes; left = parts_of a parts }
+
+-- The calls are those that the parts which are left make one after the other, given the replies.
+abbrev pub SpellsAll : ActorState → History → Type 0
+SpellsAll s h = Spells s.notes s.left h
+
+-- Of each actor below `n` the calls are those that its parts make, and no one else calls.
+pub record IsWoven (n : ℕ) (actors : ℕ → ActorState) (h : History) : Type 0 where
+  pub each : (a : ℕ) → a < n → SpellsAll (actors a) (own_calls a h)
+  pub others : HasOnlyCallersBelow n h

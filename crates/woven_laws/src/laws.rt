@@ -1,0 +1,38 @@
+// Laws of woven histories, and of what is printed of a history.
+ghost use Rattle.woven_laws.specs.Laws.{LinesTellTheHistory, PartIsCompleted, PrintedByCaller, PrintedIsLegal, PrintedIsWoven, PrintedPartIsCompleted, SequentialIsWoven};
+
+use snap_policy::Policy;
+
+/// Law: the printed calls of a legal history are legal and leave the same world. A frame's reads change no world.
+pub fn printed_is_legal<P: Policy>()
+    ensures { PrintedIsLegal P.rules }
+{}
+
+/// Law: of each caller the printed history has what is printed of its own calls.
+pub fn printed_by_caller()
+    ensures { PrintedByCaller }
+{}
+
+/// Law: if each actor's own calls, as printed, are those that its steps make, and no one else calls, then the printed
+/// calls of a legal history are legal and woven.
+pub fn printed_is_woven<P: Policy>()
+    ensures { PrintedIsWoven P.rules }
+{}
+
+/// Law: a legal history in which each actor has made the calls of a first part of its steps can be continued to a legal
+/// and woven one. A run that ends early has printed a prefix of the lines of a whole run.
+pub fn part_is_completed()
+    ensures part { PartIsCompleted }
+    ensures printed { PrintedPartIsCompleted }
+{}
+
+/// Law: no two histories that are legal and woven of the same actors have the same printed bytes, if the actors have
+/// distinct names without a colon.
+pub fn lines_tell_the_history()
+    ensures { LinesTellTheHistory }
+{}
+
+/// Law: the sequential history of a single actor is woven.
+pub fn sequential_is_woven()
+    ensures { SequentialIsWoven }
+{}

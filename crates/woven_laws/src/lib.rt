@@ -1,0 +1,17 @@
+//! Laws of histories that several actors make on one shared world, each with notes of its own.
+//!
+//! A history is woven if each actor's calls in it are those that its steps make, in order, and no one else calls. The
+//! laws are the ground of a run in which each actor has a thread of its own: what such a run prints is told by a
+//! history that is legal and woven. Compose has no scripts of calls; the definitions are rules of this project.
+//! Promises: each law is the contract of a function without a body. `specs/PrintedHistory.antt` defines which calls of
+//! several callers are printed, `specs/Woven.antt` what is woven, and `specs/FirstParts.antt` how far an actor has come.
+#![tactic(auto)]
+
+mod laws;
+mod spelling;
+
+pub use laws::{
+    lines_tell_the_history, part_is_completed, printed_by_caller, printed_is_legal,
+    printed_is_woven, sequential_is_woven,
+};
+pub use spelling::{calls_are_printed, steps_are_spelled};
