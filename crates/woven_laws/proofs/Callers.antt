@@ -1,5 +1,5 @@
 -- The calls of one caller, and the parts of one actor.
-use Rattle.std.proofs.Common.{◌≡◌, ◌≢◌, ℕ, ◌==◌, Bool, true, false, List, [], ◌∷◌, ◌++◌, refl, sym, ap, ◌∙◌, cond, Option, Some, None, inl, inr}
+use Rattle.std.proofs.Common.{◌≡◌, ◌≢◌, ℕ, ◌==◌, Bool, true, false, List, [], ◌∷◌, ◌++◌, map, refl, sym, ap, ◌∙◌, cond, Option, Some, None, inl, inr}
 use Rattle.std.proofs.lemmas.Bool.{eqb-true}
 use Rattle.std.proofs.lemmas.Bool.Decides.{eqb_tells}
 use Rattle.snap_policy.specs.declared.policy.BuiltIn.{BuiltIn}
@@ -10,10 +10,13 @@ use Rattle.snap_api.specs.declared.data.Request.{Request}
 use Rattle.snap_api.specs.World.{World, History, call}
 use Rattle.snap_shared.specs.SharedCalls.{own_calls}
 use Rattle.snap_shared.proofs.OwnCalls.{itself}
-use Rattle.script_lang.specs.StepCalls.{Notes, ActorPart, request_of, notes_after, entry, sequential}
-use Rattle.woven_laws.specs.Woven.{parts_of, AreOf}
+use Rattle.snap_shared.proofs.Prefixes.{calls_by-append}
+use Rattle.script_lang.specs.Scripts.{index_of, written_out}
+use Rattle.script_lang.specs.StepCalls.{Notes, Part, ActorPart, of_actor, steps_parts, script_parts, request_of, notes_after, entry, sequential}
+use Rattle.woven_laws.specs.Woven.{actor_of, parts_of, AreOf, actor_parts}
 use Rattle.woven_laws.specs.FirstParts.{state_given}
-use Rattle.woven_laws.proofs.Steps.{waiting, answered}
+use Rattle.woven_laws.specs.Laws.{PartsAreOfScript}
+use Rattle.woven_laws.proofs.Steps.{state_at_part, state_after_reply}
 
 pub differs : (a b : ℕ) → a ≢ b → (a == b) ≡ false
 differs a b ne = elim (eqb_tells a b) [ inl h ↦ absurd (ne h.1) | inr h ↦ h.0 ]
@@ -42,15 +45,37 @@ parts_are_of a (p ∷ ps) = by (p.actor == a) refl (parts_are_of a ps) where
   by true e rest = (eqb-true p.actor a e, rest)
   by false e rest = rest
 
+-- The parts of one actor's steps are all its own, or none of another's.
+of_one : (a b : ℕ) (ps : List Part) → parts_of a (map (of_actor b) ps) ≡ cond (b == a) (map (of_actor a) ps) []
+of_one a b ps = by (b == a) refl ps where
+  by : (same : Bool) → (b == a) ≡ same → (ps : List Part) → parts_of a (map (of_actor b) ps) ≡ cond same (map (of_actor a) ps) []
+  by true e [] = refl
+  by true e (p ∷ ps) =
+      ap (λ c. cond c (of_actor b p ∷ parts_of a (map (of_actor b) ps)) (parts_of a (map (of_actor b) ps))) e
+      ∙ (λ i. of_actor (eqb-true b a e i) p ∷ by true e ps i)
+  by false e [] = refl
+  by false e (p ∷ ps) = ap (λ c. cond c (of_actor b p ∷ parts_of a (map (of_actor b) ps)) (parts_of a (map (of_actor b) ps))) e ∙ by false e ps
+
+pub parts_are_of_script : PartsAreOfScript
+parts_are_of_script a actors [] = refl
+parts_are_of_script a actors (d ∷ more) =
+    let ps = steps_parts (written_out d.steps) in
+    let b = index_of d.actor.text actors in
+    calls_by-append actor_of a (map (of_actor b) ps) (script_parts actors more)
+    ∙ (λ i. of_one a b ps i ++ parts_are_of_script a actors more i) ∙ into (b == a) (map (of_actor a) ps) (actor_parts a actors more) where
+    into : (c : Bool) (xs ys : List ActorPart) → cond c xs [] ++ ys ≡ cond c (xs ++ ys) ys
+    into true xs ys = refl
+    into false xs ys = refl
+
 pub left_is_of : (a : ℕ) (n : Notes) (parts : List ActorPart) (rs : List Reply) → AreOf a parts → AreOf a (state_given n parts rs).left
 left_is_of a n [] rs m = tt
 left_is_of a n (p ∷ ps) [] m = by (request_of n p.part) (left_is_of a n ps [] m.1) where
-  by : (o : Option Request) → AreOf a (state_given n ps []).left → AreOf a (waiting n p ps o).left
+  by : (o : Option Request) → AreOf a (state_given n ps []).left → AreOf a (state_at_part n p ps o).left
   by None rest = rest
   by (Some q) rest = m
 left_is_of a n (p ∷ ps) (r ∷ rs) m = by (request_of n p.part) (left_is_of a n ps (r ∷ rs) m.1) (λ k. left_is_of a k ps rs m.1) where
   by : (o : Option Request) → AreOf a (state_given n ps (r ∷ rs)).left → ((k : Notes) → AreOf a (state_given k ps rs).left) →
-      AreOf a (answered n p ps r rs o).left
+      AreOf a (state_after_reply n p ps r rs o).left
   by None same rest = same
   by (Some q) same rest = rest (notes_after n p.part r)
 

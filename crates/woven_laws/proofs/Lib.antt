@@ -1,3 +1,4 @@
+pub mod Lists
 pub mod Prints
 pub mod Steps
 pub mod Callers

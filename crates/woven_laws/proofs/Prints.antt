@@ -1,5 +1,5 @@
 -- What is printed of a history.
-use Rattle.std.proofs.Common.{◌≡◌, ℕ, ◌==◌, Bool, true, false, List, [], ◌∷◌, ◌++◌, refl, sym, ap, ◌∙◌, subst, cond, append-nil}
+use Rattle.std.proofs.Common.{◌≡◌, ℕ, ◌==◌, Bool, true, false, List, [], ◌∷◌, ◌++◌, map, refl, sym, ap, ◌∙◌, subst, cond, append-nil}
 use Rattle.std.proofs.lemmas.Bool.{eqb-true}
 use Rattle.snap_policy.specs.Rules.{Rules}
 use Rattle.snap_api.proofs.ReadLemmas.{call-read}
@@ -7,11 +7,14 @@ use Rattle.snap_api.specs.World.{World, History, IsLegal, world_after, call}
 use Rattle.snap_api.specs.declared.data.Entry.{Entry}
 use Rattle.snap_api.specs.declared.data.Request.{Request}
 use Rattle.snap_api.specs.declared.data.Request.TheVariants as request
+use Rattle.snap_api.specs.DeskReads.{call_of, reads_of}
+use Rattle.rt_values.specs.Maps.{contains}
 use Rattle.snap_shared.specs.SharedCalls.{own_calls, HasOnlyCallersBelow}
 use Rattle.script_lang.specs.PrintedCalls.{reads_frame, frames_after, printed}
 use Rattle.woven_laws.specs.PrintedHistory.{no_frames, with_frames, printed_from, printed_history, frames_after_calls}
 use Rattle.woven_laws.specs.Woven.{ActorState, SpellsAll}
-use Rattle.woven_laws.specs.Laws.{PrintedIsLegal, PrintedByCaller, PrintedIsWoven, CallIsPrinted, FrameReadIsLeftOut}
+use Rattle.woven_laws.specs.Laws.{PrintedIsLegal, PrintedByCaller, PrintedIsWoven, CallIsPrinted, FrameReadsAreLeftOut}
+use Rattle.woven_laws.proofs.Lists.{head_or, tail_of}
 
 -- The open frames after a call that is printed.
 abbrev next : (ℕ → List ℕ) → Entry → ℕ → List ℕ
@@ -26,9 +29,6 @@ module _ {P : Type 0} (rules : Rules P) where
   frame_read-leaves frames w a (request.Write n x v) h = absurd cc
   frame_read-leaves frames w a (request.Apply n) h = absurd cc
   frame_read-leaves frames w a (request.Dispose n) h = absurd cc
-
-  IsSameLegal : World P → History → History → Type 0
-  IsSameLegal w printed_part h = IsLegal rules w printed_part × (world_after rules w printed_part ≡ world_after rules w h)
 
   legal_from : (w : World P) (fs : ℕ → List ℕ) (h : History) → IsLegal rules w h →
       IsLegal rules w (printed_from fs h) × (world_after rules w (printed_from fs h) ≡ world_after rules w h)
@@ -99,11 +99,27 @@ frames-append fs (x ∷ xs) ys = by (λ gs. frames-append gs xs ys) (reads_frame
   by rest false = rest (frames_after fs x)
 
 pub call_is_printed : CallIsPrinted
-call_is_printed h e reads = printed-append [] h (e ∷ []) ∙ ap (λ b. printed [] h ++ cond b [] (e ∷ [])) reads
-
-pub frame_read_is_left_out : FrameReadIsLeftOut
-frame_read_is_left_out h e reads =
+call_is_printed h e reads =
     let fs = frames_after_calls [] h in (
-      printed-append [] h (e ∷ []) ∙ ap (λ b. printed [] h ++ cond b [] (e ∷ [])) reads ∙ append-nil (printed [] h),
+      printed-append [] h (e ∷ []) ∙ ap (λ b. printed [] h ++ cond b [] (e ∷ [])) reads,
       frames-append [] h (e ∷ []) ∙ ap (λ b. cond b fs (frames_after fs e)) reads,
+    )
+
+reads_drop : (more : History) (a name : ℕ) (xs fs : List ℕ) → contains name fs ≡ true → map call_of more ≡ reads_of a name xs →
+    (printed fs more ≡ []) × (frames_after_calls fs more ≡ fs)
+reads_drop [] a name xs fs h e = (refl, refl)
+reads_drop (x ∷ more) a name [] fs h e = absurd cc
+reads_drop (x ∷ more) a name (o ∷ xs) fs h e =
+    let first : x.request ≡ request.Read name o = ap (λ (p : ℕ × Request). p.1) (ap (λ l. head_or (a, request.Read name o) l) e) in
+    let read : reads_frame fs x.request ≡ true = ap (reads_frame fs) first ∙ h in
+    let rest = reads_drop more a name xs fs h (ap tail_of e) in (
+      ap (λ b. cond b (printed fs more) (x ∷ printed (frames_after fs x) more)) read ∙ rest.0,
+      ap (λ b. cond b (frames_after_calls fs more) (frames_after_calls (frames_after fs x) more)) read ∙ rest.1,
+    )
+
+pub frame_reads_are_left_out : FrameReadsAreLeftOut
+frame_reads_are_left_out h more a name xs opened reads =
+    let rest = reads_drop more a name xs (frames_after_calls [] h) opened reads in (
+      printed-append [] h more ∙ ap (λ l. printed [] h ++ l) rest.0 ∙ append-nil (printed [] h),
+      frames-append [] h more ∙ rest.1,
     )

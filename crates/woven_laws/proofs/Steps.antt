@@ -9,14 +9,7 @@ use Rattle.script_lang.specs.StepLaws.{BeginsWith, Spells}
 use Rattle.woven_laws.specs.Woven.{ActorState, SpellsAll}
 use Rattle.woven_laws.specs.FirstParts.{replies_of, calls_given, state_given, IsFirstPart, SpellsTo}
 use Rattle.woven_laws.specs.Laws.{NothingIsSpelled, CallIsSpelled, PartIsPassed, AllIsSpelled}
-
-abbrev pub head_or : {A : Type 0} → A → List A → A
-head_or d [] = d
-head_or d (x ∷ xs) = x
-
-abbrev pub tail_of : {A : Type 0} → List A → List A
-tail_of [] = []
-tail_of (x ∷ xs) = xs
+use Rattle.woven_laws.proofs.Lists.{head_or, tail_of}
 
 -- What the calls of parts must be, by the first part's request.
 abbrev BeginsPart : Notes → ActorPart → List ActorPart → Option Request → History → Type 0
@@ -26,24 +19,24 @@ BeginsPart n p ps o h = elim o [
 ]
 
 -- The state of an actor whose first part has this request.
-abbrev pub waiting : Notes → ActorPart → List ActorPart → Option Request → ActorState
-waiting n p ps o = elim o [ None ↦ state_given n ps [] | Some q ↦ record { notes = n; left = p ∷ ps } ]
+abbrev pub state_at_part : Notes → ActorPart → List ActorPart → Option Request → ActorState
+state_at_part n p ps o = elim o [ None ↦ state_given n ps [] | Some q ↦ record { notes = n; left = p ∷ ps } ]
 
 -- The state of an actor after a reply to its first part, or to a later one if that makes no call, and further replies.
-abbrev pub answered : Notes → ActorPart → List ActorPart → Reply → List Reply → Option Request → ActorState
-answered n p ps r rs o = elim o [ None ↦ state_given n ps (r ∷ rs) | Some q ↦ state_given (notes_after n p.part r) ps rs ]
+abbrev pub state_after_reply : Notes → ActorPart → List ActorPart → Reply → List Reply → Option Request → ActorState
+state_after_reply n p ps r rs o = elim o [ None ↦ state_given n ps (r ∷ rs) | Some q ↦ state_given (notes_after n p.part r) ps rs ]
 
 pub spells_passed : (n : Notes) (parts : List ActorPart) (more : History) → Spells n parts more → SpellsAll (state_given n parts []) more
 spells_passed n [] more s = s
 spells_passed n (p ∷ ps) more s = by (request_of n p.part) (spells_passed n ps more) s where
-  by : (o : Option Request) → (Spells n ps more → SpellsAll (state_given n ps []) more) → BeginsPart n p ps o more → SpellsAll (waiting n p ps o) more
+  by : (o : Option Request) → (Spells n ps more → SpellsAll (state_given n ps []) more) → BeginsPart n p ps o more → SpellsAll (state_at_part n p ps o) more
   by None rest now = rest now
   by (Some q) rest now = s
 
 pub passed_spells : (n : Notes) (parts : List ActorPart) (more : History) → SpellsAll (state_given n parts []) more → Spells n parts more
 passed_spells n [] more s = s
 passed_spells n (p ∷ ps) more s = by (request_of n p.part) refl (passed_spells n ps more) s where
-  by : (o : Option Request) → request_of n p.part ≡ o → (SpellsAll (state_given n ps []) more → Spells n ps more) → SpellsAll (waiting n p ps o) more → Spells n (p ∷ ps) more
+  by : (o : Option Request) → request_of n p.part ≡ o → (SpellsAll (state_given n ps []) more → Spells n ps more) → SpellsAll (state_at_part n p ps o) more → Spells n (p ∷ ps) more
   by None e rest now = subst (λ (o : Option Request). BeginsPart n p ps o more) (sym e) (rest now)
   by (Some q) e rest now = now
 
@@ -56,7 +49,7 @@ spelled_on n (p ∷ ps) (x ∷ h) more e s = by (request_of n p.part) (spelled_o
   by : (o : Option Request) → (x ∷ h ≡ calls_given n ps (x.reply ∷ replies_of h) → SpellsAll (state_given n ps (x.reply ∷ replies_of h)) more → Spells n ps (x ∷ (h ++ more))) →
       ((m : Notes) → h ≡ calls_given m ps (replies_of h) → SpellsAll (state_given m ps (replies_of h)) more → Spells m ps (h ++ more)) →
       x ∷ h ≡ elim o [ None ↦ calls_given n ps (x.reply ∷ replies_of h) | Some q ↦ record { caller = p.actor; request = q; reply = x.reply } ∷ calls_given (notes_after n p.part x.reply) ps (replies_of h) ] →
-      SpellsAll (answered n p ps x.reply (replies_of h) o) more →
+      SpellsAll (state_after_reply n p ps x.reply (replies_of h) o) more →
       BeginsPart n p ps o (x ∷ (h ++ more))
   by None same rest is now = same is now
   by (Some q) same rest is now =
@@ -68,7 +61,7 @@ pub spells_after : (n : Notes) (parts : List ActorPart) (x : Entry) (xs : Histor
 spells_after n [] x xs s = absurd cc
 spells_after n (p ∷ ps) x xs s = by (request_of n p.part) (spells_after n ps x xs) s where
   by : (o : Option Request) → (Spells n ps (x ∷ xs) → SpellsAll (state_given n ps (x.reply ∷ [])) xs) → BeginsPart n p ps o (x ∷ xs) →
-      SpellsAll (answered n p ps x.reply [] o) xs
+      SpellsAll (state_after_reply n p ps x.reply [] o) xs
   by None rest now = rest now
   by (Some q) rest now = spells_passed (notes_after n p.part x.reply) ps xs now.2
 
@@ -80,25 +73,27 @@ one_request n (p ∷ ps) x y xs ys s t = by (request_of n p.part) (one_request n
   by None rest one two = rest one two
   by (Some q) rest one two = one.1 ∙ sym two.1
 
+-- Without a reply there is no call.
+no_calls : (n : Notes) (parts : List ActorPart) → calls_given n parts [] ≡ []
+no_calls n [] = refl
+no_calls n (p ∷ ps) = refl
+
 pub nothing_is_spelled : NothingIsSpelled
-nothing_is_spelled s = record { calls = none s.notes s.left; state = refl } where
-  none : (n : Notes) (parts : List ActorPart) → [] ≡ calls_given n parts []
-  none n [] = refl
-  none n (p ∷ ps) = refl
+nothing_is_spelled s = (sym (no_calls s.notes s.left), refl)
 
 -- The state after one reply more.
 state-snoc : (n : Notes) (parts : List ActorPart) (rs : List Reply) (r : Reply) → state_given n parts (rs ++ r ∷ []) ≡ state_given (state_given n parts rs).notes (state_given n parts rs).left (r ∷ [])
 state-snoc n [] rs r = refl
 state-snoc n (p ∷ ps) [] r = by (request_of n p.part) refl (state-snoc n ps [] r) where
   by : (o : Option Request) → request_of n p.part ≡ o → state_given n ps (r ∷ []) ≡ state_given (state_given n ps []).notes (state_given n ps []).left (r ∷ []) →
-      state_given n (p ∷ ps) (r ∷ []) ≡ state_given (waiting n p ps o).notes (waiting n p ps o).left (r ∷ [])
-  by None e rest = ap (answered n p ps r []) e ∙ rest
+      state_given n (p ∷ ps) (r ∷ []) ≡ state_given (state_at_part n p ps o).notes (state_at_part n p ps o).left (r ∷ [])
+  by None e rest = ap (state_after_reply n p ps r []) e ∙ rest
   by (Some q) e rest = refl
 state-snoc n (p ∷ ps) (x ∷ rs) r = by (request_of n p.part) (state-snoc n ps (x ∷ rs) r) (λ m. state-snoc m ps rs r) where
   by : (o : Option Request) → state_given n ps (x ∷ (rs ++ r ∷ [])) ≡ state_given (state_given n ps (x ∷ rs)).notes (state_given n ps (x ∷ rs)).left (r ∷ []) →
       ((m : Notes) → state_given m ps (rs ++ r ∷ []) ≡ state_given (state_given m ps rs).notes (state_given m ps rs).left (r ∷ [])) →
-      answered n p ps x (rs ++ r ∷ []) o
-      ≡ state_given (answered n p ps x rs o).notes (answered n p ps x rs o).left (r ∷ [])
+      state_after_reply n p ps x (rs ++ r ∷ []) o
+      ≡ state_given (state_after_reply n p ps x rs o).notes (state_after_reply n p ps x rs o).left (r ∷ [])
   by None same rest = same
   by (Some q) same rest = rest (notes_after n p.part x)
 
@@ -106,20 +101,17 @@ state-snoc n (p ∷ ps) (x ∷ rs) r = by (request_of n p.part) (state-snoc n ps
 calls-snoc : (n : Notes) (parts : List ActorPart) (rs : List Reply) (r : Reply) → calls_given n parts (rs ++ r ∷ []) ≡ calls_given n parts rs ++ calls_given (state_given n parts rs).notes (state_given n parts rs).left (r ∷ [])
 calls-snoc n [] rs r = refl
 calls-snoc n (p ∷ ps) [] r = by (request_of n p.part) refl (calls-snoc n ps [] r) where
-  none : (m : Notes) (parts : List ActorPart) → calls_given m parts [] ≡ []
-  none m [] = refl
-  none m (x ∷ xs) = refl
   by : (o : Option Request) → request_of n p.part ≡ o → calls_given n ps (r ∷ []) ≡ calls_given n ps [] ++ calls_given (state_given n ps []).notes (state_given n ps []).left (r ∷ []) →
-      calls_given n (p ∷ ps) (r ∷ []) ≡ calls_given (waiting n p ps o).notes (waiting n p ps o).left (r ∷ [])
+      calls_given n (p ∷ ps) (r ∷ []) ≡ calls_given (state_at_part n p ps o).notes (state_at_part n p ps o).left (r ∷ [])
   by None e rest = ap (λ (o : Option Request). elim o [ None ↦ calls_given n ps (r ∷ []) | Some q ↦ record { caller = p.actor; request = q; reply = r } ∷ calls_given (notes_after n p.part r) ps [] ]) e
-      ∙ rest ∙ ap (λ l. l ++ calls_given (state_given n ps []).notes (state_given n ps []).left (r ∷ [])) (none n ps)
+      ∙ rest ∙ ap (λ l. l ++ calls_given (state_given n ps []).notes (state_given n ps []).left (r ∷ [])) (no_calls n ps)
   by (Some q) e rest = refl
 calls-snoc n (p ∷ ps) (x ∷ rs) r = by (request_of n p.part) (calls-snoc n ps (x ∷ rs) r) (λ m. calls-snoc m ps rs r) where
   by : (o : Option Request) → calls_given n ps (x ∷ (rs ++ r ∷ [])) ≡ calls_given n ps (x ∷ rs) ++ calls_given (state_given n ps (x ∷ rs)).notes (state_given n ps (x ∷ rs)).left (r ∷ []) →
       ((m : Notes) → calls_given m ps (rs ++ r ∷ []) ≡ calls_given m ps rs ++ calls_given (state_given m ps rs).notes (state_given m ps rs).left (r ∷ [])) →
       elim o [ None ↦ calls_given n ps (x ∷ (rs ++ r ∷ [])) | Some q ↦ record { caller = p.actor; request = q; reply = x } ∷ calls_given (notes_after n p.part x) ps (rs ++ r ∷ []) ]
       ≡ elim o [ None ↦ calls_given n ps (x ∷ rs) | Some q ↦ record { caller = p.actor; request = q; reply = x } ∷ calls_given (notes_after n p.part x) ps rs ]
-      ++ calls_given (answered n p ps x rs o).notes (answered n p ps x rs o).left (r ∷ [])
+      ++ calls_given (state_after_reply n p ps x rs o).notes (state_after_reply n p ps x rs o).left (r ∷ [])
   by None same rest = same
   by (Some q) same rest = ap (λ l. record { caller = p.actor; request = q; reply = x } ∷ l) (rest (notes_after n p.part x))
 
@@ -132,26 +124,23 @@ call_is_spelled before h n p rest q r s asks =
     let e : Entry = record { caller = p.actor; request = q; reply = r } in
     let replies = map-snoc (λ (x : Entry). x.reply) h e in
     let then : ActorState = state_given before.notes before.left (replies_of h) in
-    let here : waiting n p rest (Some q) ≡ then = ap (waiting n p rest) (sym asks) ∙ s.state in
+    let here : state_at_part n p rest (Some q) ≡ then = ap (state_at_part n p rest) (sym asks) ∙ s.1 in
     let calls : calls_given then.notes then.left (r ∷ []) ≡ e ∷ [] =
         ap (λ (a : ActorState). calls_given a.notes a.left (r ∷ [])) (sym here)
         ∙ ap (λ (o : Option Request). elim o [ None ↦ calls_given n rest (r ∷ []) | Some x ↦ record { caller = p.actor; request = x; reply = r } ∷ calls_given (notes_after n p.part r) rest [] ]) asks
-        ∙ ap (λ l. e ∷ l) (none (notes_after n p.part r) rest) in
+        ∙ ap (λ l. e ∷ l) (no_calls (notes_after n p.part r) rest) in
     let now : state_given then.notes then.left (r ∷ []) ≡ state_given (notes_after n p.part r) rest [] =
         ap (λ (a : ActorState). state_given a.notes a.left (r ∷ [])) (sym here)
-        ∙ ap (answered n p rest r []) asks in
-    record {
-      calls = (λ i. s.calls i ++ sym calls i) ∙ sym (calls-snoc before.notes before.left (replies_of h) r) ∙ ap (calls_given before.notes before.left) (sym replies);
-      state = sym now ∙ sym (state-snoc before.notes before.left (replies_of h) r) ∙ ap (state_given before.notes before.left) (sym replies);
-    } where
-    none : (m : Notes) (parts : List ActorPart) → calls_given m parts [] ≡ []
-    none m [] = refl
-    none m (x ∷ xs) = refl
+        ∙ ap (state_after_reply n p rest r []) asks in
+    (
+      (λ i. s.0 i ++ sym calls i) ∙ sym (calls-snoc before.notes before.left (replies_of h) r) ∙ ap (calls_given before.notes before.left) (sym replies),
+      sym now ∙ sym (state-snoc before.notes before.left (replies_of h) r) ∙ ap (state_given before.notes before.left) (sym replies),
+    )
 
 pub part_is_passed : PartIsPassed
-part_is_passed before h n p rest s asks = record { calls = s.calls; state = ap (waiting n p rest) (sym asks) ∙ s.state }
+part_is_passed before h n p rest s asks = (s.0, ap (state_at_part n p rest) (sym asks) ∙ s.1)
 
 pub all_is_spelled : AllIsSpelled
 all_is_spelled before h n s =
-    let whole = spelled_on before.notes before.left h [] s.calls (subst (λ (a : ActorState). SpellsAll a []) s.state refl) in
+    let whole = spelled_on before.notes before.left h [] s.0 (subst (λ (a : ActorState). SpellsAll a []) s.1 refl) in
     subst (λ (l : History). SpellsAll before l) (append-nil h) whole

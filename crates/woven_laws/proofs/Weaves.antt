@@ -19,7 +19,8 @@ use Rattle.woven_laws.specs.Woven.{ActorState, SpellsAll, IsWoven}
 use Rattle.woven_laws.specs.FirstParts.{state_given}
 use Rattle.woven_laws.specs.Laws.{HasNoColon, AreActorNames, text_of, LinesTellTheHistory}
 use Rattle.woven_laws.proofs.Callers.{differs}
-use Rattle.woven_laws.proofs.Steps.{head_or, tail_of, spells_after, one_request}
+use Rattle.woven_laws.proofs.Lists.{head_or, tail_of}
+use Rattle.woven_laws.proofs.Steps.{spells_after, one_request}
 
 -- Names without a colon end at the first one.
 ends_at_colon : (xs ys a b : List ℕ) → HasNoColon xs → HasNoColon ys → xs ++ 58 ∷ a ≡ ys ++ 58 ∷ b → xs ≡ ys

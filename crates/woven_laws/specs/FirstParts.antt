@@ -35,7 +35,7 @@ state_given n (p ∷ more) (r ∷ rs) = elim (request_of n p.part) [
 abbrev pub IsFirstPart : ActorState → History → Type 0
 IsFirstPart s h = h ≡ calls_given s.notes s.left (replies_of h)
 
--- From one state of an actor these calls lead to another, up to parts that make no call.
-pub record SpellsTo (before : ActorState) (h : History) (now : ActorState) : Type 0 where
-  pub calls : IsFirstPart before h
-  pub state : state_given now.notes now.left [] ≡ state_given before.notes before.left (replies_of h)
+-- From one state of an actor these calls lead to another. Parts that make no call are passed in both.
+abbrev pub SpellsTo : ActorState → History → ActorState → Type 0
+SpellsTo before h now =
+    IsFirstPart before h × (state_given now.notes now.left [] ≡ state_given before.notes before.left (replies_of h))

@@ -1,7 +1,9 @@
 -- Trusted: the laws of woven histories and of what is printed of them.
-use Rattle.std.specs.Prelude.{◌≡◌, ◌≢◌, ℕ, ◌<◌, List, [], ◌∷◌, ◌++◌, Bool, true, false, Some, None}
+use Rattle.std.specs.Prelude.{◌≡◌, ◌≢◌, ℕ, ◌<◌, List, [], ◌∷◌, ◌++◌, map, true, false, Some, None}
 use Rattle.std.specs.List.{flat_map}
+use Rattle.rt_values.specs.Maps.{contains}
 use Rattle.lang_ast.specs.Terms.{Func}
+use Rattle.lang_ast.specs.declared.script.DoForm.{DoForm}
 use Rattle.snap_policy.specs.Rules.{Rules}
 use Rattle.snap_policy.specs.declared.policy.BuiltIn.{BuiltIn}
 use Rattle.snap_policy.specs.Table.{table}
@@ -9,12 +11,13 @@ use Rattle.snap_api.specs.declared.data.Entry.{Entry}
 use Rattle.snap_api.specs.declared.data.Reply.{Reply}
 use Rattle.snap_api.specs.declared.data.Request.{Request}
 use Rattle.snap_api.specs.World.{World, History, IsLegal, world_after}
+use Rattle.snap_api.specs.DeskReads.{call_of, reads_of}
 use Rattle.snap_shared.specs.SharedCalls.{own_calls, HasOnlyCallersBelow}
-use Rattle.script_lang.specs.StepCalls.{Notes, ActorPart, no_notes, request_of, notes_after, sequential}
+use Rattle.script_lang.specs.StepCalls.{Notes, ActorPart, no_notes, request_of, notes_after, script_parts, sequential}
 use Rattle.script_lang.specs.Lines.{Titles, Standing, actor_name, lines}
-use Rattle.script_lang.specs.PrintedCalls.{reads_frame, printed}
+use Rattle.script_lang.specs.PrintedCalls.{reads_frame, frames_after, printed}
 use Rattle.woven_laws.specs.PrintedHistory.{printed_history, frames_after_calls}
-use Rattle.woven_laws.specs.Woven.{ActorState, initial_actor, AreOf, SpellsAll, IsWoven}
+use Rattle.woven_laws.specs.Woven.{parts_of, AreOf, actor_parts, ActorState, initial_actor, SpellsAll, IsWoven}
 use Rattle.woven_laws.specs.FirstParts.{IsFirstPart, SpellsTo}
 
 -- The printed calls of a legal history are legal from the same world, and leave the same world.
@@ -40,7 +43,8 @@ PartIsCompleted = (n : ℕ) (parts : List ActorPart) (w : World BuiltIn) (h : Hi
     ((a : ℕ) → a < n → IsFirstPart (initial_actor parts a) (own_calls a h)) → HasOnlyCallersBelow n h →
     (more : History) × IsLegal table w (h ++ more) × IsWoven n (initial_actor parts) (h ++ more)
 
--- The same of a history with the reads of frames: what is printed of it can be continued.
+-- If each actor's printed calls are those of a first part of its steps, the printed calls of a legal history can be
+-- continued to a legal and woven history.
 abbrev pub PrintedPartIsCompleted : Type 0
 PrintedPartIsCompleted = (n : ℕ) (parts : List ActorPart) (w : World BuiltIn) (h : History) → IsLegal table w h →
     ((a : ℕ) → a < n → IsFirstPart (initial_actor parts a) (printed [] (own_calls a h))) → HasOnlyCallersBelow n h →
@@ -71,7 +75,7 @@ abbrev pub SequentialIsWoven : Type 0
 SequentialIsWoven = (w : World BuiltIn) (parts : List ActorPart) → AreOf 0 parts →
     IsWoven 1 (initial_actor parts) (sequential w no_notes parts)
 
--- Before its first call an actor is in its own state.
+-- An actor without a call is in the state in which it began.
 abbrev pub NothingIsSpelled : Type 0
 NothingIsSpelled = (s : ActorState) → SpellsTo s [] s
 
@@ -92,12 +96,19 @@ abbrev pub AllIsSpelled : Type 0
 AllIsSpelled = (before : ActorState) (h : History) (n : Notes) →
     SpellsTo before h (record { notes = n; left = [] }) → SpellsAll before h
 
--- A call of a caller that does not read an open frame is printed.
+-- A call of a caller is printed if it does not read the snapshot of an open frame.
 abbrev pub CallIsPrinted : Type 0
 CallIsPrinted = (h : History) (e : Entry) → reads_frame (frames_after_calls [] h) e.request ≡ false →
-    printed [] (h ++ e ∷ []) ≡ printed [] h ++ e ∷ []
+    (printed [] (h ++ e ∷ []) ≡ printed [] h ++ e ∷ [])
+    × (frames_after_calls [] (h ++ e ∷ []) ≡ frames_after (frames_after_calls [] h) e)
 
--- A read of an open frame is not printed, and leaves the frames open.
-abbrev pub FrameReadIsLeftOut : Type 0
-FrameReadIsLeftOut = (h : History) (e : Entry) → reads_frame (frames_after_calls [] h) e.request ≡ true →
-    (printed [] (h ++ e ∷ []) ≡ printed [] h) × (frames_after_calls [] (h ++ e ∷ []) ≡ frames_after_calls [] h)
+-- Reads of the snapshot of an open frame are not printed, and leave the frames open.
+abbrev pub FrameReadsAreLeftOut : Type 0
+FrameReadsAreLeftOut = (h more : History) (a name : ℕ) (xs : List ℕ) → contains name (frames_after_calls [] h) ≡ true →
+    map call_of more ≡ reads_of a name xs →
+    (printed [] (h ++ more) ≡ printed [] h) × (frames_after_calls [] (h ++ more) ≡ frames_after_calls [] h)
+
+-- The parts of one actor are those of the script's steps for this actor.
+abbrev pub PartsAreOfScript : Type 0
+PartsAreOfScript = (a : ℕ) (actors : List (List ℕ)) (forms : List DoForm) →
+    parts_of a (script_parts actors forms) ≡ actor_parts a actors forms

@@ -1,9 +1,11 @@
 -- Trusted: histories that are woven of the calls of several actors, each with notes of its own.
-use Rattle.std.specs.Prelude.{◌≡◌, ℕ, ◌<◌, List, [], ◌∷◌}
+use Rattle.std.specs.Prelude.{◌≡◌, ℕ, ◌<◌, ◌==◌, List, [], ◌∷◌, ◌++◌, map, if◌then◌else◌}
+use Rattle.lang_ast.specs.declared.script.DoForm.{DoForm}
 use Rattle.snap_api.specs.World.{History}
 use Rattle.snap_shared.specs.Histories.{calls_by}
 use Rattle.snap_shared.specs.SharedCalls.{own_calls, HasOnlyCallersBelow}
-use Rattle.script_lang.specs.StepCalls.{Notes, ActorPart, no_notes}
+use Rattle.script_lang.specs.StepCalls.{Notes, ActorPart, no_notes, of_actor, steps_parts}
+use Rattle.script_lang.specs.Scripts.{index_of, written_out}
 use Rattle.script_lang.specs.StepLaws.{Spells}
 
 -- The number of the actor that a part belongs to.
@@ -18,6 +20,14 @@ parts_of a parts = calls_by actor_of a parts
 abbrev pub AreOf : ℕ → List ActorPart → Type 0
 AreOf a [] = Unit {0}
 AreOf a (p ∷ more) = (p.actor ≡ a) × AreOf a more
+
+-- The parts of the steps that a script has for actor `a`, with repeats written out, in the order of the text. `actors` are
+-- the actors' names by number.
+abbrev pub actor_parts : ℕ → List (List ℕ) → List DoForm → List ActorPart
+actor_parts a actors [] = []
+actor_parts a actors (d ∷ more) =
+    if index_of d.actor.text actors == a then map (of_actor a) (steps_parts (written_out d.steps)) ++ actor_parts a actors more
+    else actor_parts a actors more
 
 -- What the next calls of an actor depend on: the notes of its own calls so far, and the parts of its steps that are left.
 pub record ActorState : Type 0 where
