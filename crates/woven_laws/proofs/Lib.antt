@@ -4,3 +4,4 @@ pub mod Steps
 pub mod Callers
 pub mod Weaves
 pub mod Rests
+pub mod ActorNames

@@ -1,5 +1,5 @@
 -- Trusted: the laws of woven histories and of what is printed of them.
-use Rattle.std.specs.Prelude.{◌≡◌, ◌≢◌, ℕ, ◌<◌, List, [], ◌∷◌, ◌++◌, map, true, false, Some, None}
+use Rattle.std.specs.Prelude.{◌≡◌, ◌≢◌, ℕ, ◌<◌, List, [], ◌∷◌, ◌++◌, map, length, true, false, Some, None}
 use Rattle.std.specs.List.{flat_map}
 use Rattle.rt_values.specs.Maps.{contains}
 use Rattle.lang_ast.specs.Terms.{Func}
@@ -13,6 +13,7 @@ use Rattle.snap_api.specs.declared.data.Request.{Request}
 use Rattle.snap_api.specs.World.{World, History, IsLegal, world_after}
 use Rattle.snap_api.specs.DeskReads.{call_of, reads_of}
 use Rattle.snap_shared.specs.SharedCalls.{own_calls, HasOnlyCallersBelow}
+use Rattle.script_lang.specs.Scripts.{actors_of}
 use Rattle.script_lang.specs.StepCalls.{Notes, ActorPart, no_notes, request_of, notes_after, script_parts, sequential}
 use Rattle.script_lang.specs.Lines.{Titles, Standing, actor_name, lines}
 use Rattle.script_lang.specs.PrintedCalls.{reads_frame, frames_after, printed}
@@ -59,6 +60,11 @@ HasNoColon (c ∷ cs) = (c ≢ 58) × HasNoColon cs
 pub record AreActorNames (n : ℕ) (name : ℕ → List ℕ) : Type 0 where
   pub plain : (a : ℕ) → a < n → HasNoColon (name a)
   pub distinct : (a b : ℕ) → a < n → b < n → name a ≡ name b → a ≡ b
+
+-- The actors of a script have distinct names.
+abbrev pub ActorNamesAreDistinct : Type 0
+ActorNamesAreDistinct = (forms : List DoForm) (a b : ℕ) → a < length (actors_of forms) → b < length (actors_of forms) →
+    actor_name (actors_of forms) a ≡ actor_name (actors_of forms) b → a ≡ b
 
 -- The bytes of the lines of a history.
 abbrev pub text_of : Titles → List Func → Standing → History → List ℕ

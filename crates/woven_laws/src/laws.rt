@@ -1,5 +1,5 @@
 // Laws of woven histories, and of what is printed of a history.
-ghost use Rattle.woven_laws.specs.Laws.{LinesTellTheHistory, PartIsCompleted, PrintedByCaller, PrintedIsLegal, PrintedIsWoven, PrintedPartIsCompleted, SequentialIsWoven};
+ghost use Rattle.woven_laws.specs.Laws.{ActorNamesAreDistinct, LinesTellTheHistory, PartIsCompleted, PrintedByCaller, PrintedIsLegal, PrintedIsWoven, PrintedPartIsCompleted, SequentialIsWoven};
 
 use snap_policy::Policy;
 
@@ -30,6 +30,11 @@ pub fn part_is_completed()
 /// distinct names without a colon.
 pub fn lines_tell_the_history()
     ensures { LinesTellTheHistory }
+{}
+
+/// Law: the actors of a script have distinct names.
+pub fn actor_names_are_distinct()
+    ensures { ActorNamesAreDistinct }
 {}
 
 /// Law: the sequential history of a single actor is woven.
