@@ -1,6 +1,6 @@
 -- The calls of one caller, and the parts of one actor.
-use Rattle.std.proofs.Common.{◌≡◌, ◌≢◌, ℕ, ◌==◌, Bool, true, false, List, [], ◌∷◌, ◌++◌, map, refl, sym, ap, ◌∙◌, cond, Option, Some, None, inl, inr}
-use Rattle.std.proofs.lemmas.Bool.{eqb-true}
+use Rattle.std.proofs.Common.{◌≡◌, ◌≢◌, ℕ, ◌==◌, Bool, true, false, List, [], ◌∷◌, ◌++◌, map, refl, sym, ap, ◌∙◌, cond, Option, Some, None, inl, inr, arith}
+use Rattle.std.proofs.lemmas.Bool.{cases_lt, eqb-true}
 use Rattle.std.proofs.lemmas.Bool.Decides.{eqb_tells}
 use Rattle.snap_policy.specs.declared.policy.BuiltIn.{BuiltIn}
 use Rattle.snap_policy.specs.Table.{table}
@@ -8,7 +8,7 @@ use Rattle.snap_api.specs.declared.data.Entry.{Entry}
 use Rattle.snap_api.specs.declared.data.Reply.{Reply}
 use Rattle.snap_api.specs.declared.data.Request.{Request}
 use Rattle.snap_api.specs.World.{World, History, call}
-use Rattle.snap_shared.specs.SharedCalls.{own_calls}
+use Rattle.snap_shared.specs.SharedCalls.{own_calls, HasOnlyCallersBelow}
 use Rattle.snap_shared.proofs.OwnCalls.{itself}
 use Rattle.snap_shared.proofs.Prefixes.{calls_by-append}
 use Rattle.script_lang.specs.Scripts.{index_of, written_out}
@@ -20,6 +20,12 @@ use Rattle.woven_laws.proofs.Steps.{state_at_part, state_after_reply}
 
 pub differs : (a b : ℕ) → a ≢ b → (a == b) ≡ false
 differs a b ne = elim (eqb_tells a b) [ inl h ↦ absurd (ne h.1) | inr h ↦ h.0 ]
+
+pub own_calls-first : (e : Entry) (es : History) → own_calls e.caller (e ∷ es) ≡ e ∷ own_calls e.caller es
+own_calls-first e es = ap (λ b. cond b (e ∷ own_calls e.caller es) (own_calls e.caller es)) (itself e.caller)
+
+pub own_calls-skip : (e : Entry) (es : History) (a : ℕ) → e.caller ≢ a → own_calls a (e ∷ es) ≡ own_calls a es
+own_calls-skip e es a ne = ap (λ b. cond b (e ∷ own_calls a es) (own_calls a es)) (differs e.caller a ne)
 
 -- All calls are of one caller.
 abbrev pub AreBy : ℕ → History → Type 0
@@ -33,6 +39,16 @@ own_calls-mine a (e ∷ es) m = ap (λ b. cond b (e ∷ own_calls a es) (own_cal
 pub own_calls-others : (a b : ℕ) (h : History) → a ≢ b → AreBy a h → own_calls b h ≡ []
 own_calls-others a b [] ne m = refl
 own_calls-others a b (e ∷ es) ne m = ap (λ c. cond c (e ∷ own_calls b es) (own_calls b es)) (ap (λ (x : ℕ). x == b) m.0 ∙ differs a b ne) ∙ own_calls-others a b es ne m.1
+
+-- If caller 0 is the only one, all calls are its.
+pub are_by_first : (h : History) → HasOnlyCallersBelow 1 h → AreBy 0 h
+are_by_first [] others = tt
+are_by_first (e ∷ es) others = elim (cases_lt e.caller 1) [
+  | inl under ↦
+      let first : e.caller ≡ 0 = omega (arith, under) in
+      (first, are_by_first es (λ k far. sym (own_calls-skip e es k (λ q. omega (arith, first, far, q))) ∙ others k far))
+  | inr far ↦ let none : e ∷ own_calls e.caller es ≡ [] = sym (own_calls-first e es) ∙ others e.caller far in absurd cc
+]
 
 pub parts_of-mine : (a : ℕ) (parts : List ActorPart) → AreOf a parts → parts_of a parts ≡ parts
 parts_of-mine a [] m = refl

@@ -8,13 +8,13 @@ use Rattle.snap_shared.specs.SharedCalls.{own_calls, HasOnlyCallersBelow}
 use Rattle.snap_shared.specs.Histories.{calls_by, caller_of}
 use Rattle.snap_shared.proofs.Prefixes.{calls_by-append}
 use Rattle.script_lang.specs.StepCalls.{ActorPart, no_notes, sequential}
-use Rattle.script_lang.proofs.Sequential.{spelled}
+use Rattle.script_lang.proofs.Sequential.{spelled, only}
 use Rattle.script_lang.specs.PrintedCalls.{printed}
 use Rattle.woven_laws.specs.PrintedHistory.{printed_history}
 use Rattle.woven_laws.specs.Woven.{ActorState, initial_actor, parts_of, AreOf, SpellsAll, IsWoven}
 use Rattle.woven_laws.specs.FirstParts.{replies_of, state_given, IsFirstPart}
-use Rattle.woven_laws.specs.Laws.{PartIsCompleted, PrintedPartIsCompleted, SequentialIsWoven}
-use Rattle.woven_laws.proofs.Callers.{AreBy, own_calls-mine, own_calls-others, parts_of-mine, parts_are_of, left_is_of, sequential_is_by}
+use Rattle.woven_laws.specs.Laws.{PartIsCompleted, PrintedPartIsCompleted, SequentialIsWoven, WovenIsSequential}
+use Rattle.woven_laws.proofs.Callers.{AreBy, are_by_first, own_calls-mine, own_calls-others, parts_of-mine, parts_are_of, left_is_of, sequential_is_by}
 use Rattle.woven_laws.proofs.Prints.{printed_is_legal, printed_by_caller, printed_callers}
 use Rattle.woven_laws.proofs.Steps.{spelled_on}
 
@@ -109,3 +109,8 @@ sequential_is_woven w parts m =
         (subst (λ (ps : List ActorPart). SpellsAll (record { notes = no_notes; left = ps }) (sequential w no_notes parts)) (sym (parts_of-mine 0 parts m)) (spelled w no_notes parts).1));
       others = λ a far. own_calls-others 0 a (sequential w no_notes parts) (λ e. omega (arith, far, e)) by_it;
     }
+
+pub woven_is_sequential : WovenIsSequential
+woven_is_sequential w parts h m legal woven =
+    let one = subst (λ (l : History). SpellsAll (initial_actor parts 0) l) (own_calls-mine 0 h (are_by_first h woven.others)) (woven.each 0 (omega (arith))) in
+    only w no_notes parts h legal (subst (λ (ps : List ActorPart). SpellsAll (record { notes = no_notes; left = ps }) h) (parts_of-mine 0 parts m) one)

@@ -18,7 +18,7 @@ use Rattle.script_lang.specs.Lines.{Titles, Standing, actor_name, request_text, 
 use Rattle.woven_laws.specs.Woven.{ActorState, SpellsAll, IsWoven}
 use Rattle.woven_laws.specs.FirstParts.{state_given}
 use Rattle.woven_laws.specs.Laws.{HasNoColon, AreActorNames, text_of, LinesTellTheHistory}
-use Rattle.woven_laws.proofs.Callers.{differs}
+use Rattle.woven_laws.proofs.Callers.{own_calls-first, own_calls-skip}
 use Rattle.woven_laws.proofs.Lists.{head_or, tail_of}
 use Rattle.woven_laws.proofs.Steps.{spells_after, one_request}
 
@@ -41,20 +41,14 @@ module _ (n : ℕ) where
   abbrev next_actors : (ℕ → ActorState) → Entry → ℕ → ActorState
   next_actors actors e a = cond (a == e.caller) (state_given (actors e.caller).notes (actors e.caller).left (e.reply ∷ [])) (actors a)
 
-  mine : (e : Entry) (es : History) → own_calls e.caller (e ∷ es) ≡ e ∷ own_calls e.caller es
-  mine e es = ap (λ b. cond b (e ∷ own_calls e.caller es) (own_calls e.caller es)) (itself e.caller)
-
   within : (actors : ℕ → ActorState) (e : Entry) (es : History) → IsWoven n actors (e ∷ es) → e.caller < n
   within actors e es w = elim (cases_lt e.caller n) [
     | inl h ↦ h
-    | inr h ↦ let none : e ∷ own_calls e.caller es ≡ [] = sym (mine e es) ∙ w.others e.caller h in absurd cc
+    | inr h ↦ let none : e ∷ own_calls e.caller es ≡ [] = sym (own_calls-first e es) ∙ w.others e.caller h in absurd cc
   ]
 
   first_call : (actors : ℕ → ActorState) (e : Entry) (es : History) → IsWoven n actors (e ∷ es) → SpellsAll (actors e.caller) (e ∷ own_calls e.caller es)
-  first_call actors e es w = subst (λ (l : History). SpellsAll (actors e.caller) l) (mine e es) (w.each e.caller (within actors e es w))
-
-  skips : (e : Entry) (es : History) (a : ℕ) → e.caller ≢ a → own_calls a (e ∷ es) ≡ own_calls a es
-  skips e es a ne = ap (λ b. cond b (e ∷ own_calls a es) (own_calls a es)) (differs e.caller a ne)
+  first_call actors e es w = subst (λ (l : History). SpellsAll (actors e.caller) l) (own_calls-first e es) (w.each e.caller (within actors e es w))
 
   later : (actors : ℕ → ActorState) (e : Entry) (es : History) → IsWoven n actors (e ∷ es) → IsWoven n (next_actors actors e) es
   later actors e es w =
@@ -66,11 +60,11 @@ module _ (n : ℕ) where
               (spells_after (actors e.caller).notes (actors e.caller).left e (own_calls e.caller es) (first_call actors e es w)))
           | inr other ↦
               subst (λ (s : ActorState). SpellsAll s (own_calls a es)) (ap (λ b. cond b now (actors a)) (sym other.0))
-              (subst (λ (l : History). SpellsAll (actors a) l) (skips e es a (λ q. other.1 (sym q))) (w.each a h))
+              (subst (λ (l : History). SpellsAll (actors a) l) (own_calls-skip e es a (λ q. other.1 (sym q))) (w.each a h))
         ];
         others = λ a far.
           let under = within actors e es w in
-          sym (skips e es a (λ q. omega (arith, under, far, q))) ∙ w.others a far;
+          sym (own_calls-skip e es a (λ q. omega (arith, under, far, q))) ∙ w.others a far;
       }
 
   module _ (t : Titles) (functions : List Func) (names : AreActorNames n (actor_name t.actors)) where

@@ -81,6 +81,11 @@ abbrev pub SequentialIsWoven : Type 0
 SequentialIsWoven = (w : World BuiltIn) (parts : List ActorPart) → AreOf 0 parts →
     IsWoven 1 (initial_actor parts) (sequential w no_notes parts)
 
+-- No other history of one actor is both legal and woven.
+abbrev pub WovenIsSequential : Type 0
+WovenIsSequential = (w : World BuiltIn) (parts : List ActorPart) (h : History) → AreOf 0 parts →
+    IsLegal table w h → IsWoven 1 (initial_actor parts) h → h ≡ sequential w no_notes parts
+
 -- An actor without a call is in the state in which it began.
 abbrev pub NothingIsSpelled : Type 0
 NothingIsSpelled = (s : ActorState) → SpellsTo s [] s

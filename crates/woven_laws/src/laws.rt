@@ -1,5 +1,5 @@
 // Laws of woven histories, and of what is printed of a history.
-ghost use Rattle.woven_laws.specs.Laws.{ActorNamesAreDistinct, LinesTellTheHistory, PartIsCompleted, PrintedByCaller, PrintedIsLegal, PrintedIsWoven, PrintedPartIsCompleted, SequentialIsWoven};
+ghost use Rattle.woven_laws.specs.Laws.{ActorNamesAreDistinct, LinesTellTheHistory, PartIsCompleted, PrintedByCaller, PrintedIsLegal, PrintedIsWoven, PrintedPartIsCompleted, SequentialIsWoven, WovenIsSequential};
 
 use snap_policy::Policy;
 
@@ -37,7 +37,9 @@ pub fn actor_names_are_distinct()
     ensures { ActorNamesAreDistinct }
 {}
 
-/// Law: the sequential history of a single actor is woven.
-pub fn sequential_is_woven()
-    ensures { SequentialIsWoven }
+/// Law: the sequential history of a single actor is woven, and no other history of this actor is legal and woven. So one
+/// actor on a thread prints what a run in order prints.
+pub fn one_actor_is_sequential()
+    ensures woven { SequentialIsWoven }
+    ensures only { WovenIsSequential }
 {}
