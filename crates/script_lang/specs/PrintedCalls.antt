@@ -1,5 +1,5 @@
--- Trusted: which calls of one caller, or of several who call by turns, are printed: all except the reads of the snapshots
--- of open frames.
+-- Trusted: which calls of a history are printed: all except the reads of the snapshots of open frames, of whichever
+-- caller.
 use Rattle.std.specs.Prelude.{ℕ, ◌==◌, not, List, [], ◌∷◌, ◌++◌, Bool, false, if◌then◌else◌}
 use Rattle.std.specs.List.{filter}
 use Rattle.rt_values.specs.Maps.{contains}

@@ -1,5 +1,5 @@
 -- The lines of a woven history tell whose call each is, and so the history.
-use Rattle.std.proofs.Common.{◌≡◌, ◌≢◌, ℕ, ◌<◌, ◌≤◌, ◌==◌, Bool, true, false, List, [], ◌∷◌, ◌++◌, codes, refl, sym, ap, ◌∙◌, subst, cond, inl, inr, arith, if◌then◌else◌}
+use Rattle.std.proofs.Common.{◌≡◌, ◌≢◌, ℕ, ◌<◌, ◌≤◌, ◌==◌, Bool, true, false, List, [], ◌∷◌, ◌++◌, codes, refl, sym, ap, ◌∙◌, subst, cond, inl, inr, arith, append_assoc, if◌then◌else◌}
 use Rattle.std.proofs.lemmas.Bool.{cases_lt}
 use Rattle.std.proofs.lemmas.Bool.Decides.{eqb_tells}
 use Rattle.std.proofs.lemmas.Grind.{flat_map-append}
@@ -14,10 +14,10 @@ use Rattle.snap_api.specs.declared.data.Request.{Request}
 use Rattle.snap_api.specs.World.{World, History, IsLegal, call}
 use Rattle.snap_shared.specs.SharedCalls.{own_calls}
 use Rattle.snap_shared.proofs.OwnCalls.{itself}
-use Rattle.script_lang.specs.Lines.{Titles, Standing, actor_name, request_text, reply_text, lines_at, lines, next, ends_frame, frame_lines, frame_at}
+use Rattle.script_lang.specs.Lines.{Titles, Standing, actor_name, request_text, reply_text, lines_at, lines, next, standing_after, ends_frame, frame_lines, frame_at}
 use Rattle.woven_laws.specs.Woven.{ActorState, SpellsAll, IsWoven}
 use Rattle.woven_laws.specs.FirstParts.{state_given}
-use Rattle.woven_laws.specs.Laws.{HasNoColon, AreActorNames, text_of, LinesTellTheHistory}
+use Rattle.woven_laws.specs.Laws.{HasNoColon, AreActorNames, text_of, LinesTellTheHistory, TextGoesOn}
 use Rattle.woven_laws.proofs.Callers.{own_calls-first, own_calls-skip}
 use Rattle.woven_laws.proofs.Lists.{head_or, tail_of}
 use Rattle.woven_laws.proofs.Steps.{spells_after, one_request}
@@ -125,3 +125,13 @@ module _ (n : ℕ) where
 
 pub lines_tell_the_history : LinesTellTheHistory
 lines_tell_the_history t functions n names s actors h k lh lk wh wk e = tells n t functions names s actors h k lh lk wh wk e
+
+pub text_goes_on : TextGoesOn
+text_goes_on t functions s [] more = refl
+text_goes_on t functions s (e ∷ es) more =
+    let here = lines_at t functions s e in
+    let now = next functions s e in
+    flat_map-append (λ l. l) here (lines t functions now (es ++ more))
+    ∙ ap (λ l. flat_map (λ l. l) here ++ l) (text_goes_on t functions now es more)
+    ∙ sym (append_assoc (flat_map (λ l. l) here) (text_of t functions now es) (text_of t functions (standing_after functions now es) more))
+    ∙ ap (λ l. l ++ text_of t functions (standing_after functions now es) more) (sym (flat_map-append (λ l. l) here (lines t functions now es)))

@@ -4,7 +4,7 @@ use Rattle.snap_api.specs.declared.data.Entry.{Entry}
 use Rattle.snap_api.specs.declared.data.Reply.{Reply}
 use Rattle.snap_api.specs.World.{History}
 use Rattle.script_lang.specs.StepCalls.{Notes, ActorPart, request_of, notes_after}
-use Rattle.woven_laws.specs.Woven.{ActorState}
+use Rattle.woven_laws.specs.Woven.{ActorState, actor_at}
 
 -- The replies of a history, in order.
 abbrev pub replies_of : History → List Reply
@@ -19,12 +19,12 @@ calls_given n (p ∷ more) (r ∷ rs) = elim (request_of n p.part) [
   | Some q ↦ record { caller = p.actor; request = q; reply = r } ∷ calls_given (notes_after n p.part r) more rs
 ]
 
--- The state of an actor after these replies. Its next part makes a call, if there is one: parts without a call are passed.
+-- The state of an actor after these replies. Parts without a call are passed: the next part, if any, makes a call.
 abbrev pub state_given : Notes → List ActorPart → List Reply → ActorState
-state_given n [] rs = record { notes = n; left = [] }
+state_given n [] rs = actor_at n []
 state_given n (p ∷ more) [] = elim (request_of n p.part) [
   | None ↦ state_given n more []
-  | Some q ↦ record { notes = n; left = p ∷ more }
+  | Some q ↦ actor_at n (p ∷ more)
 ]
 state_given n (p ∷ more) (r ∷ rs) = elim (request_of n p.part) [
   | None ↦ state_given n more (r ∷ rs)

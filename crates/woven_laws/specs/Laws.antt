@@ -15,10 +15,10 @@ use Rattle.snap_api.specs.DeskReads.{call_of, reads_of}
 use Rattle.snap_shared.specs.SharedCalls.{own_calls, HasOnlyCallersBelow}
 use Rattle.script_lang.specs.Scripts.{actors_of}
 use Rattle.script_lang.specs.StepCalls.{Notes, ActorPart, no_notes, request_of, notes_after, script_parts, sequential}
-use Rattle.script_lang.specs.Lines.{Titles, Standing, actor_name, lines}
+use Rattle.script_lang.specs.Lines.{Titles, Standing, actor_name, lines, standing_after}
 use Rattle.script_lang.specs.PrintedCalls.{reads_frame, frames_after, printed}
 use Rattle.woven_laws.specs.PrintedHistory.{printed_history, frames_after_calls}
-use Rattle.woven_laws.specs.Woven.{parts_of, AreOf, actor_parts, ActorState, initial_actor, SpellsAll, IsWoven}
+use Rattle.woven_laws.specs.Woven.{parts_of, AreOf, actor_parts, ActorState, actor_at, initial_actor, SpellsAll, IsWoven}
 use Rattle.woven_laws.specs.FirstParts.{IsFirstPart, SpellsTo}
 
 -- The printed calls of a legal history are legal from the same world, and leave the same world.
@@ -30,26 +30,34 @@ PrintedIsLegal {P} rules = (w : World P) (h : History) → IsLegal rules w h →
 abbrev pub PrintedByCaller : Type 0
 PrintedByCaller = (a : ℕ) (h : History) → own_calls a (printed_history h) ≡ printed [] (own_calls a h)
 
--- If each actor's own calls, as printed, are those that its parts make, and no one else calls, then the printed calls of a
--- legal history are legal and woven.
+-- If each actor's own calls, as printed, are those that its parts make, and no one else calls, then the printed calls
+-- of a legal history are legal and woven.
 abbrev pub PrintedIsWoven : {P : Type 0} → Rules P → Type 0
 PrintedIsWoven {P} rules = (n : ℕ) (actors : ℕ → ActorState) (w : World P) (h : History) → IsLegal rules w h →
     ((a : ℕ) → a < n → SpellsAll (actors a) (printed [] (own_calls a h))) → HasOnlyCallersBelow n h →
     IsLegal rules w (printed_history h) × IsWoven n actors (printed_history h)
 
--- A legal history in which each actor has made the calls of a first part of its steps can be continued to a legal and
--- woven one.
-abbrev pub PartIsCompleted : Type 0
-PartIsCompleted = (n : ℕ) (parts : List ActorPart) (w : World BuiltIn) (h : History) → IsLegal table w h →
-    ((a : ℕ) → a < n → IsFirstPart (initial_actor parts a) (own_calls a h)) → HasOnlyCallersBelow n h →
+-- Of each actor below `n` these calls are those of a first part of its steps.
+abbrev pub AreFirstParts : ℕ → List ActorPart → (ℕ → History) → Type 0
+AreFirstParts n parts calls = (a : ℕ) → a < n → IsFirstPart (initial_actor parts a) (calls a)
+
+-- A history can be continued to a legal and woven one.
+abbrev pub CanBeCompleted : ℕ → List ActorPart → World BuiltIn → History → Type 0
+CanBeCompleted n parts w h =
     (more : History) × IsLegal table w (h ++ more) × IsWoven n (initial_actor parts) (h ++ more)
 
--- If each actor's printed calls are those of a first part of its steps, the printed calls of a legal history can be
--- continued to a legal and woven history.
+-- A legal history in which each actor has made the calls of a first part of its steps, and no one else calls, can be
+-- continued to a legal and woven one.
+abbrev pub PartIsCompleted : Type 0
+PartIsCompleted = (n : ℕ) (parts : List ActorPart) (w : World BuiltIn) (h : History) → IsLegal table w h →
+    AreFirstParts n parts (λ a. own_calls a h) → HasOnlyCallersBelow n h → CanBeCompleted n parts w h
+
+-- If each actor's own calls, as printed, are those of a first part of its steps, and no one else calls, then the
+-- printed calls of a legal history can be continued to a legal and woven one.
 abbrev pub PrintedPartIsCompleted : Type 0
 PrintedPartIsCompleted = (n : ℕ) (parts : List ActorPart) (w : World BuiltIn) (h : History) → IsLegal table w h →
-    ((a : ℕ) → a < n → IsFirstPart (initial_actor parts a) (printed [] (own_calls a h))) → HasOnlyCallersBelow n h →
-    (more : History) × IsLegal table w (printed_history h ++ more) × IsWoven n (initial_actor parts) (printed_history h ++ more)
+    AreFirstParts n parts (λ a. printed [] (own_calls a h)) → HasOnlyCallersBelow n h →
+    CanBeCompleted n parts w (printed_history h)
 
 -- A text without a colon (code 58).
 abbrev pub HasNoColon : List ℕ → Type 0
@@ -63,12 +71,19 @@ pub record AreActorNames (n : ℕ) (name : ℕ → List ℕ) : Type 0 where
 
 -- The actors of a script have distinct names.
 abbrev pub ActorNamesAreDistinct : Type 0
-ActorNamesAreDistinct = (forms : List DoForm) (a b : ℕ) → a < length (actors_of forms) → b < length (actors_of forms) →
+ActorNamesAreDistinct = (forms : List DoForm) (a b : ℕ) →
+    a < length (actors_of forms) → b < length (actors_of forms) →
     actor_name (actors_of forms) a ≡ actor_name (actors_of forms) b → a ≡ b
 
 -- The bytes of the lines of a history.
 abbrev pub text_of : Titles → List Func → Standing → History → List ℕ
 text_of t functions s h = flat_map (λ l. l) (lines t functions s h)
+
+-- The bytes of a history that goes on begin with those of its first part.
+abbrev pub TextGoesOn : Type 0
+TextGoesOn = (t : Titles) (functions : List Func) (s : Standing) (h more : History) →
+    text_of t functions s (h ++ more)
+    ≡ text_of t functions s h ++ text_of t functions (standing_after functions s h) more
 
 -- Two histories that are legal and woven of the same actors are equal if their printed bytes are equal.
 abbrev pub LinesTellTheHistory : Type 0
@@ -92,20 +107,20 @@ NothingIsSpelled = (s : ActorState) → SpellsTo s [] s
 
 -- The call of the next part is one call more.
 abbrev pub CallIsSpelled : Type 0
-CallIsSpelled = (before : ActorState) (h : History) (n : Notes) (p : ActorPart) (rest : List ActorPart) (q : Request) (r : Reply) →
-    SpellsTo before h (record { notes = n; left = p ∷ rest }) → request_of n p.part ≡ Some q →
-    SpellsTo before (h ++ record { caller = p.actor; request = q; reply = r } ∷ []) (record { notes = notes_after n p.part r; left = rest })
+CallIsSpelled = (before : ActorState) (h : History) (n : Notes) (p : ActorPart) (rest : List ActorPart)
+    (q : Request) (r : Reply) →
+    SpellsTo before h (actor_at n (p ∷ rest)) → request_of n p.part ≡ Some q →
+    SpellsTo before (h ++ record { caller = p.actor; request = q; reply = r } ∷ [])
+    (actor_at (notes_after n p.part r) rest)
 
 -- A part that makes no call is passed.
 abbrev pub PartIsPassed : Type 0
 PartIsPassed = (before : ActorState) (h : History) (n : Notes) (p : ActorPart) (rest : List ActorPart) →
-    SpellsTo before h (record { notes = n; left = p ∷ rest }) → request_of n p.part ≡ None →
-    SpellsTo before h (record { notes = n; left = rest })
+    SpellsTo before h (actor_at n (p ∷ rest)) → request_of n p.part ≡ None → SpellsTo before h (actor_at n rest)
 
 -- If no part is left, the calls are all that the parts make.
 abbrev pub AllIsSpelled : Type 0
-AllIsSpelled = (before : ActorState) (h : History) (n : Notes) →
-    SpellsTo before h (record { notes = n; left = [] }) → SpellsAll before h
+AllIsSpelled = (before : ActorState) (h : History) (n : Notes) → SpellsTo before h (actor_at n []) → SpellsAll before h
 
 -- A call of a caller is printed if it does not read the snapshot of an open frame.
 abbrev pub CallIsPrinted : Type 0
@@ -115,7 +130,8 @@ CallIsPrinted = (h : History) (e : Entry) → reads_frame (frames_after_calls []
 
 -- Reads of the snapshot of an open frame are not printed, and leave the frames open.
 abbrev pub FrameReadsAreLeftOut : Type 0
-FrameReadsAreLeftOut = (h more : History) (a name : ℕ) (xs : List ℕ) → contains name (frames_after_calls [] h) ≡ true →
+FrameReadsAreLeftOut = (h more : History) (a name : ℕ) (xs : List ℕ) →
+    contains name (frames_after_calls [] h) ≡ true →
     map call_of more ≡ reads_of a name xs →
     (printed [] (h ++ more) ≡ printed [] h) × (frames_after_calls [] (h ++ more) ≡ frames_after_calls [] h)
 

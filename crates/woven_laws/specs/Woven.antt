@@ -16,27 +16,33 @@ actor_of p = p.actor
 abbrev pub parts_of : ℕ → List ActorPart → List ActorPart
 parts_of a parts = calls_by actor_of a parts
 
--- All these parts belong to actor `a`.
+-- `AreOf a parts`: each of the parts belongs to actor `a`.
 abbrev pub AreOf : ℕ → List ActorPart → Type 0
 AreOf a [] = Unit {0}
 AreOf a (p ∷ more) = (p.actor ≡ a) × AreOf a more
 
--- The parts of the steps that a script has for actor `a`, with repeats written out, in the order of the text. `actors` are
--- the actors' names by number.
+-- The parts of the steps that a script has for actor `a`, with repeats written out, in the order of the text. `actors`
+-- are the actors' names by number.
 abbrev pub actor_parts : ℕ → List (List ℕ) → List DoForm → List ActorPart
 actor_parts a actors [] = []
 actor_parts a actors (d ∷ more) =
-    if index_of d.actor.text actors == a then map (of_actor a) (steps_parts (written_out d.steps)) ++ actor_parts a actors more
+    if index_of d.actor.text actors == a
+    then map (of_actor a) (steps_parts (written_out d.steps)) ++ actor_parts a actors more
     else actor_parts a actors more
 
--- What the next calls of an actor depend on: the notes of its own calls so far, and the parts of its steps that are left.
+-- What the next calls of an actor depend on: the notes of its own calls so far, and the parts of its steps that are
+-- left.
 pub record ActorState : Type 0 where
   pub notes : Notes
   pub left : List ActorPart
 
+-- An actor with these notes and parts.
+abbrev pub actor_at : Notes → List ActorPart → ActorState
+actor_at n parts = record { notes = n; left = parts }
+
 -- Each actor before its first step has no notes, and all its parts are left.
 abbrev pub initial_actor : List ActorPart → ℕ → ActorState
-initial_actor parts a = record { notes = no_notes; left = parts_of a parts }
+initial_actor parts a = actor_at no_notes (parts_of a parts)
 
 -- The calls are those that the parts which are left make one after the other, given the replies.
 abbrev pub SpellsAll : ActorState → History → Type 0

@@ -1,5 +1,5 @@
 // Laws of woven histories, and of what is printed of a history.
-ghost use Rattle.woven_laws.specs.Laws.{ActorNamesAreDistinct, LinesTellTheHistory, PartIsCompleted, PrintedByCaller, PrintedIsLegal, PrintedIsWoven, PrintedPartIsCompleted, SequentialIsWoven, WovenIsSequential};
+ghost use Rattle.woven_laws.specs.Laws.{ActorNamesAreDistinct, LinesTellTheHistory, PartIsCompleted, PrintedByCaller, PrintedIsLegal, PrintedIsWoven, PrintedPartIsCompleted, SequentialIsWoven, TextGoesOn, WovenIsSequential};
 
 use snap_policy::Policy;
 
@@ -26,6 +26,11 @@ pub fn part_is_completed()
     ensures printed { PrintedPartIsCompleted }
 {}
 
+/// Law: the printed bytes of a history that goes on begin with those of its first part.
+pub fn text_goes_on()
+    ensures { TextGoesOn }
+{}
+
 /// Law: no two histories that are legal and woven of the same actors have the same printed bytes, if the actors have
 /// distinct names without a colon.
 pub fn lines_tell_the_history()
@@ -37,8 +42,8 @@ pub fn actor_names_are_distinct()
     ensures { ActorNamesAreDistinct }
 {}
 
-/// Law: the sequential history of a single actor is woven, and no other history of this actor is legal and woven. So one
-/// actor on a thread prints what a run in order prints.
+/// Law: the sequential history of a single actor is woven, and no other history of this actor is legal and woven. So
+/// one actor on a thread prints what a run in order prints.
 pub fn one_actor_is_sequential()
     ensures woven { SequentialIsWoven }
     ensures only { WovenIsSequential }
