@@ -79,9 +79,9 @@ parts_are_of_script a actors (d ∷ more) =
     let b = index_of d.actor.text actors in
     calls_by-append actor_of a (map (of_actor b) ps) (script_parts actors more)
     ∙ (λ i. of_one a b ps i ++ parts_are_of_script a actors more i) ∙ into (b == a) (map (of_actor a) ps) (actor_parts a actors more) where
-    into : (c : Bool) (xs ys : List ActorPart) → cond c xs [] ++ ys ≡ cond c (xs ++ ys) ys
-    into true xs ys = refl
-    into false xs ys = refl
+      into : (c : Bool) (xs ys : List ActorPart) → cond c xs [] ++ ys ≡ cond c (xs ++ ys) ys
+      into true xs ys = refl
+      into false xs ys = refl
 
 pub left_is_of : (a : ℕ) (n : Notes) (parts : List ActorPart) (rs : List Reply) → AreOf a parts → AreOf a (state_given n parts rs).left
 left_is_of a n [] rs m = tt

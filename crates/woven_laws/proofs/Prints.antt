@@ -12,7 +12,7 @@ use Rattle.rt_values.specs.Maps.{contains}
 use Rattle.snap_shared.specs.SharedCalls.{own_calls, HasOnlyCallersBelow}
 use Rattle.script_lang.specs.PrintedCalls.{reads_frame, frames_after, printed}
 use Rattle.woven_laws.specs.PrintedHistory.{no_frames, with_frames, printed_from, printed_history, frames_after_calls}
-use Rattle.woven_laws.specs.Woven.{ActorState, SpellsAll}
+use Rattle.woven_laws.specs.Woven.{SpellsAll}
 use Rattle.woven_laws.specs.Laws.{PrintedIsLegal, PrintedByCaller, PrintedIsWoven, CallIsPrinted, FrameReadsAreLeftOut}
 use Rattle.woven_laws.proofs.Lists.{head_or, tail_of}
 
@@ -73,12 +73,12 @@ printed_callers n h others a far = printed_by_caller a h ∙ ap (printed []) (ot
 
 pub printed_is_woven : {P : Type 0} (rules : Rules P) → PrintedIsWoven rules
 printed_is_woven rules n actors w h legal spells others = (
-    (printed_is_legal rules w h legal).0,
-    record {
-      each = λ a below. subst (λ (l : History). SpellsAll (actors a) l) (sym (printed_by_caller a h)) (spells a below);
-      others = printed_callers n h others;
-    },
-  )
+  (printed_is_legal rules w h legal).0,
+  record {
+    each = λ a below. subst (λ (l : History). SpellsAll (actors a) l) (sym (printed_by_caller a h)) (spells a below);
+    others = printed_callers n h others;
+  },
+)
 
 printed-append : (fs : List ℕ) (xs ys : History) → printed fs (xs ++ ys) ≡ printed fs xs ++ printed (frames_after_calls fs xs) ys
 printed-append fs [] ys = refl

@@ -4,14 +4,13 @@ use Rattle.std.proofs.lemmas.Bool.Decides.{eqb_tells}
 use Rattle.snap_policy.specs.declared.policy.BuiltIn.{BuiltIn}
 use Rattle.snap_policy.specs.Table.{table}
 use Rattle.snap_api.specs.World.{World, History, IsLegal, world_after, call}
-use Rattle.snap_shared.specs.SharedCalls.{own_calls, HasOnlyCallersBelow}
-use Rattle.snap_shared.specs.Histories.{calls_by, caller_of}
+use Rattle.snap_shared.specs.SharedCalls.{own_calls}
+use Rattle.snap_shared.specs.Histories.{caller_of}
 use Rattle.snap_shared.proofs.Prefixes.{calls_by-append}
 use Rattle.script_lang.specs.StepCalls.{ActorPart, no_notes, sequential}
 use Rattle.script_lang.proofs.Sequential.{spelled, only}
-use Rattle.script_lang.specs.PrintedCalls.{printed}
 use Rattle.woven_laws.specs.PrintedHistory.{printed_history}
-use Rattle.woven_laws.specs.Woven.{ActorState, initial_actor, parts_of, AreOf, SpellsAll, IsWoven}
+use Rattle.woven_laws.specs.Woven.{ActorState, initial_actor, parts_of, AreOf, SpellsAll}
 use Rattle.woven_laws.specs.FirstParts.{replies_of, state_given, IsFirstPart}
 use Rattle.woven_laws.specs.Laws.{PartIsCompleted, PrintedPartIsCompleted, SequentialIsWoven, WovenIsSequential}
 use Rattle.woven_laws.proofs.Callers.{AreBy, are_by_first, own_calls-mine, own_calls-others, parts_of-mine, parts_are_of, left_is_of, sequential_is_by}
@@ -89,7 +88,7 @@ part_is_completed n parts w h legal firsts others =
       legal_append w h more legal (rests_legal states n 0 after),
       record {
         each = λ a under. subst (λ (l : History). SpellsAll (initial_actor parts a) l) (sym (own_calls-append a h more))
-          (spelled_on no_notes (parts_of a parts) (own_calls a h) (own_calls a more) (firsts a under) (within states own a n 0 after (omega (arith)) (omega (arith, under))));
+            (spelled_on no_notes (parts_of a parts) (own_calls a h) (own_calls a more) (firsts a under) (within states own a n 0 after (omega (arith)) (omega (arith, under))));
         others = λ a far. own_calls-append a h more ∙ ap (λ l. l ++ own_calls a more) (others a far) ∙ above states own a n 0 after (omega (arith, far));
       },
     )
@@ -103,10 +102,10 @@ pub sequential_is_woven : SequentialIsWoven
 sequential_is_woven w parts m =
     let by_it = sequential_is_by 0 w no_notes parts m in record {
       each = λ a under.
-        let none : 0 ≡ a = omega (arith, under) in
-        subst (λ (x : ℕ). SpellsAll (initial_actor parts x) (own_calls x (sequential w no_notes parts))) none
-        (subst (λ (l : History). SpellsAll (initial_actor parts 0) l) (sym (own_calls-mine 0 (sequential w no_notes parts) by_it))
-        (subst (λ (ps : List ActorPart). SpellsAll (record { notes = no_notes; left = ps }) (sequential w no_notes parts)) (sym (parts_of-mine 0 parts m)) (spelled w no_notes parts).1));
+          let none : 0 ≡ a = omega (arith, under) in
+          subst (λ (x : ℕ). SpellsAll (initial_actor parts x) (own_calls x (sequential w no_notes parts))) none
+          (subst (λ (l : History). SpellsAll (initial_actor parts 0) l) (sym (own_calls-mine 0 (sequential w no_notes parts) by_it))
+          (subst (λ (ps : List ActorPart). SpellsAll (record { notes = no_notes; left = ps }) (sequential w no_notes parts)) (sym (parts_of-mine 0 parts m)) (spelled w no_notes parts).1));
       others = λ a far. own_calls-others 0 a (sequential w no_notes parts) (λ e. omega (arith, far, e)) by_it;
     }
 

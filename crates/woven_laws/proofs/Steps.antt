@@ -7,7 +7,7 @@ use Rattle.snap_api.specs.World.{History}
 use Rattle.script_lang.specs.StepCalls.{Notes, ActorPart, request_of, notes_after}
 use Rattle.script_lang.specs.StepLaws.{BeginsWith, Spells}
 use Rattle.woven_laws.specs.Woven.{ActorState, SpellsAll}
-use Rattle.woven_laws.specs.FirstParts.{replies_of, calls_given, state_given, IsFirstPart, SpellsTo}
+use Rattle.woven_laws.specs.FirstParts.{replies_of, calls_given, state_given}
 use Rattle.woven_laws.specs.Laws.{NothingIsSpelled, CallIsSpelled, PartIsPassed, AllIsSpelled}
 use Rattle.woven_laws.proofs.Lists.{head_or, tail_of}
 
@@ -126,13 +126,12 @@ call_is_spelled before h n p rest q r s asks =
     let then : ActorState = state_given before.notes before.left (replies_of h) in
     let here : state_at_part n p rest (Some q) ≡ then = ap (state_at_part n p rest) (sym asks) ∙ s.1 in
     let calls : calls_given then.notes then.left (r ∷ []) ≡ e ∷ [] =
-        ap (λ (a : ActorState). calls_given a.notes a.left (r ∷ [])) (sym here)
-        ∙ ap (λ (o : Option Request). elim o [ None ↦ calls_given n rest (r ∷ []) | Some x ↦ record { caller = p.actor; request = x; reply = r } ∷ calls_given (notes_after n p.part r) rest [] ]) asks
-        ∙ ap (λ l. e ∷ l) (no_calls (notes_after n p.part r) rest) in
+    ap (λ (a : ActorState). calls_given a.notes a.left (r ∷ [])) (sym here)
+    ∙ ap (λ (o : Option Request). elim o [ None ↦ calls_given n rest (r ∷ []) | Some x ↦ record { caller = p.actor; request = x; reply = r } ∷ calls_given (notes_after n p.part r) rest [] ]) asks
+    ∙ ap (λ l. e ∷ l) (no_calls (notes_after n p.part r) rest) in
     let now : state_given then.notes then.left (r ∷ []) ≡ state_given (notes_after n p.part r) rest [] =
-        ap (λ (a : ActorState). state_given a.notes a.left (r ∷ [])) (sym here)
-        ∙ ap (state_after_reply n p rest r []) asks in
-    (
+    ap (λ (a : ActorState). state_given a.notes a.left (r ∷ [])) (sym here)
+    ∙ ap (state_after_reply n p rest r []) asks in (
       (λ i. s.0 i ++ sym calls i) ∙ sym (calls-snoc before.notes before.left (replies_of h) r) ∙ ap (calls_given before.notes before.left) (sym replies),
       sym now ∙ sym (state-snoc before.notes before.left (replies_of h) r) ∙ ap (state_given before.notes before.left) (sym replies),
     )

@@ -1,5 +1,5 @@
 -- The lines of a woven history tell whose call each is, and so the history.
-use Rattle.std.proofs.Common.{◌≡◌, ◌≢◌, ℕ, ◌<◌, ◌≤◌, ◌==◌, Bool, true, false, List, [], ◌∷◌, ◌++◌, codes, refl, sym, ap, ◌∙◌, subst, cond, inl, inr, arith, append_assoc, if◌then◌else◌}
+use Rattle.std.proofs.Common.{◌≡◌, ℕ, ◌<◌, ◌==◌, Bool, true, false, List, [], ◌∷◌, ◌++◌, codes, refl, sym, ap, ◌∙◌, subst, cond, inl, inr, arith, append_assoc, if◌then◌else◌}
 use Rattle.std.proofs.lemmas.Bool.{cases_lt}
 use Rattle.std.proofs.lemmas.Bool.Decides.{eqb_tells}
 use Rattle.std.proofs.lemmas.Grind.{flat_map-append}
@@ -9,11 +9,8 @@ use Rattle.lang_ast.specs.Terms.{Func}
 use Rattle.snap_policy.specs.declared.policy.BuiltIn.{BuiltIn}
 use Rattle.snap_policy.specs.Table.{table}
 use Rattle.snap_api.specs.declared.data.Entry.{Entry}
-use Rattle.snap_api.specs.declared.data.Reply.{Reply}
-use Rattle.snap_api.specs.declared.data.Request.{Request}
 use Rattle.snap_api.specs.World.{World, History, IsLegal, call}
 use Rattle.snap_shared.specs.SharedCalls.{own_calls}
-use Rattle.snap_shared.proofs.OwnCalls.{itself}
 use Rattle.script_lang.specs.Lines.{Titles, Standing, actor_name, request_text, reply_text, lines_at, lines, next, standing_after, ends_frame, frame_lines, frame_at}
 use Rattle.woven_laws.specs.Woven.{ActorState, SpellsAll, IsWoven}
 use Rattle.woven_laws.specs.FirstParts.{state_given}
@@ -63,8 +60,8 @@ module _ (n : ℕ) where
               (subst (λ (l : History). SpellsAll (actors a) l) (own_calls-skip e es a (λ q. other.1 (sym q))) (w.each a h))
         ];
         others = λ a far.
-          let under = within actors e es w in
-          sym (own_calls-skip e es a (λ q. omega (arith, under, far, q))) ∙ w.others a far;
+            let under = within actors e es w in
+            sym (own_calls-skip e es a (λ q. omega (arith, under, far, q))) ∙ w.others a far;
       }
 
   module _ (t : Titles) (functions : List Func) (names : AreActorNames n (actor_name t.actors)) where
@@ -81,8 +78,11 @@ module _ (n : ℕ) where
     front (x ∷ name) a b c d rest = ap (λ l. x ∷ l) (front name a b c d rest)
 
     named : (s : Standing) (e : Entry) (es : History) → (rest : List ℕ) × (text_of t functions s (e ∷ es) ≡ actor_name t.actors e.caller ++ 58 ∷ rest)
-    named s e es = (_, front (actor_name t.actors e.caller) (request_text t.states e.request) (codes " = ") (reply_text t e.reply) (10 ∷ [])
-      (flat_map (λ l. l) ((if ends_frame s.frames e.request then frame_lines (frame_at functions s e) else []) ++ lines t functions (next functions s e) es)))
+    named s e es = (
+      _,
+      front (actor_name t.actors e.caller) (request_text t.states e.request) (codes " = ") (reply_text t e.reply) (10 ∷ [])
+          (flat_map (λ l. l) ((if ends_frame s.frames e.request then frame_lines (frame_at functions s e) else []) ++ lines t functions (next functions s e) es)),
+    )
 
     next_world : (s : Standing) (e : Entry) → (next functions s e).world ≡ (call table s.world e.caller e.request).0
     next_world s e = by (ends_frame s.frames e.request) _ _ refl refl where
@@ -116,11 +116,11 @@ module _ (n : ℕ) where
         let lk' : IsLegal table s.world (x ∷ k) = subst (λ (z : Entry). IsLegal table s.world (z ∷ k)) (sym same) lk in
         let wk' : IsWoven n actors (x ∷ k) = subst (λ (z : Entry). IsWoven n actors (z ∷ k)) (sym same) wk in
         let left : bytes_at s x ++ text_of t functions (next functions s x) h ≡ bytes_at s x ++ text_of t functions (next functions s x) k =
-            sym (text_is s x h) ∙ e ∙ ap (λ (z : Entry). text_of t functions s (z ∷ k)) (sym same) ∙ text_is s x k in
+        sym (text_is s x h) ∙ e ∙ ap (λ (z : Entry). text_of t functions s (z ∷ k)) (sym same) ∙ text_is s x k in
         let more = tells (next functions s x) (next_actors actors x) h k
-            (subst (λ (w : World BuiltIn). IsLegal table w h) (sym (next_world s x)) lh.1)
-            (subst (λ (w : World BuiltIn). IsLegal table w k) (sym (next_world s x)) lk'.1)
-            (later actors x h wh) (later actors x k wk') (append_cancel_left (bytes_at s x) _ _ left) in
+        (subst (λ (w : World BuiltIn). IsLegal table w h) (sym (next_world s x)) lh.1)
+        (subst (λ (w : World BuiltIn). IsLegal table w k) (sym (next_world s x)) lk'.1)
+        (later actors x h wh) (later actors x k wk') (append_cancel_left (bytes_at s x) _ _ left) in
         λ i. same i ∷ more i
 
 pub lines_tell_the_history : LinesTellTheHistory

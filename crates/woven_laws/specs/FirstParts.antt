@@ -1,6 +1,5 @@
 -- Trusted: what it means that an actor has made the calls of a first part of its steps.
 use Rattle.std.specs.Prelude.{◌≡◌, List, [], ◌∷◌, map, Some, None}
-use Rattle.snap_api.specs.declared.data.Entry.{Entry}
 use Rattle.snap_api.specs.declared.data.Reply.{Reply}
 use Rattle.snap_api.specs.World.{History}
 use Rattle.script_lang.specs.StepCalls.{Notes, ActorPart, request_of, notes_after}

@@ -1,6 +1,5 @@
 -- Trusted: which calls of a history of several callers are printed. Each caller's open frames are its own.
-use Rattle.std.specs.Prelude.{ℕ, ◌==◌, List, [], ◌∷◌, ◌++◌, if◌then◌else◌}
-use Rattle.snap_api.specs.declared.data.Entry.{Entry}
+use Rattle.std.specs.Prelude.{ℕ, ◌==◌, List, [], ◌∷◌, if◌then◌else◌}
 use Rattle.snap_api.specs.World.{History}
 use Rattle.script_lang.specs.PrintedCalls.{reads_frame, frames_after}
 
