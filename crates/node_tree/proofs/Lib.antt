@@ -15,3 +15,5 @@ pub mod SiblingNodes
 pub mod SiblingCalls
 pub mod DistinctNodes
 pub mod PlacedLevels
+pub mod SameLevels
+pub mod NodeGroups

@@ -7,3 +7,4 @@ pub mod StoredTree
 pub mod Counting
 pub mod FlatNodes
 pub mod SiblingLists
+pub mod NodeGroups

@@ -57,3 +57,7 @@ abbrev pub OpsTurnTheOldTreeIntoTheNew : Type 0
 OpsTurnTheOldTreeIntoTheNew =
     (old new : Nodes) → Follows old new →
     (tree_after_calls (tree_at_root old) (ops old new) ≡ tree_at_root new) × AllMayCome (tree_at_root old) (ops old new)
+
+-- There is no call between a tree and itself.
+abbrev pub UnchangedTreeNeedsNoCalls : Type 0
+UnchangedTreeNeedsNoCalls = (tree : Nodes) → AreDistinct tree → ops tree tree ≡ []

@@ -1,5 +1,5 @@
 -- Internal: the siblings of a list of nodes in preorder, their numbers, and those that are left.
-use Rattle.std.specs.Prelude.{ℕ, zero, suc, ◌+◌, ◌==◌, List, [], ◌∷◌, ◌++◌, ◌-◌, map, length, min, take, drop, slice_get, slice_set, slice_index_or, Option, Some, None, if◌then◌else◌}
+use Rattle.std.specs.Prelude.{◌≡◌, ℕ, zero, suc, ◌+◌, ◌==◌, List, [], ◌∷◌, ◌++◌, ◌-◌, map, length, min, take, drop, slice_get, slice_set, slice_index_or, Option, Some, None, if◌then◌else◌}
 use Rattle.std.specs.Option.{is_some}
 use Rattle.rt_groups.specs.Nodes.{Nodes, Branch}
 use Rattle.rt_groups.specs.Nodes as nodes
@@ -8,7 +8,7 @@ use Rattle.node_tree.specs.declared.ops.NewNode.{NewNode}
 use Rattle.node_tree.specs.declared.siblings.Sibling.{Sibling}
 use Rattle.node_tree.specs.declared.ops.Op.{Op}
 use Rattle.node_tree.specs.declared.ops.Op.TheVariants as op
-use Rattle.node_tree.specs.NodeTrees.{TreeNode}
+use Rattle.node_tree.specs.NodeTrees.{TreeNode, tree_node}
 use Rattle.node_tree.specs.FlatNodes.{FlatNode, flat_node, flat_nodes}
 use Rattle.node_tree.specs.Counting.{total}
 use Rattle.node_tree.specs.Placing.{move_to}
@@ -108,3 +108,22 @@ abbrev pub nodes_from : ℕ → Nodes → Nodes
 nodes_from zero n = n
 nodes_from (suc i) nodes.None = nodes.None
 nodes_from (suc i) (Branch number kind attributes children rest) = nodes_from i rest
+
+-- Two trees begin with nodes of one number.
+abbrev pub BeginAlike : Nodes → Nodes → Type 0
+BeginAlike nodes.None n = ⊥
+BeginAlike (Branch number kind attributes children rest) nodes.None = ⊥
+BeginAlike (Branch number kind attributes children rest) (Branch number' kind' attributes' children' rest') = number ≡ number'
+
+-- The siblings of two trees have the same numbers in order.
+abbrev pub HaveSameNumbers : Nodes → Nodes → Type 0
+HaveSameNumbers nodes.None nodes.None = Unit {0}
+HaveSameNumbers nodes.None (Branch number kind attributes children rest) = ⊥
+HaveSameNumbers (Branch number kind attributes children rest) nodes.None = ⊥
+HaveSameNumbers (Branch number kind attributes children rest) (Branch number' kind' attributes' children' rest') =
+    (number ≡ number') × HaveSameNumbers rest rest'
+
+-- The first node of a tree.
+abbrev pub first_node : Nodes → Option TreeNode
+first_node nodes.None = None
+first_node (Branch number kind attributes children rest) = Some (tree_node number kind attributes children)

@@ -41,7 +41,10 @@ fn copy_attribute(alloc: Global, attribute: &Attribute) -> Result<Attribute, NoM
 }
 
 // Returns a copy of the attributes.
-fn copy_attributes(alloc: Global, attributes: &[Attribute]) -> Result<NodeAttributes, NoMemory>
+pub(crate) fn copy_attributes(
+    alloc: Global,
+    attributes: &[Attribute],
+) -> Result<NodeAttributes, NoMemory>
     ensures { IfOk result (λ all. all ≡ attributes.now) }
 {
     let mut copied = NodeAttributes::new(alloc);

@@ -13,11 +13,13 @@
 
 mod applier;
 mod carrying;
+mod copies;
 mod counts;
 mod flat;
 mod kept;
 mod laws;
 mod level;
+mod listing;
 mod lists;
 mod ops;
 mod placing;
@@ -27,7 +29,8 @@ mod tree;
 pub use applier::Applier;
 pub use carrying::carry;
 pub use flat::NodeRef;
-pub use laws::ops_turn_the_old_tree_into_the_new;
+pub use laws::{ops_turn_the_old_tree_into_the_new, unchanged_tree_needs_no_calls};
+pub use listing::list_nodes;
 pub use ops::{NewNode, NodeAttributes, Op, Ops};
-pub use placing::place;
+pub use placing::{place, place_anew};
 pub use tree::NodeTree;

@@ -1,15 +1,15 @@
 // The calls that turn one tree of nodes into the next.
-ghost use Rattle.std.specs.Prelude.{◌≡◌, ◌++◌, ◌∷◌, ℕ, List, Option, length, drop, OnOk, IfOk};
+ghost use Rattle.std.specs.Prelude.{◌≡◌, ◌≤◌, ◌<◌, ◌-◌, ◌++◌, ◌∷◌, ℕ, List, Option, length, drop, OnOk, IfOk, IsTrue};
 ghost use Rattle.std.specs.Ordering.{nat_cmp};
 ghost use Rattle.std.specs.BTreeMap.{get as mapped};
-ghost use Rattle.rt_groups.specs.Nodes.{Nodes};
+ghost use Rattle.rt_groups.specs.Nodes.{Nodes, None as no_nodes};
 ghost use Rattle.node_tree.specs.declared.ops.Op.{Op as op_data};
 ghost use Rattle.node_tree.specs.declared.ops.Op.TheVariants as op;
 ghost use Rattle.node_tree.specs.NodeTrees.{TreeNode, node_list};
 ghost use Rattle.node_tree.specs.Placing.{set_calls, sets_since, children_since, calls_inside, ops_between, ops};
 ghost use Rattle.node_tree.specs.Premises.{AreDistinct, ChildrenAreDistinct};
 ghost use Rattle.node_tree.specs.FlatNodes.{FlatNode, flat_nodes};
-ghost use Rattle.node_tree.specs.SiblingLists.{index_in, sibling_calls, flat_before};
+ghost use Rattle.node_tree.specs.SiblingLists.{index_in, sibling_calls, flat_before, first_node, nodes_from, BeginAlike, HaveSameNumbers};
 
 use crate::counts::Counts;
 use crate::flat::NodeRef;
@@ -117,9 +117,88 @@ fn push_inner<'o, 'n>(
     end_inside(start, ops)
 }
 
-// Appends the calls that turn the old nodes of one level, and all inside them, into the new ones.
+// Returns the nodes after the first one and those inside it.
+fn after_first_sibling<'s, 'n>(nodes: &'s [NodeRef<'n>]) -> &'s [NodeRef<'n>]
+    ensures rest { (n : Nodes) → nodes.now ≡ flat_nodes n → result.now ≡ flat_nodes (nodes_from 1 n) }
+    ensures short { length result.now ≤ length nodes.now - 1 }
+{
+    match nodes.first() {
+        Some(node) => part_of_nodes(nodes, node.inner.saturating_add(1), nodes.len()),
+        None => nodes,
+    }
+}
+
+// Returns the first node with those inside it.
+fn first_sibling<'s, 'n>(nodes: &'s [NodeRef<'n>]) -> &'s [NodeRef<'n>]
+    ensures first { (n : Nodes) → nodes.now ≡ flat_nodes n → result.now ≡ flat_before (first_node n) }
+    ensures short { length result.now ≤ length nodes.now }
+{
+    match nodes.first() {
+        Some(node) => part_of_nodes(nodes, 0, node.inner.saturating_add(1)),
+        None => nodes,
+    }
+}
+
+// Returns whether both lists begin with a node, and these nodes have one number.
+fn begin_alike<'o, 'n>(old: &[NodeRef<'o>], new: &[NodeRef<'n>]) -> bool
+    ensures alike { (o n : Nodes) → old.now ≡ flat_nodes o → new.now ≡ flat_nodes n → IsTrue result → BeginAlike o n }
+    ensures some { IsTrue result → 0 < length new.now }
+{
+    let Some((kept, _old_rest)) = old.split_first() else {
+        return false;
+    };
+    let Some((node, _new_rest)) = new.split_first() else {
+        return false;
+    };
+    kept.number == node.number
+}
+
+// Returns whether the siblings of both lists have the same numbers in order.
+fn have_same_numbers<'o, 'n>(old: &[NodeRef<'o>], new: &[NodeRef<'n>]) -> bool
+    ensures { (o n : Nodes) → old.now ≡ flat_nodes o → new.now ≡ flat_nodes n → IsTrue result → HaveSameNumbers o n }
+{
+    let mut before = old;
+    let mut after = new;
+    while begin_alike(before, after) {
+        before = after_first_sibling(before);
+        after = after_first_sibling(after);
+    }
+    before.is_empty() && after.is_empty()
+}
+
+// Appends the calls inside the nodes of a level whose siblings have the numbers of the old ones in order.
 #[cycle(place)]
-fn push_level<'o, 'n>(
+fn push_same_level<'o, 'n>(
+    alloc: Global,
+    old: &[NodeRef<'o>],
+    new: &[NodeRef<'n>],
+    ops: &mut Ops,
+) -> Result<(), NoMemory>
+    ensures { (o n : Nodes) → old.now ≡ flat_nodes o → new.now ≡ flat_nodes n → AreDistinct o → AreDistinct n →
+        HaveSameNumbers o n → OnOk result (ops.new ≡ ops.old ++ ops_between (node_list o) n) }
+{
+    let mut before = old;
+    let mut after = new;
+    let mut index = 0;
+    while !after.is_empty() {
+        push_inner(
+            alloc,
+            index,
+            first_sibling(before),
+            first_sibling(after),
+            ops,
+        )?;
+        before = after_first_sibling(before);
+        after = after_first_sibling(after);
+        index += 1;
+    }
+    Ok(())
+}
+
+// Appends the calls that turn the old nodes of one level, and all inside them, into the new ones, where siblings may be
+// removed, inserted or moved.
+#[cycle(place)]
+fn push_other_level<'o, 'n>(
     alloc: Global,
     old: &[NodeRef<'o>],
     new: &[NodeRef<'n>],
@@ -140,10 +219,28 @@ fn push_level<'o, 'n>(
     Ok(())
 }
 
+// Appends the calls that turn the old nodes of one level, and all inside them, into the new ones.
+#[cycle(place)]
+fn push_level<'o, 'n>(
+    alloc: Global,
+    old: &[NodeRef<'o>],
+    new: &[NodeRef<'n>],
+    ops: &mut Ops,
+) -> Result<(), NoMemory>
+    ensures { (o n : Nodes) → old.now ≡ flat_nodes o → new.now ≡ flat_nodes n → AreDistinct o → AreDistinct n →
+        OnOk result (ops.new ≡ ops.old ++ ops_between (node_list o) n) }
+{
+    if have_same_numbers(old, new) {
+        push_same_level(alloc, old, new, ops)
+    } else {
+        push_other_level(alloc, old, new, ops)
+    }
+}
+
 /// Returns the calls that turn the old tree into the new one. The lists have the nodes of the trees in preorder.
 ///
 /// Nodes are compared by their numbers. A node that keeps its number keeps what is inside it, where only what differs
-/// is changed. Takes time n log n in the number of nodes.
+/// is changed. Takes linear time where siblings keep their order, and else time n log n in their number.
 pub fn place<'o, 'n>(
     alloc: Global,
     old: &[NodeRef<'o>],
@@ -154,5 +251,16 @@ pub fn place<'o, 'n>(
 {
     let mut calls = Ops::new(alloc);
     push_level(alloc, old, new, &mut calls)?;
+    Ok(calls)
+}
+
+/// Returns the calls that remove all nodes that an applier has, and then make the new tree (`Applier.clear`).
+pub fn place_anew<'n>(alloc: Global, new: &[NodeRef<'n>]) -> Result<Ops, NoMemory>
+    ensures { (n : Nodes) → new.now ≡ flat_nodes n → AreDistinct n →
+        IfOk result (λ calls. calls ≡ op.Clear ∷ ops no_nodes n) }
+{
+    let mut calls = Ops::new(alloc);
+    calls.push(Op::Clear)?;
+    push_level(alloc, part_of_nodes(new, 0, 0), new, &mut calls)?;
     Ok(calls)
 }
