@@ -17,3 +17,4 @@ pub mod DistinctNodes
 pub mod PlacedLevels
 pub mod SameLevels
 pub mod NodeGroups
+pub mod Faults
