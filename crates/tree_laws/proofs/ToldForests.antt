@@ -1,0 +1,193 @@
+-- The nodes of a composed forest have the shape that their site tells.
+use Rattle.std.proofs.Common.{ℕ, zero, suc, ℤ, List, [], ◌∷◌, ◌++◌, ◌≡◌, inl, inr, map, Bool, true, false, ◌||◌, Some, None, refl, ap, sym, ◌∙◌, subst, if◌then◌else◌}
+use Rattle.std.specs.List.{list_any}
+use Rattle.std.specs.Str.{bytes_eq}
+use Rattle.rt_values.specs.declared.value.Value.{Value}
+use Rattle.rt_values.specs.declared.value.Value.TheVariants as value
+use Rattle.rt_values.specs.Operators.{is_true, items_of}
+use Rattle.rt_values.specs.Maps.{Map}
+use Rattle.rt_groups.specs.GroupForest.{GroupForest, End, Read, Group, GroupKind, Attribute, joined_forest, reads_then}
+use Rattle.rt_groups.specs.GroupForest as trail
+use Rattle.lang_ast.specs.Terms.{Named, Stmt, Node, Call, Key, If, For, Let, Remember, Stmts, done, next, Func}
+use Rattle.lang_ast.specs.Programs.{Program}
+use Rattle.lang_ast.specs.ResultsWithReads.{Reading}
+use Rattle.lang_ast.specs.Evaluation.{Bindings, new_binding, eval, eval_all, eval_named}
+use Rattle.lang_checks.specs.Numbers.{IsNumberedProgram}
+use Rattle.lang_checks.specs.ProgramFaults.{program_faults}
+use Rattle.compose_model.specs.Composing.{Meaning, attribute, forest_after, turns, bind, run, run_all, meaning, meaning_at, meanings_from, forest}
+use Rattle.recompose_laws.specs.Numbering.{without_numbers}
+use Rattle.recompose_laws.specs.Distinct.{NodesAt, SiteTells, SitesTell, FunctionsTell}
+use Rattle.recompose_laws.proofs.Sites.{nodes_are_at_node_sites}
+use Rattle.node_tree.specs.Calls.{has_attribute}
+use Rattle.node_tree.specs.Premises.{HaveDistinctNames, names_of}
+use Rattle.tree_laws.specs.FollowingTrees.{WasComposed}
+use Rattle.tree_laws.proofs.StatementSites.{Shape, Told, texts, AreApart, IsTold, AreTold, FunctionsAreTold, look_up, functions_are_told, none_at_root}
+
+-- Whether a site tells a node.
+abbrev pub tells_node : Told → Bool
+tells_node None = false
+tells_node (Some None) = false
+tells_node (Some (Some shape)) = true
+
+abbrev pub at_node : (ℕ → Told) → ℕ → Bool
+at_node look site = tells_node (look site)
+
+mutual
+  site_tells : (look : ℕ → Told) (s : Stmt) → IsTold look s → SiteTells (at_node look) s
+  site_tells look (Node at site kind attributes body) h = (sym (ap tells_node h.0), sites_tell look body h.2)
+  site_tells look (Call at site name function arguments) h = sym (ap tells_node h)
+  site_tells look (Key at site key body) h = (sym (ap tells_node h.0), sites_tell look body h.1)
+  site_tells look (If at site condition a b) h = (sites_tell look a h.0, sites_tell look b h.1)
+  site_tells look (For at site name list body) h = sites_tell look body h
+  site_tells look (Let at site name value body) h = sites_tell look body h
+  site_tells look (Remember at site name keys value body) h = (sym (ap tells_node h.0), sites_tell look body h.1)
+
+  sites_tell : (look : ℕ → Told) (ss : Stmts) → AreTold look ss → SitesTell (at_node look) ss
+  sites_tell look done h = tt
+  sites_tell look (next s ss) h = (site_tells look s h.0, sites_tell look ss h.1)
+
+functions_tell : (look : ℕ → Told) (fs : List Func) → FunctionsAreTold look fs → FunctionsTell (at_node look) fs
+functions_tell look [] h = tt
+functions_tell look (f ∷ fs) h = (sites_tell look f.body h.0, functions_tell look fs h.1)
+
+-- The shape of a node.
+abbrev pub shape_of : List ℕ → List Attribute → Shape
+shape_of kind attributes = record { kind = kind; names = names_of attributes }
+
+-- A node has the shape that its site tells, and its attributes have distinct names.
+abbrev pub HasShape : (ℕ → Told) → ℕ → GroupKind → Type 0
+HasShape look site (trail.Call f vs) = Unit {0}
+HasShape look site (trail.Node kind attributes) = (look site ≡ Some (Some (shape_of kind attributes))) × HaveDistinctNames attributes
+HasShape look site (trail.Key v) = Unit {0}
+HasShape look site (trail.Cell ks v) = Unit {0}
+
+abbrev pub HaveShapes : (ℕ → Told) → GroupForest → Type 0
+HaveShapes look End = Unit {0}
+HaveShapes look (Read x rest) = HaveShapes look rest
+HaveShapes look (Group site n what inside rest) = HasShape look site what × HaveShapes look inside × HaveShapes look rest
+
+-- The attributes of a node that a statement makes.
+
+names_made : (m : Map) (ns : List Named) (env : Bindings) → names_of (map attribute (eval_named m ns env).value) ≡ texts ns
+names_made m [] env = refl
+names_made m (n ∷ ns) env = ap (λ l. n.name.text ∷ l) (names_made m ns env)
+
+any_name : (name : List ℕ) (attributes : List Attribute) → has_attribute name attributes ≡ list_any (λ m. bytes_eq m name) (names_of attributes)
+any_name name [] = refl
+any_name name (a ∷ rest) = ap (λ b. bytes_eq a.name name || b) (any_name name rest)
+
+distinct_names : (attributes : List Attribute) → AreApart (names_of attributes) → HaveDistinctNames attributes
+distinct_names [] h = tt
+distinct_names (a ∷ rest) h = (any_name a.name rest ∙ h.0, distinct_names rest h.1)
+
+made_shape : (look : ℕ → Told) (site : ℕ) (kind : List ℕ) (ns : List Named) (attributes : List Attribute) → names_of attributes ≡ texts ns → look site ≡ Some (Some (record { kind = kind; names = texts ns })) → AreApart (texts ns)
+    → (look site ≡ Some (Some (shape_of kind attributes))) × HaveDistinctNames attributes
+made_shape look site kind ns attributes same told apart = (
+  told ∙ ap (λ (l : List (List ℕ)). Some (Some (record { kind = kind; names = l }))) (sym same),
+  distinct_names attributes (subst (λ (l : List (List ℕ)). AreApart l) (sym same) apart),
+)
+
+-- Composing.
+
+module _ (look : ℕ → Told) where
+  reads_shaped : (xs : List ℕ) (t : GroupForest) → HaveShapes look t → HaveShapes look (reads_then xs t)
+  reads_shaped [] t h = h
+  reads_shaped (x ∷ xs) t h = reads_shaped xs t h
+
+  after_shaped : {A : Type 0} (r : Reading A) (go : A → GroupForest) → HaveShapes look (go r.value) → HaveShapes look (forest_after r go)
+  unfolding forest_after
+  after_shaped r go h = reads_shaped r.reads (go r.value) h
+
+  joined_shaped : (t u : GroupForest) → HaveShapes look t → HaveShapes look u → HaveShapes look (joined_forest t u)
+  joined_shaped End u f g = g
+  joined_shaped (Read x rest) u f g = joined_shaped rest u f g
+  joined_shaped (Group site n what inside rest) u f g = (f.0, f.1, joined_shaped rest u f.2 g)
+
+  turns_shaped : (go : ℤ → GroupForest) (is : List ℤ) → ((i : ℤ) → HaveShapes look (go i)) → HaveShapes look (turns go is)
+  unfolding turns
+  turns_shaped go [] h = tt
+  turns_shaped go (i ∷ is) h = joined_shaped (go i) (turns go is) (h i) (turns_shaped go is h)
+
+  choice_shaped : (c : Bool) (x y : GroupForest) → HaveShapes look x → HaveShapes look y → HaveShapes look (if c then x else y)
+  choice_shaped true x y f g = f
+  choice_shaped false x y f g = g
+
+  abbrev AllShaped : List Meaning → Type 0
+  AllShaped fs = (n : ℕ) (vs : List Value) → HaveShapes look (meaning_at fs n vs)
+
+  mutual
+    run_shaped : (m : Map) (fs : List Meaning) (s : Stmt) (env : Bindings) → AllShaped fs → IsTold look s → HaveShapes look (run m fs s env)
+    run_shaped m fs (Node at site kind attributes body) env calls h =
+        after_shaped (eval_named m attributes env) _
+        (made_shape look site kind.text attributes (map attribute (eval_named m attributes env).value) (names_made m attributes env) h.0 h.1, body_shaped m fs body env calls h.2, tt)
+    run_shaped m fs (Call at site name function arguments) env calls h =
+        after_shaped (eval_all m arguments env) _ (tt, calls function (eval_all m arguments env).value, tt)
+    run_shaped m fs (Key at site key body) env calls h = after_shaped (eval m key env) _ (tt, body_shaped m fs body env calls h.1, tt)
+    run_shaped m fs (If at site condition then_branch else_branch) env calls h =
+        after_shaped (eval m condition env) _ (choice_shaped (is_true (eval m condition env).value) (run_all m fs then_branch env) (run_all m fs else_branch env)
+        (body_shaped m fs then_branch env calls h.0) (body_shaped m fs else_branch env calls h.1))
+    run_shaped m fs (For at site name list body) env calls h =
+        after_shaped (eval m list env) _ (turns_shaped (λ i. run_all m fs body (env ++ new_binding name.text (value.Int i) ∷ [])) (items_of (eval m list env).value)
+        (λ i. body_shaped m fs body (env ++ new_binding name.text (value.Int i) ∷ []) calls h))
+    run_shaped m fs (Let at site name e body) env calls h =
+        after_shaped (eval m e env) _ (body_shaped m fs body (env ++ new_binding name.text (eval m e env).value ∷ []) calls h)
+    run_shaped m fs (Remember at site name keys e body) env calls h =
+        after_shaped (eval_named m keys env) _ (after_shaped (eval m e (eval_named m keys env).value) _
+        (tt, tt, body_shaped m fs body (env ++ new_binding name.text (eval m e (eval_named m keys env).value).value ∷ []) calls h.1))
+
+    body_shaped : (m : Map) (fs : List Meaning) (body : Stmts) (env : Bindings) → AllShaped fs → AreTold look body → HaveShapes look (run_all m fs body env)
+    body_shaped m fs done env calls h = tt
+    body_shaped m fs (next s ss) env calls h = joined_shaped (run m fs s env) (run_all m fs ss env) (run_shaped m fs s env calls h.0) (body_shaped m fs ss env calls h.1)
+
+  behind_shaped : (fs : List Meaning) (f : Meaning) → AllShaped fs → ((vs : List Value) → HaveShapes look (f vs)) → AllShaped (fs ++ f ∷ [])
+  behind_shaped [] f calls h zero vs = h vs
+  behind_shaped [] f calls h (suc n) vs = tt
+  behind_shaped (g ∷ fs) f calls h zero vs = calls 0 vs
+  behind_shaped (g ∷ fs) f calls h (suc n) vs = behind_shaped fs f (λ k ws. calls (suc k) ws) h n vs
+
+  from_shaped : (m : Map) (fs : List Meaning) (functions : List Func) → AllShaped fs → FunctionsAreTold look functions → AllShaped (meanings_from m fs functions)
+  from_shaped m fs [] calls h = calls
+  from_shaped m fs (f ∷ more) calls h =
+      from_shaped m (fs ++ meaning m fs f ∷ []) more (behind_shaped fs (meaning m fs f) calls (λ vs. body_shaped m fs f.body (bind f.parameters vs) calls h.0)) h.1
+
+  forest_shaped : (functions : List Func) (root : ℕ) (m : Map) → FunctionsAreTold look functions → HaveShapes look (forest functions root m)
+  forest_shaped functions root m h = (tt, from_shaped m [] functions (λ n vs. tt) h root [], tt)
+
+  -- Node numbers change neither shapes nor sites.
+  shaped_anyway : (t : GroupForest) → HaveShapes look (without_numbers t) → HaveShapes look t
+  shaped_anyway End h = tt
+  shaped_anyway (Read x rest) h = shaped_anyway rest h
+  shaped_anyway (Group site n what inside rest) h = (h.0, shaped_anyway inside h.1, shaped_anyway rest h.2)
+
+at_anyway : (at_site : ℕ → Bool) (t : GroupForest) → NodesAt at_site (without_numbers t) → NodesAt at_site t
+at_anyway at_site End h = tt
+at_anyway at_site (Read x rest) h = at_anyway at_site rest h
+at_anyway at_site (Group site n what inside rest) h = (h.0, at_anyway at_site inside h.1, at_anyway at_site rest h.2)
+
+-- A composed forest has its nodes at the sites of its node statements, each with the shape of the statement.
+pub record IsShaped (look : ℕ → Told) (t : GroupForest) : Type 0 where
+  pub sites : NodesAt (at_node look) t
+  pub shapes : HaveShapes look t
+
+root_is_no_node : (p : Program) → IsNumberedProgram p → false ≡ at_node (look_up p.functions) 0
+root_is_no_node p h = by (look_up p.functions 0) refl
+  where
+    by : (o : Told) → look_up p.functions 0 ≡ o → false ≡ tells_node o
+    by None e = refl
+    by (Some v) e = absurd (none_at_root p v h e)
+
+pub composed_at_sites : (p : Program) (root : ℕ) (m : Map) → IsNumberedProgram p → program_faults p ≡ [] → NodesAt (at_node (look_up p.functions)) (forest p.functions root m)
+composed_at_sites p root m h e =
+    nodes_are_at_node_sites (at_node (look_up p.functions)) p.functions root m (root_is_no_node p h) (functions_tell (look_up p.functions) p.functions (functions_are_told p h e))
+
+pub composed_is_shaped : (p : Program) (root : ℕ) (m : Map) (t : GroupForest) → IsNumberedProgram p → program_faults p ≡ [] → without_numbers t ≡ forest p.functions root m → IsShaped (look_up p.functions) t
+composed_is_shaped p root m t h e same =
+    let told = functions_are_told p h e in
+    record {
+      sites = at_anyway (at_node (look_up p.functions)) t (subst (λ (u : GroupForest). NodesAt (at_node (look_up p.functions)) u) (sym same) (composed_at_sites p root m h e));
+      shapes = shaped_anyway (look_up p.functions) t (subst (λ (u : GroupForest). HaveShapes (look_up p.functions) u) (sym same) (forest_shaped (look_up p.functions) p.functions root m told));
+    }
+
+pub kept_is_shaped : (p : Program) (root : ℕ) (t : GroupForest) → IsNumberedProgram p → program_faults p ≡ [] → WasComposed p.functions root t → IsShaped (look_up p.functions) t
+kept_is_shaped p root t h e (inl none) = subst (λ (u : GroupForest). IsShaped (look_up p.functions) u) (sym none) (record { sites = tt; shapes = tt })
+kept_is_shaped p root t h e (inr made) = composed_is_shaped p root made.0 t h e made.1

@@ -1,0 +1,13 @@
+// Laws of the node trees of frames.
+ghost use Rattle.tree_laws.specs.FollowingTrees.{KeptTreeIsDistinct, NextTreeCanFollow};
+
+/// Law: in a node tree whose numbers are unique, siblings have distinct numbers at every level.
+pub fn kept_tree_is_distinct()
+    ensures { KeptTreeIsDistinct }
+{}
+
+/// Law: the node tree of a frame of a checked program can follow the kept one, and its numbers are unique. A rule of this
+/// project.
+pub fn next_tree_can_follow()
+    ensures { NextTreeCanFollow }
+{}
