@@ -56,6 +56,16 @@ impl Held {
         self.table = draft.table;
         self.next = draft.next;
     }
+
+    /// Keeps no groups after a frame whose applier failed. Node numbers go on after those of that frame. Takes no memory.
+    /// A rule of this project.
+    pub fn detach(&mut self, alloc: Global, draft: Draft)
+        ensures groups { self.new.groups ≡ [] }
+        ensures next { self.new.next ≡ draft.next }
+    {
+        self.table = Table::new(alloc);
+        self.next = draft.next;
+    }
 }
 
 /// A frame that is composed and not yet applied.
@@ -84,6 +94,13 @@ impl Draft {
             next,
             report,
         }
+    }
+
+    /// Returns the groups of the frame.
+    pub fn table(&self) -> &Table
+        ensures { result.now.groups ≡ self.now.groups }
+    {
+        &self.table
     }
 
     /// Returns the report of the frame.

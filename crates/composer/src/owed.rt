@@ -49,6 +49,13 @@ impl Owed {
         set_marks(&mut self.marks, objects);
     }
 
+    /// Owes every object, as before the first frame. The marks stay.
+    pub fn owe_all(&mut self)
+        ensures { self.new ≡ record { all = true; objects = self.old.objects; states = self.old.states } }
+    {
+        self.all = true;
+    }
+
     /// Removes all marks. Afterwards nothing is owed.
     #[tactic(auto, using(crate::proofs::Marks::no_marks, crate::proofs::Marks::count_marks))]
     pub fn clear(&mut self)
