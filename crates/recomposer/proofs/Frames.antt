@@ -1,7 +1,7 @@
 -- What a frame leaves.
-use Rattle.std.proofs.Common.{◌≡◌, ℕ, ◌-◌, ◌^◌, ◌++◌, ◌==◌, ◌<◌, ◌≤◌, ◌&&◌, List, [], ◌∷◌, length, refl, sym, ap, ◌∙◌, subst, Bool, true, false, not, Option, Some, None, Result, Ok, Err, OnOk, OnErr, min, cond, le-leb, append-nil, arith}
+use Rattle.std.proofs.Common.{Bor, ◌≡◌, ℕ, ◌-◌, ◌^◌, ◌++◌, ◌==◌, ◌<◌, ◌≤◌, ◌&&◌, List, [], ◌∷◌, length, refl, sym, ap, ◌∙◌, subst, Bool, true, false, not, Option, Some, None, Result, Ok, Err, OnOk, OnErr, nat_lt, min, cond, le-leb, append-nil, arith}
 use Rattle.std.proofs.lemmas.Bool.{eqb-true, lt-leb}
-use Rattle.std.specs.Option.{option_map}
+use Rattle.std.specs.Option.{option_map, is_none}
 use Rattle.rt_values.specs.Maps.{Map, differ, contains}
 use Rattle.rt_values.specs.Views.{Grew}
 use Rattle.rt_groups.specs.declared.report.Report.{Report}
@@ -15,9 +15,21 @@ use Rattle.recompose_laws.specs.Idle.{unchanged_report}
 use Rattle.recompose_laws.proofs.Idles.{idle_frame, kept_is_numbered}
 use Rattle.recompose_laws.proofs.Plain.{kept_trail_is_the_forest}
 use Rattle.composer.specs.OwedObjects.{OwedObjects}
-use Rattle.composer.specs.FrameDrafts.{DraftGroups, IsOwing, IsFrameDraft, functions_of, root_of}
+use Rattle.composer.specs.FrameDrafts.{DraftGroups, HeldGroups, Holds, IsOwing, IsFrameDraft, functions_of, root_of}
+use Rattle.rt_groups.specs.Nodes.{nodes}
+use Rattle.rt_groups.specs.Nodes as tree
+use Rattle.node_tree.specs.declared.ops.Op.{Op}
+use Rattle.node_tree.specs.declared.ops.Op.TheVariants as op
+use Rattle.node_tree.specs.NodeTrees.{CursorTree}
+use Rattle.node_tree.specs.Calls.{AllMayCome, BecomesAfter}
+use Rattle.node_tree.specs.Placing.{ops}
+use Rattle.node_tree.specs.Premises.{Follows}
+use Rattle.snap_api.specs.declared.data.Entry.{Entry}
 use Rattle.recomposer.specs.declared.composition.Composition.{Composition}
-use Rattle.recomposer.specs.Compositions.{IsKept, Owes, IsAt, kept_after, frame_reads, MakesFrame}
+use Rattle.recomposer.specs.declared.composition.FrameStop.{FrameStop}
+use Rattle.recomposer.specs.AppliedFrames.{is_detached, Mirrors, ops_of, frame_ops, kept_after_fault, Applies}
+use Rattle.recomposer.specs.Compositions.{IsKept, Owes, IsAt, kept_after, frame_reads, MakesFrame, MakesNoFrame, LogsNoFrame}
+use Rattle.recomposer.proofs.Applied.{next_follows, nothing_is_kept, anew_ops, usual_ops, applied, applied_nothing, Turn, frame_turns}
 use Rattle.recomposer.proofs.Owings.{owes_nothing, owing, same_below}
 use Rattle.recomposer.proofs.Reports.{owed_report, owed_reads}
 use Rattle.recomposer.proofs.StateReads.{kept_below}
@@ -56,7 +68,7 @@ module _ (p : Checked) (k : LastFrame) (m : Map) where
       ap Some (is ∙ owed_report p k.seen k.trail m owed (forest (functions_of p) (root_of p) m) owes)
       ∙ sym (ap (option_map (λ (g : FrameResult). g.told)) (good_is few))
 
-  abbrev new_trail : GroupForest
+  abbrev pub new_trail : GroupForest
   new_trail = (numbered_forest k.trail [] [] k.next (forest (functions_of p) (root_of p) m)).0
 
   same_groups : how_many new_trail ≡ how_many (forest (functions_of p) (root_of p) m)
@@ -80,10 +92,36 @@ finished_at c c' k m d h few draft program held_groups held_next groups nodes ow
       holds = (held_groups ∙ draft.groups, held_next ∙ draft.next);
       owes = subst (λ (q : Checked). Owes q (Some m) left.trail (Some m) c'.owed) (sym same)
           (owes_nothing p m left.trail c'.owed (ap (λ (o : OwedObjects). o.all) owed) (ap (λ (o : OwedObjects). o.objects) owed) kept);
+      numbers = (next_follows p k (Some m) m c.owed h.owes h.numbers).1;
       states = ap (λ (o : OwedObjects). o.states) owed ∙ h.states ∙ ap (λ (q : Checked). length q.states.items) (sym same);
       groups = groups ∙ ap (λ (r : Report). r.groups) draft.report ∙ sym (same_groups p k m);
       nodes = nodes ∙ ap (λ (r : Report). r.nodes) draft.report ∙ sym (same_nodes p k m);
     })
+
+-- The composition after a frame whose applier failed.
+pub detached_at : (c c' : Composition) (k : LastFrame) (m : Map) (d : DraftGroups) → IsAt c k (Some m) → how_many (forest (functions_of c.program.now) (root_of c.program.now) m) ≤ most_groups →
+    IsFrameDraft (functions_of c.program.now) (root_of c.program.now) c.owed k m d → c'.program ≡ c.program → c'.held.groups ≡ [] → c'.held.next ≡ d.next → c'.groups ≡ 0 → c'.nodes ≡ 0 →
+    c'.owed ≡ record { all = true; objects = c.owed.objects; states = c.owed.states } → IsAt c' (kept_after_fault k (frame (functions_of c.program.now) k m)) (Some m)
+detached_at c c' k m d h few draft program held_groups held_next groups nodes owed =
+    subst (λ (o : Option FrameResult). IsAt c' (kept_after_fault k o) (Some m)) (sym (good_is c.program.now k m few)) (record {
+      holds = (held_groups, held_next ∙ draft.next);
+      owes = (refl, ap (λ (o : OwedObjects). o.all) owed);
+      numbers = λ x. (omega arith, λ above. refl);
+      states = ap (λ (o : OwedObjects). o.states) owed ∙ h.states ∙ ap (λ (q : Bor Checked). length q.now.states.items) (sym program);
+      groups = groups;
+      nodes = nodes;
+    })
+
+-- A composition with the same parts, except for the calls of its last frame.
+pub same_at : (c c' : Composition) (k : LastFrame) (l : Option Map) → c'.program ≡ c.program → c'.held ≡ c.held → c'.owed ≡ c.owed → c'.groups ≡ c.groups → c'.nodes ≡ c.nodes → IsAt c k l → IsAt c' k l
+same_at c c' k l program held owed groups nodes h = record {
+  holds = subst (λ (x : HeldGroups). Holds x k) (sym held) h.holds;
+  owes = subst (λ (x : OwedObjects). Owes c'.program.now k.seen k.trail l x) (sym owed) (subst (λ (q : Bor Checked). Owes q.now k.seen k.trail l c.owed) (sym program) h.owes);
+  numbers = h.numbers;
+  states = ap (λ (x : OwedObjects). x.states) owed ∙ h.states ∙ ap (λ (q : Bor Checked). length q.now.states.items) (sym program);
+  groups = groups ∙ h.groups;
+  nodes = nodes ∙ h.nodes;
+}
 
 -- What a frame owes.
 pub owing_at : (c : Composition) (k : LastFrame) (m : Map) → IsAt c k (Some m) → IsOwing (functions_of c.program.now) (root_of c.program.now) k.seen k.trail m c.owed
@@ -154,6 +192,7 @@ module _ (c : Composition) (k : LastFrame) (m : Map) (h : IsAt c k (Some m)) (al
   idle_at = subst (λ (o : Option FrameResult). IsAt c (kept_after k o) (Some m)) (sym idle.is) (record {
     holds = h.holds;
     owes = owes_nothing c.program.now m k.trail c.owed all none idle.kept;
+    numbers = h.numbers;
     states = h.states;
     groups = h.groups;
     nodes = h.nodes;
@@ -185,5 +224,52 @@ grew_in_all (Ok d) asked asked' last all same whole part = record { rest = []; i
 grew_in_all (Err e) asked asked' last all same whole part = subst (λ l. Grew asked l all) (sym same) part
 
 -- A frame that was made of the same program.
-pub made_frame : (p p' : Checked) (k : LastFrame) (at_frame : LastFrame → Option Map → Type 0) (last : Option Map → Type 0) (does : List ℕ → Type 0) (told : Report) → p' ≡ p → MakesFrame p' k at_frame last does told → MakesFrame p k at_frame last does told
-made_frame p p' k at_frame last does told same made = subst (λ (q : Checked). MakesFrame q k at_frame last does told) same made
+pub made_frame : (p p' : Checked) (k : LastFrame) (at_frame : LastFrame → Option Map → Type 0) (last : Option Map → Type 0) (does : List ℕ → Type 0) (applies : Option FrameResult → Type 0) (told : Report) → p' ≡ p → MakesFrame p' k at_frame last does applies told → MakesFrame p k at_frame last does applies told
+made_frame p p' k at_frame last does applies told same made = subst (λ (q : Checked). MakesFrame q k at_frame last does applies told) same made
+
+-- A frame of the same program that was not made.
+pub made_no_frame : (p p' : Checked) (k : LastFrame) (at_frame : LastFrame → Option Map → Type 0) (last : Option Map → Type 0) (old new : Option (List Entry)) (caller watcher : ℕ) (stop : FrameStop) → p' ≡ p →
+    MakesNoFrame p' k at_frame last (LogsNoFrame p' k old new caller watcher) stop → MakesNoFrame p k at_frame last (LogsNoFrame p k old new caller watcher) stop
+made_no_frame p p' k at_frame last old new caller watcher stop same made = subst (λ (q : Checked). MakesNoFrame q k at_frame last (LogsNoFrame q k old new caller watcher) stop) same made
+
+-- The calls of a frame.
+
+-- The new tree can follow the kept one.
+pub tree_follows : (c : Composition) (k : LastFrame) (m : Map) → IsAt c k (Some m) → Follows (nodes k.trail) (nodes (new_trail c.program.now k m))
+tree_follows c k m h = (next_follows c.program.now k (Some m) m c.owed h.owes h.numbers).0
+
+pub none_kept : (c : Composition) (k : LastFrame) (l : Option Map) → IsAt c k l → is_detached k ≡ true → k.trail ≡ End
+none_kept c k l h e = nothing_is_kept c.program.now k l c.owed h.owes e
+
+-- The calls of a composed frame, from the lists of nodes.
+module _ (c : Composition) (k : LastFrame) (m : Map) (d : DraftGroups) (h : IsAt c k (Some m)) (few : how_many (forest (functions_of c.program.now) (root_of c.program.now) m) ≤ most_groups) where
+  pub calls_are : frame_ops k (new_trail c.program.now k m) ≡ ops_of k (frame (functions_of c.program.now) k m)
+  calls_are = ap (λ (o : Option FrameResult). ops_of k o) (sym (good_is c.program.now k m few))
+
+  pub calls_anew : is_detached k ≡ true → op.Clear ∷ ops tree.None (nodes (new_trail c.program.now k m)) ≡ ops_of k (frame (functions_of c.program.now) k m)
+  calls_anew e = anew_ops k (new_trail c.program.now k m) e (none_kept c k (Some m) h e) ∙ calls_are
+
+  pub calls_usual : is_detached k ≡ false → ops (nodes k.trail) (nodes (new_trail c.program.now k m)) ≡ ops_of k (frame (functions_of c.program.now) k m)
+  calls_usual e = usual_ops k (new_trail c.program.now k m) e ∙ calls_are
+
+  -- The calls may be made.
+  pub calls_may : (calls : List Op) (t : CursorTree) → calls ≡ ops_of k (frame (functions_of c.program.now) k m) → Mirrors (Some t) k → AllMayCome t calls
+  calls_may calls t is mirrors =
+      subst (λ (l : List Op). AllMayCome t l) (sym (is ∙ sym calls_are)) (frame_turns k (new_trail c.program.now k m) t (tree_follows c k m h) (none_kept c k (Some m) h) mirrors).1
+
+  -- The calls were made.
+  pub frame_applies : (before mid now : Option CursorTree) (made calls : List Op) → mid ≡ before → BecomesAfter mid now calls → calls ≡ made → made ≡ ops_of k (frame (functions_of c.program.now) k m) →
+      Applies before now made k (frame (functions_of c.program.now) k m)
+  frame_applies before mid now made calls same becomes is made_is =
+      subst (λ (o : Option FrameResult). Applies before now made k o) (sym (good_is c.program.now k m few))
+      (applied before mid now made calls k (good_frame k m (forest (functions_of c.program.now) (root_of c.program.now) m)) same becomes is (made_is ∙ sym calls_are) (tree_follows c k m h) (none_kept c k (Some m) h))
+
+-- A frame that owes nothing makes no calls.
+pub idle_applies : (c : Composition) (k : LastFrame) (m : Map) → IsAt c k (Some m) → c.owed.all ≡ false → c.owed.objects ≡ [] → (now : Option CursorTree) → Applies now now [] k (frame (functions_of c.program.now) k m)
+idle_applies c k m h all none now =
+    subst (λ (o : Option FrameResult). Applies now now [] k o) (sym (idle c k m h all none).is)
+    (applied_nothing now k (record { left = record { seen = Some m; trail = k.trail; next = k.next }; told = unchanged_report k.trail }) h.numbers (attached k.seen h.owes) refl)
+  where
+    attached : (seen : Option Map) → Owes c.program.now seen k.trail (Some m) c.owed → (is_none seen && nat_lt 1 k.next) ≡ false
+    attached None o = absurd (let e : true ≡ false = sym o.1 ∙ all in cc)
+    attached (Some s) o = refl

@@ -10,6 +10,7 @@ use Rattle.compose_model.specs.Frame.{FrameResult, frame}
 use Rattle.lang_checks.specs.declared.checks.Checked.{Checked}
 use Rattle.recompose_laws.specs.Numbering.{without_numbers}
 use Rattle.recompose_laws.specs.Idle.{IsNumbered}
+use Rattle.recompose_laws.specs.Distinct.{AreDistinct}
 use Rattle.snap_policy.specs.Rules.{Rules}
 use Rattle.snap_api.specs.Calls.{Logs}
 use Rattle.snap_api.specs.Desks.{Follows}
@@ -25,7 +26,8 @@ use Rattle.composer.specs.OwedObjects.{OwedObjects}
 use Rattle.composer.specs.FrameDrafts.{Holds, functions_of, root_of}
 use Rattle.recomposer.specs.declared.composition.Composition.{Composition}
 use Rattle.recomposer.specs.declared.composition.FrameStop.{FrameStop}
-use Rattle.recomposer.specs.declared.composition.FrameStop.TheVariants.{TooManyGroups, Spent, NoMemory}
+use Rattle.recomposer.specs.declared.composition.FrameStop.TheVariants.{TooManyGroups, ApplierFault, Spent, NoMemory}
+use Rattle.recomposer.specs.AppliedFrames.{kept_after_fault}
 
 -- The kept forest is that of composing in the map `seen`, it has few enough groups, and only nodes have numbers.
 pub record IsKept (p : Checked) (seen : Map) (trail : GroupForest) : Type 0 where
@@ -43,11 +45,12 @@ Owes p (Some seen) trail (Some last) owed =
     × ((x : ℕ) → x < length p.states.items → contains x owed.objects ≡ contains x (differ (Some seen) last))
     × IsKept p seen trail
 
--- The composition has kept the state `k` of the last good frame: its groups, the next node number, and what is owed. `last`
--- is the watcher's last map.
+-- The composition has kept the state `k` of the last good frame: its groups, whose nodes have distinct numbers, the next node
+-- number, and what is owed. `last` is the watcher's last map.
 pub record IsAt (c : Composition) (k : LastFrame) (last : Option Map) : Type 0 where
   pub holds : Holds c.held k
   pub owes : Owes c.program.now k.seen k.trail last c.owed
+  pub numbers : AreDistinct k.trail k.next
   pub states : c.owed.states ≡ length c.program.now.states.items
   pub groups : c.groups ≡ how_many k.trail
   pub nodes : c.nodes ≡ how_many_nodes k.trail
@@ -57,19 +60,30 @@ abbrev pub kept_after : LastFrame → Option FrameResult → LastFrame
 kept_after k None = k
 kept_after k (Some good) = good.left
 
+-- What is kept after a frame that was refused, where `last` is the watcher's last map: the same, except after a fault of the
+-- applier.
+abbrev pub kept_after_stop : Checked → LastFrame → Option Map → FrameStop → LastFrame
+kept_after_stop p k None stop = k
+kept_after_stop p k (Some m) ApplierFault = kept_after_fault k (frame (functions_of p) k m)
+kept_after_stop p k (Some m) TooManyGroups = k
+kept_after_stop p k (Some m) Spent = k
+kept_after_stop p k (Some m) NoMemory = k
+
 -- No frame begins if the clock `k` is at its limit, and the clock is at its limit if the frame stops as `Spent`. A frame with
--- too many groups has begun.
+-- too many groups or with a fault of the applier has begun.
 abbrev pub StopsAtEnd : (ℕ → Type 0) → ℕ → {U : Type 0} → Result U FrameStop → Type 0
 StopsAtEnd clock k (Ok u) = k ≡ clock_limit → ⊥
 StopsAtEnd clock k (Err Spent) = clock clock_limit
 StopsAtEnd clock k (Err NoMemory) = Unit {0}
 StopsAtEnd clock k (Err TooManyGroups) = k ≡ clock_limit → ⊥
+StopsAtEnd clock k (Err ApplierFault) = k ≡ clock_limit → ⊥
 
 -- The reply of the take of a frame that did not begin.
 abbrev pub refused_take : FrameStop → Reply
 refused_take Spent = reply.Refused refusal.Spent
 refused_take NoMemory = reply.Refused refusal.NoMemory
 refused_take TooManyGroups = reply.Refused refusal.NoMemory
+refused_take ApplierFault = reply.Refused refusal.NoMemory
 
 -- The reads of a frame: those of the calls that run.
 abbrev pub frame_reads : Checked → LastFrame → Map → List ℕ
@@ -170,24 +184,27 @@ LogsNoFrame p k old new caller watcher stop last =
     ⊎ ((m : Map) × (last ≡ Some m) × PartOfFrame old new caller watcher (frame_reads p k m))
 
 -- A frame was made in the map `map` after the kept state `k`: `at_frame` and `last` say what is kept and which map is the
--- watcher's last one, `told` is the report, and `does` says what the frame's reads did.
+-- watcher's last one, `told` is the report, `does` says what the frame's reads did, and `applies` what the applier did.
 pub record MakesFrame (p : Checked) (k : LastFrame) (at_frame : LastFrame → Option Map → Type 0) (last : Option Map → Type 0)
-    (does : List ℕ → Type 0) (told : Report) : Type 0 where
+    (does : List ℕ → Type 0) (applies : Option FrameResult → Type 0) (told : Report) : Type 0 where
   pub map : Map
   pub is_at : at_frame (kept_after k (frame (functions_of p) k map)) (Some map)
   pub is_last : last (Some map)
   pub told_is : Some told ≡ option_map (λ g. g.told) (frame (functions_of p) k map)
   pub done : does (frame_reads p k map)
+  pub applied : applies (frame (functions_of p) k map)
 
--- A frame was not made: the kept state stays, and what changed up to the watcher's last map is owed. `logs` says what the
--- log is then. If there are too many groups, the frame of that map has no result.
-pub record MakesNoFrame (p : Checked) (k : LastFrame) (at_map : Option Map → Type 0) (last : Option Map → Type 0)
+-- A frame was not made: the kept state stays, except after a fault of the applier, and what changed up to the watcher's last
+-- map is owed. `logs` says what the log is then. If there are too many groups, the frame of that map has no result. A frame
+-- with a fault of the applier has begun.
+pub record MakesNoFrame (p : Checked) (k : LastFrame) (at_frame : LastFrame → Option Map → Type 0) (last : Option Map → Type 0)
     (logs : FrameStop → Option Map → Type 0) (stop : FrameStop) : Type 0 where
   pub map : Option Map
-  pub is_at : at_map map
+  pub is_at : at_frame (kept_after_stop p k map stop) map
   pub is_last : last map
   pub log_is : logs stop map
   pub many : stop ≡ TooManyGroups → (m : Map) × (map ≡ Some m) × (frame (functions_of p) k m ≡ None)
+  pub fault : stop ≡ ApplierFault → (m : Map) × (map ≡ Some m)
 
 -- The world after a frame: after its take and its dispose. The reads change no world.
 abbrev pub world_of_frame : {P : Type 0} → Rules P → World P → ℕ → ℕ → World P

@@ -1,2 +1,3 @@
+pub mod AppliedFrames
 pub mod Compositions
 pub mod Composed

@@ -1,5 +1,5 @@
 // A composition of one program, frame by frame.
-ghost use Rattle.std.specs.Prelude.{◌≡◌, ◌<◌, ◌++◌, ℕ, List, Option, Some, None, Err, IfOk, IfErr, OnOk, OnErr};
+ghost use Rattle.std.specs.Prelude.{◌≡◌, ◌≤◌, ◌<◌, ◌++◌, [], ℕ, List, Option, Some, None, Ok, Err, IfOk, IfErr, OnOk, OnErr};
 ghost use Rattle.std.specs.Option.{option_map};
 ghost use Rattle.rt_values.specs.Maps.{Map, differ};
 ghost use Rattle.rt_values.specs.Views.{Grew};
@@ -11,11 +11,14 @@ ghost use Rattle.composer.specs.FrameDrafts.{functions_of};
 ghost use Rattle.snap_api.specs.Calls.{Calls, Logs};
 ghost use Rattle.snap_api.specs.Desks.{FollowsLast};
 ghost use Rattle.snap_api.specs.World.{World};
+ghost use Rattle.node_tree.specs.Calls.{insert_count};
+ghost use Rattle.recomposer.specs.AppliedFrames.{is_detached, MayCall, Applies, UnlessFault, FaultHasCause, OwesNothing, kept_after_fault, ops_of};
 ghost use Rattle.recomposer.specs.Composed.{IsComposed};
 ghost use Rattle.recomposer.specs.Compositions.{IsAt, StopsAtEnd, refused_take, kept_after, frame_reads, BeginsFrame, EndsFrame, EndsPart, ClosesFrame, GrowsFor, MakesFrame, MakesNoFrame, MakesReads, LogsFrame, LogsNoFrame, world_of_frame};
 
 use composer::{ComposeStop, Draft, Held, Owed, compose};
 use lang_checks::Checked;
+use node_tree::{Applier, Ops, carry, list_nodes, place, place_anew};
 use rt_groups::Report;
 use rt_values::{Name, NoMemory, ObjectNo, Objects, Steps, View, WatcherNo};
 use slot_table::Table;
@@ -36,6 +39,9 @@ pub struct Begun {
 pub enum FrameStop {
     /// The composition would have more than 1,000,000 groups.
     TooManyGroups,
+    /// A call on the applier failed. The composition has kept nothing then: the next frame clears the applier's tree and
+    /// makes all nodes again, with new numbers.
+    ApplierFault,
     /// The world's clock is at its limit.
     Spent,
     /// Out of memory.
@@ -46,6 +52,7 @@ pub enum FrameStop {
 fn frame_stop(stop: ComposeStop) -> FrameStop
     ensures many { result ≡ FrameStop.TooManyGroups → stop ≡ ComposeStop.TooManyGroups }
     ensures not_spent { result ≡ FrameStop.Spent → ⊥ }
+    ensures no_fault { result ≡ FrameStop.ApplierFault → ⊥ }
 {
     match stop {
         ComposeStop::TooManyGroups => FrameStop::TooManyGroups,
@@ -53,14 +60,15 @@ fn frame_stop(stop: ComposeStop) -> FrameStop
     }
 }
 
-/// A composition of one program (`CompositionImpl` with what `Recomposer` knows of it): the groups of the last good frame,
-/// and what is owed since then. It takes its snapshots as a watcher.
+/// A composition of one program (`CompositionImpl` with what `Recomposer` knows of it): the groups of the last good frame
+/// with the calls that it made on the applier, and what is owed since then. It takes its snapshots as a watcher.
 #[derive(Drop)]
 pub struct Composition<'p> {
     program: &'p Checked,
     watcher: WatcherNo,
     held: Held,
     owed: Owed,
+    ops: Ops,
     // The numbers of groups and of nodes of the last good frame.
     groups: u64,
     nodes: u64,
@@ -72,6 +80,7 @@ impl<'p> Composition<'p> {
         ensures before { (l : Option Map) → IfOk result (λ c. IsAt c no_last_frame l) }
         ensures program { IfOk result (λ c. c.program.now ≡ program.now) }
         ensures watcher { IfOk result (λ c. c.watcher ≡ watcher) }
+        ensures ops { IfOk result (λ c. c.ops ≡ []) }
     {
         let owed = Owed::new(alloc, program.states().len())?;
         Ok(Composition {
@@ -79,6 +88,7 @@ impl<'p> Composition<'p> {
             watcher,
             held: Held::new(alloc),
             owed,
+            ops: Ops::new(alloc),
             groups: 0,
             nodes: 0,
         })
@@ -98,6 +108,13 @@ impl<'p> Composition<'p> {
         self.held.next()
     }
 
+    /// Returns the calls on the applier that the last good frame made, or none before a good frame (`ChangeList`).
+    pub fn ops(&self) -> &Ops
+        ensures { result.now ≡ self.now.ops }
+    {
+        &self.ops
+    }
+
     /// Marks the states that changed since the watcher's last map as owed (`recordModificationsOf`). For callers that
     /// take and dispose the snapshot themselves: `changed` has the objects that the take for the watcher listed.
     pub fn note(&mut self, changed: &[ObjectNo])
@@ -105,6 +122,7 @@ impl<'p> Composition<'p> {
             changed.now ≡ differ l m → IsAt self.new k (Some m) }
         ensures program { self.new.program ≡ self.old.program }
         ensures watcher { self.new.watcher ≡ self.old.watcher }
+        ensures ops { self.new.ops ≡ self.old.ops }
     {
         self.owed.mark(changed);
     }
@@ -127,8 +145,10 @@ impl<'p> Composition<'p> {
             × Logs (D.log desk.old) (D.log desk.new) (D.caller desk.old)
             (Request.TakeFor self.old.watcher) (refused_take stop)) }
         ensures few { result ≡ Err FrameStop.TooManyGroups → ⊥ }
+        ensures no_fault { result ≡ Err FrameStop.ApplierFault → ⊥ }
         ensures program { self.new.program ≡ self.old.program }
         ensures watcher { self.new.watcher ≡ self.old.watcher }
+        ensures ops { self.new.ops ≡ self.old.ops }
         ensures name { IfOk result (λ b. D.opened desk.new ≡ Some b.name) }
         ensures world { IfOk result (λ b. Calls D.P.rules (D.behind desk.old) (D.behind desk.new) (D.caller desk.old)
             (Request.TakeFor self.old.watcher) (Reply.TakenFor b.name b.changed)) }
@@ -180,6 +200,7 @@ impl<'p> Composition<'p> {
             OnOk result (V.asked view.new ≡ V.asked view.old ++ frame_reads self.now.program.now k m) }
         ensures part { (k : LastFrame) (m : Map) → IsAt self.now k (Some m) → V.shows view.old m →
             OnErr result (Grew (V.asked view.old) (V.asked view.new) (frame_reads self.now.program.now k m)) }
+        ensures idle { OwesNothing self.now → (result ≡ Ok None) × (view.new ≡ view.old) × (steps.new ≡ steps.old) }
     {
         if self.owed.is_nothing() {
             return Ok(None);
@@ -190,39 +211,157 @@ impl<'p> Composition<'p> {
         }
     }
 
-    // Keeps the groups of a good frame, and returns its report. Without a draft the frame owed nothing, and all groups stay.
-    // Nothing is owed then.
-    fn keep(&mut self, composed: Option<Draft>) -> Report
+    // Returns whether an applier failed in an earlier frame, so that nothing is kept though nodes had numbers.
+    fn is_detached(&self) -> bool
+        ensures { (k : LastFrame) (l : Option Map) → IsAt self.now k l → result ≡ is_detached k }
+    {
+        self.owed.is_all() && self.held.next() > 1
+    }
+
+    // Lists the calls on the applier that turn the kept node tree into that of the draft.
+    fn list_calls(&self, alloc: Global, draft: &Draft) -> Result<Ops, NoMemory>
+        ensures { (k : LastFrame) (m : Map) → IsAt self.now k (Some m) → IsComposed self.now k m (Some draft.now) →
+            IfOk result (λ ops. ops ≡ ops_of k (frame_of (functions_of self.now.program.now) k m)) }
+    {
+        let new = list_nodes(alloc, draft.table())?;
+        if self.is_detached() {
+            return place_anew(alloc, &new);
+        }
+        let old = list_nodes(alloc, self.held.table())?;
+        place(alloc, &old, &new)
+    }
+
+    // Takes all memory for the change of the applier's tree: lists the calls on it, twice because the applier takes them by
+    // value, and reserves its nodes.
+    fn prepare<A: Applier>(
+        &self,
+        alloc: Global,
+        draft: &Draft,
+        applier: &mut A,
+    ) -> Result<(Ops, Ops), NoMemory>
+        ensures calls { (k : LastFrame) (m : Map) → IsAt self.now k (Some m) → IsComposed self.now k m (Some draft.now) →
+            IfOk result (λ r. r.0 ≡ ops_of k (frame_of (functions_of self.now.program.now) k m)) }
+        ensures same { IfOk result (λ r. r.1 ≡ r.0) }
+        ensures room { IfOk result (λ r. insert_count r.1 ≤ A.spare applier.new) }
+        ensures tree { A.tree applier.new ≡ A.tree applier.old }
+        ensures faults { A.faults applier.new ≡ A.faults applier.old }
+    {
+        let ops = self.list_calls(alloc, draft)?;
+        let calls = ops.copy(alloc)?;
+        applier.reserve(alloc, &calls)?;
+        Ok((ops, calls))
+    }
+
+    // Keeps the groups of a composed frame and the calls that it made on the applier. Nothing is owed then. Returns the
+    // report.
+    fn keep(&mut self, draft: Draft, ops: Ops) -> Report
         ensures program { self.new.program ≡ self.old.program }
         ensures watcher { self.new.watcher ≡ self.old.watcher }
-        ensures good { (k : LastFrame) (m : Map) → IsAt self.old k (Some m) → IsComposed self.old k m composed →
+        ensures ops { self.new.ops ≡ ops }
+        ensures good { (k : LastFrame) (m : Map) → IsAt self.old k (Some m) → IsComposed self.old k m (Some draft) →
             IsAt self.new (kept_after k (frame_of (functions_of self.old.program.now) k m)) (Some m) }
-        ensures report { (k : LastFrame) (m : Map) → IsAt self.old k (Some m) → IsComposed self.old k m composed →
+        ensures report { (k : LastFrame) (m : Map) → IsAt self.old k (Some m) → IsComposed self.old k m (Some draft) →
             Some result ≡ option_map (λ g. g.told) (frame_of (functions_of self.old.program.now) k m) }
     {
-        let Some(draft) = composed else {
-            return self.idle_report();
-        };
         let report = draft.report();
         self.held.apply(draft);
+        self.ops = ops;
         self.groups = report.groups;
         self.nodes = report.nodes;
         self.owed.clear();
         report
     }
 
-    /// Composes what the frame owes in the open snapshot that the view shows, and keeps the new groups (`recompose`,
-    /// `applyChanges`). For callers that take and dispose the snapshot themselves. A frame that owes nothing composes
-    /// nothing.
+    // Keeps nothing of the frame whose applier failed, except that the numbers of its nodes are used. Everything is owed.
+    fn detach(&mut self, alloc: Global, draft: Draft)
+        ensures program { self.new.program ≡ self.old.program }
+        ensures watcher { self.new.watcher ≡ self.old.watcher }
+        ensures ops { self.new.ops ≡ self.old.ops }
+        ensures fault { (k : LastFrame) (m : Map) → IsAt self.old k (Some m) → IsComposed self.old k m (Some draft) →
+            IsAt self.new (kept_after_fault k (frame_of (functions_of self.old.program.now) k m)) (Some m) }
+    {
+        self.held.detach(alloc, draft);
+        self.owed.owe_all();
+        self.groups = 0;
+        self.nodes = 0;
+    }
+
+    // Keeps a frame that owed nothing: all groups stay, and no call was made on the applier.
+    fn keep_idle(&mut self, alloc: Global) -> Report
+        ensures program { self.new.program ≡ self.old.program }
+        ensures watcher { self.new.watcher ≡ self.old.watcher }
+        ensures ops { self.new.ops ≡ [] }
+        ensures good { (k : LastFrame) (m : Map) → IsAt self.old k (Some m) → OwesNothing self.old →
+            IsAt self.new (kept_after k (frame_of (functions_of self.old.program.now) k m)) (Some m) }
+        ensures report { (k : LastFrame) (m : Map) → IsAt self.old k (Some m) → OwesNothing self.old →
+            Some result ≡ option_map (λ g. g.told) (frame_of (functions_of self.old.program.now) k m) }
+    {
+        self.ops = Ops::new(alloc);
+        self.idle_report()
+    }
+
+    // Applies a frame that is composed: takes all memory, makes the calls on the applier, and then keeps the groups
+    // (`applyChanges`). Without a draft the frame owed nothing.
+    fn apply<A: Applier>(
+        &mut self,
+        alloc: Global,
+        composed: Option<Draft>,
+        applier: &mut A,
+    ) -> Result<Report, FrameStop>
+        requires tree { MayCall (A.tree applier.old)
+            (λ k. (m : Map) × IsAt self.old k (Some m) × IsComposed self.old k m composed) }
+        ensures good { (k : LastFrame) (m : Map) → IsAt self.old k (Some m) → IsComposed self.old k m composed →
+            OnOk result (IsAt self.new (kept_after k (frame_of (functions_of self.old.program.now) k m)) (Some m)) }
+        ensures report { (k : LastFrame) (m : Map) → IsAt self.old k (Some m) → IsComposed self.old k m composed →
+            IfOk result (λ r. Some r ≡ option_map (λ g. g.told) (frame_of (functions_of self.old.program.now) k m)) }
+        ensures applied { (k : LastFrame) (m : Map) → IsAt self.old k (Some m) → IsComposed self.old k m composed →
+            OnOk result (Applies (A.tree applier.old) (A.tree applier.new) self.new.ops k
+            (frame_of (functions_of self.old.program.now) k m)) }
+        ensures fault { (k : LastFrame) (m : Map) → IsAt self.old k (Some m) → IsComposed self.old k m composed →
+            result ≡ Err FrameStop.ApplierFault →
+            IsAt self.new (kept_after_fault k (frame_of (functions_of self.old.program.now) k m)) (Some m) }
+        ensures err { UnlessFault (self.new ≡ self.old) result }
+        ensures still { UnlessFault (A.tree applier.new ≡ A.tree applier.old) result }
+        ensures cause { FaultHasCause (A.faults applier.old) (A.faults applier.new) result }
+        ensures lent { OnErr result (self.new.ops ≡ self.old.ops) }
+        ensures idle { composed ≡ None → (applier.new ≡ applier.old) × OnOk result (self.new.ops ≡ []) }
+        ensures few { result ≡ Err FrameStop.TooManyGroups → ⊥ }
+        ensures not_spent { result ≡ Err FrameStop.Spent → ⊥ }
+        ensures program { self.new.program ≡ self.old.program }
+        ensures watcher { self.new.watcher ≡ self.old.watcher }
+    {
+        let Some(draft) = composed else {
+            return Ok(self.keep_idle(alloc));
+        };
+        let Ok((ops, calls)) = self.prepare(alloc, &draft, applier) else {
+            return Err(FrameStop::NoMemory);
+        };
+        match carry(applier, calls) {
+            Ok(()) => Ok(self.keep(draft, ops)),
+            Err(_) => {
+                self.detach(alloc, draft);
+                Err(FrameStop::ApplierFault)
+            }
+        }
+    }
+
+    /// Composes what the frame owes in the open snapshot that the view shows, changes the applier's tree, and keeps the new
+    /// groups (`recompose`, `applyChanges`). For callers that take and dispose the snapshot themselves. A frame that owes
+    /// nothing composes nothing and does not call the applier. All memory is taken before the first call on the applier.
     ///
     /// Fails with `TooManyGroups` exactly if the program makes more than 1,000,000 groups in the snapshot, or out of
-    /// memory. The composition is then unchanged, and what is owed stays owed.
-    pub fn recompose<V: View, L: Ledger>(
+    /// memory. The composition and the applier's tree are then unchanged, and what is owed stays owed. Fails with
+    /// `ApplierFault` only if a call on the applier failed. Nothing is kept then except the number of the next new node,
+    /// and the next frame clears the applier's tree and makes all nodes again.
+    pub fn recompose<V: View, A: Applier, L: Ledger>(
         &mut self,
         alloc: Global,
         view: &mut V,
+        applier: &mut A,
         steps: &mut Steps<L>,
     ) -> Result<Report, FrameStop>
+        requires tree { MayCall (A.tree applier.old)
+            (λ k. (m : Map) × IsAt self.old k (Some m) × V.shows view.old m) }
         ensures keeps { V.keeps view.old view.new }
         ensures same { (m : Map) → V.shows view.old m → V.shows view.new m }
         ensures good { (k : LastFrame) (m : Map) → IsAt self.old k (Some m) → V.shows view.old m →
@@ -231,7 +370,18 @@ impl<'p> Composition<'p> {
             IfOk result (λ r. Some r ≡ option_map (λ g. g.told) (frame_of (functions_of self.old.program.now) k m)) }
         ensures many { (k : LastFrame) (m : Map) → IsAt self.old k (Some m) → V.shows view.old m →
             result ≡ Err FrameStop.TooManyGroups → frame_of (functions_of self.old.program.now) k m ≡ None }
-        ensures err { OnErr result (self.new ≡ self.old) }
+        ensures applied { (k : LastFrame) (m : Map) → IsAt self.old k (Some m) → V.shows view.old m →
+            OnOk result (Applies (A.tree applier.old) (A.tree applier.new) self.new.ops k
+            (frame_of (functions_of self.old.program.now) k m)) }
+        ensures fault { (k : LastFrame) (m : Map) → IsAt self.old k (Some m) → V.shows view.old m →
+            result ≡ Err FrameStop.ApplierFault →
+            IsAt self.new (kept_after_fault k (frame_of (functions_of self.old.program.now) k m)) (Some m) }
+        ensures err { UnlessFault (self.new ≡ self.old) result }
+        ensures still { UnlessFault (A.tree applier.new ≡ A.tree applier.old) result }
+        ensures cause { FaultHasCause (A.faults applier.old) (A.faults applier.new) result }
+        ensures lent { OnErr result (self.new.ops ≡ self.old.ops) }
+        ensures idle { OwesNothing self.old → (applier.new ≡ applier.old) × (view.new ≡ view.old)
+            × (steps.new ≡ steps.old) × OnOk result (self.new.ops ≡ []) }
         ensures program { self.new.program ≡ self.old.program }
         ensures watcher { self.new.watcher ≡ self.old.watcher }
         ensures asks { (k : LastFrame) (m : Map) → IsAt self.old k (Some m) → V.shows view.old m →
@@ -240,32 +390,46 @@ impl<'p> Composition<'p> {
             OnErr result (Grew (V.asked view.old) (V.asked view.new) (frame_reads self.old.program.now k m)) }
     {
         match self.compose_owed(alloc, view, steps) {
-            Ok(draft) => Ok(self.keep(draft)),
+            Ok(composed) => self.apply(alloc, composed, applier),
             Err(stop) => Err(frame_stop(stop)),
         }
     }
 
-    /// Ends a frame that has begun: composes the program in the frame's snapshot, keeps the new groups, and disposes the
-    /// snapshot (`recompose`, `applyChanges`). A frame that owes nothing composes nothing. The snapshot is disposed after
-    /// a failure too.
+    /// Ends a frame that has begun: composes the program in the frame's snapshot, disposes the snapshot, changes the applier's
+    /// tree, and keeps the new groups (`recompose`, `applyChanges`). A frame that owes nothing composes nothing and does not
+    /// call the applier. All memory is taken before the first call on the applier. The snapshot is disposed after a failure
+    /// too.
     ///
-    /// Fails with `TooManyGroups` exactly if the program makes more than 1,000,000 groups in the snapshot, or out of
-    /// memory. The composition is then unchanged, and what is owed stays owed.
-    pub fn finish<D: Desk, L: Ledger>(
+    /// Fails like `recompose`.
+    pub fn finish<D: Desk, A: Applier, L: Ledger>(
         &mut self,
         alloc: Global,
         begun: Begun,
         desk: &mut D,
+        applier: &mut A,
         steps: &mut Steps<L>,
     ) -> Result<Report, FrameStop>
-        requires { D.opened desk.old ≡ Some begun.name }
+        requires opened { D.opened desk.old ≡ Some begun.name }
+        requires tree { MayCall (A.tree applier.old)
+            (λ k. (m : Map) × IsAt self.old k (Some m) × D.shows desk.old m) }
         ensures good { (k : LastFrame) (m : Map) → IsAt self.old k (Some m) → D.shows desk.old m →
             OnOk result (IsAt self.new (kept_after k (frame_of (functions_of self.old.program.now) k m)) (Some m)) }
         ensures report { (k : LastFrame) (m : Map) → IsAt self.old k (Some m) → D.shows desk.old m →
             IfOk result (λ r. Some r ≡ option_map (λ g. g.told) (frame_of (functions_of self.old.program.now) k m)) }
         ensures many { (k : LastFrame) (m : Map) → IsAt self.old k (Some m) → D.shows desk.old m →
             result ≡ Err FrameStop.TooManyGroups → frame_of (functions_of self.old.program.now) k m ≡ None }
-        ensures err { OnErr result (self.new ≡ self.old) }
+        ensures applied { (k : LastFrame) (m : Map) → IsAt self.old k (Some m) → D.shows desk.old m →
+            OnOk result (Applies (A.tree applier.old) (A.tree applier.new) self.new.ops k
+            (frame_of (functions_of self.old.program.now) k m)) }
+        ensures fault { (k : LastFrame) (m : Map) → IsAt self.old k (Some m) → D.shows desk.old m →
+            result ≡ Err FrameStop.ApplierFault →
+            IsAt self.new (kept_after_fault k (frame_of (functions_of self.old.program.now) k m)) (Some m) }
+        ensures err { UnlessFault (self.new ≡ self.old) result }
+        ensures still { UnlessFault (A.tree applier.new ≡ A.tree applier.old) result }
+        ensures cause { FaultHasCause (A.faults applier.old) (A.faults applier.new) result }
+        ensures lent { OnErr result (self.new.ops ≡ self.old.ops) }
+        ensures idle { OwesNothing self.old → (applier.new ≡ applier.old) × (D.asked desk.new ≡ D.asked desk.old)
+            × (steps.new ≡ steps.old) × OnOk result (self.new.ops ≡ []) }
         ensures program { self.new.program ≡ self.old.program }
         ensures watcher { self.new.watcher ≡ self.old.watcher }
         ensures asks { (k : LastFrame) (m : Map) → IsAt self.old k (Some m) → D.shows desk.old m →
@@ -296,31 +460,39 @@ impl<'p> Composition<'p> {
             return Err(FrameStop::NoMemory); // The shown snapshot is always disposed.
         };
         match composed {
-            Ok(draft) => Ok(self.keep(draft)),
+            Ok(draft) => self.apply(alloc, draft, applier),
             Err(stop) => Err(frame_stop(stop)),
         }
     }
 
     /// Makes a frame: begins it and ends it (`recompose`).
     ///
-    /// Fails like `begin` and `finish`, with `Spent` exactly if the world's clock is at its limit. What is kept stays then,
-    /// and what is owed stays owed.
-    pub fn frame<D: Desk, L: Ledger>(
+    /// Fails like `begin` and `finish`, with `Spent` exactly if the world's clock is at its limit. What is kept stays then
+    /// except after `ApplierFault`, and what is owed stays owed. An applier that knows its tree needs a desk on which no one
+    /// else takes for the watcher, as one over a borrowed world.
+    pub fn frame<D: Desk, A: Applier, L: Ledger>(
         &mut self,
         alloc: Global,
         desk: &mut D,
+        applier: &mut A,
         steps: &mut Steps<L>,
     ) -> Result<Report, FrameStop>
+        requires tree { MayCall (A.tree applier.old) (λ k. (types : List Ty) × (l : Option Map) × IsAt self.old k l
+            × D.last desk.old self.old.watcher types l × ((d : D) → D.alone d self.old.watcher)) }
         ensures good { (k : LastFrame) (types : List Ty) (l : Option Map) → IsAt self.old k l →
             D.last desk.old self.old.watcher types l → D.alone desk.new self.old.watcher →
             IfOk result (MakesFrame self.old.program.now k (IsAt self.new) (D.last desk.new self.old.watcher types)
             (λ xs. (D.asked desk.new ≡ D.asked desk.old ++ xs)
-            × LogsFrame (D.log desk.old) (D.log desk.new) (D.caller desk.old) self.old.watcher xs)) }
+            × LogsFrame (D.log desk.old) (D.log desk.new) (D.caller desk.old) self.old.watcher xs)
+            (λ good. Applies (A.tree applier.old) (A.tree applier.new) self.new.ops k good)) }
         ensures err { (k : LastFrame) (types : List Ty) (l : Option Map) → IsAt self.old k l →
             D.last desk.old self.old.watcher types l → D.alone desk.new self.old.watcher →
-            IfErr result (MakesNoFrame self.old.program.now k (IsAt self.new k) (D.last desk.new self.old.watcher types)
+            IfErr result (MakesNoFrame self.old.program.now k (IsAt self.new) (D.last desk.new self.old.watcher types)
             (LogsNoFrame self.old.program.now k (D.log desk.old) (D.log desk.new) (D.caller desk.old) self.old.watcher)) }
         ensures spent { (k : ℕ) → D.clock desk.old k → StopsAtEnd (D.clock desk.new) k result }
+        ensures still { UnlessFault (A.tree applier.new ≡ A.tree applier.old) result }
+        ensures cause { FaultHasCause (A.faults applier.old) (A.faults applier.new) result }
+        ensures lent { OnErr result (self.new.ops ≡ self.old.ops) }
         ensures log { OnOk result (MakesReads (D.asked desk.old) (D.asked desk.new) (D.log desk.old) (D.log desk.new)
             (D.caller desk.old) self.old.watcher) }
         ensures draws { GrowsFor self.old.watcher (D.log desk.old) (D.log desk.new) }
@@ -337,7 +509,7 @@ impl<'p> Composition<'p> {
             Ok(begun) => begun,
             Err(stop) => return Err(stop),
         };
-        match self.finish(alloc, begun, desk, steps) {
+        match self.finish(alloc, begun, desk, applier, steps) {
             Ok(report) => Ok(report),
             Err(stop) => Err(stop),
         }

@@ -1,6 +1,7 @@
-use Rattle.std.proofs.Common.{rules, sym, ◌≡◌, ◌++◌, ◌∙◌, refl, ap, Err}
+use Rattle.std.proofs.Common.{rules, sym, ◌≡◌, ◌++◌, ◌∙◌, refl, ap, Err, true, false}
 use Rattle.composer.specs.declared.stop.ComposeStop.TheVariants.{TooManyGroups}
 use Rattle.recomposer.proofs.Frames.{all_of, none_of, owing_at, refused_is, reads_at, part_at, idle_asks}
+use Rattle.recomposer.proofs.Applied.{is_nothing_owed}
 use Rattle.recomposer.proofs.composition.Composition.compose_owed.Goals as goal
 
 pub returns-then-is_nothing-clause-made : goal.returns-then-is_nothing-clause-made
@@ -30,3 +31,13 @@ returns-in-Err-clause-many g c k m h shows stop =
 pub returns-in-Err-clause-part : goal.returns-in-Err-clause-part
 returns-in-Err-clause-part g c k m h shows =
     part_at c.args.self.now k m (g.V.View.asked c.args.view.now) (g.V.View.asked c.compose.new.view) (g.V.View.asked c.compose.new.view) h refl (c.in-Err.ensures.frame k m shows h.holds (owing_at c.args.self.now k m h)).part
+
+pub returns-in-Ok-clause-idle : goal.returns-in-Ok-clause-idle
+returns-in-Ok-clause-idle g c h =
+    let e : true ≡ false = sym (is_nothing_owed _ _ _ c.is_nothing.ensures h.0 h.1) ∙ c.if-is_nothing.false in
+    absurd cc
+
+pub returns-in-Err-clause-idle : goal.returns-in-Err-clause-idle
+returns-in-Err-clause-idle g c h =
+    let e : true ≡ false = sym (is_nothing_owed _ _ _ c.is_nothing.ensures h.0 h.1) ∙ c.if-is_nothing.false in
+    absurd cc

@@ -1,13 +1,24 @@
 use Rattle.std.proofs.Common.{◌≡◌, ◌++◌, ◌∙◌, refl, ap, sym, subst, inl, inr, Some, None, Err}
-use Rattle.compose_model.specs.Frame.{frame}
-use Rattle.lang_checks.specs.declared.checks.Checked.{Checked}
-use Rattle.composer.specs.FrameDrafts.{functions_of}
+use Rattle.rt_groups.specs.Frames.{LastFrame}
 use Rattle.recomposer.specs.declared.composition.Composition.{Composition}
-use Rattle.recomposer.specs.Compositions.{IsAt, PartOfFrame, frame_reads}
-use Rattle.recomposer.proofs.Frames.{made_frame}
+use Rattle.recomposer.specs.declared.composition.FrameStop.TheVariants.{ApplierFault}
+use Rattle.recomposer.specs.Compositions.{IsAt, frame_reads}
+use Rattle.recomposer.proofs.Frames.{made_frame, made_no_frame}
+use Rattle.recomposer.proofs.Stops.{on_ok, on_err, unless_fault, no_cause, may_be_called, stopped_at, stopped_before}
 use Rattle.recomposer.proofs.Draws.{grows_on}
 use Rattle.recomposer.proofs.Logs.{whole_frame, part_of_frame, makes_reads, frame_world}
 use Rattle.recomposer.proofs.composition.Composition.frame.Goals as goal
+
+pub finish-requires-clause-tree : goal.finish-requires-clause-tree
+finish-requires-clause-tree g c =
+    may_be_called _ _ _ c.requires.tree (λ k at.
+    let began = c.in-Ok.ensures.good k at.0 at.1 at.2 at.3 (at.4 c.begin.new.desk) in (began.map, began.at_now, began.shown))
+
+pub returns-in-Ok-finish-clause-lends : goal.returns-in-Ok-finish-clause-lends
+returns-in-Ok-finish-clause-lends g c = g.met.D.Desk.lends_on _ _ _ c.in-Ok.ensures.lends c.in-Ok-finish.ensures.lends
+
+pub returns-in-Err-finish-clause-lends : goal.returns-in-Err-finish-clause-lends
+returns-in-Err-finish-clause-lends g c = g.met.D.Desk.lends_on _ _ _ c.in-Ok.ensures.lends c.in-Err-finish.ensures.lends
 
 pub returns-in-Ok-finish-clause-good : goal.returns-in-Ok-finish-clause-good
 returns-in-Ok-finish-clause-good g c k types l h last alone =
@@ -15,7 +26,7 @@ returns-in-Ok-finish-clause-good g c k types l h last alone =
     let p = c.begin.new.self.program.now in
     let began = c.in-Ok.ensures.good k types l h last (c.in-Ok-finish.ensures.alone watcher alone) in
     let reads = frame_reads p k began.map in
-    made_frame c.args.self.now.program.now p k (IsAt c.finish.new.self) _ _ c.in-Ok-finish.report (ap (λ q. q.now) c.in-Ok.ensures.program) (record {
+    made_frame c.args.self.now.program.now p k (IsAt c.finish.new.self) _ _ _ c.in-Ok-finish.report (ap (λ q. q.now) c.in-Ok.ensures.program) (record {
       map = began.map;
       is_at = c.in-Ok-finish.ensures.good k began.map began.at_now began.shown;
       is_last = c.in-Ok-finish.ensures.last watcher types (Some began.map) began.is_last alone;
@@ -25,6 +36,7 @@ returns-in-Ok-finish-clause-good g c k types l h last alone =
         whole_frame (g.D.Desk.log c.args.desk.now) (g.D.Desk.log c.begin.new.desk) (g.D.Desk.log c.finish.new.desk) (g.D.Desk.caller c.args.desk.now) (g.D.Desk.caller c.begin.new.desk) watcher c.in-Ok.begun.name c.in-Ok.begun.changed reads
             c.in-Ok.ensures.log c.in-Ok.ensures.caller (c.in-Ok-finish.ensures.log k began.map began.at_now began.shown),
       );
+      applied = c.in-Ok-finish.ensures.applied k began.map began.at_now began.shown;
     })
 
 pub returns-in-Ok-finish-clause-world : goal.returns-in-Ok-finish-clause-world
@@ -36,35 +48,34 @@ returns-in-Ok-finish-clause-world g c k types l w h last alone behind =
 
 pub returns-in-Err-clause-err : goal.returns-in-Err-clause-err
 returns-in-Err-clause-err g c k types l h last alone =
+    let no_fault : c.in-Err.stop ≡ ApplierFault → ⊥ = λ e. c.begin.ensures.no_fault (c.in-Err.is ∙ ap Err e) in
     record {
       map = l;
-      is_at = subst (λ (s : Composition). IsAt s k l) (sym c.in-Err.ensures.err) h;
+      is_at = subst (λ (q : LastFrame). IsAt c.begin.new.self q l) (sym (stopped_before c.args.self.now.program.now k l c.in-Err.stop no_fault)) (subst (λ (s : Composition). IsAt s k l) (sym c.in-Err.ensures.err) h);
       is_last = c.in-Err.ensures.last types l last alone;
       log_is = inl (c.in-Err.ensures.refused types l last alone).1;
       many = λ e. absurd (c.begin.ensures.few (c.in-Err.is ∙ ap Err e));
+      fault = λ e. absurd (no_fault e);
     }
 
 pub returns-in-Err-finish-clause-err : goal.returns-in-Err-finish-clause-err
 returns-in-Err-finish-clause-err g c k types l h last alone =
     let watcher = c.args.self.now.watcher in
     let began = c.in-Ok.ensures.good k types l h last (c.in-Err-finish.ensures.alone watcher alone) in
-    record {
+    let p = c.begin.new.self.program.now in
+    made_no_frame c.args.self.now.program.now p k (IsAt c.finish.new.self) _ (g.D.Desk.log c.args.desk.now) (g.D.Desk.log c.finish.new.desk) (g.D.Desk.caller c.args.desk.now) watcher c.in-Err-finish.stop (ap (λ q. q.now) c.in-Ok.ensures.program) (record {
       map = Some began.map;
-      is_at = subst (λ (s : Composition). IsAt s k (Some began.map)) (sym c.in-Err-finish.ensures.err) began.at_now;
+      is_at = stopped_at c.begin.new.self c.finish.new.self k began.map c.in-Err-finish.stop c.finish.result c.in-Err-finish.is c.finish.ensures.err (c.finish.ensures.fault k began.map began.at_now began.shown) began.at_now;
       is_last = c.in-Err-finish.ensures.last watcher types (Some began.map) began.is_last alone;
       log_is = inr (
         began.map,
         refl,
-        subst (λ (p : Checked). PartOfFrame (g.D.Desk.log c.args.desk.now) (g.D.Desk.log c.finish.new.desk) (g.D.Desk.caller c.args.desk.now) watcher (frame_reads p k began.map)) (ap (λ q. q.now) c.in-Ok.ensures.program)
-            (part_of_frame (g.D.Desk.log c.args.desk.now) (g.D.Desk.log c.begin.new.desk) (g.D.Desk.log c.finish.new.desk) (g.D.Desk.caller c.args.desk.now) (g.D.Desk.caller c.begin.new.desk) watcher c.in-Ok.begun.name c.in-Ok.begun.changed _
-            c.in-Ok.ensures.log c.in-Ok.ensures.caller (c.in-Err-finish.ensures.refused k began.map began.at_now began.shown began.inner)),
+        part_of_frame (g.D.Desk.log c.args.desk.now) (g.D.Desk.log c.begin.new.desk) (g.D.Desk.log c.finish.new.desk) (g.D.Desk.caller c.args.desk.now) (g.D.Desk.caller c.begin.new.desk) watcher c.in-Ok.begun.name c.in-Ok.begun.changed _
+            c.in-Ok.ensures.log c.in-Ok.ensures.caller (c.in-Err-finish.ensures.refused k began.map began.at_now began.shown began.inner),
       );
-      many = λ e. (
-        began.map,
-        refl,
-        subst (λ (p : Checked). frame (functions_of p) k began.map ≡ None) (ap (λ q. q.now) c.in-Ok.ensures.program) (c.finish.ensures.many k began.map began.at_now began.shown (c.in-Err-finish.is ∙ ap Err e)),
-      );
-    }
+      many = λ e. (began.map, refl, c.finish.ensures.many k began.map began.at_now began.shown (c.in-Err-finish.is ∙ ap Err e));
+      fault = λ e. (began.map, refl);
+    })
 
 pub returns-in-Ok-finish-clause-log : goal.returns-in-Ok-finish-clause-log
 returns-in-Ok-finish-clause-log g c =

@@ -7,6 +7,7 @@ returns-clause-noted c k l m h follows is = record {
   holds = h.holds;
   owes = owes_more c.args.self.now.program.now k.seen k.trail l m c.args.self.now.owed c.mark.new.self c.args.changed.now h.owes follows is c.mark.ensures.all
       (λ x low. c.mark.ensures.marked x (subst (λ n. x < n) (sym h.states) low));
+  numbers = h.numbers;
   states = c.mark.ensures.states ∙ h.states;
   groups = h.groups;
   nodes = h.nodes;

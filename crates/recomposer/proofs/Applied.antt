@@ -1,0 +1,121 @@
+-- The calls of a frame on an applier.
+use Rattle.std.proofs.Common.{◌≡◌, ℕ, ◌<◌, List, [], ◌∷◌, ◌++◌, refl, sym, ap, ◌∙◌, subst, inl, inr, Bool, true, false, not, ◌&&◌, ◌==◌, nat_lt, length, Option, Some, None, if◌then◌else◌}
+use Rattle.std.specs.Option.{option_map, is_none}
+use Rattle.rt_values.specs.Maps.{Map}
+use Rattle.rt_groups.specs.GroupForest.{GroupForest, End}
+use Rattle.rt_groups.specs.Nodes.{Nodes, nodes}
+use Rattle.rt_groups.specs.Nodes as tree
+use Rattle.rt_groups.specs.Frames.{LastFrame, numbered_forest}
+use Rattle.lang_ast.specs.SyntaxView.{functions_view}
+use Rattle.lang_checks.specs.declared.checks.Checked.{Checked}
+use Rattle.compose_model.specs.Composing.{forest}
+use Rattle.compose_model.specs.Frame.{FrameResult}
+use Rattle.recompose_laws.specs.Distinct.{AreDistinct}
+use Rattle.node_tree.specs.declared.ops.Op.{Op}
+use Rattle.node_tree.specs.declared.ops.Op.TheVariants as op
+use Rattle.node_tree.specs.NodeTrees.{CursorTree, tree_at_root}
+use Rattle.node_tree.specs.Calls.{tree_after_calls, AllMayCome, AllAllowed, BecomesAfter}
+use Rattle.node_tree.specs.Placing.{ops}
+use Rattle.node_tree.specs.Premises.{Follows}
+use Rattle.node_tree.proofs.InnerCalls.{ops_turn}
+use Rattle.node_tree.proofs.SameLevels.{unchanged_tree_needs_no_calls}
+use Rattle.tree_laws.specs.FollowingTrees.{WasComposed}
+use Rattle.tree_laws.proofs.ForestTrees.{kept_tree_is_distinct}
+use Rattle.tree_laws.proofs.KeptShapes.{next_tree_can_follow}
+use Rattle.composer.specs.OwedObjects.{OwedObjects}
+use Rattle.composer.specs.FrameDrafts.{functions_of, root_of}
+use Rattle.recomposer.specs.AppliedFrames.{is_detached, frame_ops, ops_of, Mirrors, IsReady, MayCall, tree_after_frame, Applies}
+use Rattle.recomposer.specs.Compositions.{Owes}
+
+-- What is kept was composed, and everything is owed exactly if nothing is kept.
+
+was_composed : (p : Checked) (seen : Option Map) (trail : GroupForest) (last : Option Map) (owed : OwedObjects) → Owes p seen trail last owed → WasComposed (functions_of p) (root_of p) trail
+was_composed p None trail last owed h = inl h.0
+was_composed p (Some m) trail None owed h = absurd h
+was_composed p (Some m) trail (Some l) owed h = inr (m, h.3.composed)
+
+pub next_follows : (p : Checked) (k : LastFrame) (last : Option Map) (m : Map) (owed : OwedObjects) → Owes p k.seen k.trail last owed → AreDistinct k.trail k.next →
+    let new = numbered_forest k.trail [] [] k.next (forest (functions_of p) (root_of p) m) in Follows (nodes k.trail) (nodes new.0) × AreDistinct new.0 new.1
+next_follows p k last m owed h d =
+    next_tree_can_follow (record { header = p.header; states = p.states.items; functions = functions_view p.functions.items }) (root_of p) k.trail k.next m p.numbered p.fine (was_composed p k.seen k.trail last owed h) d
+
+pub all_is_owed : (p : Checked) (seen : Option Map) (trail : GroupForest) (last : Option Map) (owed : OwedObjects) → Owes p seen trail last owed → owed.all ≡ is_none seen
+all_is_owed p None trail last owed h = h.1
+all_is_owed p (Some m) trail None owed h = absurd h
+all_is_owed p (Some m) trail (Some l) owed h = h.0
+
+pub nothing_is_kept : (p : Checked) (k : LastFrame) (last : Option Map) (owed : OwedObjects) → Owes p k.seen k.trail last owed → is_detached k ≡ true → k.trail ≡ End
+nothing_is_kept p k last owed h e = by k.seen h e
+  where
+    by : (seen : Option Map) → Owes p seen k.trail last owed → (is_none seen && nat_lt 1 k.next) ≡ true → k.trail ≡ End
+    by None h e = h.0
+    by (Some m) h e = absurd (let f : false ≡ true = e in cc)
+
+-- Whether a composition is detached, by what is owed and the next number.
+pub detached_is : (p : Checked) (k : LastFrame) (last : Option Map) (owed : OwedObjects) (all : Bool) (next : ℕ) → Owes p k.seen k.trail last owed → all ≡ owed.all → next ≡ k.next → (all && nat_lt 1 next) ≡ is_detached k
+detached_is p k last owed all next h is same = ap (λ (b : Bool). b && nat_lt 1 next) (is ∙ all_is_owed p k.seen k.trail last owed h) ∙ ap (λ (n : ℕ). is_none k.seen && nat_lt 1 n) same
+
+-- The calls of a frame.
+
+pub anew_ops : (k : LastFrame) (trail : GroupForest) → is_detached k ≡ true → k.trail ≡ End → op.Clear ∷ ops tree.None (nodes trail) ≡ frame_ops k trail
+anew_ops k trail e none =
+    ap (λ (t : GroupForest). op.Clear ∷ ops (nodes t) (nodes trail)) (sym none)
+    ∙ ap (λ (b : Bool). (if b then op.Clear ∷ [] else []) ++ ops (nodes k.trail) (nodes trail)) (sym e)
+
+pub usual_ops : (k : LastFrame) (trail : GroupForest) → is_detached k ≡ false → ops (nodes k.trail) (nodes trail) ≡ frame_ops k trail
+usual_ops k trail e = ap (λ (b : Bool). (if b then op.Clear ∷ [] else []) ++ ops (nodes k.trail) (nodes trail)) (sym e)
+
+-- The calls turn the tree into the new one, and each may come.
+abbrev pub Turn : CursorTree → List Op → GroupForest → Type 0
+Turn t calls trail = (tree_after_calls t calls ≡ tree_at_root (nodes trail)) × AllMayCome t calls
+
+pub frame_turns : (k : LastFrame) (trail : GroupForest) (t : CursorTree) → Follows (nodes k.trail) (nodes trail) → (is_detached k ≡ true → k.trail ≡ End) → Mirrors (Some t) k → Turn t (frame_ops k trail) trail
+frame_turns k trail t follows none mirrors = by (is_detached k) refl
+  where
+    turned : (tree_after_calls (tree_at_root (nodes k.trail)) (ops (nodes k.trail) (nodes trail)) ≡ tree_at_root (nodes trail)) × AllMayCome (tree_at_root (nodes k.trail)) (ops (nodes k.trail) (nodes trail))
+    turned = ops_turn (nodes k.trail) (nodes trail) follows
+
+    by : (b : Bool) → is_detached k ≡ b → Turn t ((if b then op.Clear ∷ [] else []) ++ ops (nodes k.trail) (nodes trail)) trail
+    by true e =
+        let empty : tree_at_root (nodes k.trail) ≡ record { children = []; open_nodes = [] } = ap (λ (u : GroupForest). tree_at_root (nodes u)) (none e) in (
+          ap (λ (u : CursorTree). tree_after_calls u (ops (nodes k.trail) (nodes trail))) (sym empty) ∙ turned.0,
+          (tt, subst (λ (u : CursorTree). AllMayCome u (ops (nodes k.trail) (nodes trail))) empty turned.1),
+        )
+    by false e = subst (λ (u : CursorTree). Turn u (ops (nodes k.trail) (nodes trail)) trail) (sym (mirrors e)) turned
+
+-- The calls may be made on an applier.
+pub may_carry : (before mid : Option CursorTree) (calls : List Op) (at : LastFrame → Type 0) → mid ≡ before → MayCall before at → ((k : LastFrame) → at k → (t : CursorTree) → Mirrors (Some t) k → AllMayCome t calls) → AllAllowed mid calls
+may_carry before mid calls at same may each = subst (λ (o : Option CursorTree). AllAllowed o calls) (sym same) (by before may)
+  where
+    by : (o : Option CursorTree) → MayCall o at → AllAllowed o calls
+    by None may = tt
+    by (Some t) may = each may.kept may.is_at t may.mirrors
+
+-- What the calls leave in an applier.
+pub applied : (before mid now : Option CursorTree) (made calls : List Op) (k : LastFrame) (good : FrameResult) → mid ≡ before → BecomesAfter mid now calls → calls ≡ made → made ≡ frame_ops k good.left.trail → Follows (nodes k.trail) (nodes good.left.trail)
+    → (is_detached k ≡ true → k.trail ≡ End) → Applies before now made k (Some good)
+applied before mid now made calls k good same becomes is made_is follows none = record {
+  calls = made_is;
+  tree = λ mirrors. becomes ∙ ap (λ (o : Option CursorTree). option_map (λ t. tree_after_calls t calls) o) same ∙ by before mirrors;
+}
+  where
+    by : (o : Option CursorTree) → Mirrors o k → option_map (λ t. tree_after_calls t calls) o ≡ tree_after_frame o (Some good)
+    by None mirrors = refl
+    by (Some t) mirrors = ap (λ (u : CursorTree). Some u) (ap (λ (l : List Op). tree_after_calls t l) (is ∙ made_is) ∙ (frame_turns k good.left.trail t follows none mirrors).0)
+
+-- A frame that keeps everything makes no calls.
+pub applied_nothing : (now : Option CursorTree) (k : LastFrame) (good : FrameResult) → AreDistinct k.trail k.next → is_detached k ≡ false → good.left.trail ≡ k.trail → Applies now now [] k (Some good)
+applied_nothing now k good distinct attached same = record {
+  calls =
+      sym (unchanged_tree_needs_no_calls (nodes k.trail) (kept_tree_is_distinct k.trail k.next distinct))
+      ∙ usual_ops k k.trail attached ∙ ap (λ (t : GroupForest). frame_ops k t) (sym same);
+  tree = λ mirrors. by now mirrors;
+}
+  where
+    by : (o : Option CursorTree) → Mirrors o k → o ≡ tree_after_frame o (Some good)
+    by None mirrors = refl
+    by (Some t) mirrors = ap (λ (u : CursorTree). Some u) (mirrors attached ∙ ap (λ (u : GroupForest). tree_at_root (nodes u)) (sym same))
+
+-- Nothing is owed.
+pub is_nothing_owed : (all result : Bool) (objects : List ℕ) → result ≡ (not all && (length objects == 0)) → all ≡ false → objects ≡ [] → result ≡ true
+is_nothing_owed all result objects is none nothing = is ∙ ap (λ (b : Bool). not b && (length objects == 0)) none ∙ ap (λ (l : List ℕ). length l == 0) nothing

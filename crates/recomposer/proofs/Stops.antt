@@ -1,0 +1,62 @@
+-- Results of frames, by what stopped them.
+use Rattle.std.proofs.Common.{◌≡◌, ℕ, ◌≤◌, refl, sym, ap, ◌∙◌, subst, Option, Some, None, Result, Ok, Err, OnOk, OnErr, arith}
+use Rattle.rt_streams.specs.Streams.{HasCause, Rose}
+use Rattle.rt_values.specs.Maps.{Map}
+use Rattle.rt_groups.specs.Frames.{LastFrame}
+use Rattle.lang_checks.specs.declared.checks.Checked.{Checked}
+use Rattle.compose_model.specs.Frame.{frame}
+use Rattle.composer.specs.FrameDrafts.{functions_of}
+use Rattle.node_tree.specs.NodeTrees.{CursorTree}
+use Rattle.recomposer.specs.declared.composition.Composition.{Composition}
+use Rattle.recomposer.specs.declared.composition.FrameStop.{FrameStop}
+use Rattle.recomposer.specs.declared.composition.FrameStop.TheVariants.{TooManyGroups, ApplierFault, Spent, NoMemory}
+use Rattle.recomposer.specs.AppliedFrames.{MayCall, UnlessFault, FaultHasCause, kept_after_fault}
+use Rattle.recomposer.specs.Compositions.{IsAt, kept_after_stop, MakesNoFrame}
+
+-- A fact holds after any result.
+pub on_ok : {U E X : Type 0} (r : Result U E) → X → OnOk r X
+on_ok (Ok u) x = x
+on_ok (Err e) x = tt
+
+pub on_err : {U E X : Type 0} (r : Result U E) → X → OnErr r X
+on_err (Ok u) x = tt
+on_err (Err e) x = x
+
+pub unless_fault : {U X : Type 0} (r : Result U FrameStop) → X → UnlessFault X r
+unless_fault (Ok u) x = tt
+unless_fault (Err ApplierFault) x = tt
+unless_fault (Err TooManyGroups) x = x
+unless_fault (Err Spent) x = x
+unless_fault (Err NoMemory) x = x
+
+-- A count of faults that stays, if there is no fault of the applier.
+pub no_cause : {U : Type 0} (n : ℕ) (r : Result U FrameStop) → (r ≡ Err ApplierFault → ⊥) → FaultHasCause n n r
+no_cause n r none = record { later = omega arith; failed = λ e. absurd (none e) }
+
+-- An applier may still be called.
+pub may_be_called : (t : Option CursorTree) (at at' : LastFrame → Type 0) → MayCall t at → ((k : LastFrame) → at k → at' k) → MayCall t at'
+may_be_called None at at' may go = tt
+may_be_called (Some t) at at' may go = record { kept = may.kept; is_at = go may.kept may.is_at; mirrors = may.mirrors }
+
+-- What is so unless the applier failed.
+unfaulted : {U X : Type 0} (stop : FrameStop) (r : Result U FrameStop) → r ≡ Err stop → (stop ≡ ApplierFault → ⊥) → UnlessFault X r → X
+unfaulted ApplierFault r is none x = absurd (none refl)
+unfaulted {X = X} TooManyGroups r is none x = subst (λ (q : Result _ FrameStop). UnlessFault X q) is x
+unfaulted {X = X} Spent r is none x = subst (λ (q : Result _ FrameStop). UnlessFault X q) is x
+unfaulted {X = X} NoMemory r is none x = subst (λ (q : Result _ FrameStop). UnlessFault X q) is x
+
+-- What is kept after a frame that stopped.
+pub stopped_at : {U : Type 0} (c c' : Composition) (k : LastFrame) (m : Map) (stop : FrameStop) (r : Result U FrameStop) → r ≡ Err stop → UnlessFault (c' ≡ c) r
+    → (r ≡ Err ApplierFault → IsAt c' (kept_after_fault k (frame (functions_of c.program.now) k m)) (Some m)) → IsAt c k (Some m) → IsAt c' (kept_after_stop c.program.now k (Some m) stop) (Some m)
+stopped_at c c' k m ApplierFault r is same fault h = fault is
+stopped_at c c' k m TooManyGroups r is same fault h = subst (λ (s : Composition). IsAt s k (Some m)) (sym (unfaulted TooManyGroups r is (λ e. absurd cc) same)) h
+stopped_at c c' k m Spent r is same fault h = subst (λ (s : Composition). IsAt s k (Some m)) (sym (unfaulted Spent r is (λ e. absurd cc) same)) h
+stopped_at c c' k m NoMemory r is same fault h = subst (λ (s : Composition). IsAt s k (Some m)) (sym (unfaulted NoMemory r is (λ e. absurd cc) same)) h
+
+-- A frame that did not begin keeps everything.
+pub stopped_before : (p : Checked) (k : LastFrame) (l : Option Map) (stop : FrameStop) → (stop ≡ ApplierFault → ⊥) → kept_after_stop p k l stop ≡ k
+stopped_before p k None stop none = refl
+stopped_before p k (Some m) ApplierFault none = absurd (none refl)
+stopped_before p k (Some m) TooManyGroups none = refl
+stopped_before p k (Some m) Spent none = refl
+stopped_before p k (Some m) NoMemory none = refl
