@@ -1,5 +1,5 @@
 -- The calls of a frame on an applier.
-use Rattle.std.proofs.Common.{◌≡◌, ℕ, ◌<◌, List, [], ◌∷◌, ◌++◌, refl, sym, ap, ◌∙◌, subst, inl, inr, Bool, true, false, not, ◌&&◌, ◌==◌, nat_lt, length, Option, Some, None, if◌then◌else◌}
+use Rattle.std.proofs.Common.{◌≡◌, ℕ, List, [], ◌∷◌, ◌++◌, refl, sym, ap, ◌∙◌, subst, inl, inr, Bool, true, false, not, ◌&&◌, ◌==◌, nat_lt, length, Option, Some, None, if◌then◌else◌}
 use Rattle.std.specs.Option.{option_map, is_none}
 use Rattle.rt_values.specs.Maps.{Map}
 use Rattle.rt_groups.specs.GroupForest.{GroupForest, End}
@@ -24,7 +24,7 @@ use Rattle.tree_laws.proofs.ForestTrees.{kept_tree_is_distinct}
 use Rattle.tree_laws.proofs.KeptShapes.{next_tree_can_follow}
 use Rattle.composer.specs.OwedObjects.{OwedObjects}
 use Rattle.composer.specs.FrameDrafts.{functions_of, root_of}
-use Rattle.recomposer.specs.AppliedFrames.{is_detached, frame_ops, ops_of, Mirrors, IsReady, MayCall, tree_after_frame, Applies}
+use Rattle.recomposer.specs.AppliedFrames.{is_detached, frame_ops, Mirrors, MayCall, tree_after_frame, Applies}
 use Rattle.recomposer.specs.Compositions.{Owes}
 
 -- What is kept was composed, and everything is owed exactly if nothing is kept.

@@ -29,7 +29,7 @@ use Rattle.recomposer.specs.declared.composition.Composition.{Composition}
 use Rattle.recomposer.specs.declared.composition.FrameStop.{FrameStop}
 use Rattle.recomposer.specs.AppliedFrames.{is_detached, Mirrors, ops_of, frame_ops, kept_after_fault, Applies}
 use Rattle.recomposer.specs.Compositions.{IsKept, Owes, IsAt, kept_after, frame_reads, MakesFrame, MakesNoFrame, LogsNoFrame}
-use Rattle.recomposer.proofs.Applied.{next_follows, nothing_is_kept, anew_ops, usual_ops, applied, applied_nothing, Turn, frame_turns}
+use Rattle.recomposer.proofs.Applied.{next_follows, nothing_is_kept, anew_ops, usual_ops, applied, applied_nothing, frame_turns}
 use Rattle.recomposer.proofs.Owings.{owes_nothing, owing, same_below}
 use Rattle.recomposer.proofs.Reports.{owed_report, owed_reads}
 use Rattle.recomposer.proofs.StateReads.{kept_below}

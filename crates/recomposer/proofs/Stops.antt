@@ -1,6 +1,5 @@
 -- Results of frames, by what stopped them.
-use Rattle.std.proofs.Common.{◌≡◌, ℕ, ◌≤◌, refl, sym, ap, ◌∙◌, subst, Option, Some, None, Result, Ok, Err, OnOk, OnErr, arith}
-use Rattle.rt_streams.specs.Streams.{HasCause, Rose}
+use Rattle.std.proofs.Common.{◌≡◌, ℕ, refl, sym, subst, Option, Some, None, Result, Ok, Err, OnOk, OnErr, arith}
 use Rattle.rt_values.specs.Maps.{Map}
 use Rattle.rt_groups.specs.Frames.{LastFrame}
 use Rattle.lang_checks.specs.declared.checks.Checked.{Checked}
@@ -11,7 +10,7 @@ use Rattle.recomposer.specs.declared.composition.Composition.{Composition}
 use Rattle.recomposer.specs.declared.composition.FrameStop.{FrameStop}
 use Rattle.recomposer.specs.declared.composition.FrameStop.TheVariants.{TooManyGroups, ApplierFault, Spent, NoMemory}
 use Rattle.recomposer.specs.AppliedFrames.{MayCall, UnlessFault, FaultHasCause, kept_after_fault}
-use Rattle.recomposer.specs.Compositions.{IsAt, kept_after_stop, MakesNoFrame}
+use Rattle.recomposer.specs.Compositions.{IsAt, kept_after_stop}
 
 -- A fact holds after any result.
 pub on_ok : {U E X : Type 0} (r : Result U E) → X → OnOk r X

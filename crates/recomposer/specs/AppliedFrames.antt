@@ -1,5 +1,5 @@
 -- Trusted: the calls of a frame on an applier, and what a frame leaves in the applier's tree.
-use Rattle.std.specs.Prelude.{◌≡◌, ◌≤◌, ℕ, List, [], ◌∷◌, ◌++◌, Bool, true, false, ◌&&◌, nat_lt, if◌then◌else◌, Option, Some, None, Result, Ok, Err}
+use Rattle.std.specs.Prelude.{◌≡◌, ◌≤◌, ℕ, List, [], ◌∷◌, ◌++◌, Bool, false, ◌&&◌, nat_lt, if◌then◌else◌, Option, Some, None, Result, Ok, Err}
 use Rattle.std.specs.Option.{option_map, is_none}
 use Rattle.rt_streams.specs.Streams.{Rose}
 use Rattle.rt_groups.specs.GroupForest.{GroupForest, End}

@@ -108,7 +108,8 @@ impl<'p> Composition<'p> {
         self.held.next()
     }
 
-    /// Returns the calls on the applier that the last good frame made, or none before a good frame (`ChangeList`).
+    /// Returns the calls on the applier that the last good frame made (`ChangeList`). There are none before a good frame and
+    /// after one without an applier.
     pub fn ops(&self) -> &Ops
         ensures { result.now ≡ self.now.ops }
     {
@@ -345,6 +346,57 @@ impl<'p> Composition<'p> {
         }
     }
 
+    // Keeps a frame that is composed and makes no call on an applier. Without a draft the frame owed nothing.
+    fn keep_composed(&mut self, alloc: Global, composed: Option<Draft>) -> Report
+        ensures program { self.new.program ≡ self.old.program }
+        ensures watcher { self.new.watcher ≡ self.old.watcher }
+        ensures ops { self.new.ops ≡ [] }
+        ensures good { (k : LastFrame) (m : Map) → IsAt self.old k (Some m) → IsComposed self.old k m composed →
+            IsAt self.new (kept_after k (frame_of (functions_of self.old.program.now) k m)) (Some m) }
+        ensures report { (k : LastFrame) (m : Map) → IsAt self.old k (Some m) → IsComposed self.old k m composed →
+            Some result ≡ option_map (λ g. g.told) (frame_of (functions_of self.old.program.now) k m) }
+    {
+        let Some(draft) = composed else {
+            return self.keep_idle(alloc);
+        };
+        self.keep(draft, Ops::new(alloc))
+    }
+
+    /// Composes what the frame owes in the open snapshot that the view shows, and keeps the new groups (`recompose`,
+    /// `applyChanges`). For callers that take and dispose the snapshot themselves and keep no node tree. A frame that owes
+    /// nothing composes nothing.
+    ///
+    /// Fails with `TooManyGroups` exactly if the program makes more than 1,000,000 groups in the snapshot, or out of
+    /// memory. The composition is then unchanged, and what is owed stays owed.
+    pub fn recompose<V: View, L: Ledger>(
+        &mut self,
+        alloc: Global,
+        view: &mut V,
+        steps: &mut Steps<L>,
+    ) -> Result<Report, FrameStop>
+        ensures keeps { V.keeps view.old view.new }
+        ensures same { (m : Map) → V.shows view.old m → V.shows view.new m }
+        ensures good { (k : LastFrame) (m : Map) → IsAt self.old k (Some m) → V.shows view.old m →
+            OnOk result (IsAt self.new (kept_after k (frame_of (functions_of self.old.program.now) k m)) (Some m)) }
+        ensures report { (k : LastFrame) (m : Map) → IsAt self.old k (Some m) → V.shows view.old m →
+            IfOk result (λ r. Some r ≡ option_map (λ g. g.told) (frame_of (functions_of self.old.program.now) k m)) }
+        ensures many { (k : LastFrame) (m : Map) → IsAt self.old k (Some m) → V.shows view.old m →
+            result ≡ Err FrameStop.TooManyGroups → frame_of (functions_of self.old.program.now) k m ≡ None }
+        ensures err { OnErr result (self.new ≡ self.old) }
+        ensures ops { OnOk result (self.new.ops ≡ []) }
+        ensures program { self.new.program ≡ self.old.program }
+        ensures watcher { self.new.watcher ≡ self.old.watcher }
+        ensures asks { (k : LastFrame) (m : Map) → IsAt self.old k (Some m) → V.shows view.old m →
+            OnOk result (V.asked view.new ≡ V.asked view.old ++ frame_reads self.old.program.now k m) }
+        ensures part { (k : LastFrame) (m : Map) → IsAt self.old k (Some m) → V.shows view.old m →
+            OnErr result (Grew (V.asked view.old) (V.asked view.new) (frame_reads self.old.program.now k m)) }
+    {
+        match self.compose_owed(alloc, view, steps) {
+            Ok(composed) => Ok(self.keep_composed(alloc, composed)),
+            Err(stop) => Err(frame_stop(stop)),
+        }
+    }
+
     /// Composes what the frame owes in the open snapshot that the view shows, changes the applier's tree, and keeps the new
     /// groups (`recompose`, `applyChanges`). For callers that take and dispose the snapshot themselves. A frame that owes
     /// nothing composes nothing and does not call the applier. All memory is taken before the first call on the applier.
@@ -353,7 +405,7 @@ impl<'p> Composition<'p> {
     /// memory. The composition and the applier's tree are then unchanged, and what is owed stays owed. Fails with
     /// `ApplierFault` only if a call on the applier failed. Nothing is kept then except the number of the next new node,
     /// and the next frame clears the applier's tree and makes all nodes again.
-    pub fn recompose<V: View, A: Applier, L: Ledger>(
+    pub fn recompose_with<V: View, A: Applier, L: Ledger>(
         &mut self,
         alloc: Global,
         view: &mut V,
@@ -400,7 +452,7 @@ impl<'p> Composition<'p> {
     /// call the applier. All memory is taken before the first call on the applier. The snapshot is disposed after a failure
     /// too.
     ///
-    /// Fails like `recompose`.
+    /// Fails like `recompose_with`.
     pub fn finish<D: Desk, A: Applier, L: Ledger>(
         &mut self,
         alloc: Global,

@@ -1,10 +1,10 @@
-use Rattle.std.proofs.Common.{◌≡◌, ◌++◌, ◌∙◌, refl, ap, sym, subst, inl, inr, Some, None, Err}
+use Rattle.std.proofs.Common.{◌≡◌, ◌++◌, ◌∙◌, refl, ap, sym, subst, inl, inr, Some, Err}
 use Rattle.rt_groups.specs.Frames.{LastFrame}
 use Rattle.recomposer.specs.declared.composition.Composition.{Composition}
 use Rattle.recomposer.specs.declared.composition.FrameStop.TheVariants.{ApplierFault}
 use Rattle.recomposer.specs.Compositions.{IsAt, frame_reads}
 use Rattle.recomposer.proofs.Frames.{made_frame, made_no_frame}
-use Rattle.recomposer.proofs.Stops.{on_ok, on_err, unless_fault, no_cause, may_be_called, stopped_at, stopped_before}
+use Rattle.recomposer.proofs.Stops.{may_be_called, stopped_at, stopped_before}
 use Rattle.recomposer.proofs.Draws.{grows_on}
 use Rattle.recomposer.proofs.Logs.{whole_frame, part_of_frame, makes_reads, frame_world}
 use Rattle.recomposer.proofs.composition.Composition.frame.Goals as goal
