@@ -1,13 +1,16 @@
 -- The frames of a seat's desk.
-use Rattle.std.proofs.Common.{ℕ, List, ◌≡◌, ◌++◌, ◌∷◌, [], refl, sym, ap, ◌∙◌, subst, Option, Some, Result, Ok, Err, IfOk, IfErr, append_assoc}
+use Rattle.std.proofs.Common.{ℕ, List, ◌≡◌, ◌++◌, ◌∷◌, [], refl, sym, ap, ◌∙◌, subst, Option, Some, None, Result, Ok, Err, IfOk, IfErr, append_assoc}
 use Rattle.rt_values.specs.Maps.{Map}
 use Rattle.rt_values.specs.declared.value.Ty.{Ty}
 use Rattle.rt_groups.specs.Frames.{LastFrame}
 use Rattle.rt_groups.specs.declared.report.Report.{Report}
+use Rattle.compose_model.specs.Frame.{FrameResult}
 use Rattle.lang_checks.specs.declared.checks.Checked.{Checked}
 use Rattle.recomposer.specs.declared.composition.Begun.{Begun}
 use Rattle.recomposer.specs.declared.composition.Composition.{Composition}
 use Rattle.recomposer.specs.declared.composition.FrameStop.{FrameStop}
+use Rattle.node_tree.specs.NodeTrees.{CursorTree}
+use Rattle.recomposer.specs.AppliedFrames.{MayCall}
 use Rattle.recomposer.specs.Compositions.{IsAt, BeginsFrame, MakesFrame, MakesNoFrame, LogsFrame, LogsNoFrame}
 use Rattle.snap_policy.specs.Rules.{Rules}
 use Rattle.snap_api.specs.Calls.{Logs}
@@ -22,6 +25,10 @@ use Rattle.snap_shared.specs.declared.shared.Seat.{Seat}
 use Rattle.snap_shared.specs.declared.shared.Shared.{Shared}
 use Rattle.shared_frames.specs.SeatFrames.{HasLast, ShowsIn, HasTaken, MakesThrough}
 use Rattle.shared_frames.proofs.TakePlaces.{TakesNone, reads_take_none, map_at_take}
+
+-- An applier that knows no tree may always be called.
+pub no_tree_may : (t : Option CursorTree) (at : LastFrame → Type 0) → t ≡ None → MayCall t at
+no_tree_may t at e = subst (λ (o : Option CursorTree). MayCall o at) (sym e) tt
 
 some_same : {A : Type 0} (a b : A) → Some a ≡ Some b → a ≡ b
 some_same a b e = cc
@@ -52,11 +59,11 @@ module _ {W P : Type 0} (rules : Rules P) (stands : W → World P → Type 0) (s
   }
 
   -- A whole frame took its map at one place of the history.
-  pub frame_taken : {p : Checked} {k : LastFrame} {at_frame : LastFrame → Option Map → Type 0} {told : Report} →
+  pub frame_taken : {p : Checked} {k : LastFrame} {at_frame : LastFrame → Option Map → Type 0} {applies : Option FrameResult → Type 0} {told : Report} →
       MakesFrame p k at_frame (λ l. HasLast rules stands shared after watcher types l)
-      (λ xs. (objects_read (mine_of after) ≡ objects_read (mine_of before) ++ xs) × LogsFrame (Some (mine_of before)) (Some (mine_of after)) (number_of before) watcher xs) told →
+      (λ xs. (objects_read (mine_of after) ≡ objects_read (mine_of before) ++ xs) × LogsFrame (Some (mine_of before)) (Some (mine_of after)) (number_of before) watcher xs) applies told →
       MakesFrame p k at_frame (λ l. HasTaken rules stands shared before after watcher types l)
-      (λ xs. (objects_read (mine_of after) ≡ objects_read (mine_of before) ++ xs) × LogsFrame (Some (mine_of before)) (Some (mine_of after)) (number_of before) watcher xs) told
+      (λ xs. (objects_read (mine_of after) ≡ objects_read (mine_of before) ++ xs) × LogsFrame (Some (mine_of before)) (Some (mine_of after)) (number_of before) watcher xs) applies told
   frame_taken f =
       let whole = f.done.1 in
       let take : Entry = record { caller = number_of before; request = request.TakeFor watcher; reply = reply.TakenFor whole.name whole.changed } in
@@ -69,6 +76,7 @@ module _ {W P : Type 0} (rules : Rules P) (stands : W → World P → Type 0) (s
         is_last = taken_with whole.name whole.changed (whole.rest.more ++ dispose ∷ []) f.map grew (reads_take_none watcher (number_of before) whole.name whole.rest.more _ dispose refl whole.rest.reads) f.is_last;
         told_is = f.told_is;
         done = f.done;
+        applied = f.applied;
       }
 
 -- `other` is the shared world of the desk after the frame, `after` is the desk's seat then, and `back` is the seat that returns.
@@ -96,31 +104,31 @@ module _ {W P : Type 0} (rules : Rules P) (stands : W → World P → Type 0) (s
   abbrev Does : Seat W → List ℕ → Type 0
   Does s xs = (objects_read (mine_of s) ≡ objects_read (mine_of before) ++ xs) × LogsFrame (Some (mine_of before)) (Some (mine_of s)) (number_of before) watcher xs
 
-  frame_back : {p : Checked} {k : LastFrame} {at_frame : LastFrame → Option Map → Type 0} {told : Report} →
-      MakesFrame p k at_frame (λ l. HasLast rules stands other after watcher types l) (Does after) told →
-      MakesFrame p k at_frame (λ l. HasTaken rules stands shared before back watcher types l) (Does back) told
-  frame_back {p} {k} {at_frame} {told} f =
-      let here = subst (λ (v : Shared W P). MakesFrame p k at_frame (λ l. HasLast rules stands v after watcher types l) (Does after) told) same_world f in
-      let of_back = subst (λ (s : Seat W). MakesFrame p k at_frame (λ l. HasLast rules stands shared s watcher types l) (Does s) told) (sym is_back) here in
+  frame_back : {p : Checked} {k : LastFrame} {at_frame : LastFrame → Option Map → Type 0} {applies : Option FrameResult → Type 0} {told : Report} →
+      MakesFrame p k at_frame (λ l. HasLast rules stands other after watcher types l) (Does after) applies told →
+      MakesFrame p k at_frame (λ l. HasTaken rules stands shared before back watcher types l) (Does back) applies told
+  frame_back {p} {k} {at_frame} {applies} {told} f =
+      let here = subst (λ (v : Shared W P). MakesFrame p k at_frame (λ l. HasLast rules stands v after watcher types l) (Does after) applies told) same_world f in
+      let of_back = subst (λ (s : Seat W). MakesFrame p k at_frame (λ l. HasLast rules stands shared s watcher types l) (Does s) applies told) (sym is_back) here in
       frame_taken rules stands shared before back watcher types (ap number_of is_back ∙ same) only of_back
 
   -- A good frame. `c` is the composition after it.
-  pub frame_ok : (old c : Composition) → c.program ≡ old.program → c.watcher ≡ old.watcher → old.watcher ≡ watcher → (k : LastFrame) (r : Result Report FrameStop) →
-      IfOk r (MakesFrame old.program.now k (IsAt c) (λ l. HasLast rules stands other after watcher types l) (Does after)) →
-      IfOk r (MakesThrough rules stands shared c k before back types)
-  frame_ok old c program same_watcher is k (Ok told) f =
-      let made = subst (λ (p : Checked). MakesFrame p k (IsAt c) (λ l. HasTaken rules stands shared before back watcher types l) (Does back) told) (ap (λ q. q.now) (sym program)) (frame_back f) in
+  pub frame_ok : (old c : Composition) → c.program ≡ old.program → c.watcher ≡ old.watcher → old.watcher ≡ watcher → (k : LastFrame) (applies : Option FrameResult → Type 0) (r : Result Report FrameStop) →
+      IfOk r (MakesFrame old.program.now k (IsAt c) (λ l. HasLast rules stands other after watcher types l) (Does after) applies) →
+      IfOk r (MakesThrough rules stands shared c k before back types applies)
+  frame_ok old c program same_watcher is k applies (Ok told) f =
+      let made = subst (λ (p : Checked). MakesFrame p k (IsAt c) (λ l. HasTaken rules stands shared before back watcher types l) (Does back) applies told) (ap (λ q. q.now) (sym program)) (frame_back f) in
       with_watcher (c.watcher) (sym is ∙ sym same_watcher) made
     where
-      with_watcher : (n : ℕ) → watcher ≡ n → MakesFrame c.program.now k (IsAt c) (λ l. HasTaken rules stands shared before back watcher types l) (Does back) told →
-          MakesFrame c.program.now k (IsAt c) (λ l. HasTaken rules stands shared before back n types l) (λ xs. (objects_read (mine_of back) ≡ objects_read (mine_of before) ++ xs) × LogsFrame (Some (mine_of before)) (Some (mine_of back)) (number_of before) n xs) told
-      with_watcher n e made = subst (λ (w : ℕ). MakesFrame c.program.now k (IsAt c) (λ l. HasTaken rules stands shared before back w types l) (λ xs. (objects_read (mine_of back) ≡ objects_read (mine_of before) ++ xs) × LogsFrame (Some (mine_of before)) (Some (mine_of back)) (number_of before) w xs) told) e made
-  frame_ok old c program same_watcher is k (Err e) f = tt
+      with_watcher : (n : ℕ) → watcher ≡ n → MakesFrame c.program.now k (IsAt c) (λ l. HasTaken rules stands shared before back watcher types l) (Does back) applies told →
+          MakesFrame c.program.now k (IsAt c) (λ l. HasTaken rules stands shared before back n types l) (λ xs. (objects_read (mine_of back) ≡ objects_read (mine_of before) ++ xs) × LogsFrame (Some (mine_of before)) (Some (mine_of back)) (number_of before) n xs) applies told
+      with_watcher n e made = subst (λ (w : ℕ). MakesFrame c.program.now k (IsAt c) (λ l. HasTaken rules stands shared before back w types l) (λ xs. (objects_read (mine_of back) ≡ objects_read (mine_of before) ++ xs) × LogsFrame (Some (mine_of before)) (Some (mine_of back)) (number_of before) w xs) applies told) e made
+  frame_ok old c program same_watcher is k applies (Err e) f = tt
 
   -- A frame that was not made.
-  pub frame_err : (p : Checked) (k : LastFrame) (at_map : Option Map → Type 0) (r : Result Report FrameStop) →
-      IfErr r (MakesNoFrame p k at_map (λ l. HasLast rules stands other after watcher types l) (LogsNoFrame p k (Some (mine_of before)) (Some (mine_of after)) (number_of before) watcher)) →
-      IfErr r (MakesNoFrame p k at_map (λ l. HasLast rules stands shared back watcher types l) (LogsNoFrame p k (Some (mine_of before)) (Some (mine_of back)) (number_of before) watcher))
-  frame_err p k at_map r f =
-      subst (λ (s : Seat W). IfErr r (MakesNoFrame p k at_map (λ l. HasLast rules stands shared s watcher types l) (LogsNoFrame p k (Some (mine_of before)) (Some (mine_of s)) (number_of before) watcher))) (sym is_back)
-      (subst (λ (v : Shared W P). IfErr r (MakesNoFrame p k at_map (λ l. HasLast rules stands v after watcher types l) (LogsNoFrame p k (Some (mine_of before)) (Some (mine_of after)) (number_of before) watcher))) same_world f)
+  pub frame_err : (p : Checked) (k : LastFrame) (at_frame : LastFrame → Option Map → Type 0) (r : Result Report FrameStop) →
+      IfErr r (MakesNoFrame p k at_frame (λ l. HasLast rules stands other after watcher types l) (LogsNoFrame p k (Some (mine_of before)) (Some (mine_of after)) (number_of before) watcher)) →
+      IfErr r (MakesNoFrame p k at_frame (λ l. HasLast rules stands shared back watcher types l) (LogsNoFrame p k (Some (mine_of before)) (Some (mine_of back)) (number_of before) watcher))
+  frame_err p k at_frame r f =
+      subst (λ (s : Seat W). IfErr r (MakesNoFrame p k at_frame (λ l. HasLast rules stands shared s watcher types l) (LogsNoFrame p k (Some (mine_of before)) (Some (mine_of s)) (number_of before) watcher))) (sym is_back)
+      (subst (λ (v : Shared W P). IfErr r (MakesNoFrame p k at_frame (λ l. HasLast rules stands v after watcher types l) (LogsNoFrame p k (Some (mine_of before)) (Some (mine_of after)) (number_of before) watcher))) same_world f)

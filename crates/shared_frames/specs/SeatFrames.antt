@@ -4,6 +4,7 @@ use Rattle.rt_values.specs.Maps.{Map}
 use Rattle.rt_values.specs.declared.value.Ty.{Ty}
 use Rattle.rt_groups.specs.Frames.{LastFrame}
 use Rattle.rt_groups.specs.declared.report.Report.{Report}
+use Rattle.compose_model.specs.Frame.{FrameResult}
 use Rattle.recomposer.specs.declared.composition.Composition.{Composition}
 use Rattle.recomposer.specs.Compositions.{IsAt, BeginsFrame, MakesFrame, LogsFrame}
 use Rattle.snap_policy.specs.Rules.{Rules}
@@ -68,8 +69,8 @@ module _ {W P : Type 0} (rules : Rules P) (stands : W → World P → Type 0) (s
       BeginsFrame (IsAt c k) (ShowsIn after name) (HasTaken before after c.watcher types) l name changed
 
   -- A frame is made between the two states of the seat: its map is the one at its take, the objects that the caller has read
-  -- grow by the frame's reads, and the caller's own calls by the frame's calls.
-  abbrev pub MakesThrough : Composition → LastFrame → Seat W → Seat W → List Ty → Report → Type 0
-  MakesThrough c k before after types = MakesFrame c.program.now k (IsAt c) (HasTaken before after c.watcher types)
+  -- grow by the frame's reads, and the caller's own calls by the frame's calls. `applies` says what the applier did.
+  abbrev pub MakesThrough : Composition → LastFrame → Seat W → Seat W → List Ty → (Option FrameResult → Type 0) → Report → Type 0
+  MakesThrough c k before after types applies = MakesFrame c.program.now k (IsAt c) (HasTaken before after c.watcher types)
       (λ xs. (objects_read (mine_of after) ≡ objects_read (mine_of before) ++ xs)
-      × LogsFrame (Some (mine_of before)) (Some (mine_of after)) (number_of before) c.watcher xs)
+      × LogsFrame (Some (mine_of before)) (Some (mine_of after)) (number_of before) c.watcher xs) applies

@@ -7,11 +7,13 @@ ghost use Rattle.rt_values.specs.declared.value.Ty.{Ty};
 ghost use Rattle.rt_groups.specs.Frames.{LastFrame};
 ghost use Rattle.compose_model.specs.Frame.{frame as frame_of};
 ghost use Rattle.composer.specs.FrameDrafts.{functions_of};
+ghost use Rattle.recomposer.specs.AppliedFrames.{MayCall, Applies, UnlessFault, FaultHasCause, kept_after_fault};
 ghost use Rattle.recomposer.specs.Compositions.{IsAt, StopsAtEnd, kept_after, frame_reads, EndsFrame, MakesNoFrame, LogsNoFrame};
 ghost use Rattle.snap_shared.specs.SeatDesk.{SeesFurther, IsOnlyTaker, objects_read};
 ghost use Rattle.snap_shared.specs.Seats.{opening_of, number_of, seen_by, mine_of, IsSeat};
 ghost use Rattle.shared_frames.specs.SeatFrames.{HasLast, HasClock, HasBegun, MayCompose, BeginsThrough, MakesThrough};
 
+use node_tree::Applier;
 use recomposer::{Begun, Composition, FrameStop};
 use rt_groups::Report;
 use rt_streams::Gate;
@@ -45,6 +47,7 @@ pub fn begin_among<W: Versions + Drop, R: Wait, G: Gate>(
     ensures spent { (n : ℕ) → HasClock W.P.rules W.stands view.entry.shared.now view.entry.seat n →
         StopsAtEnd (HasClock W.P.rules W.stands view.entry.shared.now result.0) n result.2 }
     ensures few { result.2 ≡ Err FrameStop.TooManyGroups → ⊥ }
+    ensures no_fault { result.2 ≡ Err FrameStop.ApplierFault → ⊥ }
     ensures err { OnErr result.2 (composition.new ≡ composition.old) }
     ensures program { composition.new.program ≡ composition.old.program }
     ensures watcher { composition.new.watcher ≡ composition.old.watcher }
@@ -57,14 +60,17 @@ pub fn begin_among<W: Versions + Drop, R: Wait, G: Gate>(
 /// Ends a frame that has begun, through a desk of its snapshot, and returns the seat and the number of its next call at
 /// the gate (`Composition::finish`). Calls that other callers made since the take do not change the frame's map. Waits
 /// while other seats have the turn. Fails like `finish`.
-pub fn finish_among<W: Versions + Drop, R: Wait, G: Gate, L: Ledger>(
+pub fn finish_among<W: Versions + Drop, R: Wait, G: Gate, A: Applier, L: Ledger>(
     mut view: SeatView<'_, W, R, G>,
     alloc: Global,
     composition: &mut Composition,
     begun: Begun,
+    applier: &mut A,
     steps: &mut Steps<L>,
 ) -> (Seat<W>, u64, Result<Report, FrameStop>)
-    requires { view.opened ≡ Some begun.name }
+    requires opened { view.opened ≡ Some begun.name }
+    requires tree { MayCall (A.tree applier.old) (λ k. (m : Map) ×
+        HasBegun W.P.rules W.stands view.shared.now composition.old k view.seat begun.name m) }
     ensures fits { IsSeat view.entry.shared.now result.0 }
     ensures number { number_of result.0 ≡ number_of view.entry.seat }
     ensures further { SeesFurther W.P.rules (W.stands (opening_of view.entry.shared.now))
@@ -96,23 +102,36 @@ pub fn finish_among<W: Versions + Drop, R: Wait, G: Gate, L: Ledger>(
         HasLast W.P.rules W.stands view.entry.shared.now view.entry.seat n types l →
         IsOnlyTaker (number_of result.0) n (seen_by result.0) →
         HasLast W.P.rules W.stands view.entry.shared.now result.0 n types l }
-    ensures err { OnErr result.2 (composition.new ≡ composition.old) }
+    ensures applied { (k : LastFrame) (m : Map) →
+        HasBegun W.P.rules W.stands view.entry.shared.now composition.old k view.entry.seat begun.name m →
+        OnOk result.2 (Applies (A.tree applier.old) (A.tree applier.new) composition.new.ops k
+        (frame_of (functions_of composition.old.program.now) k m)) }
+    ensures fault { (k : LastFrame) (m : Map) →
+        HasBegun W.P.rules W.stands view.entry.shared.now composition.old k view.entry.seat begun.name m →
+        result.2 ≡ Err FrameStop.ApplierFault → IsAt composition.new
+        (kept_after_fault k (frame_of (functions_of composition.old.program.now) k m)) (Some m) }
+    ensures err { UnlessFault (composition.new ≡ composition.old) result.2 }
+    ensures still { UnlessFault (A.tree applier.new ≡ A.tree applier.old) result.2 }
+    ensures cause { FaultHasCause (A.faults applier.old) (A.faults applier.new) result.2 }
     ensures program { composition.new.program ≡ composition.old.program }
     ensures watcher { composition.new.watcher ≡ composition.old.watcher }
 {
-    let outcome = composition.finish(alloc, begun, &mut view, steps);
+    let outcome = composition.finish(alloc, begun, &mut view, applier, steps);
     let (seat, step) = view.into_seat();
     (seat, step, outcome)
 }
 
 /// Makes a frame through a seat's desk, and returns the seat and the number of its next call at the gate
-/// (`Composition::frame`). Waits while other seats have the turn. Fails like `frame`.
-pub fn frame_among<W: Versions + Drop, R: Wait, G: Gate, L: Ledger>(
+/// (`Composition::frame`). Waits while other seats have the turn. Fails like `frame`. The applier is one that knows no
+/// tree, since a caller cannot know before the frame that no one else takes for the watcher.
+pub fn frame_among<W: Versions + Drop, R: Wait, G: Gate, A: Applier, L: Ledger>(
     mut view: SeatView<'_, W, R, G>,
     alloc: Global,
     composition: &mut Composition,
+    applier: &mut A,
     steps: &mut Steps<L>,
 ) -> (Seat<W>, u64, Result<Report, FrameStop>)
+    requires tree { A.tree applier.old ≡ None }
     ensures fits { IsSeat view.entry.shared.now result.0 }
     ensures number { number_of result.0 ≡ number_of view.entry.seat }
     ensures further { SeesFurther W.P.rules (W.stands (opening_of view.entry.shared.now))
@@ -120,17 +139,19 @@ pub fn frame_among<W: Versions + Drop, R: Wait, G: Gate, L: Ledger>(
     ensures good { (k : LastFrame) (types : List Ty) (l : Option Map) →
         MayCompose W.P.rules W.stands view.entry.shared.now composition.old k view.entry.seat result.0 types l →
         IfOk result.2 (MakesThrough W.P.rules W.stands view.entry.shared.now composition.new k
-        view.entry.seat result.0 types) }
+        view.entry.seat result.0 types
+        (λ good. Applies (A.tree applier.old) (A.tree applier.new) composition.new.ops k good)) }
     ensures err { (k : LastFrame) (types : List Ty) (l : Option Map) →
         MayCompose W.P.rules W.stands view.entry.shared.now composition.old k view.entry.seat result.0 types l →
-        IfErr result.2 (MakesNoFrame composition.old.program.now k (IsAt composition.new k)
+        IfErr result.2 (MakesNoFrame composition.old.program.now k (IsAt composition.new)
         (HasLast W.P.rules W.stands view.entry.shared.now result.0 composition.old.watcher types)
         (LogsNoFrame composition.old.program.now k (Some (mine_of view.entry.seat)) (Some (mine_of result.0))
         (number_of view.entry.seat) composition.old.watcher)) }
+    ensures cause { FaultHasCause (A.faults applier.old) (A.faults applier.new) result.2 }
     ensures program { composition.new.program ≡ composition.old.program }
     ensures watcher { composition.new.watcher ≡ composition.old.watcher }
 {
-    let outcome = composition.frame(alloc, &mut view, steps);
+    let outcome = composition.frame(alloc, &mut view, applier, steps);
     let (seat, step) = view.into_seat();
     (seat, step, outcome)
 }

@@ -3,8 +3,11 @@ use Rattle.recomposer.specs.Compositions.{IsAt}
 use Rattle.snap_shared.specs.SeatDesk.{IsOnlyTaker}
 use Rattle.snap_shared.specs.Seats.{number_of, seen_by}
 use Rattle.snap_shared.specs.declared.shared.Seat.{Seat}
-use Rattle.shared_frames.proofs.SeatFrames.{frame_ok, frame_err}
+use Rattle.shared_frames.proofs.SeatFrames.{frame_ok, frame_err, no_tree_may}
 use Rattle.shared_frames.proofs.frames.frame_among.Goals as goal
+
+pub frame-outcome-requires : goal.frame-outcome-requires
+frame-outcome-requires g c = record { tree = no_tree_may _ _ c.requires.tree }
 
 pub returns-clause-good : goal.returns-clause-good
 returns-clause-good g c k types l may =
@@ -13,7 +16,7 @@ returns-clause-good g c k types l may =
     let back = c.into_seat-seat.ensures.0 in
     let there = subst (λ (s : Seat g.row.W.Denot). IsOnlyTaker (number_of s) watcher (seen_by s)) back may.2 in
     frame_ok g.W.P.Policy.rules g.W.Versions.stands c.args.view.shared.now desk.shared.now c.args.view.seat desk.seat c.into_seat-seat.result.0 watcher types c.frame-outcome.ensures.lends.0 back c.frame-outcome.ensures.caller may.2
-    c.args.composition.now c.frame-outcome.new.self c.frame-outcome.ensures.program c.frame-outcome.ensures.watcher refl k c.frame-outcome.result (c.frame-outcome.ensures.good k types l may.0 may.1 there)
+    c.args.composition.now c.frame-outcome.new.self c.frame-outcome.ensures.program c.frame-outcome.ensures.watcher refl k _ c.frame-outcome.result (c.frame-outcome.ensures.good k types l may.0 may.1 there)
 
 pub returns-clause-err : goal.returns-clause-err
 returns-clause-err g c k types l may =
@@ -22,4 +25,4 @@ returns-clause-err g c k types l may =
     let back = c.into_seat-seat.ensures.0 in
     let there = subst (λ (s : Seat g.row.W.Denot). IsOnlyTaker (number_of s) watcher (seen_by s)) back may.2 in
     frame_err g.W.P.Policy.rules g.W.Versions.stands c.args.view.shared.now desk.shared.now c.args.view.seat desk.seat c.into_seat-seat.result.0 watcher types c.frame-outcome.ensures.lends.0 back c.frame-outcome.ensures.caller may.2
-    c.args.composition.now.program.now k (IsAt c.frame-outcome.new.self k) c.frame-outcome.result (c.frame-outcome.ensures.err k types l may.0 may.1 there)
+    c.args.composition.now.program.now k (IsAt c.frame-outcome.new.self) c.frame-outcome.result (c.frame-outcome.ensures.err k types l may.0 may.1 there)
