@@ -9,6 +9,7 @@ ghost use Rattle.tests_shared.specs.Calls.{CallsNothing};
 use crate::fixture::{World, shared_counter};
 use lang_ast::{Expression, Function, Ident, Program, State, Statement};
 use lang_checks::{Checked, check};
+use node_tree::UnitApplier;
 use recomposer::{Composition, FrameStop};
 use rt_groups::{GroupKind, Report};
 use rt_streams::OpenGate;
@@ -29,7 +30,7 @@ const FRAMES: u64 = 200;
 
 const WRITES: i64 = 2000;
 
-fn ident(alloc: Global, name: &[u8]) -> Result<Ident, Fail> {
+pub(crate) fn ident(alloc: Global, name: &[u8]) -> Result<Ident, Fail> {
     let text = Word::of(alloc, name)?;
     Ok(Ident { at: 0, text })
 }
@@ -110,7 +111,8 @@ fn frame_counting<R: Wait, L: Ledger>(
     let (book, share) = blank.open();
     let mut steps: Steps<L> = Steps::new(book, share);
     let view = SeatView::new(rt, shared, seat, &OpenGate, step, None);
-    frame_among(view, alloc, composition, &mut steps)
+    let mut applier = UnitApplier;
+    frame_among(view, alloc, composition, &mut applier, &mut steps)
 }
 
 // Makes a frame through the seat, and returns it with the number of its next call at the gate.
