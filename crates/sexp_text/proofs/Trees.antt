@@ -29,7 +29,7 @@ forest_concat-push (g ∷ fs) f = ap (behind g) (forest_concat-push fs f) ∙ sy
 pub forest_view-push : (ts : List Tree) (t : Tree) → forest_view (ts ++ t ∷ []) ≡ behind (forest_view ts) (tree_view t)
 forest_view-push ts t = ap forest_concat (map-append tree_view ts (t ∷ [])) ∙ forest_concat-push (map tree_view ts) (tree_view t)
 
-pub view-Atom : (at : ℕ) (name : Vec ℕ Global) → tree_view (Atom at name) ≡ atom at name.items empty
+pub view-Atom : (at : ℕ) (name : List ℕ) → tree_view (Atom at name) ≡ atom at name empty
 view-Atom at name = search (rules, the_lemmas)
 
 pub view-Text : (at : ℕ) (chars : Vec ℕ Global) → tree_view (Text at chars) ≡ text at chars.items empty
@@ -55,7 +55,7 @@ pub data OneTree : Forest → Type 0 where
   one_list : (at : ℕ) (inner : Forest) → OneTree (list at inner empty)
 
 one_step : (x : Tree-F Forest) → OneTree (view_step x)
-one_step (Tree-F.Atom at name) = one_atom at name.items
+one_step (Tree-F.Atom at name) = one_atom at name
 one_step (Tree-F.Text at chars) = one_text at chars.items
 one_step (Tree-F.List at trees) = one_list at (forest_concat trees.items)
 

@@ -11,7 +11,7 @@ forest_concat (f ∷ fs) = behind f (forest_concat fs)
 
 -- The forest of one tree whose inner trees are forests already.
 abbrev pub view_step : Tree-F Forest → Forest
-view_step (Tree-F.Atom at name) = atom at name.items empty
+view_step (Tree-F.Atom at name) = atom at name empty
 view_step (Tree-F.Text at chars) = text at chars.items empty
 view_step (Tree-F.List at trees) = list at (forest_concat trees.items) empty
 

@@ -49,7 +49,7 @@ fn print_tree(out: &mut Vec<u8>, tree: &Tree) -> Result<(), AllocError>
     ensures ok { OnOk result (out.new.items ≡ out.old.items ++ inline_form false (tree_view tree.now)) }
 {
     match tree {
-        Tree::Atom(_, name) => out.extend_from_slice(name),
+        Tree::Atom(_, name) => out.extend_from_slice(name.bytes()),
         Tree::Text(_, chars) => print_text(out, chars),
         Tree::List(_, trees) => {
             out.push(b'(')?;

@@ -9,6 +9,7 @@ ghost use Rattle.sexp_text.specs.Machine.{trees, lists, state_of, first_state, w
 
 use crate::lexer::{atom_len, comment_len, is_blank_byte, is_byte_of_atom, parse_string};
 use crate::{TextStop, Tree};
+use rt_values::Word;
 use std::alloc::Global;
 use std::{mem, str};
 
@@ -121,7 +122,7 @@ impl Reader {
     {
         let rest = &bytes[at..];
         let name = &rest[..atom_len(rest)];
-        self.put(Tree::Atom(at, Vec::from_slice(self.alloc, name)?))?;
+        self.put(Tree::Atom(at, Word::of(self.alloc, name)?))?;
         Ok(at + name.len())
     }
 

@@ -14,7 +14,7 @@ fn is_same_tree(left: &Tree, right: &Tree) -> bool
 {
     match left {
         Tree::Atom(_, name) => match right {
-            Tree::Atom(_, other) => name.as_slice() == other.as_slice(),
+            Tree::Atom(_, other) => name.is(other.bytes()),
             Tree::Text(..) => false,
             Tree::List(..) => false,
         },

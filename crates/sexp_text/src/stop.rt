@@ -1,6 +1,7 @@
 // The refusals of the parser.
 ghost use Rattle.std.specs.Prelude.{◌≡◌};
 
+use rt_values::NoMemory;
 use std::alloc::{AllocError, AllocFailed};
 
 /// The reason why bytes are no source text, with the offset in bytes from 0.
@@ -35,6 +36,16 @@ impl<T: Drop> From<AllocFailed<T>> for TextStop {
     ghost from_gives = { λ _ e. e ≡ NoMemory };
 
     fn from(_: AllocFailed<T>) -> Self {
+        TextStop::NoMemory
+    }
+}
+
+impl From<NoMemory> for TextStop {
+    ghost use Rattle.sexp_text.specs.declared.stop.TextStop.TheVariants.{NoMemory as no_memory};
+
+    ghost from_gives = { λ _ e. e ≡ no_memory };
+
+    fn from(_: NoMemory) -> Self {
         TextStop::NoMemory
     }
 }
