@@ -6,7 +6,7 @@ ghost use Rattle.lang_limits.specs.Clamped.{nearest_int, clamped_atom, clamped_s
 
 use crate::numbers::{is_int, is_oversized_int};
 use crate::tokens::{is_oversized_list, is_oversized_string};
-use rt_values::NoMemory;
+use rt_values::{NoMemory, Word};
 use sexp_text::Tree;
 use std::alloc::Global;
 
@@ -21,15 +21,13 @@ fn nearest_int(number: &[u8]) -> &'static [u8]
 }
 
 // Copies an atom, or returns the nearest number for one that does not fit into 64 bits.
-fn clamped_atom(alloc: Global, atom: &[u8]) -> Result<Vec<u8>, NoMemory>
-    ensures { IfOk result (λ v. v.items ≡ clamped_atom atom.now) }
+fn clamped_atom(alloc: Global, atom: &Word) -> Result<Word, NoMemory>
+    ensures { IfOk result (λ w. w ≡ clamped_atom atom.now) }
 {
-    let kept = if is_oversized_int(atom) {
-        nearest_int(atom)
-    } else {
-        atom
-    };
-    Ok(kept.to_vec(alloc)?)
+    if is_oversized_int(atom.bytes()) {
+        return Word::of(alloc, nearest_int(atom.bytes()));
+    }
+    atom.copy()
 }
 
 // Copies a string, or returns the empty string for one that is too long.
@@ -48,7 +46,7 @@ fn is_int_tree(tree: &Tree) -> bool
     ensures { result ≡ are_ints (tree_view tree.now) }
 {
     match tree {
-        Tree::Atom(_, atom) => is_int(atom),
+        Tree::Atom(_, atom) => is_int(atom.bytes()),
         Tree::Text(..) => false,
         Tree::List(..) => false,
     }

@@ -43,7 +43,7 @@ pub fn is_oversized_list(trees: &[Tree]) -> bool
     match trees.split_first() {
         None => false,
         Some((Tree::Atom(_, word), rest)) => {
-            word.as_slice() == b"ints".as_slice() && rest.len() > IntList::MOST_ITEMS
+            word.is(b"ints") && rest.len() > IntList::MOST_ITEMS
         }
         Some((Tree::Text(..), _)) => false,
         Some((Tree::List(..), _)) => false,
@@ -57,7 +57,7 @@ fn tree_limit(tree: &Tree, least: Option<usize>) -> Option<usize>
     ensures { result ≡ least_offset_from least (beyond (tree_view tree.now)) }
 {
     match tree {
-        Tree::Atom(at, atom) => note(is_oversized_atom(atom), *at, least),
+        Tree::Atom(at, atom) => note(is_oversized_atom(atom.bytes()), *at, least),
         Tree::Text(at, chars) => note(is_oversized_string(chars), *at, least),
         Tree::List(at, trees) => {
             let least = note(is_oversized_list(trees), *at, least);
@@ -86,7 +86,7 @@ fn is_do(trees: &[Tree]) -> bool
 {
     match trees.split_first() {
         None => false,
-        Some((Tree::Atom(_, word), _)) => word.as_slice() == b"do".as_slice(),
+        Some((Tree::Atom(_, word), _)) => word.is(b"do"),
         Some((Tree::Text(..), _)) => false,
         Some((Tree::List(..), _)) => false,
     }
