@@ -1,11 +1,11 @@
 -- Trees and syntax in memory, level by level.
-use Rattle.std.proofs.Common.{◌≡◌, ℕ, Vec, Global, rules}
+use Rattle.std.proofs.Common.{◌≡◌, ℕ, List, Vec, Global, rules}
 use Rattle.lang_ast.proofs.Views.{view-Literal, view-Variable, view-Get, view-Apply, view-Node, view-Call, view-Key, view-If, view-For, view-Let, view-Remember}
 use Rattle.lang_forms.specs.Readings.{word, chars, form, roles}
 use Rattle.lang_forms.specs.Views.{seen_tree, seen_all}
 use Rattle.sexp_text.specs.declared.tree.Tree.{Tree, Atom, Text, List as TreeList, the_lemmas}
 
-pub seen-Atom : (at : ℕ) (name : Vec ℕ Global) → seen_tree (Atom at name) ≡ word at name.items
+pub seen-Atom : (at : ℕ) (name : List ℕ) → seen_tree (Atom at name) ≡ word at name
 seen-Atom at name = search (rules, the_lemmas)
 
 pub seen-Text : (at : ℕ) (codes : Vec ℕ Global) → seen_tree (Text at codes) ≡ chars at codes.items

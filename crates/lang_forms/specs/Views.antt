@@ -19,7 +19,7 @@ use denote.Param.Weighed.{most}
 
 -- One level of a tree.
 abbrev pub seen_step : Tree-F Seen → Seen
-seen_step (Tree-F.Atom at name) = word at name.items
+seen_step (Tree-F.Atom at name) = word at name
 seen_step (Tree-F.Text at codes) = chars at codes.items
 seen_step (Tree-F.List at trees) = form at (roles at trees.items)
 

@@ -21,7 +21,7 @@ pub fn split_first_atom(trees: &[Tree]) -> Option<(usize, &[u8], &[Tree])>
     ensures within { IfSome result (λ p. widest p.2.now ≤ widest trees.now) }
 {
     match trees.split_first() {
-        Some((Tree::Atom(at, name), rest)) => Some((*at, name, rest)),
+        Some((Tree::Atom(at, name), rest)) => Some((*at, name.bytes(), rest)),
         _ => None,
     }
 }

@@ -66,7 +66,7 @@ fn parse_expression(alloc: Global, states: &[State], tree: &Tree) -> Result<Expr
     ensures { Reads expr_view result (expr_at (state_names states.now) (seen_tree tree.now)) }
 {
     match tree {
-        Tree::Atom(at, atom) => parse_leaf(alloc, *at, atom),
+        Tree::Atom(at, atom) => parse_leaf(alloc, *at, atom.bytes()),
         Tree::Text(at, chars) => parse_string_expression(alloc, *at, chars),
         Tree::List(at, inner) => parse_expression_list(alloc, states, *at, inner),
     }

@@ -85,7 +85,7 @@ fn parse_int_tree(alloc: Global, tree: &Tree) -> Result<i64, ParseStop>
     ensures { Reads (λ z. z) result (int_at (seen_tree tree.now)) }
 {
     match tree {
-        Tree::Atom(_, digits) => match parse_int(alloc, digits)? {
+        Tree::Atom(_, digits) => match parse_int(alloc, digits.bytes())? {
             Some(number) => Ok(number),
             None => Err(ParseStop::NoForm),
         },
@@ -142,7 +142,7 @@ fn parse_literal_tree(alloc: Global, tree: &Tree) -> Result<Value, ParseStop>
     ensures { Reads (λ v. v) result (literal_at (seen_tree tree.now)) }
 {
     match tree {
-        Tree::Atom(_, atom) => parse_plain_literal(alloc, atom),
+        Tree::Atom(_, atom) => parse_plain_literal(alloc, atom.bytes()),
         Tree::Text(_, chars) => parse_string(alloc, chars),
         Tree::List(_, inner) => parse_literal_list(alloc, inner),
     }
