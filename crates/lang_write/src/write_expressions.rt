@@ -9,7 +9,7 @@ ghost use Rattle.lang_forms.specs.Sketch.{Sketch, group, unplaced_sketch};
 ghost use Rattle.lang_forms.specs.Forms.{name, numbers, literal, expr_forms, exprs_forms, pairs_forms};
 
 use lang_ast::{Expression, Ident, Named, Operator};
-use rt_values::{NoMemory, Ty, Value};
+use rt_values::{NoMemory, Ty, Value, Word};
 use sexp_text::Tree;
 use snap_policy::BuiltIn;
 use std::alloc::Global;
@@ -30,8 +30,7 @@ pub fn put_word(alloc: Global, word: &[u8], out: &mut Vec<Tree>) -> Result<(), N
     ensures { OnOk result (forest_view out.new.items
         ≡ behind (forest_view out.old.items) (atom 0 word.now empty)) }
 {
-    let bytes = word.to_vec(alloc)?;
-    put(Tree::Atom(0, bytes), out)
+    put(Tree::Atom(0, Word::of(alloc, word)?), out)
 }
 
 // Appends a number in its decimals.
