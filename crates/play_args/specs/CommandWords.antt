@@ -8,13 +8,14 @@ use Rattle.play_args.specs.declared.command.Command.{Command}
 use Rattle.play_args.specs.declared.command.Command.TheVariants.{Run, Check}
 
 abbrev pub no_flags : Flags
-no_flags = record { json = false }
+no_flags = record { json = false; ops = false }
 
 -- The flags of these words after earlier ones: each word is a flag, and no flag occurs twice.
 abbrev pub flags_after : Flags → List (List ℕ) → Option Flags
 flags_after flags [] = Some flags
 flags_after flags (w ∷ ws) =
     if bytes_eq w (codes "--json") && not flags.json then flags_after (record flags { json = true }) ws
+    else if bytes_eq w (codes "--ops") && not flags.ops then flags_after (record flags { ops = true }) ws
     else None
 
 -- `check` has no flags.

@@ -39,11 +39,16 @@ fn match_subcommand<'a>(alloc: Global, words: &'a [String]) -> Result<Option<&'a
 fn parse_flags(words: &[String]) -> Option<Flags>
     ensures { result ≡ flags_after no_flags (texts words.now) }
 {
-    let mut flags = Flags { json: false };
+    let mut flags = Flags {
+        json: false,
+        ops: false,
+    };
     let mut rest = words;
     while let Some((word, more)) = rest.split_first() {
         if word.as_str() == "--json" && !flags.json {
             flags.json = true;
+        } else if word.as_str() == "--ops" && !flags.ops {
+            flags.ops = true;
         } else {
             return None;
         }

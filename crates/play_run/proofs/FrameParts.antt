@@ -183,7 +183,7 @@ module _ {functions : List Func} {V : Type 0} {stands : V → World BuiltIn → 
   asks : end_request r.notes.frame ≡ Some (request.Dispose name)
   asks = ap end_request h.noted
 
-  pub end_lines : (t : LineStyle) → part_lines t functions r (of_actor actor EndFrame) ≡ entry_line t.titles (entry r.standing.world actor (request.Dispose name)) ∷ frame_lines t.flags (outcome functions r name)
+  pub end_lines : (t : LineStyle) → part_lines t functions r (of_actor actor EndFrame) ≡ entry_line t.titles (entry r.standing.world actor (request.Dispose name)) ∷ frame_lines t.flags r.standing.kept (outcome functions r name)
   end_lines t = ap (request_lines t functions r actor) asks ∙ rw h.at_frame.frames (rw (itself name) refl)
 
   end_after : part_after functions r (of_actor actor EndFrame) ≡ ended functions r actor name
@@ -220,7 +220,7 @@ module _ {functions : List Func} {V : Type 0} {stands : V → World BuiltIn → 
   end_names = ap (λ o. (run_after_request functions r (of_actor actor EndFrame) o).notes.names) asks
 
   -- The lines of the end of a frame, as bytes.
-  pub end_bytes : (t : LineStyle) → flat (parts_lines t functions r (of_actor actor EndFrame ∷ [])) ≡ entry_line t.titles (entry r.standing.world actor (request.Dispose name)) ++ flat (frame_lines t.flags (outcome functions r name))
+  pub end_bytes : (t : LineStyle) → flat (parts_lines t functions r (of_actor actor EndFrame ∷ [])) ≡ entry_line t.titles (entry r.standing.world actor (request.Dispose name)) ++ flat (frame_lines t.flags r.standing.kept (outcome functions r name))
   end_bytes t = ap flat (append-nil (part_lines t functions r (of_actor actor EndFrame)) ∙ end_lines t)
 
 -- The state after the part that begins a frame, with the table of names.

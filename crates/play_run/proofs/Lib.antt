@@ -1,5 +1,6 @@
 pub mod Written
 pub mod Frames
+pub mod FrameCalls
 pub mod CallLines
 pub mod OpenFrames
 pub mod RunLogs

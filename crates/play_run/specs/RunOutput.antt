@@ -1,7 +1,9 @@
 -- Internal: what the parts of steps print and leave.
 use Rattle.std.specs.Prelude.{ℕ, List, [], ◌∷◌, ◌++◌, map, codes, if◌then◌else◌, Option, Some, None}
+use Rattle.std.specs.List.{flat_map}
 use Rattle.lang_ast.specs.declared.program.State.{State}
 use Rattle.lang_ast.specs.Terms.{Func}
+use Rattle.node_tree.specs.declared.ops.Op.{Op}
 use Rattle.snap_policy.specs.Table.{table}
 use Rattle.snap_api.specs.declared.data.Request.{Request}
 use Rattle.snap_api.specs.declared.data.Entry.{Entry}
@@ -11,7 +13,7 @@ use Rattle.rt_groups.specs.declared.groups.Group.{Group}
 use Rattle.script_lang.specs.declared.flags.Flags.{Flags}
 use Rattle.script_lang.specs.GroupLines.{group_lines}
 use Rattle.script_lang.specs.GroupJson.{groups_json, initial_json}
-use Rattle.script_lang.specs.Lines.{LineStyle, Standing, initial_standing, lines_at, next}
+use Rattle.script_lang.specs.Lines.{LineStyle, Standing, initial_standing, lines_at, next, op_line}
 
 -- The state of a run between two parts: what its lines depend on, what its calls depend on, and the calls so far that are
 -- printed. `first` is the state of the walk before the first part, and `log` the log of the world then.
@@ -67,6 +69,10 @@ parts_lines style functions r (p ∷ ps) =
 -- The parts of an actor.
 abbrev pub parts_of : ℕ → List Part → List ActorPart
 parts_of actor ps = map (of_actor actor) ps
+
+-- The lines of calls on an applier, with `--ops`.
+abbrev pub shown_ops : Flags → List Op → List ℕ
+shown_ops flags calls = if flags.ops then flat_map op_line calls else []
 
 -- The line of a tree as JSON, from its groups in preorder.
 abbrev pub json_line : List Group → List ℕ

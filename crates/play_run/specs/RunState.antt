@@ -1,9 +1,11 @@
 -- Internal: how the state of a run in memory represents the state of the definitions, and what was written.
-use Rattle.std.specs.Prelude.{◌≡◌, ◌≢◌, ◌⊎◌, ◌<◌, ◌≤◌, ◌+◌, ℕ, List, [], ◌∷◌, ◌++◌, All, false, length, map, Option, Some, None, Result, OnOk}
+use Rattle.std.specs.Prelude.{◌≡◌, ◌≢◌, ◌⊎◌, ◌<◌, ◌≤◌, ◌+◌, ℕ, List, [], ◌∷◌, ◌++◌, All, true, false, length, map, Option, Some, None, Result, OnOk}
 use Rattle.std.specs.List.{flat_map}
 use Rattle.rt_values.specs.Maps.{Map}
 use Rattle.rt_groups.specs.Frames.{LastFrame}
 use Rattle.lang_ast.specs.Terms.{Func}
+use Rattle.compose_model.specs.Frame.{FrameResult}
+use Rattle.node_tree.specs.declared.ops.Op.{Op}
 use Rattle.composer.specs.FrameDrafts.{functions_of}
 use Rattle.recomposer.specs.Compositions.{IsAt}
 use Rattle.recomposer.specs.declared.composition.Composition.{Composition}
@@ -17,7 +19,8 @@ use Rattle.snap_api.specs.Calls.{IsOwn}
 use Rattle.script_lang.specs.SnapshotNames.{NamedNumber, latest, never_taken}
 use Rattle.script_lang.specs.NamesInMemory.{Holds}
 use Rattle.script_lang.specs.StepCalls.{Part, Take, BeginFrame, EndFrame, ActorPart, watcher_number}
-use Rattle.script_lang.specs.Lines.{LineStyle}
+use Rattle.script_lang.specs.declared.flags.Flags.{Flags}
+use Rattle.script_lang.specs.Lines.{LineStyle, frame_calls}
 use Rattle.play_run.specs.RunPromise.{WritesBytes}
 use Rattle.play_run.specs.RunLog.{printed, frames_in, ReadsOwed}
 use Rattle.play_run.specs.RunOutput.{Run, parts_lines, parts_after}
@@ -95,6 +98,11 @@ abbrev pub LogsFrameReads : List Func → (World BuiltIn → Type 0) → ℕ →
 LogsFrameReads functions stands caller name k m None new = new ≡ None
 LogsFrameReads functions stands caller name k m (Some old) new =
     FrameReadsLogged functions stands caller name k m old new
+
+-- With `--ops` the calls of a frame with this result after the kept state are these, if it is good.
+abbrev pub MadeCalls : Flags → LastFrame → Option FrameResult → List Op → Type 0
+MadeCalls flags k None calls = Unit {0}
+MadeCalls flags k (Some good) calls = flags.ops ≡ true → calls ≡ frame_calls k good.left.trail
 
 -- The same with the table of names in memory, and with the log of the world.
 pub record IsRun {V : Type 0} (functions : List Func) (stands : V → World BuiltIn → Type 0) (log : V → Option (List Entry))

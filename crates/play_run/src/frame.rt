@@ -1,12 +1,15 @@
 // Frames, each composed in its own snapshot.
-ghost use Rattle.std.specs.Prelude.{◌≡◌, ◌≢◌, ◌<◌, ◌++◌, ◌∷◌, [], List, ℕ, Option, Some, None, Err, IfOk, OnOk, codes, length};
+ghost use Rattle.std.specs.Prelude.{◌≡◌, ◌≢◌, ◌<◌, ◌++◌, ◌∷◌, [], List, ℕ, true, Option, Some, None, Err, IfOk, OnOk, OnErr, codes, length};
+ghost use Rattle.std.specs.List.{flat_map};
 ghost use Rattle.std.specs.Option.{option_map};
 ghost use Rattle.rt_values.specs.Maps.{Map, differ};
+ghost use Rattle.rt_values.specs.Views.{Grew};
+ghost use Rattle.rt_groups.specs.PreorderGroups.{preorder};
 ghost use Rattle.rt_groups.specs.Frames.{LastFrame};
 ghost use Rattle.compose_model.specs.Frame.{FrameResult, frame as frame_of};
 ghost use Rattle.slot_table.specs.TableGroups.{group_at};
 ghost use Rattle.composer.specs.FrameDrafts.{functions_of};
-ghost use Rattle.recomposer.specs.Compositions.{IsAt};
+ghost use Rattle.recomposer.specs.Compositions.{IsAt, frame_reads, kept_after as recomposed};
 ghost use Rattle.snap_policy.specs.declared.policy.BuiltIn.{BuiltIn as built_in};
 ghost use Rattle.snap_policy.specs.Table.{table};
 ghost use Rattle.snap_api.specs.World.{World};
@@ -14,23 +17,24 @@ ghost use Rattle.snap_api.specs.ShownMap.{ShownMap};
 ghost use Rattle.snap_api.specs.Desks.{FollowsLast};
 ghost use Rattle.snap_api.specs.declared.data.Reply.TheVariants as reply_data;
 ghost use Rattle.script_lang.specs.StepCalls.{BeginFrame, EndFrame, calls_parts, frame_begun};
-ghost use Rattle.script_lang.specs.Lines.{line, report_line, frame_lines, kept_after};
+ghost use Rattle.script_lang.specs.Lines.{line, report_line, op_line, frame_lines, kept_after};
 ghost use Rattle.script_lang.specs.GroupLines.{group_lines, open_after, group_line};
 ghost use Rattle.script_lang.specs.GroupJson.{group_json, json_after_group};
-ghost use Rattle.play_run.specs.RunOutput.{Run, parts_of, parts_lines, parts_after, json_line, shown_groups};
+ghost use Rattle.play_run.specs.RunOutput.{Run, parts_of, parts_lines, parts_after, shown_ops, json_line, shown_groups};
 ghost use Rattle.play_run.specs.RunPromise.{style_of, job_functions};
-ghost use Rattle.play_run.specs.RunState.{IsRun, LogsFrameReads, RunsParts, flat};
+ghost use Rattle.play_run.specs.RunState.{IsRun, MadeCalls, LogsFrameReads, RunsParts, flat};
 ghost use Rattle.play_run.specs.RunPromise.{WritesBytes, FaultsAfter};
 
 use crate::calls::{JobActor, make_call, run_calls};
 use crate::memory::{RunMemory, WATCHER};
 use crate::write_lines::{Stop, write_piece};
 use lang_ast::CallForm;
+use node_tree::{Op, UnitApplier};
 use recomposer::{Composition, FrameStop};
 use rt_groups::Report;
 use rt_streams::Sink;
-use rt_values::{Caller, Name, NoMemory, Objects, Steps};
-use script_lang::{Flags, OpenGroups, TreeWriter, add_refused, add_report};
+use rt_values::{Caller, Name, NoMemory, Objects, Steps, View};
+use script_lang::{Flags, OpenGroups, TreeWriter, add_op, add_refused, add_report};
 use slot_table::Table;
 use snap_api::{OwnDesk, Reply, Request, Versions};
 use snap_policy::BuiltIn;
@@ -38,11 +42,46 @@ use std::alloc::Global;
 use std::marker::Brand;
 use std::sync::ledger::{Blank, Ledger};
 
+// Composes what the frame owes in the open snapshot that the view shows, and keeps the new groups. With `--ops` the
+// composition lists the calls on an applier. No frame needs their tree, so they are made on an applier without one.
+fn recompose<V: View, L: Ledger>(
+    alloc: Global,
+    flags: Flags,
+    composition: &mut Composition,
+    view: &mut V,
+    steps: &mut Steps<L>,
+) -> Result<Report, FrameStop>
+    ensures keeps { V.keeps view.old view.new }
+    ensures good { (k : LastFrame) (m : Map) → IsAt composition.old k (Some m) → V.shows view.old m →
+        let good = frame_of (functions_of composition.old.program.now) k m in
+        OnOk result (IsAt composition.new (recomposed k good) (Some m)) }
+    ensures report { (k : LastFrame) (m : Map) → IsAt composition.old k (Some m) → V.shows view.old m →
+        IfOk result (λ r. Some r ≡ option_map (λ g. g.told) (frame_of (functions_of composition.old.program.now) k m)) }
+    ensures many { (k : LastFrame) (m : Map) → IsAt composition.old k (Some m) → V.shows view.old m →
+        result ≡ Err FrameStop.TooManyGroups → frame_of (functions_of composition.old.program.now) k m ≡ None }
+    ensures calls { (k : LastFrame) (m : Map) → IsAt composition.old k (Some m) → V.shows view.old m →
+        let good = frame_of (functions_of composition.old.program.now) k m in
+        OnOk result (MadeCalls flags k good composition.new.ops) }
+    ensures err { OnErr result (composition.new ≡ composition.old) }
+    ensures no_fault { flags.ops ≡ true → result ≡ Err FrameStop.ApplierFault → ⊥ }
+    ensures program { composition.new.program ≡ composition.old.program }
+    ensures asks { (k : LastFrame) (m : Map) → IsAt composition.old k (Some m) → V.shows view.old m →
+        OnOk result (V.asked view.new ≡ V.asked view.old ++ frame_reads composition.old.program.now k m) }
+    ensures part { (k : LastFrame) (m : Map) → IsAt composition.old k (Some m) → V.shows view.old m →
+        OnErr result (Grew (V.asked view.old) (V.asked view.new) (frame_reads composition.old.program.now k m)) }
+{
+    if flags.ops {
+        return composition.recompose_with(alloc, view, &mut UnitApplier, steps);
+    }
+    composition.recompose(alloc, view, steps)
+}
+
 // Composes the program in the caller's open snapshot `name`. Returns the report of a good frame, or `None` if there are
 // too many groups. In that case everything kept stays, and the objects stay owed. `blank` is the ledger of the steps,
 // which nothing reads.
 fn compose<V: Versions<P = BuiltIn>, L: Ledger>(
     alloc: Global,
+    flags: Flags,
     caller: Caller,
     name: Name,
     memory: &mut RunMemory,
@@ -61,6 +100,10 @@ fn compose<V: Versions<P = BuiltIn>, L: Ledger>(
         IsAt memory.old.composition k (Some m) →
         let good = frame_of (functions_of memory.old.composition.program.now) k m in
         OnOk result (IsAt memory.new.composition (kept_after k good) (Some m)) }
+    ensures calls { (k : LastFrame) (m : Map) → ShownMap table (V.stands world.old) caller (Some name) m →
+        IsAt memory.old.composition k (Some m) →
+        let good = frame_of (functions_of memory.old.composition.program.now) k m in
+        OnOk result (MadeCalls flags k good memory.new.composition.ops) }
     ensures log { (k : LastFrame) (m : Map) → ShownMap table (V.stands world.old) caller (Some name) m →
         IsAt memory.old.composition k (Some m) →
         let functions = functions_of memory.old.composition.program.now in
@@ -73,7 +116,7 @@ fn compose<V: Versions<P = BuiltIn>, L: Ledger>(
     let mut steps: Steps<L> = Steps::new(book, share);
     memory.reads.clear();
     let mut desk = OwnDesk::new(world, &mut memory.reads, caller, Some(name));
-    match memory.composition.recompose(alloc, &mut desk, &mut steps) {
+    match recompose(alloc, flags, &mut memory.composition, &mut desk, &mut steps) {
         Ok(report) => Ok(Some(report)),
         Err(FrameStop::TooManyGroups) => Ok(None),
         Err(_) => Err(Stop::NoMemory),
@@ -219,26 +262,90 @@ fn write_shown_tree<K: Sink>(
     write_tree(alloc, table, text, sink)
 }
 
+// Writes the line of a call on an applier.
+fn write_op<K: Sink>(op: &Op, text: &mut Vec<u8>, sink: &mut K) -> Result<(), Stop>
+    ensures says { WritesBytes (K.written sink.old) (K.written sink.new) (op_line op.now) result }
+    ensures faults { FaultsAfter (K.faults sink.old) (K.faults sink.new) result }
+{
+    text.clear();
+    let Ok(()) = add_op(text, op) else {
+        return Err(Stop::NoMemory);
+    };
+    write_piece(sink, text)
+}
+
+// Writes one line for each call on an applier.
+fn write_ops<K: Sink>(ops: &[Op], text: &mut Vec<u8>, sink: &mut K) -> Result<(), Stop>
+    ensures says { WritesBytes (K.written sink.old) (K.written sink.new) (flat_map op_line ops.now) result }
+    ensures faults { FaultsAfter (K.faults sink.old) (K.faults sink.new) result }
+{
+    let mut rest = ops;
+    while let Some((op, more)) = rest.split_first() {
+        match write_op(op, text, sink) {
+            Ok(()) => rest = more,
+            Err(stop) => return Err(stop),
+        }
+    }
+    Ok(())
+}
+
+// Writes the calls on an applier as the flags say.
+fn write_shown_ops<K: Sink>(
+    flags: Flags,
+    ops: &[Op],
+    text: &mut Vec<u8>,
+    sink: &mut K,
+) -> Result<(), Stop>
+    ensures says { WritesBytes (K.written sink.old) (K.written sink.new) (shown_ops flags ops.now) result }
+    ensures faults { FaultsAfter (K.faults sink.old) (K.faults sink.new) result }
+{
+    if flags.ops {
+        return write_ops(ops, text, sink);
+    }
+    Ok(())
+}
+
+// Writes the calls on an applier and the tree of a composition.
+fn write_composition<K: Sink>(
+    alloc: Global,
+    flags: Flags,
+    composition: &Composition,
+    text: &mut Vec<u8>,
+    sink: &mut K,
+) -> Result<(), Stop>
+    ensures says { (k : LastFrame) (l : Option Map) → IsAt composition.now k l →
+        let lines = shown_ops flags composition.now.ops ++ shown_groups flags (preorder 0 k.trail) in
+        WritesBytes (K.written sink.old) (K.written sink.new) lines result }
+    ensures faults { FaultsAfter (K.faults sink.old) (K.faults sink.new) result }
+{
+    match write_shown_ops(flags, composition.ops().items(), text, sink) {
+        Ok(()) => write_shown_tree(alloc, flags, composition.table(), text, sink),
+        Err(stop) => Err(stop),
+    }
+}
+
 // Writes the lines of a good frame.
 fn write_good_frame<K: Sink>(
     alloc: Global,
     flags: Flags,
     report: &Report,
-    table: &Table,
+    composition: &Composition,
     text: &mut Vec<u8>,
     sink: &mut K,
 ) -> Result<(), Stop>
-    ensures says { let lines = report_line report.now ++ shown_groups flags table.now.groups in
-        WritesBytes (K.written sink.old) (K.written sink.new) lines result }
+    ensures says { (k : LastFrame) (l : Option Map) → IsAt composition.now k l →
+        let lines = shown_ops flags composition.now.ops ++ shown_groups flags (preorder 0 k.trail) in
+        WritesBytes (K.written sink.old) (K.written sink.new) (report_line report.now ++ lines) result }
     ensures faults { FaultsAfter (K.faults sink.old) (K.faults sink.new) result }
 {
     match write_report(report, text, sink) {
-        Ok(()) => write_shown_tree(alloc, flags, table, text, sink),
+        Ok(()) => write_composition(alloc, flags, composition, text, sink),
         Err(stop) => Err(stop),
     }
 }
 
-// Writes what a frame prints: the report and the tree of a good frame, or the line of a refused one.
+// Writes what a frame prints: the report, the calls on an applier and the tree of a good frame, or the line of a refused
+// one.
 fn write_frame<K: Sink>(
     alloc: Global,
     flags: Flags,
@@ -249,11 +356,12 @@ fn write_frame<K: Sink>(
 ) -> Result<(), Stop>
     ensures says { (k : LastFrame) (l : Option Map) (good : Option FrameResult) →
         report.now ≡ option_map (λ g. g.told) good → IsAt composition.now (kept_after k good) l →
-        WritesBytes (K.written sink.old) (K.written sink.new) (flat (frame_lines flags good)) result }
+        MadeCalls flags k good composition.now.ops →
+        WritesBytes (K.written sink.old) (K.written sink.new) (flat (frame_lines flags k good)) result }
     ensures faults { FaultsAfter (K.faults sink.old) (K.faults sink.new) result }
 {
     match report {
-        Some(report) => write_good_frame(alloc, flags, report, composition.table(), text, sink),
+        Some(report) => write_good_frame(alloc, flags, report, composition, text, sink),
         None => write_refused(text, sink),
     }
 }
@@ -320,7 +428,15 @@ fn finish_frame<V: Versions<P = BuiltIn>, K: Sink>(
         (K.written sink.old) (K.written sink.new) result }
     ensures faults { FaultsAfter (K.faults sink.old) (K.faults sink.new) result }
 {
-    let composed = compose::<V, Brand>(alloc, actor.number, name, memory, world, Blank::new(1));
+    let composed = compose::<V, Brand>(
+        alloc,
+        actor.flags,
+        actor.number,
+        name,
+        memory,
+        world,
+        Blank::new(1),
+    );
     match make_call(
         alloc,
         actor,

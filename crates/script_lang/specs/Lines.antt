@@ -1,8 +1,8 @@
--- Trusted: The lines that are printed of a history: one for each call, and the report and the tree after the dispose
--- of a frame's snapshot.
-use Rattle.std.specs.Prelude.{ℕ, zero, suc, ◌+◌, ◌==◌, not, List, [], ◌∷◌, ◌++◌, map, Bool, true, false, codes, Option, Some, None, if◌then◌else◌, slice_get}
+-- Trusted: The lines that are printed of a history: one for each call, and the report, the calls on an applier and the
+-- tree after the dispose of a frame's snapshot.
+use Rattle.std.specs.Prelude.{ℕ, zero, suc, ◌+◌, ◌==◌, not, List, [], ◌∷◌, ◌++◌, map, Bool, true, false, ◌&&◌, nat_lt, codes, Option, Some, None, if◌then◌else◌, slice_get}
 use Rattle.std.specs.List.{flat_map, filter}
-use Rattle.std.specs.Option.{option_map_or}
+use Rattle.std.specs.Option.{option_map_or, is_none}
 use Rattle.std.specs.Fmt.{decimal}
 use Rattle.rt_values.specs.declared.value.Ty.{Ty}
 use Rattle.rt_values.specs.declared.value.Ty.TheVariants as ty
@@ -10,7 +10,7 @@ use Rattle.rt_values.specs.declared.names.Kind.{Kind}
 use Rattle.rt_values.specs.declared.names.Kind.TheVariants.{Mutable, Readonly}
 use Rattle.rt_values.specs.Values.{value_text}
 use Rattle.rt_values.specs.Maps.{contains}
-use Rattle.rt_groups.specs.GroupForest.{Attribute}
+use Rattle.rt_groups.specs.GroupForest.{Attribute, GroupForest}
 use Rattle.rt_groups.specs.Nodes.{Nodes, Branch, nodes}
 use Rattle.rt_groups.specs.Nodes as tree
 use Rattle.rt_groups.specs.Frames.{LastFrame, no_last_frame}
@@ -21,6 +21,7 @@ use Rattle.lang_ast.specs.SyntaxView.{functions_view}
 use Rattle.lang_checks.specs.declared.checks.Checked.{Checked}
 use Rattle.compose_model.specs.Frame.{FrameResult, frame}
 use Rattle.node_tree.specs.Calls.{attribute_of}
+use Rattle.node_tree.specs.Placing.{ops}
 use Rattle.node_tree.specs.declared.ops.NewNode.{NewNode}
 use Rattle.node_tree.specs.declared.ops.Op.{Op}
 use Rattle.node_tree.specs.declared.ops.Op.TheVariants as op
@@ -170,7 +171,7 @@ tree_lines depth (Branch number kind attributes children rest) =
 abbrev pub new_node_text : NewNode → List ℕ
 new_node_text node = node_text node.number node.kind (map attribute_of node.attributes)
 
--- A call on the applier with its arguments.
+-- A call on an applier with its arguments.
 abbrev pub op_text : Op → List ℕ
 op_text (op.Down index) = codes "down " ++ decimal index
 op_text op.Up = codes "up"
@@ -184,14 +185,28 @@ op_text op.Clear = codes "clear"
 abbrev pub op_line : Op → List ℕ
 op_line call = line (codes "op: " ++ op_text call)
 
+-- A composition is detached after an applier failed: it keeps nothing, but nodes had numbers.
+abbrev pub is_detached : LastFrame → Bool
+is_detached k = is_none k.seen && nat_lt 1 k.next
+
+-- The calls on an applier of a frame that keeps this forest after the kept state `k`: those that turn the kept node tree
+-- into the new one. If the composition is detached, `clear` comes first.
+abbrev pub frame_calls : LastFrame → GroupForest → List Op
+frame_calls k trail = (if is_detached k then op.Clear ∷ [] else []) ++ ops (nodes k.trail) (nodes trail)
+
+-- With `--ops` a line for each call on an applier of a frame that keeps this forest after the kept state.
+abbrev pub ops_lines : Flags → LastFrame → GroupForest → List (List ℕ)
+ops_lines flags k trail = if flags.ops then map op_line (frame_calls k trail) else []
+
 -- One line for each node, or with `--json` one line for the whole tree.
 abbrev pub shown_tree : Flags → Nodes → List (List ℕ)
 shown_tree flags t = if flags.json then line (tree_json t) ∷ [] else tree_lines 0 t
 
--- A good frame prints its report and its tree.
-abbrev pub frame_lines : Flags → Option FrameResult → List (List ℕ)
-frame_lines flags None = line (codes "refused: too many groups") ∷ []
-frame_lines flags (Some good) = report_line good.told ∷ shown_tree flags (nodes good.left.trail)
+-- A good frame after the kept state prints its report, the calls on an applier and its tree.
+abbrev pub frame_lines : Flags → LastFrame → Option FrameResult → List (List ℕ)
+frame_lines flags k None = line (codes "refused: too many groups") ∷ []
+frame_lines flags k (Some good) =
+    report_line good.told ∷ (ops_lines flags k good.left.trail ++ shown_tree flags (nodes good.left.trail))
 
 -- The state of a walk along a history: the plain world, what is kept of the last good frame, and the snapshots of
 -- frames that are not disposed yet.
@@ -228,7 +243,7 @@ frame_at functions s e = frame functions s.kept (snapshot_of s.world (name_in e.
 abbrev pub lines_at : LineStyle → List Func → Standing → Entry → List (List ℕ)
 lines_at style functions s e =
     entry_line style.titles e
-    ∷ (if ends_frame s.frames e.request then frame_lines style.flags (frame_at functions s e) else [])
+    ∷ (if ends_frame s.frames e.request then frame_lines style.flags s.kept (frame_at functions s e) else [])
 
 abbrev pub next : List Func → Standing → Entry → Standing
 next functions s e =

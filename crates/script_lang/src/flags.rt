@@ -6,4 +6,6 @@
 pub struct Flags {
     /// `--json`: the tree is one line of JSON.
     pub json: bool,
+    /// `--ops`: before the tree, each call on an applier has a line.
+    pub ops: bool,
 }

@@ -5,6 +5,7 @@ use Rattle.recomposer.specs.Compositions.{IsAt}
 use Rattle.snap_api.specs.DeskReads.{LogsReadsIn}
 use Rattle.play_run.specs.RunState.{LogsFrameReads}
 use Rattle.play_run.proofs.Frames.{same_kept}
+use Rattle.play_run.proofs.FrameCalls.{calls_refused}
 use Rattle.play_run.proofs.RunLogs.{good_logged, part_logged}
 use Rattle.play_run.proofs.frame.compose.Goals as goal
 
@@ -13,7 +14,14 @@ returns-in-Ok-clause-told g c k m shows h = c.in-Ok.ensures.report k m h (search
 
 pub returns-in-Ok-clause-left : goal.returns-in-Ok-clause-left
 returns-in-Ok-clause-left g c k m shows h =
-    subst (λ l. IsAt c.recompose.new.self l (Some m)) (same_kept k (frame (functions_of c.args.memory.now.composition.program.now) k m)) (c.in-Ok.ensures.good k m h (search rules))
+    subst (λ l. IsAt c.recompose.new.composition l (Some m)) (same_kept k (frame (functions_of c.args.memory.now.composition.program.now) k m)) (c.in-Ok.ensures.good k m h (search rules))
+
+pub returns-in-Ok-clause-calls : goal.returns-in-Ok-clause-calls
+returns-in-Ok-clause-calls g c k m shows h = c.in-Ok.ensures.calls k m h (search rules)
+
+pub returns-in-Err-TooManyGroups-clause-calls : goal.returns-in-Err-TooManyGroups-clause-calls
+returns-in-Err-TooManyGroups-clause-calls g c k m shows h =
+    calls_refused c.args.flags k _ c.recompose.new.composition.ops (c.recompose.ensures.many k m h (search rules) (search rules))
 
 pub returns-in-Ok-clause-log : goal.returns-in-Ok-clause-log
 returns-in-Ok-clause-log g c k m shows h =

@@ -7,7 +7,7 @@ use Rattle.script_lang.specs.NamesInMemory.{Holds}
 use Rattle.script_lang.specs.Lines.{kept_after}
 use Rattle.script_lang.specs.StepCalls.{EndFrame, of_actor}
 use Rattle.play_run.specs.RunOutput.{part_after}
-use Rattle.play_run.specs.RunState.{LogsFrameReads}
+use Rattle.play_run.specs.RunState.{MadeCalls, LogsFrameReads}
 use Rattle.play_run.specs.RunPromise.{job_style, job_functions}
 use Rattle.play_run.proofs.FrameParts.{frame_map, outcome, frame_shows, frame_at, frame_is, end_facts, end_logged, end_names, end_bytes}
 use Rattle.play_run.proofs.Written.{says_behind, says_same, anyway}
@@ -28,7 +28,8 @@ returns-in-Ok-composed-clause-runs g c r h =
       says = says_same c.write_frame.result _ _ _ _ (sym (end_bytes a c.args.name r h.facts (job_style c.args.actor.job.now c.args.actor.flags)))
           (says_behind c.write_frame.result _ _ _ _ _ (c.in-Ok.ensures.says r.standing.world stood).all (c.write_frame.ensures.says k (Some m) (outcome fs r c.args.name)
           (c.in-Ok-composed.ensures.told k m shows at ∙ ap (λ (o : Option FrameResult). option_map (λ (f : FrameResult). f.told) o) good)
-          (subst (λ (o : Option FrameResult). IsAt c.compose-composed.new.memory.composition (kept_after k o) (Some m)) good left)));
+          (subst (λ (o : Option FrameResult). IsAt c.compose-composed.new.memory.composition (kept_after k o) (Some m)) good left)
+          (subst (λ (o : Option FrameResult). MadeCalls c.args.actor.flags k o c.compose-composed.new.memory.composition.ops) good (c.in-Ok-composed.ensures.calls k m shows at))));
       left = anyway c.write_frame.result (record {
         facts = end_facts a c.args.name r h.facts (c.in-Ok.ensures.left r.standing.world stood) left c.compose-composed.ensures.program;
         named = subst (λ n. Holds n (part_after fs r (of_actor a EndFrame)).notes.names) (sym c.compose-composed.ensures.names)
