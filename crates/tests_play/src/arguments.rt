@@ -13,17 +13,25 @@ fn answer(alloc: Global, words: &[&str]) -> Result<Option<Command>, Fail> {
     Ok(parse_args(alloc, &list)?)
 }
 
+// The command `run` with its flags.
+fn run_with(json: bool, ops: bool) -> Option<Command> {
+    Some(Command::Run(Flags { json, ops }))
+}
+
 #[test]
 fn a_command_is_its_word_with_its_flags(rt: HostRuntime) -> Result<(), Fail> {
-    let rows: [(&[&str], Option<Command>); 11] = [
-        (&["run"], Some(Command::Run(Flags { json: false }))),
-        (&["run", "--json"], Some(Command::Run(Flags { json: true }))),
+    let rows: [(&[&str], Option<Command>); 14] = [
+        (&["run"], run_with(false, false)),
+        (&["run", "--json"], run_with(true, false)),
+        (&["run", "--ops"], run_with(false, true)),
+        (&["run", "--ops", "--json"], run_with(true, true)),
         (&["check"], Some(Command::Check)),
         (&[], None),
         (&["runs"], None),
         (&["run", "--"], None),
         (&["help", "run"], None),
         (&["run", "--json", "--json"], None),
+        (&["run", "--ops", "--json", "--ops"], None),
         (&["--json", "run"], None),
         (&["check", "--json"], None),
         (&["--help"], None),

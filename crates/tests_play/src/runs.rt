@@ -129,6 +129,37 @@ fn trees_are_printed_as_json(rt: HostRuntime) -> Result<(), Fail> {
     Ok(())
 }
 
+const ROWS: &[u8] = b"(compose 1)
+(state items Ints Structural (ints 1 2))
+(fun root () (for i (get items) (key i (node Row ((item i))))))
+(do main (frame) (write global items (ints 2 1)) (frame))
+";
+
+const ROW_LINES: [&[u8]; 13] = [
+    b"main: frame = @1 changed items\n",
+    b"main: dispose @1 = disposed\n",
+    b"report: ran 1, calculated 0, reads 1, groups 5, nodes 2\n",
+    b"op: insertTopDown 0 #1 Row item=1\n",
+    b"op: insertTopDown 1 #2 Row item=2\n",
+    b"#1 Row item=1\n",
+    b"#2 Row item=2\n",
+    b"main: write @0 items (ints 2 1) = changed\n",
+    b"main: frame = @2 changed items\n",
+    b"main: dispose @2 = disposed\n",
+    b"report: ran 1, calculated 0, reads 1, groups 5, nodes 2\n",
+    b"op: move 1 0 1\n",
+    b"#2 Row item=2\n#1 Row item=1\n",
+];
+
+#[test]
+fn calls_on_the_applier_precede_the_tree(rt: HostRuntime) -> Result<(), Fail> {
+    let alloc = rt.alloc();
+    let (status, written) = run(&rt, alloc, &["run", "--ops"], ROWS.to_vec(alloc)?, SOUND)?;
+    assert!(rt; status == Status::Done);
+    assert_eq!(rt; written, first_lines(alloc, &ROW_LINES, 13)?);
+    Ok(())
+}
+
 // The counter with blanks and comments.
 const LOOSE_COUNTER: &[u8] = b"; counts
 (compose 1)(state  count Int Structural 0 )
