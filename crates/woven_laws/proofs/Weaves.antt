@@ -11,7 +11,7 @@ use Rattle.snap_policy.specs.Table.{table}
 use Rattle.snap_api.specs.declared.data.Entry.{Entry}
 use Rattle.snap_api.specs.World.{World, History, IsLegal, call}
 use Rattle.snap_shared.specs.SharedCalls.{own_calls}
-use Rattle.script_lang.specs.Lines.{Titles, Standing, actor_name, request_text, reply_text, lines_at, lines, next, standing_after, ends_frame, frame_lines, frame_at}
+use Rattle.script_lang.specs.Lines.{LineStyle, Standing, actor_name, request_text, reply_text, lines_at, lines, next, standing_after, ends_frame, frame_lines, frame_at}
 use Rattle.woven_laws.specs.Woven.{ActorState, SpellsAll, IsWoven}
 use Rattle.woven_laws.specs.FirstParts.{state_given}
 use Rattle.woven_laws.specs.Laws.{HasNoColon, AreActorNames, text_of, LinesTellTheHistory, TextGoesOn}
@@ -64,24 +64,24 @@ module _ (n : ℕ) where
             sym (own_calls-skip e es a (λ q. omega (arith, under, far, q))) ∙ w.others a far;
       }
 
-  module _ (t : Titles) (functions : List Func) (names : AreActorNames n (actor_name t.actors)) where
+  module _ (style : LineStyle) (functions : List Func) (names : AreActorNames n (actor_name style.titles.actors)) where
     -- The bytes of one call.
     abbrev bytes_at : Standing → Entry → List ℕ
-    bytes_at s e = flat_map (λ l. l) (lines_at t functions s e)
+    bytes_at s e = flat_map (λ l. l) (lines_at style functions s e)
 
-    text_is : (s : Standing) (e : Entry) (es : History) → text_of t functions s (e ∷ es) ≡ bytes_at s e ++ text_of t functions (next functions s e) es
-    text_is s e es = flat_map-append (λ l. l) (lines_at t functions s e) (lines t functions (next functions s e) es)
+    text_is : (s : Standing) (e : Entry) (es : History) → text_of style functions s (e ∷ es) ≡ bytes_at s e ++ text_of style functions (next functions s e) es
+    text_is s e es = flat_map-append (λ l. l) (lines_at style functions s e) (lines style functions (next functions s e) es)
 
     -- The name is first, and then comes the colon.
     front : (name a b c d rest : List ℕ) → ((((name ++ 58 ∷ 32 ∷ []) ++ a) ++ b) ++ c) ++ d ++ rest ≡ name ++ 58 ∷ (((32 ∷ a ++ b) ++ c) ++ d ++ rest)
     front [] a b c d rest = refl
     front (x ∷ name) a b c d rest = ap (λ l. x ∷ l) (front name a b c d rest)
 
-    named : (s : Standing) (e : Entry) (es : History) → (rest : List ℕ) × (text_of t functions s (e ∷ es) ≡ actor_name t.actors e.caller ++ 58 ∷ rest)
+    named : (s : Standing) (e : Entry) (es : History) → (rest : List ℕ) × (text_of style functions s (e ∷ es) ≡ actor_name style.titles.actors e.caller ++ 58 ∷ rest)
     named s e es = (
       _,
-      front (actor_name t.actors e.caller) (request_text t.states e.request) (codes " = ") (reply_text t e.reply) (10 ∷ [])
-          (flat_map (λ l. l) ((if ends_frame s.frames e.request then frame_lines (frame_at functions s e) else []) ++ lines t functions (next functions s e) es)),
+      front (actor_name style.titles.actors e.caller) (request_text style.titles.states e.request) (codes " = ") (reply_text style.titles e.reply) (10 ∷ [])
+          (flat_map (λ l. l) ((if ends_frame s.frames e.request then frame_lines style.flags s.kept (frame_at functions s e) else []) ++ lines style functions (next functions s e) es)),
     )
 
     next_world : (s : Standing) (e : Entry) → (next functions s e).world ≡ (call table s.world e.caller e.request).0
@@ -94,29 +94,29 @@ module _ (n : ℕ) where
     same_entry : (d e : Entry) → d.caller ≡ e.caller → d.request ≡ e.request → d.reply ≡ e.reply → d ≡ e
     same_entry d e c q r = λ i. record { caller = c i; request = q i; reply = r i }
 
-    first_is : (s : Standing) (actors : ℕ → ActorState) (x y : Entry) (h k : History) → IsLegal table s.world (x ∷ h) → IsLegal table s.world (y ∷ k) → IsWoven n actors (x ∷ h) → IsWoven n actors (y ∷ k) → text_of t functions s (x ∷ h) ≡ text_of t functions s (y ∷ k) → x ≡ y
+    first_is : (s : Standing) (actors : ℕ → ActorState) (x y : Entry) (h k : History) → IsLegal table s.world (x ∷ h) → IsLegal table s.world (y ∷ k) → IsWoven n actors (x ∷ h) → IsWoven n actors (y ∷ k) → text_of style functions s (x ∷ h) ≡ text_of style functions s (y ∷ k) → x ≡ y
     first_is s actors x y h k lh lk wh wk e =
         let bx = within actors x h wh in
         let by = within actors y k wk in
         let one = named s x h in
         let two = named s y k in
-        let same = ends_at_colon (actor_name t.actors x.caller) (actor_name t.actors y.caller) one.0 two.0 (names.plain x.caller bx) (names.plain y.caller by) (sym one.1 ∙ e ∙ two.1) in
+        let same = ends_at_colon (actor_name style.titles.actors x.caller) (actor_name style.titles.actors y.caller) one.0 two.0 (names.plain x.caller bx) (names.plain y.caller by) (sym one.1 ∙ e ∙ two.1) in
         let callers : x.caller ≡ y.caller = names.distinct x.caller y.caller bx by same in
         let first = subst (λ (c : ℕ). SpellsAll (actors c) (x ∷ own_calls x.caller h)) callers (first_call actors x h wh) in
         let requests : x.request ≡ y.request = one_request (actors y.caller).notes (actors y.caller).left x y (own_calls x.caller h) (own_calls y.caller k) first (first_call actors y k wk) in
         let replies : x.reply ≡ y.reply = sym lh.0 ∙ (λ i. (call table s.world (callers i) (requests i)).1) ∙ lk.0 in
         same_entry x y callers requests replies
 
-    tells : (s : Standing) (actors : ℕ → ActorState) (h k : History) → IsLegal table s.world h → IsLegal table s.world k → IsWoven n actors h → IsWoven n actors k → text_of t functions s h ≡ text_of t functions s k → h ≡ k
+    tells : (s : Standing) (actors : ℕ → ActorState) (h k : History) → IsLegal table s.world h → IsLegal table s.world k → IsWoven n actors h → IsWoven n actors k → text_of style functions s h ≡ text_of style functions s k → h ≡ k
     tells s actors [] [] lh lk wh wk e = refl
-    tells s actors [] (y ∷ k) lh lk wh wk e = let two = named s y k in absurd (not_empty (actor_name t.actors y.caller) two.0 (e ∙ two.1))
-    tells s actors (x ∷ h) [] lh lk wh wk e = let one = named s x h in absurd (not_empty (actor_name t.actors x.caller) one.0 (sym e ∙ one.1))
+    tells s actors [] (y ∷ k) lh lk wh wk e = let two = named s y k in absurd (not_empty (actor_name style.titles.actors y.caller) two.0 (e ∙ two.1))
+    tells s actors (x ∷ h) [] lh lk wh wk e = let one = named s x h in absurd (not_empty (actor_name style.titles.actors x.caller) one.0 (sym e ∙ one.1))
     tells s actors (x ∷ h) (y ∷ k) lh lk wh wk e =
         let same : x ≡ y = first_is s actors x y h k lh lk wh wk e in
         let lk' : IsLegal table s.world (x ∷ k) = subst (λ (z : Entry). IsLegal table s.world (z ∷ k)) (sym same) lk in
         let wk' : IsWoven n actors (x ∷ k) = subst (λ (z : Entry). IsWoven n actors (z ∷ k)) (sym same) wk in
-        let left : bytes_at s x ++ text_of t functions (next functions s x) h ≡ bytes_at s x ++ text_of t functions (next functions s x) k =
-        sym (text_is s x h) ∙ e ∙ ap (λ (z : Entry). text_of t functions s (z ∷ k)) (sym same) ∙ text_is s x k in
+        let left : bytes_at s x ++ text_of style functions (next functions s x) h ≡ bytes_at s x ++ text_of style functions (next functions s x) k =
+        sym (text_is s x h) ∙ e ∙ ap (λ (z : Entry). text_of style functions s (z ∷ k)) (sym same) ∙ text_is s x k in
         let more = tells (next functions s x) (next_actors actors x) h k
         (subst (λ (w : World BuiltIn). IsLegal table w h) (sym (next_world s x)) lh.1)
         (subst (λ (w : World BuiltIn). IsLegal table w k) (sym (next_world s x)) lk'.1)
@@ -124,14 +124,14 @@ module _ (n : ℕ) where
         λ i. same i ∷ more i
 
 pub lines_tell_the_history : LinesTellTheHistory
-lines_tell_the_history t functions n names s actors h k lh lk wh wk e = tells n t functions names s actors h k lh lk wh wk e
+lines_tell_the_history style functions n names s actors h k lh lk wh wk e = tells n style functions names s actors h k lh lk wh wk e
 
 pub text_goes_on : TextGoesOn
-text_goes_on t functions s [] more = refl
-text_goes_on t functions s (e ∷ es) more =
-    let here = lines_at t functions s e in
+text_goes_on style functions s [] more = refl
+text_goes_on style functions s (e ∷ es) more =
+    let here = lines_at style functions s e in
     let now = next functions s e in
-    flat_map-append (λ l. l) here (lines t functions now (es ++ more))
-    ∙ ap (λ l. flat_map (λ l. l) here ++ l) (text_goes_on t functions now es more)
-    ∙ sym (append_assoc (flat_map (λ l. l) here) (text_of t functions now es) (text_of t functions (standing_after functions now es) more))
-    ∙ ap (λ l. l ++ text_of t functions (standing_after functions now es) more) (sym (flat_map-append (λ l. l) here (lines t functions now es)))
+    flat_map-append (λ l. l) here (lines style functions now (es ++ more))
+    ∙ ap (λ l. flat_map (λ l. l) here ++ l) (text_goes_on style functions now es more)
+    ∙ sym (append_assoc (flat_map (λ l. l) here) (text_of style functions now es) (text_of style functions (standing_after functions now es) more))
+    ∙ ap (λ l. l ++ text_of style functions (standing_after functions now es) more) (sym (flat_map-append (λ l. l) here (lines style functions now es)))

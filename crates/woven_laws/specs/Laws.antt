@@ -15,7 +15,7 @@ use Rattle.snap_api.specs.DeskReads.{call_of, reads_of}
 use Rattle.snap_shared.specs.SharedCalls.{own_calls, HasOnlyCallersBelow}
 use Rattle.script_lang.specs.Scripts.{actors_of}
 use Rattle.script_lang.specs.StepCalls.{Notes, ActorPart, no_notes, request_of, notes_after, script_parts, sequential}
-use Rattle.script_lang.specs.Lines.{Titles, Standing, actor_name, lines, standing_after}
+use Rattle.script_lang.specs.Lines.{LineStyle, Standing, actor_name, lines, standing_after}
 use Rattle.script_lang.specs.PrintedCalls.{reads_frame, frames_after, printed}
 use Rattle.woven_laws.specs.PrintedHistory.{printed_history, frames_after_calls}
 use Rattle.woven_laws.specs.Woven.{parts_of, AreOf, actor_parts, ActorState, actor_at, initial_actor, SpellsAll, IsWoven}
@@ -76,20 +76,21 @@ ActorNamesAreDistinct = (forms : List DoForm) (a b : ℕ) →
     actor_name (actors_of forms) a ≡ actor_name (actors_of forms) b → a ≡ b
 
 -- The bytes of the lines of a history.
-abbrev pub text_of : Titles → List Func → Standing → History → List ℕ
-text_of t functions s h = flat_map (λ l. l) (lines t functions s h)
+abbrev pub text_of : LineStyle → List Func → Standing → History → List ℕ
+text_of style functions s h = flat_map (λ l. l) (lines style functions s h)
 
 -- The bytes of a history that goes on begin with those of its first part.
 abbrev pub TextGoesOn : Type 0
-TextGoesOn = (t : Titles) (functions : List Func) (s : Standing) (h more : History) →
-    text_of t functions s (h ++ more)
-    ≡ text_of t functions s h ++ text_of t functions (standing_after functions s h) more
+TextGoesOn = (style : LineStyle) (functions : List Func) (s : Standing) (h more : History) →
+    text_of style functions s (h ++ more)
+    ≡ text_of style functions s h ++ text_of style functions (standing_after functions s h) more
 
 -- Two histories that are legal and woven of the same actors are equal if their printed bytes are equal.
 abbrev pub LinesTellTheHistory : Type 0
-LinesTellTheHistory = (t : Titles) (functions : List Func) (n : ℕ) → AreActorNames n (actor_name t.actors) →
+LinesTellTheHistory = (style : LineStyle) (functions : List Func) (n : ℕ) →
+    AreActorNames n (actor_name style.titles.actors) →
     (s : Standing) (actors : ℕ → ActorState) (h k : History) → IsLegal table s.world h → IsLegal table s.world k →
-    IsWoven n actors h → IsWoven n actors k → text_of t functions s h ≡ text_of t functions s k → h ≡ k
+    IsWoven n actors h → IsWoven n actors k → text_of style functions s h ≡ text_of style functions s k → h ≡ k
 
 -- The sequential history of one actor is woven.
 abbrev pub SequentialIsWoven : Type 0
