@@ -1,6 +1,5 @@
 -- The calls of a frame on an applier without a tree, which never fails.
 use Rattle.std.proofs.Common.{◌≡◌, true, List, Option, Some, None, Result, Ok, Err, OnOk, OnErr, refl, sym, subst, arith}
-use Rattle.rt_streams.specs.Streams.{Rose}
 use Rattle.rt_groups.specs.Frames.{LastFrame}
 use Rattle.compose_model.specs.Frame.{FrameResult}
 use Rattle.node_tree.specs.NodeTrees.{CursorTree}
