@@ -30,7 +30,7 @@ const FRAMES: u64 = 200;
 
 const WRITES: i64 = 2000;
 
-pub(crate) fn ident(alloc: Global, name: &[u8]) -> Result<Ident, Fail> {
+fn ident(alloc: Global, name: &[u8]) -> Result<Ident, Fail> {
     let text = Word::of(alloc, name)?;
     Ok(Ident { at: 0, text })
 }

@@ -1,11 +1,9 @@
-//! Tests of `snap_shared` and `shared_frames` from outside: seats that meet, desks of seats, frames through a seat and over
-//! an applier that fails, real threads, and a world that runs out of memory.
+//! Tests of `snap_shared` and `shared_frames` from outside: seats that meet, desks of seats, frames through a seat, real
+//! threads, and a world that runs out of memory.
 #![tactic(auto)]
 
 #[cfg(test)]
 mod desks;
-#[cfg(test)]
-mod faults;
 #[cfg(test)]
 mod fixture;
 #[cfg(test)]
