@@ -14,7 +14,7 @@ use crate::old_groups::OldGroup;
 use crate::stop::ComposeStop;
 use rt_groups::{Deps, Group, GroupKind, Report};
 use rt_values::NoMemory;
-use slot_table::{SharedGroup, Table};
+use slot_table::{SharedGroup, Table, TableBuilder};
 use std::alloc::Global;
 use std::marker::Model;
 
@@ -25,7 +25,7 @@ const MOST_GROUPS: usize = 1000000;
 /// calls that ran, the cells that were calculated, and the reads of the calls that ran and ended.
 #[derive(Drop)]
 pub struct Writer {
-    groups: Vec<SharedGroup>,
+    groups: TableBuilder,
     next: u64,
     ran: u64,
     calculated: u64,
@@ -38,7 +38,7 @@ impl Model for Writer {
     ghost Value = { WrittenGroups };
 
     ghost view = { λ w. record {
-      groups = w.groups.items;
+      groups = w.groups;
       next = w.next;
       ran = w.ran;
       calculated = w.calculated;
@@ -52,7 +52,7 @@ impl Writer {
         ensures { result ≡ record { groups = []; next = next; ran = 0; calculated = 0; reads = 0 } }
     {
         Writer {
-            groups: Vec::new(alloc),
+            groups: TableBuilder::new(alloc),
             next,
             ran: 0,
             calculated: 0,
@@ -101,11 +101,7 @@ impl Writer {
         if self.groups.len() >= MOST_GROUPS {
             return Err(ComposeStop::TooManyGroups);
         }
-        let Ok(()) = self.groups.reserve(1) else {
-            return Err(ComposeStop::NoMemory);
-        };
-        self.groups.push_reserved(group);
-        Ok(())
+        Ok(self.groups.push(group)?)
     }
 
     /// Appends a group that is no call and is matched with `found`. A node gets the number of `found`, or the next number.
@@ -183,7 +179,7 @@ impl Writer {
         let Some(reads) = self.reads.checked_add(own.numbers().len() as u64) else {
             return Err(NoMemory); // No memory holds so many reads.
         };
-        self.groups[place].set_reads(alloc, own)?;
+        self.groups.set_reads(alloc, place, own)?;
         self.reads = reads;
         Ok(())
     }
@@ -256,20 +252,13 @@ fn one_where(truth: bool) -> u64
     if truth { 1 } else { 0 }
 }
 
-// Whether a group is a node.
-fn is_node(group: &SharedGroup) -> bool
-    ensures { result ≡ node group.now }
-{
-    group.is_node()
-}
-
 // Counts the nodes among the groups.
-fn node_count(groups: &[SharedGroup]) -> usize
+fn node_count(groups: &TableBuilder) -> usize
     ensures { result ≡ nodes_in groups.now }
 {
     let mut count = 0;
-    for group in groups {
-        if is_node(group) {
+    for i in 0..groups.len() {
+        if groups.is_node(i) {
             count += 1;
         }
     }

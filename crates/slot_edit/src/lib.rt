@@ -16,7 +16,7 @@ mod inverse;
 
 use rt_values::NoMemory;
 use slot_anchors::Anchors;
-use slot_table::{SharedGroup, Table};
+use slot_table::{Table, TableBuilder};
 use std::alloc::Global;
 use std::marker::Model;
 
@@ -48,10 +48,10 @@ impl Patch {
     /// group with its path, or `None` if the group is new. Takes all the memory that `apply` needs.
     pub fn new(
         alloc: Global,
-        groups: Vec<SharedGroup>,
+        groups: TableBuilder,
         olds: Vec<Option<usize>>,
     ) -> Result<Patch, NoMemory>
-        ensures groups { IfOk result (λ p. p.groups ≡ groups.items) }
+        ensures groups { IfOk result (λ p. p.groups ≡ groups) }
         ensures olds { IfOk result (λ p. p.olds ≡ olds.items) }
     {
         let table = Table::from_groups(alloc, groups)?;

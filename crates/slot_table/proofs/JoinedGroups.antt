@@ -1,11 +1,12 @@
 -- The groups of two buffers, part by part.
-use Rattle.std.proofs.Common.{◌≡◌, ◌<◌, ℕ, zero, suc, Bool, false, List, [], ◌∷◌, ◌++◌, length, map, get_or, refl, sym, subst, ap, ◌∙◌, arith}
+use Rattle.std.proofs.Common.{◌≡◌, ◌<◌, ℕ, zero, suc, Bool, false, List, [], ◌∷◌, ◌++◌, length, map, get_or, set, refl, sym, subst, ap, ◌∙◌, arith}
+use Rattle.std.proofs.Common.{length-set}
 use Rattle.std.proofs.lemmas.List.{map-append, length-append}
 use Rattle.rt_groups.specs.declared.groups.Group.{Group}
 use Rattle.rt_groups.specs.PreorderGroups.{flat_group}
 use Rattle.slot_table.specs.declared.storage.GroupHead.{GroupHead}
 use Rattle.slot_table.specs.SharedSlots.{GroupSlots}
-use Rattle.slot_table.specs.TableGroups.{group_at, is_node_kind}
+use Rattle.slot_table.specs.TableGroups.{group_at, is_node_kind, with_reads}
 use Rattle.slot_table.specs.Storage.{joined_groups, KnowNodes, AreParts}
 
 pub joined_count : (hs : List GroupHead) (ss : List GroupSlots) → length hs ≡ length ss → length (joined_groups hs ss) ≡ length hs
@@ -104,3 +105,37 @@ parts_pushed hs hs' ss ss' gs h s g parts same eh es eg =
     subst (λ l. AreParts l ss' (gs ++ g ∷ [])) (sym eh)
     (subst (λ l. AreParts (hs ++ h ∷ []) l (gs ++ g ∷ [])) (sym es)
     (subst (λ x. AreParts (hs ++ h ∷ []) (ss ++ s ∷ []) (gs ++ x ∷ [])) eg (parts_after hs ss gs h s parts same)))
+
+-- The group at an index, whatever the default is.
+pub at_is : (gs : List Group) (i : ℕ) → i < length gs → group_at gs i ≡ get_or gs i (group_at gs i)
+at_is gs i inside = same_default gs i (group_at [] i) (group_at gs i) inside where
+  same_default : (gs : List Group) (i : ℕ) (d e : Group) → i < length gs → get_or gs i d ≡ get_or gs i e
+  same_default [] i d e inside = absurd (omega (arith, inside))
+  same_default (g ∷ gs) zero d e inside = refl
+  same_default (g ∷ gs) (suc i) d e inside = same_default gs i d e (omega (arith, inside))
+
+-- Other reads of the group at an index.
+joined_set : (hs : List GroupHead) (ss : List GroupSlots) (i : ℕ) (s : GroupSlots) (d : Group) → length hs ≡ length ss → i < length hs → s.what ≡ (get_or (joined_groups hs ss) i d).what
+    → joined_groups hs (set ss i s) ≡ set (joined_groups hs ss) i (with_reads (get_or (joined_groups hs ss) i d) s.reads)
+joined_set [] ss i s d e lt same = absurd (omega (arith, lt))
+joined_set (x ∷ hs) [] i s d e lt same = absurd (omega (arith, e))
+joined_set (x ∷ hs) (y ∷ ss) zero s d e lt same = ap (λ k. flat_group x.depth x.site x.number k s.reads ∷ joined_groups hs ss) same
+joined_set (x ∷ hs) (y ∷ ss) (suc i) s d e lt same = ap (λ l. flat_group x.depth x.site x.number y.what y.reads ∷ l) (joined_set hs ss i s d (omega (arith, e)) (omega (arith, lt)) same)
+
+kinds_set : (ss : List GroupSlots) (i : ℕ) (s d : GroupSlots) → i < length ss → s.what ≡ (get_or ss i d).what → map (λ x. is_node_kind x.what) (set ss i s) ≡ map (λ x. is_node_kind x.what) ss
+kinds_set [] i s d lt same = absurd (omega (arith, lt))
+kinds_set (y ∷ ss) zero s d lt same = ap (λ k. is_node_kind k ∷ map (λ x. is_node_kind x.what) ss) same
+kinds_set (y ∷ ss) (suc i) s d lt same = ap (λ l. is_node_kind y.what ∷ l) (kinds_set ss i s d (omega (arith, lt)) same)
+
+pub set_parts : (hs : List GroupHead) (ss : List GroupSlots) (gs : List Group) (i : ℕ) (s old : GroupSlots) (reads : List ℕ) → AreParts hs ss gs → i < length gs → old ≡ get_or ss i old → s.what ≡ old.what → s.reads ≡ reads
+    → AreParts hs (set ss i s) (set gs i (with_reads (group_at gs i) reads))
+set_parts hs ss gs i s old reads parts inside is what own =
+    let within = inside_heads gs hs ss i parts.joined parts.long inside in
+    let long = parts.long in
+    let kind = what ∙ (slot_is gs hs ss i old parts.joined parts.long inside is).0 in
+    record {
+      joined = joined_set hs ss i s (group_at [] i) long within (kind ∙ ap (λ l. (group_at l i).what) (sym parts.joined))
+          ∙ ap (λ l. set l i (with_reads (group_at l i) s.reads)) parts.joined ∙ ap (λ r. set gs i (with_reads (group_at gs i) r)) own;
+      long = parts.long ∙ sym (length-set ss i s);
+      nodes = parts.nodes ∙ sym (kinds_set ss i s old (omega (arith, within, long)) (what ∙ ap (λ x. x.what) is));
+    }

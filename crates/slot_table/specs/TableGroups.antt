@@ -15,6 +15,10 @@ pub record TableGroups : Type 0 where
 abbrev pub group_at : List Group → ℕ → Group
 group_at gs i = slice_index_or gs i (flat_group 0 0 0 (what.Key no_value) [])
 
+-- The group with other reads.
+abbrev pub with_reads : Group → List ℕ → Group
+with_reads g reads = flat_group g.depth g.site g.number g.what reads
+
 -- Whether a group of this kind is a node.
 abbrev pub is_node_kind : GroupKind → Bool
 is_node_kind (what.Call f vs) = false

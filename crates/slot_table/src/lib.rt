@@ -16,7 +16,7 @@ mod storage;
 mod table;
 
 pub use reader::Reader;
-pub use storage::SharedGroup;
+pub use storage::{SharedGroup, TableBuilder};
 pub use table::Table;
 
 /// States that skipping a group of a forest leaves its later siblings and what follows them.

@@ -1,17 +1,16 @@
 // The parts of the groups of a table, in two gap buffers.
-ghost use Rattle.std.specs.Prelude.{◌≡◌, ◌++◌, ◌∷◌, [], List, IfOk, OnOk, OnErr};
-ghost use Rattle.rt_groups.specs.declared.groups.Group.{Group as group_data};
+ghost use Rattle.std.specs.Prelude.{◌≡◌, ◌<◌, ◌++◌, ◌∷◌, [], IfOk, OnOk, OnErr, length, slice_set};
 ghost use Rattle.rt_groups.specs.PreorderGroups.{flat_group};
 ghost use Rattle.slot_table.specs.Storage.{AreParts};
 ghost use Rattle.slot_table.specs.SharedSlots.{reads_in};
-ghost use Rattle.slot_table.specs.TableGroups.{is_node_kind};
+ghost use Rattle.slot_table.specs.TableGroups.{group_at, is_node_kind, with_reads};
 
 use gap_buffer::GapBuf;
 use rt_groups::{Deps, Group, GroupKind};
 use rt_values::{NoMemory, ObjectNo};
 use std::alloc::Global;
 use std::marker::Model;
-use std::sync::Arc;
+use std::rc::Rc;
 
 /// The fields of a group that have a fixed size.
 #[derive(Clone, Copy)]
@@ -25,9 +24,9 @@ pub struct GroupHead {
 /// The slots of a group: its kind with its values, and its reads. Tables that have the same group share them.
 #[derive(Drop)]
 pub struct Slots {
-    what: Arc<GroupKind>,
+    what: Rc<GroupKind>,
     // `None` if the group has no reads.
-    reads: Option<Arc<Deps>>,
+    reads: Option<Rc<Deps>>,
 }
 
 impl Model for Slots {
@@ -39,13 +38,13 @@ impl Model for Slots {
 }
 
 // Returns the reads for groups that share them.
-fn share_reads(alloc: Global, reads: Deps) -> Result<Option<Arc<Deps>>, NoMemory>
+fn share_reads(alloc: Global, reads: Deps) -> Result<Option<Rc<Deps>>, NoMemory>
     ensures { IfOk result (λ r. reads_in r ≡ reads) }
 {
     if reads.numbers().is_empty() {
         return Ok(None);
     }
-    Ok(Some(Arc::new(alloc, reads)?))
+    Ok(Some(Rc::new(alloc, reads)?))
 }
 
 impl Slots {
@@ -54,7 +53,7 @@ impl Slots {
         ensures { IfOk result (λ s. s ≡ record { what = what; reads = reads }) }
     {
         Ok(Slots {
-            what: Arc::new(alloc, what)?,
+            what: Rc::new(alloc, what)?,
             reads: share_reads(alloc, reads)?,
         })
     }
@@ -179,43 +178,100 @@ impl SharedGroup {
             slots: self.slots,
         }
     }
+}
 
-    /// Replaces the reads. After `NoMemory` the group is unchanged.
-    pub fn set_reads(&mut self, alloc: Global, reads: Deps) -> Result<(), NoMemory>
-        ensures set { OnOk result (self.new ≡ flat_group self.old.depth self.old.site self.old.number self.old.what reads) }
+/// Groups in preorder that become a table.
+#[derive(Drop)]
+pub struct TableBuilder {
+    heads: Vec<GroupHead>,
+    slots: Vec<Slots>,
+}
+
+impl Model for TableBuilder {
+    ghost use Rattle.rt_groups.specs.declared.groups.Group.{Group as group_data};
+    ghost use Rattle.std.specs.Prelude.{◌≡◌, List, length};
+    ghost use Rattle.slot_table.specs.Storage.{joined_groups, KnowNodes};
+
+    ghost Value = { List group_data };
+
+    ghost view = { λ b. joined_groups b.heads.items b.slots.items };
+
+    ghost invariant = { λ b. (length b.heads.items ≡ length b.slots.items) × KnowNodes b.heads.items b.slots.items };
+}
+
+impl TableBuilder {
+    /// Returns a builder without groups.
+    pub fn new(alloc: Global) -> Self
+        ensures { result ≡ [] }
+    {
+        TableBuilder {
+            heads: Vec::new(alloc),
+            slots: Vec::new(alloc),
+        }
+    }
+
+    /// Returns the number of groups.
+    #[tactic(auto, using(crate::proofs::JoinedGroups::joined_count))]
+    pub fn len(&self) -> usize
+        ensures { result ≡ length self.now }
+    {
+        self.heads.len()
+    }
+
+    // Returns the fields of the group at index `i` that have a fixed size.
+    fn head(&self, i: usize) -> &GroupHead
+        requires { i < length self.now }
+        ensures depth { result.now.depth ≡ (group_at self.now i).depth }
+        ensures node { result.now.is_node ≡ is_node_kind (group_at self.now i).what }
+    {
+        let _length = self.heads.len();
+        &self.heads[i]
+    }
+
+    /// Returns the depth of the group at index `i`.
+    pub fn depth(&self, i: usize) -> u32
+        requires { i < length self.now }
+        ensures { result ≡ (group_at self.now i).depth }
+    {
+        self.head(i).depth
+    }
+
+    /// Returns whether the group at index `i` is a node.
+    pub fn is_node(&self, i: usize) -> bool
+        requires { i < length self.now }
+        ensures { result ≡ is_node_kind (group_at self.now i).what }
+    {
+        self.head(i).is_node
+    }
+
+    /// Appends a group. After `NoMemory` the groups are unchanged.
+    pub fn push(&mut self, group: SharedGroup) -> Result<(), NoMemory>
+        ensures added { OnOk result (self.new ≡ self.old ++ group ∷ []) }
+        ensures same { OnErr result (self.new ≡ self.old) }
+    {
+        self.slots.reserve(1)?;
+        self.heads.push(group.head)?;
+        self.slots.push_reserved(group.slots);
+        Ok(())
+    }
+
+    /// Gives the group at index `i` these reads in place of its own. After `NoMemory` the groups are unchanged.
+    pub fn set_reads(&mut self, alloc: Global, i: usize, reads: Deps) -> Result<(), NoMemory>
+        requires { i < length self.old }
+        ensures set { OnOk result (self.new ≡ slice_set self.old i (with_reads (group_at self.old i) reads)) }
         ensures same { OnErr result (self.new ≡ self.old) }
     {
         let reads = share_reads(alloc, reads)?;
-        self.slots.reads = reads;
+        let _length = self.slots.len();
+        self.slots[i].reads = reads;
         Ok(())
     }
-}
 
-// Appends the parts of `group` to both lists.
-fn append(
-    heads: &mut Vec<GroupHead>,
-    slots: &mut Vec<Slots>,
-    group: SharedGroup,
-) -> Result<(), NoMemory>
-    ensures { (groups : List group_data) → AreParts heads.old.items slots.old.items groups →
-        OnOk result (AreParts heads.new.items slots.new.items (groups ++ group ∷ [])) }
-{
-    heads.push(group.head)?;
-    slots.push(group.slots)?;
-    Ok(())
-}
-
-/// Moves the parts of the groups into two gap buffers.
-pub fn split(
-    alloc: Global,
-    groups: Vec<SharedGroup>,
-) -> Result<(GapBuf<GroupHead>, GapBuf<Slots>), NoMemory>
-    ensures { IfOk result (λ r. AreParts r.0.items r.1.items groups.items) }
-{
-    let mut heads = Vec::with_capacity(alloc, groups.len())?;
-    let mut slots = Vec::with_capacity(alloc, groups.len())?;
-    for group in groups {
-        append(&mut heads, &mut slots, group)?;
+    // Returns the parts of all groups.
+    pub(crate) fn into_parts(self) -> (GapBuf<GroupHead>, GapBuf<Slots>)
+        ensures { AreParts result.0.items result.1.items self }
+    {
+        let TableBuilder { heads, slots } = self;
+        (GapBuf::from_vec(heads), GapBuf::from_vec(slots))
     }
-    Ok((GapBuf::from_vec(heads), GapBuf::from_vec(slots)))
 }

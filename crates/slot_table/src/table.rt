@@ -5,7 +5,7 @@ ghost use Rattle.slot_table.specs.TableGroups.{group_at, is_node_kind};
 ghost use Rattle.slot_table.specs.ReaderStates.{after_deep};
 ghost use Rattle.slot_table.specs.InnerCounts.{leading_deep, inner_counts};
 
-use crate::storage::{GroupHead, SharedGroup, Slots, split};
+use crate::storage::{GroupHead, SharedGroup, Slots, TableBuilder};
 use gap_buffer::GapBuf;
 use rt_groups::GroupKind;
 use rt_values::{NoMemory, ObjectNo};
@@ -53,11 +53,11 @@ impl Table {
     }
 
     /// Returns the table of `groups`, which are in preorder. Takes time linear in their number.
-    pub fn from_groups(alloc: Global, groups: Vec<SharedGroup>) -> Result<Self, NoMemory>
-        ensures { IfOk result (λ t. t.groups ≡ groups.items) }
+    pub fn from_groups(alloc: Global, groups: TableBuilder) -> Result<Self, NoMemory>
+        ensures { IfOk result (λ t. t.groups ≡ groups) }
     {
         let counts = count_all_inside(alloc, &groups)?;
-        let (groups, slots) = split(alloc, groups)?;
+        let (groups, slots) = groups.into_parts();
         Ok(Table {
             groups,
             slots,
@@ -172,26 +172,18 @@ impl Table {
     }
 }
 
-// Returns the group at index `i`.
-fn item(groups: &[SharedGroup], i: usize) -> &SharedGroup
-    requires { i < length groups.now }
-    ensures { result.now ≡ slice_index_or groups.now i result.now }
-{
-    &groups[i]
-}
-
 // Counts the groups inside the group at index `i`. The counts of the groups after it are known.
-fn count_inside(groups: &[SharedGroup], counts: &[usize], i: usize) -> usize
+fn count_inside(groups: &TableBuilder, counts: &[usize], i: usize) -> usize
     requires inside { i < length groups.now }
     requires long { length counts.now ≡ length groups.now }
     requires after { drop (i + 1) counts.now ≡ inner_counts (drop (i + 1) groups.now) }
     ensures { (g : group_data) (rest : List group_data) → drop i groups.now ≡ g ∷ rest →
         result ≡ length (leading_deep (g.depth + 1) rest) }
 {
-    let depth = item(groups, i).depth();
+    let depth = groups.depth(i);
     let mut next = i + 1;
     while next < groups.len() {
-        if item(groups, next).depth() <= depth {
+        if groups.depth(next) <= depth {
             return next - i - 1;
         }
         next = next + 1 + counts[next];
@@ -200,7 +192,7 @@ fn count_inside(groups: &[SharedGroup], counts: &[usize], i: usize) -> usize
 }
 
 // Counts for each group the groups inside it, from the last group to the first.
-fn count_all_inside(alloc: Global, groups: &[SharedGroup]) -> Result<Vec<usize>, NoMemory>
+fn count_all_inside(alloc: Global, groups: &TableBuilder) -> Result<Vec<usize>, NoMemory>
     ensures { IfOk result (λ counts. counts.items ≡ inner_counts groups.now) }
 {
     let mut at = groups.len();

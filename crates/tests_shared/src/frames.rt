@@ -130,22 +130,26 @@ fn make_frame<R: Wait>(
     frame_counting::<R, Brand>(rt, alloc, shared, seat, step, composition, Blank::new(1))
 }
 
-// Makes frames through the seat, and returns it with the number that each frame shows. Stops at a failed frame.
+// Makes frames of the program through the seat, and returns it with the number that each frame shows. Stops at a failed
+// frame.
 fn compose_frames<R: Wait>(
     rt: &R,
     alloc: Global,
     shared: &Shared<World>,
     seat: Seat<World>,
-    composition: &mut Composition,
+    program: &Checked,
 ) -> (Seat<World>, Vec<i64>)
     requires { IsSeat shared.now seat }
     ensures { IsSeat shared.now result.0 }
 {
     let mut shown = Vec::new(alloc);
+    let Ok(mut composition) = Composition::new(alloc, program, 0) else {
+        return (seat, shown);
+    };
     let mut held = seat;
     let mut step = 0;
     for _ in 0..FRAMES {
-        let (next, after, outcome) = make_frame(rt, alloc, shared, held, step, composition);
+        let (next, after, outcome) = make_frame(rt, alloc, shared, held, step, &mut composition);
         held = next;
         step = after;
         let Ok(_) = outcome else {
@@ -187,7 +191,7 @@ fn compose_while_writing<R: Threads + Wait + Sync>(
     shared: &Shared<World>,
     writer: Seat<World>,
     reader: Seat<World>,
-    composition: &mut Composition,
+    program: &Checked,
 ) -> (Seat<World>, Seat<World>, Vec<i64>)
     requires writer { IsSeat shared.now writer }
     requires reader { IsSeat shared.now reader }
@@ -197,7 +201,7 @@ fn compose_while_writing<R: Threads + Wait + Sync>(
     let (writer, (reader, shown)) = thread::join(
         rt,
         || write_numbers(rt, alloc, shared, writer),
-        || compose_frames(rt, alloc, shared, reader, composition),
+        || compose_frames(rt, alloc, shared, reader, program),
     );
     (writer, reader, shown)
 }
@@ -206,18 +210,12 @@ fn compose_while_writing<R: Threads + Wait + Sync>(
 fn each_frame_shows_the_value_at_its_take(rt: HostRuntime) -> Result<(), Fail> {
     let alloc = rt.alloc();
     let program = checked_program(alloc)?;
-    let mut composition = Composition::new(alloc, &program, 0)?;
     let (shared, mut seats) = shared_counter(&rt, alloc, 2)?;
     let (Some(writer), Some(reader)) = (seats.pop(), seats.pop()) else {
         unreachable!()
     };
     let (writer, reader, shown) = compose_while_writing(
-        &rt,
-        alloc,
-        &shared,
-        writer,
-        reader,
-        &mut composition,
+        &rt, alloc, &shared, writer, reader, &program,
     );
     let ends = vec![in alloc; writer, reader]?;
     let (_, history) = shared.into_parts(ends);

@@ -1,13 +1,13 @@
 // The groups of a composition with one row for each key.
 use rt_groups::{Attribute, Attributes, Group, GroupKind, Values};
 use rt_values::{NoMemory, Objects, Value, Word};
-use slot_table::SharedGroup;
+use slot_table::{SharedGroup, TableBuilder};
 use std::alloc::Global;
 
 // Appends a group with the number 9 that read object 7.
 fn append(
     alloc: Global,
-    groups: &mut Vec<SharedGroup>,
+    groups: &mut TableBuilder,
     depth: u32,
     site: u32,
     what: GroupKind,
@@ -19,8 +19,7 @@ fn append(
         what,
         reads: Objects::of(vec![in alloc; 7]?),
     };
-    groups.push(SharedGroup::new(alloc, group)?)?;
-    Ok(())
+    groups.push(SharedGroup::new(alloc, group)?)
 }
 
 // Returns the kind of a row, whose attribute `n` is `key`.
@@ -37,8 +36,8 @@ fn row(alloc: Global, key: i64) -> Result<GroupKind, NoMemory> {
 }
 
 // Returns the call of the root with the argument -1, and inside it for each key a key group with a row.
-pub fn row_groups(alloc: Global, keys: &[i64]) -> Result<Vec<SharedGroup>, NoMemory> {
-    let mut groups = Vec::new(alloc);
+pub fn row_groups(alloc: Global, keys: &[i64]) -> Result<TableBuilder, NoMemory> {
+    let mut groups = TableBuilder::new(alloc);
     let mut arguments = Values::new(alloc);
     arguments.push(Value::Int(-1))?;
     let root = GroupKind::Call {
