@@ -50,18 +50,18 @@ owned_so_far ms x xs done i here past = elim (eqb_tells x i) [
   own true is h = is
   own false is h = absurd (not_both (contains x (without_id x xs)) h (gone-without_id x xs))
 
-rising_owned : (ms : List Member) (kept more : List ℕ) → IsRising kept → IsRising (with_owned ms kept more)
+pub rising_owned : (ms : List Member) (kept more : List ℕ) → IsRising kept → IsRising (with_owned ms kept more)
 rising_owned ms kept [] r = r
 rising_owned ms kept (x ∷ more) r = rising_owned ms (cond (is_owned ms x) (with_id x kept) kept) more (of (is_owned ms x)) where
   of : (b : Bool) → IsRising (cond b (with_id x kept) kept)
   of true = rising-with_id x kept r
   of false = r
 
-both : (a b : Bool) → a ≡ true → b ≡ true → (a && b) ≡ true
+pub both : (a b : Bool) → a ≡ true → b ≡ true → (a && b) ≡ true
 both true b h k = k
 both false b h k = h
 
-halves : (a b : Bool) → (a && b) ≡ true → (a ≡ true) × (b ≡ true)
+pub halves : (a b : Bool) → (a && b) ≡ true → (a ≡ true) × (b ≡ true)
 halves true b h = (refl, h)
 halves false b h = absurd cc
 

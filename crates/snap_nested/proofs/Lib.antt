@@ -9,3 +9,4 @@ pub mod Free
 pub mod Open
 pub mod Merging
 pub mod Keeping
+pub mod Twice

@@ -76,6 +76,59 @@ fn seal(
     Ok(all)
 }
 
+// Appends a member with these invalid ids.
+fn push_member(
+    alloc: Global,
+    members: &mut Vec<Member>,
+    handed: u64,
+    parent: Name,
+    kind: Kind,
+    owner: Caller,
+    invalid: IdSet,
+) -> Result<(), NoMemory>
+    requires sealed { invalid ≡ invalid_after_advance members.old.items (member members.old.items parent) handed }
+    requires room { handed < 2 ^ 62 }
+    ensures ok { OnOk result (members.new.items ≡ members_after_enter members.old.items handed parent kind owner) }
+    ensures err { OnErr result (members.new.items ≡ members.old.items) }
+{
+    let id = handed + 1;
+    let ids = IdSet::of(alloc, id)?;
+    members.push(Member {
+        is_live: true,
+        parent,
+        owner,
+        kind,
+        first: id,
+        id,
+        ids,
+        invalid,
+    })?;
+    Ok(())
+}
+
+// Gives a member one more id, and replaces its invalid ids.
+fn add_id(
+    members: &mut Vec<Member>,
+    handed: u64,
+    name: Name,
+    invalid: IdSet,
+) -> Result<(), NoMemory>
+    requires sealed { invalid ≡ invalid_after_advance members.old.items (member members.old.items name) handed }
+    requires there { name < length members.old.items }
+    requires room { handed < 2 ^ 62 }
+    ensures ok { OnOk result (members.new.items ≡ members_after_advance members.old.items handed name) }
+    ensures err { OnErr result (members.new.items ≡ members.old.items) }
+{
+    let id = handed + 1;
+    let member = &mut members[name as usize];
+    let Ok(()) = member.ids.set(id) else {
+        return Err(NoMemory);
+    };
+    member.id = id;
+    member.invalid = invalid;
+    Ok(())
+}
+
 /// Appends a member for which the ids are valid that are valid for its parent.
 pub fn enter_member(
     alloc: Global,
@@ -93,20 +146,8 @@ pub fn enter_member(
     ensures ok { OnOk result (members.new.items ≡ members_after_enter members.old.items handed parent kind owner) }
     ensures err { OnErr result (members.new.items ≡ members.old.items) }
 {
-    let id = handed + 1;
     let invalid = seal(alloc, members, held, handed, parent)?;
-    let ids = IdSet::of(alloc, id)?;
-    members.push(Member {
-        is_live: true,
-        parent,
-        owner,
-        kind,
-        first: id,
-        id,
-        ids,
-        invalid,
-    })?;
-    Ok(())
+    push_member(alloc, members, handed, parent, kind, owner, invalid)
 }
 
 /// Gives a member one more id.
@@ -124,17 +165,8 @@ pub fn advance_member(
     ensures ok { OnOk result (members.new.items ≡ members_after_advance members.old.items handed name) }
     ensures err { OnErr result (members.new.items ≡ members.old.items) }
 {
-    let id = handed + 1;
-    let Ok(invalid) = seal(alloc, members, held, handed, name) else {
-        return Err(NoMemory);
-    };
-    let member = &mut members[name as usize];
-    let Ok(()) = member.ids.set(id) else {
-        return Err(NoMemory);
-    };
-    member.id = id;
-    member.invalid = invalid;
-    Ok(())
+    let invalid = seal(alloc, members, held, handed, name)?;
+    add_id(members, handed, name, invalid)
 }
 
 /// Closes a member, which keeps its ids.
@@ -179,19 +211,18 @@ pub fn merge_member(
     Ok(())
 }
 
-/// Appends a member, and gives its parent one more id.
+/// Appends a member, and gives its parent one more id. Both have the same invalid ids, but for the child's id, which is
+/// invalid for the parent.
 pub fn take_members(
     alloc: Global,
     members: &mut Vec<Member>,
     held: &IdList,
-    after: &IdList,
     handed: u64,
     parent: Name,
     kind: Kind,
     owner: Caller,
 ) -> Result<(), NoMemory>
     requires open_names { AreOpen held.now members.old.items }
-    requires after { AreOpen after.now (members_after_enter members.old.items handed parent kind owner) }
     requires there { parent < length members.old.items }
     requires room { handed + 1 < 2 ^ 62 }
     requires low { (member members.old.items parent).id ≤ handed }
@@ -199,12 +230,15 @@ pub fn take_members(
         (members_after_enter members.old.items handed parent kind owner) (handed + 1) parent) }
     ensures err { OnErr result (members.new.items ≡ members.old.items) }
 {
-    enter_member(alloc, members, held, handed, parent, kind, owner)?;
-    let advanced = advance_member(alloc, members, after, handed + 1, parent);
-    if advanced.is_err() {
+    let invalid = seal(alloc, members, held, handed, parent)?;
+    let mut sealed = invalid.copy(alloc)?;
+    sealed.set(handed + 1)?;
+    push_member(alloc, members, handed, parent, kind, owner, invalid)?;
+    let Ok(()) = add_id(members, handed + 1, parent, sealed) else {
         members.pop();
-    }
-    advanced
+        return Err(NoMemory);
+    };
+    Ok(())
 }
 
 // Returns whether the member with this name is live and the id is valid for it.

@@ -147,7 +147,6 @@ impl Family {
             alloc,
             &mut self.members,
             &self.held,
-            &held,
             self.handed,
             parent,
             kind,

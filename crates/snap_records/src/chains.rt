@@ -7,7 +7,7 @@ ghost use Rattle.snap_ids.specs.IdLists.{is_valid};
 ghost use Rattle.snap_records.specs.Edits.{higher_record, is_valid_except, readable};
 ghost use Rattle.std.specs.Option.{option_map};
 
-use crate::{Keys, RecordNo, Slot};
+use crate::{KeptIds, Keys, RecordNo, Slot};
 use rt_values::{NoMemory, ObjectNo, StampedValue, Value};
 use slab::Slab;
 use snap_ids::IdSet;
@@ -407,19 +407,19 @@ impl Chains {
     }
 
     // Gives the record at index `i` id 0 if `ids` does not contain its id.
-    fn keep_at(&mut self, x: ObjectNo, i: usize, ids: &IdSet)
+    fn keep_at(&mut self, x: ObjectNo, i: usize, ids: &KeptIds)
         requires object { x < length self.old.heads.items }
         requires place { i < length (keys_at self.old x) }
         ensures { KeepsAt self.old self.new ids.now x i }
     {
         let r = self.at(x, i);
-        if !ids.get(self.id(r)) {
+        if !ids.has(self.id(r)) {
             self.invalidate(r);
         }
     }
 
     /// Gives id 0 to the records of object `x` whose ids are not in `ids`.
-    pub fn keep(&mut self, x: ObjectNo, ids: &IdSet)
+    pub fn keep(&mut self, x: ObjectNo, ids: &KeptIds)
         requires { x < length self.old.heads.items }
         ensures { KeepsAll self.old self.new ids.now x }
     {
@@ -429,7 +429,7 @@ impl Chains {
     }
 
     /// Returns the first record of object `x` whose id is not in `ids`. Records with id 0 are such records.
-    pub fn find_other(&self, x: ObjectNo, ids: &IdSet) -> Option<RecordNo>
+    pub fn find_other(&self, x: ObjectNo, ids: &KeptIds) -> Option<RecordNo>
         requires { x < length self.now.heads.items }
         ensures some { IfSome result (λ r. FoundOther self.now x ids.now r.0) }
         ensures none { IfNone result ((k r : ℕ) → slice_get (keys_at self.now x) k ≡ Some r
@@ -438,7 +438,7 @@ impl Chains {
     {
         for i in 0..self.count(x) {
             let r = self.at(x, i);
-            if !ids.get(self.id(r)) {
+            if !ids.has(self.id(r)) {
                 return Some(r);
             }
         }

@@ -6,8 +6,10 @@
 #![tactic(auto)]
 
 mod chains;
+mod kept;
 pub mod laws;
 mod slots;
 
 pub use chains::Chains;
+pub use kept::KeptIds;
 pub use slots::{Keys, RecordNo, Slot};

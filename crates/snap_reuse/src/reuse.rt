@@ -9,8 +9,7 @@ ghost use Rattle.snap_reuse.specs.Readers.{is_read_by, is_read, is_unkept, lower
 
 use crate::{Reader, Readers};
 use rt_values::{NoMemory, ObjectNo, Value};
-use snap_ids::IdSet;
-use snap_records::{Chains, RecordNo};
+use snap_records::{Chains, KeptIds, RecordNo};
 
 // Returns whether the readable record of `reader` has this id.
 fn is_read_by(chains: &Chains, x: ObjectNo, id: u64, reader: &Reader) -> bool
@@ -93,7 +92,7 @@ fn put_over(
     id: u64,
     value: Value,
     stamp: u64,
-    kept: &IdSet,
+    kept: &KeptIds,
 ) -> Result<(), NoMemory>
     requires object { x < length chains.old.heads.items }
     ensures ok { OnOk result (AreApart (chain_of chains.old x) → 0 < id
@@ -130,7 +129,7 @@ pub fn put(
     id: u64,
     value: Value,
     stamp: u64,
-    kept: &IdSet,
+    kept: &KeptIds,
 ) -> Result<(), NoMemory>
     requires object { x < length chains.old.heads.items }
     requires own { contains id kept.now ≡ true }

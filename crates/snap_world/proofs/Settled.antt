@@ -8,9 +8,13 @@ use Rattle.std.specs.Prelude.{slice_get, slice_index_or, not}
 use Rattle.rt_values.specs.Maps.{contains, with_member}
 use Rattle.rt_values.specs.declared.maps.StampedValue.{StampedValue}
 use Rattle.snap_ids.proofs.Booleans.{or_true, or_left, or_right}
-use Rattle.snap_settle.specs.Choices.{is_changed, entry_of_choice}
+use Rattle.snap_settle.specs.Choices.{is_changed, is_clash, entry_of_choice}
 use Rattle.snap_settle.specs.declared.choice.Choice.TheVariants.{Changed, Kept}
 use Rattle.snap_world.specs.Choices.{choice_of_settled, objects_of, is_taken, with_taken, lesser, IsLeast}
+use Rattle.snap_policy.specs.Rules.{Rules}
+use Rattle.snap_laws.specs.Applies.{choice_at}
+use Rattle.snap_laws.specs.Represents.{WorldParts}
+use Rattle.snap_world.specs.Holding.{AreSettled}
 use Rattle.snap_world.specs.declared.settling.Settled.{Settled}
 use Rattle.snap_world.proofs.NotedLoops.{contains_last, contains_more}
 use Rattle.snap_world.proofs.NotedMembers.{contains-noted}
@@ -43,6 +47,17 @@ find_settled x (s ∷ settled) h = elim (or_true (s.object == x) (contains x (ob
   | inl e ↦ record { at = 0; one = s; there = refl; same = (Decides-eqb s.object x).0 e }
   | inr t ↦ let f = find_settled x settled t in record { at = suc f.at; one = f.one; there = f.there; same = f.same }
 ]
+
+clash_of : (b : Bool) (e : StampedValue) → is_clash (cond b (Changed e) (Kept e)) ≡ false
+clash_of true e = refl
+clash_of false e = refl
+
+-- settled objects do not conflict
+pub none_clashes : {P : Type 0} (rules : Rules P) (h : WorldParts P) (name into : ℕ) (settled : List Settled) (xs : List ℕ) → objects_of settled ≡ xs → AreSettled rules h name into settled
+    → (x : ℕ) → contains x xs ≡ true → is_clash (choice_at rules h name into x) ≡ false
+none_clashes {P} rules h name into settled xs objects each x listed =
+    let f = find_settled x settled (ap (λ (l : List ℕ). contains x l) objects ∙ listed) in
+    ap (λ (y : ℕ). is_clash (choice_at rules h name into y)) (sym f.same) ∙ ap is_clash (sym (each f.at f.one f.there).0) ∙ clash_of f.one.is_changed f.one.entry
 
 -- the objects up to an index
 object_at : (xs : List Settled) (i : ℕ) (s : Settled) → slice_get xs i ≡ Some s → slice_index_or (objects_of xs) i 0 ≡ s.object

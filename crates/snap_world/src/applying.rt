@@ -132,32 +132,35 @@ impl<P: Policy> RecordWorld<P> {
         Ok(least)
     }
 
-    // Settles the objects that a snapshot wrote. Every such object is known in a represented world.
-    fn settle(&self, alloc: Global, name: Name, into: Name) -> Result<Vec<Settled>, NoMemory>
+    // Settles the objects that a snapshot wrote. Returns `None` if one of them conflicts, or if the process is out of
+    // memory. Every such object is known in a represented world.
+    pub(crate) fn settle(&self, alloc: Global, name: Name, into: Name) -> Option<Vec<Settled>>
         requires live { (member self.now.family.members.items name).is_live ≡ true }
         requires above { (member self.now.family.members.items into).is_live ≡ true }
-        requires none { HasNoClash P.rules (parts_of self.now) name into }
-        ensures objects { IfOk result (λ settled. objects_of settled.items
+        ensures objects { IfSome result (λ settled. objects_of settled.items
             ≡ slice_index_or self.now.wrote.items name []) }
-        ensures each { IfOk result (λ settled. AreSettled P.rules (parts_of self.now) name into settled.items) }
+        ensures each { IfSome result (λ settled. AreSettled P.rules (parts_of self.now) name into settled.items) }
     {
         let mut settled = Vec::new(alloc);
         for x in noted(&self.wrote, name) {
             if *x as usize >= self.objects.len() {
-                return Err(NoMemory);
+                return None;
             }
             let Ok(choice) = self.choose(alloc, name, into, *x) else {
-                return Err(NoMemory);
+                return None;
             };
-            let Ok(()) = settled.push(settled_of(*x, choice)) else {
-                return Err(NoMemory);
+            let Some(one) = settled_of(*x, choice) else {
+                return None;
+            };
+            let Ok(()) = settled.push(one) else {
+                return None;
             };
         }
-        Ok(settled)
+        Some(settled)
     }
 
     // Puts the settled values into the parent.
-    fn put_settled(
+    pub(crate) fn put_settled(
         &mut self,
         alloc: Global,
         name: Name,
@@ -194,23 +197,5 @@ impl<P: Policy> RecordWorld<P> {
         clear_noted_objects(alloc, &mut self.wrote, name);
         self.clock += 1;
         Ok(())
-    }
-
-    // Applies a snapshot without conflicts.
-    pub(crate) fn merge(&mut self, alloc: Global, name: Name, into: Name) -> Result<(), NoMemory>
-        requires live { (member self.old.family.members.items name).is_live ≡ true }
-        requires inner { 0 < name }
-        requires parent { (member self.old.family.members.items name).parent ≡ into }
-        requires above { (member self.old.family.members.items into).is_live ≡ true }
-        requires room { self.old.clock < 2 ^ 60 }
-        requires none { HasNoClash P.rules (parts_of self.old) name into }
-        ensures ok { OnOk result (Merges (parts_of self.old) (parts_of self.new) name into
-            (choice_at P.rules (parts_of self.old) name into)) }
-        ensures err { OnErr result (Pads (parts_of self.old) (parts_of self.new)) }
-    {
-        let Ok(settled) = self.settle(alloc, name, into) else {
-            return Err(NoMemory);
-        };
-        self.put_settled(alloc, name, into, &settled)
     }
 }

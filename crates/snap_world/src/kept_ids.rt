@@ -10,9 +10,8 @@ ghost use Rattle.snap_reuse.specs.Readers.{has_id, IsReadWithin};
 ghost use Rattle.snap_laws.specs.Coverage.{AreReadWithin, AreLiveNames, IsNeeded, live_count};
 
 use rt_values::{Name, NoMemory, ObjectNo};
-use snap_ids::IdSet;
 use snap_nested::Family;
-use snap_records::{Chains, RecordNo};
+use snap_records::{Chains, KeptIds, RecordNo};
 use std::alloc::Global;
 
 /// Returns the ids of the records of object `x` that a write in the snapshot `name` must keep: the current id of `name`,
@@ -23,7 +22,7 @@ pub fn find_kept_ids(
     chains: &Chains,
     x: ObjectNo,
     name: Name,
-) -> Result<IdSet, NoMemory>
+) -> Result<KeptIds, NoMemory>
     requires live { (member family.now.members.items name).is_live ≡ true }
     requires there { x < length chains.now.heads.items }
     ensures own { IfOk result (λ ids. contains (member family.now.members.items name).id ids ≡ true) }
@@ -35,7 +34,7 @@ pub fn find_kept_ids(
         ≤ 2 * live_count (ids_of family.now.members.items).live family.now.held + 1) }
     ensures names { IfOk result (λ ids. AreLiveNames (ids_of family.now.members.items) family.now.held) }
 {
-    let mut ids = IdSet::of(alloc, family.id(name))?;
+    let mut ids = KeptIds::of(alloc, family.id(name))?;
     for reader in family.open_names() {
         add_read_ids(family, chains, x, name, *reader, &mut ids)?;
     }
@@ -50,7 +49,7 @@ fn add_read_ids(
     x: ObjectNo,
     name: Name,
     reader: Name,
-    ids: &mut IdSet,
+    ids: &mut KeptIds,
 ) -> Result<(), NoMemory>
     requires { x < length chains.now.heads.items }
     ensures more { (i : ℕ) → contains i ids.old ≡ true → contains i ids.new ≡ true }
@@ -79,7 +78,7 @@ fn add_both_ids(
     chains: &Chains,
     x: ObjectNo,
     reader: Name,
-    ids: &mut IdSet,
+    ids: &mut KeptIds,
 ) -> Result<(), NoMemory>
     requires live { (member family.now.members.items reader).is_live ≡ true }
     requires inner { 0 < reader }
@@ -111,7 +110,7 @@ fn add_one_id(
     x: ObjectNo,
     name: Name,
     reader: Name,
-    ids: &mut IdSet,
+    ids: &mut KeptIds,
 ) -> Result<(), NoMemory>
     requires live { (member family.now.members.items reader).is_live ≡ true }
     requires there { x < length chains.now.heads.items }
@@ -136,7 +135,7 @@ fn add_view_id(
     x: ObjectNo,
     name: Name,
     reader: Name,
-    ids: &mut IdSet,
+    ids: &mut KeptIds,
 ) -> Result<(), NoMemory>
     requires live { (member family.now.members.items reader).is_live ≡ true }
     requires there { x < length chains.now.heads.items }
@@ -160,7 +159,7 @@ fn add_base_id(
     chains: &Chains,
     x: ObjectNo,
     reader: Name,
-    ids: &mut IdSet,
+    ids: &mut KeptIds,
 ) -> Result<(), NoMemory>
     requires live { (member family.now.members.items reader).is_live ≡ true }
     requires there { x < length chains.now.heads.items }
@@ -184,7 +183,11 @@ fn add_base_id(
 }
 
 // Adds the id of a record, if there is one.
-fn add_record_id(chains: &Chains, found: Option<RecordNo>, ids: &mut IdSet) -> Result<(), NoMemory>
+fn add_record_id(
+    chains: &Chains,
+    found: Option<RecordNo>,
+    ids: &mut KeptIds,
+) -> Result<(), NoMemory>
     requires { IfSome found (λ r. IsSome (get chains.now.slots r.0)) }
     ensures more { (i : ℕ) → contains i ids.old ≡ true → contains i ids.new ≡ true }
     ensures added { OnOk result ((i : ℕ) → has_id i (option_map (λ r. record_at chains.now r.0) found) ≡ true
@@ -195,7 +198,7 @@ fn add_record_id(chains: &Chains, found: Option<RecordNo>, ids: &mut IdSet) -> R
 {
     match found {
         Some(r) => {
-            ids.set(chains.id(r))?;
+            ids.push(chains.id(r))?;
             Ok(())
         }
         None => Ok(()),

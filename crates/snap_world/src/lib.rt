@@ -5,7 +5,7 @@
 //! that no reader reads, an apply gives the parent records and ids, and a dispose leaves records until the last
 //! descendant closes.
 //! Promises: those of `Versions`, for every plain world that the records represent (`snap_laws`, `Represents`). A refusal
-//! takes no memory, except in a merge before a conflict, nor does a dispose or the read of a number or a truth value. After
+//! needs no memory, except in a merge before a conflict, nor does a dispose or the read of a number or a truth value. After
 //! a write an object has at most two records a live snapshot, plus two, with an id except 0.
 #![tactic(auto)]
 
@@ -14,6 +14,7 @@ mod kept_ids;
 mod moving;
 mod noting;
 mod settling;
+mod stamp_list;
 mod world;
 
 pub use world::RecordWorld;

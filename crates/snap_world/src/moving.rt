@@ -1,5 +1,5 @@
 // What an apply and a dispose do to the records, and what changed for a watcher.
-ghost use Rattle.std.specs.Prelude.{◌≡◌, ℕ, ◌≤◌, ◌<◌, true, false, ◌≢◌, ◌==◌, length, slice_get, slice_index_or, slice_set, ◌+◌, drop, Some, [], IfOk, OnOk, if◌then◌else◌};
+ghost use Rattle.std.specs.Prelude.{◌≡◌, ℕ, ◌≤◌, ◌<◌, true, false, ◌≢◌, ◌==◌, length, slice_get, slice_index_or, slice_set, ◌+◌, ◌++◌, drop, Some, [], IfOk, OnOk, if◌then◌else◌};
 ghost use Rattle.rt_values.specs.Maps.{contains};
 ghost use Rattle.rt_values.specs.declared.maps.StampedValue.{StampedValue};
 ghost use Rattle.snap_records.specs.Edits.{Padded, blank, with_head_id, chain_without_ids};
@@ -10,6 +10,7 @@ ghost use Rattle.snap_world.specs.Choices.{EntriesAre, objects_of};
 ghost use Rattle.snap_world.specs.Stamps.{AreSame};
 
 use crate::settling::Settled;
+use crate::stamp_list::StampList;
 use rt_values::{Name, NoMemory, ObjectNo, Objects, StampedValue};
 use snap_ids::IdSet;
 use snap_records::Chains;
@@ -25,16 +26,30 @@ fn is_other(before: &[u64], x: usize, now: u64) -> bool
     }
 }
 
-// Returns whether the four stamps from index `i` on are the same in both lists.
-fn are_same(before: &[u64], now: &[u64], i: usize) -> bool
+// Returns whether the four stamps from index `i` on are the same in both lists. Compares all of them, without a branch.
+#[inline]
+fn are_four_same(before: &[u64], now: &[u64], i: usize) -> bool
     requires before { i + 4 ≤ length before.now }
     requires now { i + 4 ≤ length now.now }
     ensures { result ≡ true → AreSame before.now now.now i 4 }
 {
-    before[i] == now[i]
-        && before[i + 1] == now[i + 1]
-        && before[i + 2] == now[i + 2]
-        && before[i + 3] == now[i + 3]
+    (before[i] == now[i])
+        & (before[i + 1] == now[i + 1])
+        & (before[i + 2] == now[i + 2])
+        & (before[i + 3] == now[i + 3])
+}
+
+// Returns whether the sixteen stamps from index `i` on are the same in both lists.
+#[inline]
+fn are_same(before: &[u64], now: &[u64], i: usize) -> bool
+    requires before { i + 16 ≤ length before.now }
+    requires now { i + 16 ≤ length now.now }
+    ensures { result ≡ true → AreSame before.now now.now i 16 }
+{
+    are_four_same(before, now, i)
+        & are_four_same(before, now, i + 4)
+        & are_four_same(before, now, i + 8)
+        & are_four_same(before, now, i + 12)
 }
 
 // Returns the length of the shorter list.
@@ -48,7 +63,7 @@ fn shorter_len(before: &[u64], now: &[u64]) -> usize
     now.len()
 }
 
-// Returns an index from `from` on before which no stamp differs. Compares four stamps at a time.
+// Returns an index from `from` on before which no stamp differs. Compares sixteen stamps at a time.
 fn skip_same(before: &[u64], now: &[u64], from: usize) -> usize
     requires { from ≤ length now.now }
     ensures within { result ≤ length now.now }
@@ -58,10 +73,46 @@ fn skip_same(before: &[u64], now: &[u64], from: usize) -> usize
 {
     let len = shorter_len(before, now);
     let mut i = from;
-    while i < len && len - i >= 4 && are_same(before, now, i) {
-        i += 4;
+    while i < len && len - i >= 16 && are_same(before, now, i) {
+        i += 16;
     }
     i
+}
+
+// Returns the index after sixteen more stamps, or the end of the list.
+fn block_end(now: &[u64], from: usize) -> usize
+    requires { from ≤ length now.now }
+    ensures within { result ≤ length now.now }
+    ensures from { from ≤ result }
+    ensures more { from < length now.now → from < result }
+{
+    if now.len() - from < 16 {
+        return now.len();
+    }
+    from + 16
+}
+
+// Appends the objects from `from` to before `end` whose stamps differ from those in `before`, or that `before` lacks.
+fn add_differing(
+    before: &[u64],
+    now: &[u64],
+    from: usize,
+    end: usize,
+    found: &mut Objects,
+) -> Result<(), NoMemory>
+    requires from { from ≤ end }
+    requires end { end ≤ length now.now }
+    ensures { OnOk result (found.new ++ differ_stamps before.now end (drop end now.now)
+        ≡ found.old ++ differ_stamps before.now from (drop from now.now)) }
+{
+    let mut x = from;
+    while x < end {
+        if is_other(before, x, now[x]) {
+            found.push(x as u64)?;
+        }
+        x += 1;
+    }
+    Ok(())
 }
 
 /// Returns the objects whose stamps differ from those in `before`, or that `before` lacks.
@@ -73,12 +124,12 @@ pub fn find_differing_stamps(
     ensures { IfOk result (λ o. o ≡ differ_stamps before.now 0 now.now) }
 {
     let mut found = Objects::new(alloc);
-    let mut x = skip_same(before, now, 0);
+    let mut x = 0;
     while x < now.len() {
-        if is_other(before, x, now[x]) {
-            found.push(x as u64)?;
-        }
-        x = skip_same(before, now, x + 1);
+        let from = skip_same(before, now, x);
+        let end = block_end(now, from);
+        add_differing(before, now, from, end, &mut found)?;
+        x = end;
     }
     Ok(found)
 }
@@ -86,14 +137,14 @@ pub fn find_differing_stamps(
 /// Returns the objects whose stamps differ from a watcher's last stamps, or all if it has none.
 pub fn find_changed_objects(
     alloc: Global,
-    before: &Option<Objects>,
-    now: &Objects,
+    before: &Option<StampList>,
+    now: &StampList,
 ) -> Result<Objects, NoMemory>
     ensures { IfOk result (λ o. o ≡ differ_stamps (unwrap_or before.now []) 0 now.now) }
 {
     match before {
-        Some(stamps) => find_differing_stamps(alloc, stamps.numbers(), now.numbers()),
-        None => find_differing_stamps(alloc, &[], now.numbers()),
+        Some(stamps) => find_differing_stamps(alloc, stamps.items(), now.items()),
+        None => find_differing_stamps(alloc, &[], now.items()),
     }
 }
 

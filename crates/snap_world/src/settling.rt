@@ -1,5 +1,5 @@
 // The objects that an apply settles.
-ghost use Rattle.std.specs.Prelude.{◌≡◌, false};
+ghost use Rattle.std.specs.Prelude.{◌≡◌, true, IfSome, IfNone};
 ghost use Rattle.snap_settle.specs.Choices.{is_clash};
 ghost use Rattle.snap_world.specs.Choices.{choice_of_settled, lesser};
 
@@ -23,24 +23,24 @@ pub struct ReadRecords {
     pub applied: RecordNo,
 }
 
-/// Returns the settled object for a verdict that is no conflict.
-pub fn settled_of(object: ObjectNo, choice: Choice) -> Settled
-    requires { is_clash choice ≡ false }
-    ensures object { result.object ≡ object }
-    ensures choice { choice_of_settled result ≡ choice }
+/// Returns the settled object for a verdict, or `None` if the verdict is a conflict.
+pub fn settled_of(object: ObjectNo, choice: Choice) -> Option<Settled>
+    ensures object { IfSome result (λ s. s.object ≡ object) }
+    ensures choice { IfSome result (λ s. choice_of_settled s ≡ choice) }
+    ensures none { IfNone result (is_clash choice ≡ true) }
 {
     match choice {
-        Choice::Changed(entry) => Settled {
+        Choice::Changed(entry) => Some(Settled {
             object,
             entry,
             is_changed: true,
-        },
-        Choice::Kept(entry) => Settled {
+        }),
+        Choice::Kept(entry) => Some(Settled {
             object,
             entry,
             is_changed: false,
-        },
-        Choice::Clash => unreachable!(),
+        }),
+        Choice::Clash => None,
     }
 }
 

@@ -6,17 +6,19 @@ ghost use Rattle.snap_nested.specs.Members.{ids_of, member};
 use crate::kept_ids::find_kept_ids;
 use crate::moving::{clear_noted, find_changed_objects, stamp_object};
 use crate::noting::{fill, note_object, unnote_object};
+use crate::stamp_list::{StampList, replace_last};
 use rt_values::{Caller, Kind, Name, NoMemory, ObjectNo, Objects, Ty, Value, WatcherNo};
 use snap_api::{CLOCK_LIMIT, Object, Refusal, Versions};
-use snap_ids::IdSet;
 use snap_nested::Family;
 use snap_policy::Policy;
-use snap_records::{Chains, RecordNo};
+use snap_records::{Chains, KeptIds, RecordNo};
 use snap_reuse::put;
 use std::alloc::Global;
+use std::mem::replace;
 
 /// A world of snapshots with state records: the clock, the objects, the ids of the snapshots, the chains of records, the
-/// objects that each snapshot wrote, the stamps of global's view, and the stamps of each watcher's last map.
+/// objects that each snapshot wrote, the stamps of global's view, and the stamps of each watcher's last map. The next take
+/// for a watcher copies global's stamps into the memory of `spare`.
 #[derive(Drop)]
 pub struct RecordWorld<P> {
     pub(crate) clock: u64,
@@ -25,7 +27,8 @@ pub struct RecordWorld<P> {
     pub(crate) chains: Chains,
     pub(crate) wrote: Vec<Objects>,
     pub(crate) stamps: Vec<u64>,
-    pub(crate) lasts: Vec<Option<Objects>>,
+    pub(crate) lasts: Vec<Option<StampList>>,
+    spare: Vec<u64>,
     ghost in_time: { clock ≤ 2 ^ 60 },
     ghost few: { family.handed ≤ 3 * clock + 1 },
     ghost many: { length chains.heads.items ≡ length objects.items },
@@ -76,6 +79,7 @@ impl<P: Policy> RecordWorld<P> {
             wrote: Vec::new(alloc),
             stamps: Vec::new(alloc),
             lasts: Vec::new(alloc),
+            spare: Vec::new(alloc),
         })
     }
 
@@ -197,7 +201,7 @@ impl<P: Policy> RecordWorld<P> {
         name: Name,
         object: ObjectNo,
         value: Value,
-        kept: &IdSet,
+        kept: &KeptIds,
     ) -> Result<(), NoMemory>
         requires live { (member self.old.family.members.items name).is_live ≡ true }
         requires there { object < length self.old.objects.items }
@@ -444,17 +448,17 @@ impl<P: Policy> RecordWorld<P> {
         ensures ok { IfOk result (λ r. IsTakeFor (parts_of self.old) (parts_of self.new) caller watcher r.0 r.1) }
         ensures err { OnErr result (IsUnchanged (parts_of self.old) (parts_of self.new)) }
     {
-        let Ok(stamps) = Vec::from_slice(alloc, &self.stamps) else {
+        let spare = replace(&mut self.spare, Vec::new(alloc));
+        let Ok(stamps) = StampList::copy_into(spare, &self.stamps) else {
             return Err(NoMemory);
         };
-        let stamps = Objects::of(stamps);
         let Ok(changed) = find_changed_objects(alloc, &self.lasts[watcher as usize], &stamps) else {
             return Err(NoMemory);
         };
         let Ok(name) = self.push_child(alloc, caller, 0, Kind::Readonly) else {
             return Err(NoMemory);
         };
-        self.lasts[watcher as usize] = Some(stamps);
+        self.spare = replace_last(alloc, &mut self.lasts, watcher, stamps);
         Ok((name, changed))
     }
 }
@@ -633,12 +637,15 @@ impl<P: Policy> Versions for RecordWorld<P> {
             return Err(refusal);
         }
         let into = self.family.parent(name);
-        match self.find_conflict(alloc, name, into) {
-            Ok(Some(object)) => Err(Refusal::Conflict { object }),
-            Ok(None) => match self.merge(alloc, name, into) {
-                Ok(()) => Ok(()),
+        let Some(settled) = self.settle(alloc, name, into) else {
+            return match self.find_conflict(alloc, name, into) {
+                Ok(Some(object)) => Err(Refusal::Conflict { object }),
+                Ok(None) => Err(Refusal::NoMemory),
                 Err(_) => Err(Refusal::NoMemory),
-            },
+            };
+        };
+        match self.put_settled(alloc, name, into, &settled) {
+            Ok(()) => Ok(()),
             Err(_) => Err(Refusal::NoMemory),
         }
     }

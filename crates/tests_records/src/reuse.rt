@@ -1,8 +1,12 @@
 // How many records an object keeps.
-use rt_values::{Kind, Ty, Value};
-use snap_api::Versions;
+use rt_values::{Kind, Name, NoMemory, Ty, Value};
+use snap_api::{Refusal, Versions};
+use snap_ids::IdSet;
 use snap_policy::BuiltIn;
+use snap_records::Chains;
+use snap_reuse::{Reader, Readers, reusable};
 use snap_world::RecordWorld;
+use std::alloc::Global;
 use std::test::Fail;
 
 // The number of records of object 0 whose id is not 0, and of all its records.
@@ -19,6 +23,88 @@ fn counts(world: &RecordWorld<BuiltIn>) -> (usize, usize) {
         }
     }
     (used, all)
+}
+
+// Readers with these ids, except 0, for which no id is invalid.
+fn readers_of(alloc: Global, ids: &[u64]) -> Result<Readers, NoMemory> {
+    let mut readers = Readers::new(alloc);
+    for id in ids {
+        if *id != 0 {
+            let reader = Reader {
+                id: *id,
+                invalid: IdSet::new(alloc),
+            };
+            readers.push(reader)?;
+        }
+    }
+    Ok(readers)
+}
+
+#[test]
+fn the_lowest_record_without_readers_is_reusable(rt: HostRuntime) -> Result<(), Fail> {
+    let alloc = rt.alloc();
+    let mut chains = Chains::new(alloc);
+    let x = chains.add_object(alloc)?;
+    assert_eq!(rt; x, 0);
+    chains.prepend(x, 5, Value::Int(50), 5)?;
+    chains.prepend(x, 2, Value::Int(20), 2)?;
+    let last = chains.prepend(x, 7, Value::Int(70), 7)?;
+    // The ids of three snapshots, 0 for a closed one, and the id of the reusable record. The ids 3, 6 and 8 read the
+    // records with the ids 2, 5 and 7.
+    let rows: [([u64; 3], Option<u64>); 8] = [
+        ([3, 6, 8], None),
+        ([0, 6, 8], Some(2)),
+        ([3, 0, 8], Some(5)),
+        ([3, 6, 0], Some(7)),
+        ([0, 0, 8], Some(2)),
+        ([3, 0, 0], Some(5)),
+        ([8, 8, 0], Some(2)),
+        ([0, 0, 0], Some(2)),
+    ];
+    for (open, expected) in &rows {
+        let readers = readers_of(alloc, open)?;
+        let found = reusable(&chains, x, &readers).map(|r| chains.id(r));
+        assert_eq!(rt; found, *expected);
+    }
+    chains.invalidate(last);
+    let found = reusable(&chains, x, &readers_of(alloc, &[3, 6, 8])?).map(|r| chains.id(r));
+    assert_eq!(rt; found, Some(0));
+    Ok(())
+}
+
+// Writes a value of object 0 in global, and takes a readonly snapshot of global.
+fn write_and_take(
+    alloc: Global,
+    world: &mut RecordWorld<BuiltIn>,
+    value: i64,
+) -> Result<Name, Refusal> {
+    world.write(alloc, 0, 0, 0, Value::Int(value))?;
+    world.take(alloc, 0, 0, Kind::Readonly)
+}
+
+#[test]
+fn records_that_open_snapshots_read_are_not_reused(rt: HostRuntime) -> Result<(), Fail> {
+    let alloc = rt.alloc();
+    let mut world: RecordWorld<BuiltIn> = RecordWorld::new(alloc)?;
+    assert!(rt; world.objects() < 65536);
+    world.make(alloc, Ty::Int, BuiltIn::Structural, Value::Int(0))?;
+    let names = [
+        world.take(alloc, 0, 0, Kind::Readonly)?,
+        write_and_take(alloc, &mut world, 1)?,
+        write_and_take(alloc, &mut world, 2)?,
+    ];
+    assert!(rt; world.write(alloc, 0, 0, 0, Value::Int(3))?);
+    assert_eq!(rt; counts(&world), (4, 4));
+    for (name, expected) in names.iter().zip([0, 1, 2]) {
+        let seen = world.read(alloc, 0, *name, 0)?;
+        assert!(rt; seen.same(&Value::Int(expected)));
+    }
+    for name in &names {
+        world.dispose(0, *name)?;
+    }
+    assert!(rt; world.write(alloc, 0, 0, 0, Value::Int(4))?);
+    assert_eq!(rt; counts(&world), (1, 4));
+    Ok(())
 }
 
 #[test]

@@ -16,12 +16,5 @@ invariant_of-self-2 c =
     let one = members_taken c.args.self.now.members.items c.args.self.now.handed c.args.parent c.args.kind c.args.owner c.args.self.now.sound c.requires.live in
     record { sound = subst (λ (k : ℕ). AreMembers c.take_members.new.members.items k) two (subst (λ (ms : List Member). AreMembers ms ((c.args.self.now.handed + 1) + 1)) (sym c.in_ok-take_members.ensures.ok) one); listed = subst (λ (ms : List Member). AreOpen c.set.new.self ms) (sym c.in_ok-take_members.ensures.ok) (open_advanced c.set.new.self (members_after_enter ms h c.args.parent c.args.kind c.args.owner) (h + 1) c.args.parent (members_entered ms h c.args.parent c.args.kind c.args.owner c.args.self.now.sound c.requires.live) (up_entered ms h c.args.parent c.args.kind c.args.owner c.args.self.now.sound c.requires.live) (subst (λ (os : List ℕ). AreOpen os (members_after_enter ms h c.args.parent c.args.kind c.args.owner)) (sym (c.in_ok-set.ensures.ok ∙ ap (λ (n : ℕ). with_id n c.in_ok-held.held) (c.len-name.ensures ∙ c.args.self.now.members.ok.0) ∙ ap (λ (os : List ℕ). with_id (length ms) os) c.in_ok-held.ensures)) (open_entered c.args.self.now.held ms h c.args.parent c.args.kind c.args.owner c.args.self.now.sound c.requires.live c.args.self.now.listed))) }
 
-pub take_members-requires-clause-after : goal.take_members-requires-clause-after
-take_members-requires-clause-after c =
-    let ms = c.args.self.now.members.items in
-    let h = c.args.self.now.handed in
-    subst (λ (os : List ℕ). AreOpen os (members_after_enter ms h c.args.parent c.args.kind c.args.owner)) (sym (c.in_ok-set.ensures.ok ∙ ap (λ (n : ℕ). with_id n c.in_ok-held.held) (c.len-name.ensures ∙ c.args.self.now.members.ok.0) ∙ ap (λ (os : List ℕ). with_id (length ms) os) c.in_ok-held.ensures))
-    (open_entered c.args.self.now.held ms h c.args.parent c.args.kind c.args.owner c.args.self.now.sound c.requires.live c.args.self.now.listed)
-
 pub take_members-requires-clause-low : goal.take_members-requires-clause-low
 take_members-requires-clause-low c = current_within c.args.self.now.sound c.args.parent c.requires.live

@@ -1,4 +1,4 @@
-use Rattle.std.proofs.Common.{ℕ, List, [], refl, ap, ◌∙◌, Option, None}
+use Rattle.std.proofs.Common.{ℕ, List, [], ap, ◌∙◌, Option, None}
 use Rattle.std.proofs.lemmas.List.{get_or_default}
 use Rattle.std.specs.Option.{unwrap_or}
 use Rattle.snap_laws.specs.TakesFor.{differ_stamps}
@@ -9,10 +9,10 @@ pub returns-clause-ok : goal.returns-clause-ok
 returns-clause-ok g c =
     let s = c.args.self.now in
     record {
-      stamps = c.of-stamps.result;
-      stamps_are = c.of-stamps.ensures ∙ c.in-Ok.ensures.items ∙ c.deref.ensures.value;
-      changed_are = c.in-Ok-find_changed_objects.ensures ∙ ap (λ (o : Option (List ℕ)). differ_stamps (unwrap_or o []) 0 c.of-stamps.result) (c.index.ensures ∙ get_or_default s.lasts.items c.args.watcher _ None c.requires.known);
+      stamps = c.in-Ok.stamps;
+      stamps_are = c.in-Ok.ensures ∙ c.deref.ensures.value;
+      changed_are = c.in-Ok-find_changed_objects.ensures ∙ ap (λ (o : Option (List ℕ)). differ_stamps (unwrap_or o []) 0 c.in-Ok.stamps) (c.index.ensures ∙ get_or_default s.lasts.items c.args.watcher _ None c.requires.known);
       taken = parts_of c.push_child.new.self;
       took = c.in-Ok-push_child.ensures.ok;
-      is = refl;
+      is = ap (λ (ws : List (Option (List ℕ))). record (parts_of c.push_child.new.self) { watchers = ws }) c.replace_last.ensures;
     }
