@@ -13,7 +13,7 @@ use Rattle.rt_groups.specs.declared.groups.GroupKind.{GroupKind}
 use Rattle.serde_json.specs.Data.{Items, object}
 use Rattle.serde_json.specs.Written.{comma_if, compact_text, items_text}
 use Rattle.script_lang.specs.GroupLines.{plain_attribute}
-use Rattle.script_lang.specs.TreeJson.{attributes_data, node_data, nodes_data, tree_json}
+use Rattle.script_lang.specs.TreeJson.{attributes_data, node_data, nodes_data}
 use Rattle.script_lang.specs.GroupJson.{OpenNode, open_node, json_state, node_start, node_end, ends_from, state_at, json_of, json_after, groups_json, initial_json, GroupsTellTheJson}
 use Rattle.script_lang.proofs.Trees.{plain_attribute-flat_attribute}
 

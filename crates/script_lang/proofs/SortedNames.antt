@@ -8,7 +8,7 @@ use Rattle.std.specs.Cmp.Lexicographic.{slice_cmp}
 use Rattle.std.specs.declared.cmp.Ordering.TheVariants.{Less, Equal, Greater}
 use Rattle.std.specs.FinMap.{slice_cmp-IsAntisymmetric, nat_cmp-IsAntisymmetric}
 use Rattle.rt_groups.specs.declared.groups.Attribute.{Attribute}
-use Rattle.serde_json.specs.Data.{Data, Members, no_members, member, put}
+use Rattle.serde_json.specs.Data.{Members, no_members, member, put}
 use Rattle.script_lang.specs.TreeJson.{value_data}
 use Rattle.script_lang.specs.SortedAttributes.{members_then, sorted_members}
 

@@ -21,9 +21,14 @@ pub fn add(text: &mut Vec<u8>, piece: &[u8]) -> Result<(), NoMemory>
 }
 
 // Appends the decimal digits of `number`.
+#[tactic(auto, using(crate::proofs::Texts::one_digit))]
 pub fn add_number(text: &mut Vec<u8>, number: u64) -> Result<(), NoMemory>
     ensures { OnOk result (text.new.items ≡ text.old.items ++ decimal number) }
 {
+    if number < 10 {
+        text.push(b'0' + number as u8)?;
+        return Ok(());
+    }
     let mut digits = Buffer::new();
     add(text, digits.format(number).as_bytes())
 }

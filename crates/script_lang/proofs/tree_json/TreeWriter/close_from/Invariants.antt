@@ -1,4 +1,4 @@
-use Rattle.std.proofs.Common.{◌≡◌, ◌++◌, length, reverse}
+use Rattle.std.proofs.Common.{◌≡◌, ◌++◌, length}
 use Rattle.script_lang.specs.GroupJson.{ends_from, state_at}
 use Rattle.script_lang.proofs.tree_json.TreeWriter.close_from.Given as goal
 
