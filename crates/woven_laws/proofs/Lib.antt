@@ -3,5 +3,7 @@ pub mod Prints
 pub mod Steps
 pub mod Callers
 pub mod Weaves
+pub mod Turns
+pub mod ScriptTurns
 pub mod Rests
 pub mod ActorNames

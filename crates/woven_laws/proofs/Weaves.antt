@@ -35,19 +35,19 @@ not_empty (x ∷ xs) a e = cc
 
 module _ (n : ℕ) where
   -- The actors after a call of one of them was answered.
-  abbrev next_actors : (ℕ → ActorState) → Entry → ℕ → ActorState
+  abbrev pub next_actors : (ℕ → ActorState) → Entry → ℕ → ActorState
   next_actors actors e a = cond (a == e.caller) (state_given (actors e.caller).notes (actors e.caller).left (e.reply ∷ [])) (actors a)
 
-  within : (actors : ℕ → ActorState) (e : Entry) (es : History) → IsWoven n actors (e ∷ es) → e.caller < n
+  pub within : (actors : ℕ → ActorState) (e : Entry) (es : History) → IsWoven n actors (e ∷ es) → e.caller < n
   within actors e es w = elim (cases_lt e.caller n) [
     | inl h ↦ h
     | inr h ↦ let none : e ∷ own_calls e.caller es ≡ [] = sym (own_calls-first e es) ∙ w.others e.caller h in absurd cc
   ]
 
-  first_call : (actors : ℕ → ActorState) (e : Entry) (es : History) → IsWoven n actors (e ∷ es) → SpellsAll (actors e.caller) (e ∷ own_calls e.caller es)
+  pub first_call : (actors : ℕ → ActorState) (e : Entry) (es : History) → IsWoven n actors (e ∷ es) → SpellsAll (actors e.caller) (e ∷ own_calls e.caller es)
   first_call actors e es w = subst (λ (l : History). SpellsAll (actors e.caller) l) (own_calls-first e es) (w.each e.caller (within actors e es w))
 
-  later : (actors : ℕ → ActorState) (e : Entry) (es : History) → IsWoven n actors (e ∷ es) → IsWoven n (next_actors actors e) es
+  pub later : (actors : ℕ → ActorState) (e : Entry) (es : History) → IsWoven n actors (e ∷ es) → IsWoven n (next_actors actors e) es
   later actors e es w =
       let now = state_given (actors e.caller).notes (actors e.caller).left (e.reply ∷ []) in record {
         each = λ a h. elim (eqb_tells a e.caller) [

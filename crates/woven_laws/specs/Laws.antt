@@ -1,8 +1,9 @@
 -- Trusted: the laws of woven histories and of what is printed of them.
-use Rattle.std.specs.Prelude.{◌≡◌, ◌≢◌, ℕ, ◌<◌, List, [], ◌∷◌, ◌++◌, map, length, true, false, Some, None}
+use Rattle.std.specs.Prelude.{◌≡◌, ◌≢◌, ℕ, ◌<◌, List, [], ◌∷◌, ◌++◌, map, length, true, false, Option, Some, None}
 use Rattle.std.specs.List.{flat_map}
 use Rattle.rt_values.specs.Maps.{contains}
 use Rattle.lang_ast.specs.Terms.{Func}
+use Rattle.lang_ast.specs.declared.program.State.{State}
 use Rattle.lang_ast.specs.declared.script.DoForm.{DoForm}
 use Rattle.snap_policy.specs.Rules.{Rules}
 use Rattle.snap_policy.specs.declared.policy.BuiltIn.{BuiltIn}
@@ -12,14 +13,17 @@ use Rattle.snap_api.specs.declared.data.Reply.{Reply}
 use Rattle.snap_api.specs.declared.data.Request.{Request}
 use Rattle.snap_api.specs.World.{World, History, IsLegal, world_after}
 use Rattle.snap_api.specs.DeskReads.{call_of, reads_of}
+use Rattle.snap_api.specs.Valid.{IsValid}
 use Rattle.snap_shared.specs.SharedCalls.{own_calls, HasOnlyCallersBelow}
 use Rattle.script_lang.specs.Scripts.{actors_of}
-use Rattle.script_lang.specs.StepCalls.{Notes, ActorPart, no_notes, request_of, notes_after, script_parts, sequential}
+use Rattle.script_lang.specs.ScriptFaults.{script_faults}
+use Rattle.script_lang.specs.StepCalls.{Notes, ActorPart, no_notes, request_of, notes_after, opening_world, script_parts, sequential}
 use Rattle.script_lang.specs.Lines.{LineStyle, Standing, actor_name, lines, standing_after}
 use Rattle.script_lang.specs.PrintedCalls.{reads_frame, frames_after, printed}
 use Rattle.woven_laws.specs.PrintedHistory.{printed_history, frames_after_calls}
 use Rattle.woven_laws.specs.Woven.{parts_of, AreOf, actor_parts, ActorState, actor_at, initial_actor, SpellsAll, IsWoven}
 use Rattle.woven_laws.specs.FirstParts.{IsFirstPart, SpellsTo}
+use Rattle.woven_laws.specs.FramesInTurn.{AreInTurn}
 
 -- The printed calls of a legal history are legal from the same world, and leave the same world.
 abbrev pub PrintedIsLegal : {P : Type 0} → Rules P → Type 0
@@ -140,3 +144,12 @@ FrameReadsAreLeftOut = (h more : History) (a name : ℕ) (xs : List ℕ) →
 abbrev pub PartsAreOfScript : Type 0
 PartsAreOfScript = (a : ℕ) (actors : List (List ℕ)) (forms : List DoForm) →
     parts_of a (script_parts actors forms) ≡ actor_parts a actors forms
+
+-- In a script without the faults of `threads` frames are in turn, in each legal and woven history: one actor at most has
+-- frames, and no other actor has a name for their snapshots.
+abbrev pub FramesAreInTurn : Type 0
+FramesAreInTurn = (states : List State) (first_oversized : Option ℕ) (forms : List DoForm) (h : History) →
+    IsValid table (opening_world states) → script_faults true states first_oversized forms ≡ [] →
+    let actors = actors_of forms in
+    IsLegal table (opening_world states) h → IsWoven (length actors) (initial_actor (script_parts actors forms)) h →
+    AreInTurn None h

@@ -1,4 +1,5 @@
 pub mod PrintedHistory
 pub mod Woven
 pub mod FirstParts
+pub mod FramesInTurn
 pub mod Laws

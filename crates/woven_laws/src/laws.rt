@@ -1,5 +1,5 @@
 // Laws of woven histories, and of what is printed of a history.
-ghost use Rattle.woven_laws.specs.Laws.{ActorNamesAreDistinct, LinesTellTheHistory, PartIsCompleted, PrintedByCaller, PrintedIsLegal, PrintedIsWoven, PrintedPartIsCompleted, SequentialIsWoven, TextGoesOn, WovenIsSequential};
+ghost use Rattle.woven_laws.specs.Laws.{ActorNamesAreDistinct, FramesAreInTurn, LinesTellTheHistory, PartIsCompleted, PrintedByCaller, PrintedIsLegal, PrintedIsWoven, PrintedPartIsCompleted, SequentialIsWoven, TextGoesOn, WovenIsSequential};
 
 use snap_policy::Policy;
 
@@ -47,4 +47,10 @@ pub fn actor_names_are_distinct()
 pub fn one_actor_is_sequential()
     ensures woven { SequentialIsWoven }
     ensures only { WovenIsSequential }
+{}
+
+/// Law: in a script that `threads` accepts, at most one frame is open at a time in a legal and woven history, and the actor
+/// that began it ends it.
+pub fn frames_are_in_turn()
+    ensures { FramesAreInTurn }
 {}

@@ -12,7 +12,7 @@ mod laws;
 mod spelling;
 
 pub use laws::{
-    actor_names_are_distinct, lines_tell_the_history, one_actor_is_sequential, part_is_completed,
-    printed_by_caller, printed_is_legal, printed_is_woven, text_goes_on,
+    actor_names_are_distinct, frames_are_in_turn, lines_tell_the_history, one_actor_is_sequential,
+    part_is_completed, printed_by_caller, printed_is_legal, printed_is_woven, text_goes_on,
 };
 pub use spelling::{calls_are_printed, parts_are_of_script, steps_are_spelled};
