@@ -9,3 +9,4 @@ pub mod Sequences
 pub mod FrameParts
 pub mod RunLines
 pub mod Openings
+pub mod Replays

@@ -53,6 +53,10 @@ valid-states w (s ∷ more) fit h =
     valid-states (world_after_make w (type_of s.initial) s.policy s.initial) more fit.1
     (valid_made h (type_of s.initial) s.policy s.initial (makeable table (type_of s.initial) s.policy s.initial (makes-state s.initial s.policy fit.0)))
 
+-- The opening world is valid.
+pub valid_opening : (states : List State) → StatesFit states → IsValid table (opening_world states)
+valid_opening states fit = valid_watched (valid-states (start 0) states fit (valid_start table 0 (omega arith)))
+
 -- Making states takes no snapshot.
 count-states : (w : World BuiltIn) (ss : List State) → length (with_states w ss).snapshots ≡ length w.snapshots
 count-states w [] = refl
@@ -71,7 +75,7 @@ opened {functions = functions} {log = log} {world = world} {memory = memory} act
     record {
       facts = record {
         world_stands = stood;
-        valid = valid_watched (valid-states (start 0) states fit (valid_start table 0 (omega arith)));
+        valid = valid_opening states fit;
         few = omega (arith, counted);
         known = λ name n found. absurd cc;
         is_at = subst (λ o. IsAt memory.composition no_last_frame o) (sym last) at;

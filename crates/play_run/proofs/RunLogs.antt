@@ -27,7 +27,8 @@ use Rattle.snap_api.specs.declared.data.Request.TheVariants as request
 use Rattle.recomposer.proofs.Draws.{read_first}
 use Rattle.script_lang.specs.StepCalls.{ActorPart, request_of, notes_after, entry, sequential}
 use Rattle.script_lang.specs.Lines.{Titles, Standing, next, kept_after, ends_frame, frame_at, frame_taken, name_in}
-use Rattle.play_run.specs.RunLog.{reads_frame, frames_after, printed, frames_in, owed_reads, ReadsForResult, ReadsOwed, LogsRun}
+use Rattle.script_lang.specs.PrintedCalls.{reads_frame, frames_after, printed}
+use Rattle.play_run.specs.RunLog.{frames_in, owed_reads, ReadsForResult, ReadsOwed, LogsRun}
 use Rattle.play_run.specs.RunOutput.{Run, first_run, run_after_request, parts_after}
 use Rattle.play_run.specs.RunState.{LogSoFar, IsLogged, AddsEntry, FrameReadsLogged, LogsFrameReads}
 

@@ -26,7 +26,7 @@ use Rattle.script_lang.specs.StepCalls.{Part, Take, Read, Write, WriteSum, Apply
 use Rattle.script_lang.specs.Lines.{LineStyle, entry_line, ends_frame, frame_taken}
 use Rattle.recomposer.specs.Compositions.{IsAt}
 use Rattle.play_run.specs.RunOutput.{Run, request_lines, run_after_request, part_lines, part_after, parts_lines, parts_after}
-use Rattle.play_run.specs.RunLog.{reads_frame}
+use Rattle.script_lang.specs.PrintedCalls.{reads_frame}
 use Rattle.play_run.specs.RunState.{IsAtFrame, RunFacts, IsRun, IsLogged, AddsEntry, IsPlain, KeepsNames, RunsAt, flat}
 use Rattle.play_run.specs.RunPromise.{WritesBytes}
 use Rattle.recomposer.specs.declared.composition.Composition.{Composition}
@@ -60,19 +60,19 @@ number_apart names name (Named other) inner below apart e = by (latest names oth
     by (Some n) is = apart other.text n is (ap (λ o. unwrap_or o never_taken) (sym is) ∙ e)
 
 -- A plain part makes a plain call, which avoids the snapshot of the open frame.
-sum_call : (name n x : ℕ) (a : ℤ) (o : Option Value) (q : Request) → sum_request n x a o ≡ Some q → n ≢ name → IsPlainCall q × Avoids name q
-sum_call name n x a (Some (value.Int z)) q is apart = let e : request.Write n x (value.Int (sum_of z a)) ≡ q = cc in subst (λ r. IsPlainCall r × Avoids name r) e (tt, apart)
-sum_call name n x a (Some (value.Bool b)) q is apart = absurd cc
-sum_call name n x a (Some (value.Text t)) q is apart = absurd cc
-sum_call name n x a (Some (value.Ints l)) q is apart = absurd cc
-sum_call name n x a None q is apart = absurd cc
+sum_call : (name n x : ℕ) (a : ℤ) (o : Option Value) (q : Request) → sum_request n x a o ≡ Some q → IsPlainCall q × Avoids name q
+sum_call name n x a (Some (value.Int z)) q is = let e : request.Write n x (value.Int (sum_of z a)) ≡ q = cc in subst (λ r. IsPlainCall r × Avoids name r) e (tt, tt)
+sum_call name n x a (Some (value.Bool b)) q is = absurd cc
+sum_call name n x a (Some (value.Text t)) q is = absurd cc
+sum_call name n x a (Some (value.Ints l)) q is = absurd cc
+sum_call name n x a None q is = absurd cc
 
 plain_call : (n : Notes) (p : Part) (q : Request) → IsPlain p → request_of n p ≡ Some q → (name : ℕ) → ((s : SnapshotRef) → snapshot_number n.names s ≢ name) → IsPlainCall q × Avoids name q
 plain_call n (Take other kind parent) q plain is name apart = let e : request.Take (snapshot_number n.names parent) kind ≡ q = cc in subst (λ r. IsPlainCall r × Avoids name r) e (tt, tt)
 plain_call n (Read s x) q plain is name apart = let e : request.Read (snapshot_number n.names s) x ≡ q = cc in subst (λ r. IsPlainCall r × Avoids name r) e (tt, tt)
-plain_call n (Write s x v) q plain is name apart = let e : request.Write (snapshot_number n.names s) x v ≡ q = cc in subst (λ r. IsPlainCall r × Avoids name r) e (tt, apart s)
-plain_call n (WriteSum s x a) q plain is name apart = sum_call name (snapshot_number n.names s) x a n.value q is (apart s)
-plain_call n (Apply s) q plain is name apart = let e : request.Apply (snapshot_number n.names s) ≡ q = cc in subst (λ r. IsPlainCall r × Avoids name r) e (tt, apart s)
+plain_call n (Write s x v) q plain is name apart = let e : request.Write (snapshot_number n.names s) x v ≡ q = cc in subst (λ r. IsPlainCall r × Avoids name r) e (tt, tt)
+plain_call n (WriteSum s x a) q plain is name apart = sum_call name (snapshot_number n.names s) x a n.value q is
+plain_call n (Apply s) q plain is name apart = let e : request.Apply (snapshot_number n.names s) ≡ q = cc in subst (λ r. IsPlainCall r × Avoids name r) e (tt, tt)
 plain_call n (Dispose s) q plain is name apart = let e : request.Dispose (snapshot_number n.names s) ≡ q = cc in subst (λ r. IsPlainCall r × Avoids name r) e (tt, apart s)
 plain_call n BeginFrame q plain is name apart = absurd plain
 plain_call n EndFrame q plain is name apart = absurd plain
@@ -95,7 +95,7 @@ is_plain_call n BeginFrame q plain is = absurd plain
 is_plain_call n EndFrame q plain is = absurd plain
 
 -- A call ends no frame if none is open, or if it avoids the snapshot of the open frame.
-ends_none : (q : Request) → ends_frame [] q ≡ false
+pub ends_none : (q : Request) → ends_frame [] q ≡ false
 ends_none (request.Take parent kind) = refl
 ends_none (request.TakeFor watcher) = refl
 ends_none (request.Read n x) = refl

@@ -13,9 +13,10 @@ use Rattle.script_lang.specs.Scripts.{repeated, times_of, written_out}
 use Rattle.script_lang.specs.StepCalls.{Part, ActorPart, of_actor, step_parts, steps_parts}
 use Rattle.script_lang.specs.Lines.{LineStyle}
 use Rattle.play_run.specs.RunOutput.{Run, parts_lines, parts_after, parts_of}
-use Rattle.play_run.specs.RunState.{IsRun, RunsAt, flat}
+use Rattle.play_run.specs.RunState.{RunFacts, IsRun, RunsAt, flat}
 use Rattle.play_run.specs.RunPromise.{WritesBytes}
 use Rattle.play_run.specs.declared.memory.RunMemory.{RunMemory}
+use Rattle.recomposer.specs.declared.composition.Composition.{Composition}
 use Rattle.play_run.specs.declared.write_lines.Stop.{Stop}
 use Rattle.play_run.proofs.RunParts.{lines_append, after_append}
 use Rattle.play_run.proofs.Written.{says_behind, says_front, says_same}
@@ -69,12 +70,11 @@ module _ {V : Type 0} {stands : V → World BuiltIn → Type 0} {log : V → Opt
   runs_same {world' = world'} {memory' = memory'} frame' written written' r result ps qs e h = subst (λ l. RunsAt t functions stands log actor l world' memory' frame' written written' r result) e h
 
 -- While no frame is open, the actor does not matter.
+pub facts_as : {functions : List Func} {V : Type 0} {stands : V → World BuiltIn → Type 0} {world : V} {kept : Composition} {r : Run} (a b : ℕ) → RunFacts functions stands world kept a None r → RunFacts functions stands world kept b None r
+facts_as a b h = record { world_stands = h.world_stands; valid = h.valid; few = h.few; known = h.known; is_at = h.is_at; same_program = h.same_program; noted = h.noted; at_frame = h.at_frame }
+
 pub run_as : {V : Type 0} {stands : V → World BuiltIn → Type 0} {log : V → Option (List Entry)} {functions : List Func} {world : V} {memory : RunMemory} {r : Run} (a b : ℕ) → IsRun functions stands log world memory a None r → IsRun functions stands log world memory b None r
-run_as a b h = record {
-  facts = record { world_stands = h.facts.world_stands; valid = h.facts.valid; few = h.facts.few; known = h.facts.known; is_at = h.facts.is_at; same_program = h.facts.same_program; noted = h.facts.noted; at_frame = h.facts.at_frame };
-  named = h.named;
-  logged = h.logged;
-}
+run_as a b h = record { facts = facts_as a b h.facts; named = h.named; logged = h.logged }
 
 pub runs_as : {V T : Type 0} {stands : V → World BuiltIn → Type 0} {log : V → Option (List Entry)} {t : LineStyle} {functions : List Func} {world : V} {memory : RunMemory} {r : Run} (a b : ℕ) (ps : List ActorPart) (written written' : Option (List ℕ)) (result : Result T Stop) →
     RunsAt t functions stands log a ps world memory None written written' r result → RunsAt t functions stands log b ps world memory None written written' r result

@@ -63,7 +63,7 @@ pub no_lines_after : (before : List Bool) (gs : List Group) (i : ℕ) → length
 no_lines_after before gs i h = ap (group_lines before) (drop_of_length-le gs h)
 
 -- Nothing was written, and nothing had to be.
-appends_none : (a : Option (List ℕ)) → Appends a a []
+pub appends_none : (a : Option (List ℕ)) → Appends a a []
 appends_none None = tt
 appends_none (Some bytes) = sym (append-nil bytes)
 

@@ -3,3 +3,4 @@ pub mod RunLog
 pub mod Opening
 pub mod RunOutput
 pub mod RunState
+pub mod ReplayState

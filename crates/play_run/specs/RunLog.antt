@@ -1,7 +1,6 @@
--- Trusted: what a run adds to the log of a world: which calls are printed, and which objects each frame reads.
-use Rattle.std.specs.Prelude.{◌≡◌, ℕ, ◌==◌, not, List, [], ◌∷◌, ◌++◌, All, Bool, false, Option, Some, None, if◌then◌else◌}
-use Rattle.std.specs.List.{filter}
-use Rattle.rt_values.specs.Maps.{Map, differ, contains}
+-- Trusted: what a run adds to the log of a world: its calls, and which objects each frame reads.
+use Rattle.std.specs.Prelude.{◌≡◌, ℕ, List, [], ◌∷◌, ◌++◌, All, Option, Some, None, if◌then◌else◌}
+use Rattle.rt_values.specs.Maps.{Map, differ}
 use Rattle.rt_groups.specs.Frames.{LastFrame, reads}
 use Rattle.lang_ast.specs.Terms.{Func}
 use Rattle.lang_ast.specs.Programs.{root_number}
@@ -13,29 +12,13 @@ use Rattle.snap_api.specs.declared.data.Request.{Request}
 use Rattle.snap_api.specs.declared.data.Request.TheVariants as request
 use Rattle.snap_api.specs.World.{History, IsLegal, snapshot_of}
 use Rattle.script_lang.specs.StepCalls.{ActorPart, no_notes, opening_world, sequential}
-use Rattle.script_lang.specs.Lines.{Titles, Standing, initial_standing, next, ends_frame, frame_taken, name_in}
-
--- Whether a call reads the snapshot of an open frame.
-abbrev pub reads_frame : List ℕ → Request → Bool
-reads_frame frames (request.Read name x) = contains name frames
-reads_frame frames _ = false
+use Rattle.script_lang.specs.Lines.{Titles, Standing, initial_standing, next, ends_frame, name_in}
+use Rattle.script_lang.specs.PrintedCalls.{reads_frame, printed}
 
 -- The object of a read.
 abbrev pub object_read : Request → ℕ
 object_read (request.Read name x) = x
 object_read _ = 0
-
--- The snapshots of the frames that are open after a call.
-abbrev pub frames_after : List ℕ → Entry → List ℕ
-frames_after frames e =
-    if ends_frame frames e.request then filter (λ n. not (n == name_in e.request)) frames
-    else frames ++ frame_taken e.request e.reply
-
--- The calls of a history that are printed: all except the reads of the snapshots of open frames.
-abbrev pub printed : List ℕ → History → History
-printed frames [] = []
-printed frames (e ∷ es) =
-    if reads_frame frames e.request then printed frames es else e ∷ printed (frames_after frames e) es
 
 -- A frame that a history ends: what was kept before it, the map of its snapshot, and the objects that it read, in order.
 pub record FrameReads : Type 0 where

@@ -22,7 +22,8 @@ use Rattle.script_lang.specs.StepCalls.{Part, Take, BeginFrame, EndFrame, ActorP
 use Rattle.script_lang.specs.declared.flags.Flags.{Flags}
 use Rattle.script_lang.specs.Lines.{LineStyle, frame_calls}
 use Rattle.play_run.specs.RunPromise.{WritesBytes}
-use Rattle.play_run.specs.RunLog.{printed, frames_in, ReadsOwed}
+use Rattle.script_lang.specs.PrintedCalls.{printed}
+use Rattle.play_run.specs.RunLog.{frames_in, ReadsOwed}
 use Rattle.play_run.specs.RunOutput.{Run, parts_lines, parts_after}
 use Rattle.play_run.specs.declared.memory.RunMemory.{RunMemory}
 use Rattle.play_run.specs.declared.write_lines.Stop.{Stop}

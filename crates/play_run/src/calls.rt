@@ -94,8 +94,8 @@ fn run_part<V: Versions<P = BuiltIn>, K: Sink>(
     make_call(alloc, actor, request, &mut memory.text, world, sink)
 }
 
-// Returns the number of the snapshot that a take gave, or a number that no snapshot has.
-fn number_taken(reply: &Reply) -> Name
+/// Returns the number of the snapshot that a take gave, or a number that no snapshot has. A rule of this project.
+pub fn number_taken(reply: &Reply) -> Name
     ensures { result ≡ number_taken reply.now }
 {
     match reply {
@@ -131,8 +131,8 @@ fn run_take<V: Versions<P = BuiltIn>, K: Sink>(
     }
 }
 
-// Returns the write of a sum, if `reply` is a number.
-fn sum_request(name: Name, object: ObjectNo, amount: i64, reply: &Reply) -> Option<Request>
+/// Returns the write of the sum of `amount` and the number in `reply`, if there is one. A rule of this project.
+pub fn sum_request(name: Name, object: ObjectNo, amount: i64, reply: &Reply) -> Option<Request>
     ensures { result ≡ sum_request name object amount (value_read reply.now) }
 {
     match reply {

@@ -76,10 +76,10 @@ fn recompose<V: View, L: Ledger>(
     composition.recompose(alloc, view, steps)
 }
 
-// Composes the program in the caller's open snapshot `name`. Returns the report of a good frame, or `None` if there are
-// too many groups. In that case everything kept stays, and the objects stay owed. `blank` is the ledger of the steps,
-// which nothing reads.
-fn compose<V: Versions<P = BuiltIn>, L: Ledger>(
+/// Composes the program in the caller's open snapshot `name` (`Recomposer.recompose`). Returns the report of a good
+/// frame, or `None` if there are too many groups. In that case everything kept stays, and the objects stay owed. `blank`
+/// is the ledger of the steps, which nothing reads.
+pub fn compose<V: Versions<P = BuiltIn>, L: Ledger>(
     alloc: Global,
     flags: Flags,
     caller: Caller,
@@ -366,9 +366,9 @@ fn write_frame<K: Sink>(
     }
 }
 
-// Marks what changed since the last frame as owed. Returns the number of the frame's snapshot, or `None` if its take was
-// refused.
-fn note_frame(reply: Reply, composition: &mut Composition) -> Option<Name>
+/// Marks what changed since the last frame as owed (`Composition.recordModificationsOf`). Returns the number of the
+/// frame's snapshot, or `None` if its take was refused.
+pub fn note_frame(reply: Reply, composition: &mut Composition) -> Option<Name>
     ensures frame { result ≡ frame_begun reply }
     ensures noted { (name : ℕ) (changed : List ℕ) (k : LastFrame) (l : Option Map) (m : Map) →
         reply ≡ reply_data.TakenFor name changed → IsAt composition.old k l → FollowsLast l m → changed ≡ differ l m →
@@ -414,7 +414,7 @@ fn begin_frame<V: Versions<P = BuiltIn>, K: Sink>(
 
 // Composes the program in the frame's snapshot and disposes the snapshot. Writes the line of the dispose and the lines
 // of the frame.
-fn finish_frame<V: Versions<P = BuiltIn>, K: Sink>(
+pub fn finish_frame<V: Versions<P = BuiltIn>, K: Sink>(
     alloc: Global,
     actor: JobActor,
     name: Name,

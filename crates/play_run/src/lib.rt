@@ -5,7 +5,7 @@
 //! rules of this project.
 //! Promises: the bytes written are those of `run_text`, the lines of the history that the steps make in the plain world,
 //! or a first part of them after an error. The log of the world, if it has one, grows by that history and by the reads
-//! that each frame owes.
+//! that each frame owes. `replay` makes the calls of a history again, and writes the lines of the history.
 #![tactic(auto)]
 
 mod calls;
@@ -13,9 +13,15 @@ mod frame;
 mod job;
 mod memory;
 mod open;
+mod replaying;
 mod steps;
 mod write_lines;
 
+pub use calls::{number_taken, sum_request};
+pub use frame::{compose, note_frame};
 pub use job::Job;
+pub use memory::{RunMemory, WATCHER};
+pub use open::set_up_world;
+pub use replaying::replay;
 pub use steps::run_script;
 pub use write_lines::{Stop, write_piece};
