@@ -1,0 +1,7 @@
+pub mod Worlds
+pub mod PartFacts
+pub mod PartsMade
+pub mod Sequences
+pub mod Openings
+pub mod CallersFrames
+pub mod ActorEnds

@@ -1,0 +1,3 @@
+pub mod ActorNotes
+pub mod ActorSteps
+pub mod OpenFrames

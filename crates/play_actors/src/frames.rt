@@ -1,0 +1,119 @@
+// Frames, each composed in its own snapshot through the actor's seat.
+ghost use Rattle.std.specs.Prelude.{◌≡◌, ◌<◌, ◌∷◌, ◌++◌, [], Option, ℕ, Some, None, false};
+ghost use Rattle.script_lang.specs.StepCalls.{BeginFrame, EndFrame, calls_parts};
+ghost use Rattle.play_actors.specs.ActorSteps.{by_actor, IsSeated, Makes};
+
+use crate::parts::StepPart;
+use crate::worker::{ActorRun, Worker, make_part, run_calls};
+use lang_ast::CallForm;
+use recomposer::FrameStop;
+use rt_streams::Gate;
+use rt_values::{Name, NoMemory, Steps};
+use snap_api::Versions;
+use snap_policy::BuiltIn;
+use snap_shared::SeatView;
+use std::marker::Brand;
+use std::sync::Wait;
+use std::sync::ledger::{Blank, Ledger};
+
+// Composes the program in the worker's open snapshot `name`. Nothing of it is printed here: too many groups are no
+// failure. `blank` is the ledger of the steps, which nothing reads.
+fn compose<'p, V: Versions<P = BuiltIn> + Drop, R: Wait, G: Gate, L: Ledger>(
+    run: &ActorRun<'_, V, R, G>,
+    name: Name,
+    worker: Worker<'p, V>,
+    blank: Blank,
+) -> (Worker<'p, V>, Result<(), NoMemory>)
+    requires ledger { blank.name ≡ L.name }
+    requires parts { blank.parts ≡ L.parts }
+    requires some { 0 < L.parts }
+    requires going { worker.short ≡ false }
+    requires seated { IsSeated run.now.shared.now run.now.number worker.seat }
+    ensures seated { IsSeated run.now.shared.now run.now.number result.0.seat }
+    ensures makes { Makes V.stands run.now.shared.now worker.entry result.0 (Some name) (Some name) [] }
+{
+    let (book, share) = blank.open();
+    let mut steps: Steps<L> = Steps::new(book, share);
+    let Worker {
+        seat,
+        mut memory,
+        step,
+        short,
+    } = worker;
+    let mut view = SeatView::new(run.rt, run.shared, seat, run.gate, step, Some(name));
+    let composed = match memory
+        .composition
+        .recompose(run.alloc, &mut view, &mut steps)
+    {
+        Ok(_) => Ok(()),
+        Err(FrameStop::TooManyGroups) => Ok(()),
+        Err(_) => Err(NoMemory),
+    };
+    let (seat, step) = view.into_seat();
+    let worker = Worker {
+        seat,
+        memory,
+        step,
+        short,
+    };
+    (worker, composed)
+}
+
+// Composes the program in the frame's snapshot and disposes the snapshot, also if composing ran out of memory.
+fn finish_frame<'p, V: Versions<P = BuiltIn> + Drop, R: Wait, G: Gate>(
+    run: &ActorRun<'_, V, R, G>,
+    name: Name,
+    worker: Worker<'p, V>,
+) -> Worker<'p, V>
+    requires going { worker.short ≡ false }
+    requires seated { IsSeated run.now.shared.now run.now.number worker.seat }
+    ensures seated { IsSeated run.now.shared.now run.now.number result.seat }
+    ensures makes { Makes V.stands run.now.shared.now worker.entry result (Some name) None
+        (by_actor run.now.number (EndFrame ∷ [])) }
+{
+    let (worker, composed) = compose::<V, R, G, Brand>(run, name, worker, Blank::new(1));
+    let mut worker = make_part(run, &StepPart::EndFrame, worker);
+    match composed {
+        Ok(()) => worker,
+        Err(_) => {
+            worker.short = true;
+            worker
+        }
+    }
+}
+
+// Ends a frame. The frame of a refused take has nothing to end.
+fn end_frame<'p, V: Versions<P = BuiltIn> + Drop, R: Wait, G: Gate>(
+    run: &ActorRun<'_, V, R, G>,
+    worker: Worker<'p, V>,
+) -> Worker<'p, V>
+    requires seated { IsSeated run.now.shared.now run.now.number worker.seat }
+    ensures seated { IsSeated run.now.shared.now run.now.number result.seat }
+    ensures makes { (frame : Option ℕ) → Makes V.stands run.now.shared.now worker.entry result frame None
+        (by_actor run.now.number (EndFrame ∷ [])) }
+{
+    if worker.short {
+        return worker;
+    }
+    match worker.memory.frame {
+        Some(name) => finish_frame(run, name, worker),
+        None => make_part(run, &StepPart::EndFrame, worker),
+    }
+}
+
+/// Makes a frame: takes its snapshot, makes the steps of `during`, composes the program in the snapshot and disposes
+/// it. If the take is refused, only the steps of `during` follow.
+pub(crate) fn run_frame<'p, V: Versions<P = BuiltIn> + Drop, R: Wait, G: Gate>(
+    run: &ActorRun<'_, V, R, G>,
+    during: &[CallForm],
+    worker: Worker<'p, V>,
+) -> Worker<'p, V>
+    requires seated { IsSeated run.now.shared.now run.now.number worker.seat }
+    ensures seated { IsSeated run.now.shared.now run.now.number result.seat }
+    ensures makes { Makes V.stands run.now.shared.now worker.entry result None None
+        (by_actor run.now.number (BeginFrame ∷ (calls_parts during.now ++ EndFrame ∷ []))) }
+{
+    let worker = make_part(run, &StepPart::BeginFrame, worker);
+    let worker = run_calls(run, during, worker);
+    end_frame(run, worker)
+}

@@ -1,0 +1,185 @@
+// The worker of an actor, and the calls of its steps.
+ghost use Rattle.std.specs.Prelude.{◌∷◌, [], Option, ℕ};
+ghost use Rattle.script_lang.specs.StepCalls.{call_parts, calls_parts};
+ghost use Rattle.play_actors.specs.ActorNotes.{part_of};
+ghost use Rattle.play_actors.specs.ActorSteps.{by_actor, IsSeated, Makes, MakesCall, MayMake, frame_then};
+
+use crate::memory::ActorMemory;
+use crate::parts::StepPart;
+use lang_ast::CallForm;
+use rt_streams::Gate;
+use rt_values::Caller;
+use snap_api::{Request, Versions};
+use snap_policy::BuiltIn;
+use snap_shared::{Seat, Shared};
+use std::alloc::Global;
+use std::sync::Wait;
+
+/// The world, the gate and the number of an actor, which the functions of a worker share.
+#[derive(Drop)]
+pub(crate) struct ActorRun<'a, V: Versions + Drop, R: Wait, G: Gate> {
+    pub(crate) rt: &'a R,
+    pub(crate) alloc: Global,
+    pub(crate) shared: &'a Shared<V>,
+    pub(crate) gate: &'a G,
+    pub(crate) number: Caller,
+}
+
+/// An actor at one of its steps. A worker that is `short` ran out of memory and makes no further call.
+#[derive(Drop)]
+pub struct Worker<'p, V> {
+    pub(crate) seat: Seat<V>,
+    pub(crate) memory: ActorMemory<'p>,
+    /// The number of the next call at the gate.
+    pub(crate) step: u64,
+    pub(crate) short: bool,
+}
+
+// Makes the call of a part, and notes the reply.
+fn make_call<'p, V: Versions<P = BuiltIn> + Drop, R: Wait, G: Gate>(
+    run: &ActorRun<'_, V, R, G>,
+    part: &StepPart<'_>,
+    request: Request,
+    mut worker: Worker<'p, V>,
+) -> Worker<'p, V>
+    requires seated { IsSeated run.now.shared.now run.now.number worker.seat }
+    ensures seated { IsSeated run.now.shared.now run.now.number result.seat }
+    ensures makes { MakesCall V.stands run.now.shared.now run.now.number worker.entry result (part_of part.now) request }
+{
+    run.gate.pass(run.number as usize, worker.step);
+    worker.step = worker.step.wrapping_add(1);
+    let reply = run
+        .shared
+        .call(run.rt, run.alloc, &mut worker.seat, request);
+    if reply.is_no_memory() {
+        worker.short = true;
+        return worker;
+    }
+    match worker.memory.note(run.alloc, part, reply) {
+        Ok(()) => worker,
+        Err(_) => {
+            worker.short = true;
+            worker
+        }
+    }
+}
+
+/// Makes a part of a step.
+pub(crate) fn make_part<'p, V: Versions<P = BuiltIn> + Drop, R: Wait, G: Gate>(
+    run: &ActorRun<'_, V, R, G>,
+    part: &StepPart<'_>,
+    mut worker: Worker<'p, V>,
+) -> Worker<'p, V>
+    requires seated { IsSeated run.now.shared.now run.now.number worker.seat }
+    ensures seated { IsSeated run.now.shared.now run.now.number result.seat }
+    ensures makes { (frame : Option ℕ) → MayMake (part_of part.now) frame →
+        Makes V.stands run.now.shared.now worker.entry result frame
+        (frame_then (part_of part.now) frame result.memory.frame)
+        (by_actor run.now.number (part_of part.now ∷ [])) }
+{
+    if worker.short {
+        return worker;
+    }
+    match worker.memory.request_for(run.alloc, part) {
+        Ok(Some(request)) => make_call(run, part, request, worker),
+        Ok(None) => worker,
+        Err(_) => {
+            worker.short = true;
+            worker
+        }
+    }
+}
+
+// Makes a step without inner steps.
+pub(crate) fn run_call<'p, V: Versions<P = BuiltIn> + Drop, R: Wait, G: Gate>(
+    run: &ActorRun<'_, V, R, G>,
+    form: &CallForm,
+    worker: Worker<'p, V>,
+) -> Worker<'p, V>
+    requires seated { IsSeated run.now.shared.now run.now.number worker.seat }
+    ensures seated { IsSeated run.now.shared.now run.now.number result.seat }
+    ensures makes { (frame : Option ℕ) → Makes V.stands run.now.shared.now worker.entry result frame frame
+        (by_actor run.now.number (call_parts form.now)) }
+{
+    match form {
+        CallForm::Take {
+            name,
+            kind,
+            parent,
+            ..
+        } => {
+            let part = StepPart::Take {
+                name: &name.text,
+                kind: *kind,
+                parent,
+            };
+            make_part(run, &part, worker)
+        }
+        CallForm::Read {
+            snapshot,
+            object,
+            ..
+        } => {
+            let part = StepPart::Read {
+                snapshot,
+                object: *object,
+            };
+            make_part(run, &part, worker)
+        }
+        CallForm::Write {
+            snapshot,
+            object,
+            value,
+            ..
+        } => {
+            let part = StepPart::Write {
+                snapshot,
+                object: *object,
+                value,
+            };
+            make_part(run, &part, worker)
+        }
+        CallForm::Add {
+            snapshot,
+            object,
+            amount,
+            ..
+        } => {
+            let read = StepPart::Read {
+                snapshot,
+                object: *object,
+            };
+            let write = StepPart::WriteSum {
+                snapshot,
+                object: *object,
+                amount: *amount,
+            };
+            let worker = make_part(run, &read, worker);
+            make_part(run, &write, worker)
+        }
+        CallForm::Apply { snapshot, .. } => make_part(run, &StepPart::Apply { snapshot }, worker),
+        CallForm::Dispose { snapshot, .. } => {
+            make_part(run, &StepPart::Dispose { snapshot }, worker)
+        }
+    }
+}
+
+/// Makes steps without inner steps, one after the other.
+pub(crate) fn run_calls<'p, V: Versions<P = BuiltIn> + Drop, R: Wait, G: Gate>(
+    run: &ActorRun<'_, V, R, G>,
+    forms: &[CallForm],
+    worker: Worker<'p, V>,
+) -> Worker<'p, V>
+    requires seated { IsSeated run.now.shared.now run.now.number worker.seat }
+    ensures seated { IsSeated run.now.shared.now run.now.number result.seat }
+    ensures makes { (frame : Option ℕ) → Makes V.stands run.now.shared.now worker.entry result frame frame
+        (by_actor run.now.number (calls_parts forms.now)) }
+{
+    let mut worker = worker;
+    let mut rest = forms;
+    while let Some((form, more)) = rest.split_first() {
+        worker = run_call(run, form, worker);
+        rest = more;
+    }
+    worker
+}
