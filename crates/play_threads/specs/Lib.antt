@@ -1,0 +1,2 @@
+pub mod WovenText
+pub mod ActorsCalls
