@@ -1,0 +1,6 @@
+pub mod Parts
+mod Texts
+mod RoundLists
+pub mod CountedParts
+pub mod CountedRounds
+pub mod FaultlessScript

@@ -1,0 +1,101 @@
+-- Trusted: the program of a generated input with so many rows.
+use Rattle.std.specs.Prelude.{ℕ, ℤ, List, [], ◌∷◌, pos, codes}
+use Rattle.rt_values.specs.declared.value.Value.{Value}
+use Rattle.rt_values.specs.declared.value.Value.TheVariants as value
+use Rattle.rt_values.specs.declared.value.Ty.{Ty}
+use Rattle.rt_values.specs.declared.value.Ty.TheVariants as ty
+use Rattle.rt_values.specs.Operators.{range}
+use Rattle.snap_policy.specs.declared.policy.BuiltIn.{BuiltIn}
+use Rattle.snap_policy.specs.declared.policy.BuiltIn.TheVariants as policy
+use Rattle.lang_ast.specs.declared.syntax.Ident.{Ident}
+use Rattle.lang_ast.specs.declared.syntax.Operator.TheVariants as operator
+use Rattle.lang_ast.specs.declared.syntax.Parameter.{Parameter}
+use Rattle.lang_ast.specs.declared.program.State.{State}
+use Rattle.lang_ast.specs.Terms.{Expr, Variable, Get, Apply, none, more, Named, Stmt, Node, Call, Key, For, Remember, Func, exprs, stmts}
+use Rattle.lang_ast.specs.Programs.{Program}
+
+-- A generated program has no text, so the offset of each part is 0.
+abbrev pub ident : List ℕ → Ident
+ident name = record { at = 0; text = name }
+
+abbrev pub state : List ℕ → Ty → BuiltIn → Value → State
+state name type policy initial = record { at = 0; name = ident name; ty = type; policy = policy; initial = initial }
+
+abbrev pub variable : List ℕ → Expr
+variable name = Variable (ident name)
+
+-- `(get NAME)`, for the state with this number.
+abbrev pub state_value : List ℕ → ℕ → Expr
+state_value name number = Get 0 (ident name) number
+
+abbrev pub product : Expr → Expr → Expr
+product a b = Apply 0 operator.Multiply (more a (more b none))
+
+-- `(NAME EXPR)`: an attribute of a node, or a key of a `remember`.
+abbrev pub named : List ℕ → Expr → Named
+named name e = record { name = ident name; value = e }
+
+abbrev pub function : List ℕ → List Parameter → List Stmt → Func
+function name parameters body = record { at = 0; name = ident name; parameters = parameters; body = stmts body }
+
+-- The items at the start: 0, 1, .. below the number of rows.
+abbrev pub first_items : ℕ → List ℤ
+first_items size = range (pos 0) (pos size)
+
+abbrev pub generated_states : ℕ → List State
+generated_states size =
+    state (codes "items") ty.Ints policy.Structural (value.Ints (first_items size))
+    ∷ state (codes "total") ty.Int policy.Counter (value.Int (pos 0))
+    ∷ state (codes "best") ty.Int policy.Largest (value.Int (pos 0))
+    ∷ state (codes "scale") ty.Int policy.Structural (value.Int (pos 1))
+    ∷ []
+
+-- `(node Row ((item i) (square sq) (scaled (* i (get scale)))))`
+abbrev pub row_node : Stmt
+row_node =
+    Node 0 2 (ident (codes "Row"))
+    (named (codes "item") (variable (codes "i"))
+    ∷ named (codes "square") (variable (codes "sq"))
+    ∷ named (codes "scaled") (product (variable (codes "i")) (state_value (codes "scale") 3))
+    ∷ [])
+    (stmts [])
+
+-- `(remember sq ((n i)) (* n n) ROW_NODE)`
+abbrev pub row_cell : Stmt
+row_cell =
+    Remember 0 1 (ident (codes "sq")) (named (codes "n") (variable (codes "i")) ∷ [])
+    (product (variable (codes "n")) (variable (codes "n"))) (stmts (row_node ∷ []))
+
+-- `(fun row ((i Int)) ROW_CELL)`
+abbrev pub row_function : Func
+row_function = function (codes "row") (record { name = ident (codes "i"); ty = ty.Int } ∷ []) (row_cell ∷ [])
+
+-- `(key i (call row i))`
+abbrev pub keyed_row : Stmt
+keyed_row =
+    Key 0 4 (variable (codes "i"))
+    (stmts (Call 0 5 (ident (codes "row")) 0 (exprs (variable (codes "i") ∷ [])) ∷ []))
+
+-- `(for i (get items) KEYED_ROW)`
+abbrev pub all_rows : Stmt
+all_rows = For 0 3 (ident (codes "i")) (state_value (codes "items") 0) (stmts (keyed_row ∷ []))
+
+-- `(node Total ((value (get total)) (best (get best))))`
+abbrev pub total_node : Stmt
+total_node =
+    Node 0 7 (ident (codes "Total"))
+    (named (codes "value") (state_value (codes "total") 1) ∷ named (codes "best") (state_value (codes "best") 2) ∷ [])
+    (stmts [])
+
+-- `(node Page () TOTAL_NODE (call list))`
+abbrev pub page_node : Stmt
+page_node =
+    Node 0 6 (ident (codes "Page")) [] (stmts (total_node ∷ Call 0 8 (ident (codes "list")) 1 (exprs []) ∷ []))
+
+-- `(fun list () ALL_ROWS)` and `(fun root () PAGE_NODE)` come after the function `row`, which `list` calls.
+abbrev pub generated_functions : List Func
+generated_functions =
+    row_function ∷ function (codes "list") [] (all_rows ∷ []) ∷ function (codes "root") [] (page_node ∷ []) ∷ []
+
+abbrev pub generated_program : ℕ → Program
+generated_program size = record { header = 0; states = generated_states size; functions = generated_functions }
