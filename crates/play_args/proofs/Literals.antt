@@ -16,9 +16,17 @@ pub run_taken : takes command_app (codes "run" ∷ []) ≡ true
 unfolding clap_on_literals
 run_taken = refl
 
+pub threads_taken : takes command_app (codes "threads" ∷ []) ≡ true
+unfolding clap_on_literals
+threads_taken = refl
+
 pub check_taken : takes command_app (codes "check" ∷ []) ≡ true
 unfolding clap_on_literals
 check_taken = refl
+
+pub gen_taken : takes command_app (codes "gen" ∷ []) ≡ true
+unfolding clap_on_literals
+gen_taken = refl
 
 match_subcommand : Option (Text × List Row) → Option Text
 match_subcommand = option_map (λ p. p.0)
@@ -27,9 +35,17 @@ run_met : match_subcommand (subcommand_of command_app (codes "run" ∷ [])) ≡ 
 unfolding clap_on_literals match_subcommand
 run_met = refl
 
+threads_met : match_subcommand (subcommand_of command_app (codes "threads" ∷ [])) ≡ Some (codes "threads")
+unfolding clap_on_literals match_subcommand
+threads_met = refl
+
 check_met : match_subcommand (subcommand_of command_app (codes "check" ∷ [])) ≡ Some (codes "check")
 unfolding clap_on_literals match_subcommand
 check_met = refl
+
+gen_met : match_subcommand (subcommand_of command_app (codes "gen" ∷ [])) ≡ Some (codes "gen")
+unfolding clap_on_literals match_subcommand
+gen_met = refl
 
 -- Two mappings in a row are one mapping.
 both : {A B C : Type 0} (f : A → B) (g : B → C) (o : Option A) → option_map (λ a. g (f a)) o ≡ option_map g (option_map f o)
@@ -48,5 +64,11 @@ moved a ws vs m e f h = subst (λ (x : App). HasMatchesOf x vs m) e (subst (λ (
 pub run_named : (m : ArgMatches) → HasMatchesOf command_app (codes "run" ∷ []) m → subcommand_name_of m ≡ Some (codes "run")
 run_named m h = named m ∙ ap match_subcommand (h simple).1 ∙ run_met
 
+pub threads_named : (m : ArgMatches) → HasMatchesOf command_app (codes "threads" ∷ []) m → subcommand_name_of m ≡ Some (codes "threads")
+threads_named m h = named m ∙ ap match_subcommand (h simple).1 ∙ threads_met
+
 pub check_named : (m : ArgMatches) → HasMatchesOf command_app (codes "check" ∷ []) m → subcommand_name_of m ≡ Some (codes "check")
 check_named m h = named m ∙ ap match_subcommand (h simple).1 ∙ check_met
+
+pub gen_named : (m : ArgMatches) → HasMatchesOf command_app (codes "gen" ∷ []) m → subcommand_name_of m ≡ Some (codes "gen")
+gen_named m h = named m ∙ ap match_subcommand (h simple).1 ∙ gen_met

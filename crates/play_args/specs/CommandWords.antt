@@ -1,11 +1,11 @@
 -- Trusted: The command that the arguments after the program name ask for.
-use Rattle.std.specs.Prelude.{ℕ, List, [], ◌∷◌, map, ◌&&◌, not, true, false, Option, Some, None, codes, String, string_bytes, if◌then◌else◌}
+use Rattle.std.specs.Prelude.{ℕ, ◌+◌, ◌-◌, ◌*◌, ◌==◌, nat_le, List, [], ◌∷◌, map, Bool, ◌&&◌, not, true, false, Option, Some, None, codes, String, string_bytes, if◌then◌else◌}
 use Rattle.std.specs.Option.{option_map}
 use Rattle.std.specs.Str.{bytes_eq}
 use Rattle.std.specs.declared.alloc.Global.{Global}
 use Rattle.script_lang.specs.declared.flags.Flags.{Flags}
 use Rattle.play_args.specs.declared.command.Command.{Command}
-use Rattle.play_args.specs.declared.command.Command.TheVariants.{Run, Check}
+use Rattle.play_args.specs.declared.command.Command.TheVariants.{Run, Threads, Check, Gen}
 
 abbrev pub no_flags : Flags
 no_flags = record { json = false; ops = false }
@@ -23,11 +23,38 @@ abbrev pub check_with : List (List ℕ) → Option Command
 check_with [] = Some Check
 check_with (w ∷ ws) = None
 
+abbrev pub is_digit : ℕ → Bool
+is_digit b = nat_le 48 b && nat_le b 57
+
+-- The number that further digits make of `n`, if it is at most `most`.
+abbrev pub with_digits : ℕ → ℕ → List ℕ → Option ℕ
+with_digits most n [] = Some n
+with_digits most n (b ∷ bs) =
+    if is_digit b && nat_le (10 * n + (b - 48)) most then with_digits most (10 * n + (b - 48)) bs else None
+
+-- The number, at most `most`, that a word of decimal digits without a leading zero writes.
+abbrev pub number_word : ℕ → List ℕ → Option ℕ
+number_word most [] = None
+number_word most (b ∷ []) = with_digits most 0 (b ∷ [])
+number_word most (b ∷ c ∷ bs) = if b == 48 then None else with_digits most 0 (b ∷ c ∷ bs)
+
+-- The size is not 0.
+abbrev pub gen_of : Option ℕ → Option ℕ → Option Command
+gen_of (Some number) (Some size) = if size == 0 then None else Some (Gen number size)
+gen_of _ _ = None
+
+-- `gen` has a number below 2^32, and a size of at most 1,000.
+abbrev pub gen_with : List (List ℕ) → Option Command
+gen_with (n ∷ s ∷ []) = gen_of (number_word 4294967295 n) (number_word 1000 s)
+gen_with _ = None
+
 -- The command with this name and these further words.
 abbrev pub command_named : List ℕ → List (List ℕ) → Option Command
 command_named w ws =
     if bytes_eq w (codes "run") then option_map Run (flags_after no_flags ws)
+    else if bytes_eq w (codes "threads") then option_map Threads (flags_after no_flags ws)
     else if bytes_eq w (codes "check") then check_with ws
+    else if bytes_eq w (codes "gen") then gen_with ws
     else None
 
 -- The command of a list of arguments. A list that is none of a command asks for nothing.

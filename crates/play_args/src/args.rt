@@ -1,7 +1,7 @@
 // Parsing of command-line arguments.
-ghost use Rattle.std.specs.Prelude.{◌≡◌, [], ◌∷◌, Some, IfOk, codes, option_map};
+ghost use Rattle.std.specs.Prelude.{◌≡◌, ◌≤◌, [], ◌∷◌, Some, IfOk, codes, option_map};
 ghost use Rattle.clap.specs.Words.{app_of};
-ghost use Rattle.play_args.specs.CommandWords.{command_of_args, command_named, no_flags, flags_after, texts};
+ghost use Rattle.play_args.specs.CommandWords.{command_of_args, command_named, with_digits, number_word, gen_with, no_flags, flags_after, texts};
 ghost use Rattle.play_args.specs.CommandLine.{command_app};
 
 use crate::command::Command;
@@ -17,14 +17,18 @@ fn command_line<'a>(alloc: Global) -> Result<clap::Command<'a>, AllocError>
     clap::Command::new(alloc, "compose_play")
         .no_binary_name(true)
         .subcommand(clap::Command::new(alloc, "run"))?
-        .subcommand(clap::Command::new(alloc, "check"))
+        .subcommand(clap::Command::new(alloc, "threads"))?
+        .subcommand(clap::Command::new(alloc, "check"))?
+        .subcommand(clap::Command::new(alloc, "gen"))
 }
 
 // Returns the name of the subcommand that `clap` finds. The help and version of `clap`, which it reports as
 // errors, are not commands.
 fn match_subcommand<'a>(alloc: Global, words: &'a [String]) -> Result<Option<&'a str>, NoMemory>
     ensures run { texts words.now ≡ codes "run" ∷ [] → IfOk result (λ name. option_map (λ s. s.now) name ≡ Some (codes "run")) }
+    ensures threads { texts words.now ≡ codes "threads" ∷ [] → IfOk result (λ name. option_map (λ s. s.now) name ≡ Some (codes "threads")) }
     ensures check { texts words.now ≡ codes "check" ∷ [] → IfOk result (λ name. option_map (λ s. s.now) name ≡ Some (codes "check")) }
+    ensures generated { texts words.now ≡ codes "gen" ∷ [] → IfOk result (λ name. option_map (λ s. s.now) name ≡ Some (codes "gen")) }
 {
     match command_line(alloc)?.try_get_matches_from(words) {
         Ok(matches) => Ok(matches.subcommand_name()),
@@ -57,6 +61,54 @@ fn parse_flags(words: &[String]) -> Option<Flags>
     Some(flags)
 }
 
+// Returns the number that further digits make of `start`, if it is at most `most`.
+fn parse_digits(most: u32, start: u32, digits: &[u8]) -> Option<u32>
+    requires { start ≤ most }
+    ensures { result ≡ with_digits most start digits.now }
+{
+    let mut number = start as u64;
+    let mut rest = digits;
+    while let Some((digit, more)) = rest.split_first() {
+        if !digit.is_ascii_digit() {
+            return None;
+        }
+        number = 10 * number + (*digit - b'0') as u64;
+        if number > most as u64 {
+            return None;
+        }
+        rest = more;
+    }
+    Some(number as u32)
+}
+
+// Returns the number that a word of decimal digits without a leading zero writes, if it is at most `most`.
+fn parse_number(most: u32, word: &str) -> Option<u32>
+    ensures { result ≡ number_word most word.now }
+{
+    let digits = word.as_bytes();
+    if digits.is_empty() || digits.len() > 1 && digits[0] == b'0' {
+        return None;
+    }
+    parse_digits(most, 0, digits)
+}
+
+// Returns the command `gen` with these further words.
+fn parse_gen(words: &[String]) -> Option<Command>
+    ensures { result ≡ gen_with (texts words.now) }
+{
+    let [number, size] = words else {
+        return None;
+    };
+    let Some(number) = parse_number(u32::MAX, number.as_str()) else {
+        return None;
+    };
+    match parse_number(1000, size.as_str()) {
+        Some(0) => None,
+        Some(size) => Some(Command::Gen { number, size }),
+        None => None,
+    }
+}
+
 // Returns the command with this name and these further words.
 fn command_named(word: &str, more: &[String]) -> Option<Command>
     ensures { result ≡ command_named word.now (texts more.now) }
@@ -67,14 +119,23 @@ fn command_named(word: &str, more: &[String]) -> Option<Command>
             None => None,
         };
     }
+    if word == "threads" {
+        return match parse_flags(more) {
+            Some(flags) => Some(Command::Threads(flags)),
+            None => None,
+        };
+    }
     if word == "check" && more.is_empty() {
         return Some(Command::Check);
+    }
+    if word == "gen" {
+        return parse_gen(more);
     }
     None
 }
 
 /// Returns the command that the arguments after the program name ask for, or `None`. The first argument is the name of a
-/// command, which `clap` finds. The others are its flags, each at most once.
+/// command, which `clap` finds. The others are its flags, each at most once, or the number and the size of `gen`.
 ///
 /// A rule of this project. Returns `NoMemory` if the process is out of memory.
 pub fn parse_args(alloc: Global, words: &[String]) -> Result<Option<Command>, NoMemory>
