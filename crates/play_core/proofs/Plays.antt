@@ -1,7 +1,7 @@
 -- What a command writes is what the definitions say.
-use Rattle.std.proofs.Common.{Ok, Err, ◌≡◌, ℕ, List, sym, ap, ◌∙◌, subst, refl, Option, Some, None, ◌⊎◌, inl, inr, ◌<◌, ◌≤◌, ◌≢◌, ◌+◌, length, arith}
+use Rattle.std.proofs.Common.{Ok, Err, ◌≡◌, ℕ, Bool, List, true, sym, ap, ◌∙◌, subst, refl, Option, Some, None, ◌⊎◌, inl, inr, ◌<◌, ◌≤◌, ◌≢◌, ◌+◌, length, arith}
 use Rattle.std.specs.declared.result.Result.{Result}
-use Rattle.std.specs.Prelude.{IfSome, OnOk}
+use Rattle.std.specs.Prelude.{IfSome, IfOk, IfErr, OnOk}
 use Rattle.std.specs.Io.KnownBytes.{Appends, Keeps, Consumes, IsAtEnd}
 use Rattle.std.proofs.KnownBytes.{Consumes-whole}
 use Rattle.rt_streams.specs.Streams.{AppendsPart, Rose, rise}
@@ -14,20 +14,28 @@ use Rattle.script_lang.specs.declared.flags.Flags.{Flags}
 use Rattle.script_lang.specs.Lines.{LineStyle, run_text}
 use Rattle.script_lang.specs.StepCalls.{script_parts}
 use Rattle.script_lang.specs.Scripts.{actors_of}
+use Rattle.script_lang.specs.ScriptFaults.{script_faults}
 use Rattle.play_core.specs.declared.top.Status.{Status}
 use Rattle.play_core.specs.declared.top.Status.TheVariants as status
+use Rattle.play_args.specs.CommandWords.{command_of_args}
 use Rattle.play_args.specs.declared.command.Command.{Command}
-use Rattle.play_args.specs.declared.command.Command.TheVariants.{Run, Check}
-use Rattle.play_core.specs.Texts.{IsText, IsRead, IsNoText, IsOutput, run_output, check_output, long_line, input_limit}
+use Rattle.play_args.specs.declared.command.Command.TheVariants.{Run, Threads, Check, Gen}
+use Rattle.play_core.specs.Texts.{IsText, IsRead, IsInput, IsNoText, IsOutput, has_threads, has_input, style, run_output, check_output, gen_output, long_line, input_limit}
 use Rattle.play_core.specs.Faults.{IsFault, WritesPart, fault_line}
 use Rattle.play_core.specs.declared.fault.Fault.{Fault}
-use Rattle.play_core.specs.CommandOutput.{SaysOutput, run_status}
+use Rattle.play_core.specs.declared.text.Input.{Input}
+use Rattle.play_threads.specs.WovenText.{IsWovenText, HasNoFault}
+use Rattle.play_gen.specs.declared.tally.Tally.{Tally}
+use Rattle.play_gen.specs.Tallies.{generated_counts}
+use Rattle.play_gen.specs.SummaryText.{summary_text}
+use Rattle.play_core.specs.CommandOutput.{SaysOutput, run_status, IsRefusal, ReadsInput}
 use Rattle.snap_api.specs.declared.data.Entry.{Entry}
 use Rattle.play_run.specs.RunLog.{LogsRun}
 use Rattle.play_run.specs.RunPromise.{FaultsAfter}
 use Rattle.play_run.specs.declared.write_lines.Stop.{Stop}
 use Rattle.play_run.specs.declared.write_lines.Stop.TheVariants as stop
-use Rattle.play_core.specs.Promise.{Streams, HasFailed, WritesOutput, WritesFault, CommandMeets, LeavesWorld, LogsText}
+use Rattle.play_core.specs.Promise.{Streams, HasFailed, WritesOutput, WritesFault, CommandMeets, GenMeets, PlayMeets, KeepsWorld, LeavesWorld, LogsText}
+use Rattle.play_threads.proofs.Texts.{some_text}
 use Rattle.play_core.proofs.Uniques.{text_one}
 use Rattle.play_core.proofs.OneFault.{one_fault, faulty_is_no_text}
 
@@ -35,7 +43,7 @@ abbrev line_style : List State → List (List ℕ) → Flags → LineStyle
 line_style states actors flags = record { titles = record { states = states; actors = actors }; flags = flags }
 
 -- The parsed program and script give the output of the source text.
-pub run-is : {bytes : List ℕ} {states : List State} {functions : List Func} {actors : List (List ℕ)} {forms : List DoForm} (flags : Flags) (h : IsRead bytes states functions actors forms) (p : Source) → IsText bytes p →
+pub run-is : {threads : Bool} {bytes : List ℕ} {states : List State} {functions : List Func} {actors : List (List ℕ)} {forms : List DoForm} (flags : Flags) (h : IsRead threads bytes states functions actors forms) (p : Source) → IsText threads bytes p →
     run_text (line_style states actors flags) functions (script_parts actors forms) ≡ run_output flags p
 unfolding run_output
 run-is {bytes = bytes} {functions = functions} {actors = actors} {forms = forms} flags h p t =
@@ -45,8 +53,32 @@ run-is {bytes = bytes} {functions = functions} {actors = actors} {forms = forms}
     ∙ ap (λ l. run_text (line_style h.source.program.states (actors_of h.source.script) flags) h.source.program.functions (script_parts (actors_of h.source.script) l)) h.forms_are
     ∙ ap (run_output flags) (text_one bytes h.source p h.text t)
 
+-- Lines of a history of the parsed script are an output of the source text.
+pub woven-is : {bytes : List ℕ} {states : List State} {functions : List Func} {actors : List (List ℕ)} {forms : List DoForm} (flags : Flags) (h : IsRead true bytes states functions actors forms) (p : Source) → IsText true bytes p →
+    (out : List ℕ) → IsWovenText (line_style states actors flags) functions forms out → IsWovenText (style p flags) p.program.functions p.script out
+woven-is {bytes = bytes} {functions = functions} {actors = actors} {forms = forms} flags h p t out w =
+    subst (λ (q : Source). IsWovenText (style q flags) q.program.functions q.script out) (text_one bytes h.source p h.text t)
+    (subst (λ l. IsWovenText (line_style h.source.program.states (actors_of h.source.script) flags) h.source.program.functions l out) h.forms_are
+    (subst (λ l. IsWovenText (line_style h.source.program.states (actors_of h.source.script) flags) l forms out) h.functions_are
+    (subst (λ l. IsWovenText (line_style h.source.program.states l flags) functions forms out) h.actors_are
+    (subst (λ ss. IsWovenText (line_style ss actors flags) functions forms out) h.states_are w))))
+
+-- The parsed script has no fault.
+pub job-fine : {bytes : List ℕ} {input : Input} (b : Bool) → b ≡ true → IsInput b bytes input → HasNoFault input.job
+job-fine {bytes} {input} b threads ok =
+    let h : IsInput true bytes input = subst (λ c. IsInput c bytes input) threads ok in
+    record {
+      actors = h.read.actors_are ∙ ap actors_of (sym h.read.forms_are);
+      fine = ap (λ ss. script_faults true ss None input.job.script.forms.items) h.read.states_are ∙ ap (λ fs. script_faults true h.read.source.program.states None fs) h.read.forms_are ∙ h.read.text.runs;
+    }
+
+-- The summary in memory is the output of `gen`.
+pub gen-is : (number size : ℕ) (t : Tally) (text : List ℕ) → t ≡ generated_counts number size → text ≡ summary_text t → text ≡ gen_output number size
+unfolding gen_output
+gen-is number size t text counted is = is ∙ ap summary_text counted
+
 -- The log of the parsed program and script is that of the source text.
-pub logs-is : {bytes : List ℕ} {states : List State} {functions : List Func} {actors : List (List ℕ)} {forms : List DoForm} {T : Type 0} (h : IsRead bytes states functions actors forms) (p : Source) → IsText bytes p → (r : Result T Stop) (old new : Option (List Entry)) →
+pub logs-is : {threads : Bool} {bytes : List ℕ} {states : List State} {functions : List Func} {actors : List (List ℕ)} {forms : List DoForm} {T : Type 0} (h : IsRead threads bytes states functions actors forms) (p : Source) → IsText threads bytes p → (r : Result T Stop) (old new : Option (List Entry)) →
     OnOk r (LogsRun (record { states = states; actors = actors }) functions (script_parts actors forms) old new) → OnOk r (LogsText p old new)
 logs-is {bytes = bytes} {functions = functions} {actors = actors} {forms = forms} h p t r old new x =
     subst (λ (q : Source). OnOk r (LogsText q old new)) (text_one bytes h.source p h.text t)
@@ -62,7 +94,7 @@ done-after (Err stop.WriteFault) e h = absurd cc
 done-after (Err stop.NoMemory) e h = absurd cc
 
 -- A part of the output of a source text, which has no fault.
-pub text-part : (command : Command) (bytes : List ℕ) (a z : Option (List ℕ)) → ((fault : Fault) → IsFault bytes fault → ⊥) → ((p : Source) → IsText bytes p → (out : List ℕ) × IsOutput command (Some p) out × AppendsPart a z out) → WritesPart command bytes a z
+pub text-part : (command : Command) (bytes : List ℕ) (a z : Option (List ℕ)) → ((fault : Fault) → IsFault (has_threads command) bytes fault → ⊥) → ((p : Source) → IsText (has_threads command) bytes p → (out : List ℕ) × IsOutput command (Some p) out × AppendsPart a z out) → WritesPart command bytes a z
 text-part command bytes a z good part = record { lines = part; refusal = λ fault f. absurd (good fault f) }
 
 le_or_lt : (p q : ℕ) → (p ≤ q) ⊎ (q < p)
@@ -73,7 +105,7 @@ pub one-command : (o : Option Command) (a b : Command) → o ≡ Some a → o �
 one-command o a b e f = cc
 
 -- A part of the line of the one fault of rejected bytes.
-pub refused-part : (command : Command) (bytes : List ℕ) (fault : Fault) (a z : Option (List ℕ)) → IsNoText bytes → ((other : Fault) → IsFault bytes other → other ≡ fault) → AppendsPart a z (fault_line fault) → WritesPart command bytes a z
+pub refused-part : (command : Command) (bytes : List ℕ) (fault : Fault) (a z : Option (List ℕ)) → IsNoText (has_threads command) bytes → ((other : Fault) → IsFault (has_threads command) bytes other → other ≡ fault) → AppendsPart a z (fault_line fault) → WritesPart command bytes a z
 refused-part command bytes fault a z none one part = record {
   lines = λ p t. absurd (none p t);
   refusal = λ other f. subst (λ g. AppendsPart a z (fault_line g)) (sym (one other f)) part;
@@ -82,7 +114,9 @@ refused-part command bytes fault a z none one part = record {
 -- Each command has an output.
 some-output : (command : Command) (p : Source) → (out : List ℕ) × IsOutput command (Some p) out
 some-output (Run flags) p = (run_output flags p, refl)
+some-output (Threads flags) p = some_text (style p flags) p.program.functions p.script
 some-output Check p = (check_output p, refl)
+some-output (Gen number size) p = (gen_output number size, refl)
 
 -- Nothing was written.
 pub nothing-part : (command : Command) (o a : Option (List ℕ)) → IfSome o (λ bytes. WritesPart command bytes a a)
@@ -93,35 +127,35 @@ nothing-part command (Some bytes) a = record {
 }
 
 -- Every status has its cause, so a source text is done unless the call failed.
-pub text-answers : (r : Status) (left : Option (List ℕ)) {B C D E : Type 0} (P : List ℕ → Type 0) (taken limit : ℕ) (bytes : List ℕ) (p : Source) → ((bs : List ℕ) → P bs → IsNoText bs) → left ≡ Some bytes → taken ≤ limit → IsText bytes p →
+pub text-answers : (threads : Bool) (r : Status) (left : Option (List ℕ)) {B C D E : Type 0} (P : List ℕ → Type 0) (taken limit : ℕ) (bytes : List ℕ) (p : Source) → ((bs : List ℕ) → P bs → IsNoText threads bs) → left ≡ Some bytes → taken ≤ limit → IsText threads bytes p →
     r ≢ status.Usage → (r ≡ status.BadInput → IfSome left P) → (r ≡ status.TooLong → (limit < taken) × B) → (r ≡ status.ReadFault → C × D) → (r ≡ status.WriteFault → E) →
     (r ≡ status.Done) ⊎ ((r ≡ status.NoMemory) ⊎ (((r ≡ status.ReadFault) × C) ⊎ ((r ≡ status.WriteFault) × E)))
-text-answers status.Done left P taken limit bytes p out e few t usage bad long fault write = inl refl
-text-answers status.Usage left P taken limit bytes p out e few t usage bad long fault write = absurd (usage refl)
-text-answers status.BadInput left P taken limit bytes p out e few t usage bad long fault write = absurd (out bytes (subst (λ o. IfSome o P) e (bad refl)) p t)
-text-answers status.ReadFault left P taken limit bytes p out e few t usage bad long fault write = inr (inr (inl (refl, (fault refl).0)))
-text-answers status.WriteFault left P taken limit bytes p out e few t usage bad long fault write = inr (inr (inr (refl, write refl)))
-text-answers status.NoMemory left P taken limit bytes p out e few t usage bad long fault write = inr (inl refl)
-text-answers status.TooLong left P taken limit bytes p out e few t usage bad long fault write = absurd (let more = (long refl).0 in omega (arith, more, few))
+text-answers threads status.Done left P taken limit bytes p out e few t usage bad long fault write = inl refl
+text-answers threads status.Usage left P taken limit bytes p out e few t usage bad long fault write = absurd (usage refl)
+text-answers threads status.BadInput left P taken limit bytes p out e few t usage bad long fault write = absurd (out bytes (subst (λ o. IfSome o P) e (bad refl)) p t)
+text-answers threads status.ReadFault left P taken limit bytes p out e few t usage bad long fault write = inr (inr (inl (refl, (fault refl).0)))
+text-answers threads status.WriteFault left P taken limit bytes p out e few t usage bad long fault write = inr (inr (inr (refl, write refl)))
+text-answers threads status.NoMemory left P taken limit bytes p out e few t usage bad long fault write = inr (inl refl)
+text-answers threads status.TooLong left P taken limit bytes p out e few t usage bad long fault write = absurd (let more = (long refl).0 in omega (arith, more, few))
 
 -- Every status has its cause, so other bytes are rejected unless the call failed.
-pub other-answers : (r : Status) (left : Option (List ℕ)) {B C D E : Type 0} (P : List ℕ → Type 0) (taken limit : ℕ) (bytes : List ℕ) → ((bs : List ℕ) → P bs → (p : Source) × IsText bs p) → left ≡ Some bytes → taken ≤ limit → IsNoText bytes →
+pub other-answers : (threads : Bool) (r : Status) (left : Option (List ℕ)) {B C D E : Type 0} (P : List ℕ → Type 0) (taken limit : ℕ) (bytes : List ℕ) → ((bs : List ℕ) → P bs → (p : Source) × IsText threads bs p) → left ≡ Some bytes → taken ≤ limit → IsNoText threads bytes →
     r ≢ status.Usage → (r ≡ status.Done → IfSome left P) → (r ≡ status.TooLong → (limit < taken) × B) → (r ≡ status.ReadFault → C × D) → (r ≡ status.WriteFault → E) →
     (r ≡ status.BadInput) ⊎ ((r ≡ status.NoMemory) ⊎ (((r ≡ status.ReadFault) × C) ⊎ ((r ≡ status.WriteFault) × E)))
-other-answers status.Done left P taken limit bytes out e few none usage done long fault write = let d = out bytes (subst (λ o. IfSome o P) e (done refl)) in absurd (none d.0 d.1)
-other-answers status.Usage left P taken limit bytes out e few none usage done long fault write = absurd (usage refl)
-other-answers status.BadInput left P taken limit bytes out e few none usage done long fault write = inl refl
-other-answers status.ReadFault left P taken limit bytes out e few none usage done long fault write = inr (inr (inl (refl, (fault refl).0)))
-other-answers status.WriteFault left P taken limit bytes out e few none usage done long fault write = inr (inr (inr (refl, write refl)))
-other-answers status.NoMemory left P taken limit bytes out e few none usage done long fault write = inr (inl refl)
-other-answers status.TooLong left P taken limit bytes out e few none usage done long fault write = absurd (let more = (long refl).0 in omega (arith, more, few))
+other-answers threads status.Done left P taken limit bytes out e few none usage done long fault write = let d = out bytes (subst (λ o. IfSome o P) e (done refl)) in absurd (none d.0 d.1)
+other-answers threads status.Usage left P taken limit bytes out e few none usage done long fault write = absurd (usage refl)
+other-answers threads status.BadInput left P taken limit bytes out e few none usage done long fault write = inl refl
+other-answers threads status.ReadFault left P taken limit bytes out e few none usage done long fault write = inr (inr (inl (refl, (fault refl).0)))
+other-answers threads status.WriteFault left P taken limit bytes out e few none usage done long fault write = inr (inr (inr (refl, write refl)))
+other-answers threads status.NoMemory left P taken limit bytes out e few none usage done long fault write = inr (inl refl)
+other-answers threads status.TooLong left P taken limit bytes out e few none usage done long fault write = absurd (let more = (long refl).0 in omega (arith, more, few))
 
 -- Rejected bytes that have a fault are rejected with the line of that fault.
-pub fault-answers : (r : Status) (left : Option (List ℕ)) {F : Type 0} (P : List ℕ → Type 0) (a z : Option (List ℕ)) (bytes : List ℕ) (fault : Fault) →
-    ((bs : List ℕ) → P bs → (g : Fault) × IsFault bs g × Appends a z (fault_line g)) → left ≡ Some bytes → IsFault bytes fault → (r ≡ status.BadInput → IfSome left P) →
+pub fault-answers : (threads : Bool) (r : Status) (left : Option (List ℕ)) {F : Type 0} (P : List ℕ → Type 0) (a z : Option (List ℕ)) (bytes : List ℕ) (fault : Fault) →
+    ((bs : List ℕ) → P bs → (g : Fault) × IsFault threads bs g × Appends a z (fault_line g)) → left ≡ Some bytes → IsFault threads bytes fault → (r ≡ status.BadInput → IfSome left P) →
     (r ≡ status.BadInput) ⊎ F → ((r ≡ status.BadInput) × Appends a z (fault_line fault)) ⊎ F
-fault-answers r left P a z bytes fault out e f bad h = elim h [
-  | inl is ↦ let w = out bytes (subst (λ o. IfSome o P) e (bad is)) in inl (is, subst (λ (g : Fault). Appends a z (fault_line g)) (one_fault bytes w.0 fault w.1 f) w.2)
+fault-answers threads r left P a z bytes fault out e f bad h = elim h [
+  | inl is ↦ let w = out bytes (subst (λ o. IfSome o P) e (bad is)) in inl (is, subst (λ (g : Fault). Appends a z (fault_line g)) (one_fault threads bytes w.0 fault w.1 f) w.2)
   | inr failed ↦ inr failed
 ]
 
@@ -196,19 +230,19 @@ long-meets c before after r answers all part rose long most told =
 
 -- The promise for a command that read the whole input.
 pub read-meets : (c : Command) (before after : Streams) (r : Status) (bytes : List ℕ) → Consumes before.left after.left bytes → IsAtEnd after.left → length bytes ≤ input_limit →
-    rise before.taken after.taken ≡ length bytes → (r ≡ status.Done → WritesOutput c before after bytes) → (r ≡ status.BadInput → WritesFault before after bytes) →
+    rise before.taken after.taken ≡ length bytes → (r ≡ status.Done → WritesOutput c before after bytes) → (r ≡ status.BadInput → WritesFault c before after bytes) →
     ((r ≡ status.WriteFault) ⊎ (r ≡ status.NoMemory) → WritesPart c bytes before.written after.written) → (r ≡ status.WriteFault → Rose before.write_faults after.write_faults) →
     (r ≢ status.Usage) × (r ≢ status.ReadFault) × (r ≢ status.TooLong) → CommandMeets c before after r
 read-meets c before after r bytes consumed end few taken done bad part rose others =
     let Done' : List ℕ → Type 0 = λ bs. IsAtEnd after.left × (length bs ≤ input_limit) × WritesOutput c before after bs in
-    let Bad' : List ℕ → Type 0 = λ bs. IsAtEnd after.left × (length bs ≤ input_limit) × WritesFault before after bs in
+    let Bad' : List ℕ → Type 0 = λ bs. IsAtEnd after.left × (length bs ≤ input_limit) × WritesFault c before after bs in
     let is_done : r ≡ status.Done → IfSome before.left Done' = λ e. Consumes-whole _ _ bytes Done' consumed end (end, few, done e) in
     let is_bad : r ≡ status.BadInput → IfSome before.left Bad' = λ e. Consumes-whole _ _ bytes Bad' consumed end (end, few, bad e) in
     let is_long : r ≡ status.TooLong → (input_limit < rise before.taken after.taken) × ⊥ = λ e. absurd (others.2 e) in
     let is_read : r ≡ status.ReadFault → Rose before.read_faults after.read_faults × ⊥ = λ e. absurd (others.1 e) in
     let short : rise before.taken after.taken ≤ input_limit = omega (arith, taken, few) in
-    let refuses : (bs : List ℕ) → before.left ≡ Some bs → IsNoText bs → (r ≡ status.BadInput) ⊎ HasFailed before after r = λ bs given none.
-    other-answers r before.left Done' (rise before.taken after.taken) input_limit bs (λ xs h. (h.2.0, h.2.1)) given short none others.0 is_done is_long is_read rose in
+    let refuses : (bs : List ℕ) → before.left ≡ Some bs → IsNoText (has_threads c) bs → (r ≡ status.BadInput) ⊎ HasFailed before after r = λ bs given none.
+    other-answers (has_threads c) r before.left Done' (rise before.taken after.taken) input_limit bs (λ xs h. (h.2.0, h.2.1)) given short none others.0 is_done is_long is_read rose in
     record {
       not_usage = others.0;
       done = is_done;
@@ -218,9 +252,9 @@ read-meets c before after r bytes consumed end few taken done bad part rose othe
       read_fault = λ e. absurd (others.1 e);
       write_fault = rose;
       part = λ s stopped. Consumes-whole _ _ bytes (λ bs. WritesPart c bs before.written after.written) consumed end (part stopped);
-      complete = λ bs t given s text. text-answers r before.left Bad' (rise before.taken after.taken) input_limit bs t (λ xs h. h.2.0) given short text others.0 is_bad is_long is_read rose;
+      complete = λ bs t given s text. text-answers (has_threads c) r before.left Bad' (rise before.taken after.taken) input_limit bs t (λ xs h. h.2.0) given short text others.0 is_bad is_long is_read rose;
       refused = λ bs given s none. refuses bs given none;
-      faulty = λ bs fault given s f. fault-answers r before.left Bad' before.written after.written bs fault (λ xs h. h.2.1) given f is_bad (refuses bs given (faulty_is_no_text bs fault f));
+      faulty = λ bs fault given s f. fault-answers (has_threads c) r before.left Bad' before.written after.written bs fault (λ xs h. h.2.1) given f is_bad (refuses bs given (faulty_is_no_text (has_threads c) bs fault f));
       at_most = omega (arith, short);
     }
 
@@ -262,12 +296,86 @@ run-others (Err stop.NoMemory) = ((λ e. absurd cc), (λ e. absurd cc), (λ e. a
 pub faults-after : {T : Type 0} (r : Result T Stop) (before middle now : ℕ) → middle ≡ before → FaultsAfter middle now r → FaultsAfter before now r
 faults-after r before middle now e h = subst (λ n. FaultsAfter n now r) e h
 
--- A command leaves the world where it does not run steps.
-pub leaves : {P : Type 0} (o : Option Command) (c : Command) (r : Status) → o ≡ Some c → (c ≡ Check → P) → ((r ≡ status.BadInput) ⊎ ((r ≡ status.TooLong) ⊎ (r ≡ status.ReadFault)) → P) → r ≢ status.Usage → LeavesWorld o r → P
-leaves o c r asks check refused not_usage h = elim h [
+-- A command leaves the world where it makes no call on it.
+pub leaves : {P : Type 0} (o : Option Command) (c : Command) (r : Status) → o ≡ Some c → (KeepsWorld c → P) → ((r ≡ status.BadInput) ⊎ ((r ≡ status.TooLong) ⊎ (r ≡ status.ReadFault)) → P) → r ≢ status.Usage → LeavesWorld o r → P
+leaves o c r asks keeps refused not_usage h = elim h [
   | inl none ↦ absurd cc
   | inr more ↦ elim more [
-    | inl is ↦ check (one-command o c Check asks is)
+    | inl is ↦ keeps (subst KeepsWorld (one-command o is.0 c is.1 asks) is.2)
     | inr rest ↦ elim rest [ inl usage ↦ absurd (not_usage usage) | inr stops ↦ refused stops ]
   ]
 ]
+
+-- A command with threads is `threads`.
+pub is_threads : (c : Command) → has_threads c ≡ true → (flags : Flags) × (c ≡ Threads flags)
+is_threads (Run flags) h = absurd cc
+is_threads (Threads flags) h = (flags, refl)
+is_threads Check h = absurd cc
+is_threads (Gen number size) h = absurd cc
+
+-- The promise for a command whose input was parsed.
+pub parsed-meets : {T : Type 0} (c : Command) (threads : Bool) → has_threads c ≡ threads → (before middle : Streams) (input : Input) (r : Result T Stop) (written : Option (List ℕ)) (faults : ℕ) → (h : ReadsInput threads before middle input) →
+    ((t : Source) → IsText threads h.bytes t → SaysOutput middle.written written c t r) → FaultsAfter middle.write_faults faults r →
+    CommandMeets c before (record { left = middle.left; taken = middle.taken; read_faults = middle.read_faults; written = written; write_faults = faults }) (run_status r)
+parsed-meets c threads kind before middle input r written faults h says counted =
+    let said : (t : Source) → IsText threads h.bytes t → SaysOutput before.written written c t r = λ t text. subst (λ o. SaysOutput o written c t r) h.written (says t text) in
+    let after : Streams = record { left = middle.left; taken = middle.taken; read_faults = middle.read_faults; written = written; write_faults = faults } in
+    let others = run-others r in
+    let read = h.parsed.read in
+    read-meets c before after (run_status r) h.bytes h.consumed h.end h.few h.taken
+    (λ e. (read.source, subst (λ b. IsText b h.bytes read.source) (sym kind) read.text, done-says r before.written written c read.source e (said read.source read.text)))
+    (λ e. absurd (others.3 e))
+    (λ e. text-part c h.bytes before.written written (λ fault f. h.good fault (subst (λ b. IsFault b h.bytes fault) kind f)) (λ p t. stopped-says r before.written written c p e (said p (subst (λ b. IsText b h.bytes p) kind t))))
+    (λ e. rose-after r before.write_faults faults e (subst (λ n. FaultsAfter n faults r) h.faults counted))
+    (others.0, others.1, others.2)
+
+-- The promise for a command whose input was read but not parsed.
+pub refused-meets : (c : Command) (before after : Streams) (r : Result Input Status) (bytes items : List ℕ) → bytes ≡ items → Consumes before.left after.left items → IsAtEnd after.left → length items ≤ input_limit →
+    rise before.taken after.taken ≡ length items → (r ≡ Err status.BadInput → WritesFault c before after bytes) →
+    ((r ≡ Err status.WriteFault) ⊎ (r ≡ Err status.NoMemory) → WritesPart c bytes before.written after.written) → (r ≡ Err status.WriteFault → Rose before.write_faults after.write_faults) →
+    IfErr r IsRefusal → IfErr r (CommandMeets c before after)
+refused-meets c before after (Ok x) bytes items same consumed end few taken bad part rose others = tt
+refused-meets c before after (Err s) bytes items same consumed end few taken bad part rose others =
+    read-meets c before after s bytes (subst (Consumes before.left after.left) (sym same) consumed) end (subst (λ l. length l ≤ input_limit) (sym same) few) (taken ∙ ap (λ l. length l) (sym same))
+    (λ e. absurd (subst IsRefusal e others)) (λ e. bad (ap Err e)) (λ e. part (elim e [ inl a ↦ inl (ap Err a) | inr b ↦ inr (ap Err b) ])) (λ e. rose (ap Err e))
+    ((λ e. absurd (subst IsRefusal e others)), (λ e. absurd (subst IsRefusal e others)), λ e. absurd (subst IsRefusal e others))
+
+-- The input that was parsed.
+pub parsed-input : (threads : Bool) (before after : Streams) (r : Result Input Status) (bytes items : List ℕ) → bytes ≡ items → Consumes before.left after.left items → IsAtEnd after.left → length items ≤ input_limit →
+    rise before.taken after.taken ≡ length items → IfOk r (λ input. IsInput threads bytes input) → OnOk r ((fault : Fault) → IsFault threads bytes fault → ⊥) →
+    OnOk r ((after.written ≡ before.written) × (after.write_faults ≡ before.write_faults)) → IfOk r (ReadsInput threads before after)
+parsed-input threads before after (Err s) bytes items same consumed end few taken parsed good still = tt
+parsed-input threads before after (Ok input) bytes items same consumed end few taken parsed good still = record {
+  bytes = bytes;
+  consumed = subst (Consumes before.left after.left) (sym same) consumed;
+  end = end;
+  few = subst (λ l. length l ≤ input_limit) (sym same) few;
+  taken = taken ∙ ap (λ l. length l) (sym same);
+  parsed = parsed;
+  good = good;
+  written = still.0;
+  faults = still.1;
+}
+
+-- Such an input is not done.
+pub not-done : (r : Result Input Status) → IfErr r IsRefusal → r ≢ Err status.Done
+not-done (Ok x) h e = absurd cc
+not-done (Err s) h e = let same : s ≡ status.Done = cc in absurd (subst IsRefusal same h)
+
+GeneratedMeets : Command → Streams → Streams → Status → Type 0
+GeneratedMeets (Run flags) before after r = Unit {0}
+GeneratedMeets (Threads flags) before after r = Unit {0}
+GeneratedMeets Check before after r = Unit {0}
+GeneratedMeets (Gen number size) before after r = GenMeets number size before after r
+
+-- The promise for the arguments of `gen`.
+pub generated-meets : (words : List (List ℕ)) (before after : Streams) (r : Status) (number size : ℕ) → command_of_args words ≡ Some (Gen number size) → GenMeets number size before after r →
+    (r ≢ status.ReadFault → after.read_faults ≡ before.read_faults) → (r ≢ status.WriteFault → after.write_faults ≡ before.write_faults) → PlayMeets words before after r
+unfolding GeneratedMeets
+generated-meets words before after r number size asks meets reads writes = record {
+  no_command = λ none. absurd (let e : None ≡ Some (Gen number size) = sym none ∙ asks in cc);
+  command = λ k told needs. absurd (let e : has_input (Gen number size) ≡ true = subst (λ c. has_input c ≡ true) (one-command (command_of_args words) k (Gen number size) told asks) needs in cc);
+  generated = λ n s told. subst (λ c. GeneratedMeets c before after r) (one-command (command_of_args words) (Gen number size) (Gen n s) asks told) meets;
+  reads = reads;
+  writes = writes;
+}

@@ -38,14 +38,15 @@ use Rattle.play_core.proofs.Parses.{parsed}
 use Rattle.play_core.proofs.Refusals.{refused-fault}
 use Rattle.play_core.proofs.Uniques.{is_text}
 
-abbrev Answer : List ℕ → Type 0
-Answer bytes = ((t : Source) × IsText bytes t) ⊎ ((fault : Fault) × IsFault bytes fault)
+abbrev Answer : Bool → List ℕ → Type 0
+Answer threads bytes = ((t : Source) × IsText threads bytes t) ⊎ ((fault : Fault) × IsFault threads bytes fault)
 
-stopped : (bytes : List ℕ) (s : TextStop) → s ≢ stop.NoMemory → Cause bytes s → Answer bytes
-stopped bytes (stop.NotUtf8 at) n c = inr (record { kind = Utf8; at = at }, c)
-stopped bytes (stop.Bad at) n c = inr (record { kind = Text; at = at }, c)
-stopped bytes (stop.TooDeep at) n c = inr (record { kind = Deep; at = at }, c)
-stopped bytes stop.NoMemory n c = absurd (n refl)
+module _ (threads : Bool) where
+  stopped : (bytes : List ℕ) (s : TextStop) → s ≢ stop.NoMemory → Cause bytes s → Answer threads bytes
+  stopped bytes (stop.NotUtf8 at) n c = inr (record { kind = Utf8; at = at }, c)
+  stopped bytes (stop.Bad at) n c = inr (record { kind = Text; at = at }, c)
+  stopped bytes (stop.TooDeep at) n c = inr (record { kind = Deep; at = at }, c)
+  stopped bytes stop.NoMemory n c = absurd (n refl)
 
 -- The forms never report out of memory.
 never : (f : Forest) (r : Result Source ℕ) → answered f r ≢ Err form.NoMemory
@@ -56,46 +57,47 @@ never f (Ok t) e = by _ e
     by None k = absurd cc
     by (Some at) k = absurd cc
 
-module _ (bytes : List ℕ) (f : Forest) (spelled : Spells bytes f) (shallow : nesting f ≤ 100) where
+module _ (threads : Bool) (bytes : List ℕ) (f : Forest) (spelled : Spells bytes f) (shallow : nesting f ≤ 100) where
   abbrev beyond : Option ℕ
   beyond = least (oversized_script_offsets f)
 
   -- The script's part of a refusal, if the program has no fault.
   later : (t : Source) → text_answer (length bytes) f ≡ Ok t → least_fault (program_faults t.program) ≡ None → (p : Option ScriptStop) →
-      script_refusal false t.program.states beyond t.script ≡ p → refusal (length bytes) f ≡ option_map script_end p
+      script_refusal threads t.program.states beyond t.script ≡ p → refusal threads (length bytes) f ≡ option_map script_end p
   later t e h p k =
-      ap (reading_refusal beyond) e
-      ∙ ap (λ o. or_else (option_map (λ x. check_end (check.ProgramFault x)) o) (option_map script_end (script_refusal false t.program.states beyond t.script))) h
+      ap (reading_refusal threads beyond) e
+      ∙ ap (λ o. or_else (option_map (λ x. check_end (check.ProgramFault x)) o) (option_map script_end (script_refusal threads t.program.states beyond t.script))) h
       ∙ ap (option_map script_end) k
 
-  rejected : (fault : Fault) → refusal (length bytes) f ≡ Some (Bad fault) → Answer bytes
-  rejected fault e = inr (fault, refused-fault bytes f fault spelled shallow e)
+  rejected : (fault : Fault) → refusal threads (length bytes) f ≡ Some (Bad fault) → Answer threads bytes
+  rejected fault e = inr (fault, refused-fault threads bytes f fault spelled shallow e)
 
   checked : (t : Source) → text_answer (length bytes) f ≡ Ok t → (o : Option checks.ProgramFault) → least_fault (program_faults t.program) ≡ o →
-      (p : Option ScriptStop) → script_refusal false t.program.states beyond t.script ≡ p → Answer bytes
-  checked t e (Some g) h p k = rejected (check_fault g) (ap (reading_refusal beyond) e ∙ ap (λ o. or_else (option_map (λ x. check_end (check.ProgramFault x)) o) (option_map script_end (script_refusal false t.program.states beyond t.script))) h)
+      (p : Option ScriptStop) → script_refusal threads t.program.states beyond t.script ≡ p → Answer threads bytes
+  checked t e (Some g) h p k = rejected (check_fault g) (ap (reading_refusal threads beyond) e ∙ ap (λ o. or_else (option_map (λ x. check_end (check.ProgramFault x)) o) (option_map script_end (script_refusal threads t.program.states beyond t.script))) h)
   checked t e None h None k =
-      inl (t, is_text bytes f t beyond spelled shallow (forms_answer (λ s. s) (length bytes) f (Ok t) e) (small_answers (λ s. s) (length bytes) f (Ok t) e) refl (no_answer _ h) k)
+      inl (t, is_text threads bytes f t beyond spelled shallow (forms_answer (λ s. s) (length bytes) f (Ok t) e) (small_answers (λ s. s) (length bytes) f (Ok t) e) refl (no_answer _ h) k)
   checked t e None h (Some (script.Limit at)) k = rejected (record { kind = Limit; at = at }) (later t e h (Some (script.Limit at)) k)
   checked t e None h (Some (script.Unknown at)) k = rejected (record { kind = Unknown; at = at }) (later t e h (Some (script.Unknown at)) k)
   checked t e None h (Some (script.Type at)) k = rejected (record { kind = «Type»; at = at }) (later t e h (Some (script.Type at)) k)
   checked t e None h (Some (script.Actor at)) k = rejected (record { kind = Actor; at = at }) (later t e h (Some (script.Actor at)) k)
-  checked t e None h (Some script.NoMemory) k = absurd (known_refusal t.program.states beyond t.script k)
+  checked t e None h (Some script.NoMemory) k = absurd (known_refusal threads t.program.states beyond t.script k)
 
-  by-forms : (r : Result Source FormStop) → text_answer (length bytes) f ≡ r → Answer bytes
-  by-forms (Ok t) e = checked t e (least_fault (program_faults t.program)) refl (script_refusal false t.program.states beyond t.script) refl
-  by-forms (Err (form.Form at)) e = rejected (record { kind = Form; at = at }) (ap (reading_refusal beyond) e)
-  by-forms (Err (form.Limit at)) e = rejected (record { kind = Limit; at = at }) (ap (reading_refusal beyond) e)
+  by-forms : (r : Result Source FormStop) → text_answer (length bytes) f ≡ r → Answer threads bytes
+  by-forms (Ok t) e = checked t e (least_fault (program_faults t.program)) refl (script_refusal threads t.program.states beyond t.script) refl
+  by-forms (Err (form.Form at)) e = rejected (record { kind = Form; at = at }) (ap (reading_refusal threads beyond) e)
+  by-forms (Err (form.Limit at)) e = rejected (record { kind = Limit; at = at }) (ap (reading_refusal threads beyond) e)
   by-forms (Err form.NoMemory) e = absurd (never f _ e)
 
-pub text_or_fault : (bytes : List ℕ) → Answer bytes
-text_or_fault bytes = by (is_utf8 bytes) refl
-  where
-    by : (b : Bool) → is_utf8 bytes ≡ b → Answer bytes
-    by false e = stopped bytes (stop.NotUtf8 _) (λ k. absurd cc) ((λ utf8. let is = is_utf8-from_IsUtf8 bytes utf8 in absurd cc), refl)
-    by true e =
-        let utf8 = IsUtf8-from_is_utf8 bytes e in
-        elim (parsed bytes) [
-          | inl p ↦ by-forms bytes p.0 (spells-whole bytes p.0 utf8 p.1) p.2 (text_answer (length bytes) p.0) refl
-          | inr p ↦ stopped bytes p.0 p.1 (caused {V = Source} bytes (Err p.0) utf8 p.2)
-        ]
+module _ (threads : Bool) where
+  pub text_or_fault : (bytes : List ℕ) → Answer threads bytes
+  text_or_fault bytes = by (is_utf8 bytes) refl
+    where
+      by : (b : Bool) → is_utf8 bytes ≡ b → Answer threads bytes
+      by false e = stopped threads bytes (stop.NotUtf8 _) (λ k. absurd cc) ((λ utf8. let is = is_utf8-from_IsUtf8 bytes utf8 in absurd cc), refl)
+      by true e =
+          let utf8 = IsUtf8-from_is_utf8 bytes e in
+          elim (parsed bytes) [
+            | inl p ↦ by-forms threads bytes p.0 (spells-whole bytes p.0 utf8 p.1) p.2 (text_answer (length bytes) p.0) refl
+            | inr p ↦ stopped threads bytes p.0 p.1 (caused {V = Source} bytes (Err p.0) utf8 p.2)
+          ]

@@ -40,8 +40,9 @@ lines-without_offsets (atom at a f) = ap (λ l. a ++ 10 ∷ l) (lines-without_of
 lines-without_offsets (text at s f) = ap (λ l. 34 ∷ escaped_string s ++ 34 ∷ 10 ∷ l) (lines-without_offsets f)
 lines-without_offsets (list at i f) = ap (λ l. 40 ∷ l ++ 41 ∷ 10 ∷ lines (without_offsets f)) (inline_form-without_offsets i false) ∙ ap (λ l. 40 ∷ inline_form false i ++ 41 ∷ 10 ∷ l) (lines-without_offsets f)
 
--- The lines of the trees that the bytes spell are those of the forms of their source text.
-pub check-is : (bytes : List ℕ) (trees : List Tree) (p : Source) → Spells bytes (forest_view trees) → IsText bytes p → lines (forest_view trees) ≡ check_output p
-unfolding check_output
-check-is bytes trees p spelled t =
-    sym (lines-without_offsets (forest_view trees)) ∙ ap lines (fits_unplaced (forest_view trees) (text_forms p) (text-forms bytes (forest_view trees) p spelled t).fits)
+module _ {threads : Bool} where
+  -- The lines of the trees that the bytes spell are those of the forms of their source text.
+  pub check-is : (bytes : List ℕ) (trees : List Tree) (p : Source) → Spells bytes (forest_view trees) → IsText threads bytes p → lines (forest_view trees) ≡ check_output p
+  unfolding check_output
+  check-is bytes trees p spelled t =
+      sym (lines-without_offsets (forest_view trees)) ∙ ap lines (fits_unplaced (forest_view trees) (text_forms p) (text-forms bytes (forest_view trees) p spelled t).fits)

@@ -1,5 +1,5 @@
 -- Bytes are the source text of at most one program with its script, and a source text is not rejected.
-use Rattle.std.proofs.Common.{◌≡◌, ◌≤◌, ℕ, List, [], ◌∷◌, ◌++◌, false, Option, Some, None, Ok, refl, sym, ◌∙◌, subst, ap, length, map, slice_get, inl, inr}
+use Rattle.std.proofs.Common.{Bool, ◌≡◌, ◌≤◌, ℕ, List, [], ◌∷◌, ◌++◌, Option, Some, None, Ok, refl, sym, ◌∙◌, subst, ap, length, map, slice_get, inl, inr}
 use Rattle.std.specs.Option.{option_map}
 use Rattle.std.proofs.lemmas.Option.{slice_get_cases}
 use Rattle.std.proofs.lemmas.List.{length-map}
@@ -33,12 +33,13 @@ use Rattle.play_core.specs.ParserRefusal.{refusal}
 use Rattle.play_core.specs.Texts.{IsText, IsNoText}
 use Rattle.play_core.specs.declared.text.TextEnd.{TextEnd}
 
--- Facts of any source text of the bytes are facts of the parsed forest.
-pub text-forms : (bytes : List ℕ) (f : Forest) (t : Source) → Spells bytes f → IsText bytes t → HasForms f t
-text-forms bytes f t s h = subst (λ g. HasForms g t) (spells_one bytes h.forest f h.spelled s) h.forms
+module _ {threads : Bool} where
+  -- Facts of any source text of the bytes are facts of the parsed forest.
+  pub text-forms : (bytes : List ℕ) (f : Forest) (t : Source) → Spells bytes f → IsText threads bytes t → HasForms f t
+  text-forms bytes f t s h = subst (λ g. HasForms g t) (spells_one bytes h.forest f h.spelled s) h.forms
 
-pub text_one : (bytes : List ℕ) (t u : Source) → IsText bytes t → IsText bytes u → t ≡ u
-text_one bytes t u h i = ok_same t u (sym (text_read 0 i.forest t (text-forms bytes i.forest t i.spelled h)) ∙ text_read 0 i.forest u i.forms)
+  pub text_one : (bytes : List ℕ) (t u : Source) → IsText threads bytes t → IsText threads bytes u → t ≡ u
+  text_one bytes t u h i = ok_same t u (sym (text_read 0 i.forest t (text-forms bytes i.forest t i.spelled h)) ∙ text_read 0 i.forest u i.forms)
 
 -- If a concatenation is empty, both lists are.
 both_none : (xs ys : List ℕ) → xs ++ ys ≡ [] → (xs ≡ []) × (ys ≡ [])
@@ -56,39 +57,40 @@ read-as end f t forms small brief =
     ∙ ap (answered f) (text_read end f t forms)
     ∙ ap (λ places. unless_beyond (least places) t) small
 
-fine-forest : (end : ℕ) (f : Forest) (t : Source) → HasForms f t → program_limits f t.program ≡ [] → oversized_script_offsets f ≡ [] → program_faults t.program ≡ [] → script_faults false t.program.states None t.script ≡ [] → refusal end f ≡ None
-fine-forest end f t forms small brief sound runs =
-    ap (reading_refusal (least (oversized_script_offsets f))) (read-as end f t forms small brief)
-    ∙ ap (λ places. source_refusal (least places) t) brief
-    ∙ ap (λ fs. or_else (option_map (λ g. check_end (check.ProgramFault g)) (least_fault fs)) (option_map script_end (script_refusal false t.program.states None t.script))) sound
-    ∙ ap (λ fs. option_map script_end (first_of_faults None fs)) runs
+module _ (threads : Bool) where
+  fine-forest : (end : ℕ) (f : Forest) (t : Source) → HasForms f t → program_limits f t.program ≡ [] → oversized_script_offsets f ≡ [] → program_faults t.program ≡ [] → script_faults threads t.program.states None t.script ≡ [] → refusal threads end f ≡ None
+  fine-forest end f t forms small brief sound runs =
+      ap (reading_refusal threads (least (oversized_script_offsets f))) (read-as end f t forms small brief)
+      ∙ ap (λ places. source_refusal threads (least places) t) brief
+      ∙ ap (λ fs. or_else (option_map (λ g. check_end (check.ProgramFault g)) (least_fault fs)) (option_map script_end (script_refusal threads t.program.states None t.script))) sound
+      ∙ ap (λ fs. option_map script_end (first_of_faults None fs)) runs
 
--- A source text is not rejected.
-text-fine : (bytes : List ℕ) (f : Forest) (t : Source) → Spells bytes f → IsText bytes t → refusal (length bytes) f ≡ None
-text-fine bytes f t s h = subst (λ g. refusal (length bytes) g ≡ None) (spells_one bytes h.forest f h.spelled s) (fine-forest (length bytes) h.forest t h.forms h.small h.brief h.sound h.runs)
+  -- A source text is not rejected.
+  text-fine : (bytes : List ℕ) (f : Forest) (t : Source) → Spells bytes f → IsText threads bytes t → refusal threads (length bytes) f ≡ None
+  text-fine bytes f t s h = subst (λ g. refusal threads (length bytes) g ≡ None) (spells_one bytes h.forest f h.spelled s) (fine-forest (length bytes) h.forest t h.forms h.small h.brief h.sound h.runs)
 
--- In a script without faults no token exceeds its limit.
-none-beyond : (beyond : Option ℕ) (states : List State) (forms : List DoForm) → script_faults false states beyond forms ≡ [] → beyond ≡ None
-none-beyond None states forms h = refl
-none-beyond (Some at) states forms h = absurd cc
+  -- In a script without faults no token exceeds its limit.
+  none-beyond : (beyond : Option ℕ) (states : List State) (forms : List DoForm) → script_faults threads states beyond forms ≡ [] → beyond ≡ None
+  none-beyond None states forms h = refl
+  none-beyond (Some at) states forms h = absurd cc
 
--- A parsed text that keeps the limits and has no fault is the source text of the bytes.
-pub is_text : (bytes : List ℕ) (f : Forest) (t : Source) (told : Option ℕ) → Spells bytes f → nesting f ≤ 100 → HasForms (within f) t → program_limits f t.program ≡ [] → told ≡ least (oversized_script_offsets f) →
-    program_faults t.program ≡ [] → script_refusal false t.program.states told t.script ≡ None → IsText bytes t
-is_text bytes f t told spelled shallow forms small beyond_is sound runs =
-    let faults = no_fault (script_faults false t.program.states told t.script) runs in
-    let none = none-beyond told t.program.states t.script faults in
-    let brief = no_least (oversized_script_offsets f) (sym beyond_is ∙ none) in
-    record {
-      forest = f;
-      spelled = spelled;
-      shallow = shallow;
-      forms = subst (λ g. HasForms g t) (stays f t.program small brief) forms;
-      small = small;
-      brief = brief;
-      sound = sound;
-      runs = subst (λ o. script_faults false t.program.states o t.script ≡ []) none faults;
-    }
+  -- A parsed text that keeps the limits and has no fault is the source text of the bytes.
+  pub is_text : (bytes : List ℕ) (f : Forest) (t : Source) (told : Option ℕ) → Spells bytes f → nesting f ≤ 100 → HasForms (within f) t → program_limits f t.program ≡ [] → told ≡ least (oversized_script_offsets f) →
+      program_faults t.program ≡ [] → script_refusal threads t.program.states told t.script ≡ None → IsText threads bytes t
+  is_text bytes f t told spelled shallow forms small beyond_is sound runs =
+      let faults = no_fault (script_faults threads t.program.states told t.script) runs in
+      let none = none-beyond told t.program.states t.script faults in
+      let brief = no_least (oversized_script_offsets f) (sym beyond_is ∙ none) in
+      record {
+        forest = f;
+        spelled = spelled;
+        shallow = shallow;
+        forms = subst (λ g. HasForms g t) (stays f t.program small brief) forms;
+        small = small;
+        brief = brief;
+        sound = sound;
+        runs = subst (λ o. script_faults threads t.program.states o t.script ≡ []) none faults;
+      }
 
 -- If there is no item at an index, the list is not longer.
 few : {A : Type 0} (xs : List A) (n : ℕ) → slice_get xs n ≡ None → length xs ≤ n
@@ -118,6 +120,7 @@ few_functions f p h =
     let many = few (map function_place p.functions) most_forms (none-too-many (map function_place p.functions) (few_forms f p h).1) in
     subst (λ n. n ≤ most_forms) (length-map p.functions function_place) many
 
--- Rejected bytes are not a source text.
-pub refused_none : (bytes : List ℕ) (f : Forest) (end : TextEnd) → Spells bytes f → refusal (length bytes) f ≡ Some end → IsNoText bytes
-refused_none bytes f end s e t h = let fine = text-fine bytes f t s h in absurd cc
+module _ (threads : Bool) where
+  -- Rejected bytes are not a source text.
+  pub refused_none : (bytes : List ℕ) (f : Forest) (end : TextEnd) → Spells bytes f → refusal threads (length bytes) f ≡ Some end → IsNoText threads bytes
+  refused_none bytes f end s e t h = let fine = text-fine threads bytes f t s h in absurd cc

@@ -1,5 +1,5 @@
 -- Trusted: Why bytes are rejected, and the line that reports it.
-use Rattle.std.specs.Prelude.{◌≡◌, ◌≤◌, ℕ, List, ◌++◌, false, length, codes, Some, None, Result, Ok, Err}
+use Rattle.std.specs.Prelude.{◌≡◌, ◌≤◌, ℕ, List, ◌++◌, Bool, length, codes, Some, None, Result, Ok, Err}
 use Rattle.std.specs.Fmt.{decimal}
 use Rattle.std.specs.declared.option.Option.{Option}
 use Rattle.std.specs.Option.{option_map}
@@ -19,7 +19,7 @@ use Rattle.script_lang.specs.ScriptFaults.{script_refusal}
 use Rattle.script_lang.specs.Lines.{line}
 use Rattle.play_args.specs.declared.command.Command.{Command}
 use Rattle.play_core.specs.StageFaults.{form_end, check_end, script_end}
-use Rattle.play_core.specs.Texts.{IsText, IsOutput}
+use Rattle.play_core.specs.Texts.{IsText, IsOutput, has_threads}
 use Rattle.lang_checks.specs.declared.checks.CheckStop.TheVariants as check
 use Rattle.play_core.specs.declared.fault.Fault.{Fault}
 use Rattle.play_core.specs.declared.fault.FaultKind.{FaultKind}
@@ -33,37 +33,38 @@ or_else None other = other
 or_else (Some a) other = Some a
 
 -- Why a program with a script is rejected: the first fault of the program, else that of the script. `first_oversized` is
--- the offset of the first token of the script that exceeds its limit.
-abbrev pub source_refusal : Option ℕ → Source → Option TextEnd
-source_refusal first_oversized t =
+-- the offset of the first token of the script that exceeds its limit. `threads`: whether each actor has snapshot names of
+-- its own.
+abbrev pub source_refusal : Bool → Option ℕ → Source → Option TextEnd
+source_refusal threads first_oversized t =
     or_else (option_map (λ f. check_end (check.ProgramFault f)) (least_fault (program_faults t.program)))
-    (option_map script_end (script_refusal false t.program.states first_oversized t.script))
+    (option_map script_end (script_refusal threads t.program.states first_oversized t.script))
 
 -- Why parsed forms are rejected: they are not those of a program with a script, the program exceeds a limit, or the
 -- two have a fault.
-abbrev pub reading_refusal : Option ℕ → Result Source FormStop → Option TextEnd
-reading_refusal first_oversized (Ok t) = source_refusal first_oversized t
-reading_refusal first_oversized (Err stop) = Some (form_end stop)
+abbrev pub reading_refusal : Bool → Option ℕ → Result Source FormStop → Option TextEnd
+reading_refusal threads first_oversized (Ok t) = source_refusal threads first_oversized t
+reading_refusal threads first_oversized (Err stop) = Some (form_end stop)
 
 -- The bytes spell lists at most 100 deep, which are rejected with this fault.
-pub record IsRefused (bytes : List ℕ) (fault : Fault) : Type 0 where
+pub record IsRefused (threads : Bool) (bytes : List ℕ) (fault : Fault) : Type 0 where
   pub forest : Forest
   pub spelled : Spells bytes forest
   pub shallow : nesting forest ≤ 100
   pub answer : Result Source FormStop
   pub by_forms : IsAnswerFor (length bytes) forest answer
-  pub refused : reading_refusal (least (oversized_script_offsets forest)) answer ≡ Some (end.Bad fault)
+  pub refused : reading_refusal threads (least (oversized_script_offsets forest)) answer ≡ Some (end.Bad fault)
 
 -- Bytes that spell no forest of lists at most 100 deep have the fault of that cause, at its offset; other bytes have
 -- the fault of their forest.
-abbrev pub IsFaultAt : List ℕ → ℕ → FaultKind → Type 0
-IsFaultAt bytes at Utf8 = Cause bytes (stop.NotUtf8 at)
-IsFaultAt bytes at Text = Cause bytes (stop.Bad at)
-IsFaultAt bytes at Deep = Cause bytes (stop.TooDeep at)
-IsFaultAt bytes at kind = IsRefused bytes (record { kind = kind; at = at })
+abbrev pub IsFaultAt : Bool → List ℕ → ℕ → FaultKind → Type 0
+IsFaultAt threads bytes at Utf8 = Cause bytes (stop.NotUtf8 at)
+IsFaultAt threads bytes at Text = Cause bytes (stop.Bad at)
+IsFaultAt threads bytes at Deep = Cause bytes (stop.TooDeep at)
+IsFaultAt threads bytes at kind = IsRefused threads bytes (record { kind = kind; at = at })
 
-abbrev pub IsFault : List ℕ → Fault → Type 0
-IsFault bytes fault = IsFaultAt bytes fault.at fault.kind
+abbrev pub IsFault : Bool → List ℕ → Fault → Type 0
+IsFault threads bytes fault = IsFaultAt threads bytes fault.at fault.kind
 
 abbrev pub kind_word : FaultKind → List ℕ
 kind_word Utf8 = codes "utf8"
@@ -84,6 +85,6 @@ fault_line fault = line (codes "bad input: " ++ kind_word fault.kind ++ codes " 
 
 -- A first part of what a command writes for the bytes was written: of its output, or of the line of their fault.
 pub record WritesPart (command : Command) (bytes : List ℕ) (before now : Option (List ℕ)) : Type 0 where
-  pub lines : (t : Source) → IsText bytes t →
+  pub lines : (t : Source) → IsText (has_threads command) bytes t →
       (out : List ℕ) × IsOutput command (Some t) out × AppendsPart before now out
-  pub refusal : (fault : Fault) → IsFault bytes fault → AppendsPart before now (fault_line fault)
+  pub refusal : (fault : Fault) → IsFault (has_threads command) bytes fault → AppendsPart before now (fault_line fault)

@@ -1,17 +1,17 @@
 -- Trusted: The promise of `play`: what each status means, and when it comes.
-use Rattle.std.specs.Prelude.{◌≡◌, ◌≢◌, ◌⊎◌, ◌<◌, ◌≤◌, ◌+◌, ℕ, List, length, Option, Some, None, IfSome}
+use Rattle.std.specs.Prelude.{◌≡◌, ◌≢◌, ◌⊎◌, ◌<◌, ◌≤◌, ◌+◌, ℕ, List, length, true, false, Option, Some, None, IfSome}
 use Rattle.std.specs.Io.KnownBytes.{Appends, Keeps, IsAtEnd}
 use Rattle.rt_streams.specs.Streams.{Rose, AppendsPart, rise}
 use Rattle.lang_forms.specs.Sources.{Source}
 use Rattle.play_args.specs.CommandWords.{command_of_args}
 use Rattle.play_args.specs.declared.command.Command.{Command}
-use Rattle.play_args.specs.declared.command.Command.TheVariants.{Run, Check}
+use Rattle.play_args.specs.declared.command.Command.TheVariants.{Run, Threads, Check, Gen}
 use Rattle.script_lang.specs.declared.flags.Flags.{Flags}
 use Rattle.script_lang.specs.Scripts.{actors_of}
 use Rattle.script_lang.specs.StepCalls.{script_parts}
 use Rattle.snap_api.specs.declared.data.Entry.{Entry}
 use Rattle.play_run.specs.RunLog.{LogsRun}
-use Rattle.play_core.specs.Texts.{IsText, IsNoText, IsOutput, titles, usage_line, long_line, input_limit}
+use Rattle.play_core.specs.Texts.{IsText, IsNoText, IsOutput, has_threads, has_input, gen_output, titles, usage_line, long_line, input_limit}
 use Rattle.play_core.specs.Faults.{IsFault, WritesPart, fault_line}
 use Rattle.play_core.specs.declared.fault.Fault.{Fault}
 use Rattle.play_core.specs.declared.top.Status.{Status}
@@ -51,16 +51,16 @@ HasFailed before after result =
 -- The command wrote its output for the source text `bytes`.
 abbrev pub WritesOutput : Command → Streams → Streams → List ℕ → Type 0
 WritesOutput c before after bytes =
-    (t : Source) × IsText bytes t × ((out : List ℕ) × IsOutput c (Some t) out × Appends before.written after.written out)
+    (t : Source) × IsText (has_threads c) bytes t × ((out : List ℕ) × IsOutput c (Some t) out × Appends before.written after.written out)
 
 -- The bytes are not a source text, and the line of their fault was written.
-abbrev pub WritesFault : Streams → Streams → List ℕ → Type 0
-WritesFault before after bytes =
-    IsNoText bytes
-    × ((fault : Fault) × IsFault bytes fault × Appends before.written after.written (fault_line fault))
+abbrev pub WritesFault : Command → Streams → Streams → List ℕ → Type 0
+WritesFault c before after bytes =
+    IsNoText (has_threads c) bytes
+    × ((fault : Fault) × IsFault (has_threads c) bytes fault × Appends before.written after.written (fault_line fault))
 
--- The promise for a command: it ended with `result`, and the streams showed `before` at its start and `after` at its
--- end.
+-- The promise for a command with an input: it ended with `result`, and the streams showed `before` at its start and
+-- `after` at its end.
 pub record CommandMeets (c : Command) (before after : Streams) (result : Status) : Type 0 where
   -- A command is never answered with the usage line.
   pub not_usage : result ≢ status.Usage
@@ -69,7 +69,7 @@ pub record CommandMeets (c : Command) (before after : Streams) (result : Status)
       IfSome before.left (λ bytes. IsAtEnd after.left × (length bytes ≤ input_limit) × WritesOutput c before after bytes)
   -- BadInput: the whole input was read and is not a source text, and the line of its fault was written.
   pub bad_input : result ≡ status.BadInput →
-      IfSome before.left (λ bytes. IsAtEnd after.left × (length bytes ≤ input_limit) × WritesFault before after bytes)
+      IfSome before.left (λ bytes. IsAtEnd after.left × (length bytes ≤ input_limit) × WritesFault c before after bytes)
   -- TooLong: more than `input_limit` bytes were taken, and the line for it was written.
   pub too_long : result ≡ status.TooLong →
       (input_limit < rise before.taken after.taken) × Appends before.written after.written long_line
@@ -89,30 +89,48 @@ pub record CommandMeets (c : Command) (before after : Streams) (result : Status)
       IfSome before.left (λ bytes. WritesPart c bytes before.written after.written)
   -- A source text within the limit is done, unless the call failed.
   pub complete : (bytes : List ℕ) (t : Source) → before.left ≡ Some bytes → length bytes ≤ input_limit →
-      IsText bytes t →
+      IsText (has_threads c) bytes t →
       (result ≡ status.Done) ⊎ HasFailed before after result
   -- Other bytes within the limit are rejected, unless the call failed.
-  pub refused : (bytes : List ℕ) → before.left ≡ Some bytes → length bytes ≤ input_limit → IsNoText bytes →
+  pub refused : (bytes : List ℕ) → before.left ≡ Some bytes → length bytes ≤ input_limit → IsNoText (has_threads c) bytes →
       (result ≡ status.BadInput) ⊎ HasFailed before after result
   -- Bytes within the limit that have a fault are rejected with exactly the line of that fault, unless the call
   -- failed.
   pub faulty : (bytes : List ℕ) (fault : Fault) → before.left ≡ Some bytes → length bytes ≤ input_limit →
-      IsFault bytes fault →
+      IsFault (has_threads c) bytes fault →
       ((result ≡ status.BadInput) × Appends before.written after.written (fault_line fault)) ⊎ HasFailed before after result
   -- At most one byte more than the limit is taken from the source.
   pub at_most : rise before.taken after.taken ≤ input_limit + 1
+
+-- The promise for `gen`, which reads nothing.
+pub record GenMeets (number size : ℕ) (before after : Streams) (result : Status) : Type 0 where
+  -- The result is one of three.
+  pub answers : (result ≡ status.Done) ⊎ ((result ≡ status.WriteFault) ⊎ (result ≡ status.NoMemory))
+  -- Done: the summary was written.
+  pub done : result ≡ status.Done → Appends before.written after.written (gen_output number size)
+  -- WriteFault or NoMemory: a first part of the summary was written.
+  pub part : (result ≡ status.WriteFault) ⊎ (result ≡ status.NoMemory) →
+      AppendsPart before.written after.written (gen_output number size)
+  -- WriteFault: a write failed.
+  pub write_fault : result ≡ status.WriteFault → Rose before.write_faults after.write_faults
+
+-- The usage line was written, unless the sink failed.
+abbrev pub IsUsage : Option (List ℕ) → ℕ → Option (List ℕ) → ℕ → Status → Type 0
+IsUsage before faults after faults' result =
+    ((result ≡ status.Usage) × Appends before after usage_line)
+    ⊎ ((result ≡ status.WriteFault) × Rose faults faults' × AppendsPart before after usage_line)
 
 -- The promise of `play` for these arguments.
 pub record PlayMeets (words : List (List ℕ)) (before after : Streams) (result : Status) : Type 0 where
   -- If the arguments ask for no command, the usage line is written, unless the sink fails or the process is out of
   -- memory.
   pub no_command : command_of_args words ≡ None →
-      ((result ≡ status.Usage) × Appends before.written after.written usage_line)
-      ⊎ (((result ≡ status.WriteFault) × Rose before.write_faults after.write_faults
-      × AppendsPart before.written after.written usage_line)
-      ⊎ ((result ≡ status.NoMemory) × Keeps before.written after.written))
-  -- If the arguments ask for a command, the result is that of the command.
-  pub command : (c : Command) → command_of_args words ≡ Some c → CommandMeets c before after result
+      IsUsage before.written before.write_faults after.written after.write_faults result
+      ⊎ ((result ≡ status.NoMemory) × Keeps before.written after.written)
+  -- If the arguments ask for a command with an input, the result is that of the command.
+  pub command : (c : Command) → command_of_args words ≡ Some c → has_input c ≡ true → CommandMeets c before after result
+  -- If the arguments ask for `gen`, the result is that of `gen`.
+  pub generated : (number size : ℕ) → command_of_args words ≡ Some (Gen number size) → GenMeets number size before after result
   -- No read failed, unless the result is ReadFault.
   pub reads : result ≢ status.ReadFault → after.read_faults ≡ before.read_faults
   -- No write failed, unless the result is WriteFault.
@@ -126,11 +144,22 @@ LogsText t old new = LogsRun (titles t) t.program.functions (script_parts (actor
 abbrev pub LogsCommand : Option Command → Status → Option (List ℕ) → Option (List Entry) → Option (List Entry) → Type 0
 LogsCommand o result left old new =
     (flags : Flags) → o ≡ Some (Run flags) → result ≡ status.Done →
-    IfSome left (λ bytes. (t : Source) → IsText bytes t → LogsText t old new)
+    IfSome left (λ bytes. (t : Source) → IsText false bytes t → LogsText t old new)
 
--- The cases in which the world is unchanged: no command, `check`, and every rejected input.
+-- Nothing is read: the arguments ask for no command, or for one without input.
+abbrev pub NeedsNoInput : Option Command → Type 0
+NeedsNoInput o = IfSome o (λ c. has_input c ≡ false)
+
+-- The commands that make no call on the lent world: `threads` makes a world of its own.
+abbrev pub KeepsWorld : Command → Type 0
+KeepsWorld (Run flags) = ⊥
+KeepsWorld (Threads flags) = Unit {0}
+KeepsWorld Check = Unit {0}
+KeepsWorld (Gen number size) = ⊥
+
+-- The cases in which the lent world is unchanged: no command, `check`, `threads`, and every rejected input.
 abbrev pub LeavesWorld : Option Command → Status → Type 0
 LeavesWorld o result =
     (o ≡ None)
-    ⊎ ((o ≡ Some Check)
+    ⊎ (((c : Command) × (o ≡ Some c) × KeepsWorld c)
     ⊎ ((result ≡ status.Usage) ⊎ ((result ≡ status.BadInput) ⊎ ((result ≡ status.TooLong) ⊎ (result ≡ status.ReadFault)))))

@@ -139,31 +139,32 @@ fn parse_trees(alloc: Global, trees: &[Tree], end: usize) -> Result<(Program, Re
 }
 
 // Parses the program and the script from the trees of an input of `end` bytes.
-fn parse_forms(alloc: Global, trees: Vec<Tree>, end: usize) -> Result<Input, TextEnd>
+fn parse_forms(alloc: Global, trees: Vec<Tree>, end: usize, threads: bool) -> Result<Input, TextEnd>
     ensures ok { (bytes : List ℕ) → Spells bytes (forest_view trees.items) → nesting (forest_view trees.items) ≤ 100 →
-        IfOk result (λ input. IsInput bytes input) }
-    ensures fine { OnOk result (refusal end (forest_view trees.items) ≡ None) }
+        IfOk result (λ input. IsInput threads bytes input) }
+    ensures fine { OnOk result (refusal threads end (forest_view trees.items) ≡ None) }
     ensures bad { (fault : fault_data) → result ≡ Err (TextEnd.Bad fault) →
-        refusal end (forest_view trees.items) ≡ Some (TextEnd.Bad fault) }
+        refusal threads end (forest_view trees.items) ≡ Some (TextEnd.Bad fault) }
 {
     let (program, rest) = parse_trees(alloc, &trees, end)?;
     let program = check(alloc, program)?;
-    let script = script_of(alloc, rest, &program, false)?;
+    let script = script_of(alloc, rest, &program, threads)?;
     Ok(Input {
         trees,
         job: Job { program, script },
     })
 }
 
-/// Parses a source text: its trees, its program and its script.
-pub fn parse_input(alloc: Global, bytes: &[u8]) -> Result<Input, TextEnd>
-    ensures ok { IfOk result (λ input. IsInput bytes.now input) }
-    ensures bad { (fault : fault_data) → result ≡ Err (TextEnd.Bad fault) → IsNoText bytes.now × IsFault bytes.now fault }
-    ensures told { (fault : fault_data) → IsFault bytes.now fault → (result ≡ Err (TextEnd.Bad fault)) ⊎ (result ≡ Err TextEnd.NoMemory) }
+/// Parses a source text: its trees, its program and its script. `threads`: whether each actor has a thread and snapshot
+/// names of its own.
+pub fn parse_input(alloc: Global, bytes: &[u8], threads: bool) -> Result<Input, TextEnd>
+    ensures ok { IfOk result (λ input. IsInput threads bytes.now input) }
+    ensures bad { (fault : fault_data) → result ≡ Err (TextEnd.Bad fault) → IsNoText threads bytes.now × IsFault threads bytes.now fault }
+    ensures told { (fault : fault_data) → IsFault threads bytes.now fault → (result ≡ Err (TextEnd.Bad fault)) ⊎ (result ≡ Err TextEnd.NoMemory) }
 {
     let trees = match read(alloc, bytes) {
         Ok(trees) => trees,
         Err(stop) => return Err(TextEnd::from(stop)),
     };
-    parse_forms(alloc, trees, bytes.len())
+    parse_forms(alloc, trees, bytes.len(), threads)
 }

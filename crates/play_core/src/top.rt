@@ -1,24 +1,29 @@
 // The top call.
-ghost use Rattle.std.specs.Prelude.{◌≡◌, ◌≢◌, ◌⊎◌, ◌<◌, ◌≤◌, ◌+◌, ℕ, List, Option, Some, None, Ok, Err, IfOk, OnOk, IfSome, length};
+ghost use Rattle.std.specs.Prelude.{◌≡◌, ◌≢◌, ◌⊎◌, ◌<◌, ◌≤◌, ◌+◌, ℕ, List, false, true, Option, Some, None, Ok, Err, IfOk, IfErr, OnOk, IfSome, length};
 ghost use Rattle.std.specs.Io.KnownBytes.{Appends, Keeps, IsAtEnd};
 ghost use Rattle.rt_streams.specs.Streams.{Rose, AppendsPart, rise};
 ghost use Rattle.lang_forms.specs.Sources.{Source as source_data};
 ghost use Rattle.snap_api.specs.World.{start};
 ghost use Rattle.script_lang.specs.declared.flags.Flags.{Flags as flags_data};
 ghost use Rattle.play_args.specs.CommandWords.{command_of_args, texts};
-ghost use Rattle.play_core.specs.Texts.{IsText, IsInput, IsNoText, IsOutput, usage_line, long_line, input_limit};
+ghost use Rattle.play_args.specs.declared.command.Command.{Command as command_data};
+ghost use Rattle.play_core.specs.CommandOutput.{SaysOutput, run_status, IsRefusal, ReadsInput};
+ghost use Rattle.play_core.specs.Texts.{IsText, IsInput, IsNoText, IsOutput, has_threads, has_input, gen_output, usage_line, long_line, input_limit};
 ghost use Rattle.play_core.specs.Faults.{IsFault, WritesPart, fault_line};
-ghost use Rattle.play_core.specs.Promise.{streams, CommandMeets, PlayMeets, LeavesWorld, LogsText, LogsCommand};
+ghost use Rattle.play_core.specs.Promise.{streams, CommandMeets, IsUsage, GenMeets, PlayMeets, NeedsNoInput, KeepsWorld, LeavesWorld, LogsText, LogsCommand};
 ghost use Rattle.play_core.specs.declared.fault.Fault.{Fault as fault_data};
-ghost use Rattle.play_core.specs.CommandOutput.{SaysOutput, run_status};
 ghost use Rattle.play_run.specs.RunPromise.{FaultsAfter};
 
 use crate::canonical::write_canonical;
 use crate::fault::Fault;
 use crate::text::{Input, TextEnd, parse_input};
 use play_args::{Command, parse_args};
+use play_gen::{count_input, summary_text};
 use play_run::{Stop, run_script};
+use play_threads::run_threads;
 use rt_streams::{Gate, ReadStop, Sink, Source, read_all, write_all};
+use rt_values::NoMemory;
+use script_lang::Flags;
 use snap_api::Versions;
 use snap_policy::BuiltIn;
 use std::alloc::Global;
@@ -78,7 +83,7 @@ fn refuse<K: Sink>(alloc: Global, fault: Fault, sink: &mut K) -> Status
     write_status_line(sink, &line, Status::BadInput)
 }
 
-// Runs or prints an input. A run discards the trees before its first step.
+// Does what `run` or `check` asks for with an input. A run discards the trees before its first step.
 fn do_command<V: Versions<P = BuiltIn>, K: Sink>(
     alloc: Global,
     command: Command,
@@ -88,12 +93,14 @@ fn do_command<V: Versions<P = BuiltIn>, K: Sink>(
 ) -> Result<(), Stop>
     requires start { V.stands world.old (start 0) }
     requires few { length input.job.program.states.items ≤ 256 }
-    ensures says { (bytes : List ℕ) (t : source_data) → IsInput bytes input → IsText bytes t →
+    requires alone { has_threads command ≡ false }
+    requires reads { has_input command ≡ true }
+    ensures says { (bytes : List ℕ) (t : source_data) → IsInput false bytes input → IsText false bytes t →
         SaysOutput (K.written sink.old) (K.written sink.new) command t result }
     ensures faults { FaultsAfter (K.faults sink.old) (K.faults sink.new) result }
-    ensures world { command ≡ Command.Check → world.new ≡ world.old }
+    ensures world { KeepsWorld command → world.new ≡ world.old }
     ensures log { (bytes : List ℕ) (t : source_data) (flags : flags_data) → command ≡ Command.Run flags →
-        IsInput bytes input → IsText bytes t →
+        IsInput false bytes input → IsText false bytes t →
         OnOk result (LogsText t (V.log world.old) (V.log world.new)) }
 {
     match command {
@@ -101,7 +108,9 @@ fn do_command<V: Versions<P = BuiltIn>, K: Sink>(
             drop(input.trees);
             run_script(alloc, &input.job, flags, world, sink)
         }
+        Command::Threads(_) => unreachable!(),
         Command::Check => write_canonical(alloc, &input.trees, sink),
+        Command::Gen { .. } => unreachable!(),
     }
 }
 
@@ -116,37 +125,58 @@ fn status_of(end: Result<(), Stop>) -> Status
     }
 }
 
-// Parses `bytes`, then runs `command`.
-fn play_bytes<V: Versions<P = BuiltIn>, K: Sink>(
+// Parses bytes. If they are no source text, writes the line of their fault. Returns the status of a failure.
+fn parse_or_refuse<K: Sink>(
     alloc: Global,
-    command: Command,
-    world: &mut V,
+    threads: bool,
     bytes: &[u8],
     sink: &mut K,
-) -> Status
-    requires { V.stands world.old (start 0) }
-    ensures done { result ≡ Status.Done → (t : source_data) × IsText bytes.now t ×
-        ((out : List ℕ) × IsOutput command (Some t) out × Appends (K.written sink.old) (K.written sink.new) out) }
-    ensures bad_input { result ≡ Status.BadInput → IsNoText bytes.now × ((fault : fault_data) × IsFault bytes.now fault ×
+) -> Result<Input, Status>
+    ensures parsed { IfOk result (λ input. IsInput threads bytes.now input) }
+    ensures good { OnOk result ((fault : fault_data) → IsFault threads bytes.now fault → ⊥) }
+    ensures still { OnOk result ((K.written sink.new ≡ K.written sink.old) × (K.faults sink.new ≡ K.faults sink.old)) }
+    ensures bad_input { result ≡ Err Status.BadInput → IsNoText threads bytes.now ×
+        ((fault : fault_data) × IsFault threads bytes.now fault ×
         Appends (K.written sink.old) (K.written sink.new) (fault_line fault)) }
-    ensures part { (result ≡ Status.WriteFault) ⊎ (result ≡ Status.NoMemory) →
-        WritesPart command bytes.now (K.written sink.old) (K.written sink.new) }
-    ensures write_fault { result ≡ Status.WriteFault → Rose (K.faults sink.old) (K.faults sink.new) }
-    ensures clean { result ≢ Status.WriteFault → K.faults sink.new ≡ K.faults sink.old }
-    ensures others { (result ≢ Status.Usage) × (result ≢ Status.ReadFault) × (result ≢ Status.TooLong) }
-    ensures check { command ≡ Command.Check → world.new ≡ world.old }
-    ensures refused { result ≡ Status.BadInput → world.new ≡ world.old }
-    ensures log { (flags : flags_data) → command ≡ Command.Run flags → result ≡ Status.Done →
-        (t : source_data) → IsText bytes.now t → LogsText t (V.log world.old) (V.log world.new) }
+    ensures part { (c : command_data) → has_threads c ≡ threads →
+        (result ≡ Err Status.WriteFault) ⊎ (result ≡ Err Status.NoMemory) →
+        WritesPart c bytes.now (K.written sink.old) (K.written sink.new) }
+    ensures write_fault { result ≡ Err Status.WriteFault → Rose (K.faults sink.old) (K.faults sink.new) }
+    ensures clean { result ≢ Err Status.WriteFault → K.faults sink.new ≡ K.faults sink.old }
+    ensures others { IfErr result IsRefusal }
 {
-    match parse_input(alloc, bytes) {
-        Ok(input) => status_of(do_command(alloc, command, world, input, sink)),
-        Err(TextEnd::Bad(fault)) => refuse(alloc, fault, sink),
-        Err(TextEnd::NoMemory) => Status::NoMemory,
+    match parse_input(alloc, bytes, threads) {
+        Ok(input) => Ok(input),
+        Err(TextEnd::Bad(fault)) => Err(refuse(alloc, fault, sink)),
+        Err(TextEnd::NoMemory) => Err(Status::NoMemory),
     }
 }
 
-// Reads the source, then runs `command`.
+// Reads and parses the source. If that fails, writes the line of the failure, if it has one, and returns its status.
+fn read_input<S: Source, K: Sink>(
+    alloc: Global,
+    threads: bool,
+    source: &mut S,
+    sink: &mut K,
+) -> Result<Input, Status>
+    ensures failed { let shown = streams S.left S.taken S.faults K.written K.faults in
+        (c : command_data) → has_threads c ≡ threads →
+        IfErr result (CommandMeets c (shown source.old sink.old) (shown source.new sink.new)) }
+    ensures parsed { let shown = streams S.left S.taken S.faults K.written K.faults in
+        IfOk result (ReadsInput threads (shown source.old sink.old) (shown source.new sink.new)) }
+    ensures undone { result ≢ Err Status.Done }
+    ensures reads { result ≢ Err Status.ReadFault → S.faults source.new ≡ S.faults source.old }
+    ensures clean { result ≢ Err Status.WriteFault → K.faults sink.new ≡ K.faults sink.old }
+{
+    match read_all(alloc, source, INPUT_LIMIT) {
+        Err(ReadStop::NoMemory) => Err(Status::NoMemory),
+        Err(ReadStop::ReadFault) => Err(Status::ReadFault),
+        Err(ReadStop::TooLong) => Err(write_status_line(sink, b"too long\n", Status::TooLong)),
+        Ok(bytes) => parse_or_refuse(alloc, threads, &bytes, sink),
+    }
+}
+
+// Reads the source, then runs `run` or `check`.
 fn play_input<V: Versions<P = BuiltIn>, S: Source, K: Sink>(
     alloc: Global,
     command: Command,
@@ -154,31 +184,92 @@ fn play_input<V: Versions<P = BuiltIn>, S: Source, K: Sink>(
     source: &mut S,
     sink: &mut K,
 ) -> Status
-    requires { V.stands world.old (start 0) }
+    requires start { V.stands world.old (start 0) }
+    requires alone { has_threads command ≡ false }
+    requires reads { has_input command ≡ true }
     ensures meets { let shown = streams S.left S.taken S.faults K.written K.faults in
         CommandMeets command (shown source.old sink.old) (shown source.new sink.new) result }
     ensures reads { result ≢ Status.ReadFault → S.faults source.new ≡ S.faults source.old }
     ensures clean { result ≢ Status.WriteFault → K.faults sink.new ≡ K.faults sink.old }
-    ensures check { command ≡ Command.Check → world.new ≡ world.old }
+    ensures keeps { KeepsWorld command → world.new ≡ world.old }
     ensures refused { (result ≡ Status.BadInput) ⊎ ((result ≡ Status.TooLong) ⊎ (result ≡ Status.ReadFault)) →
         world.new ≡ world.old }
     ensures log { (flags : flags_data) → command ≡ Command.Run flags → result ≡ Status.Done →
-        IfSome (S.left source.old) (λ bytes. (t : source_data) → IsText bytes t →
+        IfSome (S.left source.old) (λ bytes. (t : source_data) → IsText false bytes t →
         LogsText t (V.log world.old) (V.log world.new)) }
 {
-    match read_all(alloc, source, INPUT_LIMIT) {
-        Err(ReadStop::NoMemory) => Status::NoMemory,
-        Err(ReadStop::ReadFault) => Status::ReadFault,
-        Err(ReadStop::TooLong) => write_status_line(sink, b"too long\n", Status::TooLong),
-        Ok(bytes) => play_bytes(alloc, command, world, &bytes, sink),
+    match read_input(alloc, false, source, sink) {
+        Ok(input) => status_of(do_command(alloc, command, world, input, sink)),
+        Err(status) => status,
     }
 }
 
-/// Runs the command that the arguments ask for.
+// Reads the source, then runs each actor on a thread of its own.
+fn play_threads<R: Threads + Wait + Sync, S: Source, K: Sink, G: Gate + Sync>(
+    rt: &R,
+    alloc: Global,
+    flags: Flags,
+    source: &mut S,
+    sink: &mut K,
+    gate: &G,
+) -> Status
+    ensures meets { let shown = streams S.left S.taken S.faults K.written K.faults in
+        CommandMeets (Command.Threads flags) (shown source.old sink.old) (shown source.new sink.new) result }
+    ensures reads { result ≢ Status.ReadFault → S.faults source.new ≡ S.faults source.old }
+    ensures clean { result ≢ Status.WriteFault → K.faults sink.new ≡ K.faults sink.old }
+{
+    match read_input(alloc, true, source, sink) {
+        Ok(input) => status_of(run_threads(rt, alloc, &input.job, flags, gate, sink)),
+        Err(status) => status,
+    }
+}
+
+// Runs the input that is generated from `number` with `size` rows, and writes the summary as one piece.
+fn write_summary<V: Versions<P = BuiltIn>, K: Sink>(
+    alloc: Global,
+    number: u32,
+    size: u32,
+    world: &mut V,
+    sink: &mut K,
+) -> Status
+    requires some { 1 ≤ size }
+    requires few { size ≤ 1000 }
+    requires start { V.stands world.old (start 0) }
+    ensures answers { (result ≡ Status.Done) ⊎ ((result ≡ Status.WriteFault) ⊎ (result ≡ Status.NoMemory)) }
+    ensures all { result ≡ Status.Done → Appends (K.written sink.old) (K.written sink.new) (gen_output number size) }
+    ensures part { (result ≡ Status.WriteFault) ⊎ (result ≡ Status.NoMemory) →
+        AppendsPart (K.written sink.old) (K.written sink.new) (gen_output number size) }
+    ensures write_fault { result ≡ Status.WriteFault → Rose (K.faults sink.old) (K.faults sink.new) }
+    ensures clean { result ≢ Status.WriteFault → K.faults sink.new ≡ K.faults sink.old }
+{
+    let Ok(tally) = count_input(alloc, number, size, world) else {
+        return Status::NoMemory;
+    };
+    let Ok(text) = summary_text(alloc, &tally) else {
+        return Status::NoMemory;
+    };
+    write_status_line(sink, &text, Status::Done)
+}
+
+// Writes the usage line.
+fn write_usage<K: Sink>(sink: &mut K) -> Status
+    ensures meets { IsUsage (K.written sink.old) (K.faults sink.old) (K.written sink.new) (K.faults sink.new) result }
+    ensures clean { result ≢ Status.WriteFault → K.faults sink.new ≡ K.faults sink.old }
+{
+    write_status_line(
+        sink,
+        b"usage: compose_play run|threads [--json] [--ops] | check | gen NUMBER SIZE\n",
+        Status::Usage,
+    )
+}
+
+/// Runs the command that the arguments ask for, if it is not `threads`.
 ///
 /// Reads a program with its script from `source`, and writes to `sink` line by line, each line with its LF as one
 /// piece. `run` makes the script's steps on `world`, which must be new, and writes the line of each call and of each
-/// frame when it is made, as its flags say. `check` writes the canonical text of the program and the script. Never blocks.
+/// frame when it is made, as its flags say. `check` writes the canonical text of the program and the script. `gen` reads
+/// nothing: it makes the steps of a generated script on `world`, which must be new, and writes the summary as one piece.
+/// Never blocks.
 ///
 /// `specs/Promise.antt` says what each status means: what was written, and what was taken from the source. In Compose
 /// this is the work of `Recomposer` and a test driver; the program and its lines are rules of this project.
@@ -189,53 +280,58 @@ pub fn play_alone<V: Versions<P = BuiltIn>, S: Source, K: Sink>(
     source: &mut S,
     sink: &mut K,
 ) -> Status
-    requires { V.stands world.old (start 0) }
+    requires start { V.stands world.old (start 0) }
+    requires alone { (flags : flags_data) → command_of_args (texts words.now.items) ≡ Some (Command.Threads flags) → ⊥ }
     // The result is what `PlayMeets` promises.
     ensures meets { let shown = streams S.left S.taken S.faults K.written K.faults in
         PlayMeets (texts words.now.items) (shown source.old sink.old) (shown source.new sink.new) result }
-    // Without a command the source is unchanged.
-    ensures unread { command_of_args (texts words.now.items) ≡ None → source.new ≡ source.old }
+    // Without a command, and for `gen`, the source is unchanged.
+    ensures unread { NeedsNoInput (command_of_args (texts words.now.items)) → source.new ≡ source.old }
     // Without a command, after `check` and after each rejected input the world is unchanged.
     ensures world { LeavesWorld (command_of_args (texts words.now.items)) result → world.new ≡ world.old }
     // After `run` the log of the world, if it has one, grew by the calls of the run.
     ensures log { LogsCommand (command_of_args (texts words.now.items)) result (S.left source.old) (V.log world.old)
         (V.log world.new) }
 {
-    let Ok(wanted) = parse_args(alloc, words) else {
-        return Status::NoMemory;
-    };
-    match wanted {
-        Some(command) => play_input(alloc, command, world, source, sink),
-        None => write_status_line(
-            sink,
-            b"usage: compose_play run|threads [--json] [--ops] | check | gen NUMBER SIZE\n",
-            Status::Usage,
-        ),
+    match parse_args(alloc, words) {
+        Ok(Some(Command::Gen { number, size })) => write_summary(alloc, number, size, world, sink),
+        Ok(Some(command)) => play_input(alloc, command, world, source, sink),
+        Ok(None) => write_usage(sink),
+        Err(NoMemory) => Status::NoMemory,
     }
 }
 
-/// Runs the command that the arguments ask for, as `play_alone` does, with any number of threads. Today it uses no
-/// thread and never calls the gate.
+/// Runs the command that the arguments ask for, as `play_alone` does, and `threads` too.
+///
+/// `threads` makes the steps of each actor on a thread of its own, all on one new world, and then writes the lines of all
+/// calls in the order in which they were made. Each thread calls `gate` before each of its calls on the world, with the
+/// number of its actor and the number of the call. While it waits for the turn on the shared world a thread blocks.
 pub fn play<R: Threads + Wait + Sync, V: Versions<P = BuiltIn>, S: Source, K: Sink, G: Gate + Sync>(
-    _rt: &R,
+    rt: &R,
     alloc: Global,
     words: &Vec<String>,
     world: &mut V,
     source: &mut S,
     sink: &mut K,
-    _gate: &G,
+    gate: &G,
 ) -> Status
-    requires { V.stands world.old (start 0) }
+    requires start { V.stands world.old (start 0) }
     // The result is what `PlayMeets` promises.
     ensures meets { let shown = streams S.left S.taken S.faults K.written K.faults in
         PlayMeets (texts words.now.items) (shown source.old sink.old) (shown source.new sink.new) result }
-    // Without a command the source is unchanged.
-    ensures unread { command_of_args (texts words.now.items) ≡ None → source.new ≡ source.old }
-    // Without a command, after `check` and after each rejected input the world is unchanged.
+    // Without a command, and for `gen`, the source is unchanged.
+    ensures unread { NeedsNoInput (command_of_args (texts words.now.items)) → source.new ≡ source.old }
+    // Without a command, after `check`, after `threads` and after each rejected input the world is unchanged.
     ensures world { LeavesWorld (command_of_args (texts words.now.items)) result → world.new ≡ world.old }
     // After `run` the log of the world, if it has one, grew by the calls of the run.
     ensures log { LogsCommand (command_of_args (texts words.now.items)) result (S.left source.old) (V.log world.old)
         (V.log world.new) }
 {
-    play_alone(alloc, words, world, source, sink)
+    match parse_args(alloc, words) {
+        Ok(Some(Command::Threads(flags))) => play_threads(rt, alloc, flags, source, sink, gate),
+        Ok(Some(Command::Gen { number, size })) => write_summary(alloc, number, size, world, sink),
+        Ok(Some(command)) => play_input(alloc, command, world, source, sink),
+        Ok(None) => write_usage(sink),
+        Err(NoMemory) => Status::NoMemory,
+    }
 }

@@ -1,4 +1,4 @@
-use Rattle.std.proofs.Common.{◌≡◌, ◌≤◌, ◌∙◌, ap, sym, subst, [], false, length}
+use Rattle.std.proofs.Common.{◌≡◌, ◌≤◌, ◌∙◌, ap, sym, subst, [], length}
 use Rattle.sexp_text.specs.View.{forest_view}
 use Rattle.lang_ast.specs.SyntaxView.{functions_view}
 use Rattle.lang_limits.specs.LeastOffset.{least}
@@ -16,7 +16,7 @@ returns-clause-ok c = λ bytes spelled shallow.
     let f = forest_view c.args.trees.items in
     let t = parsed_source_view (c.in_ok-program.program, c.in_ok-program.rest) in
     let same = c.in_ok-program-2.ensures.same in
-    let runs = ap (λ ss. script_refusal false ss.items c.in_ok-program.rest.first_oversized c.in_ok-program.rest.forms.items) (sym same.1) ∙ c.in_ok-script.ensures.fine in
+    let runs = ap (λ ss. script_refusal c.args.threads ss.items c.in_ok-program.rest.first_oversized c.in_ok-program.rest.forms.items) (sym same.1) ∙ c.in_ok-script.ensures.fine in
     let items = c.deref.ensures.value in
     let forms = subst (λ ts. HasForms (within (forest_view ts)) t) items c.in_ok-program.ensures.forms in
     let small = subst (λ ts. program_limits (forest_view ts) t.program ≡ []) items c.in_ok-program.ensures.small in
@@ -26,7 +26,7 @@ returns-clause-ok c = λ bytes spelled shallow.
       spelled = spelled;
       read = record {
         source = t;
-        text = is_text bytes f t c.in_ok-program.rest.first_oversized spelled shallow forms small first_oversized c.in_ok-program-2.ensures.fine runs;
+        text = is_text c.args.threads bytes f t c.in_ok-program.rest.first_oversized spelled shallow forms small first_oversized c.in_ok-program-2.ensures.fine runs;
         states_are = ap (λ ss. ss.items) same.1;
         functions_are = ap (λ fs. functions_view fs.items) same.2;
         actors_are = c.in_ok-script.ensures.actors;
