@@ -1,5 +1,5 @@
-//! Tests of `lang_checks`, `lang_meaning`, `recomposer`, `script_lang`, `play_args` and `play_core` from outside: programs
-//! that are checked and composed, lines that no script reaches yet, and streams that fail.
+//! Tests of `lang_checks`, `lang_meaning`, `recomposer`, `script_lang`, `play_args`, `play_gen` and `play_core` from
+//! outside: programs that are checked, composed and generated, lines that no script reaches yet, and streams that fail.
 #![tactic(auto)]
 
 #[cfg(test)]
@@ -8,6 +8,8 @@ mod arguments;
 mod checks;
 #[cfg(test)]
 mod frames;
+#[cfg(test)]
+mod generated;
 #[cfg(test)]
 mod groups;
 #[cfg(test)]
@@ -23,4 +25,8 @@ mod programs;
 #[cfg(test)]
 mod recomposing;
 #[cfg(test)]
+mod replays;
+#[cfg(test)]
 mod runs;
+#[cfg(test)]
+mod turns;

@@ -314,3 +314,32 @@ fn other_arguments_print_the_usage_line(rt: HostRuntime) -> Result<(), Fail> {
     assert!(rt; status == Status::WriteFault && written.is_empty());
     Ok(())
 }
+
+// The summary of number 1 with four rows.
+const SUMMARY: &[u8] =
+    b"replies: taken 1, read 0, changed 4, same 0, applied 1, conflicts 0, refused 0
+frames: 5, ran 16, calculated 4, reads 18
+last: groups 20, nodes 6
+";
+
+#[test]
+fn gen_writes_a_summary_and_reads_nothing(rt: HostRuntime) -> Result<(), Fail> {
+    let alloc = rt.alloc();
+    let words: [&str; 3] = ["gen", "1", "4"];
+    let unread = Streams {
+        read_fault: 1,
+        ..SOUND
+    };
+    let (status, written) = run(&rt, alloc, &words, COUNTER.to_vec(alloc)?, unread)?;
+    assert!(rt; status == Status::Done);
+    assert_eq!(rt; written.as_slice(), SUMMARY);
+    let short = Streams {
+        most: 10,
+        write_fault: 3,
+        ..SOUND
+    };
+    let (status, written) = run(&rt, alloc, &words, COUNTER.to_vec(alloc)?, short)?;
+    assert!(rt; status == Status::WriteFault);
+    assert_eq!(rt; written.as_slice(), &SUMMARY[..20]);
+    Ok(())
+}

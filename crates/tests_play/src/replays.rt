@@ -1,0 +1,236 @@
+// Histories whose calls are made again.
+ghost use Rattle.std.specs.Prelude.{◌≡◌, ◌≤◌, [], ◌∷◌, Option, Some, None, true, length, IfOk, IfSome};
+ghost use Rattle.std.specs.Option.{option_map};
+ghost use Rattle.snap_policy.specs.Table.{table};
+ghost use Rattle.snap_api.specs.World.{History, IsLegal};
+ghost use Rattle.script_lang.specs.StepCalls.{opening_world};
+ghost use Rattle.script_lang.specs.Lines.{ends_frame, frame_taken};
+ghost use Rattle.woven_laws.specs.FramesInTurn.{OpenFrame, AreInTurn, frame_opened};
+
+use crate::programs::parse_program;
+use lang_checks::check;
+use play_run::{Job, replay, run_script, set_up_world};
+use rt_streams::MemSink;
+use rt_values::{Caller, Kind, Name, Value};
+use script_lang::{Flags, script_of};
+use snap_api::{Entry, LogWorld, Reply, Request, run_calls};
+use snap_plain::PlainWorld;
+use snap_policy::BuiltIn;
+use std::alloc::Global;
+use std::test::Fail;
+
+// Two actors, whose frames have steps between their take and their dispose.
+const TWO_ACTORS: &[u8] = b"(compose 1)
+(state a Int Counter 1)
+(state t Text Structural \"x\")
+(fun leaf ((n Int)) (node Leaf ((n n) (a (get a)))))
+(fun root () (node Top ((t (get t)))) (call leaf 7))
+(do main (frame) (write global a 2) (frame (during (take s mutable global) (add s a 5) (write s t \"yz\"))))
+(do other (take r mutable global) (add r a 3) (apply r) (dispose r) (read global t))
+(do main (frame) (apply s) (frame) (dispose s))
+(do other (frame (during (read global a))) (repeat 2 (add global a 1) (frame)))
+";
+
+// The lines of a history in which calls of `other` are made while a frame of `main` is open.
+const INTERLEAVED_LINES: &[u8] = b"main: frame = @1 changed a t
+other: write @0 a 5 = changed
+other: take mutable @0 = @2
+other: write @2 a 6 = changed
+other: apply @2 = applied
+main: read @0 a = 6
+other: frame = unknown watcher
+other: write @1 a 9 = owned by main
+other: read @1 a = owned by main
+main: dispose @1 = disposed
+report: ran 2, calculated 0, reads 2, groups 4, nodes 2
+#1 Top t=\"x\"
+#2 Leaf n=7 a=1
+other: frame = @3 changed a
+other: dispose @3 = disposed
+report: ran 1, calculated 0, reads 1, groups 4, nodes 2
+#1 Top t=\"x\"
+#2 Leaf n=7 a=6
+";
+
+// Returns the caller and the snapshot of the frame that `call` begins.
+fn begun_frame(call: &Entry) -> Option<(Caller, Name)>
+    ensures { option_map (λ f. record { caller = f.0; name = f.1 }) result
+        ≡ frame_opened call.now.caller (frame_taken call.now.request call.now.reply) }
+{
+    match (&call.request, &call.reply) {
+        (Request::TakeFor { .. }, Reply::TakenFor(name, _)) => Some((call.caller, *name)),
+        _ => None,
+    }
+}
+
+// Checks whether `call` disposes the snapshot `name`.
+fn disposes(call: &Entry, name: Name) -> bool
+    ensures { result ≡ ends_frame (name ∷ []) call.now.request }
+{
+    match &call.request {
+        Request::Dispose { name: disposed } => name == *disposed,
+        _ => false,
+    }
+}
+
+// Returns the frame that is open after `call`, or `None` if the call is out of turn.
+fn next_frame(frame: Option<(Caller, Name)>, call: &Entry) -> Option<Option<(Caller, Name)>>
+    ensures { IfSome result (λ next. (more : History) →
+        AreInTurn (option_map (λ f. record { caller = f.0; name = f.1 }) next) more →
+        AreInTurn (option_map (λ f. record { caller = f.0; name = f.1 }) frame) (call.now ∷ more)) }
+{
+    let begun = begun_frame(call);
+    let Some((caller, name)) = frame else {
+        return Some(begun);
+    };
+    if disposes(call, name) {
+        return if call.caller == caller {
+            Some(None)
+        } else {
+            None
+        };
+    }
+    if begun.is_none() { Some(frame) } else { None }
+}
+
+// Checks whether frames are in turn.
+fn is_in_turn(calls: &[Entry]) -> bool
+    ensures { result ≡ true → AreInTurn None calls.now }
+{
+    let mut frame = None;
+    let mut rest = calls;
+    while let Some((call, more)) = rest.split_first() {
+        match next_frame(frame, call) {
+            Some(next) => {
+                frame = next;
+                rest = more;
+            }
+            None => return false,
+        }
+    }
+    true
+}
+
+// Makes calls in the opening world of a job. Returns them with their replies.
+fn make_calls(alloc: Global, job: &Job, calls: &Vec<(Caller, Request)>) -> Result<Vec<Entry>, Fail>
+    requires few { length job.now.program.states.items ≤ 256 }
+    ensures legal { IfOk result (λ made. IsLegal table (opening_world job.now.program.states.items) made.items) }
+{
+    let plain = PlainWorld::<BuiltIn>::new(alloc)?;
+    let mut world = LogWorld::new(alloc, plain);
+    set_up_world(alloc, &job.program, &mut world)?;
+    run_calls(alloc, &mut world, calls)?;
+    let (_, entries) = world.into_parts();
+    Ok(entries)
+}
+
+// Makes the calls of a history again. Returns the bytes that are written.
+fn lines_of(alloc: Global, job: &Job, flags: Flags, calls: Vec<Entry>) -> Result<Vec<u8>, Fail>
+    requires few { length job.now.program.states.items ≤ 256 }
+    requires legal { IsLegal table (opening_world job.now.program.states.items) calls.items }
+    requires turn { AreInTurn None calls.items }
+{
+    let mut world = PlainWorld::<BuiltIn>::new(alloc)?;
+    let mut sink = MemSink::new(alloc, 4096, 4096, Vec::new(alloc))?;
+    let _ = replay(alloc, job, flags, calls, &mut world, &mut sink);
+    Ok(sink.bytes().to_vec(alloc)?)
+}
+
+// Checks whether `call` reads this snapshot.
+fn reads(call: &Entry, frame: Option<Name>) -> bool {
+    match &call.request {
+        Request::Read { name, .. } => frame == Some(*name),
+        _ => false,
+    }
+}
+
+// Runs the script of a job. Returns its calls without the reads of frames, and the bytes that are written.
+fn run_with_calls(
+    alloc: Global,
+    job: &Job,
+    flags: Flags,
+) -> Result<(Vec<(Caller, Request)>, Vec<u8>), Fail>
+    requires few { length job.now.program.states.items ≤ 256 }
+{
+    let plain = PlainWorld::<BuiltIn>::new(alloc)?;
+    let mut world = LogWorld::new(alloc, plain);
+    let mut sink = MemSink::new(alloc, 4096, 4096, Vec::new(alloc))?;
+    let _ = run_script(alloc, job, flags, &mut world, &mut sink);
+    let (_, entries) = world.into_parts();
+    let mut frame = None;
+    let mut calls = Vec::new(alloc);
+    for entry in entries {
+        if let Some((_, name)) = begun_frame(&entry) {
+            frame = Some(name);
+        }
+        if !reads(&entry, frame) {
+            calls.push((entry.caller, entry.request))?;
+        }
+    }
+    Ok((calls, sink.bytes().to_vec(alloc)?))
+}
+
+// Returns calls of `other` while a frame of `main` is open, and a frame of `other` after it.
+fn interleaved_calls(alloc: Global) -> Result<Vec<(Caller, Request)>, Fail> {
+    let (a, main, other) = (0, 0, 1);
+    let frame = || Request::TakeFor { watcher: 0 };
+    let read = |name| Request::Read { name, object: a };
+    let write = |name, value| Request::Write {
+        name,
+        object: a,
+        value: Value::Int(value),
+    };
+    let take = Request::Take {
+        parent: 0,
+        kind: Kind::Mutable,
+    };
+    Ok(vec![in alloc;
+        (main, frame()),
+        (other, write(0, 5)),
+        (other, take),
+        (other, write(2, 6)),
+        (other, Request::Apply { name: 2 }),
+        (main, read(0)),
+        (other, Request::TakeFor { watcher: 1 }),
+        (other, write(1, 9)),
+        (other, read(1)),
+        (main, Request::Dispose { name: 1 }),
+        (other, frame()),
+        (other, Request::Dispose { name: 3 }),
+    ]?)
+}
+
+// Parses a job.
+fn parse_job(alloc: Global, text: &[u8]) -> Result<Job, Fail> {
+    let (program, rest) = parse_program(alloc, text)?;
+    let program = check(alloc, program)?;
+    let script = script_of(alloc, rest, &program, false)?;
+    Ok(Job { program, script })
+}
+
+#[test]
+fn calls_made_again_write_the_same_lines(rt: HostRuntime) -> Result<(), Fail> {
+    let alloc = rt.alloc();
+    let job = parse_job(alloc, TWO_ACTORS)?;
+    assert!(rt; job.program.states().len() <= 256);
+    let plain = Flags {
+        ops: false,
+        json: false,
+    };
+    let all = Flags {
+        ops: true,
+        json: true,
+    };
+    for flags in [plain, all] {
+        let (calls, lines) = run_with_calls(alloc, &job, flags)?;
+        let made = make_calls(alloc, &job, &calls)?;
+        assert!(rt; is_in_turn(&made));
+        let again = lines_of(alloc, &job, flags, made)?;
+        assert!(rt; again == lines);
+    }
+    let made = make_calls(alloc, &job, &interleaved_calls(alloc)?)?;
+    assert!(rt; is_in_turn(&made));
+    let lines = lines_of(alloc, &job, plain, made)?;
+    assert!(rt; lines.as_slice() == INTERLEAVED_LINES);
+    Ok(())
+}
