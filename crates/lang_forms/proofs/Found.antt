@@ -1,7 +1,7 @@
 -- The first trees that are parsed have the forms.
 use Rattle.std.proofs.Common.{◌≡◌, ◌⊎◌, inl, inr, ℕ, List, ◌∷◌, length, Option, Some, None, Bool, true, false, cond, ℤ, refl, sym, ap, ◌∙◌, subst, codes}
 use Rattle.std.specs.Fmt.{signed_decimal}
-use Rattle.std.specs.Option.{option_map}
+use Rattle.std.specs.Option.{option_map, option_or}
 use Rattle.std.specs.Str.{bytes_eq}
 use Rattle.std.proofs.lemmas.Bool.{and_from}
 use Rattle.std.proofs.lemmas.Option.{cond_some}
@@ -21,7 +21,7 @@ use Rattle.lang_ast.specs.declared.syntax.Operator.{Operator}
 use Rattle.lang_ast.specs.declared.syntax.Operator.TheVariants as operator
 use Rattle.lang_limits.specs.Tokens.{fits}
 use Rattle.lang_forms.specs.Names.{is_name, all_fit, is_string, is_list_long}
-use Rattle.lang_forms.specs.Words.{type_word, policy_word, kind_word, operator_word, named, or_else, type_for_word, policy_for_word, kind_for_word, number_operator, truth_operator, list_operator, operator_for_word}
+use Rattle.lang_forms.specs.Words.{type_word, policy_word, kind_word, operator_word, named, type_for_word, policy_for_word, kind_for_word, number_operator, truth_operator, list_operator, operator_for_word}
 use Rattle.lang_forms.specs.Sketch.{Sketch, Fits, IsAtOffset}
 use Rattle.lang_forms.specs.Forms.{numbers, literal, literal_fits, plain_fits}
 use Rattle.lang_forms.specs.Readings.{◌>>=◌, choose, Seen, seen, is_end, word_of, name_of, type_of, policy_of, kind_of, operator_of, int_of, truth_of, plain_of, string_of, number_of_first, ints_of, literal_form, literal_of}
@@ -130,15 +130,15 @@ list_operator_found w o =
     named_some operator_word operator.Range o w _ (named_some operator_word operator.Push o w _ (named_some operator_word operator.Concat o w _ (
     named_some operator_word operator.Length o w _ (named_some operator_word operator.At o w _ (no_word operator_word o w))))))))
 
-or_else_some : {A : Type 0} (o other : Option A) (a : A) → or_else o other ≡ Some a → (o ≡ Some a) ⊎ (other ≡ Some a)
-or_else_some None other a h = inr h
-or_else_some (Some b) other a h = inl h
+option_or_some : {A : Type 0} (o other : Option A) (a : A) → option_or o other ≡ Some a → (o ≡ Some a) ⊎ (other ≡ Some a)
+option_or_some None other a h = inr h
+option_or_some (Some b) other a h = inl h
 
 operator_word_found : (w : List ℕ) (o : Operator) → operator_for_word w ≡ Some o → w ≡ operator_word o
 unfolding operator_for_word
-operator_word_found w o h = elim (or_else_some (number_operator w) _ o h) [
+operator_word_found w o h = elim (option_or_some (number_operator w) _ o h) [
   | inl x ↦ number_operator_found w o x
-  | inr x ↦ elim (or_else_some (truth_operator w) (list_operator w) o x) [
+  | inr x ↦ elim (option_or_some (truth_operator w) (list_operator w) o x) [
     | inl y ↦ truth_operator_found w o y
     | inr y ↦ list_operator_found w o y
   ]

@@ -1,5 +1,6 @@
 -- Trusted: the keywords of types, policies, kinds of snapshots and operators, and how many operands an operator has.
 use Rattle.std.specs.Prelude.{ℕ, ◌==◌, List, Bool, true, Option, Some, None, codes, if◌then◌else◌}
+use Rattle.std.specs.Option.{option_or}
 use Rattle.std.specs.Str.{bytes_eq}
 use Rattle.rt_values.specs.declared.value.Ty.{Ty}
 use Rattle.rt_values.specs.declared.value.Ty.TheVariants as ty
@@ -115,11 +116,6 @@ list_operator w =
     (named (codes "push") operator.Push w (named (codes "concat") operator.Concat w (
     named (codes "len") operator.Length w (named (codes "at") operator.At w None)))))))
 
--- The first value, if there is one, and else the other.
-abbrev pub or_else : {A : Type 0} → Option A → Option A → Option A
-or_else None other = other
-or_else (Some a) other = Some a
-
 -- The operator of a keyword.
 unfoldable pub operator_for_word : List ℕ → Option Operator
-operator_for_word w = or_else (number_operator w) (or_else (truth_operator w) (list_operator w))
+operator_for_word w = option_or (number_operator w) (option_or (truth_operator w) (list_operator w))

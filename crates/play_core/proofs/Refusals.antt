@@ -1,6 +1,6 @@
 -- The fault of rejected bytes, both ways.
 use Rattle.std.proofs.Common.{◌≡◌, ◌≢◌, ◌⊎◌, ◌≤◌, ℕ, List, Bool, true, false, Option, Some, None, refl, ap, ◌∙◌, subst, length, Ok, Err, OnOk, inl, inr, sym}
-use Rattle.std.specs.Option.{option_map}
+use Rattle.std.specs.Option.{option_map, option_or}
 use Rattle.std.specs.declared.result.Result.{Result}
 use Rattle.sexp_text.specs.Forest.{Forest, nesting}
 use Rattle.sexp_text.specs.Grammar.{Spells}
@@ -25,7 +25,7 @@ use Rattle.script_lang.specs.ScriptFaults.{script_refusal}
 use Rattle.script_lang.specs.declared.faults.ScriptStop.{ScriptStop}
 use Rattle.script_lang.specs.declared.faults.ScriptStop.TheVariants as script
 use Rattle.play_core.specs.StageFaults.{text_end, check_kind, check_end, script_end}
-use Rattle.play_core.specs.Faults.{or_else, IsFaultAt, IsFault, IsRefused, reading_refusal}
+use Rattle.play_core.specs.Faults.{IsFaultAt, IsFault, IsRefused, reading_refusal}
 use Rattle.play_core.specs.ParserRefusal.{refusal}
 use Rattle.play_core.specs.Texts.{IsNoText}
 use Rattle.play_core.specs.declared.fault.Fault.{Fault}
@@ -88,7 +88,7 @@ later-script (Some (script.Type at)) fault e = later-bad (record { kind = «Type
 later-script (Some (script.Actor at)) fault e = later-bad (record { kind = Actor; at = at }) fault refl e
 later-script (Some script.NoMemory) fault e = absurd cc
 
-later-check : (o : Option checks.ProgramFault) (p : Option ScriptStop) → IsLater (or_else (option_map (λ f. check_end (check.ProgramFault f)) o) (option_map script_end p))
+later-check : (o : Option checks.ProgramFault) (p : Option ScriptStop) → IsLater (option_or (option_map (λ f. check_end (check.ProgramFault f)) o) (option_map script_end p))
 later-check None p fault e = later-script p fault e
 later-check (Some f) p fault e = later-bad (record { kind = check_kind f.kind; at = f.at }) fault (later-kind f.kind) e
 

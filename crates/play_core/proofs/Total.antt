@@ -1,7 +1,7 @@
 -- Bytes are a source text or have a fault.
 use Rattle.std.proofs.Common.{◌≡◌, ◌≢◌, ◌⊎◌, ◌≤◌, ◌∙◌, ℕ, List, Bool, true, false, Option, Some, None, Ok, Err, refl, ap, inl, inr, length}
 use Rattle.std.specs.declared.result.Result.{Result}
-use Rattle.std.specs.Option.{option_map}
+use Rattle.std.specs.Option.{option_map, option_or}
 use Rattle.std.specs.Str.{is_utf8}
 use Rattle.std.proofs.lemmas.Str.{IsUtf8-from_is_utf8, is_utf8-from_IsUtf8}
 use Rattle.sexp_text.specs.Forest.{Forest, nesting}
@@ -27,7 +27,7 @@ use Rattle.script_lang.specs.ScriptFaults.{script_refusal}
 use Rattle.script_lang.specs.declared.faults.ScriptStop.{ScriptStop}
 use Rattle.script_lang.specs.declared.faults.ScriptStop.TheVariants as script
 use Rattle.play_core.specs.StageFaults.{check_fault, check_end, script_end}
-use Rattle.play_core.specs.Faults.{IsFault, or_else, reading_refusal}
+use Rattle.play_core.specs.Faults.{IsFault, reading_refusal}
 use Rattle.play_core.specs.ParserRefusal.{refusal}
 use Rattle.play_core.specs.Texts.{IsText}
 use Rattle.play_core.specs.declared.fault.Fault.{Fault}
@@ -66,7 +66,7 @@ module _ (threads : Bool) (bytes : List ℕ) (f : Forest) (spelled : Spells byte
       script_refusal threads t.program.states beyond t.script ≡ p → refusal threads (length bytes) f ≡ option_map script_end p
   later t e h p k =
       ap (reading_refusal threads beyond) e
-      ∙ ap (λ o. or_else (option_map (λ x. check_end (check.ProgramFault x)) o) (option_map script_end (script_refusal threads t.program.states beyond t.script))) h
+      ∙ ap (λ o. option_or (option_map (λ x. check_end (check.ProgramFault x)) o) (option_map script_end (script_refusal threads t.program.states beyond t.script))) h
       ∙ ap (option_map script_end) k
 
   rejected : (fault : Fault) → refusal threads (length bytes) f ≡ Some (Bad fault) → Answer threads bytes
@@ -74,7 +74,7 @@ module _ (threads : Bool) (bytes : List ℕ) (f : Forest) (spelled : Spells byte
 
   checked : (t : Source) → text_answer (length bytes) f ≡ Ok t → (o : Option checks.ProgramFault) → least_fault (program_faults t.program) ≡ o →
       (p : Option ScriptStop) → script_refusal threads t.program.states beyond t.script ≡ p → Answer threads bytes
-  checked t e (Some g) h p k = rejected (check_fault g) (ap (reading_refusal threads beyond) e ∙ ap (λ o. or_else (option_map (λ x. check_end (check.ProgramFault x)) o) (option_map script_end (script_refusal threads t.program.states beyond t.script))) h)
+  checked t e (Some g) h p k = rejected (check_fault g) (ap (reading_refusal threads beyond) e ∙ ap (λ o. option_or (option_map (λ x. check_end (check.ProgramFault x)) o) (option_map script_end (script_refusal threads t.program.states beyond t.script))) h)
   checked t e None h None k =
       inl (t, is_text threads bytes f t beyond spelled shallow (forms_answer (λ s. s) (length bytes) f (Ok t) e) (small_answers (λ s. s) (length bytes) f (Ok t) e) refl (no_answer _ h) k)
   checked t e None h (Some (script.Limit at)) k = rejected (record { kind = Limit; at = at }) (later t e h (Some (script.Limit at)) k)

@@ -1,6 +1,6 @@
 -- Bytes are the source text of at most one program with its script, and a source text is not rejected.
 use Rattle.std.proofs.Common.{Bool, ◌≡◌, ◌≤◌, ℕ, List, [], ◌∷◌, ◌++◌, Option, Some, None, Ok, refl, sym, ◌∙◌, subst, ap, length, map, slice_get, inl, inr}
-use Rattle.std.specs.Option.{option_map}
+use Rattle.std.specs.Option.{option_map, option_or}
 use Rattle.std.proofs.lemmas.Option.{slice_get_cases}
 use Rattle.std.proofs.lemmas.List.{length-map}
 use Rattle.sexp_text.specs.Forest.{Forest, nesting}
@@ -28,7 +28,7 @@ use Rattle.lang_checks.specs.declared.checks.CheckStop.TheVariants as check
 use Rattle.script_lang.specs.ScriptFaults.{script_faults, script_refusal, first_of_faults}
 use Rattle.script_lang.proofs.FirstFault.{no_fault}
 use Rattle.play_core.specs.StageFaults.{check_end, script_end}
-use Rattle.play_core.specs.Faults.{or_else, source_refusal, reading_refusal}
+use Rattle.play_core.specs.Faults.{source_refusal, reading_refusal}
 use Rattle.play_core.specs.ParserRefusal.{refusal}
 use Rattle.play_core.specs.Texts.{IsText, IsNoText}
 use Rattle.play_core.specs.declared.text.TextEnd.{TextEnd}
@@ -62,7 +62,7 @@ module _ (threads : Bool) where
   fine-forest end f t forms small brief sound runs =
       ap (reading_refusal threads (least (oversized_script_offsets f))) (read-as end f t forms small brief)
       ∙ ap (λ places. source_refusal threads (least places) t) brief
-      ∙ ap (λ fs. or_else (option_map (λ g. check_end (check.ProgramFault g)) (least_fault fs)) (option_map script_end (script_refusal threads t.program.states None t.script))) sound
+      ∙ ap (λ fs. option_or (option_map (λ g. check_end (check.ProgramFault g)) (least_fault fs)) (option_map script_end (script_refusal threads t.program.states None t.script))) sound
       ∙ ap (λ fs. option_map script_end (first_of_faults None fs)) runs
 
   -- A source text is not rejected.

@@ -2,7 +2,7 @@
 use Rattle.std.specs.Prelude.{◌≡◌, ◌≤◌, ℕ, List, ◌++◌, Bool, length, codes, Some, None, Result, Ok, Err}
 use Rattle.std.specs.Fmt.{decimal}
 use Rattle.std.specs.declared.option.Option.{Option}
-use Rattle.std.specs.Option.{option_map}
+use Rattle.std.specs.Option.{option_map, option_or}
 use Rattle.rt_streams.specs.Streams.{AppendsPart}
 use Rattle.sexp_text.specs.Forest.{Forest, nesting}
 use Rattle.sexp_text.specs.Grammar.{Spells}
@@ -27,17 +27,12 @@ use Rattle.play_core.specs.declared.fault.FaultKind.TheVariants.{Utf8, Text, Dee
 use Rattle.play_core.specs.declared.text.TextEnd.{TextEnd}
 use Rattle.play_core.specs.declared.text.TextEnd.TheVariants as end
 
--- The first option if it is present, else the second.
-abbrev pub or_else : {A : Type 0} → Option A → Option A → Option A
-or_else None other = other
-or_else (Some a) other = Some a
-
 -- Why a program with a script is rejected: the first fault of the program, else that of the script. `first_oversized` is
 -- the offset of the first token of the script that exceeds its limit. `threads`: whether each actor has snapshot names of
 -- its own.
 abbrev pub source_refusal : Bool → Option ℕ → Source → Option TextEnd
 source_refusal threads first_oversized t =
-    or_else (option_map (λ f. check_end (check.ProgramFault f)) (least_fault (program_faults t.program)))
+    option_or (option_map (λ f. check_end (check.ProgramFault f)) (least_fault (program_faults t.program)))
     (option_map script_end (script_refusal threads t.program.states first_oversized t.script))
 
 -- Why parsed forms are rejected: they are not those of a program with a script, the program exceeds a limit, or the
