@@ -1,10 +1,10 @@
 // Chains of records in a slab.
-ghost use Rattle.std.specs.Prelude.{◌≡◌, ◌≢◌, ◌<◌, ◌+◌, ◌-◌, ℕ, List, [], ◌∷◌, Option, Some, None, length, slice_get, slice_set, slice_index_or, true, IfOk, OnOk, OnErr, IsSome, IfSome, IfNone, if◌then◌else◌, not, ◌&&◌};
+ghost use Rattle.std.specs.Prelude.{◌≡◌, ◌≢◌, ◌<◌, ◌+◌, ◌-◌, ℕ, Bool, List, [], ◌∷◌, Option, Some, None, length, slice_get, slice_set, slice_index_or, true, IfOk, OnOk, OnErr, IsSome, IfSome, IfNone, if◌then◌else◌, not, ◌&&◌};
 ghost use Rattle.rt_values.specs.Maps.{contains};
 ghost use Rattle.slab.specs.Slab.{get};
 ghost use Rattle.snap_records.specs.Places.{ArePlaced, AreOnce};
 ghost use Rattle.snap_ids.specs.IdLists.{is_valid};
-ghost use Rattle.snap_records.specs.Edits.{higher_record, is_valid_except, readable};
+ghost use Rattle.snap_records.specs.Edits.{better_of, is_valid_except, readable};
 ghost use Rattle.std.specs.Option.{option_map};
 
 use crate::{KeptIds, Keys, RecordNo, Slot};
@@ -199,14 +199,25 @@ impl Chains {
         Ok(x)
     }
 
+    // Returns whether the id of `r` is lower than that of `best`. Then `best` is kept, whether `r` is valid or not.
+    fn is_lower(&self, r: RecordNo, best: Option<RecordNo>) -> bool
+        requires there { IsSome (get self.now.slots r.0) }
+        requires behind { IfSome best (λ b. IsSome (get self.now.slots b.0)) }
+        ensures { result ≡ true → (is_valid : Bool) → better_of is_valid (record_at self.now r.0)
+            (option_map (λ b. record_at self.now b.0) best) ≡ option_map (λ b. record_at self.now b.0) best }
+    {
+        match best {
+            Some(other) => self.id(r) < self.id(other),
+            None => false,
+        }
+    }
+
     // Returns `r` if it is valid for the reader and its id is higher than that of `best`, and else `best`.
     fn better(&self, r: RecordNo, best: Option<RecordNo>, is_valid: bool) -> Option<RecordNo>
         requires there { IsSome (get self.now.slots r.0) }
         requires behind { IfSome best (λ b. IsSome (get self.now.slots b.0)) }
         ensures is { option_map (λ b. record_at self.now b.0) result
-            ≡ (if is_valid then Some (higher_record
-            (record_at self.now r.0) (option_map (λ b. record_at self.now b.0) best)) else option_map
-            (λ b. record_at self.now b.0) best) }
+            ≡ better_of is_valid (record_at self.now r.0) (option_map (λ b. record_at self.now b.0) best) }
         ensures there { IfSome result (λ b. IsSome (get self.now.slots b.0)) }
     {
         if !is_valid {
@@ -216,6 +227,59 @@ impl Chains {
             Some(other) if self.id(r) < self.id(other) => best,
             _ => Some(r),
         }
+    }
+
+    // Returns `r` if it is valid for a snapshot and its id is not lower than that of `best`, and else `best`.
+    fn better_for(
+        &self,
+        r: RecordNo,
+        best: Option<RecordNo>,
+        id: u64,
+        invalid: &IdSet,
+    ) -> Option<RecordNo>
+        requires there { IsSome (get self.now.slots r.0) }
+        requires behind { IfSome best (λ b. IsSome (get self.now.slots b.0)) }
+        ensures is { option_map (λ b. record_at self.now b.0) result
+            ≡ better_of (is_valid id invalid.now (record_at self.now r.0).id) (record_at self.now r.0)
+            (option_map (λ b. record_at self.now b.0) best) }
+        ensures there { IfSome result (λ b. IsSome (get self.now.slots b.0)) }
+    {
+        if self.is_lower(r, best) {
+            return best;
+        }
+        self.better(r, best, valid(id, invalid, self.id(r)))
+    }
+
+    // Does what `better_for` does for a snapshot's view, and for its base, for which the ids `own` are invalid too.
+    fn better_for_both(
+        &self,
+        r: RecordNo,
+        view: Option<RecordNo>,
+        base: Option<RecordNo>,
+        id: u64,
+        invalid: &IdSet,
+        own: &IdSet,
+    ) -> (Option<RecordNo>, Option<RecordNo>)
+        requires there { IsSome (get self.now.slots r.0) }
+        requires view_there { IfSome view (λ b. IsSome (get self.now.slots b.0)) }
+        requires base_there { IfSome base (λ b. IsSome (get self.now.slots b.0)) }
+        ensures view { option_map (λ b. record_at self.now b.0) result.0
+            ≡ better_of (is_valid id invalid.now (record_at self.now r.0).id) (record_at self.now r.0)
+            (option_map (λ b. record_at self.now b.0) view) }
+        ensures base { option_map (λ b. record_at self.now b.0) result.1
+            ≡ better_of (is_valid_except own.now id invalid.now (record_at self.now r.0).id) (record_at self.now r.0)
+            (option_map (λ b. record_at self.now b.0) base) }
+        ensures view_there { IfSome result.0 (λ b. IsSome (get self.now.slots b.0)) }
+        ensures base_there { IfSome result.1 (λ b. IsSome (get self.now.slots b.0)) }
+    {
+        if self.is_lower(r, view) && self.is_lower(r, base) {
+            return (view, base);
+        }
+        let number = self.id(r);
+        let is_valid = valid(id, invalid, number);
+        let view = self.better(r, view, is_valid);
+        let base = self.better(r, base, except(own, number, is_valid));
+        (view, base)
     }
 
     /// Returns the readable record of object `x` for a snapshot id and its invalid set (`readable`).
@@ -230,7 +294,7 @@ impl Chains {
         while i > 0 {
             i -= 1;
             let r = self.at(x, i);
-            best = self.better(r, best, valid(id, invalid, self.id(r)));
+            best = self.better_for(r, best, id, invalid);
         }
         best
     }
@@ -281,10 +345,9 @@ impl Chains {
         while i > 0 {
             i -= 1;
             let r = self.at(x, i);
-            let number = self.id(r);
-            let is_valid = valid(id, invalid, number);
-            view = self.better(r, view, is_valid);
-            base = self.better(r, base, except(own, number, is_valid));
+            let both = self.better_for_both(r, view, base, id, invalid, own);
+            view = both.0;
+            base = both.1;
         }
         (view, base)
     }

@@ -1,8 +1,7 @@
-use Rattle.std.proofs.Common.{◌-◌, ◌∙◌, ap, ℕ, Bool, cond, Some, Option, arith}
+use Rattle.std.proofs.Common.{◌-◌, ◌∙◌, Option, arith}
 use Rattle.std.specs.Option.{option_map}
 use Rattle.snap_ids.specs.IdLists.{is_valid}
 use Rattle.snap_records.specs.Records.{Rec}
-use Rattle.snap_records.specs.Edits.{higher_record}
 use Rattle.snap_records.specs.Chains.{record_at, keys_at}
 use Rattle.snap_records.proofs.Finding.{one_nearer}
 use Rattle.snap_records.proofs.chains.Chains.readable.Goals as goal
@@ -10,10 +9,9 @@ use Rattle.snap_records.proofs.chains.Chains.readable.Goals as goal
 pub loop-i-preserved : goal.loop-i-preserved
 loop-i-preserved c =
     let s = c.args.self.now in
-    let sees = is_valid c.args.id c.args.invalid.now in
     let best : Option Rec = option_map (λ b. record_at s b.0) c.loop-i.best in
     record {
       within = omega (arith, c.loop-i.invariant.within);
-      is = c.better-best.ensures.is ∙ ap (λ (b : Bool). cond b (Some (higher_record (record_at s c.at-r.result.0) best)) best) (c.valid.ensures ∙ ap (λ (n : ℕ). sees n) c.id.ensures) ∙ one_nearer sees (λ key. record_at s key) (keys_at s c.args.x) c.loop-i.i (c.loop-i.i - 1) c.at-r.result.0 best c.at-r.ensures (omega (arith, c.loop-i-test.true)) c.loop-i.invariant.is;
-      there = c.better-best.ensures.there;
+      is = c.better_for-best.ensures.is ∙ one_nearer (is_valid c.args.id c.args.invalid.now) (λ key. record_at s key) (keys_at s c.args.x) c.loop-i.i (c.loop-i.i - 1) c.at-r.result.0 best c.at-r.ensures (omega (arith, c.loop-i-test.true)) c.loop-i.invariant.is;
+      there = c.better_for-best.ensures.there;
     }
