@@ -36,14 +36,22 @@ impl NameTable {
         self.numbers.get(name).copied()
     }
 
-    /// Gives `name` a number, in place of an earlier one.
+    /// Gives `name` a number, in place of an earlier one. Takes no memory if `name` has a number.
     pub fn put(&mut self, alloc: Global, name: &[u8], number: u64) -> Result<(), NoMemory>
         ensures { OnOk result ((other : List ℕ) → number_in self.new other ≡
             (if bytes_eq name.now other then Some number else number_in self.old other)) }
     {
-        let key = name.to_vec(alloc)?;
-        self.numbers.insert(key, number)?;
-        Ok(())
+        match self.numbers.get_mut(name) {
+            Some(kept) => {
+                *kept = number;
+                Ok(())
+            }
+            None => {
+                let key = name.to_vec(alloc)?;
+                self.numbers.insert(key, number)?;
+                Ok(())
+            }
+        }
     }
 
     /// Returns the number of the snapshot that a step is about: 0 for the global one, and `NEVER_TAKEN` for a name
