@@ -75,9 +75,13 @@ abbrev pub state_names : List State → List ℕ → List ℕ
 state_names states [] = []
 state_names states (x ∷ xs) = 32 ∷ state_name states x ++ state_names states xs
 
--- A snapshot is printed as @ and its number, or as @- for a number that is never assigned.
+-- The number of a snapshot as it is printed: - for a number that is never assigned.
+abbrev pub snapshot_number_text : ℕ → List ℕ
+snapshot_number_text name = if name == never_taken then codes "-" else decimal name
+
+-- A snapshot is printed as @ and its number.
 abbrev pub snapshot : ℕ → List ℕ
-snapshot name = if name == never_taken then codes "@-" else 64 ∷ decimal name
+snapshot name = 64 ∷ snapshot_number_text name
 
 abbrev pub kind_text : Kind → List ℕ
 kind_text Mutable = codes "mutable"

@@ -2,7 +2,7 @@
 ghost use Rattle.std.specs.Prelude.{◌≡◌, ◌++◌, ◌∷◌, [], List, ℕ, OnOk, codes};
 ghost use Rattle.std.specs.Fmt.{decimal};
 ghost use Rattle.rt_values.specs.Values.{value_text};
-ghost use Rattle.script_lang.specs.Lines.{Titles, titles_of, actor_name, state_name, state_names, snapshot, kind_text, type_text, request_text, refusal_text, reply_text, call_text, entry_line, line};
+ghost use Rattle.script_lang.specs.Lines.{Titles, titles_of, actor_name, state_name, state_names, snapshot, snapshot_number_text, kind_text, type_text, request_text, refusal_text, reply_text, call_text, entry_line, line};
 
 use crate::Script;
 use crate::names::NEVER_TAKEN;
@@ -12,7 +12,8 @@ use lang_checks::Checked;
 use rt_values::{Caller, Kind, Name, NoMemory, ObjectNo, Ty, Value, Word};
 use snap_api::{Entry, Refusal, Reply, Request};
 
-// Appends `piece`.
+// Appends `piece`. A piece of known length is copied without a call.
+#[inline(always)]
 pub fn add(text: &mut Vec<u8>, piece: &[u8]) -> Result<(), NoMemory>
     ensures { OnOk result (text.new.items ≡ text.old.items ++ piece.now) }
 {
@@ -21,6 +22,7 @@ pub fn add(text: &mut Vec<u8>, piece: &[u8]) -> Result<(), NoMemory>
 }
 
 // Appends the decimal digits of `number`.
+#[inline(always)]
 #[tactic(auto, using(crate::proofs::Texts::one_digit))]
 pub fn add_number(text: &mut Vec<u8>, number: u64) -> Result<(), NoMemory>
     ensures { OnOk result (text.new.items ≡ text.old.items ++ decimal number) }
@@ -29,6 +31,13 @@ pub fn add_number(text: &mut Vec<u8>, number: u64) -> Result<(), NoMemory>
         text.push(b'0' + number as u8)?;
         return Ok(());
     }
+    add_digits(text, number)
+}
+
+// Appends the decimal digits of a number with several digits.
+fn add_digits(text: &mut Vec<u8>, number: u64) -> Result<(), NoMemory>
+    ensures { OnOk result (text.new.items ≡ text.old.items ++ decimal number) }
+{
     let mut digits = Buffer::new();
     add(text, digits.format(number).as_bytes())
 }
@@ -66,24 +75,17 @@ fn add_states(text: &mut Vec<u8>, states: &[State], numbers: &[ObjectNo]) -> Res
     Ok(())
 }
 
+// Appends `words`, which end with @, and the number of a snapshot.
+#[inline(always)]
 #[tactic(auto, using(crate::proofs::Texts::joins))]
-fn add_snapshot(text: &mut Vec<u8>, name: Name) -> Result<(), NoMemory>
-    ensures { OnOk result (text.new.items ≡ text.old.items ++ snapshot name) }
+fn add_named(text: &mut Vec<u8>, words: &[u8], name: Name) -> Result<(), NoMemory>
+    ensures { OnOk result (text.new.items ≡ text.old.items ++ (words.now ++ snapshot_number_text name)) }
 {
+    add(text, words)?;
     if name == NEVER_TAKEN {
-        return add(text, b"@-");
+        return add(text, b"-");
     }
-    add(text, b"@")?;
     add_number(text, name)
-}
-
-fn kind_word(kind: Kind) -> &'static [u8]
-    ensures { result.now ≡ kind_text kind }
-{
-    match kind {
-        Kind::Mutable => b"mutable",
-        Kind::Readonly => b"readonly",
-    }
 }
 
 fn type_word(ty: Ty) -> &'static [u8]
@@ -97,41 +99,33 @@ fn type_word(ty: Ty) -> &'static [u8]
     }
 }
 
+// Appends what precedes a request, and the request.
 fn add_request(text: &mut Vec<u8>, states: &[State], request: &Request) -> Result<(), NoMemory>
-    ensures { OnOk result (text.new.items ≡ text.old.items ++ request_text states.now request.now) }
+    ensures { let words = codes ": " ++ request_text states.now request.now in
+        OnOk result (text.new.items ≡ text.old.items ++ words) }
 {
     match request {
         Request::Take { parent, kind } => add_take(text, *parent, *kind),
-        Request::TakeFor { watcher: _ } => add(text, b"frame"),
+        Request::TakeFor { watcher: _ } => add(text, b": frame"),
         Request::Read { name, object } => add_read(text, states, *name, *object),
         Request::Write {
             name,
             object,
             value,
         } => add_write(text, states, *name, *object, value),
-        Request::Apply { name } => add_named(text, b"apply ", *name),
-        Request::Dispose { name } => add_named(text, b"dispose ", *name),
+        Request::Apply { name } => add_named(text, b": apply @", *name),
+        Request::Dispose { name } => add_named(text, b": dispose @", *name),
     }
 }
 
-#[tactic(auto, using(crate::proofs::Texts::joins))]
 fn add_take(text: &mut Vec<u8>, parent: Name, kind: Kind) -> Result<(), NoMemory>
-    ensures { let words = codes "take " ++ kind_text kind ++ 32 ∷ snapshot parent in
+    ensures { let words = codes ": take " ++ kind_text kind ++ 32 ∷ snapshot parent in
         OnOk result (text.new.items ≡ text.old.items ++ words) }
 {
-    add(text, b"take ")?;
-    add(text, kind_word(kind))?;
-    add(text, b" ")?;
-    add_snapshot(text, parent)
-}
-
-// Appends a word and a snapshot.
-#[tactic(auto, using(crate::proofs::Texts::joins))]
-fn add_named(text: &mut Vec<u8>, word: &[u8], name: Name) -> Result<(), NoMemory>
-    ensures { OnOk result (text.new.items ≡ text.old.items ++ (word.now ++ snapshot name)) }
-{
-    add(text, word)?;
-    add_snapshot(text, name)
+    match kind {
+        Kind::Mutable => add_named(text, b": take mutable @", parent),
+        Kind::Readonly => add_named(text, b": take readonly @", parent),
+    }
 }
 
 #[tactic(auto, using(crate::proofs::Texts::joins))]
@@ -141,10 +135,10 @@ fn add_read(
     name: Name,
     object: ObjectNo,
 ) -> Result<(), NoMemory>
-    ensures { let words = codes "read " ++ snapshot name ++ 32 ∷ state_name states.now object in
+    ensures { let words = codes ": read " ++ snapshot name ++ 32 ∷ state_name states.now object in
         OnOk result (text.new.items ≡ text.old.items ++ words) }
 {
-    add_named(text, b"read ", name)?;
+    add_named(text, b": read @", name)?;
     add(text, b" ")?;
     add_state(text, states, object)
 }
@@ -157,16 +151,17 @@ fn add_write(
     object: ObjectNo,
     value: &Value,
 ) -> Result<(), NoMemory>
-    ensures { let words = codes "write " ++ snapshot name ++ 32 ∷ state_name states.now object ++ 32 ∷ value_text value.now in
+    ensures { let words = codes ": write " ++ snapshot name ++ 32 ∷ state_name states.now object ++ 32 ∷ value_text value.now in
         OnOk result (text.new.items ≡ text.old.items ++ words) }
 {
-    add_named(text, b"write ", name)?;
+    add_named(text, b": write @", name)?;
     add(text, b" ")?;
     add_state(text, states, object)?;
     add(text, b" ")?;
     value.put(text)
 }
 
+// Appends a reply, and LF.
 fn add_reply(
     text: &mut Vec<u8>,
     states: &[State],
@@ -174,38 +169,73 @@ fn add_reply(
     reply: &Reply,
 ) -> Result<(), NoMemory>
     ensures { let titles : Titles = record { states = states.now; actors = actors.now } in
-        OnOk result (text.new.items ≡ text.old.items ++ reply_text titles reply.now) }
+        OnOk result (text.new.items ≡ text.old.items ++ line (reply_text titles reply.now)) }
 {
     match reply {
-        Reply::Taken(name) => add_snapshot(text, *name),
-        Reply::TakenFor(name, changed) => add_taken(text, states, *name, changed.numbers()),
-        Reply::Got(value) => value.put(text),
+        Reply::Taken(name) => add_taken(text, *name),
+        Reply::TakenFor(name, changed) => add_changed(text, states, *name, changed.numbers()),
+        Reply::Got(value) => add_value(text, value),
         Reply::Wrote { changed } => {
             if *changed {
-                add(text, b"changed")
+                add(text, b"changed\n")
             } else {
-                add(text, b"same")
+                add(text, b"same\n")
             }
         }
-        Reply::Applied => add(text, b"applied"),
-        Reply::Disposed => add(text, b"disposed"),
-        Reply::Refused(refusal) => add_refusal(text, states, actors, *refusal),
+        Reply::Applied => add(text, b"applied\n"),
+        Reply::Disposed => add(text, b"disposed\n"),
+        Reply::Refused(refusal) => add_refusal_line(text, states, actors, *refusal),
     }
 }
 
+// Appends a snapshot that was taken, and LF.
 #[tactic(auto, using(crate::proofs::Texts::joins))]
-fn add_taken(
+fn add_taken(text: &mut Vec<u8>, name: Name) -> Result<(), NoMemory>
+    ensures { OnOk result (text.new.items ≡ text.old.items ++ line (snapshot name)) }
+{
+    add_named(text, b"@", name)?;
+    add(text, b"\n")
+}
+
+// Appends a snapshot that was taken for a watcher, the states that changed, and LF.
+#[tactic(auto, using(crate::proofs::Texts::joins))]
+fn add_changed(
     text: &mut Vec<u8>,
     states: &[State],
     name: Name,
     changed: &[ObjectNo],
 ) -> Result<(), NoMemory>
     ensures { let words = snapshot name ++ codes " changed" ++ state_names states.now changed.now in
-        OnOk result (text.new.items ≡ text.old.items ++ words) }
+        OnOk result (text.new.items ≡ text.old.items ++ line words) }
 {
-    add_snapshot(text, name)?;
+    add_named(text, b"@", name)?;
     add(text, b" changed")?;
-    add_states(text, states, changed)
+    add_states(text, states, changed)?;
+    add(text, b"\n")
+}
+
+// Appends a value that was read, and LF.
+#[tactic(auto, using(crate::proofs::Texts::joins))]
+fn add_value(text: &mut Vec<u8>, value: &Value) -> Result<(), NoMemory>
+    ensures { OnOk result (text.new.items ≡ text.old.items ++ line (value_text value.now)) }
+{
+    value.put(text)?;
+    add(text, b"\n")
+}
+
+// Appends a refusal, and LF.
+#[tactic(auto, using(crate::proofs::Texts::joins))]
+fn add_refusal_line(
+    text: &mut Vec<u8>,
+    states: &[State],
+    actors: &[Word],
+    refusal: Refusal,
+) -> Result<(), NoMemory>
+    ensures { let titles : Titles = record { states = states.now; actors = actors.now } in
+        OnOk result (text.new.items ≡ text.old.items ++ line (refusal_text titles refusal)) }
+{
+    add_refusal(text, states, actors, refusal)?;
+    add(text, b"\n")
 }
 
 fn add_refusal(
@@ -272,7 +302,6 @@ pub fn add_request_line(
         call_text (titles_of program.now script.now) caller request.now) }
 {
     add_actor(text, script.actors.as_slice(), caller)?;
-    add(text, b": ")?;
     add_request(text, program.states(), request)?;
     add(text, b" = ")
 }
@@ -288,8 +317,7 @@ pub fn add_reply_line(
     ensures { OnOk result (text.new.items ≡ text.old.items ++
         line (reply_text (titles_of program.now script.now) reply.now)) }
 {
-    add_reply(text, program.states(), script.actors.as_slice(), reply)?;
-    add(text, b"\n")
+    add_reply(text, program.states(), script.actors.as_slice(), reply)
 }
 
 /// Appends the line of a call and its reply: the actor, the request and the reply, with LF at the end. Returns

@@ -11,6 +11,7 @@ use std::alloc::Global;
 use std::marker::Model;
 
 // Appends a word and a number.
+#[inline(always)]
 #[tactic(auto, unfolding(crate::specs::Lines::count_text), using(crate::proofs::Texts::joins))]
 fn add_count(text: &mut Vec<u8>, word: &[u8], count: u64) -> Result<(), NoMemory>
     ensures { OnOk result (text.new.items ≡ text.old.items ++ count_text word.now count) }
