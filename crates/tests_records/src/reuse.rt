@@ -72,6 +72,36 @@ fn the_lowest_record_without_readers_is_reusable(rt: HostRuntime) -> Result<(), 
     Ok(())
 }
 
+#[test]
+fn records_that_readers_with_invalid_ids_read_are_not_reusable(
+    rt: HostRuntime,
+) -> Result<(), Fail> {
+    let alloc = rt.alloc();
+    let mut chains = Chains::new(alloc);
+    let x = chains.add_object(alloc)?;
+    assert_eq!(rt; x, 0);
+    chains.prepend(x, 2, Value::Int(20), 2)?;
+    chains.prepend(x, 5, Value::Int(50), 5)?;
+    let last = chains.prepend(x, 7, Value::Int(70), 7)?;
+    let mut readers = readers_of(alloc, &[6])?;
+    let found = reusable(&chains, x, &readers).map(|r| chains.id(r));
+    assert_eq!(rt; found, Some(2));
+    // For this reader id 5 is invalid, so it reads the record with id 2.
+    readers.push(Reader {
+        id: 6,
+        invalid: IdSet::of(alloc, 5)?,
+    })?;
+    readers.push(Reader {
+        id: 9,
+        invalid: IdSet::new(alloc),
+    })?;
+    assert!(rt; reusable(&chains, x, &readers).is_none());
+    chains.invalidate(last);
+    let found = reusable(&chains, x, &readers).map(|r| chains.id(r));
+    assert_eq!(rt; found, Some(0));
+    Ok(())
+}
+
 // Writes a value of object 0 in global, and takes a readonly snapshot of global.
 fn write_and_take(
     alloc: Global,
