@@ -1,4 +1,6 @@
 // The nodes of a node tree.
+ghost use Rattle.std.specs.Prelude.{◌≡◌, [], IfOk};
+ghost use Rattle.node_tree.specs.KeptNodes.{kept_value, NoNode};
 
 use crate::ops::NodeAttributes;
 use rt_values::{NoMemory, Word};
@@ -46,7 +48,9 @@ impl Model for KeptNode {
 
 impl KeptNode {
     // Returns a node that holds nothing.
-    pub(crate) fn empty(alloc: Global) -> Result<Self, NoMemory> {
+    pub(crate) fn empty(alloc: Global) -> Result<Self, NoMemory>
+        ensures { IfOk result (λ k. k ≡ kept_value 0 [] [] NoNode NoNode NoNode) }
+    {
         Ok(KeptNode {
             number: 0,
             kind: Word::of(alloc, &[])?,
