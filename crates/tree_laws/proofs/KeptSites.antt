@@ -11,11 +11,11 @@ use Rattle.recompose_laws.specs.Distinct.{has_number, how_often, AreDistinct, No
 use Rattle.recompose_laws.proofs.Numbers.{path_numbers_are_sibling_numbers}
 
 -- 1 if a group is a node with the number at another site, else 0.
-abbrev strays : ℕ → ℕ → ℕ → ℕ → GroupKind → ℕ
+abbrev pub strays : ℕ → ℕ → ℕ → ℕ → GroupKind → ℕ
 strays x s site n what = if site == s then 0 else has_number x n what
 
 -- The count of nodes with the number at other sites.
-abbrev elsewhere : ℕ → ℕ → GroupForest → ℕ
+abbrev pub elsewhere : ℕ → ℕ → GroupForest → ℕ
 elsewhere x s End = 0
 elsewhere x s (Read y rest) = elsewhere x s rest
 elsewhere x s (Group site n what inside rest) = strays x s site n what + (elsewhere x s inside + elsewhere x s rest)
@@ -59,7 +59,7 @@ only_at x s (Group site n what inside rest) e = (
 )
 
 -- A part of a forest: outside of it no fewer nodes have the number than have it at other sites.
-abbrev IsPart : GroupForest → GroupForest → Type 0
+abbrev pub IsPart : GroupForest → GroupForest → Type 0
 IsPart u w = (x s : ℕ) → how_often x u + elsewhere x s w ≤ how_often x w + elsewhere x s u
 
 inside_part : (w u : GroupForest) (site n : ℕ) (what : GroupKind) (inside rest : GroupForest) → u ≡ Group site n what inside rest → IsPart u w → IsPart inside w
@@ -70,13 +70,13 @@ inside_part w u site n what inside rest e part x s =
     omega (arith, whole, here, later)
 
 -- What a look-up among the groups of a part finds.
-record FoundGroup (at_site : ℕ → Bool) (s : GroupKey) (u : GroupForest) (g : Found) : Type 0 where
-  is_node_at : is_node g.what ≡ at_site s.site
-  sites : NodesAt at_site g.inside
-  one : (x : ℕ) → has_number x g.number g.what + elsewhere x s.site u ≤ how_often x u
-  part : (w : GroupForest) → IsPart u w → IsPart g.inside w
+pub record FoundGroup (at_site : ℕ → Bool) (s : GroupKey) (u : GroupForest) (g : Found) : Type 0 where
+  pub is_node_at : is_node g.what ≡ at_site s.site
+  pub sites : NodesAt at_site g.inside
+  pub one : (x : ℕ) → has_number x g.number g.what + elsewhere x s.site u ≤ how_often x u
+  pub part : (w : GroupForest) → IsPart u w → IsPart g.inside w
 
-abbrev IsFound : (ℕ → Bool) → GroupKey → GroupForest → Option Found → Type 0
+abbrev pub IsFound : (ℕ → Bool) → GroupKey → GroupForest → Option Found → Type 0
 IsFound at_site s u None = Unit {0}
 IsFound at_site s u (Some g) = FoundGroup at_site s u g
 
@@ -116,7 +116,7 @@ found_here at_site s site n what inside rest e h =
       part = λ w part. inside_part w (Group site n what inside rest) site n what inside rest refl part;
     }
 
-found_in : (at_site : ℕ → Bool) (s : GroupKey) (k : ℕ) (u : GroupForest) → NodesAt at_site u → IsFound at_site s u (matching_sibling s k u)
+pub found_in : (at_site : ℕ → Bool) (s : GroupKey) (k : ℕ) (u : GroupForest) → NodesAt at_site u → IsFound at_site s u (matching_sibling s k u)
 found_in at_site s k End h = tt
 found_in at_site s k (Read y rest) h = by (matching_sibling s k rest) (found_in at_site s k rest h)
   where
@@ -137,13 +137,13 @@ found_inside : (at_site : ℕ → Bool) (s : GroupKey) (u w : GroupForest) (o : 
 found_inside at_site s u w None f part = λ x q. let some = elsewhere_is_some x q w in omega (arith, some)
 found_inside at_site s u w (Some g) f part = f.part w part
 
-found_sites : (at_site : ℕ → Bool) (s : GroupKey) (u : GroupForest) (o : Option Found) → IsFound at_site s u o → NodesAt at_site (inside_of o)
+pub found_sites : (at_site : ℕ → Bool) (s : GroupKey) (u : GroupForest) (o : Option Found) → IsFound at_site s u o → NodesAt at_site (inside_of o)
 found_sites at_site s u None f = tt
 found_sites at_site s u (Some g) f = f.sites
 
 -- Unused numbers rise.
 
-number_rises : (what : GroupKind) (o : Option Found) (next : ℕ) → next ≤ (number_of what o next).1
+pub number_rises : (what : GroupKind) (o : Option Found) (next : ℕ) → next ≤ (number_of what o next).1
 number_rises what o next = by (is_node what) o
   where
     by : (b : Bool) (o : Option Found) → next ≤ (if b then number_for o next else (0, next)).1
@@ -151,7 +151,7 @@ number_rises what o next = by (is_node what) o
     by true (Some g) = omega arith
     by false o = omega arith
 
-next_rises : (old : GroupForest) (seen : List GroupKey) (next : ℕ) (t : GroupForest) → next ≤ (numbered_by_siblings old seen next t).1
+pub next_rises : (old : GroupForest) (seen : List GroupKey) (next : ℕ) (t : GroupForest) → next ≤ (numbered_by_siblings old seen next t).1
 next_rises old seen next End = omega arith
 next_rises old seen next (Read y rest) = next_rises old seen next rest
 next_rises old seen next (Group site n what inside rest) =

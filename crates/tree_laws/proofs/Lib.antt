@@ -1,5 +1,6 @@
 pub mod StatementSites
 pub mod ToldForests
 pub mod KeptSites
+pub mod GivenNumbers
 pub mod ForestTrees
 pub mod KeptShapes
