@@ -1,16 +1,18 @@
 -- The calls of a frame on an applier.
-use Rattle.std.proofs.Common.{◌≡◌, ℕ, List, [], ◌∷◌, ◌++◌, refl, sym, ap, ◌∙◌, subst, inl, inr, Bool, true, false, not, ◌&&◌, ◌==◌, nat_lt, length, Option, Some, None, if◌then◌else◌}
+use Rattle.std.proofs.Common.{◌≡◌, ℕ, zero, suc, ◌+◌, ◌≤◌, List, [], ◌∷◌, ◌++◌, refl, sym, ap, ◌∙◌, subst, inl, inr, Bool, true, false, not, ◌&&◌, ◌==◌, nat_lt, length, Option, Some, None, if◌then◌else◌, eq-eqb, arith}
+use Rattle.std.proofs.lemmas.Bool.{le-ltb, lt-ltb}
 use Rattle.std.specs.Option.{option_map, is_none}
 use Rattle.rt_values.specs.Maps.{Map}
-use Rattle.rt_groups.specs.GroupForest.{GroupForest, End}
-use Rattle.rt_groups.specs.Nodes.{Nodes, nodes}
+use Rattle.rt_groups.specs.GroupForest.{GroupForest, End, Read, Group, GroupKind, Call, Node, Key, Cell}
+use Rattle.rt_groups.specs.Nodes.{Nodes, joined_nodes, group_nodes, nodes}
 use Rattle.rt_groups.specs.Nodes as tree
 use Rattle.rt_groups.specs.Frames.{LastFrame, numbered_forest}
 use Rattle.lang_ast.specs.SyntaxView.{functions_view}
 use Rattle.lang_checks.specs.declared.checks.Checked.{Checked}
 use Rattle.compose_model.specs.Composing.{forest}
 use Rattle.compose_model.specs.Frame.{FrameResult}
-use Rattle.recompose_laws.specs.Distinct.{AreDistinct}
+use Rattle.recompose_laws.specs.Distinct.{has_number, how_often, AreDistinct}
+use Rattle.recompose_laws.proofs.Refreshes.{split_at}
 use Rattle.node_tree.specs.declared.ops.Op.{Op}
 use Rattle.node_tree.specs.declared.ops.Op.TheVariants as op
 use Rattle.node_tree.specs.NodeTrees.{CursorTree, tree_at_root}
@@ -22,10 +24,11 @@ use Rattle.node_tree.proofs.SameLevels.{unchanged_tree_needs_no_calls}
 use Rattle.tree_laws.specs.FollowingTrees.{WasComposed}
 use Rattle.tree_laws.proofs.ForestTrees.{kept_tree_is_distinct}
 use Rattle.tree_laws.proofs.KeptShapes.{next_tree_can_follow}
+use Rattle.tree_laws.proofs.GivenNumbers.{numbers_are_not_given_again}
 use Rattle.composer.specs.OwedObjects.{OwedObjects}
 use Rattle.composer.specs.FrameDrafts.{functions_of, root_of}
 use Rattle.recomposer.specs.AppliedFrames.{is_detached, frame_ops, Mirrors, MayCall, tree_after_frame, Applies}
-use Rattle.recomposer.specs.Compositions.{Owes}
+use Rattle.recomposer.specs.Compositions.{Owes, CountsFromOne}
 
 -- What is kept was composed, and everything is owed exactly if nothing is kept.
 
@@ -38,6 +41,14 @@ pub next_follows : (p : Checked) (k : LastFrame) (last : Option Map) (m : Map) (
     let new = numbered_forest k.trail [] [] k.next (forest (functions_of p) (root_of p) m) in Follows (nodes k.trail) (nodes new.0) × AreDistinct new.0 new.1
 next_follows p k last m owed h d =
     next_tree_can_follow (record { header = p.header; states = p.states.items; functions = functions_view p.functions.items }) (root_of p) k.trail k.next m p.numbered p.fine (was_composed p k.seen k.trail last owed h) d
+
+pub still_from_one : (p : Checked) (k : LastFrame) (last : Option Map) (m : Map) (owed : OwedObjects) → Owes p k.seen k.trail last owed → CountsFromOne k →
+    let new = numbered_forest k.trail [] [] k.next (forest (functions_of p) (root_of p) m) in (1 ≤ new.1) × (how_often 0 new.0 ≡ 0)
+still_from_one p k last m owed h one =
+    let given = numbers_are_not_given_again (record { header = p.header; states = p.states.items; functions = functions_view p.functions.items }) (root_of p) k.trail k.next m p.numbered p.fine (was_composed p k.seen k.trail last owed h) in
+    let rises = given.0 in
+    let first = one.0 in
+    (omega (arith, rises, first), given.1 0 (omega (arith, first)) one.1)
 
 pub all_is_owed : (p : Checked) (seen : Option Map) (trail : GroupForest) (last : Option Map) (owed : OwedObjects) → Owes p seen trail last owed → owed.all ≡ is_none seen
 all_is_owed p None trail last owed h = h.1
@@ -119,3 +130,47 @@ applied_nothing now k good distinct attached same = record {
 -- Nothing is owed.
 pub is_nothing_owed : (all result : Bool) (objects : List ℕ) → result ≡ (not all && (length objects == 0)) → all ≡ false → objects ≡ [] → result ≡ true
 is_nothing_owed all result objects is none nothing = is ∙ ap (λ (b : Bool). not b && (length objects == 0)) none ∙ ap (λ (l : List ℕ). length l == 0) nothing
+
+-- A fault needs a call, so a node that has a number.
+
+no_node : (t : GroupForest) → ((x : ℕ) → how_often x t ≡ 0) → nodes t ≡ tree.None
+no_node End none = refl
+no_node (Read x rest) none = no_node rest none
+no_node (Group site n what inside rest) none =
+    join what (no_node inside (λ x. let e = none x in omega (arith, e))) (no_node rest (λ x. let e = none x in omega (arith, e))) (none n)
+  where
+    join : (what : GroupKind) → nodes inside ≡ tree.None → nodes rest ≡ tree.None → has_number n n what + (how_often n inside + how_often n rest) ≡ 0 → joined_nodes (group_nodes what n (nodes inside)) (nodes rest) ≡ tree.None
+    join (Call f vs) deep later e = ap (λ (t : Nodes). joined_nodes t (nodes rest)) deep ∙ later
+    join (Node kind attributes) deep later e =
+        let here : has_number n n (Node kind attributes) ≡ 1 = ap {B = ℕ} (λ b. if b then 1 else 0) (eq-eqb n n refl) in
+        absurd (omega (arith, here, e))
+    join (Key v) deep later e = ap (λ (t : Nodes). joined_nodes t (nodes rest)) deep ∙ later
+    join (Cell ks v) deep later e = ap (λ (t : Nodes). joined_nodes t (nodes rest)) deep ∙ later
+
+-- A forest has no node if its numbers begin at 1 and the next one is 1.
+no_number : (t : GroupForest) (next : ℕ) → AreDistinct t next → how_often 0 t ≡ 0 → next ≤ 1 → (x : ℕ) → how_often x t ≡ 0
+no_number t next distinct none low zero = none
+no_number t next distinct none low (suc x) = (distinct (suc x)).1 (omega (arith, low))
+
+pub detached_if_called : (p : Checked) (k : LastFrame) (last : Option Map) (m : Map) (owed : OwedObjects) → Owes p k.seen k.trail last owed → AreDistinct k.trail k.next → CountsFromOne k →
+    let new = numbered_forest k.trail [] [] k.next (forest (functions_of p) (root_of p) m) in (frame_ops k new.0 ≡ [] → ⊥) → nat_lt 1 new.1 ≡ true
+detached_if_called p k last m owed h distinct one some =
+    let new = numbered_forest k.trail [] [] k.next (forest (functions_of p) (root_of p) m) in
+    let given = numbers_are_not_given_again (record { header = p.header; states = p.states.items; functions = functions_view p.functions.items }) (root_of p) k.trail k.next m p.numbered p.fine (was_composed p k.seen k.trail last owed h) in
+    let apart = (next_follows p k last m owed h distinct).1 in
+    let zero_new = (still_from_one p k last m owed h one).1 in
+    elim (split_at 1 new.1) [
+      | inl more ↦ lt-ltb 1 new.1 more
+      | inr few ↦
+          let rises = given.0 in
+          let low : k.next ≤ 1 = omega (arith, rises, few) in
+          let old_none = no_node k.trail (no_number k.trail k.next distinct one.1 low) in
+          let new_none = no_node new.0 (no_number new.0 new.1 apart zero_new few) in
+          let attached : is_detached k ≡ false = not_detached (is_none k.seen) k.next low in
+          let none : frame_ops k new.0 ≡ [] = sym (usual_ops k new.0 attached) ∙ ap (λ (t : Nodes). ops t (nodes new.0)) old_none ∙ ap (λ (t : Nodes). ops tree.None t) new_none in
+          absurd (some none)
+    ]
+  where
+    not_detached : (b : Bool) (next : ℕ) → next ≤ 1 → (b && nat_lt 1 next) ≡ false
+    not_detached true next low = le-ltb 1 next low
+    not_detached false next low = refl

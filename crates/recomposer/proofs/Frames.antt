@@ -21,7 +21,7 @@ use Rattle.rt_groups.specs.Nodes as tree
 use Rattle.node_tree.specs.declared.ops.Op.{Op}
 use Rattle.node_tree.specs.declared.ops.Op.TheVariants as op
 use Rattle.node_tree.specs.NodeTrees.{CursorTree}
-use Rattle.node_tree.specs.Calls.{AllMayCome, BecomesAfter}
+use Rattle.node_tree.specs.Calls.{AllMayCome, BecomesAfter, tree_after_calls}
 use Rattle.node_tree.specs.Placing.{ops}
 use Rattle.node_tree.specs.Premises.{Follows}
 use Rattle.snap_api.specs.declared.data.Entry.{Entry}
@@ -29,14 +29,14 @@ use Rattle.recomposer.specs.declared.composition.Composition.{Composition}
 use Rattle.recomposer.specs.declared.composition.FrameStop.{FrameStop}
 use Rattle.recomposer.specs.AppliedFrames.{is_detached, Mirrors, ops_of, frame_ops, kept_after_fault, Applies}
 use Rattle.recomposer.specs.Compositions.{IsKept, Owes, IsAt, kept_after, frame_reads, MakesFrame, MakesNoFrame, LogsNoFrame}
-use Rattle.recomposer.proofs.Applied.{next_follows, nothing_is_kept, anew_ops, usual_ops, applied, applied_nothing, frame_turns}
+use Rattle.recomposer.proofs.Applied.{next_follows, still_from_one, detached_if_called, nothing_is_kept, anew_ops, usual_ops, applied, applied_nothing, frame_turns}
 use Rattle.recomposer.proofs.Owings.{owes_nothing, owing, same_below}
 use Rattle.recomposer.proofs.Reports.{owed_report, owed_reads}
 use Rattle.recomposer.proofs.StateReads.{kept_below}
 
 -- Node numbers do not change how many groups there are.
 
-groups_counted : (t : GroupForest) → how_many (without_numbers t) ≡ how_many t
+pub groups_counted : (t : GroupForest) → how_many (without_numbers t) ≡ how_many t
 groups_counted End = refl
 groups_counted (Read x rest) = groups_counted rest
 groups_counted (Group site n what inside rest) =
@@ -44,7 +44,7 @@ groups_counted (Group site n what inside rest) =
     let f = groups_counted rest in
     omega (arith, e, f)
 
-nodes_counted : (t : GroupForest) → how_many_nodes (without_numbers t) ≡ how_many_nodes t
+pub nodes_counted : (t : GroupForest) → how_many_nodes (without_numbers t) ≡ how_many_nodes t
 nodes_counted End = refl
 nodes_counted (Read x rest) = nodes_counted rest
 nodes_counted (Group site n what inside rest) =
@@ -54,7 +54,7 @@ nodes_counted (Group site n what inside rest) =
 
 module _ (p : Checked) (k : LastFrame) (m : Map) where
   -- A forest with few enough groups gives a good frame.
-  good_is : how_many (forest (functions_of p) (root_of p) m) ≤ most_groups → frame (functions_of p) k m ≡ Some (good_frame k m (forest (functions_of p) (root_of p) m))
+  pub good_is : how_many (forest (functions_of p) (root_of p) m) ≤ most_groups → frame (functions_of p) k m ≡ Some (good_frame k m (forest (functions_of p) (root_of p) m))
   good_is few = ap (λ b. option_map (good_frame k m) (cond b (Some (forest (functions_of p) (root_of p) m)) None)) (le-leb (how_many (forest (functions_of p) (root_of p) m)) most_groups few)
 
   -- A larger forest gives a refused frame.
@@ -93,6 +93,7 @@ finished_at c c' k m d h few draft program held_groups held_next groups nodes ow
       owes = subst (λ (q : Checked). Owes q (Some m) left.trail (Some m) c'.owed) (sym same)
           (owes_nothing p m left.trail c'.owed (ap (λ (o : OwedObjects). o.all) owed) (ap (λ (o : OwedObjects). o.objects) owed) kept);
       numbers = (next_follows p k (Some m) m c.owed h.owes h.numbers).1;
+      from_one = still_from_one p k (Some m) m c.owed h.owes h.from_one;
       states = ap (λ (o : OwedObjects). o.states) owed ∙ h.states ∙ ap (λ (q : Checked). length q.states.items) (sym same);
       groups = groups ∙ ap (λ (r : Report). r.groups) draft.report ∙ sym (same_groups p k m);
       nodes = nodes ∙ ap (λ (r : Report). r.nodes) draft.report ∙ sym (same_nodes p k m);
@@ -107,6 +108,7 @@ detached_at c c' k m d h few draft program held_groups held_next groups nodes ow
       holds = (held_groups, held_next ∙ draft.next);
       owes = (refl, ap (λ (o : OwedObjects). o.all) owed);
       numbers = λ x. (omega arith, λ above. refl);
+      from_one = ((still_from_one c.program.now k (Some m) m c.owed h.owes h.from_one).0, refl);
       states = ap (λ (o : OwedObjects). o.states) owed ∙ h.states ∙ ap (λ (q : Bor Checked). length q.now.states.items) (sym program);
       groups = groups;
       nodes = nodes;
@@ -118,6 +120,7 @@ same_at c c' k l program held owed groups nodes h = record {
   holds = subst (λ (x : HeldGroups). Holds x k) (sym held) h.holds;
   owes = subst (λ (x : OwedObjects). Owes c'.program.now k.seen k.trail l x) (sym owed) (subst (λ (q : Bor Checked). Owes q.now k.seen k.trail l c.owed) (sym program) h.owes);
   numbers = h.numbers;
+  from_one = h.from_one;
   states = ap (λ (x : OwedObjects). x.states) owed ∙ h.states ∙ ap (λ (q : Bor Checked). length q.now.states.items) (sym program);
   groups = groups ∙ h.groups;
   nodes = nodes ∙ h.nodes;
@@ -193,6 +196,7 @@ module _ (c : Composition) (k : LastFrame) (m : Map) (h : IsAt c k (Some m)) (al
     holds = h.holds;
     owes = owes_nothing c.program.now m k.trail c.owed all none idle.kept;
     numbers = h.numbers;
+    from_one = h.from_one;
     states = h.states;
     groups = h.groups;
     nodes = h.nodes;
@@ -241,6 +245,10 @@ tree_follows c k m h = (next_follows c.program.now k (Some m) m c.owed h.owes h.
 pub none_kept : (c : Composition) (k : LastFrame) (l : Option Map) → IsAt c k l → is_detached k ≡ true → k.trail ≡ End
 none_kept c k l h e = nothing_is_kept c.program.now k l c.owed h.owes e
 
+pub no_calls : (calls : List Op) → length calls ≡ 0 → calls ≡ []
+no_calls [] none = refl
+no_calls (call ∷ calls) none = absurd (omega (arith, none))
+
 -- The calls of a composed frame, from the lists of nodes.
 module _ (c : Composition) (k : LastFrame) (m : Map) (d : DraftGroups) (h : IsAt c k (Some m)) (few : how_many (forest (functions_of c.program.now) (root_of c.program.now) m) ≤ most_groups) where
   pub calls_are : frame_ops k (new_trail c.program.now k m) ≡ ops_of k (frame (functions_of c.program.now) k m)
@@ -251,6 +259,12 @@ module _ (c : Composition) (k : LastFrame) (m : Map) (d : DraftGroups) (h : IsAt
 
   pub calls_usual : is_detached k ≡ false → ops (nodes k.trail) (nodes (new_trail c.program.now k m)) ≡ ops_of k (frame (functions_of c.program.now) k m)
   calls_usual e = usual_ops k (new_trail c.program.now k m) e ∙ calls_are
+
+  -- If there are calls, the composition is detached after a fault.
+  pub detached_after : (calls : List Op) → calls ≡ ops_of k (frame (functions_of c.program.now) k m) → (length calls ≡ 0 → ⊥) → is_detached (kept_after_fault k (frame (functions_of c.program.now) k m)) ≡ true
+  detached_after calls is some =
+      ap (λ (o : Option FrameResult). is_detached (kept_after_fault k o)) (good_is c.program.now k m few)
+      ∙ detached_if_called c.program.now k (Some m) m c.owed h.owes h.numbers h.from_one (λ none. some (ap (λ (l : List Op). length l) (is ∙ sym calls_are ∙ none)))
 
   -- The calls may be made.
   pub calls_may : (calls : List Op) (t : CursorTree) → calls ≡ ops_of k (frame (functions_of c.program.now) k m) → Mirrors (Some t) k → AllMayCome t calls
@@ -263,6 +277,14 @@ module _ (c : Composition) (k : LastFrame) (m : Map) (d : DraftGroups) (h : IsAt
   frame_applies before mid now made calls same becomes is made_is =
       subst (λ (o : Option FrameResult). Applies before now made k o) (sym (good_is c.program.now k m few))
       (applied before mid now made calls k (good_frame k m (forest (functions_of c.program.now) (root_of c.program.now) m)) same becomes is (made_is ∙ sym calls_are) (tree_follows c k m h) (none_kept c k (Some m) h))
+
+  -- No call was to make.
+  pub none_applies : (tree : Option CursorTree) (made calls : List Op) → made ≡ calls → length calls ≡ 0 → calls ≡ ops_of k (frame (functions_of c.program.now) k m) → Applies tree tree made k (frame (functions_of c.program.now) k m)
+  none_applies tree made calls is none calls_are_these = frame_applies tree tree tree made calls refl (stays tree (no_calls calls none)) (sym is) (is ∙ calls_are_these)
+    where
+      stays : (t : Option CursorTree) → calls ≡ [] → BecomesAfter t t calls
+      stays None e = refl
+      stays (Some t) e = ap (λ (l : List Op). Some (tree_after_calls t l)) (sym e)
 
 -- A frame that owes nothing makes no calls.
 pub idle_applies : (c : Composition) (k : LastFrame) (m : Map) → IsAt c k (Some m) → c.owed.all ≡ false → c.owed.objects ≡ [] → (now : Option CursorTree) → Applies now now [] k (frame (functions_of c.program.now) k m)

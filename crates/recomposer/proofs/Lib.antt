@@ -4,5 +4,6 @@ pub mod Owings
 pub mod Applied
 pub mod Stops
 pub mod Frames
+pub mod QuietFrames
 pub mod Logs
 pub mod Draws

@@ -1,6 +1,6 @@
 -- Trusted: when a composition has kept the state of the last good frame, and what a frame adds to the log of a world.
 use Rattle.std.specs.Prelude.{◌≡◌, ◌⊎◌, ℕ, ◌<◌, ◌≤◌, List, [], ◌∷◌, ◌++◌, length, map, true, false, Option, Some, None, Result, Ok, Err, OnOk}
-use Rattle.std.specs.Option.{option_map}
+use Rattle.std.specs.Option.{option_map, is_none}
 use Rattle.rt_values.specs.Maps.{Map, differ, contains}
 use Rattle.rt_groups.specs.declared.report.Report.{Report}
 use Rattle.rt_groups.specs.GroupForest.{GroupForest, End, how_many, how_many_nodes}
@@ -9,8 +9,8 @@ use Rattle.compose_model.specs.Composing.{forest}
 use Rattle.compose_model.specs.Frame.{FrameResult, frame}
 use Rattle.lang_checks.specs.declared.checks.Checked.{Checked}
 use Rattle.recompose_laws.specs.Numbering.{without_numbers}
-use Rattle.recompose_laws.specs.Idle.{IsNumbered}
-use Rattle.recompose_laws.specs.Distinct.{AreDistinct}
+use Rattle.recompose_laws.specs.Idle.{IsNumbered, IsQuiet, unchanged_report}
+use Rattle.recompose_laws.specs.Distinct.{AreDistinct, how_often}
 use Rattle.snap_policy.specs.Rules.{Rules}
 use Rattle.snap_api.specs.Calls.{Logs}
 use Rattle.snap_api.specs.Desks.{Follows}
@@ -27,7 +27,7 @@ use Rattle.composer.specs.FrameDrafts.{Holds, functions_of, root_of}
 use Rattle.recomposer.specs.declared.composition.Composition.{Composition}
 use Rattle.recomposer.specs.declared.composition.FrameStop.{FrameStop}
 use Rattle.recomposer.specs.declared.composition.FrameStop.TheVariants.{TooManyGroups, ApplierFault, Spent, NoMemory}
-use Rattle.recomposer.specs.AppliedFrames.{kept_after_fault}
+use Rattle.recomposer.specs.AppliedFrames.{is_detached, kept_after_fault, ops_of}
 
 -- The kept forest is that of composing in the map `seen`, it has few enough groups, and only nodes have numbers.
 pub record IsKept (p : Checked) (seen : Map) (trail : GroupForest) : Type 0 where
@@ -45,12 +45,17 @@ Owes p (Some seen) trail (Some last) owed =
     × ((x : ℕ) → x < length p.states.items → contains x owed.objects ≡ contains x (differ (Some seen) last))
     × IsKept p seen trail
 
--- The composition has kept the state `k` of the last good frame: its groups, whose nodes have distinct numbers, the next node
--- number, and what is owed. `last` is the watcher's last map.
+-- Node numbers begin at 1: the next one is at least 1, and no kept node has the number 0.
+abbrev pub CountsFromOne : LastFrame → Type 0
+CountsFromOne k = (1 ≤ k.next) × (how_often 0 k.trail ≡ 0)
+
+-- The composition has kept the state `k` of the last good frame: its groups, whose nodes have distinct numbers from 1, the
+-- next node number, and what is owed. `last` is the watcher's last map.
 pub record IsAt (c : Composition) (k : LastFrame) (last : Option Map) : Type 0 where
   pub holds : Holds c.held k
   pub owes : Owes c.program.now k.seen k.trail last c.owed
   pub numbers : AreDistinct k.trail k.next
+  pub from_one : CountsFromOne k
   pub states : c.owed.states ≡ length c.program.now.states.items
   pub groups : c.groups ≡ how_many k.trail
   pub nodes : c.nodes ≡ how_many_nodes k.trail
@@ -88,6 +93,22 @@ refused_take ApplierFault = reply.Refused refusal.NoMemory
 -- The reads of a frame: those of the calls that run.
 abbrev pub frame_reads : Checked → LastFrame → Map → List ℕ
 frame_reads p k m = reads (differ k.seen m) k.trail (forest (functions_of p) (root_of p) m)
+
+-- There was a good frame, and no call of the kept groups has among its own reads an object that changed between the map of
+-- that frame and the map `m`.
+abbrev pub OwesNoCall : LastFrame → Map → Type 0
+OwesNoCall k m = (is_none k.seen ≡ false) × IsQuiet (differ k.seen m) k.trail
+
+-- The kept state with the same groups and numbers and the map of a new frame.
+abbrev pub seen_again : LastFrame → Map → LastFrame
+seen_again k m = record { seen = Some m; trail = k.trail; next = k.next }
+
+-- The frame in the map `m` after the kept state `k` keeps all groups with their numbers. It runs, calculates and reads
+-- nothing, and makes no call on an applier.
+pub record ChangesNothing (p : Checked) (k : LastFrame) (m : Map) : Type 0 where
+  pub is : frame (functions_of p) k m ≡ Some (record { left = seen_again k m; told = unchanged_report k.trail })
+  pub reads_none : frame_reads p k m ≡ []
+  pub calls_none : ops_of k (frame (functions_of p) k m) ≡ []
 
 -- A frame begins well: a map is shown, which is the watcher's last map from now on, and `changed` lists what changed since
 -- the watcher's last map before.
@@ -184,7 +205,8 @@ LogsNoFrame p k old new caller watcher stop last =
     ⊎ ((m : Map) × (last ≡ Some m) × PartOfFrame old new caller watcher (frame_reads p k m))
 
 -- A frame was made in the map `map` after the kept state `k`: `at_frame` and `last` say what is kept and which map is the
--- watcher's last one, `told` is the report, `does` says what the frame's reads did, and `applies` what the applier did.
+-- watcher's last one, `told` is the report, `does` says what the frame's reads did, and `applies` what the applier did. If no
+-- call is owed, the frame changes nothing.
 pub record MakesFrame (p : Checked) (k : LastFrame) (at_frame : LastFrame → Option Map → Type 0) (last : Option Map → Type 0)
     (does : List ℕ → Type 0) (applies : Option FrameResult → Type 0) (told : Report) : Type 0 where
   pub map : Map
@@ -193,10 +215,11 @@ pub record MakesFrame (p : Checked) (k : LastFrame) (at_frame : LastFrame → Op
   pub told_is : Some told ≡ option_map (λ g. g.told) (frame (functions_of p) k map)
   pub done : does (frame_reads p k map)
   pub applied : applies (frame (functions_of p) k map)
+  pub quiet : OwesNoCall k map → ChangesNothing p k map
 
 -- A frame was not made: the kept state stays, except after a fault of the applier, and what changed up to the watcher's last
 -- map is owed. `logs` says what the log is then. If there are too many groups, the frame of that map has no result. A frame
--- with a fault of the applier has begun.
+-- with a fault of the applier has begun, and the composition is detached after it.
 pub record MakesNoFrame (p : Checked) (k : LastFrame) (at_frame : LastFrame → Option Map → Type 0) (last : Option Map → Type 0)
     (logs : FrameStop → Option Map → Type 0) (stop : FrameStop) : Type 0 where
   pub map : Option Map
@@ -205,6 +228,7 @@ pub record MakesNoFrame (p : Checked) (k : LastFrame) (at_frame : LastFrame → 
   pub log_is : logs stop map
   pub many : stop ≡ TooManyGroups → (m : Map) × (map ≡ Some m) × (frame (functions_of p) k m ≡ None)
   pub fault : stop ≡ ApplierFault → (m : Map) × (map ≡ Some m)
+  pub detached : stop ≡ ApplierFault → is_detached (kept_after_stop p k map stop) ≡ true
 
 -- The world after a frame: after its take and its dispose. The reads change no world.
 abbrev pub world_of_frame : {P : Type 0} → Rules P → World P → ℕ → ℕ → World P

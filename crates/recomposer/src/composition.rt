@@ -1,5 +1,5 @@
 // A composition of one program, frame by frame.
-ghost use Rattle.std.specs.Prelude.{◌≡◌, ◌≤◌, ◌<◌, ◌++◌, [], ℕ, List, Option, Some, None, Ok, Err, IfOk, IfErr, OnOk, OnErr};
+ghost use Rattle.std.specs.Prelude.{◌≡◌, ◌≤◌, ◌<◌, ◌++◌, [], ℕ, List, Option, Some, None, Ok, Err, true, IfOk, IfErr, OnOk, OnErr, IsTrue};
 ghost use Rattle.std.specs.Option.{option_map};
 ghost use Rattle.rt_values.specs.Maps.{Map, differ};
 ghost use Rattle.rt_values.specs.Views.{Grew};
@@ -14,7 +14,7 @@ ghost use Rattle.snap_api.specs.World.{World};
 ghost use Rattle.node_tree.specs.Calls.{insert_count};
 ghost use Rattle.recomposer.specs.AppliedFrames.{is_detached, MayCall, Applies, UnlessFault, FaultHasCause, OwesNothing, kept_after_fault, ops_of};
 ghost use Rattle.recomposer.specs.Composed.{IsComposed};
-ghost use Rattle.recomposer.specs.Compositions.{IsAt, StopsAtEnd, refused_take, kept_after, frame_reads, BeginsFrame, EndsFrame, EndsPart, ClosesFrame, GrowsFor, MakesFrame, MakesNoFrame, MakesReads, LogsFrame, LogsNoFrame, world_of_frame};
+ghost use Rattle.recomposer.specs.Compositions.{IsAt, StopsAtEnd, refused_take, kept_after, frame_reads, BeginsFrame, EndsFrame, EndsPart, ClosesFrame, GrowsFor, MakesFrame, MakesNoFrame, MakesReads, OwesNoCall, seen_again, LogsFrame, LogsNoFrame, world_of_frame};
 
 use composer::{ComposeStop, Draft, Held, Owed, compose};
 use lang_checks::Checked;
@@ -58,6 +58,19 @@ fn frame_stop(stop: ComposeStop) -> FrameStop
         ComposeStop::TooManyGroups => FrameStop::TooManyGroups,
         ComposeStop::NoMemory => FrameStop::NoMemory,
     }
+}
+
+// Takes all memory for calls on the applier: copies the calls, because the applier takes them by value, and reserves its
+// nodes.
+fn take_memory<A: Applier>(alloc: Global, ops: &Ops, applier: &mut A) -> Result<Ops, NoMemory>
+    ensures same { IfOk result (λ calls. calls ≡ ops.now) }
+    ensures room { IfOk result (λ calls. insert_count calls ≤ A.spare applier.new) }
+    ensures tree { A.tree applier.new ≡ A.tree applier.old }
+    ensures faults { A.faults applier.new ≡ A.faults applier.old }
+{
+    let calls = ops.copy(alloc)?;
+    applier.reserve(alloc, &calls)?;
+    Ok(calls)
 }
 
 /// A composition of one program (`CompositionImpl` with what `Recomposer` knows of it): the groups of the last good frame
@@ -219,38 +232,32 @@ impl<'p> Composition<'p> {
         self.owed.is_all() && self.held.next() > 1
     }
 
-    // Lists the calls on the applier that turn the kept node tree into that of the draft.
+    // Returns whether the frame of the draft keeps all groups: a good frame was kept before it, and no call ran.
+    fn keeps_all(&self, draft: &Draft) -> bool
+        ensures { (k : LastFrame) (m : Map) → IsAt self.now k (Some m) → IsComposed self.now k m (Some draft.now) →
+            IsTrue result → ops_of k (frame_of (functions_of self.now.program.now) k m) ≡ [] }
+    {
+        if self.owed.is_all() {
+            return false;
+        }
+        draft.report().ran == 0
+    }
+
+    // Lists the calls on the applier that turn the kept node tree into that of the draft. The nodes are not compared if the
+    // frame keeps all groups.
     fn list_calls(&self, alloc: Global, draft: &Draft) -> Result<Ops, NoMemory>
         ensures { (k : LastFrame) (m : Map) → IsAt self.now k (Some m) → IsComposed self.now k m (Some draft.now) →
             IfOk result (λ ops. ops ≡ ops_of k (frame_of (functions_of self.now.program.now) k m)) }
     {
+        if self.keeps_all(draft) {
+            return Ok(Ops::new(alloc));
+        }
         let new = list_nodes(alloc, draft.table())?;
         if self.is_detached() {
             return place_anew(alloc, &new);
         }
         let old = list_nodes(alloc, self.held.table())?;
         place(alloc, &old, &new)
-    }
-
-    // Takes all memory for the change of the applier's tree: lists the calls on it, twice because the applier takes them by
-    // value, and reserves its nodes.
-    fn prepare<A: Applier>(
-        &self,
-        alloc: Global,
-        draft: &Draft,
-        applier: &mut A,
-    ) -> Result<(Ops, Ops), NoMemory>
-        ensures calls { (k : LastFrame) (m : Map) → IsAt self.now k (Some m) → IsComposed self.now k m (Some draft.now) →
-            IfOk result (λ r. r.0 ≡ ops_of k (frame_of (functions_of self.now.program.now) k m)) }
-        ensures same { IfOk result (λ r. r.1 ≡ r.0) }
-        ensures room { IfOk result (λ r. insert_count r.1 ≤ A.spare applier.new) }
-        ensures tree { A.tree applier.new ≡ A.tree applier.old }
-        ensures faults { A.faults applier.new ≡ A.faults applier.old }
-    {
-        let ops = self.list_calls(alloc, draft)?;
-        let calls = ops.copy(alloc)?;
-        applier.reserve(alloc, &calls)?;
-        Ok((ops, calls))
     }
 
     // Keeps the groups of a composed frame and the calls that it made on the applier. Nothing is owed then. Returns the
@@ -302,7 +309,7 @@ impl<'p> Composition<'p> {
     }
 
     // Applies a frame that is composed: takes all memory, makes the calls on the applier, and then keeps the groups
-    // (`applyChanges`). Without a draft the frame owed nothing.
+    // (`applyChanges`). The applier is not called if there is no call to make. Without a draft the frame owed nothing.
     fn apply<A: Applier>(
         &mut self,
         alloc: Global,
@@ -325,6 +332,13 @@ impl<'p> Composition<'p> {
         ensures still { UnlessFault (A.tree applier.new ≡ A.tree applier.old) result }
         ensures cause { FaultHasCause (A.faults applier.old) (A.faults applier.new) result }
         ensures lent { OnErr result (self.new.ops ≡ self.old.ops) }
+        ensures detached { (k : LastFrame) (m : Map) → IsAt self.old k (Some m) → IsComposed self.old k m composed →
+            result ≡ Err FrameStop.ApplierFault →
+            is_detached (kept_after_fault k (frame_of (functions_of self.old.program.now) k m)) ≡ true }
+        ensures uncalled { OnOk result (self.new.ops ≡ [] → applier.new ≡ applier.old) }
+        ensures unchanged { (k : LastFrame) (m : Map) → IsAt self.old k (Some m) → IsComposed self.old k m composed →
+            ops_of k (frame_of (functions_of self.old.program.now) k m) ≡ [] →
+            (applier.new ≡ applier.old) × OnOk result (self.new.ops ≡ []) }
         ensures idle { composed ≡ None → (applier.new ≡ applier.old) × OnOk result (self.new.ops ≡ []) }
         ensures few { result ≡ Err FrameStop.TooManyGroups → ⊥ }
         ensures not_spent { result ≡ Err FrameStop.Spent → ⊥ }
@@ -334,7 +348,13 @@ impl<'p> Composition<'p> {
         let Some(draft) = composed else {
             return Ok(self.keep_idle(alloc));
         };
-        let Ok((ops, calls)) = self.prepare(alloc, &draft, applier) else {
+        let Ok(ops) = self.list_calls(alloc, &draft) else {
+            return Err(FrameStop::NoMemory);
+        };
+        if ops.len() == 0 {
+            return Ok(self.keep(draft, ops));
+        }
+        let Ok(calls) = take_memory(alloc, &ops, applier) else {
             return Err(FrameStop::NoMemory);
         };
         match carry(applier, calls) {
@@ -364,7 +384,7 @@ impl<'p> Composition<'p> {
 
     /// Composes what the frame owes in the open snapshot that the view shows, and keeps the new groups (`recompose`,
     /// `applyChanges`). For callers that take and dispose the snapshot themselves and keep no node tree. A frame that owes
-    /// nothing composes nothing.
+    /// nothing composes nothing. A frame in which no kept call read a changed state runs no call and reads nothing.
     ///
     /// Fails with `TooManyGroups` exactly if the program makes more than 1,000,000 groups in the snapshot, or out of
     /// memory. The composition is then unchanged, and what is owed stays owed.
@@ -383,6 +403,8 @@ impl<'p> Composition<'p> {
         ensures many { (k : LastFrame) (m : Map) → IsAt self.old k (Some m) → V.shows view.old m →
             result ≡ Err FrameStop.TooManyGroups → frame_of (functions_of self.old.program.now) k m ≡ None }
         ensures err { OnErr result (self.new ≡ self.old) }
+        ensures quiet { (k : LastFrame) (m : Map) → IsAt self.old k (Some m) → V.shows view.old m → OwesNoCall k m →
+            OnOk result ((V.asked view.new ≡ V.asked view.old) × IsAt self.new (seen_again k m) (Some m)) }
         ensures ops { OnOk result (self.new.ops ≡ []) }
         ensures program { self.new.program ≡ self.old.program }
         ensures watcher { self.new.watcher ≡ self.old.watcher }
@@ -399,7 +421,8 @@ impl<'p> Composition<'p> {
 
     /// Composes what the frame owes in the open snapshot that the view shows, changes the applier's tree, and keeps the new
     /// groups (`recompose`, `applyChanges`). For callers that take and dispose the snapshot themselves. A frame that owes
-    /// nothing composes nothing and does not call the applier. All memory is taken before the first call on the applier.
+    /// nothing composes nothing. A frame in which no kept call read a changed state runs no call and reads nothing. Neither
+    /// calls the applier. All memory is taken before the first call on the applier.
     ///
     /// Fails with `TooManyGroups` exactly if the program makes more than 1,000,000 groups in the snapshot, or out of
     /// memory. The composition and the applier's tree are then unchanged, and what is owed stays owed. Fails with
@@ -428,6 +451,13 @@ impl<'p> Composition<'p> {
         ensures fault { (k : LastFrame) (m : Map) → IsAt self.old k (Some m) → V.shows view.old m →
             result ≡ Err FrameStop.ApplierFault →
             IsAt self.new (kept_after_fault k (frame_of (functions_of self.old.program.now) k m)) (Some m) }
+        ensures detached { (k : LastFrame) (m : Map) → IsAt self.old k (Some m) → V.shows view.old m →
+            result ≡ Err FrameStop.ApplierFault →
+            is_detached (kept_after_fault k (frame_of (functions_of self.old.program.now) k m)) ≡ true }
+        ensures quiet { (k : LastFrame) (m : Map) → IsAt self.old k (Some m) → V.shows view.old m → OwesNoCall k m →
+            (applier.new ≡ applier.old) × OnOk result ((self.new.ops ≡ []) × (V.asked view.new ≡ V.asked view.old)
+            × IsAt self.new (seen_again k m) (Some m)) }
+        ensures uncalled { OnOk result (self.new.ops ≡ [] → applier.new ≡ applier.old) }
         ensures err { UnlessFault (self.new ≡ self.old) result }
         ensures still { UnlessFault (A.tree applier.new ≡ A.tree applier.old) result }
         ensures cause { FaultHasCause (A.faults applier.old) (A.faults applier.new) result }
@@ -448,9 +478,9 @@ impl<'p> Composition<'p> {
     }
 
     /// Ends a frame that has begun: composes the program in the frame's snapshot, disposes the snapshot, changes the applier's
-    /// tree, and keeps the new groups (`recompose`, `applyChanges`). A frame that owes nothing composes nothing and does not
-    /// call the applier. All memory is taken before the first call on the applier. The snapshot is disposed after a failure
-    /// too.
+    /// tree, and keeps the new groups (`recompose`, `applyChanges`). A frame that owes nothing composes nothing. A frame in
+    /// which no kept call read a changed state runs no call and reads nothing. Neither calls the applier. All memory is
+    /// taken before the first call on the applier. The snapshot is disposed after a failure too.
     ///
     /// Fails like `recompose_with`.
     pub fn finish<D: Desk, A: Applier, L: Ledger>(
@@ -476,6 +506,13 @@ impl<'p> Composition<'p> {
         ensures fault { (k : LastFrame) (m : Map) → IsAt self.old k (Some m) → D.shows desk.old m →
             result ≡ Err FrameStop.ApplierFault →
             IsAt self.new (kept_after_fault k (frame_of (functions_of self.old.program.now) k m)) (Some m) }
+        ensures detached { (k : LastFrame) (m : Map) → IsAt self.old k (Some m) → D.shows desk.old m →
+            result ≡ Err FrameStop.ApplierFault →
+            is_detached (kept_after_fault k (frame_of (functions_of self.old.program.now) k m)) ≡ true }
+        ensures quiet { (k : LastFrame) (m : Map) → IsAt self.old k (Some m) → D.shows desk.old m → OwesNoCall k m →
+            (applier.new ≡ applier.old) × OnOk result ((self.new.ops ≡ []) × (D.asked desk.new ≡ D.asked desk.old)
+            × IsAt self.new (seen_again k m) (Some m)) }
+        ensures uncalled { OnOk result (self.new.ops ≡ [] → applier.new ≡ applier.old) }
         ensures err { UnlessFault (self.new ≡ self.old) result }
         ensures still { UnlessFault (A.tree applier.new ≡ A.tree applier.old) result }
         ensures cause { FaultHasCause (A.faults applier.old) (A.faults applier.new) result }
@@ -541,6 +578,7 @@ impl<'p> Composition<'p> {
             D.last desk.old self.old.watcher types l → D.alone desk.new self.old.watcher →
             IfErr result (MakesNoFrame self.old.program.now k (IsAt self.new) (D.last desk.new self.old.watcher types)
             (LogsNoFrame self.old.program.now k (D.log desk.old) (D.log desk.new) (D.caller desk.old) self.old.watcher)) }
+        ensures uncalled { OnOk result (self.new.ops ≡ [] → applier.new ≡ applier.old) }
         ensures spent { (k : ℕ) → D.clock desk.old k → StopsAtEnd (D.clock desk.new) k result }
         ensures still { UnlessFault (A.tree applier.new ≡ A.tree applier.old) result }
         ensures cause { FaultHasCause (A.faults applier.old) (A.faults applier.new) result }

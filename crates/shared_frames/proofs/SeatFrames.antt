@@ -77,6 +77,7 @@ module _ {W P : Type 0} (rules : Rules P) (stands : W → World P → Type 0) (s
         told_is = f.told_is;
         done = f.done;
         applied = f.applied;
+        quiet = f.quiet;
       }
 
 -- `other` is the shared world of the desk after the frame, `after` is the desk's seat then, and `back` is the seat that returns.

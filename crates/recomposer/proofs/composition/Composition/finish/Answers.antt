@@ -6,6 +6,7 @@ use Rattle.composer.specs.declared.stop.ComposeStop.TheVariants.{TooManyGroups}
 use Rattle.recomposer.specs.declared.composition.FrameStop.TheVariants.{ApplierFault}
 use Rattle.recomposer.specs.Compositions.{frame_reads}
 use Rattle.recomposer.proofs.Frames.{grew_in_all}
+use Rattle.recomposer.proofs.QuietFrames.{quiet_at, quiet_ends}
 use Rattle.recomposer.proofs.Draws.{grows_finish}
 use Rattle.recomposer.proofs.Stops.{on_ok, on_err, unless_fault, no_cause, may_be_called}
 use Rattle.recomposer.proofs.Logs.{always_disposed, closes, ends_of, ends_part}
@@ -204,3 +205,16 @@ returns-clause-refused g c k m h shows inner =
     (g.D.Desk.caller c.args.desk.now) (g.D.Desk.caller c.compose_owed-composed.new.view) c.args.begun.name (g.D.Desk.opened c.args.desk.now) c.dispose.result (g.met.D.Desk.reads_told _ _ kept) c.requires.opened
     (grew_in_all c.compose_owed-composed.result (g.D.View.asked c.args.desk.now) asked asked (frame_reads c.args.self.now.program.now k m) refl (c.compose_owed-composed.ensures.asks k m h shows) (c.compose_owed-composed.ensures.part k m h shows))
     (g.met.D.Desk.caller_kept _ _ kept) (c.dispose.ensures.disposed m c.args.begun.name (c.compose_owed-composed.ensures.same m shows) opened inner) (c.dispose.ensures.log c.args.begun.name opened)
+
+pub returns-in-Ok-composed-clause-detached : goal.returns-in-Ok-composed-clause-detached
+returns-in-Ok-composed-clause-detached g c k m h shows stop = c.apply.ensures.detached k m h (c.in-Ok-composed.ensures.made k m h shows) stop
+
+pub returns-in-Ok-composed-clause-quiet : goal.returns-in-Ok-composed-clause-quiet
+returns-in-Ok-composed-clause-quiet g c k m h shows quiet =
+    let made = c.in-Ok-composed.ensures.made k m h shows in
+    let nothing = quiet_at c.args.self.now k m h quiet in
+    quiet_ends c.args.self.now.program.now k m nothing c.apply.new.self (g.D.View.asked c.args.desk.now) (g.D.View.asked c.dispose.new.self) c.apply.result (c.apply.ensures.unchanged k m h made nothing.calls_none)
+    (c.dispose.ensures.asks ∙ c.in-Ok-composed.ensures.asks k m h shows) (c.apply.ensures.good k m h made)
+
+pub returns-clause-detached : goal.returns-clause-detached
+returns-clause-detached g c k m h shows stop = absurd (c.frame_stop.ensures.no_fault (let e : c.frame_stop.result ≡ ApplierFault = cc in e))

@@ -4,7 +4,8 @@ use Rattle.recomposer.specs.declared.composition.Composition.{Composition}
 use Rattle.recomposer.specs.declared.composition.FrameStop.TheVariants.{ApplierFault}
 use Rattle.recomposer.specs.Compositions.{IsAt, frame_reads}
 use Rattle.recomposer.proofs.Frames.{made_frame, made_no_frame}
-use Rattle.recomposer.proofs.Stops.{may_be_called, stopped_at, stopped_before}
+use Rattle.recomposer.proofs.QuietFrames.{quiet_at}
+use Rattle.recomposer.proofs.Stops.{may_be_called, stopped_at, stopped_detached, stopped_before}
 use Rattle.recomposer.proofs.Draws.{grows_on}
 use Rattle.recomposer.proofs.Logs.{whole_frame, part_of_frame, makes_reads, frame_world}
 use Rattle.recomposer.proofs.composition.Composition.frame.Goals as goal
@@ -37,6 +38,7 @@ returns-in-Ok-finish-clause-good g c k types l h last alone =
             c.in-Ok.ensures.log c.in-Ok.ensures.caller (c.in-Ok-finish.ensures.log k began.map began.at_now began.shown),
       );
       applied = c.in-Ok-finish.ensures.applied k began.map began.at_now began.shown;
+      quiet = λ q. quiet_at c.begin.new.self k began.map began.at_now q;
     })
 
 pub returns-in-Ok-finish-clause-world : goal.returns-in-Ok-finish-clause-world
@@ -56,6 +58,7 @@ returns-in-Err-clause-err g c k types l h last alone =
       log_is = inl (c.in-Err.ensures.refused types l last alone).1;
       many = λ e. absurd (c.begin.ensures.few (c.in-Err.is ∙ ap Err e));
       fault = λ e. absurd (no_fault e);
+      detached = λ e. absurd (no_fault e);
     }
 
 pub returns-in-Err-finish-clause-err : goal.returns-in-Err-finish-clause-err
@@ -75,6 +78,7 @@ returns-in-Err-finish-clause-err g c k types l h last alone =
       );
       many = λ e. (began.map, refl, c.finish.ensures.many k began.map began.at_now began.shown (c.in-Err-finish.is ∙ ap Err e));
       fault = λ e. (began.map, refl);
+      detached = λ e. stopped_detached p k began.map c.in-Err-finish.stop e (c.finish.ensures.detached k began.map began.at_now began.shown (c.in-Err-finish.is ∙ ap Err e));
     })
 
 pub returns-in-Ok-finish-clause-log : goal.returns-in-Ok-finish-clause-log

@@ -5,6 +5,9 @@ use Rattle.recomposer.specs.AppliedFrames.{is_detached}
 use Rattle.recomposer.proofs.Frames.{new_trail, tree_follows, calls_anew, calls_usual}
 use Rattle.recomposer.proofs.composition.Composition.list_calls.Goals as goal
 
+pub returns-then-keeps_all : goal.returns-then-keeps_all
+returns-then-keeps_all c k m h made = c.new.ensures ∙ sym (c.keeps_all.ensures k m h made c.if-keeps_all.true)
+
 pub returns-then-is_detached : goal.returns-then-is_detached
 returns-then-is_detached c k m h made =
     let detached : is_detached k ≡ true = sym (c.is_detached.ensures k _ h) ∙ c.if-is_detached.true in

@@ -3,6 +3,7 @@ use Rattle.rt_groups.specs.declared.report.Report.{Report}
 use Rattle.composer.specs.declared.stop.ComposeStop.TheVariants.{TooManyGroups}
 use Rattle.recomposer.specs.declared.composition.FrameStop.TheVariants.{ApplierFault}
 use Rattle.recomposer.proofs.Frames.{grew_in_all}
+use Rattle.recomposer.proofs.QuietFrames.{quiet_at, quiet_ends}
 use Rattle.recomposer.proofs.Stops.{on_ok, on_err, unless_fault, no_cause, may_be_called}
 use Rattle.recomposer.proofs.composition.Composition.recompose_with.Goals as goal
 
@@ -59,3 +60,16 @@ pub returns-in-Err-clause-idle : goal.returns-in-Err-clause-idle
 returns-in-Err-clause-idle g c h =
     let both : Err c.in-Err.stop ≡ Ok None = sym c.in-Err.is ∙ (c.compose_owed.ensures.idle h).0 in
     absurd cc
+
+pub returns-in-Ok-clause-detached : goal.returns-in-Ok-clause-detached
+returns-in-Ok-clause-detached g c k m h shows stop = c.apply.ensures.detached k m h (c.in-Ok.ensures.made k m h shows) stop
+
+pub returns-in-Ok-clause-quiet : goal.returns-in-Ok-clause-quiet
+returns-in-Ok-clause-quiet g c k m h shows quiet =
+    let made = c.in-Ok.ensures.made k m h shows in
+    let nothing = quiet_at c.args.self.now k m h quiet in
+    quiet_ends c.args.self.now.program.now k m nothing c.apply.new.self (g.V.View.asked c.args.view.now) (g.V.View.asked c.compose_owed.new.view) c.apply.result (c.apply.ensures.unchanged k m h made nothing.calls_none)
+    (c.in-Ok.ensures.asks k m h shows) (c.apply.ensures.good k m h made)
+
+pub returns-in-Err-clause-detached : goal.returns-in-Err-clause-detached
+returns-in-Err-clause-detached g c k m h shows stop = absurd (c.frame_stop.ensures.no_fault (let e : c.frame_stop.result ≡ ApplierFault = cc in e))
