@@ -1,0 +1,215 @@
+// Frames over an applier whose calls fail.
+ghost use Rattle.std.specs.Prelude.{◌≡◌, ◌≤◌, ◌<◌, ◌^◌, None, Err};
+ghost use Rattle.rt_streams.specs.Streams.{Rose};
+
+use crate::map_view::{MapView, view_of};
+use crate::programs::checked_program;
+use node_tree::{Applier, NewNode, Op, Ops};
+use recomposer::{Composition, FrameStop};
+use rt_groups::Report;
+use rt_streams::Failed;
+use rt_values::{NoMemory, Steps, Value, Word};
+use std::alloc::Global;
+use std::marker::Brand;
+use std::sync::ledger::{Blank, Ledger};
+use std::test::Fail;
+
+// A row for each item, and a state that nothing reads.
+const PROGRAM: &str = "(compose 1)
+(state list Ints Structural (ints))
+(state unread Int Structural 0)
+(fun root () (for i (get list) (key i (node Row ((item i))))))";
+
+// A call on an applier.
+#[derive(Clone, Copy, Debug, PartialEq, Eq)]
+enum Made {
+    Clear,
+    Insert { index: usize, number: u64 },
+    Other,
+}
+
+// An applier that lists its calls. One of them, counted from 1, fails.
+#[derive(Drop)]
+struct FailingList {
+    made: Vec<Made>,
+    failing: u64,
+    calls: u64,
+    reserved: u64,
+    faults: u64,
+}
+
+impl FailingList {
+    // Counts a call, and lists it unless it fails.
+    fn make(&mut self, call: Made) -> Result<(), Failed>
+        ensures later { self.old.faults ≤ self.new.faults }
+        ensures failed { result ≡ Err Failed → Rose self.old.faults self.new.faults }
+    {
+        self.calls = self.calls.saturating_add(1);
+        if self.calls == self.failing {
+            self.faults = self.faults.saturating_add(1);
+            return Err(Failed);
+        }
+        let _ = self.made.push(call);
+        Ok(())
+    }
+}
+
+impl Applier for FailingList {
+    ghost tree = { λ _. None };
+
+    ghost spare = { λ _. 2 ^ 64 };
+
+    ghost faults = { λ l. l.faults };
+
+    fn reserve(&mut self, _alloc: Global, ops: &Ops) -> Result<(), NoMemory> {
+        let _count = ops.insert_count();
+        self.reserved = self.reserved.saturating_add(1);
+        Ok(())
+    }
+
+    fn down(&mut self, _index: usize) -> Result<(), Failed> {
+        self.make(Made::Other)
+    }
+
+    fn up(&mut self) -> Result<(), Failed> {
+        self.make(Made::Other)
+    }
+
+    fn insert_top_down(&mut self, index: usize, node: NewNode) -> Result<(), Failed> {
+        self.make(Made::Insert {
+            index,
+            number: node.number,
+        })
+    }
+
+    fn insert_bottom_up(&mut self, _index: usize, _node: NewNode) -> Result<(), Failed> {
+        self.make(Made::Other)
+    }
+
+    fn remove(&mut self, _index: usize, _count: usize) -> Result<(), Failed> {
+        self.make(Made::Other)
+    }
+
+    fn move_range(&mut self, _from: usize, _to: usize, _count: usize) -> Result<(), Failed> {
+        self.make(Made::Other)
+    }
+
+    fn set(&mut self, _name: Word, _value: Value) -> Result<(), Failed> {
+        self.make(Made::Other)
+    }
+
+    fn clear(&mut self) -> Result<(), Failed> {
+        self.make(Made::Clear)
+    }
+}
+
+// Returns the applier whose call number `failing` fails.
+fn failing_list(alloc: Global, failing: u64) -> FailingList {
+    FailingList {
+        made: Vec::new(alloc),
+        failing,
+        calls: 0,
+        reserved: 0,
+        faults: 0,
+    }
+}
+
+// Composes what the frame owes, and makes its calls on the applier. `blank` is the ledger of the steps, which no test reads.
+fn recompose_counting<L: Ledger>(
+    alloc: Global,
+    composition: &mut Composition,
+    view: &mut MapView,
+    applier: &mut FailingList,
+    blank: Blank,
+) -> Result<Report, FrameStop>
+    requires name { blank.name ≡ L.name }
+    requires parts { blank.parts ≡ L.parts }
+    requires some { 0 < L.parts }
+{
+    let (book, share) = blank.open();
+    let mut steps: Steps<L> = Steps::new(book, share);
+    composition.recompose_with(alloc, view, applier, &mut steps)
+}
+
+fn recompose_with(
+    alloc: Global,
+    composition: &mut Composition,
+    view: &mut MapView,
+    applier: &mut FailingList,
+) -> Result<Report, FrameStop> {
+    recompose_counting::<Brand>(alloc, composition, view, applier, Blank::new(1))
+}
+
+// Whether a list of calls begins with `clear`.
+fn begins_with_clear(ops: &Ops) -> bool {
+    matches!(ops.items().first(), Some(Op::Clear))
+}
+
+// The frame after a fault clears the tree, and makes all nodes again with new numbers.
+#[test]
+fn fault_of_the_applier_clears_the_tree_and_uses_up_numbers(rt: HostRuntime) -> Result<(), Fail> {
+    let alloc = rt.alloc();
+    let program = checked_program(alloc, PROGRAM.as_bytes())?;
+    let mut composition = Composition::new(alloc, &program, 0)?;
+    let mut view = view_of(alloc, &[1, 2, 3], &[0])?;
+    let mut applier = failing_list(alloc, 2);
+    composition.note(&[0, 1]);
+    let first = recompose_with(alloc, &mut composition, &mut view, &mut applier);
+    assert!(rt; matches!(first, Err(FrameStop::ApplierFault)));
+    assert_eq!(rt; composition.next(), 4);
+    assert_eq!(rt; composition.table().len(), 0);
+    assert_eq!(rt; composition.ops().len(), 0);
+    let second = recompose_with(alloc, &mut composition, &mut view, &mut applier);
+    assert!(rt; matches!(second, Ok(Report { nodes: 3, .. })));
+    let made = [
+        Made::Insert {
+            index: 0,
+            number: 1,
+        },
+        Made::Clear,
+        Made::Insert {
+            index: 0,
+            number: 4,
+        },
+        Made::Insert {
+            index: 1,
+            number: 5,
+        },
+        Made::Insert {
+            index: 2,
+            number: 6,
+        },
+    ];
+    assert_eq!(rt; applier.made.as_slice(), made.as_slice());
+    assert_eq!(rt; composition.ops().len(), 4);
+    assert!(rt; begins_with_clear(composition.ops()));
+    Ok(())
+}
+
+// A frame that owes no call does not call the applier, not even to reserve nodes.
+#[test]
+fn change_that_no_call_read_leaves_the_applier_alone(rt: HostRuntime) -> Result<(), Fail> {
+    let alloc = rt.alloc();
+    let program = checked_program(alloc, PROGRAM.as_bytes())?;
+    let mut composition = Composition::new(alloc, &program, 0)?;
+    let mut view = view_of(alloc, &[1, 2, 3], &[0])?;
+    let mut applier = failing_list(alloc, 0);
+    composition.note(&[0, 1]);
+    let first = recompose_with(alloc, &mut composition, &mut view, &mut applier)?;
+    assert_eq!(rt; composition.ops().len(), 3);
+    composition.note(&[1]);
+    let asked = view.asked.numbers().len();
+    let second = recompose_with(alloc, &mut composition, &mut view, &mut applier)?;
+    let idle = Report {
+        ran: 0,
+        calculated: 0,
+        reads: 0,
+        ..first
+    };
+    assert_eq!(rt; second, idle);
+    assert_eq!(rt; view.asked.numbers().len(), asked);
+    assert_eq!(rt; composition.ops().len(), 0);
+    assert_eq!(rt; applier.calls, 3);
+    assert_eq!(rt; applier.reserved, 1);
+    Ok(())
+}
