@@ -1,4 +1,5 @@
 mod InnerCounts
 mod OpenGroups
 mod Siblings
+mod GroupRuns
 mod JoinedGroups

@@ -59,6 +59,7 @@ impl Slots {
     }
 
     // Returns a copy, which shares the values and the reads.
+    #[inline]
     fn copy(&self) -> Result<Self, NoMemory>
         ensures { IfOk result (λ s. s ≡ self.now) }
     {
@@ -142,6 +143,7 @@ impl SharedGroup {
     }
 
     // Returns the group with this head, which shares `slots`.
+    #[inline]
     pub(crate) fn sharing(head: GroupHead, slots: &Slots) -> Result<Self, NoMemory>
         requires { head.is_node ≡ is_node_kind slots.now.what }
         ensures { IfOk result (λ g. g ≡ flat_group head.depth head.site head.number slots.now.what slots.now.reads) }
@@ -244,7 +246,17 @@ impl TableBuilder {
         self.head(i).is_node
     }
 
+    /// Makes the spare capacity at least `n` groups. The groups stay.
+    pub fn reserve(&mut self, n: usize) -> Result<(), NoMemory>
+        ensures { self.new ≡ self.old }
+    {
+        self.heads.reserve(n)?;
+        self.slots.reserve(n)?;
+        Ok(())
+    }
+
     /// Appends a group. After `NoMemory` the groups are unchanged.
+    #[inline]
     pub fn push(&mut self, group: SharedGroup) -> Result<(), NoMemory>
         ensures added { OnOk result (self.new ≡ self.old ++ group ∷ []) }
         ensures same { OnErr result (self.new ≡ self.old) }

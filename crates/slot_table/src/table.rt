@@ -1,5 +1,5 @@
 // The groups of a composition.
-ghost use Rattle.std.specs.Prelude.{◌≡◌, ◌≤◌, ◌<◌, ◌+◌, ◌∷◌, [], List, length, drop, slice_index_or, IfOk, OnOk};
+ghost use Rattle.std.specs.Prelude.{◌≡◌, ◌≤◌, ◌<◌, ◌+◌, ◌-◌, ◌++◌, ◌∷◌, [], List, length, drop, take, slice_index_or, IfOk, OnOk};
 ghost use Rattle.rt_groups.specs.declared.groups.Group.{Group as group_data};
 ghost use Rattle.slot_table.specs.TableGroups.{group_at, is_node_kind};
 ghost use Rattle.slot_table.specs.ReaderStates.{after_deep};
@@ -152,11 +152,30 @@ impl Table {
     }
 
     /// Returns the group at index `i`, which shares its slots with this table.
+    #[inline]
     pub fn share(&self, i: usize) -> Result<SharedGroup, NoMemory>
         requires { i < length self.now.groups }
         ensures { IfOk result (λ g. g ≡ group_at self.now.groups i) }
     {
         SharedGroup::sharing(*self.head(i), self.slot(i))
+    }
+
+    /// Appends the groups from index `from` to before index `to` to `groups`. They share their slots with this table.
+    pub fn share_run(
+        &self,
+        from: usize,
+        to: usize,
+        groups: &mut TableBuilder,
+    ) -> Result<(), NoMemory>
+        requires order { from ≤ to }
+        requires inside { to ≤ length self.now.groups }
+        ensures { OnOk result (groups.new ≡ groups.old ++ take (to - from) (drop from self.now.groups)) }
+    {
+        groups.reserve(to - from)?;
+        for i in from..to {
+            groups.push(self.share(i)?)?;
+        }
+        Ok(())
     }
 
     /// Returns the index after the group at index `i` and all groups inside it.

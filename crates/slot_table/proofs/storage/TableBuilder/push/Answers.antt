@@ -1,4 +1,4 @@
-use Rattle.std.proofs.Common.{◌++◌, ◌∷◌, [], sym, ap, ◌∙◌, refl}
+use Rattle.std.proofs.Common.{◌++◌, ◌∷◌, [], ap, ◌∙◌}
 use Rattle.slot_table.proofs.JoinedGroups.{parts_pushed}
 use Rattle.slot_table.proofs.storage.TableBuilder.push.Goals as goal
 

@@ -1,4 +1,4 @@
-use Rattle.std.proofs.Common.{◌≡◌, arith, sym, ap, ◌∙◌, length, length-set}
+use Rattle.std.proofs.Common.{arith, ap}
 use Rattle.slot_table.proofs.JoinedGroups.{inside_heads, set_parts}
 use Rattle.slot_table.proofs.storage.TableBuilder.set_reads.Goals as goal
 
