@@ -59,7 +59,7 @@ impl Slots {
     }
 
     // Returns a copy, which shares the values and the reads.
-    #[inline]
+    #[inline(always)]
     fn copy(&self) -> Result<Self, NoMemory>
         ensures { IfOk result (λ s. s ≡ self.now) }
     {
@@ -143,7 +143,7 @@ impl SharedGroup {
     }
 
     // Returns the group with this head, which shares `slots`.
-    #[inline]
+    #[inline(always)]
     pub(crate) fn sharing(head: GroupHead, slots: &Slots) -> Result<Self, NoMemory>
         requires { head.is_node ≡ is_node_kind slots.now.what }
         ensures { IfOk result (λ g. g ≡ flat_group head.depth head.site head.number slots.now.what slots.now.reads) }
@@ -256,7 +256,7 @@ impl TableBuilder {
     }
 
     /// Appends a group. After `NoMemory` the groups are unchanged.
-    #[inline]
+    #[inline(always)]
     pub fn push(&mut self, group: SharedGroup) -> Result<(), NoMemory>
         ensures added { OnOk result (self.new ≡ self.old ++ group ∷ []) }
         ensures same { OnErr result (self.new ≡ self.old) }

@@ -152,7 +152,7 @@ impl Table {
     }
 
     /// Returns the group at index `i`, which shares its slots with this table.
-    #[inline]
+    #[inline(always)]
     pub fn share(&self, i: usize) -> Result<SharedGroup, NoMemory>
         requires { i < length self.now.groups }
         ensures { IfOk result (λ g. g ≡ group_at self.now.groups i) }
