@@ -1,5 +1,5 @@
 // The parts of the groups of a table, in two gap buffers.
-ghost use Rattle.std.specs.Prelude.{◌≡◌, ◌<◌, ◌++◌, ◌∷◌, [], IfOk, OnOk, OnErr, length, slice_set};
+ghost use Rattle.std.specs.Prelude.{◌≡◌, ◌<◌, ◌++◌, ◌∷◌, [], IfOk, OnOk, OnErr, length, slice_set, vec_len, vec_capacity};
 ghost use Rattle.rt_groups.specs.PreorderGroups.{flat_group};
 ghost use Rattle.slot_table.specs.Storage.{AreParts};
 ghost use Rattle.slot_table.specs.SharedSlots.{reads_in};
@@ -182,6 +182,19 @@ impl SharedGroup {
     }
 }
 
+// Makes capacity for one more item. Checks for spare capacity inline, since most calls find some.
+#[inline(always)]
+fn make_room<T>(items: &mut Vec<T>) -> Result<(), NoMemory>
+    ensures items { items.new.items ≡ items.old.items }
+    ensures room { OnOk result (vec_len items.new < vec_capacity items.new) }
+{
+    if items.len() < items.capacity() {
+        return Ok(());
+    }
+    items.reserve(1)?;
+    Ok(())
+}
+
 /// Groups in preorder that become a table.
 #[derive(Drop)]
 pub struct TableBuilder {
@@ -261,8 +274,9 @@ impl TableBuilder {
         ensures added { OnOk result (self.new ≡ self.old ++ group ∷ []) }
         ensures same { OnErr result (self.new ≡ self.old) }
     {
-        self.slots.reserve(1)?;
-        self.heads.push(group.head)?;
+        make_room(&mut self.heads)?;
+        make_room(&mut self.slots)?;
+        self.heads.push_reserved(group.head);
         self.slots.push_reserved(group.slots);
         Ok(())
     }
