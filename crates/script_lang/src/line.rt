@@ -99,6 +99,16 @@ fn type_word(ty: Ty) -> &'static [u8]
     }
 }
 
+// Appends the printed form of a value. A number of one digit needs no buffer.
+fn add_printed(text: &mut Vec<u8>, value: &Value) -> Result<(), NoMemory>
+    ensures { OnOk result (text.new.items ≡ text.old.items ++ value_text value.now) }
+{
+    match value {
+        Value::Int(number) if 0 <= *number => add_number(text, *number as u64),
+        _ => value.put(text),
+    }
+}
+
 // Appends what precedes a request, and the request.
 fn add_request(text: &mut Vec<u8>, states: &[State], request: &Request) -> Result<(), NoMemory>
     ensures { let words = codes ": " ++ request_text states.now request.now in
@@ -158,7 +168,7 @@ fn add_write(
     add(text, b" ")?;
     add_state(text, states, object)?;
     add(text, b" ")?;
-    value.put(text)
+    add_printed(text, value)
 }
 
 // Appends a reply, and LF.
@@ -219,7 +229,7 @@ fn add_changed(
 fn add_value(text: &mut Vec<u8>, value: &Value) -> Result<(), NoMemory>
     ensures { OnOk result (text.new.items ≡ text.old.items ++ line (value_text value.now)) }
 {
-    value.put(text)?;
+    add_printed(text, value)?;
     add(text, b"\n")
 }
 
