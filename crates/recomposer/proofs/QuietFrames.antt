@@ -1,5 +1,5 @@
 -- A frame in which no call is owed changes nothing.
-use Rattle.std.proofs.Common.{ℕ, suc, ◌+◌, ◌-◌, ◌^◌, ◌≤◌, min, List, [], ◌++◌, ◌≡◌, refl, ap, ◌∙◌, sym, subst, length, append-nil, Bool, true, false, if◌then◌else◌, Option, Some, None, Result, Ok, Err, OnOk, take, arith}
+use Rattle.std.proofs.Common.{ℕ, ◌+◌, ◌-◌, ◌^◌, ◌≤◌, min, List, [], ◌++◌, ◌≡◌, refl, ap, ◌∙◌, sym, subst, length, append-nil, Bool, true, false, if◌then◌else◌, Option, Some, None, Result, Ok, Err, OnOk, take, arith}
 use Rattle.std.specs.Option.{is_none}
 use Rattle.rt_values.specs.Maps.{Map, differ}
 use Rattle.rt_groups.specs.declared.report.Report.{Report}
@@ -8,7 +8,7 @@ use Rattle.rt_groups.specs.Nodes.{nodes}
 use Rattle.rt_groups.specs.Frames.{LastFrame, numbered_forest, most_groups, ran, calculated, reads, report}
 use Rattle.lang_ast.specs.Terms.{Func}
 use Rattle.compose_model.specs.Composing.{meanings, meaning_at, forest}
-use Rattle.compose_model.specs.Frame.{FrameResult, good_frame, frame}
+use Rattle.compose_model.specs.Frame.{FrameResult, frame}
 use Rattle.lang_checks.specs.declared.checks.Checked.{Checked}
 use Rattle.recompose_laws.specs.Work.{Work, no_work, with_call, work}
 use Rattle.recompose_laws.specs.Refreshing.{is_owed, SameReads}
@@ -19,7 +19,6 @@ use Rattle.recompose_laws.specs.Distinct.{AreDistinct}
 use Rattle.recompose_laws.proofs.Idles.{quiet_part_is_kept}
 use Rattle.recompose_laws.proofs.Plain.{kept_trail_is_the_forest}
 use Rattle.recompose_laws.proofs.Renewals.{composing_again_is_the_frame}
-use Rattle.node_tree.specs.declared.ops.Op.{Op}
 use Rattle.node_tree.proofs.SameLevels.{unchanged_tree_needs_no_calls}
 use Rattle.tree_laws.proofs.ForestTrees.{kept_tree_is_distinct}
 use Rattle.composer.specs.OwedObjects.{OwedObjects}

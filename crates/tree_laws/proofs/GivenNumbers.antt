@@ -3,7 +3,7 @@ use Rattle.std.proofs.Common.{ℕ, zero, suc, ◌<◌, ◌≤◌, ◌==◌, ◌�
 use Rattle.std.proofs.lemmas.Bool.Decides.{eqb_tells}
 use Rattle.rt_groups.specs.GroupForest.{GroupForest, End, Read, Group, GroupKind, is_node}
 use Rattle.rt_groups.specs.Paths.{GroupKey, sibling, same_sibling, occurrence, Found, nth, matching_sibling, inside_of}
-use Rattle.rt_groups.specs.Frames.{number_for, number_of, numbered_forest}
+use Rattle.rt_groups.specs.Frames.{number_for, number_of}
 use Rattle.compose_model.specs.Composing.{forest}
 use Rattle.recompose_laws.specs.Numbering.{numbered_by_siblings}
 use Rattle.recompose_laws.specs.Distinct.{has_number, how_often, NodesAt}
