@@ -1,5 +1,5 @@
 -- A frame in which no call is owed changes nothing.
-use Rattle.std.proofs.Common.{ℕ, ◌+◌, ◌-◌, ◌^◌, ◌≤◌, min, List, [], ◌++◌, ◌≡◌, refl, ap, ◌∙◌, sym, subst, length, append-nil, Bool, true, false, if◌then◌else◌, Option, Some, None, Result, Ok, Err, OnOk, take, arith}
+use Rattle.std.proofs.Common.{ℕ, ◌-◌, ◌^◌, ◌≤◌, min, List, [], ◌++◌, ◌≡◌, refl, ap, ◌∙◌, sym, subst, length, append-nil, Bool, true, false, if◌then◌else◌, Option, Some, None, Result, Ok, Err, OnOk, take, arith}
 use Rattle.std.specs.Option.{is_none}
 use Rattle.rt_values.specs.Maps.{Map, differ}
 use Rattle.rt_groups.specs.declared.report.Report.{Report}
