@@ -2,6 +2,7 @@ pub mod BesideCases
 pub mod BesideSteps
 pub mod CalledFunctions
 pub mod Comparisons
+pub mod EqualKinds
 pub mod LevelIndexes
 pub mod Marks
 pub mod Machine
@@ -9,6 +10,7 @@ pub mod Matching
 pub mod OldMatches
 pub mod OldParts
 pub mod OldWalks
+pub mod QuietRuns
 pub mod Reaching
 pub mod ReadCounts
 pub mod RunCalls

@@ -33,7 +33,7 @@ past_inside d inside rest more e =
     ∙ past_preorder (d + 1) (d + 1) inside (preorder d rest ++ more) (omega arith)
     ∙ past_end (d + 1) (preorder d rest ++ more) (ends_deeper d rest more e)
 
-no_group : (d : ℕ) (g : TableGroup) (gs more : List TableGroup) → g ∷ gs ≡ more → Ends d more → d ≤ g.depth → ⊥
+pub no_group : (d : ℕ) (g : TableGroup) (gs more : List TableGroup) → g ∷ gs ≡ more → Ends d more → d ≤ g.depth → ⊥
 no_group d g gs [] e ends deep = absurd cc
 no_group d g gs (h ∷ hs) e ends deep = let same : g.depth ≡ h.depth = ap (λ (k : TableGroup). k.depth) (let k : g ≡ h = cc in k) in omega (arith, same, deep, ends)
 

@@ -1,5 +1,5 @@
 -- Old groups that are skipped one after another.
-use Rattle.std.proofs.Common.{ℕ, suc, ◌+◌, ◌++◌, List, [], ◌∷◌, ◌≡◌, refl, ap, ◌∙◌, sym, subst, ◌-◌, ◌<◌, ◌≤◌, length, length-drop, drop, drop-cons, nat_le, Bool, true, false, if◌then◌else◌, Result, Ok, Err, arith}
+use Rattle.std.proofs.Common.{ℕ, suc, ◌+◌, ◌++◌, List, [], ◌∷◌, ◌≡◌, refl, ap, ◌∙◌, sym, subst, ◌-◌, ◌<◌, ◌≤◌, length, length-append, length-drop, drop, drop-cons, nat_le, Bool, true, false, if◌then◌else◌, Result, Ok, Err, IsErr, arith}
 use Rattle.std.proofs.lemmas.List.{drop_all}
 use Rattle.slot_table.specs.TableGroups.{group_at}
 use Rattle.slot_table.specs.ReaderStates.{after_deep}
@@ -13,6 +13,9 @@ use Rattle.composer.specs.declared.stop.ComposeStop.{ComposeStop}
 use Rattle.composer.specs.declared.stop.ComposeStop.TheVariants.{TooManyGroups}
 use Rattle.composer.specs.ComposerState.{ComposerState, skipped_inside, skipped_groups}
 use Rattle.composer.specs.BesideContracts.{Reaches, LastComposition, IsPrefix, IsOldPart}
+use Rattle.rt_groups.specs.Frames.{most_groups}
+use Rattle.composer.specs.QuietRuns.{group_run, with_run, QuietRun}
+use Rattle.composer.proofs.Reaching.{reached_full}
 use Rattle.composer.specs.OldGroups.{Begins, Ends, FirstGroup, from_first_group}
 use Rattle.composer.proofs.OldMatches.{next_of, later_groups}
 use Rattle.composer.proofs.OldWalks.{none_left, ends_at}
@@ -88,9 +91,6 @@ left_done {m = m} {owed = owed} {fs = fs} {d = d} {gs = gs} {mid = mid} k e = re
 
 -- No group at an index and after it is as deep.
 
-pub ends_level : (groups : List Listed) (d i : ℕ) → (group_at groups i).depth < d → Ends d (drop i groups)
-ends_level groups d i shallow = ends_at groups d i (λ g rest e. subst (λ (x : Listed). x.depth < d) (next_of groups rest g i e).0 shallow)
-
 pub ends_past : (groups : List Listed) (d i : ℕ) → length groups ≤ i → Ends d (drop i groups)
 ends_past groups d i past = ends_at groups d i (λ g rest e. absurd (let none = drop_all i groups past in cc))
 
@@ -132,3 +132,26 @@ index_grows groups i j inside after most =
     let next = ap (λ (l : List Listed). length l) (after (group_at groups i) (drop (suc i) groups) first) in
     let short = after_short ((group_at groups i).depth + 1) (drop (suc i) groups) in
     omega (arith, inside, most, next, short, length-drop j groups, length-drop (suc i) groups)
+
+-- The old groups that are left after a run in which no call is owed.
+
+pub left_run : {m : Map} {owed : List ℕ} {l : LastComposition} {fs : List Func} {d i j : ℕ} {t : GroupForest} {groups : List Listed} {s mid late : ComposerState} → (k : GroupsLeft m owed l fs d t (drop i groups) s mid) → QuietRun owed d groups i j k.rest →
+    late ≡ with_run (group_run groups i j) mid → GroupsLeft m owed l fs d t (drop j groups) s late
+left_run {m = m} {owed = owed} {l = l} {fs = fs} {d = d} {mid = mid} k q added = record {
+  rest = q.rest;
+  begins = q.begins;
+  part = q.part l m k.part;
+  going = ap (λ (x : ComposerState). skipped_groups m owed q.rest fs d x) added ∙ q.kept k.part.numbered m fs mid ∙ k.going;
+}
+
+-- A run did not fit.
+pub left_full : {U : Type 0} {m : Map} {owed : List ℕ} {l : LastComposition} {fs : List Func} {d i j : ℕ} {t : GroupForest} {groups : List Listed} {s mid late : ComposerState} (result : Result U ComposeStop) → (k : GroupsLeft m owed l fs d t (drop i groups) s mid) → QuietRun owed d groups i j k.rest →
+    IsErr result → (result ≡ Err TooManyGroups → most_groups < length mid.groups + length (group_run groups i j)) → late.asked ≡ mid.asked → Reaches (skipped_groups m owed t fs d s) late result
+left_full {m = m} {owed = owed} {fs = fs} {d = d} {i = i} {j = j} {t = t} {groups = groups} {s = s} {mid = mid} {late = late} result k q failed full same =
+    let run = group_run groups i j in
+    let whole = q.kept k.part.numbered m fs mid ∙ k.going in
+    let len = ap (λ (x : ComposerState). length x.groups) whole in
+    let far = longer_skipped m owed q.rest fs d (with_run run mid) in
+    let sum = length-append mid.groups run in
+    reached_full result failed (λ e. let big = full e in omega (arith, big, far, len, sum))
+    (subst (λ (a : List ℕ). IsPrefix a (skipped_groups m owed t fs d s).asked) (sym same) (subst (λ (x : ComposerState). IsPrefix mid.asked x.asked) k.going (part_skipped m owed k.rest fs d mid)))

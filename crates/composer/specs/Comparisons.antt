@@ -1,7 +1,10 @@
 -- Internal: comparisons of new groups with old ones.
 use Rattle.std.specs.Prelude.{ℕ, List, Bool, true, false, not, ◌&&◌, ◌||◌, ◌==◌, Option, Some, None}
 use Rattle.rt_values.specs.declared.value.Value.{Value}
-use Rattle.rt_values.specs.Values.{same_values}
+use Rattle.std.specs.Str.{bytes_eq}
+use Rattle.std.specs.Cmp.Lexicographic.{pointwise}
+use Rattle.rt_values.specs.Values.{same_value, same_values}
+use Rattle.rt_groups.specs.declared.groups.Attribute.{Attribute}
 use Rattle.rt_groups.specs.declared.groups.GroupKind.{GroupKind}
 use Rattle.rt_groups.specs.declared.groups.GroupKind.TheVariants as what
 use Rattle.rt_groups.specs.Frames.{meets}
@@ -10,6 +13,21 @@ use Rattle.composer.specs.OldSiblings.{KeyInfo, old_group}
 abbrev pub same_call : GroupKind → GroupKind → Bool
 same_call (what.Call f vs) (what.Call g ws) = (f == g) && same_values vs ws
 same_call _ _ = false
+
+-- Whether two attributes have equal names and values.
+abbrev pub same_attribute : Attribute → Attribute → Bool
+same_attribute a b = same_value a.value b.value && bytes_eq a.name b.name
+
+abbrev pub same_attributes : List Attribute → List Attribute → Bool
+same_attributes = pointwise same_attribute
+
+-- Whether two kinds are equal, with their values.
+abbrev pub same_kind : GroupKind → GroupKind → Bool
+same_kind (what.Call f vs) (what.Call g ws) = (f == g) && same_values vs ws
+same_kind (what.Node k xs) (what.Node l ys) = bytes_eq k l && same_attributes xs ys
+same_kind (what.Key v) (what.Key w) = same_value v w
+same_kind (what.Cell ks v) (what.Cell js w) = same_values ks js && same_value v w
+same_kind _ _ = false
 
 -- Whether a call runs: it has no old group, its arguments differ, or its own reads include an owed object.
 abbrev pub call_runs : List ℕ → Option KeyInfo → GroupKind → Bool

@@ -8,4 +8,5 @@ pub mod OwedObjects
 pub mod WrittenGroups
 pub mod BesideContracts
 pub mod FrameStates
+pub mod QuietRuns
 pub mod Recomposes

@@ -73,6 +73,16 @@ written_kept depth site number w reads d = record {
   reads = d.reads;
 }
 
+-- Old groups that are kept as they are.
+abbrev pub written_run : List Group → WrittenGroups → WrittenGroups
+written_run gs d = record {
+  groups = d.groups ++ gs;
+  next = d.next;
+  ran = d.ran;
+  calculated = d.calculated;
+  reads = d.reads;
+}
+
 -- The number that a group keeps: that of a node.
 abbrev pub number_kept : GroupKind → ℕ → ℕ
 number_kept (what.Call f vs) n = 0

@@ -5,13 +5,13 @@ ghost use Rattle.rt_values.specs.Values.{same_values};
 ghost use Rattle.rt_groups.specs.declared.groups.GroupKind.TheVariants as kinds;
 ghost use Rattle.rt_groups.specs.Frames.{meets};
 ghost use Rattle.slot_table.specs.ReaderStates.{group_key};
-ghost use Rattle.composer.specs.Comparisons.{same_call, call_runs, has_keys, other_keys};
+ghost use Rattle.composer.specs.Comparisons.{same_attribute, same_attributes, same_kind, same_call, call_runs, has_keys, other_keys};
 ghost use Rattle.composer.specs.WrittenGroups.{kept_of};
 
 use crate::old_groups::OldGroup;
 use crate::owed::Owed;
 use lang_meaning::Env;
-use rt_groups::GroupKind;
+use rt_groups::{Attribute, GroupKind};
 use rt_values::{NoMemory, ObjectNo, Value};
 use std::alloc::Global;
 
@@ -40,6 +40,61 @@ fn same_lists(values: &[Value], others: &[Value]) -> bool
         rest = more;
     }
     rest.is_empty()
+}
+
+// Returns whether both attributes have equal names and values.
+fn is_same_attribute(attribute: &Attribute, other: &Attribute) -> bool
+    ensures { result ≡ same_attribute attribute.now other.now }
+{
+    attribute.value.same(&other.value) && attribute.name.is(other.name.bytes())
+}
+
+// Returns whether both lists have equal attributes in the same order.
+fn same_attributes(attributes: &[Attribute], others: &[Attribute]) -> bool
+    ensures { result ≡ same_attributes attributes.now others.now }
+{
+    let mut rest = others;
+    for attribute in attributes {
+        let Some((other, more)) = rest.split_first() else {
+            return false;
+        };
+        if !is_same_attribute(attribute, other) {
+            return false;
+        }
+        rest = more;
+    }
+    rest.is_empty()
+}
+
+/// Returns whether both kinds are equal, with their values.
+pub fn is_same_kind(kind: &GroupKind, other: &GroupKind) -> bool
+    ensures { result ≡ same_kind kind.now other.now }
+{
+    match (kind, other) {
+        (
+            GroupKind::Call { .. },
+            GroupKind::Call {
+                function,
+                arguments,
+            },
+        ) => { is_same_call(kind, *function, arguments.items()) }
+        (
+            GroupKind::Node { kind, attributes },
+            GroupKind::Node {
+                kind: word,
+                attributes: others,
+            },
+        ) => kind.is(word.bytes()) && same_attributes(attributes.items(), others.items()),
+        (GroupKind::Key(value), GroupKind::Key(key)) => value.same(key),
+        (
+            GroupKind::Cell { keys, value },
+            GroupKind::Cell {
+                keys: others,
+                value: kept,
+            },
+        ) => same_lists(keys.items(), others.items()) && value.same(kept),
+        _ => false,
+    }
 }
 
 // Returns whether it is a call of this function with equal arguments.

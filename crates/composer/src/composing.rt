@@ -22,6 +22,7 @@ use crate::draft::{Draft, Held};
 use crate::old_groups::OldGroup;
 use crate::owed::Owed;
 use crate::pending::Pending;
+use crate::runs::{is_end, quiet_end};
 use crate::stop::ComposeStop;
 use crate::writer::Writer;
 use group_keys::SiblingKey;
@@ -671,7 +672,8 @@ fn kept_number(what: &GroupKind, number: u64) -> u64
     }
 }
 
-// Skips the old groups from index `first` on, up to the first that is less deep.
+// Skips the old groups from index `first` on, up to the first that is less deep. Siblings in which no call is owed are kept
+// all at once.
 #[cycle(again)]
 fn skip_all<'a, V: View, L: Ledger>(
     level: &Level<'a>,
@@ -687,12 +689,14 @@ fn skip_all<'a, V: View, L: Ledger>(
 {
     let mut at = first;
     while at < table.len() {
-        if table.depth(at) < level.depth {
+        let stop = quiet_end(table, level.owed, level.depth, at);
+        writer.keep_run(table, at, stop)?;
+        if is_end(table, level.depth, stop) {
             return Ok(());
         }
-        let old = OldGroup::new(table, at);
+        let old = OldGroup::new(table, stop);
         skip_group(level, old.site(), &old, writer, view, steps)?;
-        at = table.index_after(at);
+        at = table.index_after(stop);
     }
     Ok(())
 }

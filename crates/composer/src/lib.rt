@@ -15,6 +15,7 @@ mod draft;
 mod old_groups;
 mod owed;
 mod pending;
+mod runs;
 mod stop;
 mod writer;
 

@@ -1,14 +1,16 @@
 // The groups of a new frame, as they are written.
-ghost use Rattle.std.specs.Prelude.{◌≡◌, ◌≤◌, ◌<◌, ◌+◌, ◌-◌, ◌^◌, ◌++◌, ◌∷◌, [], List, ℕ, Err, length, Bool, IfOk, OnOk};
+ghost use Rattle.std.specs.Prelude.{◌≡◌, ◌≤◌, ◌<◌, ◌+◌, ◌-◌, ◌^◌, ◌++◌, ◌∷◌, [], List, ℕ, Err, length, Bool, true, IfOk, OnOk};
 ghost use Rattle.std.specs.Option.{option_map};
 ghost use Rattle.rt_groups.specs.declared.groups.Group.{Group as group_data};
 ghost use Rattle.rt_groups.specs.declared.groups.GroupKind.TheVariants as kinds;
 ghost use Rattle.rt_groups.specs.PreorderGroups.{flat_group};
 ghost use Rattle.rt_groups.specs.Frames.{most_groups};
 ghost use Rattle.composer.specs.ComposerState.{one_if};
-ghost use Rattle.composer.specs.WrittenGroups.{number_for, number_of, cells_in, entered, with_call, written_kept, draft_of, is_node as node, nodes_in};
+ghost use Rattle.composer.specs.OldSiblings.{old_group};
+ghost use Rattle.composer.specs.QuietRuns.{group_run};
+ghost use Rattle.composer.specs.WrittenGroups.{number_for, number_of, cells_in, entered, with_call, written_kept, written_run, draft_of, is_node as node, nodes_in};
 
-use crate::compared::has_other_keys;
+use crate::compared::{has_other_keys, is_same_kind};
 use crate::draft::Draft;
 use crate::old_groups::OldGroup;
 use crate::stop::ComposeStop;
@@ -123,7 +125,7 @@ impl Writer {
         let Some(calculated) = self.calculated.checked_add(cell_count(&what, found)) else {
             return Err(ComposeStop::NoMemory); // There are fewer cells than groups.
         };
-        let group = new_group(alloc, depth, site, number, what)?;
+        let group = matched_group(alloc, depth, site, number, what, found)?;
         self.push(group)?;
         self.next = next;
         self.calculated = calculated;
@@ -161,6 +163,24 @@ impl Writer {
         ensures full { result ≡ Err ComposeStop.TooManyGroups → length self.old.groups ≡ most_groups }
     {
         self.push(group)
+    }
+
+    /// Appends the groups of `table` from index `from` to before index `to`, which are kept as they are. Fails if there
+    /// would be more than 1,000,000 groups.
+    pub fn keep_run(&mut self, table: &Table, from: usize, to: usize) -> Result<(), ComposeStop>
+        requires room { length self.old.groups ≤ most_groups }
+        requires order { from ≤ to }
+        requires inside { to ≤ length table.now.groups }
+        ensures added { OnOk result (self.new ≡ written_run (group_run table.now.groups from to) self.old) }
+        ensures longer { OnOk result (length self.old.groups ≤ length self.new.groups) }
+        ensures fits { OnOk result (length self.new.groups ≤ most_groups) }
+        ensures full { result ≡ Err ComposeStop.TooManyGroups →
+            most_groups < length self.old.groups + length (group_run table.now.groups from to) }
+    {
+        if to - from > MOST_GROUPS - self.groups.len() {
+            return Err(ComposeStop::TooManyGroups);
+        }
+        Ok(table.share_run(from, to, &mut self.groups)?)
     }
 
     /// Gives the call at index `place`, which ran, its own reads, and counts them.
@@ -203,6 +223,32 @@ fn new_group(
         reads: Deps::new(alloc),
     };
     SharedGroup::new(alloc, group)
+}
+
+// Returns a group without reads. It shares the slots of `found` if they are equal.
+fn matched_group(
+    alloc: Global,
+    depth: u32,
+    site: u32,
+    number: u64,
+    what: GroupKind,
+    found: &Option<OldGroup>,
+) -> Result<SharedGroup, NoMemory>
+    ensures { IfOk result (λ g. g ≡ flat_group depth site number what []) }
+{
+    if let Some(old) = found {
+        if has_same_slots(old, &what) {
+            return Ok(old.share()?.placed(depth, site, number));
+        }
+    }
+    new_group(alloc, depth, site, number, what)
+}
+
+// Returns whether the old group has this kind, with equal values, and no reads.
+fn has_same_slots(old: &OldGroup, what: &GroupKind) -> bool
+    ensures { result ≡ true → ((old_group old.now).what ≡ what.now) × ((old_group old.now).reads ≡ []) }
+{
+    old.reads().is_empty() && is_same_kind(old.kind(), what)
 }
 
 // Returns the number of a node and the next unused number: the number of the old group, or the next one.

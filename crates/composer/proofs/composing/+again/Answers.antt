@@ -42,7 +42,7 @@ use Rattle.composer.proofs.CalledFunctions.{how_many_functions, slice_is, since_
 use Rattle.composer.proofs.SkippedCalls.{skips, skips_as}
 use Rattle.composer.proofs.RunCalls.{call_alone, part_ran, longer_ran, body_done, body_stop, part_one, longer_than, call_what, owed_call, kept_call, kept_other, kept_state, owed_is, no_call, body_part, begins_after}
 use Rattle.composer.proofs.OldWalks.{first_of_all}
-use Rattle.composer.proofs.SkipLoops.{first_parts, left_first, left_more, left_stop, left_done, ends_level, ends_past, index_behind, behind_is, index_grows}
+use Rattle.composer.proofs.SkipLoops.{first_parts, left_first, left_run, left_full, left_more, left_stop, left_done, ends_past, index_behind, behind_is, index_grows}
 use Rattle.composer.proofs.ReadCounts.{counted_after, counted_cell, longer_on}
 use Rattle.composer.proofs.composing.+again.Goals as goal
 
@@ -1099,14 +1099,31 @@ skip_all-loop-at-init g t c = record {
   going = λ m h l tr mine since part begins. left_first begins part;
 }
 
-pub skip_all-returns-then-depth-level : goal.skip_all-returns-then-depth-level
-skip_all-returns-then-depth-level g t c = record {
+pub skip_all-returns-then-is_end : goal.skip_all-returns-then-is_end
+skip_all-returns-then-is_end g t c = record {
+  keeps = search (rules, g.met.V.View.keeps_on, g.met.V.View.keeps_itself);
+  same = search rules;
+  longer = omega (arith, c.loop-at.invariant.longer, c.in_ok-keep_run.ensures.longer);
+  fits = c.in_ok-keep_run.ensures.fits;
+  counted = λ m h. let e = c.loop-at.invariant.counted m h in let reads = ap (λ (w : WrittenGroups). w.reads) c.in_ok-keep_run.ensures.added in omega (arith, e, reads);
+  ran = λ m h l tr mine since part begins.
+      let k = c.loop-at.invariant.going m h l tr mine since part begins in
+      let q = c.quiet_end-stop.ensures.quiet k.rest k.begins in
+      let added = ap (λ (w : WrittenGroups). state_of w (g.V.View.asked c.loop-at.view) mine) c.in_ok-keep_run.ensures.added in
+      left_done (left_run k q added) (c.is_end.ensures.end c.if-is_end.true);
+}
+
+pub skip_all-returns-in_err-keep_run : goal.skip_all-returns-in_err-keep_run
+skip_all-returns-in_err-keep_run g t c = record {
   keeps = search (rules, g.met.V.View.keeps_on, g.met.V.View.keeps_itself);
   same = search rules;
   longer = search rules;
   fits = search rules;
-  counted = λ m h. c.loop-at.invariant.counted m h;
-  ran = λ m h l tr mine since part begins. left_done (c.loop-at.invariant.going m h l tr mine since part begins) (ends_level c.args.table.now.groups c.args.level.now.depth c.loop-at.at (search (rules, arith)));
+  counted = λ m h. search rules;
+  ran = λ m h l tr mine since part begins.
+      let k = c.loop-at.invariant.going m h l tr mine since part begins in
+      let q = c.quiet_end-stop.ensures.quiet k.rest k.begins in
+      left_full _ k q (search rules) (λ e. c.keep_run.ensures.full (search rules)) refl;
 }
 
 pub skip_all-returns : goal.skip_all-returns
@@ -1127,13 +1144,21 @@ skip_all-returns-in_err-skip_group g t c = record {
   fits = search rules;
   counted = λ m h. search rules;
   ran = λ m h l tr mine since part begins.
-      let e : c.from_residual.result ≡ Err c.in_err-skip_group.field-0.0 = search rules in
-      let k = c.loop-at.invariant.going m h l tr mine since part begins in
-      let f = first_of_all c.args.table.now.groups c.args.level.now.depth c.loop-at.at (index_behind c.args.table.now.groups c.loop-at.at) k.rest k.begins (search (rules, arith)) (search (rules, arith)) (behind_is c.args.table.now.groups c.loop-at.at) in
-      let like = subst (λ (q : KeyInfo). SameGroup c.args.level.now.depth q f.found) (sym c.new-old.ensures) f.same in
+      let e : c.from_residual-in_err-skip_group.result ≡ Err c.in_err-skip_group.field-0.0 = search rules in
+      let i = c.quiet_end-stop.result in
+      let owed = c.args.level.now.owed.now.objects in
+      let fs = functions_view c.args.level.now.functions.now in
+      let d = c.args.level.now.depth in
+      let k0 = c.loop-at.invariant.going m h l tr mine since part begins in
+      let added = ap (λ (w : WrittenGroups). state_of w (g.V.View.asked c.loop-at.view) mine) c.in_ok-keep_run.ensures.added in
+      let k = left_run k0 (c.quiet_end-stop.ensures.quiet k0.rest k0.begins) added in
+      let here = c.is_end.ensures.more c.if-is_end.false in
+      let f = first_of_all c.args.table.now.groups d i (index_behind c.args.table.now.groups i) k.rest k.begins here.0 here.1 (behind_is c.args.table.now.groups i) in
+      let like = subst (λ (q : KeyInfo). SameGroup d q f.found) (sym c.new-old.ensures) f.same in
       let site = c.site.ensures ∙ ap (λ (q : KeyInfo). (old_group q).site) c.new-old.ensures ∙ f.site_is in
-      let s = state_of c.loop-at.writer (g.V.View.asked c.loop-at.view) mine in
-      let move : skipped_inside m c.args.level.now.owed.now.objects (functions_view c.args.level.now.functions.now) c.args.level.now.depth c.site.result f.found.number f.found.what (is_owed c.args.level.now.owed.now.objects f.found.inside) f.found.inside (skipped_groups m c.args.level.now.owed.now.objects f.found.inside) s ≡ skipped_inside m c.args.level.now.owed.now.objects (functions_view c.args.level.now.functions.now) c.args.level.now.depth f.site f.found.number f.found.what (is_owed c.args.level.now.owed.now.objects f.found.inside) f.found.inside (skipped_groups m c.args.level.now.owed.now.objects f.found.inside) s = ap (λ n. skipped_inside m c.args.level.now.owed.now.objects (functions_view c.args.level.now.functions.now) c.args.level.now.depth n f.found.number f.found.what (is_owed c.args.level.now.owed.now.objects f.found.inside) f.found.inside (skipped_groups m c.args.level.now.owed.now.objects f.found.inside) s) site in
+      let s = state_of c.keep_run.new.self (g.V.View.asked c.loop-at.view) mine in
+      let move : skipped_inside m owed fs d c.site.result f.found.number f.found.what (is_owed owed f.found.inside) f.found.inside (skipped_groups m owed f.found.inside) s ≡ skipped_inside m owed fs d f.site f.found.number f.found.what (is_owed owed f.found.inside) f.found.inside (skipped_groups m owed f.found.inside) s =
+      ap (λ n. skipped_inside m owed fs d n f.found.number f.found.what (is_owed owed f.found.inside) f.found.inside (skipped_groups m owed f.found.inside) s) site in
       left_stop _ k f (reached_at move (c.in_err-skip_group.ensures.ran m (c.loop-at.invariant.same m h) l f.found mine since (first_parts f k.part).0 like)) e;
 }
 
@@ -1141,18 +1166,33 @@ pub skip_all-loop-at-preserved : goal.skip_all-loop-at-preserved
 skip_all-loop-at-preserved g t c = record {
   keeps = g.met.V.View.keeps_on _ _ _ c.loop-at.invariant.keeps c.in_ok-skip_group.ensures.keeps;
   same = λ m h. c.in_ok-skip_group.ensures.same m (c.loop-at.invariant.same m h);
-  longer = omega (arith, c.loop-at.invariant.longer, c.in_ok-skip_group.ensures.longer);
+  longer = omega (arith, c.loop-at.invariant.longer, c.in_ok-keep_run.ensures.longer, c.in_ok-skip_group.ensures.longer);
   fits = c.in_ok-skip_group.ensures.fits;
-  counted = λ m h. let e = c.loop-at.invariant.counted m h in let f = c.in_ok-skip_group.ensures.counted m (c.loop-at.invariant.same m h) in omega (arith, e, f);
+  counted = λ m h.
+      let e = c.loop-at.invariant.counted m h in
+      let reads = ap (λ (w : WrittenGroups). w.reads) c.in_ok-keep_run.ensures.added in
+      let f = c.in_ok-skip_group.ensures.counted m (c.loop-at.invariant.same m h) in omega (arith, e, reads, f);
   going = λ m h l tr mine since part begins.
-      let k = c.loop-at.invariant.going m h l tr mine since part begins in
-      let f = first_of_all c.args.table.now.groups c.args.level.now.depth c.loop-at.at c.index_after-at.result k.rest k.begins (search (rules, arith)) (search (rules, arith)) c.index_after-at.ensures.after in
-      let like = subst (λ (q : KeyInfo). SameGroup c.args.level.now.depth q f.found) (sym c.new-old.ensures) f.same in
+      let i = c.quiet_end-stop.result in
+      let owed = c.args.level.now.owed.now.objects in
+      let fs = functions_view c.args.level.now.functions.now in
+      let d = c.args.level.now.depth in
+      let k0 = c.loop-at.invariant.going m h l tr mine since part begins in
+      let added = ap (λ (w : WrittenGroups). state_of w (g.V.View.asked c.loop-at.view) mine) c.in_ok-keep_run.ensures.added in
+      let k = left_run k0 (c.quiet_end-stop.ensures.quiet k0.rest k0.begins) added in
+      let here = c.is_end.ensures.more c.if-is_end.false in
+      let f = first_of_all c.args.table.now.groups d i c.index_after-at.result k.rest k.begins here.0 here.1 c.index_after-at.ensures.after in
+      let like = subst (λ (q : KeyInfo). SameGroup d q f.found) (sym c.new-old.ensures) f.same in
       let site = c.site.ensures ∙ ap (λ (q : KeyInfo). (old_group q).site) c.new-old.ensures ∙ f.site_is in
-      let s = state_of c.loop-at.writer (g.V.View.asked c.loop-at.view) mine in
-      let move : skipped_inside m c.args.level.now.owed.now.objects (functions_view c.args.level.now.functions.now) c.args.level.now.depth c.site.result f.found.number f.found.what (is_owed c.args.level.now.owed.now.objects f.found.inside) f.found.inside (skipped_groups m c.args.level.now.owed.now.objects f.found.inside) s ≡ skipped_inside m c.args.level.now.owed.now.objects (functions_view c.args.level.now.functions.now) c.args.level.now.depth f.site f.found.number f.found.what (is_owed c.args.level.now.owed.now.objects f.found.inside) f.found.inside (skipped_groups m c.args.level.now.owed.now.objects f.found.inside) s = ap (λ n. skipped_inside m c.args.level.now.owed.now.objects (functions_view c.args.level.now.functions.now) c.args.level.now.depth n f.found.number f.found.what (is_owed c.args.level.now.owed.now.objects f.found.inside) f.found.inside (skipped_groups m c.args.level.now.owed.now.objects f.found.inside) s) site in
+      let s = state_of c.keep_run.new.self (g.V.View.asked c.loop-at.view) mine in
+      let move : skipped_inside m owed fs d c.site.result f.found.number f.found.what (is_owed owed f.found.inside) f.found.inside (skipped_groups m owed f.found.inside) s ≡ skipped_inside m owed fs d f.site f.found.number f.found.what (is_owed owed f.found.inside) f.found.inside (skipped_groups m owed f.found.inside) s =
+      ap (λ n. skipped_inside m owed fs d n f.found.number f.found.what (is_owed owed f.found.inside) f.found.inside (skipped_groups m owed f.found.inside) s) site in
       left_more k f (reached_at move (c.in_ok-skip_group.ensures.ran m (c.loop-at.invariant.same m h) l f.found mine since (first_parts f k.part).0 like));
 }
 
 pub skip_all-loop-at-smaller : goal.skip_all-loop-at-smaller
-skip_all-loop-at-smaller g t c = index_grows c.args.table.now.groups c.loop-at.at c.index_after-at.result (omega arith) c.index_after-at.ensures.after c.index_after-at.ensures.inside
+skip_all-loop-at-smaller g t c =
+    let here = c.is_end.ensures.more c.if-is_end.false in
+    let less = index_grows c.args.table.now.groups c.quiet_end-stop.result c.index_after-at.result here.0 c.index_after-at.ensures.after c.index_after-at.ensures.inside in
+    let low = c.quiet_end-stop.ensures.order in
+    omega (arith, less, low)
