@@ -185,6 +185,9 @@ fn run_group<'a, V: View, L: Ledger>(
         .take(level.alloc, &SiblingKey::new(site, key_of(&what)))?;
     made.writer
         .enter(level.alloc, level.depth, site, what, &found)?;
+    if body.is_empty() {
+        return Ok(());
+    }
     let inside = Level {
         alloc: level.alloc,
         functions: level.functions,

@@ -1,4 +1,5 @@
 use Rattle.std.proofs.Common.{rules, ◌≡◌, ◌<◌, ◌++◌, ◌+◌, ◌∷◌, [], arith, sym, ap, ◌∙◌, subst, List, ℕ, ℤ, pos, to_z, of_z, w64, append-nil, Err, Ok, refl, length, length-append, get_or, map, Option, Some, None, true, false}
+use Rattle.std.proofs.lemmas.Bool.{eqb-true}
 use Rattle.rt_values.specs.declared.value.Value.{Value}
 use Rattle.rt_values.specs.declared.value.Value.TheVariants as value
 use Rattle.rt_values.specs.Operators.{is_true, items_of}
@@ -33,7 +34,7 @@ use Rattle.composer.specs.Recomposes.{ComposesBeside, is_call_kept}
 use Rattle.composer.proofs.BesideCases.{node_beside, call_beside, key_beside, choice_beside, loop_beside, binding_beside, remember_beside, node_calculates, key_calculates, then_calculates, else_calculates, loop_calculates, binding_calculates, cell_calculates, remember_calculates}
 use Rattle.composer.proofs.Machine.{same_state}
 use Rattle.composer.proofs.Reaching.{reached_stop, reached_full, reached_at}
-use Rattle.composer.proofs.BesideSteps.{beside_stop_here, beside_stop_after, beside_after, beside_full, beside_group, beside_cell, beside_run, going_first, going_more, going_done, going_stop, beside_err, beside_first, beside_second}
+use Rattle.composer.proofs.BesideSteps.{beside_stop_here, beside_stop_after, beside_after, beside_full, beside_group, beside_alone, beside_cell, beside_run, going_first, going_more, going_done, going_stop, beside_err, beside_first, beside_second}
 use Rattle.composer.proofs.OldParts.{inside_old}
 use Rattle.composer.proofs.OldMatches.{fits_inside}
 use Rattle.composer.proofs.Matching.{matched, key_is, matched_state, container_is_no_call, kept_is_calculated, entered_longer, call_longer, kept_longer, at_now, beside_now, beside_inside}
@@ -223,6 +224,28 @@ run_group-returns-in_err-enter-clause-part g t c = record {
   longer = search rules;
   fits = search rules;
   counted = λ m h. search rules;
+}
+
+pub run_group-returns-then-is_empty-clause-ran : goal.run_group-returns-then-is_empty-clause-ran
+run_group-returns-then-is_empty-clause-ran g t c w is plain m h o b calc =
+    let x = sibling c.args.site w in
+    let xs = key_is c.args.site w c.args.what _ c.key_of.ensures is c.new.ensures in
+    let k = matched {left = c.take.new.self} x c.new.result xs b c.in_ok-found.ensures.found c.in_ok-found.ensures.left in
+    let there = matching_sibling x (occurrence x o.seen) o.old in
+    let inside = body_forest m c.args.level.now.functions.now (stmts_view c.args.body.now) c.args.made.now.scope in
+    let state = matched_state c.args.level.now.depth c.args.site w c.args.what inside c.in_ok-found.found there c.args.made.now.writer c.enter.new.self (g.V.View.asked c.args.view.now) c.args.made.now.reads (container_is_no_call w plain) k.like is c.in_ok-enter.ensures.entered in
+    let empty : length c.args.body.now ≡ 0 = eqb-true (length c.args.body.now) 0 (sym c.is_empty.ensures ∙ c.if-is_empty.true) in
+    let none : inside ≡ End = all_end m c.args.level.now.functions.now c.args.body.now 0 c.args.made.now.scope (omega (arith, empty)) in
+    beside_alone w inside _ plain none state k.fits
+
+pub run_group-returns-then-is_empty-clause-part : goal.run_group-returns-then-is_empty-clause-part
+run_group-returns-then-is_empty-clause-part g t c = record {
+  keeps = search (rules, g.met.V.View.keeps_on, g.met.V.View.keeps_itself);
+  same = search rules;
+  same_scope = search rules;
+  longer = entered_longer _ _ c.args.what c.in_ok-found.found c.args.made.now.writer _ c.in_ok-enter.ensures.entered;
+  fits = c.in_ok-enter.ensures.fits;
+  counted = λ m h. let e : c.enter.new.self.reads ≡ c.args.made.now.writer.reads = ap (λ (q : WrittenGroups). q.reads) c.in_ok-enter.ensures.entered in omega (arith, e);
 }
 
 pub run_group-returns-in_err-run_all-clause-ran : goal.run_group-returns-in_err-run_all-clause-ran
