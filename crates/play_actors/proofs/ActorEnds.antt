@@ -1,21 +1,23 @@
 -- Actors before their first step and after their last one, and the history of all.
-use Rattle.std.proofs.Common.{◌≡◌, inl, inr, ℕ, zero, suc, ◌-◌, ◌<◌, List, [], ◌∷◌, Bool, true, false, length, map, refl, sym, ap, ◌∙◌, subst, None, arith, length-append}
+use Rattle.std.proofs.Common.{◌≡◌, inl, inr, ℕ, zero, suc, ◌-◌, ◌<◌, List, [], ◌∷◌, ◌++◌, Bool, true, false, length, map, refl, sym, ap, ◌∙◌, subst, None, arith, append_assoc, length-append}
 use Rattle.std.proofs.lemmas.Bool.{cases_lt}
 use Rattle.std.proofs.lemmas.List.{length-map, get_or-map, get_or-append_right}
 use Rattle.std.proofs.Math.ListN.{get_or-append}
 use Rattle.std.specs.Prelude.{slice_index_or}
 use Rattle.std.specs.List.{All}
 use Rattle.snap_policy.specs.declared.policy.BuiltIn.{BuiltIn}
-use Rattle.snap_api.specs.World.{World, History}
+use Rattle.snap_policy.specs.Table.{table}
+use Rattle.snap_api.specs.World.{World, History, IsLegal}
 use Rattle.snap_shared.specs.Seats.{opening_of, number_of, seen_by, mine_of, IsSeat}
 use Rattle.snap_shared.specs.SharedCalls.{own_calls, numbers_below, ContainsSeat}
 use Rattle.snap_shared.specs.declared.shared.Seat.{Seat}
 use Rattle.snap_shared.specs.declared.shared.Shared.{Shared}
 use Rattle.script_lang.specs.PrintedCalls.{printed}
 use Rattle.script_lang.specs.StepCalls.{ActorPart, no_notes}
+use Rattle.woven_laws.specs.Laws.{CanBeCompleted}
 use Rattle.woven_laws.specs.FirstParts.{IsFirstPart, SpellsTo}
 use Rattle.woven_laws.specs.PrintedHistory.{frames_after_calls}
-use Rattle.woven_laws.specs.Woven.{actor_at, initial_actor, parts_of, SpellsAll}
+use Rattle.woven_laws.specs.Woven.{actor_at, initial_actor, parts_of, IsWoven, SpellsAll}
 use Rattle.woven_laws.proofs.Steps.{nothing_is_spelled, all_is_spelled}
 use Rattle.play_actors.specs.ActorNotes.{IsNoted}
 use Rattle.play_actors.specs.ActorSteps.{CountsSnapshots, HasCome, HasActed, ActsThrough}
@@ -103,9 +105,9 @@ module _ {W A : Type 0} (seat : A → Seat W) (number : A → ℕ) (actors : Lis
         at ∙ sym (number_is number actors (length seats) k d numbers long here),
       )
 
-module _ {W E A : Type 0} (seat : E → Seat W) (short : E → Bool) (number : A → ℕ) (stands : W → World BuiltIn → Type 0) (shared : Shared W BuiltIn) (parts : List ActorPart)
-    (actors : List A) (ends : List E) (many : length ends ≡ length actors)
-    (acts : (k : ℕ) (d : A) (e : E) → k < length actors → ActsThrough stands shared parts (number (slice_index_or actors k d)) (seat (slice_index_or ends k e)) (short (slice_index_or ends k e))) where
+module _ {W A : Type 0} (seat : A → Seat W) (short : A → Bool) (number : A → ℕ) (stands : W → World BuiltIn → Type 0) (shared : Shared W BuiltIn) (parts : List ActorPart)
+    (actors ends : List A) (many : length ends ≡ length actors)
+    (acts : (k : ℕ) (d : A) → k < length actors → ActsThrough stands shared parts (number (slice_index_or actors k d)) (seat (slice_index_or ends k d)) (short (slice_index_or ends k d))) where
   -- All seats are at rest.
   pub all_fit : (seats : List (Seat W)) → seats ≡ map seat ends → All (λ x. IsSeat shared x) seats
   all_fit seats same k d within =
@@ -114,7 +116,7 @@ module _ {W E A : Type 0} (seat : E → Seat W) (short : E → Bool) (number : A
       let there : k < length actors = omega (arith, here, many) in
       let e = element ends k here in
       let is : slice_index_or seats k d ≡ seat (slice_index_or ends k e) = ap (λ (l : List (Seat W)). slice_index_or l k d) same ∙ get_or-map seat ends k e d here in
-      subst (λ x. IsSeat shared x) (sym is) (acts k (element actors k there) e there).seated.fits
+      subst (λ x. IsSeat shared x) (sym is) (acts k e there).seated.fits
 
   pub all_acted : (o : World BuiltIn) → stands (opening_of shared) o → CountsSnapshots o → (h : History) (any : Bool) (seats : List (Seat W)) (n : ℕ) → length actors ≡ n → map number actors ≡ numbers_below n →
       seats ≡ map seat ends → All (λ x. ContainsSeat h (number_of x) (seen_by x)) seats → (any ≡ false → All (λ x. short x ≡ false) ends) → (a : ℕ) → a < n → HasActed parts a (own_calls a h) any
@@ -122,12 +124,20 @@ module _ {W E A : Type 0} (seat : E → Seat W) (short : E → Bool) (number : A
       let there : a < length actors = omega (arith, under, count) in
       let here : a < length ends = omega (arith, there, many) in
       let e = element ends a here in
-      let d = element actors a there in
       let x = slice_index_or ends a e in
-      let act = acts a d e there in
-      let is : number (slice_index_or actors a d) ≡ a = number_is number actors n a d numbers count under in
+      let act = acts a e there in
+      let is : number (slice_index_or actors a e) ≡ a = number_is number actors n a e numbers count under in
       let long : length seats ≡ length ends = ap (λ (l : List (Seat W)). length l) same ∙ length-map ends seat in
       let at : slice_index_or seats a (seat e) ≡ seat x = ap (λ (l : List (Seat W)). slice_index_or l a (seat e)) same ∙ get_or-map seat ends a e (seat e) here in
       let holds_it = subst (λ s. ContainsSeat h (number_of s) (seen_by s)) at (holds a (seat e) (omega (arith, here, long))) in
       acted_in parts h a (seat x) (short x) any (act.seated.is_callers ∙ is) holds_it.1 (λ f. none f a e here)
       (subst (λ k. HasActed parts k (mine_of (seat x)) (short x)) is (act.acted o stood counts))
+
+-- A history can be continued to a legal and woven one if a longer one can.
+pub part_completed : (n : ℕ) (parts : List ActorPart) (w : World BuiltIn) (h more all : History) → h ++ more ≡ all → CanBeCompleted n parts w all → CanBeCompleted n parts w h
+part_completed n parts w h more all is done =
+    let whole : h ++ (more ++ done.0) ≡ all ++ done.0 = sym (append_assoc h more done.0) ∙ ap (λ l. l ++ done.0) is in (
+      more ++ done.0,
+      subst (λ l. IsLegal table w l) (sym whole) done.1,
+      subst (λ l. IsWoven n (initial_actor parts) l) (sym whole) done.2,
+    )

@@ -1,5 +1,5 @@
 // All actors of a script, each on a thread of its own.
-ghost use Rattle.std.specs.Prelude.{◌≡◌, ◌++◌, ◌∷◌, ◌<◌, [], ℕ, All, IfOk, OnOk, length, map, false, slice_index_or};
+ghost use Rattle.std.specs.Prelude.{◌≡◌, ◌++◌, ◌∷◌, ◌<◌, [], ℕ, ◌≤◌, All, IfOk, OnOk, length, map, false, slice_index_or, vec_capacity};
 ghost use Rattle.snap_policy.specs.Table.{table};
 ghost use Rattle.snap_api.specs.World.{IsLegal};
 ghost use Rattle.snap_shared.specs.Seats.{number_of, IsNewSeat};
@@ -12,9 +12,10 @@ ghost use Rattle.play_actors.specs.ActorSteps.{ActsThrough, IsActorsHistory};
 use crate::printed::keep_printed;
 use crate::steps::run_actor;
 use crate::worker::ActorRun;
+use core::mem;
 use play_run::Job;
 use rt_streams::Gate;
-use rt_values::{Caller, NoMemory};
+use rt_values::{Caller, Name, NoMemory};
 use snap_api::{Entry, LogWorld, Versions};
 use snap_policy::BuiltIn;
 use snap_shared::{Seat, Shared};
@@ -25,30 +26,36 @@ use std::thread::{self, Threads};
 /// What the actors of a script have done.
 #[derive(Drop)]
 pub struct ActorsEnd {
-    /// The printed calls of the whole history, in its order. The reads of frames are left out.
+    /// The printed calls of the history, in its order. The reads of frames are left out. If an actor ran out of memory
+    /// while it composed a frame, the calls end before the dispose of that frame's snapshot.
     pub calls: Vec<Entry>,
     /// Whether an actor stopped because it ran out of memory.
     pub short: bool,
 }
 
-// An actor before its first step.
+// An actor before its first step, or after its last one.
 #[derive(Drop)]
-struct WaitingActor<V> {
+struct Actor<V> {
     number: Caller,
     seat: Seat<V>,
+    // Whether the actor ran out of memory.
+    short: bool,
+    // The snapshot of the frame in which the actor ran out of memory, if it was composing one.
+    failed: Option<Name>,
 }
 
-// An actor after its last step.
+// What all actors have done: the calls of the world, and how the actors ended.
 #[derive(Drop)]
-struct EndedActor<V> {
-    seat: Seat<V>,
+struct WholeHistory {
+    calls: Vec<Entry>,
     short: bool,
+    failed: Option<Name>,
 }
 
 // Appends `actor`.
 fn push_actor<V: Versions + Drop>(
-    actors: &mut Vec<WaitingActor<V>>,
-    actor: WaitingActor<V>,
+    actors: &mut Vec<Actor<V>>,
+    actor: Actor<V>,
 ) -> Result<(), NoMemory>
     ensures { OnOk result (actors.new.items ≡ actors.old.items ++ actor ∷ []) }
 {
@@ -58,68 +65,70 @@ fn push_actor<V: Versions + Drop>(
     }
 }
 
-// Appends `seat`.
-fn push_seat<V: Versions + Drop>(seats: &mut Vec<Seat<V>>, seat: Seat<V>) -> Result<(), NoMemory>
-    ensures { OnOk result (seats.new.items ≡ seats.old.items ++ seat ∷ []) }
-{
-    match seats.push(seat) {
-        Ok(()) => Ok(()),
-        Err(_) => Err(NoMemory),
-    }
-}
-
 // Gives each actor the seat of its number.
 fn actors_for<V: Versions + Drop>(
     alloc: Global,
     seats: Vec<Seat<V>>,
-) -> Result<Vec<WaitingActor<V>>, NoMemory>
+) -> Result<Vec<Actor<V>>, NoMemory>
     ensures seats { IfOk result (λ v. map (λ x. x.seat) v.items ≡ seats.items) }
     ensures numbers { IfOk result (λ v. map (λ x. x.number) v.items ≡ numbers_below (length seats.items)) }
 {
     let mut actors = Vec::new(alloc);
     for seat in seats {
         let number = actors.len() as u64;
-        let Ok(()) = push_actor(&mut actors, WaitingActor { number, seat }) else {
+        let actor = Actor {
+            number,
+            seat,
+            short: false,
+            failed: None,
+        };
+        let Ok(()) = push_actor(&mut actors, actor) else {
             return Err(NoMemory);
         };
     }
     Ok(actors)
 }
 
-// Returns the seats of all actors, in order, and whether an actor ran out of memory.
+// Returns the seats of all actors, in order, and how the actors ended. `seats` is empty, with capacity for them.
 fn seats_of<V: Versions + Drop>(
-    alloc: Global,
-    ended: Vec<EndedActor<V>>,
-) -> Result<(Vec<Seat<V>>, bool), NoMemory>
-    ensures seats { IfOk result (λ r. r.0.items ≡ map (λ x. x.seat) ended.items) }
-    ensures short { IfOk result (λ r. r.1 ≡ false → All (λ x. x.short ≡ false) ended.items) }
+    actors: Vec<Actor<V>>,
+    mut seats: Vec<Seat<V>>,
+) -> (Vec<Seat<V>>, bool, Option<Name>)
+    requires empty { seats.items ≡ [] }
+    requires capacity { length actors.items ≤ vec_capacity seats }
+    ensures seats { result.0.items ≡ map (λ x. x.seat) actors.items }
+    ensures short { result.1 ≡ false → All (λ x. x.short ≡ false) actors.items }
 {
-    let mut seats = Vec::new(alloc);
     let mut any_short = false;
-    for actor in ended {
-        let EndedActor { seat, short } = actor;
+    let mut any_failed = None;
+    for actor in actors {
+        let Actor {
+            number: _,
+            seat,
+            short,
+            failed,
+        } = actor;
         any_short = any_short || short;
-        let Ok(()) = push_seat(&mut seats, seat) else {
-            return Err(NoMemory);
-        };
+        any_failed = any_failed.or(failed);
+        seats.push_reserved(seat);
     }
-    Ok((seats, any_short))
+    (seats, any_short, any_failed)
 }
 
-// Lets an actor make its steps.
-fn end_actor<V: Versions<P = BuiltIn> + Drop, R: Wait, G: Gate>(
+// Lets an actor make all its steps.
+fn make_steps<V: Versions<P = BuiltIn> + Drop, R: Wait, G: Gate>(
     rt: &R,
     alloc: Global,
     job: &Job,
     shared: &Shared<V>,
     gate: &G,
-    actor: WaitingActor<V>,
-) -> EndedActor<V>
+    actor: Actor<V>,
+) -> Actor<V>
     requires ready { IsNewSeat shared.now actor.seat × (number_of actor.seat ≡ actor.number) }
     ensures acts { let parts = script_parts job.now.script.actors.items job.now.script.forms.items in
         ActsThrough V.stands shared.now parts actor.number result.seat result.short }
 {
-    let WaitingActor { number, seat } = actor;
+    let Actor { number, seat, .. } = actor;
     let run = ActorRun {
         rt,
         alloc,
@@ -127,80 +136,90 @@ fn end_actor<V: Versions<P = BuiltIn> + Drop, R: Wait, G: Gate>(
         gate,
         number,
     };
-    let (seat, short) = run_actor(&run, job, seat);
-    EndedActor { seat, short }
+    let ended = run_actor(&run, job, seat);
+    Actor {
+        number,
+        seat: ended.seat,
+        short: ended.short,
+        failed: ended.failed,
+    }
 }
 
-// Lets all actors make their steps at once.
+// Lets all actors make their steps at once, each on a thread of its own.
+//
+// Takes no memory itself. An actor that is not short has made all its steps when the call returns, so no steps are left
+// for the caller to make. An actor works by value, since the desk of a frame owns the seat.
 fn run_together<
     V: Versions<P = BuiltIn> + Drop + Send + Sync,
     R: Threads + Wait + Sync,
     G: Gate + Sync,
->(
-    rt: &R,
-    alloc: Global,
-    job: &Job,
-    shared: &Shared<V>,
-    gate: &G,
-    actors: Vec<WaitingActor<V>>,
-) -> Result<Vec<EndedActor<V>>, NoMemory>
-    requires ready { All (λ x. IsNewSeat shared.now x.seat × (number_of x.seat ≡ x.number)) actors.items }
-    ensures many { IfOk result (λ v. length v.items ≡ length actors.items) }
+>(rt: &R, alloc: Global, job: &Job, shared: &Shared<V>, gate: &G, actors: &mut Vec<Actor<V>>)
+    requires some { 0 < length actors.old.items }
+    requires ready { All (λ x. IsNewSeat shared.now x.seat × (number_of x.seat ≡ x.number)) actors.old.items }
+    ensures many { length actors.new.items ≡ length actors.old.items }
     ensures acts { let parts = script_parts job.now.script.actors.items job.now.script.forms.items in
-        IfOk result (λ v. (k : ℕ) (d : _) (e : _) → k < length actors.items →
-        ActsThrough V.stands shared.now parts (slice_index_or actors.items k d).number
-        (slice_index_or v.items k e).seat (slice_index_or v.items k e).short) }
+        (k : ℕ) (d : _) → k < length actors.old.items → ActsThrough V.stands shared.now parts
+        (slice_index_or actors.old.items k d).number (slice_index_or actors.new.items k d).seat
+        (slice_index_or actors.new.items k d).short }
 {
-    let ended = thread::map_vec(
+    let threads = actors.len();
+    thread::for_each_mut(
         rt,
-        actors,
-        &|actor: WaitingActor<V>| -> EndedActor<V>
-            requires { IsNewSeat shared.now actor.seat × (number_of actor.seat ≡ actor.number) }
+        actors.as_mut_slice(),
+        threads,
+        &|_, actor: &mut Actor<V>|
+            requires { IsNewSeat shared.now actor.now.seat × (number_of actor.now.seat ≡ actor.now.number) }
             ensures { let parts = script_parts job.entry.now.script.actors.items job.entry.now.script.forms.items in
-                ActsThrough V.stands shared.entry.now parts actor.number result.seat result.short }
-        { end_actor(rt, alloc, job, shared, gate, actor) },
+                ActsThrough V.stands shared.entry.now parts
+                actor.entry.now.number actor.exit.now.seat actor.exit.now.short }
+        {
+            mem::replace_with(
+                actor,
+                (),
+                |actor, ()| (make_steps(rt, alloc, job, shared, gate, actor), ()),
+            )
+        },
     );
-    match ended {
-        Ok(ended) => Ok(ended),
-        Err(_) => Err(NoMemory),
-    }
 }
 
-// Runs all actors on a world of their own, and returns the whole history of the world, and whether an actor ran out of
-// memory.
+// Runs all actors on a world of their own, and returns the whole history of the world, and how the actors ended. Takes
+// no memory after the actors have ended.
 fn make_history<
     W: Versions<P = BuiltIn> + Drop + Send + Sync,
     R: Threads + Wait + Sync,
     G: Gate + Sync,
->(rt: &R, alloc: Global, job: &Job, world: W, gate: &G) -> Result<(Vec<Entry>, bool), NoMemory>
+>(rt: &R, alloc: Global, job: &Job, world: W, gate: &G) -> Result<WholeHistory, NoMemory>
     requires some { 0 < length job.now.script.actors.items }
     requires opens { W.stands world (opening_world job.now.program.states.items) }
     ensures { let parts = script_parts job.now.script.actors.items job.now.script.forms.items in
         IfOk result (λ r. IsActorsHistory (length job.now.script.actors.items) parts
-        (opening_world job.now.program.states.items) r.0.items r.1) }
+        (opening_world job.now.program.states.items) r.calls.items r.short) }
 {
     let Ok((shared, seats)) = Shared::new(rt, alloc, world, job.script.actors.len()) else {
         return Err(NoMemory);
     };
-    let Ok(actors) = actors_for(alloc, seats) else {
+    let Ok(mut actors) = actors_for(alloc, seats) else {
         return Err(NoMemory);
     };
-    let Ok(ended) = run_together(rt, alloc, job, &shared, gate, actors) else {
+    let Ok(spare) = Vec::with_capacity(alloc, actors.len()) else {
         return Err(NoMemory);
     };
-    let Ok((seats, short)) = seats_of(alloc, ended) else {
-        return Err(NoMemory);
-    };
-    let (world, history) = shared.into_parts(seats);
+    run_together(rt, alloc, job, &shared, gate, &mut actors);
+    let (seats, short, failed) = seats_of(actors, spare);
+    let (world, calls) = shared.into_parts(seats);
     drop(world);
-    Ok((history, short))
+    Ok(WholeHistory {
+        calls,
+        short,
+        failed,
+    })
 }
 
 /// Runs each actor of a script on a thread of its own, all on one shared world. Waits until all have ended.
 ///
 /// `world` is the world of the program's states, with the one watcher of frames. `gate` is asked before each call. An
-/// actor that runs out of memory stops, and the others go on. Fails if there is no memory for the actors themselves or
-/// for the history. This project's own rule.
+/// actor that runs out of memory stops, and the others go on. Fails only before the first step, if there is no memory
+/// for the actors. This project's own rule.
 pub fn run_actors<
     W: Versions<P = BuiltIn> + Drop + Send + Sync,
     R: Threads + Wait + Sync,
@@ -221,11 +240,15 @@ pub fn run_actors<
             short: false,
         });
     }
-    let Ok((history, short)) = make_history(rt, alloc, job, world, gate) else {
+    let Ok(frames) = Vec::with_capacity(alloc, job.script.actors.len()) else {
         return Err(NoMemory);
     };
-    match keep_printed(alloc, history) {
-        Ok(calls) => Ok(ActorsEnd { calls, short }),
-        Err(_) => Err(NoMemory),
-    }
+    let Ok(whole) = make_history(rt, alloc, job, world, gate) else {
+        return Err(NoMemory);
+    };
+    let (calls, cut) = keep_printed(whole.calls, frames, whole.failed);
+    Ok(ActorsEnd {
+        calls,
+        short: whole.short || cut,
+    })
 }

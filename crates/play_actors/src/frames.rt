@@ -39,6 +39,7 @@ fn compose<'p, V: Versions<P = BuiltIn> + Drop, R: Wait, G: Gate, L: Ledger>(
         mut memory,
         step,
         short,
+        failed,
     } = worker;
     let mut view = SeatView::new(run.rt, run.shared, seat, run.gate, step, Some(name));
     let composed = match memory
@@ -55,6 +56,7 @@ fn compose<'p, V: Versions<P = BuiltIn> + Drop, R: Wait, G: Gate, L: Ledger>(
         memory,
         step,
         short,
+        failed,
     };
     (worker, composed)
 }
@@ -77,6 +79,7 @@ fn finish_frame<'p, V: Versions<P = BuiltIn> + Drop, R: Wait, G: Gate>(
         Ok(()) => worker,
         Err(_) => {
             worker.short = true;
+            worker.failed = Some(name);
             worker
         }
     }

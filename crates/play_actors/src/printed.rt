@@ -1,5 +1,5 @@
 // The printed calls of a history.
-ghost use Rattle.std.specs.Prelude.{◌≡◌, ◌++◌, ◌∷◌, [], IfOk, OnOk, ℕ, List};
+ghost use Rattle.std.specs.Prelude.{◌≡◌, ◌<◌, ◌≤◌, ◌+◌, ◌++◌, ◌∷◌, [], IfOk, OnOk, ℕ, List, false, length, take, drop, slice_index_or, if◌then◌else◌};
 ghost use Rattle.std.specs.List.{filter};
 ghost use Rattle.rt_values.specs.Maps.{contains};
 ghost use Rattle.snap_api.specs.declared.data.Entry.{Entry as entry_data};
@@ -9,7 +9,6 @@ ghost use Rattle.play_actors.specs.OpenFrames.{open_frames, is_other_frame};
 
 use rt_values::{Caller, Name, NoMemory};
 use snap_api::{Entry, Reply, Request};
-use std::alloc::Global;
 
 // Whether the caller has this frame open.
 fn has_frame(frames: &[(Caller, Name)], caller: Caller, name: Name) -> bool
@@ -70,45 +69,95 @@ fn note_frame(frames: &mut Vec<(Caller, Name)>, entry: &Entry) -> Result<(), NoM
     }
 }
 
-// Appends `entry`.
-fn push_entry(calls: &mut Vec<Entry>, entry: Entry) -> Result<(), NoMemory>
-    ensures { OnOk result (calls.new.items ≡ calls.old.items ++ entry ∷ []) }
+// Whether a request disposes this snapshot.
+fn disposes(request: &Request, snapshot: Option<Name>) -> bool {
+    match (request, snapshot) {
+        (Request::Dispose { name }, Some(snapshot)) => *name == snapshot,
+        _ => false,
+    }
+}
+
+// Returns whether a call is printed, and changes the open frames by it if so. Fails if the call ends the frame that ran
+// out of memory, or if there is no memory for another open frame.
+fn prints_call(
+    frames: &mut Vec<(Caller, Name)>,
+    failed: Option<Name>,
+    entry: &Entry,
+) -> Result<bool, NoMemory>
+    ensures { IfOk result (λ b. (es : List entry_data) → printed_from (open_frames frames.old.items) (entry.now ∷ es)
+        ≡ (if b then entry.now ∷ printed_from (open_frames frames.new.items) es
+        else printed_from (open_frames frames.new.items) es)) }
 {
-    match calls.push(entry) {
-        Ok(()) => Ok(()),
+    if reads_frame(frames, entry) {
+        return Ok(false);
+    }
+    if disposes(&entry.request, failed) {
+        return Err(NoMemory);
+    }
+    match note_frame(frames, entry) {
+        Ok(()) => Ok(true),
         Err(_) => Err(NoMemory),
     }
 }
 
-// Appends `entry` to the printed calls, unless it reads the snapshot of an open frame of its caller.
-fn add_printed(
-    frames: &mut Vec<(Caller, Name)>,
-    calls: &mut Vec<Entry>,
-    entry: Entry,
-) -> Result<(), NoMemory>
-    ensures { OnOk result ((es : List entry_data) →
-        calls.new.items ++ printed_from (open_frames frames.new.items) es
-        ≡ calls.old.items ++ printed_from (open_frames frames.old.items) (entry ∷ es)) }
+// Moves the call at `from` to the index `to`, if `moves`. Returns the index for the next call.
+fn move_back(calls: &mut Vec<Entry>, from: usize, to: usize, moves: bool) -> usize
+    requires order { to ≤ from }
+    requires within { from < length calls.old.items }
+    ensures length { length calls.new.items ≡ length calls.old.items }
+    ensures order { result ≤ from + 1 }
+    ensures kept { (x : entry_data) → x ≡ slice_index_or calls.old.items from x → take result calls.new.items
+        ≡ (if moves then take to calls.old.items ++ x ∷ [] else take to calls.old.items) }
+    ensures rest { drop (from + 1) calls.new.items ≡ drop (from + 1) calls.old.items }
 {
-    if reads_frame(frames, &entry) {
-        return Ok(());
+    if !moves {
+        return to;
     }
-    let Ok(()) = note_frame(frames, &entry) else {
-        return Err(NoMemory);
-    };
-    push_entry(calls, entry)
+    calls.swap(to, from);
+    to + 1
 }
 
-/// Leaves out of a history the reads of the snapshots of frames, in each caller's own frames.
-pub(crate) fn keep_printed(alloc: Global, history: Vec<Entry>) -> Result<Vec<Entry>, NoMemory>
-    ensures { IfOk result (λ v. v.items ≡ printed_history history.items) }
+// Moves the printed calls to the front, in order. Returns how many there are, and whether some of them are missing.
+fn gather_printed(
+    calls: &mut Vec<Entry>,
+    frames: &mut Vec<(Caller, Name)>,
+    failed: Option<Name>,
+) -> (usize, bool)
+    ensures part { (more : List entry_data) × (take result.0 calls.new.items ++ more
+        ≡ printed_from (open_frames frames.old.items) calls.old.items) }
+    ensures whole { result.1 ≡ false → take result.0 calls.new.items
+        ≡ printed_from (open_frames frames.old.items) calls.old.items }
 {
-    let mut frames = Vec::new(alloc);
-    let mut calls = Vec::new(alloc);
-    for entry in history {
-        let Ok(()) = add_printed(&mut frames, &mut calls, entry) else {
-            return Err(NoMemory);
+    let mut kept = 0;
+    let mut next = 0;
+    while next < calls.len() {
+        let Ok(printed) = prints_call(frames, failed, &calls[next]) else {
+            return (kept, true);
         };
+        kept = move_back(calls, next, kept, printed);
+        next += 1;
     }
-    Ok(calls)
+    (kept, false)
+}
+
+/// Leaves out of a history the reads of the snapshots of frames, in each caller's own frames. Returns the printed
+/// calls, and whether the last of them are missing.
+///
+/// `failed` is the snapshot of a frame that ran out of memory: the calls end before its dispose. The empty list `frames`
+/// is for the open frames. Takes memory only if more frames are open than its capacity, and ends the calls if there is
+/// none.
+pub(crate) fn keep_printed(
+    history: Vec<Entry>,
+    frames: Vec<(Caller, Name)>,
+    failed: Option<Name>,
+) -> (Vec<Entry>, bool)
+    requires { frames.items ≡ [] }
+    ensures part { (more : List entry_data) × (result.0.items ++ more ≡ printed_history history.items) }
+    ensures whole { result.1 ≡ false → result.0.items ≡ printed_history history.items }
+{
+    let mut calls = history;
+    let mut frames = frames;
+    let (kept, cut) = gather_printed(&mut calls, &mut frames, failed);
+    calls.truncate(kept);
+    (calls, cut)
 }

@@ -12,7 +12,7 @@ use crate::worker::{ActorRun, Worker, run_call};
 use lang_ast::{DoForm, ScriptForm, StepForm};
 use play_run::Job;
 use rt_streams::Gate;
-use rt_values::Word;
+use rt_values::{Name, Word};
 use script_lang::{Script, index_of};
 use snap_api::Versions;
 use snap_policy::BuiltIn;
@@ -164,31 +164,50 @@ fn run_script<'p, V: Versions<P = BuiltIn> + Drop, R: Wait, G: Gate>(
     worker
 }
 
-/// Makes all steps of an actor through its seat. Returns the seat, and whether the actor ran out of memory, after which
-/// it makes no further step.
+/// An actor after its last step.
+#[derive(Drop)]
+pub(crate) struct EndedActor<V> {
+    pub(crate) seat: Seat<V>,
+    /// Whether the actor ran out of memory, after which it made no further step.
+    pub(crate) short: bool,
+    /// The snapshot of the frame in which the actor ran out of memory, if it was composing one.
+    pub(crate) failed: Option<Name>,
+}
+
+/// Makes all steps of an actor through its seat.
 pub(crate) fn run_actor<V: Versions<P = BuiltIn> + Drop, R: Wait, G: Gate>(
     run: &ActorRun<'_, V, R, G>,
     job: &Job,
     seat: Seat<V>,
-) -> (Seat<V>, bool)
+) -> EndedActor<V>
     requires seat { IsNewSeat run.now.shared.now seat × (number_of seat ≡ run.now.number) }
     ensures acts { let parts = script_parts job.now.script.actors.items job.now.script.forms.items in
-        ActsThrough V.stands run.now.shared.now parts run.now.number result.0 result.1 }
+        ActsThrough V.stands run.now.shared.now parts run.now.number result.seat result.short }
 {
     let Ok(memory) = ActorMemory::new(run.alloc, &job.program) else {
-        return (seat, true);
+        return EndedActor {
+            seat,
+            short: true,
+            failed: None,
+        };
     };
     let worker = Worker {
         seat,
         memory,
         step: 0,
         short: false,
+        failed: None,
     };
     let Worker {
         seat,
         memory: _,
         step: _,
         short,
+        failed,
     } = run_script(run, &job.script, worker);
-    (seat, short)
+    EndedActor {
+        seat,
+        short,
+        failed,
+    }
 }

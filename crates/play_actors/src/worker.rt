@@ -1,14 +1,14 @@
 // The worker of an actor, and the calls of its steps.
 ghost use Rattle.std.specs.Prelude.{◌∷◌, [], Option, ℕ};
-ghost use Rattle.script_lang.specs.StepCalls.{call_parts, calls_parts};
+ghost use Rattle.script_lang.specs.StepCalls.{Read, WriteSum, call_parts, calls_parts};
 ghost use Rattle.play_actors.specs.ActorNotes.{part_of};
 ghost use Rattle.play_actors.specs.ActorSteps.{by_actor, IsSeated, Makes, MakesCall, MayMake, frame_then};
 
 use crate::memory::ActorMemory;
 use crate::parts::StepPart;
-use lang_ast::CallForm;
+use lang_ast::{CallForm, SnapshotRef};
 use rt_streams::Gate;
-use rt_values::Caller;
+use rt_values::{Caller, Name, ObjectNo};
 use snap_api::{Request, Versions};
 use snap_policy::BuiltIn;
 use snap_shared::{Seat, Shared};
@@ -33,6 +33,8 @@ pub struct Worker<'p, V> {
     /// The number of the next call at the gate.
     pub(crate) step: u64,
     pub(crate) short: bool,
+    /// The snapshot of the frame that was composed when the worker ran out of memory, if one was.
+    pub(crate) failed: Option<Name>,
 }
 
 // Makes the call of a part, and notes the reply.
@@ -44,7 +46,8 @@ fn make_call<'p, V: Versions<P = BuiltIn> + Drop, R: Wait, G: Gate>(
 ) -> Worker<'p, V>
     requires seated { IsSeated run.now.shared.now run.now.number worker.seat }
     ensures seated { IsSeated run.now.shared.now run.now.number result.seat }
-    ensures makes { MakesCall V.stands run.now.shared.now run.now.number worker.entry result (part_of part.now) request }
+    ensures makes { MakesCall V.stands run.now.shared.now run.now.number worker.entry result
+        (part_of part.now) request }
 {
     run.gate.pass(run.number as usize, worker.step);
     worker.step = worker.step.wrapping_add(1);
@@ -90,7 +93,30 @@ pub(crate) fn make_part<'p, V: Versions<P = BuiltIn> + Drop, R: Wait, G: Gate>(
     }
 }
 
-// Makes a step without inner steps.
+// Makes an `add`: reads the object, and then writes the sum.
+fn run_add<'p, V: Versions<P = BuiltIn> + Drop, R: Wait, G: Gate>(
+    run: &ActorRun<'_, V, R, G>,
+    snapshot: &SnapshotRef,
+    object: ObjectNo,
+    amount: i64,
+    worker: Worker<'p, V>,
+) -> Worker<'p, V>
+    requires seated { IsSeated run.now.shared.now run.now.number worker.seat }
+    ensures seated { IsSeated run.now.shared.now run.now.number result.seat }
+    ensures makes { (frame : Option ℕ) → Makes V.stands run.now.shared.now worker.entry result frame frame
+        (by_actor run.now.number (Read snapshot.now object ∷ WriteSum snapshot.now object amount ∷ [])) }
+{
+    let read = StepPart::Read { snapshot, object };
+    let write = StepPart::WriteSum {
+        snapshot,
+        object,
+        amount,
+    };
+    let worker = make_part(run, &read, worker);
+    make_part(run, &write, worker)
+}
+
+/// Makes a step without inner steps.
 pub(crate) fn run_call<'p, V: Versions<P = BuiltIn> + Drop, R: Wait, G: Gate>(
     run: &ActorRun<'_, V, R, G>,
     form: &CallForm,
@@ -144,19 +170,7 @@ pub(crate) fn run_call<'p, V: Versions<P = BuiltIn> + Drop, R: Wait, G: Gate>(
             object,
             amount,
             ..
-        } => {
-            let read = StepPart::Read {
-                snapshot,
-                object: *object,
-            };
-            let write = StepPart::WriteSum {
-                snapshot,
-                object: *object,
-                amount: *amount,
-            };
-            let worker = make_part(run, &read, worker);
-            make_part(run, &write, worker)
-        }
+        } => run_add(run, snapshot, *object, *amount, worker),
         CallForm::Apply { snapshot, .. } => make_part(run, &StepPart::Apply { snapshot }, worker),
         CallForm::Dispose { snapshot, .. } => {
             make_part(run, &StepPart::Dispose { snapshot }, worker)

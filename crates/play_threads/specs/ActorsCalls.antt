@@ -10,8 +10,9 @@ use Rattle.play_run.specs.declared.job.Job.{Job}
 
 -- The calls can be continued to a legal and woven history, and are one if no actor ran out of memory.
 pub record AreActorsCalls (job : Job) (end : ActorsEnd) : Type 0 where
-  pub part : CanBeCompleted (length job.script.actors.items) (script_parts job.script.actors.items job.script.forms.items)
-      (opening_world job.program.states.items) end.calls.items
+  pub part : CanBeCompleted (length job.script.actors.items)
+      (script_parts job.script.actors.items job.script.forms.items) (opening_world job.program.states.items)
+      end.calls.items
   pub legal : IsLegal table (opening_world job.program.states.items) end.calls.items
   pub woven : end.short ≡ false → IsWoven (length job.script.actors.items)
       (initial_actor (script_parts job.script.actors.items job.script.forms.items)) end.calls.items

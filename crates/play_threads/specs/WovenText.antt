@@ -14,8 +14,8 @@ use Rattle.woven_laws.specs.Woven.{initial_actor, IsWoven}
 use Rattle.play_run.specs.RunPromise.{WritesBytes, job_style, job_functions}
 use Rattle.play_run.specs.declared.job.Job.{Job}
 
--- A history of a script whose actors take turns in any order: each reply is the plain world's, and of each actor the calls
--- are those that its steps make, in order, and no one else calls. The reads of frames are left out.
+-- A history of a script whose actors take turns in any order: each reply is the plain world's, and of each actor the
+-- calls are those that its steps make, in order, and no one else calls. The reads of frames are left out.
 pub record IsScriptHistory (style : LineStyle) (forms : List DoForm) (h : History) : Type 0 where
   pub legal : IsLegal table (opening_world style.titles.states) h
   pub woven : IsWoven (length style.titles.actors) (initial_actor (script_parts style.titles.actors forms)) h

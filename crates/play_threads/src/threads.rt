@@ -22,7 +22,8 @@ use std::thread::Threads;
 // Creates a world with a program's states and the watcher of its frames.
 fn open_world(alloc: Global, program: &Checked) -> Result<RecordWorld<BuiltIn>, NoMemory>
     requires few { length program.now.states.items ≤ 256 }
-    ensures { IfOk result (λ w. ⟦<RecordWorld<BuiltIn> as Versions>⟧.stands w (opening_world program.now.states.items)) }
+    ensures { IfOk result (λ w.
+        ⟦<RecordWorld<BuiltIn> as Versions>⟧.stands w (opening_world program.now.states.items)) }
 {
     let mut world = RecordWorld::new(alloc)?;
     set_up_world(alloc, program, &mut world)?;
@@ -72,12 +73,13 @@ fn write_calls<K: Sink>(
     }
 }
 
-/// Runs each actor of a job on a thread of its own, on one new world, and then writes the lines of all calls in the order in
-/// which they were made. `flags` say what is printed of a frame. Each thread asks `gate` before each of its calls, and waits
-/// for the turn on the world. A rule of this project.
+/// Runs each actor of a job on a thread of its own, on one new world, and then writes the lines of all calls in the
+/// order in which they were made. `flags` say what is printed of a frame. Each thread asks `gate` before each of its
+/// calls, and waits for the turn on the world. A rule of this project.
 ///
-/// An actor that runs out of memory stops, and the others go on. The lines are written then too, but the call fails. Fails also
-/// if the sink fails, or if there is no memory for the actors or the lines.
+/// An actor that runs out of memory stops, and the others go on. The lines are written then too, but the call fails. If
+/// the actor was composing a frame, the lines end before the dispose of that frame. Fails also if the sink fails, or if
+/// there is no memory for the actors or the lines.
 pub fn run_threads<R: Threads + Wait + Sync, K: Sink, G: Gate + Sync>(
     rt: &R,
     alloc: Global,

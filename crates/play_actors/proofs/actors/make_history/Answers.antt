@@ -17,7 +17,7 @@ run_together-requires-clause-ready g c κs lives =
 pub into_parts-world-requires-clause-all : goal.into_parts-world-requires-clause-all
 into_parts-world-requires-clause-all g c =
     all_fit (λ x. x.seat) (λ x. x.short) (λ x. x.number) _ c.in-Ok.shared (script_parts c.args.job.now.script.actors.items c.args.job.now.script.forms.items)
-    c.in-Ok-actors_for.actors.items c.in-Ok-run_together.ended.items c.in-Ok-run_together.ensures.many c.in-Ok-run_together.ensures.acts _ c.in-Ok-seats_of.ensures.seats
+    c.in-Ok-actors_for.actors.items c.run_together.new.actors.items c.run_together.ensures.many c.run_together.ensures.acts _ c.seats_of-seats.ensures.seats
 
 pub returns : goal.returns
 returns g c =
@@ -33,7 +33,7 @@ returns g c =
     let stood = c.in-Ok.ensures.stands w c.requires.opens (opening_shaped states) (opening_global states) in
     record {
       legal = (c.into_parts-world.ensures.legal w stood).0;
-      acted = all_acted (λ x. x.seat) (λ x. x.short) (λ x. x.number) _ c.in-Ok.shared parts c.in-Ok-actors_for.actors.items c.in-Ok-run_together.ended.items c.in-Ok-run_together.ensures.many c.in-Ok-run_together.ensures.acts
-          w stood (opening_counts states fit) _ _ _ n count (c.in-Ok-actors_for.ensures.numbers ∙ ap numbers_below number) c.in-Ok-seats_of.ensures.seats c.into_parts-world.ensures.seats c.in-Ok-seats_of.ensures.short;
+      acted = all_acted (λ x. x.seat) (λ x. x.short) (λ x. x.number) _ c.in-Ok.shared parts actors c.run_together.new.actors.items c.run_together.ensures.many c.run_together.ensures.acts
+          w stood (opening_counts states fit) _ _ _ n count (c.in-Ok-actors_for.ensures.numbers ∙ ap numbers_below number) c.seats_of-seats.ensures.seats c.into_parts-world.ensures.seats c.seats_of-seats.ensures.short;
       others = subst (λ k. HasOnlyCallersBelow k c.into_parts-world.result.1.items) (c.in-Ok.ensures.count ∙ long) c.into_parts-world.ensures.others;
     }

@@ -1,33 +1,41 @@
-use Rattle.std.proofs.Common.{sym, subst, length}
+use Rattle.std.proofs.Common.{◌≡◌, true, false, sym, subst, ◌∙◌, length}
 use Rattle.snap_policy.specs.Table.{table}
 use Rattle.snap_api.specs.World.{IsLegal}
 use Rattle.script_lang.specs.StepCalls.{script_parts, opening_world}
-use Rattle.woven_laws.specs.Laws.{CanBeCompleted}
+use Rattle.snap_shared.specs.HistoryEffects.{legal_parts}
 use Rattle.woven_laws.specs.Woven.{initial_actor, IsWoven}
 use Rattle.woven_laws.proofs.Prints.{printed_is_legal, printed_is_woven}
 use Rattle.woven_laws.proofs.Rests.{printed_part_is_completed}
+use Rattle.play_actors.proofs.ActorEnds.{part_completed}
 use Rattle.play_actors.proofs.actors.run_actors.Goals as goal
+use Rattle.play_actors.proofs.actors.run_actors.Goals.{then-whole, else-whole}
 
-pub returns-in-Ok-keep_printed-clause-legal : goal.returns-in-Ok-keep_printed-clause-legal
-returns-in-Ok-keep_printed-clause-legal g c =
+pub returns-clause-legal : goal.returns-clause-legal
+returns-clause-legal g c =
     let w = opening_world c.args.job.now.program.states.items in
-    let h = c.in-Ok.ensures in
-    subst (λ l. IsLegal table w l) (sym c.in-Ok-keep_printed.ensures) (printed_is_legal table w _ h.legal).0
+    let h = c.in-Ok-make_history.ensures in
+    let part = c.keep_printed-calls.ensures.part in
+    (legal_parts table w c.keep_printed-calls.result.0.items part.0 (subst (λ l. IsLegal table w l) (sym part.1) (printed_is_legal table w _ h.legal).0)).0
 
-pub returns-in-Ok-keep_printed-clause-woven : goal.returns-in-Ok-keep_printed-clause-woven
-returns-in-Ok-keep_printed-clause-woven g c short =
-    let w = opening_world c.args.job.now.program.states.items in
-    let parts = script_parts c.args.job.now.script.actors.items c.args.job.now.script.forms.items in
-    let n = length c.args.job.now.script.actors.items in
-    let h = c.in-Ok.ensures in
-    subst (λ l. IsWoven n (initial_actor parts) l) (sym c.in-Ok-keep_printed.ensures)
-    (printed_is_woven table n (initial_actor parts) w _ h.legal (λ a under. (h.acted a under).whole short) h.others).1
-
-pub returns-in-Ok-keep_printed-clause-part : goal.returns-in-Ok-keep_printed-clause-part
-returns-in-Ok-keep_printed-clause-part g c =
+pub returns-clause-woven : goal.returns-clause-woven
+returns-clause-woven g c short =
     let w = opening_world c.args.job.now.program.states.items in
     let parts = script_parts c.args.job.now.script.actors.items c.args.job.now.script.forms.items in
     let n = length c.args.job.now.script.actors.items in
-    let h = c.in-Ok.ensures in
-    subst (λ l. CanBeCompleted n parts w l) (sym c.in-Ok-keep_printed.ensures)
+    let h = c.in-Ok-make_history.ensures in
+    let both : (c.in-Ok-make_history.whole.short ≡ false) × (c.keep_printed-calls.result.1 ≡ false) = elim c.if-whole.branch [
+      | then-whole w ↦ (let e : true ≡ false = sym w.if-whole.true ∙ sym w.result-is ∙ short in absurd cc)
+      | else-whole w ↦ (w.if-whole.false, sym w.result-is ∙ short)
+    ] in
+    subst (λ l. IsWoven n (initial_actor parts) l) (sym (c.keep_printed-calls.ensures.whole both.1))
+    (printed_is_woven table n (initial_actor parts) w _ h.legal (λ a under. (h.acted a under).whole both.0) h.others).1
+
+pub returns-clause-part : goal.returns-clause-part
+returns-clause-part g c =
+    let w = opening_world c.args.job.now.program.states.items in
+    let parts = script_parts c.args.job.now.script.actors.items c.args.job.now.script.forms.items in
+    let n = length c.args.job.now.script.actors.items in
+    let h = c.in-Ok-make_history.ensures in
+    let part = c.keep_printed-calls.ensures.part in
+    part_completed n parts w c.keep_printed-calls.result.0.items part.0 _ part.1
     (printed_part_is_completed n parts w _ h.legal (λ a under. (h.acted a under).first) h.others)

@@ -3,7 +3,7 @@ use Rattle.std.proofs.lemmas.Int.{to_z-of_z}
 use Rattle.std.specs.Int.{w64}
 use Rattle.script_lang.specs.StepCalls.{Read, WriteSum, call_parts}
 use Rattle.play_actors.specs.ActorSteps.{by_actor, Makes}
-use Rattle.play_actors.proofs.Sequences.{makes_then, leads_as}
+use Rattle.play_actors.proofs.Sequences.{leads_as}
 use Rattle.play_actors.proofs.worker.run_call.Goals as goal
 
 pub returns-in-Add-clause-makes : goal.returns-in-Add-clause-makes
@@ -12,8 +12,5 @@ returns-in-Add-clause-makes g c frame =
     let shared = c.args.run.now.shared.now in
     let a = c.args.run.now.number in
     let fits = to_z-of_z w64 c.in-Add.amount (search rules) in
-    let read = by_actor a (Read c.in-Add.snapshot c.in-Add.object ∷ []) in
-    let write = by_actor a (WriteSum c.in-Add.snapshot c.in-Add.object c.in-Add.amount ∷ []) in
-    leads_as stands shared c.args.worker c.make_part-in-Add.result frame frame (by_actor a (Read c.in-Add.snapshot c.in-Add.object ∷ WriteSum c.in-Add.snapshot c.in-Add.object c.in-Add.amount ∷ [])) _ [] [] (ap (λ f. by_actor c.args.run.now.number (call_parts f)) (sym c.in-Add.is)) refl
-    (makes_then stands shared c.args.worker c.make_part-worker.result c.make_part-in-Add.result frame frame frame read write (c.make_part-worker.ensures.makes frame tt)
-    (subst (λ z. Makes stands shared c.make_part-worker.result c.make_part-in-Add.result frame frame (by_actor a (WriteSum c.in-Add.snapshot c.in-Add.object z ∷ []))) fits (c.make_part-in-Add.ensures.makes frame tt)))
+    leads_as stands shared c.args.worker c.run_add.result frame frame _ _ [] [] (ap (λ f. by_actor a (call_parts f)) (sym c.in-Add.is)) refl
+    (subst (λ z. Makes stands shared c.args.worker c.run_add.result frame frame (by_actor a (Read c.in-Add.snapshot c.in-Add.object ∷ WriteSum c.in-Add.snapshot c.in-Add.object z ∷ []))) fits (c.run_add.ensures.makes frame))
