@@ -1,5 +1,5 @@
 // Frames over an applier whose calls fail.
-ghost use Rattle.std.specs.Prelude.{◌≡◌, ◌≤◌, ◌<◌, ◌^◌, None, Err};
+ghost use Rattle.std.specs.Prelude.{◌≡◌, ◌≤◌, ◌<◌, ◌^◌, None, OnErr};
 ghost use Rattle.rt_streams.specs.Streams.{Rose};
 
 use crate::map_view::{MapView, view_of};
@@ -42,7 +42,7 @@ impl FailingList {
     // Counts a call, and lists it unless it fails.
     fn make(&mut self, call: Made) -> Result<(), Failed>
         ensures later { self.old.faults ≤ self.new.faults }
-        ensures failed { result ≡ Err Failed → Rose self.old.faults self.new.faults }
+        ensures failed { OnErr result (Rose self.old.faults self.new.faults) }
     {
         self.calls = self.calls.saturating_add(1);
         if self.calls == self.failing {
