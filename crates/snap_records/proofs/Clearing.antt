@@ -52,17 +52,29 @@ unkept_one old new ids x i r there other p many =
       many = many;
     }
 
--- or it was
-pub kept_one : (old : Chains) (ids : List ℕ) (x i r : ℕ) → slice_get (keys_at old x) i ≡ Some r → contains (record_at old r).id ids ≡ true → KeepsAt old old ids x i
-kept_one old ids x i r there own =
+-- the record is unchanged
+unchanged_one : (old : Chains) (ids : List ℕ) (x i r : ℕ) → slice_get (keys_at old x) i ≡ Some r → record_with_ids ids (record_at old r) ≡ record_at old r → KeepsAt old old ids x i
+unchanged_one old ids x i r there same =
     let at : slice_index_or (chain_of old x) i no_record ≡ record_at old r = get_or_from_slice_get (chain_of old x) i (record_at old r) no_record (rec_there old x i r there) in
-    let is : record_with_ids ids (slice_index_or (chain_of old x) i no_record) ≡ slice_index_or (chain_of old x) i no_record = ap (record_with_ids ids) at ∙ keeps ids (record_at old r) true own ∙ sym at in
+    let is : record_with_ids ids (slice_index_or (chain_of old x) i no_record) ≡ slice_index_or (chain_of old x) i no_record = ap (record_with_ids ids) at ∙ same ∙ sym at in
     record {
       keys = λ y. refl;
       here = sym (set-get_or (chain_of old x) i no_record) ∙ ap (λ (q : Rec). slice_set (chain_of old x) i q) (sym is);
       others = λ y apart. refl;
       many = refl;
     }
+
+-- its id is in the list
+pub kept_one : (old : Chains) (ids : List ℕ) (x i r : ℕ) → slice_get (keys_at old x) i ≡ Some r → contains (record_at old r).id ids ≡ true → KeepsAt old old ids x i
+kept_one old ids x i r there own = unchanged_one old ids x i r there (keeps ids (record_at old r) true own)
+
+blank_kept : (r : Rec) (b : Bool) → r.id ≡ 0 → cond b r (record r { id = 0 }) ≡ r
+blank_kept r true blank = refl
+blank_kept r false blank = ap (λ (n : ℕ). record r { id = n }) (sym blank)
+
+-- or it is 0
+pub blank_one : (old : Chains) (ids : List ℕ) (x i r : ℕ) → slice_get (keys_at old x) i ≡ Some r → (record_at old r).id ≡ 0 → KeepsAt old old ids x i
+blank_one old ids x i r there blank = unchanged_one old ids x i r there (blank_kept (record_at old r) (contains (record_at old r).id ids) blank)
 
 one_more : (f : Rec → Rec) (c : List Rec) (i : ℕ) → i < length c → slice_set (map f (take i c) ++ drop i c) i (f (slice_index_or (map f (take i c) ++ drop i c) i no_record)) ≡ map f (take (suc i) c) ++ drop (suc i) c
 one_more f [] i h = absurd (omega (arith, h))

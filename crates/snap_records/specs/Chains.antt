@@ -1,11 +1,13 @@
 -- Trusted: the chain of each object, as a list of records, and what each call does to the chains.
-use Rattle.std.specs.Prelude.{◌≡◌, ◌≢◌, ℕ, ◌==◌, List, [], ◌∷◌, length, map, slice_get, slice_index_or, slice_set, Option, Some, None, false}
+use Rattle.std.specs.Prelude.{◌≡◌, ◌≢◌, ℕ, ◌==◌, List, [], ◌∷◌, length, map, slice_get, slice_index_or, slice_set, Option, Some, None, false, IsSome}
 use Rattle.rt_values.specs.Maps.{contains, no_entry}
 use Rattle.rt_values.specs.declared.maps.StampedValue.{StampedValue}
 use Rattle.snap_records.specs.Edits.{record_without_ids, chain_without_ids, record_with_ids, chain_with_ids, with_head_id, Padded, blank}
 use Rattle.snap_records.specs.Records.{Rec, Puts}
 use Rattle.snap_records.specs.declared.chains.Chains.{Chains}
+use Rattle.snap_records.specs.declared.chains.Numbered.{Numbered}
 use Rattle.snap_records.specs.declared.slots.Slot.{Slot}
+use Rattle.slab.specs.Slab.{get}
 
 abbrev pub record_of : Option Slot → Rec
 record_of None = record { id = 0; entry = no_entry }
@@ -20,6 +22,11 @@ keys_at c x = slice_index_or c.heads.items x []
 -- The records of an object, from the head of its chain.
 abbrev pub chain_of : Chains → ℕ → List Rec
 chain_of c x = map (λ key. record_at c key) (keys_at c x)
+
+-- The number of a record, with the id of the record.
+pub record IsNumbered (c : Chains) (n : Numbered) : Type 0 where
+  pub there : IsSome (get c.slots n.record.0)
+  pub same : n.id ≡ (record_at c n.record.0).id
 
 -- Record r is now q, and everything else is as before.
 pub record Replaces (old new : Chains) (r : ℕ) (q : Rec) : Type 0 where

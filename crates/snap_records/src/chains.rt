@@ -35,6 +35,13 @@ fn except(own: &IdSet, id: u64, is_valid: bool) -> bool
     is_valid && !own.get(id)
 }
 
+// A record with its id.
+#[derive(Clone, Copy, Drop)]
+struct Numbered {
+    record: RecordNo,
+    id: u64,
+}
+
 // Inserts a key before those of an object.
 fn put_at(heads: &mut Vec<Keys>, x: ObjectNo, key: usize) -> Result<(), NoMemory>
     requires { x < length heads.old.items }
@@ -56,7 +63,7 @@ pub struct Chains {
 }
 
 impl Chains {
-    ghost use Rattle.snap_records.specs.Chains.{record_at, keys_at, chain_of, Replaces, Prepends, Found, FoundOther, PutIn, ClearsAt, ClearsAll, KeepsAt, KeepsAll, PadsAt, RaisesAt};
+    ghost use Rattle.snap_records.specs.Chains.{record_at, keys_at, chain_of, IsNumbered, Replaces, Prepends, Found, FoundOther, PutIn, ClearsAt, ClearsAll, KeepsAt, KeepsAll, PadsAt, RaisesAt};
     ghost use Rattle.snap_records.specs.Records.{AreApart};
 
     /// Returns the chains of no object.
@@ -199,32 +206,48 @@ impl Chains {
         Ok(x)
     }
 
+    // Returns the record at index `i` of the chain of object `x`, with its id.
+    #[inline]
+    fn numbered(&self, x: ObjectNo, i: usize) -> Numbered
+        requires object { x < length self.now.heads.items }
+        requires place { i < length (keys_at self.now x) }
+        ensures at { slice_get (keys_at self.now x) i ≡ Some result.record.0 }
+        ensures is { IsNumbered self.now result }
+    {
+        let record = self.at(x, i);
+        Numbered {
+            record,
+            id: self.id(record),
+        }
+    }
+
     // Returns whether the id of `r` is lower than that of `best`. Then `best` is kept, whether `r` is valid or not.
-    fn is_lower(&self, r: RecordNo, best: Option<RecordNo>) -> bool
-        requires there { IsSome (get self.now.slots r.0) }
-        requires behind { IfSome best (λ b. IsSome (get self.now.slots b.0)) }
-        ensures { result ≡ true → (is_valid : Bool) → better_of is_valid (record_at self.now r.0)
-            (option_map (λ b. record_at self.now b.0) best) ≡ option_map (λ b. record_at self.now b.0) best }
+    fn is_lower(&self, r: Numbered, best: Option<Numbered>) -> bool
+        requires there { IsNumbered self.now r }
+        requires behind { IfSome best (λ b. IsNumbered self.now b) }
+        ensures { result ≡ true → (is_valid : Bool) → better_of is_valid (record_at self.now r.record.0)
+            (option_map (λ b. record_at self.now b.record.0) best)
+            ≡ option_map (λ b. record_at self.now b.record.0) best }
     {
         match best {
-            Some(other) => self.id(r) < self.id(other),
+            Some(other) => r.id < other.id,
             None => false,
         }
     }
 
-    // Returns `r` if it is valid for the reader and its id is higher than that of `best`, and else `best`.
-    fn better(&self, r: RecordNo, best: Option<RecordNo>, is_valid: bool) -> Option<RecordNo>
-        requires there { IsSome (get self.now.slots r.0) }
-        requires behind { IfSome best (λ b. IsSome (get self.now.slots b.0)) }
-        ensures is { option_map (λ b. record_at self.now b.0) result
-            ≡ better_of is_valid (record_at self.now r.0) (option_map (λ b. record_at self.now b.0) best) }
-        ensures there { IfSome result (λ b. IsSome (get self.now.slots b.0)) }
+    // Returns `r` if it is valid for the reader and its id is not lower than that of `best`, and else `best`.
+    fn better(&self, r: Numbered, best: Option<Numbered>, is_valid: bool) -> Option<Numbered>
+        requires there { IsNumbered self.now r }
+        requires behind { IfSome best (λ b. IsNumbered self.now b) }
+        ensures is { option_map (λ b. record_at self.now b.record.0) result
+            ≡ better_of is_valid (record_at self.now r.record.0) (option_map (λ b. record_at self.now b.record.0) best) }
+        ensures there { IfSome result (λ b. IsNumbered self.now b) }
     {
         if !is_valid {
             return best;
         }
         match best {
-            Some(other) if self.id(r) < self.id(other) => best,
+            Some(other) if r.id < other.id => best,
             _ => Some(r),
         }
     }
@@ -232,53 +255,52 @@ impl Chains {
     // Returns `r` if it is valid for a snapshot and its id is not lower than that of `best`, and else `best`.
     fn better_for(
         &self,
-        r: RecordNo,
-        best: Option<RecordNo>,
+        r: Numbered,
+        best: Option<Numbered>,
         id: u64,
         invalid: &IdSet,
-    ) -> Option<RecordNo>
-        requires there { IsSome (get self.now.slots r.0) }
-        requires behind { IfSome best (λ b. IsSome (get self.now.slots b.0)) }
-        ensures is { option_map (λ b. record_at self.now b.0) result
-            ≡ better_of (is_valid id invalid.now (record_at self.now r.0).id) (record_at self.now r.0)
-            (option_map (λ b. record_at self.now b.0) best) }
-        ensures there { IfSome result (λ b. IsSome (get self.now.slots b.0)) }
+    ) -> Option<Numbered>
+        requires there { IsNumbered self.now r }
+        requires behind { IfSome best (λ b. IsNumbered self.now b) }
+        ensures is { option_map (λ b. record_at self.now b.record.0) result
+            ≡ better_of (is_valid id invalid.now (record_at self.now r.record.0).id) (record_at self.now r.record.0)
+            (option_map (λ b. record_at self.now b.record.0) best) }
+        ensures there { IfSome result (λ b. IsNumbered self.now b) }
     {
         if self.is_lower(r, best) {
             return best;
         }
-        self.better(r, best, valid(id, invalid, self.id(r)))
+        self.better(r, best, valid(id, invalid, r.id))
     }
 
     // Does what `better_for` does for a snapshot's view, and for its base, for which the ids `own` are invalid too.
     fn better_for_both(
         &self,
-        r: RecordNo,
-        view: Option<RecordNo>,
-        base: Option<RecordNo>,
+        r: Numbered,
+        view: Option<Numbered>,
+        base: Option<Numbered>,
         id: u64,
         invalid: &IdSet,
         own: &IdSet,
-    ) -> (Option<RecordNo>, Option<RecordNo>)
-        requires there { IsSome (get self.now.slots r.0) }
-        requires view_there { IfSome view (λ b. IsSome (get self.now.slots b.0)) }
-        requires base_there { IfSome base (λ b. IsSome (get self.now.slots b.0)) }
-        ensures view { option_map (λ b. record_at self.now b.0) result.0
-            ≡ better_of (is_valid id invalid.now (record_at self.now r.0).id) (record_at self.now r.0)
-            (option_map (λ b. record_at self.now b.0) view) }
-        ensures base { option_map (λ b. record_at self.now b.0) result.1
-            ≡ better_of (is_valid_except own.now id invalid.now (record_at self.now r.0).id) (record_at self.now r.0)
-            (option_map (λ b. record_at self.now b.0) base) }
-        ensures view_there { IfSome result.0 (λ b. IsSome (get self.now.slots b.0)) }
-        ensures base_there { IfSome result.1 (λ b. IsSome (get self.now.slots b.0)) }
+    ) -> (Option<Numbered>, Option<Numbered>)
+        requires there { IsNumbered self.now r }
+        requires view_there { IfSome view (λ b. IsNumbered self.now b) }
+        requires base_there { IfSome base (λ b. IsNumbered self.now b) }
+        ensures view { option_map (λ b. record_at self.now b.record.0) result.0
+            ≡ better_of (is_valid id invalid.now (record_at self.now r.record.0).id) (record_at self.now r.record.0)
+            (option_map (λ b. record_at self.now b.record.0) view) }
+        ensures base { option_map (λ b. record_at self.now b.record.0) result.1
+            ≡ better_of (is_valid_except own.now id invalid.now (record_at self.now r.record.0).id)
+            (record_at self.now r.record.0) (option_map (λ b. record_at self.now b.record.0) base) }
+        ensures view_there { IfSome result.0 (λ b. IsNumbered self.now b) }
+        ensures base_there { IfSome result.1 (λ b. IsNumbered self.now b) }
     {
         if self.is_lower(r, view) && self.is_lower(r, base) {
             return (view, base);
         }
-        let number = self.id(r);
-        let is_valid = valid(id, invalid, number);
+        let is_valid = valid(id, invalid, r.id);
         let view = self.better(r, view, is_valid);
-        let base = self.better(r, base, except(own, number, is_valid));
+        let base = self.better(r, base, except(own, r.id, is_valid));
         (view, base)
     }
 
@@ -293,10 +315,10 @@ impl Chains {
         let mut i = self.count(x);
         while i > 0 {
             i -= 1;
-            let r = self.at(x, i);
+            let r = self.numbered(x, i);
             best = self.better_for(r, best, id, invalid);
         }
-        best
+        best.map(|b| b.record)
     }
 
     /// Returns the readable record of object `x` for a snapshot's base: the snapshot's own ids are invalid too.
@@ -316,10 +338,10 @@ impl Chains {
         let mut i = self.count(x);
         while i > 0 {
             i -= 1;
-            let r = self.at(x, i);
-            best = self.better(r, best, valid_except(own, id, invalid, self.id(r)));
+            let r = self.numbered(x, i);
+            best = self.better(r, best, valid_except(own, id, invalid, r.id));
         }
-        best
+        best.map(|b| b.record)
     }
 
     /// Returns the readable records of object `x` for a snapshot's view and for its base, for which the snapshot's own ids
@@ -344,12 +366,12 @@ impl Chains {
         let mut i = self.count(x);
         while i > 0 {
             i -= 1;
-            let r = self.at(x, i);
+            let r = self.numbered(x, i);
             let both = self.better_for_both(r, view, base, id, invalid, own);
             view = both.0;
             base = both.1;
         }
-        (view, base)
+        (view.map(|b| b.record), base.map(|b| b.record))
     }
 
     /// Overwrites a record. No other record of its object may have the id, unless it is 0.
@@ -469,14 +491,18 @@ impl Chains {
         }
     }
 
-    // Gives the record at index `i` id 0 if `ids` does not contain its id.
+    // Gives the record at index `i` id 0 if `ids` does not contain its id. Records with id 0 stay as they are.
     fn keep_at(&mut self, x: ObjectNo, i: usize, ids: &KeptIds)
         requires object { x < length self.old.heads.items }
         requires place { i < length (keys_at self.old x) }
         ensures { KeepsAt self.old self.new ids.now x i }
     {
         let r = self.at(x, i);
-        if !ids.has(self.id(r)) {
+        let id = self.id(r);
+        if id == 0 {
+            return;
+        }
+        if !ids.has(id) {
             self.invalidate(r);
         }
     }

@@ -9,9 +9,9 @@ use Rattle.snap_records.proofs.chains.Chains.readable.Goals as goal
 pub loop-i-preserved : goal.loop-i-preserved
 loop-i-preserved c =
     let s = c.args.self.now in
-    let best : Option Rec = option_map (λ b. record_at s b.0) c.loop-i.best in
+    let best : Option Rec = option_map (λ b. record_at s b.record.0) c.loop-i.best in
     record {
       within = omega (arith, c.loop-i.invariant.within);
-      is = c.better_for-best.ensures.is ∙ one_nearer (is_valid c.args.id c.args.invalid.now) (λ key. record_at s key) (keys_at s c.args.x) c.loop-i.i (c.loop-i.i - 1) c.at-r.result.0 best c.at-r.ensures (omega (arith, c.loop-i-test.true)) c.loop-i.invariant.is;
+      is = c.better_for-best.ensures.is ∙ one_nearer (is_valid c.args.id c.args.invalid.now) (λ key. record_at s key) (keys_at s c.args.x) c.loop-i.i (c.loop-i.i - 1) c.numbered-r.result.record.0 best c.numbered-r.ensures.at (omega (arith, c.loop-i-test.true)) c.loop-i.invariant.is;
       there = c.better_for-best.ensures.there;
     }

@@ -1,16 +1,14 @@
 use Rattle.std.proofs.Common.{◌≡◌, ◌≤◌, drop, length, IfSome}
-use Rattle.std.specs.Prelude.{IsSome}
 use Rattle.std.specs.Option.{option_map}
-use Rattle.slab.specs.Slab.{get}
 use Rattle.snap_records.specs.Edits.{is_valid_except, readable}
-use Rattle.snap_records.specs.Chains.{record_at, keys_at, chain_of}
+use Rattle.snap_records.specs.Chains.{record_at, keys_at, chain_of, IsNumbered}
 use Rattle.snap_records.proofs.chains.Chains.readable_for_base.Given as goal
 
 abbrev pub invariant-loop-i : goal.invariant-loop-i
 invariant-loop-i l = record {
   within : l.i ≤ length (keys_at l.self l.x);
-  is : option_map (λ b. record_at l.self b.0) l.best ≡ readable (is_valid_except l.own l.id l.invalid) (drop l.i (chain_of l.self l.x));
-  there : IfSome l.best (λ b. IsSome (get l.self.slots b.0));
+  is : option_map (λ b. record_at l.self b.record.0) l.best ≡ readable (is_valid_except l.own l.id l.invalid) (drop l.i (chain_of l.self l.x));
+  there : IfSome l.best (λ b. IsNumbered l.self b);
 }
 
 abbrev pub decreases-loop-i : goal.decreases-loop-i
