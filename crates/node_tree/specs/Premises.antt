@@ -46,7 +46,7 @@ KeepShapes old (Branch number kind attributes children rest) =
     × KeepShapes old rest
 
 -- The new tree can follow the old one.
-pub record Follows (old new : Nodes) : Type 0 where
+pub record CanFollow (old new : Nodes) : Type 0 where
   pub old_numbers : AreDistinct old
   pub new_numbers : AreDistinct new
   pub shapes : KeepShapes (node_list old) new
@@ -55,7 +55,7 @@ pub record Follows (old new : Nodes) : Type 0 where
 -- come.
 abbrev pub OpsTurnTheOldTreeIntoTheNew : Type 0
 OpsTurnTheOldTreeIntoTheNew =
-    (old new : Nodes) → Follows old new →
+    (old new : Nodes) → CanFollow old new →
     (tree_after_calls (tree_at_root old) (ops old new) ≡ tree_at_root new) × AllMayCome (tree_at_root old) (ops old new)
 
 -- There is no call between a tree and itself.

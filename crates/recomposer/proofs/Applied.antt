@@ -18,7 +18,7 @@ use Rattle.node_tree.specs.declared.ops.Op.TheVariants as op
 use Rattle.node_tree.specs.NodeTrees.{CursorTree, tree_at_root}
 use Rattle.node_tree.specs.Calls.{tree_after_calls, AllMayCome, AllAllowed, BecomesAfter}
 use Rattle.node_tree.specs.Placing.{ops}
-use Rattle.node_tree.specs.Premises.{Follows}
+use Rattle.node_tree.specs.Premises.{CanFollow}
 use Rattle.node_tree.proofs.InnerCalls.{ops_turn}
 use Rattle.node_tree.proofs.SameLevels.{unchanged_tree_needs_no_calls}
 use Rattle.tree_laws.specs.FollowingTrees.{WasComposed}
@@ -38,7 +38,7 @@ was_composed p (Some m) trail None owed h = absurd h
 was_composed p (Some m) trail (Some l) owed h = inr (m, h.3.composed)
 
 pub next_follows : (p : Checked) (k : LastFrame) (last : Option Map) (m : Map) (owed : OwedObjects) → Owes p k.seen k.trail last owed → AreDistinct k.trail k.next →
-    let new = numbered_forest k.trail [] [] k.next (forest (functions_of p) (root_of p) m) in Follows (nodes k.trail) (nodes new.0) × AreDistinct new.0 new.1
+    let new = numbered_forest k.trail [] [] k.next (forest (functions_of p) (root_of p) m) in CanFollow (nodes k.trail) (nodes new.0) × AreDistinct new.0 new.1
 next_follows p k last m owed h d =
     next_tree_can_follow (record { header = p.header; states = p.states.items; functions = functions_view p.functions.items }) (root_of p) k.trail k.next m p.numbered p.fine (was_composed p k.seen k.trail last owed h) d
 
@@ -80,7 +80,7 @@ usual_ops k trail e = ap (λ (b : Bool). (if b then op.Clear ∷ [] else []) ++ 
 abbrev pub Turn : CursorTree → List Op → GroupForest → Type 0
 Turn t calls trail = (tree_after_calls t calls ≡ tree_at_root (nodes trail)) × AllMayCome t calls
 
-pub frame_turns : (k : LastFrame) (trail : GroupForest) (t : CursorTree) → Follows (nodes k.trail) (nodes trail) → (is_detached k ≡ true → k.trail ≡ End) → Mirrors (Some t) k → Turn t (frame_ops k trail) trail
+pub frame_turns : (k : LastFrame) (trail : GroupForest) (t : CursorTree) → CanFollow (nodes k.trail) (nodes trail) → (is_detached k ≡ true → k.trail ≡ End) → Mirrors (Some t) k → Turn t (frame_ops k trail) trail
 frame_turns k trail t follows none mirrors = by (is_detached k) refl
   where
     turned : (tree_after_calls (tree_at_root (nodes k.trail)) (ops (nodes k.trail) (nodes trail)) ≡ tree_at_root (nodes trail)) × AllMayCome (tree_at_root (nodes k.trail)) (ops (nodes k.trail) (nodes trail))
@@ -103,7 +103,7 @@ may_carry before mid calls at same may each = subst (λ (o : Option CursorTree).
     by (Some t) may = each may.kept may.is_at t may.mirrors
 
 -- What the calls leave in an applier.
-pub applied : (before mid now : Option CursorTree) (made calls : List Op) (k : LastFrame) (good : FrameResult) → mid ≡ before → BecomesAfter mid now calls → calls ≡ made → made ≡ frame_ops k good.left.trail → Follows (nodes k.trail) (nodes good.left.trail)
+pub applied : (before mid now : Option CursorTree) (made calls : List Op) (k : LastFrame) (good : FrameResult) → mid ≡ before → BecomesAfter mid now calls → calls ≡ made → made ≡ frame_ops k good.left.trail → CanFollow (nodes k.trail) (nodes good.left.trail)
     → (is_detached k ≡ true → k.trail ≡ End) → Applies before now made k (Some good)
 applied before mid now made calls k good same becomes is made_is follows none = record {
   calls = made_is;

@@ -23,7 +23,7 @@ use Rattle.node_tree.specs.declared.ops.Op.TheVariants as op
 use Rattle.node_tree.specs.NodeTrees.{CursorTree}
 use Rattle.node_tree.specs.Calls.{AllMayCome, BecomesAfter, tree_after_calls}
 use Rattle.node_tree.specs.Placing.{ops}
-use Rattle.node_tree.specs.Premises.{Follows}
+use Rattle.node_tree.specs.Premises.{CanFollow}
 use Rattle.snap_api.specs.declared.data.Entry.{Entry}
 use Rattle.recomposer.specs.declared.composition.Composition.{Composition}
 use Rattle.recomposer.specs.declared.composition.FrameStop.{FrameStop}
@@ -239,7 +239,7 @@ made_no_frame p p' k at_frame last old new caller watcher stop same made = subst
 -- The calls of a frame.
 
 -- The new tree can follow the kept one.
-pub tree_follows : (c : Composition) (k : LastFrame) (m : Map) → IsAt c k (Some m) → Follows (nodes k.trail) (nodes (new_trail c.program.now k m))
+pub tree_follows : (c : Composition) (k : LastFrame) (m : Map) → IsAt c k (Some m) → CanFollow (nodes k.trail) (nodes (new_trail c.program.now k m))
 tree_follows c k m h = (next_follows c.program.now k (Some m) m c.owed h.owes h.numbers).0
 
 pub none_kept : (c : Composition) (k : LastFrame) (l : Option Map) → IsAt c k l → is_detached k ≡ true → k.trail ≡ End

@@ -1,8 +1,8 @@
 //! Byte streams: where the program reads its input and writes its lines, and how faults are counted.
 //!
 //! The layer above reads its whole input with `read_all` and writes each line with `write_all`. A `Gate`
-//! decides when a worker thread may make its next step; there are no worker threads yet. Compose has no
-//! counterpart, since its runtime does no I/O: this crate is the project's own edge to the outside.
+//! decides when an actor's thread may make its next call. Compose has no counterpart, since its runtime
+//! does no I/O: this crate is the project's own edge to the outside.
 //!
 //! Promises: `read_all` returns exactly the bytes that a source has left, and never takes more than one
 //! byte past the limit. `write_all` writes exactly the bytes given, or a prefix after a fault. Both stop

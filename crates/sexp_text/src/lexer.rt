@@ -24,7 +24,7 @@ pub fn is_byte_of_atom(b: u8) -> bool
         )
 }
 
-// Whether a byte stands for itself in a string.
+// Returns whether a string has this byte unescaped.
 fn is_plain_byte(b: u8) -> bool
     ensures { result ≡ is_plain b }
 {
@@ -59,7 +59,7 @@ pub fn comment_len(bytes: &[u8]) -> usize
     bytes.len()
 }
 
-// Counts the bytes before the first that does not stand for itself in a string.
+// Counts the bytes before the first that a string has only escaped.
 fn plain_len(bytes: &[u8]) -> usize
     ensures within { result ≤ length bytes.now }
     ensures plain { list_all is_plain (take result bytes.now) ≡ true }
@@ -73,7 +73,7 @@ fn plain_len(bytes: &[u8]) -> usize
     bytes.len()
 }
 
-// Returns the byte that the escape with its letter at `at` stands for.
+// Returns the byte that the escape with its letter at `at` represents.
 fn unescape(bytes: &[u8], at: usize) -> Result<u8, TextStop>
     requires { at ≤ length bytes.now }
     ensures within { OnOk result (at < length bytes.now) }
@@ -95,7 +95,7 @@ fn unescape(bytes: &[u8], at: usize) -> Result<u8, TextStop>
     }
 }
 
-// Appends the bytes from `at` on that stand for themselves, and returns the offset after them.
+// Appends the unescaped bytes from `at` on, and returns the offset after them.
 fn push_plain(chars: &mut Vec<u8>, bytes: &[u8], at: usize) -> Result<usize, TextStop>
     requires { at ≤ length bytes.now }
     ensures within { IfOk result (λ end. (at ≤ end) × (end ≤ length bytes.now)) }

@@ -107,7 +107,7 @@ fn find(ids: &[u64], id: u64) -> Result<usize, usize>
     }
 }
 
-/// Adds `id`. The list must have capacity for one more.
+/// Adds `id`. The list must have spare capacity.
 pub fn add_reserved(ids: &mut Ids, id: u64)
     requires rising { IsRising ids.old.items }
     requires room { HasRoomFor ids.old 1 }

@@ -148,7 +148,7 @@ impl Windowed {
         Ok(())
     }
 
-    // Adds an id before the end of the window. The list must have capacity for one more if the id is before the window.
+    // Adds an id before the end of the window. The list must have spare capacity if the id is before the window.
     fn add_reached(&mut self, id: u64)
         requires reached { id < self.old.lower + 128 }
         requires room { id < self.old.lower → HasRoomFor self.old.older 1 }

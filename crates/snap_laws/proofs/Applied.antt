@@ -28,7 +28,7 @@ there_is [] i h = absurd (omega (arith, h))
 there_is (x ∷ xs) zero h = (x, refl)
 there_is (x ∷ xs) (suc i) h = there_is xs i (omega (arith, h))
 
--- with equal stamps the world_after_apply entry stands, and is listed
+-- if the stamps are equal, the applied value is taken and its object is listed
 listed_equal : (equal : Bool) (a current e : StampedValue) (other : Verdict) (changed : Bool) → equal ≡ true → IsVerdict true (cond equal (takes a) other) current e changed → changed ≡ true
 listed_equal true a current e other changed h told = told.1
 listed_equal false a current e other changed h told = absurd cc

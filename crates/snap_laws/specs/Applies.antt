@@ -56,7 +56,7 @@ pub record Pads {P : Type 0} (h k : WorldParts P) : Type 0 where
   pub chains : (x : ℕ) → Padded (h.chains x) (k.chains x)
   pub noted : (n x : ℕ) → k.noted n x ≡ h.noted n x
 
--- The parent has one more id, records of the settled values with this id, and the snapshot's ids. The objects that changed
+-- The parent has a new id, records of the settled values with this id, and the snapshot's ids. The objects that changed
 -- in it are noted, unless it is global.
 pub record Merges {P : Type 0} (h k : WorldParts P) (name into : ℕ) (choices : ℕ → Choice) : Type 0 where
   pub clock : k.clock ≡ h.clock + 1

@@ -76,7 +76,7 @@ members_after_apply ms name into =
     let after = slice_set ms into (record p { ids = with_ids p.ids m.ids; invalid = without_ids p.invalid m.ids }) in
     slice_set after name (record (member after name) { is_live = false; ids = []; invalid = [] })
 
--- The same after the parent got a new id.
+-- The members after a snapshot is applied to a parent that has a new id.
 abbrev pub members_after_merge : List Member → ℕ → ℕ → ℕ → List Member
 members_after_merge ms handed name into =
     let m = member ms name in

@@ -106,7 +106,7 @@ fn push_member(
     Ok(())
 }
 
-// Gives a member one more id, and replaces its invalid ids.
+// Gives a member a new id, and replaces its invalid ids.
 fn add_id(
     members: &mut Vec<Member>,
     handed: u64,
@@ -150,7 +150,7 @@ pub fn enter_member(
     push_member(alloc, members, handed, parent, kind, owner, invalid)
 }
 
-/// Gives a member one more id.
+/// Gives a member a new id.
 pub fn advance_member(
     alloc: Global,
     members: &mut Vec<Member>,
@@ -179,7 +179,7 @@ pub fn close_member(members: &mut Vec<Member>, name: Name)
     member.invalid.clear_all();
 }
 
-/// Gives the member `into` one more id and the ids of the member `name`, and closes `name`.
+/// Gives the member `into` a new id and the ids of the member `name`, and closes `name`.
 pub fn merge_member(
     alloc: Global,
     members: &mut Vec<Member>,
@@ -211,7 +211,7 @@ pub fn merge_member(
     Ok(())
 }
 
-/// Appends a member, and gives its parent one more id. Both have the same invalid ids, but for the child's id, which is
+/// Appends a member, and gives its parent a new id. Both have the same invalid ids, but for the child's id, which is
 /// invalid for the parent.
 pub fn take_members(
     alloc: Global,

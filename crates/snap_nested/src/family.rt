@@ -105,7 +105,7 @@ impl Family {
         Ok(name)
     }
 
-    /// Gives a live snapshot one more id (`advance`).
+    /// Gives a live snapshot a new id (`advance`).
     pub fn advance(&mut self, alloc: Global, name: Name) -> Result<(), NoMemory>
         requires live { (member self.old.members.items name).is_live ≡ true }
         requires room { self.old.handed < 2 ^ 62 }
@@ -122,7 +122,7 @@ impl Family {
         Ok(())
     }
 
-    /// Adds a child of a live snapshot and gives the parent one more id, or does neither (`takeNestedMutableSnapshot`).
+    /// Adds a child of a live snapshot and gives the parent a new id, or does neither (`takeNestedMutableSnapshot`).
     pub fn take(
         &mut self,
         alloc: Global,
@@ -230,7 +230,7 @@ impl Family {
         }
     }
 
-    /// Closes an applied snapshot: its parent gets one more id, which is above all of the child's, and the child's ids.
+    /// Closes an applied snapshot: its parent gets a new id, which is above all of the child's, and the child's ids.
     pub fn close_applied(&mut self, alloc: Global, name: Name, into: Name) -> Result<(), NoMemory>
         requires live { (member self.old.members.items name).is_live ≡ true }
         requires inner { 0 < name }

@@ -46,8 +46,8 @@ pub record Found (c : Chains) (x id r : ℕ) : Type 0 where
   pub key : slice_get (keys_at c x) at ≡ Some r
   pub same : (record_at c r).id ≡ id
 
--- Record q is in the chain of object x, in place of the one with its id or before the others. The other chains are the
--- same.
+-- Record q is in the chain of object x, in place of the one with its id or before the others. Every other chain is as
+-- before.
 pub record PutIn (old new : Chains) (x : ℕ) (q : Rec) : Type 0 where
   pub put : Puts (chain_of old x) (chain_of new x) q (λ i. i == q.id)
   pub others : (y : ℕ) → y ≢ x → chain_of new y ≡ chain_of old y
@@ -65,7 +65,7 @@ pub record ClearsAt (old new : Chains) (ids : List ℕ) (x i : ℕ) : Type 0 whe
   pub others : (y : ℕ) → y ≢ x → chain_of new y ≡ chain_of old y
   pub many : length new.heads.items ≡ length old.heads.items
 
--- The same at each index of object x.
+-- Each record of object x whose id is in the list now has id 0, and every other chain is as before.
 pub record ClearsAll (old new : Chains) (ids : List ℕ) (x : ℕ) : Type 0 where
   pub keys : (y : ℕ) → keys_at new y ≡ keys_at old y
   pub here : chain_of new x ≡ chain_without_ids ids (chain_of old x)
@@ -80,7 +80,7 @@ pub record KeepsAt (old new : Chains) (ids : List ℕ) (x i : ℕ) : Type 0 wher
   pub others : (y : ℕ) → y ≢ x → chain_of new y ≡ chain_of old y
   pub many : length new.heads.items ≡ length old.heads.items
 
--- The same at each index of object x.
+-- Each record of object x whose id is not in the list now has id 0, and every other chain is as before.
 pub record KeepsAll (old new : Chains) (ids : List ℕ) (x : ℕ) : Type 0 where
   pub keys : (y : ℕ) → keys_at new y ≡ keys_at old y
   pub here : chain_of new x ≡ chain_with_ids ids (chain_of old x)

@@ -7,9 +7,9 @@ use Rattle.snap_records.specs.Chains.{record_at, keys_at, chain_of}
 use Rattle.snap_records.specs.declared.chains.Chains.{Chains}
 use Rattle.snap_records.specs.declared.slots.RecordNo.{RecordNo}
 use Rattle.snap_reuse.specs.Readers.{is_read, lower_record, IsLowestUnread}
-use Rattle.snap_reuse.specs.declared.readers.Reader.{Reader}
+use Rattle.snap_reuse.specs.declared.readers.RecordReader.{RecordReader}
 
-module _ (c : Chains) (x : ℕ) (readers : List Reader) (n : ℕ) (r : RecordNo) (key : slice_get (keys_at c x) n ≡ Some r.0) where
+module _ (c : Chains) (x : ℕ) (readers : List RecordReader) (n : ℕ) (r : RecordNo) (key : slice_get (keys_at c x) n ≡ Some r.0) where
   here : (k q : ℕ) → k ≡ n → slice_get (keys_at c x) k ≡ Some q → r.0 ≡ q
   here k q e is = same (sym key ∙ ap (λ (i : ℕ). slice_get (keys_at c x) i) (sym e) ∙ is) where
     same : Some r.0 ≡ Some q → r.0 ≡ q
@@ -68,7 +68,7 @@ module _ (c : Chains) (x : ℕ) (readers : List Reader) (n : ℕ) (r : RecordNo)
   ]
 
 -- either way
-pub lowest_more : (c : Chains) (x : ℕ) (readers : List Reader) (n : ℕ) (r : RecordNo) (best : Option RecordNo) (b : Bool) → slice_get (keys_at c x) n ≡ Some r.0 → b ≡ not (is_read (chain_of c x) (record_at c r.0).id readers) →
+pub lowest_more : (c : Chains) (x : ℕ) (readers : List RecordReader) (n : ℕ) (r : RecordNo) (best : Option RecordNo) (b : Bool) → slice_get (keys_at c x) n ≡ Some r.0 → b ≡ not (is_read (chain_of c x) (record_at c r.0).id readers) →
     IsLowestUnread c x readers n best → IsLowestUnread c x readers (n + 1) (lower_record c r best b)
 lowest_more c x readers n r best true key is l = lowest_new c x readers n r key best (unread (is_read (chain_of c x) (record_at c r.0).id readers) is) l where
   unread : (t : Bool) → true ≡ not t → t ≡ false

@@ -8,7 +8,7 @@ use Rattle.snap_records.specs.Edits.{readable}
 use Rattle.snap_records.specs.Chains.{record_at, keys_at, chain_of, Found}
 use Rattle.snap_records.specs.declared.chains.Chains.{Chains}
 use Rattle.snap_records.specs.declared.slots.RecordNo.{RecordNo}
-use Rattle.snap_reuse.specs.declared.readers.Reader.{Reader}
+use Rattle.snap_reuse.specs.declared.readers.RecordReader.{RecordReader}
 
 -- Whether there is a record, and it has this id.
 abbrev pub has_id : ℕ → Option Rec → Bool
@@ -16,11 +16,11 @@ has_id i None = false
 has_id i (Some r) = r.id == i
 
 -- Whether the reader's readable record has this id.
-abbrev pub is_read_by : List Rec → ℕ → Reader → Bool
+abbrev pub is_read_by : List Rec → ℕ → RecordReader → Bool
 is_read_by c i reader = has_id i (readable (is_valid reader.id reader.invalid) c)
 
 -- Whether a reader reads the record with this id.
-abbrev pub is_read : List Rec → ℕ → List Reader → Bool
+abbrev pub is_read : List Rec → ℕ → List RecordReader → Bool
 is_read c i readers = list_any (is_read_by c i) readers
 
 -- The record, if no reader reads it and its id is lower than that of the best one so far, and else that one.
@@ -30,7 +30,7 @@ lower_record c r None true = Some r
 lower_record c r (Some b) true = if nat_le (record_at c b.0).id (record_at c r.0).id then Some b else Some r
 
 -- Record r is among the first n of the object's, no reader reads it, and of those it has the lowest id.
-pub record LowestUnread (c : Chains) (x : ℕ) (readers : List Reader) (n r : ℕ) : Type 0 where
+pub record LowestUnread (c : Chains) (x : ℕ) (readers : List RecordReader) (n r : ℕ) : Type 0 where
   pub at : ℕ
   pub below : at < n
   pub key : slice_get (keys_at c x) at ≡ Some r
@@ -39,7 +39,7 @@ pub record LowestUnread (c : Chains) (x : ℕ) (readers : List Reader) (n r : �
       → is_read (chain_of c x) (record_at c q).id readers ≡ false → (record_at c r).id ≤ (record_at c q).id
 
 -- The record with the lowest id among the first n that no reader reads, or none if each of them is read.
-abbrev pub IsLowestUnread : Chains → ℕ → List Reader → ℕ → Option RecordNo → Type 0
+abbrev pub IsLowestUnread : Chains → ℕ → List RecordReader → ℕ → Option RecordNo → Type 0
 IsLowestUnread c x readers n None = (k q : ℕ) → k < n → slice_get (keys_at c x) k ≡ Some q
     → is_read (chain_of c x) (record_at c q).id readers ≡ true
 IsLowestUnread c x readers n (Some b) = LowestUnread c x readers n b.0
@@ -50,7 +50,7 @@ AreUsed c x = (k q : ℕ) → slice_get (keys_at c x) k ≡ Some q → (record_a
 
 -- The record that a write may overwrite: one with id 0, or, if there is no such record, the one with the lowest id that no
 -- reader reads. None if no record has id 0 and each is read.
-abbrev pub IsReusable : Chains → ℕ → List Reader → Option RecordNo → Type 0
+abbrev pub IsReusable : Chains → ℕ → List RecordReader → Option RecordNo → Type 0
 IsReusable c x readers r =
     IfSome r (λ b. Found c x 0 b.0) ⊎ (AreUsed c x × IsLowestUnread c x readers (length (keys_at c x)) r)
 

@@ -8,5 +8,5 @@
 mod readers;
 mod reuse;
 
-pub use readers::{Reader, Readers};
+pub use readers::{Readers, RecordReader};
 pub use reuse::{is_read, put, reusable};

@@ -8,7 +8,7 @@ use std::marker::Model;
 
 /// A reader: a snapshot id, and the ids that are invalid for it.
 #[derive(Drop)]
-pub struct Reader {
+pub struct RecordReader {
     pub id: u64,
     pub invalid: IdSet,
 }
@@ -16,12 +16,12 @@ pub struct Reader {
 /// A list of readers.
 #[derive(Drop)]
 pub struct Readers {
-    readers: Vec<Reader>,
+    readers: Vec<RecordReader>,
 }
 
 impl Model for Readers {
     ghost use Rattle.std.specs.Prelude.{List};
-    ghost use Rattle.snap_reuse.specs.declared.readers.Reader.{Reader as Datum};
+    ghost use Rattle.snap_reuse.specs.declared.readers.RecordReader.{RecordReader as Datum};
 
     ghost Value = { List Datum };
 
@@ -39,14 +39,14 @@ impl Readers {
     }
 
     /// Returns the readers, in order.
-    pub fn items(&self) -> &[Reader]
+    pub fn items(&self) -> &[RecordReader]
         ensures { result.now ≡ self.now }
     {
         &self.readers
     }
 
     /// Appends a reader. After `NoMemory` the list is unchanged.
-    pub fn push(&mut self, reader: Reader) -> Result<(), NoMemory>
+    pub fn push(&mut self, reader: RecordReader) -> Result<(), NoMemory>
         ensures ok { OnOk result (self.new ≡ self.old ++ reader ∷ []) }
         ensures err { OnErr result (self.new ≡ self.old) }
     {

@@ -7,12 +7,12 @@ ghost use Rattle.rt_values.specs.Maps.{contains};
 ghost use Rattle.snap_records.specs.Records.{Puts};
 ghost use Rattle.snap_reuse.specs.Readers.{is_read_by, is_read, is_unkept, lower_record, IsLowestUnread, IsReusable, PutsKeeping};
 
-use crate::{Reader, Readers};
+use crate::{Readers, RecordReader};
 use rt_values::{NoMemory, ObjectNo, Value};
 use snap_records::{Chains, KeptIds, RecordNo};
 
 // Returns whether the readable record of `reader` has this id.
-fn is_read_by(chains: &Chains, x: ObjectNo, id: u64, reader: &Reader) -> bool
+fn is_read_by(chains: &Chains, x: ObjectNo, id: u64, reader: &RecordReader) -> bool
     requires { x < length chains.now.heads.items }
     ensures { result ≡ is_read_by (chain_of chains.now x) id reader.now }
 {

@@ -1,8 +1,6 @@
 -- Trusted: the parts of a `RecordWorld`.
 use Rattle.std.specs.Prelude.{◌≡◌, ℕ, ◌<◌, Bool, [], length, slice_index_or, slice_get, true, Some, IsSome, List, Option}
 use Rattle.std.specs.Option.{option_map}
-use Rattle.std.proofs.Common.{ap, sym, ◌∙◌}
-use Rattle.std.proofs.lemmas.List.{length-map}
 use Rattle.snap_api.specs.World.{World}
 use Rattle.rt_values.specs.declared.maps.StampedValue.{StampedValue}
 use Rattle.rt_values.specs.declared.value.Value.{Value}
@@ -19,7 +17,7 @@ use Rattle.snap_world.specs.declared.settling.ReadRecords.{ReadRecords}
 use Rattle.rt_values.specs.Maps.{contains}
 use Rattle.snap_nested.specs.Members.{member, ids_of}
 use Rattle.snap_records.specs.Chains.{chain_of, record_at}
-use Rattle.snap_laws.specs.Represents.{WorldParts, Represents, stamps_of}
+use Rattle.snap_laws.specs.Represents.{WorldParts}
 use Rattle.snap_world.specs.declared.world.RecordWorld.{RecordWorld}
 
 abbrev pub parts_of : {P : Type 0} → RecordWorld P → WorldParts P
@@ -65,11 +63,3 @@ pub record AreRead {P : Type 0} (s : RecordWorld P) (name into x : ℕ) (r : Rea
 abbrev pub AreSettled : {P : Type 0} → Rules P → WorldParts P → ℕ → ℕ → List Settled → Type 0
 AreSettled rules h name into settled = (i : ℕ) (s : Settled) → slice_get settled i ≡ Some s
     → (choice_of_settled s ≡ choice_at rules h name into s.object) × (s.object < length h.objects)
-
--- The counts are those of each plain world that the value represents.
-pub counts_of : {P : Type 0} (s : RecordWorld P) (w : World P) → Represents (parts_of s) w
-    → (length s.objects.items ≡ length w.objects) × (length s.lasts.items ≡ length w.lasts)
-counts_of {P} s w h = (
-  ap (λ (os : List (Object P)). length os) (sym h.objects_are),
-  sym (sym (length-map w.lasts (option_map stamps_of)) ∙ ap (λ (l : List (Option (List ℕ))). length l) h.lasts),
-)

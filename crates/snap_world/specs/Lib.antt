@@ -1,4 +1,5 @@
 pub mod Holding
+pub mod HoldingLaws
 pub mod Choices
 pub mod Noting
 pub mod Stamps

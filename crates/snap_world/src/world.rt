@@ -474,7 +474,8 @@ impl<P: Policy> Versions for RecordWorld<P> {
     ghost use Rattle.snap_laws.specs.Coverage.{IsSwept};
     ghost use Rattle.snap_laws.specs.FreeRefusals.{IsFreelyRefused, IsApplyFreelyRefused};
     ghost use Rattle.snap_laws.specs.Represents.{Represents};
-    ghost use Rattle.snap_world.specs.Holding.{parts_of, counts_of};
+    ghost use Rattle.snap_world.specs.Holding.{parts_of};
+    ghost use Rattle.snap_world.specs.HoldingLaws.{counts_of};
 
     type P = P;
 

@@ -4,7 +4,7 @@ use snap_api::{Refusal, Versions};
 use snap_ids::IdSet;
 use snap_policy::BuiltIn;
 use snap_records::Chains;
-use snap_reuse::{Reader, Readers, reusable};
+use snap_reuse::{Readers, RecordReader, reusable};
 use snap_world::RecordWorld;
 use std::alloc::Global;
 use std::test::Fail;
@@ -30,7 +30,7 @@ fn readers_of(alloc: Global, ids: &[u64]) -> Result<Readers, NoMemory> {
     let mut readers = Readers::new(alloc);
     for id in ids {
         if *id != 0 {
-            let reader = Reader {
+            let reader = RecordReader {
                 id: *id,
                 invalid: IdSet::new(alloc),
             };
@@ -87,11 +87,11 @@ fn records_that_readers_with_invalid_ids_read_are_not_reusable(
     let found = reusable(&chains, x, &readers).map(|r| chains.id(r));
     assert_eq!(rt; found, Some(2));
     // For this reader id 5 is invalid, so it reads the record with id 2.
-    readers.push(Reader {
+    readers.push(RecordReader {
         id: 6,
         invalid: IdSet::of(alloc, 5)?,
     })?;
-    readers.push(Reader {
+    readers.push(RecordReader {
         id: 9,
         invalid: IdSet::new(alloc),
     })?;

@@ -11,7 +11,7 @@ use Rattle.lang_checks.specs.ProgramFaults.{program_faults}
 use Rattle.compose_model.specs.Composing.{forest}
 use Rattle.recompose_laws.specs.Numbering.{without_numbers}
 use Rattle.recompose_laws.specs.Distinct.{how_often, AreDistinct}
-use Rattle.node_tree.specs.Premises.{Follows, AreDistinct as SiblingsAreDistinct}
+use Rattle.node_tree.specs.Premises.{CanFollow, AreDistinct as SiblingsAreDistinct}
 
 -- A forest that a composition keeps: none, or the one that composing in a map makes, except for node numbers.
 abbrev pub WasComposed : List Func → ℕ → GroupForest → Type 0
@@ -28,7 +28,7 @@ abbrev pub NextTreeCanFollow : Type 0
 NextTreeCanFollow = (p : Program) (root : ℕ) (old : GroupForest) (next : ℕ) (m : Map) →
     IsNumberedProgram p → program_faults p ≡ [] → WasComposed p.functions root old → AreDistinct old next →
     let new = numbered_forest old [] [] next (forest p.functions root m) in
-    Follows (nodes old) (nodes new.0) × AreDistinct new.0 new.1
+    CanFollow (nodes old) (nodes new.0) × AreDistinct new.0 new.1
 
 -- Law: in a numbered program without faults, no frame gives a number again: a number below the next one that no node of
 -- the kept forest has is the number of no node of the frame, and the next number does not fall.

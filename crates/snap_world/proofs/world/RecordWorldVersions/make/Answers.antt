@@ -1,7 +1,8 @@
 use Rattle.std.proofs.Common.{sym, ◌∙◌}
 use Rattle.snap_laws.proofs.Made.{makes_stand}
 use Rattle.snap_laws.proofs.Takes.{stands_like}
-use Rattle.snap_world.specs.Holding.{parts_of, counts_of}
+use Rattle.snap_world.specs.Holding.{parts_of}
+use Rattle.snap_world.specs.HoldingLaws.{counts_of}
 use Rattle.snap_world.proofs.world.RecordWorldVersions.make.Goals as goal
 
 pub returns-in_default-put_object-clause-made : goal.returns-in_default-put_object-clause-made

@@ -2,7 +2,8 @@ use Rattle.std.proofs.Common.{ℕ, List, sym, ◌∙◌, subst, Option}
 use Rattle.snap_api.specs.World.{world_after_watch}
 use Rattle.snap_laws.specs.Represents.{Represents}
 use Rattle.snap_laws.proofs.Made.{watches_stand}
-use Rattle.snap_world.specs.Holding.{parts_of, counts_of}
+use Rattle.snap_world.specs.Holding.{parts_of}
+use Rattle.snap_world.specs.HoldingLaws.{counts_of}
 use Rattle.snap_world.proofs.world.RecordWorldVersions.watch.Goals as goal
 
 pub returns-clause-ok : goal.returns-clause-ok
