@@ -1,7 +1,7 @@
 // The steps of an actor, one after the other.
 ghost use Rattle.std.specs.Prelude.{◌≡◌, ◌∷◌, [], ℕ, None};
 ghost use Rattle.snap_shared.specs.Seats.{number_of, IsNewSeat};
-ghost use Rattle.script_lang.specs.Scripts.{written_out, times_of, repeated};
+ghost use Rattle.script_lang.specs.Scripts.{written_out, times_of, repeated_steps};
 ghost use Rattle.script_lang.specs.StepCalls.{step_parts, steps_parts, script_parts};
 ghost use Rattle.woven_laws.specs.Woven.{actor_parts};
 ghost use Rattle.play_actors.specs.ActorSteps.{by_actor, IsSeated, Makes, ActsThrough};
@@ -74,7 +74,7 @@ fn run_repeat<'p, V: Versions<P = BuiltIn> + Drop, R: Wait, G: Gate>(
     requires seated { IsSeated run.now.shared.now run.now.number worker.seat }
     ensures seated { IsSeated run.now.shared.now run.now.number result.seat }
     ensures makes { Makes V.stands run.now.shared.now worker.entry result None None
-        (by_actor run.now.number (steps_parts (repeated times steps.now))) }
+        (by_actor run.now.number (steps_parts (repeated_steps times steps.now))) }
 {
     let mut worker = worker;
     let mut left = times;

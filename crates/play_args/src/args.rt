@@ -25,10 +25,14 @@ fn command_line<'a>(alloc: Global) -> Result<clap::Command<'a>, AllocError>
 // Returns the name of the subcommand that `clap` finds. The help and version of `clap`, which it reports as
 // errors, are not commands.
 fn match_subcommand<'a>(alloc: Global, words: &'a [String]) -> Result<Option<&'a str>, NoMemory>
-    ensures run { texts words.now ≡ codes "run" ∷ [] → IfOk result (λ name. option_map (λ s. s.now) name ≡ Some (codes "run")) }
-    ensures threads { texts words.now ≡ codes "threads" ∷ [] → IfOk result (λ name. option_map (λ s. s.now) name ≡ Some (codes "threads")) }
-    ensures check { texts words.now ≡ codes "check" ∷ [] → IfOk result (λ name. option_map (λ s. s.now) name ≡ Some (codes "check")) }
-    ensures generated { texts words.now ≡ codes "gen" ∷ [] → IfOk result (λ name. option_map (λ s. s.now) name ≡ Some (codes "gen")) }
+    ensures run { texts words.now ≡ codes "run" ∷ [] →
+        IfOk result (λ name. option_map (λ s. s.now) name ≡ Some (codes "run")) }
+    ensures threads { texts words.now ≡ codes "threads" ∷ [] →
+        IfOk result (λ name. option_map (λ s. s.now) name ≡ Some (codes "threads")) }
+    ensures check { texts words.now ≡ codes "check" ∷ [] →
+        IfOk result (λ name. option_map (λ s. s.now) name ≡ Some (codes "check")) }
+    ensures generated { texts words.now ≡ codes "gen" ∷ [] →
+        IfOk result (λ name. option_map (λ s. s.now) name ≡ Some (codes "gen")) }
 {
     match command_line(alloc)?.try_get_matches_from(words) {
         Ok(matches) => Ok(matches.subcommand_name()),

@@ -10,7 +10,7 @@ use Rattle.lang_ast.specs.declared.script.ScriptForm.TheVariants.{Once, Repeat}
 use Rattle.lang_ast.specs.declared.script.DoForm.{DoForm}
 use Rattle.script_lang.specs.Scripts.{actors_of, is_among, forms_count}
 use Rattle.script_lang.specs.SnapshotNames.{latest}
-use Rattle.script_lang.specs.ScriptFaults.{foreign_name, fault_if, most_steps, oversized, long_forms, further_actors, may_repeat, wrong_repeats, forms_wrong_repeats, TextStep, CallStep, FrameStep, text_script, FirstUses, no_uses, uses_after, unknown_name, snapshot_faults, state_faults, is_int, add_faults, call_faults, step_faults, steps_faults, script_faults, goes_before, first_fault, first_of_faults, script_refusal}
+use Rattle.script_lang.specs.ScriptFaults.{foreign_name, fault_if, most_steps, oversized_faults, long_forms, further_actors, may_repeat, wrong_repeats, forms_wrong_repeats, TextStep, CallStep, FrameStep, text_script, FirstUses, no_uses, uses_after, unknown_name, snapshot_faults, state_faults, is_int, add_faults, call_faults, step_faults, steps_faults, script_faults, goes_before, first_fault, first_of_faults, script_refusal}
 use Rattle.script_lang.specs.declared.faults.ScriptStop.{ScriptStop}
 use Rattle.script_lang.specs.declared.faults.ScriptStop.TheVariants as script
 
@@ -32,7 +32,7 @@ unfolding AreKnown
 known-if true f h = (h, tt)
 known-if false f h = tt
 
-known-oversized : (o : Option ℕ) → AreKnown (oversized o)
+known-oversized : (o : Option ℕ) → AreKnown (oversized_faults o)
 unfolding AreKnown
 known-oversized None = tt
 known-oversized (Some at) = ((λ e. absurd cc), tt)
@@ -119,7 +119,7 @@ known-all o (f ∷ fs) h k = known-all (first_fault o f) fs (one o h) k.1
 
 known-faults : (threads : Bool) (states : List State) (beyond : Option ℕ) (forms : List DoForm) → AreKnown (script_faults threads states beyond forms)
 known-faults threads states beyond forms =
-    known-append (oversized beyond) _ (known-oversized beyond) (
+    known-append (oversized_faults beyond) _ (known-oversized beyond) (
     known-append (long_forms most_steps forms) _ (known-long most_steps forms) (
     known-append (further_actors (actors_of forms) forms) _ (known-actors (actors_of forms) forms) (
     known-append (forms_wrong_repeats forms) _ (known-all-repeats forms) (known-steps threads states no_uses (text_script (actors_of forms) forms)))))

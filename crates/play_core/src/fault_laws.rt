@@ -8,12 +8,14 @@ ghost use Rattle.play_core.specs.declared.fault.Fault.{Fault as fault_data};
 
 /// Law: bytes have at most one fault.
 pub fn bytes_have_one_fault()
-    ensures { (threads : Bool) (bytes : List ℕ) (f g : fault_data) → IsFault threads bytes f → IsFault threads bytes g → f ≡ g }
+    ensures { (threads : Bool) (bytes : List ℕ) (f g : fault_data) →
+        IsFault threads bytes f → IsFault threads bytes g → f ≡ g }
 {}
 
 /// Law: bytes with a fault are not a source text.
 pub fn faulty_bytes_are_no_text()
-    ensures { (threads : Bool) (bytes : List ℕ) (fault : fault_data) → IsFault threads bytes fault → IsNoText threads bytes }
+    ensures { (threads : Bool) (bytes : List ℕ) (fault : fault_data) →
+        IsFault threads bytes fault → IsNoText threads bytes }
 {}
 
 /// Law: bytes are a source text or have a fault.

@@ -133,7 +133,8 @@ fn parse_trees(alloc: Global, trees: &[Tree], end: usize) -> Result<(Program, Re
     ensures forms { IfOk result (λ r. HasForms (within (forest_view trees.now)) (parsed_source_view r)) }
     ensures small { IfOk result (λ r. program_limits (forest_view trees.now) (program_view r.0) ≡ []) }
     ensures numbered { IfOk result (λ r. IsNumberedProgram (program_view r.0)) }
-    ensures first_oversized { IfOk result (λ r. r.1.first_oversized ≡ least (oversized_script_offsets (forest_view trees.now))) }
+    ensures first_oversized { IfOk result (λ r. r.1.first_oversized
+        ≡ least (oversized_script_offsets (forest_view trees.now))) }
 {
     lang_forms::program(alloc, trees, end)
 }
@@ -159,8 +160,10 @@ fn parse_forms(alloc: Global, trees: Vec<Tree>, end: usize, threads: bool) -> Re
 /// names of its own.
 pub fn parse_input(alloc: Global, bytes: &[u8], threads: bool) -> Result<Input, TextEnd>
     ensures ok { IfOk result (λ input. IsInput threads bytes.now input) }
-    ensures bad { (fault : fault_data) → result ≡ Err (TextEnd.Bad fault) → IsNoText threads bytes.now × IsFault threads bytes.now fault }
-    ensures told { (fault : fault_data) → IsFault threads bytes.now fault → (result ≡ Err (TextEnd.Bad fault)) ⊎ (result ≡ Err TextEnd.NoMemory) }
+    ensures bad { (fault : fault_data) → result ≡ Err (TextEnd.Bad fault) →
+        IsNoText threads bytes.now × IsFault threads bytes.now fault }
+    ensures told { (fault : fault_data) → IsFault threads bytes.now fault →
+        (result ≡ Err (TextEnd.Bad fault)) ⊎ (result ≡ Err TextEnd.NoMemory) }
 {
     let trees = match read(alloc, bytes) {
         Ok(trees) => trees,

@@ -10,10 +10,10 @@ use Rattle.play_gen.specs.declared.rounds.Change.{Change}
 use Rattle.play_gen.specs.declared.rounds.Change.TheVariants as change
 use Rattle.play_gen.specs.Draws.{next_state, drawn}
 use Rattle.play_gen.specs.GeneratedProgram.{first_items}
-use Rattle.play_gen.specs.GeneratedScript.{frame_step, change_drawn, rotated, items_after, change_steps, round_change, rounds}
+use Rattle.play_gen.specs.GeneratedScript.{frame_step, change_drawn, rotated_list, items_after, change_steps, round_change, rounds}
 
 -- A rotation keeps the number of items.
-pub rotated-length : (turn : ℕ) (items : List ℤ) → length (rotated turn items) ≡ length items
+pub rotated-length : (turn : ℕ) (items : List ℤ) → length (rotated_list turn items) ≡ length items
 rotated-length turn items =
     let sum = length-append (drop turn items) (take turn items) in
     let front = length-take turn items in
@@ -21,8 +21,8 @@ rotated-length turn items =
     omega (arith, sum, front, back)
 
 -- A rotation in memory cuts nothing.
-pub rotation-fits : (turn : ℕ) (items : List ℤ) → length items ≤ most_items → concatenation (drop turn items) (take turn items) ≡ rotated turn items
-rotation-fits turn items few = let same = rotated-length turn items in take_all most_items (rotated turn items) (omega (arith, few, same))
+pub rotation-fits : (turn : ℕ) (items : List ℤ) → length items ≤ most_items → concatenation (drop turn items) (take turn items) ≡ rotated_list turn items
+rotation-fits turn items few = let same = rotated-length turn items in take_all most_items (rotated_list turn items) (omega (arith, few, same))
 
 pub items-length : (size : ℕ) (c : Change) (x : ℕ) (items : List ℤ) → length (items_after size c x items) ≡ length items
 items-length size change.AddToTotal x items = refl

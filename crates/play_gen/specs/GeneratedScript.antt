@@ -53,12 +53,12 @@ change_drawn k =
     else change.RotateItems
 
 -- The items, rotated left by `turn`.
-abbrev pub rotated : ℕ → List ℤ → List ℤ
-rotated turn items = drop turn items ++ take turn items
+abbrev pub rotated_list : ℕ → List ℤ → List ℤ
+rotated_list turn items = drop turn items ++ take turn items
 
 -- The items after a change. The state of the draws is `x`.
 abbrev pub items_after : ℕ → Change → ℕ → List ℤ → List ℤ
-items_after size change.RotateItems x items = rotated (drawn x size) items
+items_after size change.RotateItems x items = rotated_list (drawn x size) items
 items_after size _ x items = items
 
 -- The steps of a change. The state of the draws is `x`.
@@ -68,7 +68,7 @@ change_steps size change.RaiseBest x items =
     take_step ∷ write_step named_g (codes "best") 2 (value.Int (pos (drawn x 10))) ∷ apply_step ∷ []
 change_steps size change.SetScale x items = write_step Global (codes "scale") 3 (value.Int (pos (drawn x 10))) ∷ []
 change_steps size change.RotateItems x items =
-    write_step Global (codes "items") 0 (value.Ints (rotated (drawn x size) items)) ∷ []
+    write_step Global (codes "items") 0 (value.Ints (rotated_list (drawn x size) items)) ∷ []
 
 -- The change of the round that begins in the state `x` of the draws.
 abbrev pub round_change : ℕ → Change

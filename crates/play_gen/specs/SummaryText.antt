@@ -1,12 +1,7 @@
 -- Trusted: the three lines of a summary.
 use Rattle.std.specs.Prelude.{ℕ, List, ◌++◌, codes}
-use Rattle.std.specs.Fmt.{decimal}
-use Rattle.script_lang.specs.Lines.{line}
+use Rattle.script_lang.specs.Lines.{line, count_text}
 use Rattle.play_gen.specs.declared.tally.Tally.{Tally}
-
--- A word and a number.
-unfoldable pub count_text : List ℕ → ℕ → List ℕ
-count_text word count = word ++ decimal count
 
 abbrev pub values_text : Tally → List ℕ
 values_text t =

@@ -3,7 +3,7 @@ ghost use Rattle.std.specs.Prelude.{◌≡◌, ◌<◌, ◌≤◌, ◌++◌, ◌
 ghost use Rattle.rt_values.specs.declared.value.Value.{Value as value_data};
 ghost use Rattle.lang_ast.specs.declared.script.SnapshotRef.{SnapshotRef as snapshot_ref};
 ghost use Rattle.play_gen.specs.Draws.{drawn, next_state};
-ghost use Rattle.play_gen.specs.GeneratedScript.{add_step, take_step, apply_step, frame_step, write_step, named_g, change_drawn, rotated, items_after, change_steps, round_change, rounds};
+ghost use Rattle.play_gen.specs.GeneratedScript.{add_step, take_step, apply_step, frame_step, write_step, named_g, change_drawn, rotated_list, items_after, change_steps, round_change, rounds};
 
 use crate::draws::Draws;
 use crate::program::ident;
@@ -43,7 +43,7 @@ pub fn change_drawn(number: u32) -> Change
 /// Returns the items, rotated left by `turn`. A rule of this project.
 pub fn rotate(alloc: Global, items: &IntList, turn: usize) -> Result<IntList, NoMemory>
     requires { turn ≤ length items.now }
-    ensures { IfOk result (λ l. l ≡ rotated turn items.now) }
+    ensures { IfOk result (λ l. l ≡ rotated_list turn items.now) }
 {
     let (first, rest) = items.items().split_at(turn);
     let mut list = IntList::of(alloc, rest)?;
@@ -133,8 +133,8 @@ fn add_rotation(
     steps: &mut ScriptForms,
 ) -> Result<(), NoMemory>
     requires { turn ≤ length items.old }
-    ensures items { OnOk result (items.new ≡ rotated turn items.old) }
-    ensures steps { let write = write_step snapshot_ref.Global (codes "items") 0 (value_data.Ints (rotated turn items.old)) in
+    ensures items { OnOk result (items.new ≡ rotated_list turn items.old) }
+    ensures steps { let write = write_step snapshot_ref.Global (codes "items") 0 (value_data.Ints (rotated_list turn items.old)) in
         OnOk result (steps.new ≡ steps.old ++ write ∷ []) }
 {
     *items = rotate(alloc, items, turn as usize)?;

@@ -6,7 +6,7 @@ ghost use Rattle.script_lang.specs.Scripts.{actors_of};
 ghost use Rattle.script_lang.specs.StepCalls.{script_parts};
 ghost use Rattle.snap_api.specs.World.{start};
 ghost use Rattle.play_gen.specs.Draws.{next_state};
-ghost use Rattle.play_gen.specs.GeneratedScript.{rotated, items_after, write_step, change_steps, rounds, generated_script};
+ghost use Rattle.play_gen.specs.GeneratedScript.{rotated_list, items_after, write_step, change_steps, rounds, generated_script};
 ghost use Rattle.play_gen.specs.Tallies.{generated_counts};
 ghost use Rattle.play_gen.specs.Counting.{CountsParts, forms_parts};
 
@@ -31,8 +31,8 @@ fn count_rotation<V: Versions<P = BuiltIn>>(
     world: &mut V,
 ) -> Result<(), NoMemory>
     requires { turn ≤ length items.old }
-    ensures items { OnOk result (items.new ≡ rotated turn items.old) }
-    ensures counts { let write = write_step snapshot_ref.Global (codes "items") 0 (value_data.Ints (rotated turn items.old)) in
+    ensures items { OnOk result (items.new ≡ rotated_list turn items.old) }
+    ensures counts { let write = write_step snapshot_ref.Global (codes "items") 0 (value_data.Ints (rotated_list turn items.old)) in
         CountsParts V.stands (forms_parts (write ∷ [])) world.old world.new counting.old counting.new None None result }
 {
     *items = rotate(alloc, items, turn as usize)?;

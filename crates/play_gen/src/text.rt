@@ -1,23 +1,12 @@
 // The lines of a summary.
 ghost use Rattle.std.specs.Prelude.{◌≡◌, ◌++◌, IfOk, OnOk};
 ghost use Rattle.script_lang.specs.Lines.{line};
-ghost use Rattle.play_gen.specs.SummaryText.{count_text, values_text, applies_text, frames_text, last_text, summary_text};
+ghost use Rattle.play_gen.specs.SummaryText.{values_text, applies_text, frames_text, last_text, summary_text};
 
 use crate::tally::Tally;
-use itoa::Buffer;
 use rt_values::NoMemory;
+use script_lang::add_count;
 use std::alloc::Global;
-
-// Appends a word and a number.
-#[tactic(auto, unfolding(crate::specs::SummaryText::count_text), using(crate::proofs::Parts::joins))]
-fn add_count(text: &mut Vec<u8>, word: &[u8], count: u64) -> Result<(), NoMemory>
-    ensures { OnOk result (text.new.items ≡ text.old.items ++ count_text word.now count) }
-{
-    let mut digits = Buffer::new();
-    text.extend_from_slice(word)?;
-    text.extend_from_slice(digits.format(count).as_bytes())?;
-    Ok(())
-}
 
 // Appends the counts of takes, reads and writes.
 #[tactic(auto, using(crate::proofs::Parts::joins))]

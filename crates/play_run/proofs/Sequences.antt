@@ -9,7 +9,7 @@ use Rattle.lang_ast.specs.declared.script.ScriptForm.TheVariants.{Once, Repeat}
 use Rattle.snap_policy.specs.declared.policy.BuiltIn.{BuiltIn}
 use Rattle.snap_api.specs.World.{World}
 use Rattle.snap_api.specs.declared.data.Entry.{Entry}
-use Rattle.script_lang.specs.Scripts.{repeated, times_of, written_out}
+use Rattle.script_lang.specs.Scripts.{repeated_steps, times_of, written_out}
 use Rattle.script_lang.specs.StepCalls.{Part, ActorPart, of_actor, step_parts, steps_parts}
 use Rattle.script_lang.specs.Lines.{LineStyle}
 use Rattle.play_run.specs.RunOutput.{Run, parts_lines, parts_after, parts_of}
@@ -33,7 +33,7 @@ steps_append (x ∷ xs) ys = ap (λ l. step_parts x ++ l) (steps_append xs ys) �
 -- The first form of an actor, then the others.
 pub form_first : (f : ScriptForm) (more : List ScriptForm) → written_out (f ∷ more) ≡ written_out (f ∷ []) ++ written_out more
 form_first (Once s) more = refl
-form_first (Repeat at times steps) more = sym (append_assoc (repeated (times_of times) steps) [] (written_out more))
+form_first (Repeat at times steps) more = sym (append_assoc (repeated_steps (times_of times) steps) [] (written_out more))
 
 module _ {V : Type 0} {stands : V → World BuiltIn → Type 0} {log : V → Option (List Entry)} (t : LineStyle) (functions : List Func) (actor : ℕ) where
   -- Nothing was run yet.
@@ -117,6 +117,6 @@ module _ {V : Type 0} {stands : V → World BuiltIn → Type 0} {log : V → Opt
       (runs_stopped t functions actor {world' = world''} {world'' = world''} {memory' = memory''} {memory'' = memory''} frame frame written' written'' (parts_after functions r done) e e here rest two))
 
 -- The steps of a repeat that is made once more.
-pub repeated_first : (n : ℕ) (steps : List StepForm) → 0 < n → repeated n steps ≡ steps ++ repeated (n - 1) steps
+pub repeated_first : (n : ℕ) (steps : List StepForm) → 0 < n → repeated_steps n steps ≡ steps ++ repeated_steps (n - 1) steps
 repeated_first zero steps h = absurd (omega (arith, h))
-repeated_first (suc n) steps h = let e : suc n - 1 ≡ n = omega arith in ap (λ k. steps ++ repeated k steps) (sym e)
+repeated_first (suc n) steps h = let e : suc n - 1 ≡ n = omega arith in ap (λ k. steps ++ repeated_steps k steps) (sym e)

@@ -2,7 +2,7 @@
 ghost use Rattle.std.specs.Prelude.{◌≡◌, ◌≤◌, List, ℕ, Bool, true, Option, Some, None, Err, IfOk, OnOk, [], ◌∷◌, length};
 ghost use Rattle.snap_api.specs.World.{start};
 ghost use Rattle.lang_ast.specs.declared.program.State.{State as state_data};
-ghost use Rattle.script_lang.specs.Scripts.{index_of, written_out, times_of, repeated};
+ghost use Rattle.script_lang.specs.Scripts.{index_of, written_out, times_of, repeated_steps};
 ghost use Rattle.script_lang.specs.StepCalls.{step_parts, steps_parts, script_parts};
 ghost use Rattle.script_lang.specs.Lines.{run_text};
 ghost use Rattle.play_run.specs.RunOutput.{Run, parts_of};
@@ -92,7 +92,7 @@ fn run_repeat<V: Versions<P = BuiltIn>, K: Sink>(
 ) -> Result<(), Stop>
     ensures runs { RunsParts (style_of actor.entry) (job_functions actor.entry.job.now) V.stands V.log
         actor.entry.number
-        (parts_of actor.entry.number (steps_parts (repeated times steps.now))) world.old world.new memory.old
+        (parts_of actor.entry.number (steps_parts (repeated_steps times steps.now))) world.old world.new memory.old
         memory.new None None
         (K.written sink.old) (K.written sink.new) result }
     ensures faults { FaultsAfter (K.faults sink.old) (K.faults sink.new) result }

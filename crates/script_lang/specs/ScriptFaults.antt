@@ -28,9 +28,9 @@ most_steps = 65536
 -- Limits.
 
 -- The fault of the first token of the script that exceeds its limit, if there is one.
-abbrev pub oversized : Option ℕ → List ScriptStop
-oversized None = []
-oversized (Some at) = stop.Limit at ∷ []
+abbrev pub oversized_faults : Option ℕ → List ScriptStop
+oversized_faults None = []
+oversized_faults (Some at) = stop.Limit at ∷ []
 
 -- The faults of the forms that have a step after the first `left` steps of the script.
 abbrev pub long_forms : ℕ → List DoForm → List ScriptStop
@@ -178,7 +178,7 @@ module _ (threads : Bool) (states : List State) where
   -- All faults of a script. `first_oversized` is the offset of the first token that exceeds its limit.
   abbrev pub script_faults : Option ℕ → List DoForm → List ScriptStop
   script_faults first_oversized forms =
-      oversized first_oversized ++ (long_forms most_steps forms ++ (further_actors (actors_of forms) forms
+      oversized_faults first_oversized ++ (long_forms most_steps forms ++ (further_actors (actors_of forms) forms
       ++ (forms_wrong_repeats forms ++ steps_faults no_uses (text_script (actors_of forms) forms))))
 
 -- The pass that finds a fault: limits, then unknown names, then types, then actors.

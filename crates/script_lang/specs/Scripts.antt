@@ -39,15 +39,15 @@ times_of (pos n) = n
 times_of (negsuc n) = 0
 
 -- Steps, so many times in a row.
-abbrev pub repeated : {A : Type 0} → ℕ → List A → List A
-repeated zero steps = []
-repeated (suc n) steps = steps ++ repeated n steps
+abbrev pub repeated_steps : {A : Type 0} → ℕ → List A → List A
+repeated_steps zero steps = []
+repeated_steps (suc n) steps = steps ++ repeated_steps n steps
 
 -- The steps of an actor, with each repeat written out.
 abbrev pub written_out : List ScriptForm → List StepForm
 written_out [] = []
 written_out (Once s ∷ more) = s ∷ written_out more
-written_out (Repeat at times steps ∷ more) = repeated (times_of times) steps ++ written_out more
+written_out (Repeat at times steps ∷ more) = repeated_steps (times_of times) steps ++ written_out more
 
 -- The number of steps that a step counts for: a frame and each of its inner steps count one each.
 abbrev pub step_count : StepForm → ℕ

@@ -28,5 +28,5 @@ pub use line::{add_line, add_reply_line, add_request_line};
 pub use names::{NEVER_TAKEN, NameTable};
 pub use op_lines::add_op;
 pub use scripts::{Script, script_of};
-pub use tree::{OpenGroups, add_refused, add_report};
+pub use tree::{OpenGroups, add_count, add_refused, add_report};
 pub use tree_json::TreeWriter;

@@ -1,7 +1,7 @@
 // Limits of scripts: the steps, the actors, and the numbers of repeats.
 ghost use Rattle.std.specs.Prelude.{◌≡◌, ◌^◌, ◌-◌, ◌≤◌, ℕ, Bool, List, ◌∷◌, min, [], None, IfOk, OnOk};
 ghost use Rattle.script_lang.specs.Scripts.{step_count, steps_count, forms_count, times_of, index_of, is_among, with_actor, actors_from, actors_of, most_actors};
-ghost use Rattle.script_lang.specs.ScriptFaults.{oversized, most_steps, long_forms, further_actors, may_repeat, wrong_repeats, forms_wrong_repeats, first_of_faults};
+ghost use Rattle.script_lang.specs.ScriptFaults.{oversized_faults, most_steps, long_forms, further_actors, may_repeat, wrong_repeats, forms_wrong_repeats, first_of_faults};
 
 use crate::faults::{ScriptStop, first_fault_if};
 use lang_ast::{DoForm, ScriptForm, StepForm};
@@ -17,7 +17,7 @@ const MOST_ACTORS: usize = 8;
 // Returns the fault of the first token that exceeds its limit.
 #[tactic(auto, unfolding(crate::specs::ScriptFaults::first_fault))]
 pub fn oversized_fault(first_oversized: Option<usize>) -> Option<ScriptStop>
-    ensures { result ≡ first_of_faults None (oversized first_oversized) }
+    ensures { result ≡ first_of_faults None (oversized_faults first_oversized) }
 {
     match first_oversized {
         None => None,

@@ -10,10 +10,10 @@ use rt_values::{NoMemory, Word};
 use std::alloc::Global;
 use std::marker::Model;
 
-// Appends a word and a number.
+/// Appends a word and a number. A rule of this project. Fails only if the process is out of memory.
 #[inline(always)]
 #[tactic(auto, unfolding(crate::specs::Lines::count_text), using(crate::proofs::Texts::joins))]
-fn add_count(text: &mut Vec<u8>, word: &[u8], count: u64) -> Result<(), NoMemory>
+pub fn add_count(text: &mut Vec<u8>, word: &[u8], count: u64) -> Result<(), NoMemory>
     ensures { OnOk result (text.new.items ≡ text.old.items ++ count_text word.now count) }
 {
     add(text, word)?;

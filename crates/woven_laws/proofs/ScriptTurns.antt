@@ -13,7 +13,7 @@ use Rattle.lang_ast.specs.declared.script.StepForm.TheVariants as step
 use Rattle.lang_ast.specs.declared.script.ScriptForm.{ScriptForm}
 use Rattle.lang_ast.specs.declared.script.ScriptForm.TheVariants.{Once, Repeat}
 use Rattle.lang_ast.specs.declared.script.DoForm.{DoForm}
-use Rattle.script_lang.specs.Scripts.{actors_of, index_of, written_out, times_of, repeated}
+use Rattle.script_lang.specs.Scripts.{actors_of, index_of, written_out, times_of, repeated_steps}
 use Rattle.script_lang.specs.ScriptFaults.{TextStep, CallStep, FrameStep, text_step, text_steps, text_forms, text_script, FirstUses, no_uses, with_framer, uses_after_call, uses_after, fault_if, foreign_name, step_faults, steps_faults, oversized, long_forms, most_steps, further_actors, forms_wrong_repeats, script_faults}
 use Rattle.script_lang.specs.declared.faults.ScriptStop.{ScriptStop}
 use Rattle.script_lang.specs.declared.faults.ScriptStop.TheVariants as stop
@@ -91,9 +91,9 @@ none_append : (xs ys : List StepForm) → NoFrames xs → NoFrames ys → NoFram
 none_append [] ys h k = k
 none_append (x ∷ xs) ys h k = (h.0, none_append xs ys h.1 k)
 
-none_repeated : (times : ℕ) (steps : List StepForm) → NoFrames steps → NoFrames (repeated times steps)
+none_repeated : (times : ℕ) (steps : List StepForm) → NoFrames steps → NoFrames (repeated_steps times steps)
 none_repeated zero steps h = tt
-none_repeated (suc times) steps h = none_append steps (repeated times steps) h (none_repeated times steps h)
+none_repeated (suc times) steps h = none_append steps (repeated_steps times steps) h (none_repeated times steps h)
 
 -- Each frame of the text is of this actor.
 abbrev OnlyFrames : ℕ → List TextStep → Type 0
@@ -121,7 +121,7 @@ module _ (f a : ℕ) (other : a ≢ f) where
   written_none (Once s ∷ more) h = let parts = only_append f (text_step a s) (text_forms a more) h in (step_none_of s parts.0, written_none more parts.1)
   written_none (Repeat at times steps ∷ more) h =
       let parts = only_append f (text_steps a steps) (text_forms a more) h in
-      none_append (repeated (times_of times) steps) (written_out more) (none_repeated (times_of times) steps (steps_none_of steps parts.0)) (written_none more parts.1)
+      none_append (repeated_steps (times_of times) steps) (written_out more) (none_repeated (times_of times) steps (steps_none_of steps parts.0)) (written_none more parts.1)
 
   pub parts_none : (actors : List (List ℕ)) (forms : List DoForm) → OnlyFrames f (text_script actors forms) → HaveNoFrame (actor_parts a actors forms)
   parts_none actors [] h = tt

@@ -57,7 +57,7 @@ abbrev pub HaveNoFrame : List ActorPart → Type 0
 HaveNoFrame [] = Unit {0}
 HaveNoFrame (p ∷ ps) = HasNoFrame p.part × HaveNoFrame ps
 
--- What is true of actor `a` with these notes and parts left. `count` is the number of snapshots, `frame_open` the snapshot of the
+-- What is true of actor `a` with these notes and parts left. `count` is the number of snapshots, `open` the snapshot of the
 -- open frame, and `own` the same if the frame is this actor's. Actor `f` is the only one with frames.
 pub record Fits (f count : ℕ) (frame_open own : Option ℕ) (a : ℕ) (n : Notes) (parts : List ActorPart) : Type 0 where
   pub known : (x : List ℕ) (k : ℕ) → latest n.names x ≡ Some k → (k < count) ⊎ (k ≡ never_taken)
@@ -149,7 +149,7 @@ unended k n (Dispose s) q plain is ne = let e : request.Dispose (snapshot_number
 unended k n BeginFrame q plain is ne = absurd plain
 unended k n EndFrame q plain is ne = absurd plain
 
--- No name stands for the frame_open frame's snapshot.
+-- No name represents the open frame's snapshot.
 name_apart : (names : List NamedNumber) (k : ℕ) (s : SnapshotRef) → 0 < k → k < never_taken → ((x : List ℕ) (j : ℕ) → latest names x ≡ Some j → Some k ≢ Some j) → snapshot_number names s ≢ k
 name_apart names k Global inner taken apart e = omega (arith, inner, e)
 name_apart names k (Named name) inner taken apart e = by (latest names name.text) refl where
@@ -192,7 +192,7 @@ module _ (w : World BuiltIn) (a : ℕ) (q : Request) where
   number_is reply.Disposed is = inr refl
   number_is (reply.Refused e) is = inr refl
 
-  -- Another actor's call changes nothing for an actor, if no name stands for the snapshot that is frame_open after it.
+  -- Another actor's call changes nothing for an actor, if no name represents the snapshot that is open after it.
   other_fits : (f : ℕ) (frame_open later_frame own : Option ℕ) (b : ℕ) (s : ActorState) → Fits f (length w.snapshots) frame_open own b s.notes s.left →
       ((x : List ℕ) (k : ℕ) → latest s.notes.names x ≡ Some k → later_frame ≢ Some k) → Fits f count_after later_frame own b s.notes s.left
   other_fits f frame_open later_frame own b s h apart = record {
@@ -271,7 +271,7 @@ its_own : (a f : ℕ) → (a ≢ f → ⊥) → a ≡ f
 its_own a f other = elim (eqb_tells a f) [ inl e ↦ e.1 | inr e ↦ absurd (other e.1) ]
 
 module _ (w : World BuiltIn) (a f b : ℕ) (n : Notes) (ps : List ActorPart) where
-  -- The state after the call of an actor, if no frame is frame_open.
+  -- The state after the call of an actor, if no frame is open.
   record Began (n' : Notes) (q : Request) (o : Option ℕ) : Type 0 where
     pub fits : Fits f (count_after w a q) o o a n' ps
     pub opens : Opens f (length w.snapshots) (count_after w a q) a o
@@ -345,7 +345,7 @@ module _ (w : World BuiltIn) (a f b : ℕ) (n : Notes) (ps : List ActorPart) whe
       subst (λ (t : Request). r ≡ (call table w a t).1 → Began (notes_after n BeginFrame r) t (taken_by t r)) e (λ k. begun_frame r h k some below) is
   begins EndFrame q r h asks is some below = let not : None ≡ Some q = sym (ap end_request h.frame) ∙ asks in absurd cc
 
-  -- The state after the call of an actor while a frame is frame_open with snapshot `k`. The call ends the frame, or leaves it frame_open.
+  -- The state after the call of an actor while a frame is open with snapshot `k`. The call ends the frame, or leaves it open.
   data GoesOn (k : ℕ) (own : Option ℕ) (n' : Notes) (q : Request) (taken : List ℕ) : Type 0 where
     ends : ends_frame (k ∷ []) q ≡ true → own ≡ Some k → Fits f (count_after w a q) None None a n' ps → GoesOn k own n' q taken
     stays : ends_frame (k ∷ []) q ≡ false → taken ≡ [] → Fits f (count_after w a q) (Some k) own a n' ps → GoesOn k own n' q taken
@@ -357,7 +357,7 @@ module _ (w : World BuiltIn) (a f b : ℕ) (n : Notes) (ps : List ActorPart) whe
       (untaken n p q plain asks r)
       (plain_fits w a q f b n ps (Some k) own p r plain h is (λ j e. (let same : k ≡ j = cc in subst (λ (i : ℕ). IsNumber (length w.snapshots) i) same number)))
 
-  -- The own frame_open frame ends.
+  -- The own open frame ends.
   ended : (k : ℕ) (r : Reply) → Fits f (length w.snapshots) (Some k) (Some k) a n (of_actor b EndFrame ∷ ps) → GoesOn k (Some k) (notes_after n EndFrame r) (request.Dispose k) (frame_taken (request.Dispose k) r)
   ended k r h = ends (ap (λ c. c || false) (itself k)) refl (record {
     known = λ x j e. elim (h.known x j e) [ inl lt ↦ let more = grown w a (request.Dispose k) in inl (omega (arith, lt, more)) | inr never ↦ inr never ];
@@ -369,7 +369,7 @@ module _ (w : World BuiltIn) (a f b : ℕ) (n : Notes) (ps : List ActorPart) whe
     only = λ ne. (h.only ne).1;
   })
 
-  -- `own` is the frame_open frame's snapshot if the actor began the frame. Else the actor is not the one with frames.
+  -- `own` is the open frame's snapshot if the actor began the frame. Else the actor is not the one with frames.
   goes_on : (k : ℕ) (own : Option ℕ) → (own ≡ Some k) ⊎ ((own ≡ None) × (a ≢ f)) → IsNumber (length w.snapshots) k → (p : Part) (q : Request) (r : Reply) → Fits f (length w.snapshots) (Some k) own a n (of_actor b p ∷ ps) → request_of n p ≡ Some q → r ≡ (call table w a q).1 →
       GoesOn k own (notes_after n p r) q (frame_taken q r)
   goes_on k own whose number (Take name kind parent) q r h asks is = stays_plain k own (Take name kind parent) q r tt number h asks is
@@ -430,7 +430,7 @@ module _ (w : World BuiltIn) (f : ℕ) (n : Notes) (e : Entry) (es : History) (i
     by None asks rest now = rest (part_passed f (length w.snapshots) (Some k) own e.caller n p.actor p.part ps h asks) now
     by (Some q) asks rest now = on (goes_on w e.caller f p.actor n ps k own whose number p.part e.request e.reply h (asks ∙ ap Some (sym now.1)) is)
 
--- The snapshot of the frame_open frame, for all actors and for one.
+-- The snapshot of the open frame, for all actors and for one.
 abbrev pub name_of : Option OpenFrame → Option ℕ
 name_of None = None
 name_of (Some g) = Some g.name
@@ -499,7 +499,7 @@ module _ (f n : ℕ) where
     opened = opened;
   }
 
-  -- Whose frame is frame_open.
+  -- Whose frame is open.
   whose : (g : OpenFrame) (a : ℕ) → g.caller ≡ f → (own_of (Some g) a ≡ Some g.name) ⊎ ((own_of (Some g) a ≡ None) × (a ≢ f))
   whose g a its = elim (eqb_tells g.caller a) [
     | inl same ↦ inl (ap (λ c. cond c (Some g.name) None) same.0)

@@ -1,5 +1,5 @@
 use Rattle.std.proofs.Common.{◌≡◌, ◌<◌, ◌-◌, ap, refl, ◌∙◌, None, arith}
-use Rattle.script_lang.specs.Scripts.{repeated}
+use Rattle.script_lang.specs.Scripts.{repeated_steps}
 use Rattle.script_lang.specs.StepCalls.{steps_parts}
 use Rattle.play_run.proofs.Sequences.{repeated_first, steps_append}
 use Rattle.play_actors.specs.ActorSteps.{by_actor}
@@ -14,7 +14,7 @@ loop-left-preserved g c =
     let steps = c.args.steps.now in
     let test = c.loop-left-test.true in
     let positive : 0 < c.loop-left.left = omega (arith, test) in
-    let rest = repeated (c.loop-left.left - 1) steps in
+    let rest = repeated_steps (c.loop-left.left - 1) steps in
     let split = ap (λ l. by_actor a (steps_parts l)) (repeated_first c.loop-left.left steps positive) ∙ ap (by_actor a) (steps_append steps rest) ∙ by_append a (steps_parts steps) (steps_parts rest) in
     record {
       seated = c.run_steps-worker.ensures.seated;
@@ -27,4 +27,4 @@ returns-clause-makes g c =
     let test = c.loop-left-test.false in
     let none : c.loop-left.left ≡ 0 = omega (arith, test) in
     leads_as g.V.Versions.stands c.args.run.now.shared.now c.args.worker c.loop-left.worker None None _ _ _ _ refl
-    (ap (λ n. by_actor c.args.run.now.number (steps_parts (repeated n c.args.steps.now))) none) c.loop-left.invariant.leads
+    (ap (λ n. by_actor c.args.run.now.number (steps_parts (repeated_steps n c.args.steps.now))) none) c.loop-left.invariant.leads

@@ -1,5 +1,5 @@
 use Rattle.std.proofs.Common.{◌≡◌, ◌∷◌, [], ◌∙◌, sym, ap, None, append-nil, rules}
-use Rattle.script_lang.specs.Scripts.{written_out, repeated, times_of}
+use Rattle.script_lang.specs.Scripts.{written_out, repeated_steps, times_of}
 use Rattle.script_lang.specs.StepCalls.{step_parts, steps_parts}
 use Rattle.play_run.specs.RunOutput.{parts_of}
 use Rattle.play_run.specs.RunPromise.{job_style, job_functions}
@@ -16,7 +16,7 @@ returns-in-Repeat-clause-runs g c r h =
     let a = c.args.actor.number in
     let times : c.times_of.result ≡ times_of c.in-Repeat.times = search rules in
     runs_same (job_style c.args.actor.job.now c.args.actor.flags) (job_functions c.args.actor.job.now) a None _ _ r c.run_repeat.result _ _
-    (ap (λ n. parts_of a (steps_parts (repeated n c.items.result.now))) times
-    ∙ ap (λ xs. parts_of a (steps_parts (repeated (times_of c.in-Repeat.times) xs))) c.items.ensures
-    ∙ ap (λ l. parts_of a (steps_parts l)) (sym (append-nil (repeated (times_of c.in-Repeat.times) c.in-Repeat.steps)))
+    (ap (λ n. parts_of a (steps_parts (repeated_steps n c.items.result.now))) times
+    ∙ ap (λ xs. parts_of a (steps_parts (repeated_steps (times_of c.in-Repeat.times) xs))) c.items.ensures
+    ∙ ap (λ l. parts_of a (steps_parts l)) (sym (append-nil (repeated_steps (times_of c.in-Repeat.times) c.in-Repeat.steps)))
     ∙ ap (λ f. parts_of a (steps_parts (written_out (f ∷ [])))) (sym c.in-Repeat.is)) (c.run_repeat.ensures.runs r h)
