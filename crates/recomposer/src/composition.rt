@@ -405,6 +405,7 @@ impl<'p> Composition<'p> {
         ensures err { OnErr result (self.new ≡ self.old) }
         ensures quiet { (k : LastFrame) (m : Map) → IsAt self.old k (Some m) → V.shows view.old m → OwesNoCall k m →
             OnOk result ((V.asked view.new ≡ V.asked view.old) × IsAt self.new (seen_again k m) (Some m)) }
+        ensures idle { OwesNothing self.old → (view.new ≡ view.old) × (steps.new ≡ steps.old) }
         ensures ops { OnOk result (self.new.ops ≡ []) }
         ensures program { self.new.program ≡ self.old.program }
         ensures watcher { self.new.watcher ≡ self.old.watcher }
