@@ -20,13 +20,16 @@ fn owns(members: &[Member], name: Name, id: u64) -> bool
     }
 }
 
-// Returns whether a member has the id. Looks at the open names only.
+// Returns whether a member has the id. Looks at the open names only, at the last ones first: their ids are asked for most.
 fn is_owned(members: &[Member], held: &IdList, id: u64) -> bool
     requires { AreOpen held.now members.now }
     ensures { result ≡ is_owned members.now id }
 {
-    for name in held.ids() {
-        if owns(members, *name, id) {
+    let names = held.ids();
+    let mut i = names.len();
+    while i > 0 {
+        i -= 1;
+        if owns(members, names[i], id) {
             return true;
         }
     }
