@@ -1,5 +1,5 @@
 //! Tests of `lang_checks`, `lang_meaning`, `recomposer`, `script_lang`, `play_args`, `play_gen` and `play_core` from
-//! outside: programs that are checked, composed and generated, lines that no script reaches yet, and streams that fail.
+//! outside: programs that are checked, composed and generated, lines that no script reaches, and streams that fail.
 #![tactic(auto)]
 
 #[cfg(test)]
