@@ -17,8 +17,11 @@ fn glimpse<V: Versions>(
     asked: &mut Objects,
     x: ObjectNo,
 ) -> Result<Value, Refusal>
-    ensures value { (w : World V.P) → V.stands world.old w → IsValid V.P.rules w → IfOk result (λ v. v ≡ value_at (snapshot_of w 0).view x) }
-    ensures world { (w : World V.P) → V.stands world.old w → IsValid V.P.rules w → OnOk result ((after : World V.P) × V.stands world.new after × IsValid V.P.rules after × (snapshot_of after 0 ≡ snapshot_of w 0)) }
+    ensures value { (w : World V.P) → V.stands world.old w → IsValid V.P.rules w →
+        IfOk result (λ v. v ≡ value_at (snapshot_of w 0).view x) }
+    ensures world { (w : World V.P) → V.stands world.old w → IsValid V.P.rules w →
+        OnOk result ((after : World V.P) × V.stands world.new after × IsValid V.P.rules after
+        × (snapshot_of after 0 ≡ snapshot_of w 0)) }
     ensures asks { OnOk result (asked.new ≡ asked.old ++ x ∷ []) }
 {
     let (name, _changed) = world.take_for(alloc, caller, watcher)?;

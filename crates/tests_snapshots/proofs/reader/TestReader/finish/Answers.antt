@@ -1,6 +1,6 @@
 use Rattle.std.proofs.Common.{◌++◌, ◌∙◌, ap}
 use Rattle.tests_snapshots.proofs.Framing.{always_disposed, ends_of}
-use Rattle.tests_snapshots.proofs.reader.Reader.finish.Goals as goal
+use Rattle.tests_snapshots.proofs.reader.TestReader.finish.Goals as goal
 
 pub returns-in_default-clause-world : goal.returns-in_default-clause-world
 returns-in_default-clause-world g c m h inner w behind =
