@@ -73,8 +73,8 @@ fn finish_frame<'p, V: Versions<P = BuiltIn> + Drop, R: Wait, G: Gate>(
     ensures makes { Makes V.stands run.now.shared.now worker.entry result (Some name) None
         (by_actor run.now.number (EndFrame ∷ [])) }
 {
-    let (worker, composed) = compose::<V, R, G, Brand>(run, name, worker, Blank::new(1));
-    let mut worker = make_part(run, &StepPart::EndFrame, worker);
+    let (mut worker, composed) = compose::<V, R, G, Brand>(run, name, worker, Blank::new(1));
+    make_part(run, &StepPart::EndFrame, &mut worker);
     match composed {
         Ok(()) => worker,
         Err(_) => {
@@ -88,7 +88,7 @@ fn finish_frame<'p, V: Versions<P = BuiltIn> + Drop, R: Wait, G: Gate>(
 // Ends a frame. The frame of a refused take has nothing to end.
 fn end_frame<'p, V: Versions<P = BuiltIn> + Drop, R: Wait, G: Gate>(
     run: &ActorRun<'_, V, R, G>,
-    worker: Worker<'p, V>,
+    mut worker: Worker<'p, V>,
 ) -> Worker<'p, V>
     requires seated { IsSeated run.now.shared.now run.now.number worker.seat }
     ensures seated { IsSeated run.now.shared.now run.now.number result.seat }
@@ -100,7 +100,10 @@ fn end_frame<'p, V: Versions<P = BuiltIn> + Drop, R: Wait, G: Gate>(
     }
     match worker.memory.frame {
         Some(name) => finish_frame(run, name, worker),
-        None => make_part(run, &StepPart::EndFrame, worker),
+        None => {
+            make_part(run, &StepPart::EndFrame, &mut worker);
+            worker
+        }
     }
 }
 
@@ -109,14 +112,14 @@ fn end_frame<'p, V: Versions<P = BuiltIn> + Drop, R: Wait, G: Gate>(
 pub(crate) fn run_frame<'p, V: Versions<P = BuiltIn> + Drop, R: Wait, G: Gate>(
     run: &ActorRun<'_, V, R, G>,
     during: &[CallForm],
-    worker: Worker<'p, V>,
+    mut worker: Worker<'p, V>,
 ) -> Worker<'p, V>
     requires seated { IsSeated run.now.shared.now run.now.number worker.seat }
     ensures seated { IsSeated run.now.shared.now run.now.number result.seat }
     ensures makes { Makes V.stands run.now.shared.now worker.entry result None None
         (by_actor run.now.number (BeginFrame ∷ (calls_parts during.now ++ EndFrame ∷ []))) }
 {
-    let worker = make_part(run, &StepPart::BeginFrame, worker);
-    let worker = run_calls(run, during, worker);
+    make_part(run, &StepPart::BeginFrame, &mut worker);
+    run_calls(run, during, &mut worker);
     end_frame(run, worker)
 }

@@ -23,7 +23,7 @@ use std::sync::Wait;
 fn run_step<'p, V: Versions<P = BuiltIn> + Drop, R: Wait, G: Gate>(
     run: &ActorRun<'_, V, R, G>,
     step: &StepForm,
-    worker: Worker<'p, V>,
+    mut worker: Worker<'p, V>,
 ) -> Worker<'p, V>
     requires seated { IsSeated run.now.shared.now run.now.number worker.seat }
     ensures seated { IsSeated run.now.shared.now run.now.number result.seat }
@@ -31,7 +31,10 @@ fn run_step<'p, V: Versions<P = BuiltIn> + Drop, R: Wait, G: Gate>(
         (by_actor run.now.number (step_parts step.now)) }
 {
     match step {
-        StepForm::Call(form) => run_call(run, form, worker),
+        StepForm::Call(form) => {
+            run_call(run, form, &mut worker);
+            worker
+        }
         StepForm::Frame { .. } => run_frame(run, &[], worker),
         StepForm::FrameDuring { during, .. } => run_frame(run, during.items(), worker),
     }

@@ -38,15 +38,15 @@ pub struct Worker<'p, V> {
 }
 
 // Makes the call of a part, and notes the reply.
-fn make_call<'p, V: Versions<P = BuiltIn> + Drop, R: Wait, G: Gate>(
+fn make_call<V: Versions<P = BuiltIn> + Drop, R: Wait, G: Gate>(
     run: &ActorRun<'_, V, R, G>,
     part: &StepPart<'_>,
     request: Request,
-    mut worker: Worker<'p, V>,
-) -> Worker<'p, V>
-    requires seated { IsSeated run.now.shared.now run.now.number worker.seat }
-    ensures seated { IsSeated run.now.shared.now run.now.number result.seat }
-    ensures makes { MakesCall V.stands run.now.shared.now run.now.number worker.entry result
+    worker: &mut Worker<'_, V>,
+)
+    requires seated { IsSeated run.now.shared.now run.now.number worker.old.seat }
+    ensures seated { IsSeated run.now.shared.now run.now.number worker.new.seat }
+    ensures makes { MakesCall V.stands run.now.shared.now run.now.number worker.old worker.new
         (part_of part.now) request }
 {
     run.gate.pass(run.number as usize, worker.step);
@@ -56,54 +56,48 @@ fn make_call<'p, V: Versions<P = BuiltIn> + Drop, R: Wait, G: Gate>(
         .call(run.rt, run.alloc, &mut worker.seat, request);
     if reply.is_no_memory() {
         worker.short = true;
-        return worker;
+        return;
     }
     match worker.memory.note(run.alloc, part, reply) {
-        Ok(()) => worker,
-        Err(_) => {
-            worker.short = true;
-            worker
-        }
+        Ok(()) => (),
+        Err(_) => worker.short = true,
     }
 }
 
 /// Makes a part of a step.
-pub(crate) fn make_part<'p, V: Versions<P = BuiltIn> + Drop, R: Wait, G: Gate>(
+pub(crate) fn make_part<V: Versions<P = BuiltIn> + Drop, R: Wait, G: Gate>(
     run: &ActorRun<'_, V, R, G>,
     part: &StepPart<'_>,
-    mut worker: Worker<'p, V>,
-) -> Worker<'p, V>
-    requires seated { IsSeated run.now.shared.now run.now.number worker.seat }
-    ensures seated { IsSeated run.now.shared.now run.now.number result.seat }
+    worker: &mut Worker<'_, V>,
+)
+    requires seated { IsSeated run.now.shared.now run.now.number worker.old.seat }
+    ensures seated { IsSeated run.now.shared.now run.now.number worker.new.seat }
     ensures makes { (frame : Option ℕ) → MayMake (part_of part.now) frame →
-        Makes V.stands run.now.shared.now worker.entry result frame
-        (frame_then (part_of part.now) frame result.memory.frame)
+        Makes V.stands run.now.shared.now worker.old worker.new frame
+        (frame_then (part_of part.now) frame worker.new.memory.frame)
         (by_actor run.now.number (part_of part.now ∷ [])) }
 {
     if worker.short {
-        return worker;
+        return;
     }
     match worker.memory.request_for(run.alloc, part) {
         Ok(Some(request)) => make_call(run, part, request, worker),
-        Ok(None) => worker,
-        Err(_) => {
-            worker.short = true;
-            worker
-        }
+        Ok(None) => (),
+        Err(_) => worker.short = true,
     }
 }
 
 // Makes an `add`: reads the object, and then writes the sum.
-fn run_add<'p, V: Versions<P = BuiltIn> + Drop, R: Wait, G: Gate>(
+fn run_add<V: Versions<P = BuiltIn> + Drop, R: Wait, G: Gate>(
     run: &ActorRun<'_, V, R, G>,
     snapshot: &SnapshotRef,
     object: ObjectNo,
     amount: i64,
-    worker: Worker<'p, V>,
-) -> Worker<'p, V>
-    requires seated { IsSeated run.now.shared.now run.now.number worker.seat }
-    ensures seated { IsSeated run.now.shared.now run.now.number result.seat }
-    ensures makes { (frame : Option ℕ) → Makes V.stands run.now.shared.now worker.entry result frame frame
+    worker: &mut Worker<'_, V>,
+)
+    requires seated { IsSeated run.now.shared.now run.now.number worker.old.seat }
+    ensures seated { IsSeated run.now.shared.now run.now.number worker.new.seat }
+    ensures makes { (frame : Option ℕ) → Makes V.stands run.now.shared.now worker.old worker.new frame frame
         (by_actor run.now.number (Read snapshot.now object ∷ WriteSum snapshot.now object amount ∷ [])) }
 {
     let read = StepPart::Read { snapshot, object };
@@ -112,19 +106,19 @@ fn run_add<'p, V: Versions<P = BuiltIn> + Drop, R: Wait, G: Gate>(
         object,
         amount,
     };
-    let worker = make_part(run, &read, worker);
-    make_part(run, &write, worker)
+    make_part(run, &read, worker);
+    make_part(run, &write, worker);
 }
 
 /// Makes a step without inner steps.
-pub(crate) fn run_call<'p, V: Versions<P = BuiltIn> + Drop, R: Wait, G: Gate>(
+pub(crate) fn run_call<V: Versions<P = BuiltIn> + Drop, R: Wait, G: Gate>(
     run: &ActorRun<'_, V, R, G>,
     form: &CallForm,
-    worker: Worker<'p, V>,
-) -> Worker<'p, V>
-    requires seated { IsSeated run.now.shared.now run.now.number worker.seat }
-    ensures seated { IsSeated run.now.shared.now run.now.number result.seat }
-    ensures makes { (frame : Option ℕ) → Makes V.stands run.now.shared.now worker.entry result frame frame
+    worker: &mut Worker<'_, V>,
+)
+    requires seated { IsSeated run.now.shared.now run.now.number worker.old.seat }
+    ensures seated { IsSeated run.now.shared.now run.now.number worker.new.seat }
+    ensures makes { (frame : Option ℕ) → Makes V.stands run.now.shared.now worker.old worker.new frame frame
         (by_actor run.now.number (call_parts form.now)) }
 {
     match form {
@@ -179,21 +173,19 @@ pub(crate) fn run_call<'p, V: Versions<P = BuiltIn> + Drop, R: Wait, G: Gate>(
 }
 
 /// Makes steps without inner steps, one after the other.
-pub(crate) fn run_calls<'p, V: Versions<P = BuiltIn> + Drop, R: Wait, G: Gate>(
+pub(crate) fn run_calls<V: Versions<P = BuiltIn> + Drop, R: Wait, G: Gate>(
     run: &ActorRun<'_, V, R, G>,
     forms: &[CallForm],
-    worker: Worker<'p, V>,
-) -> Worker<'p, V>
-    requires seated { IsSeated run.now.shared.now run.now.number worker.seat }
-    ensures seated { IsSeated run.now.shared.now run.now.number result.seat }
-    ensures makes { (frame : Option ℕ) → Makes V.stands run.now.shared.now worker.entry result frame frame
+    worker: &mut Worker<'_, V>,
+)
+    requires seated { IsSeated run.now.shared.now run.now.number worker.old.seat }
+    ensures seated { IsSeated run.now.shared.now run.now.number worker.new.seat }
+    ensures makes { (frame : Option ℕ) → Makes V.stands run.now.shared.now worker.old worker.new frame frame
         (by_actor run.now.number (calls_parts forms.now)) }
 {
-    let mut worker = worker;
     let mut rest = forms;
     while let Some((form, more)) = rest.split_first() {
-        worker = run_call(run, form, worker);
+        run_call(run, form, worker);
         rest = more;
     }
-    worker
 }
