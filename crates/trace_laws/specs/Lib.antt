@@ -1,0 +1,2 @@
+pub mod NodeSites
+pub mod OwnReads
