@@ -762,7 +762,8 @@ pub fn compose<V: View, L: Ledger>(
         IsOwing (functions_of program.now) (root_of program.now) k.seen k.trail m owed.now →
         ComposesFrame (functions_of program.now) (root_of program.now) owed.now k m (V.asked view.old) (V.asked view.new) result }
 {
-    let mut writer = Writer::new(alloc, held.next());
-    write_frame(alloc, program, held.table(), owed, &mut writer, view, steps)?;
+    let table = held.table();
+    let mut writer = Writer::with_room(alloc, held.next(), table.len()); // Most frames keep most groups.
+    write_frame(alloc, program, table, owed, &mut writer, view, steps)?;
     Ok(writer.into_draft(alloc)?)
 }

@@ -157,6 +157,20 @@ fn sibling_at<'a>(table: &'a Table, i: usize) -> SiblingKey<'a>
     SiblingKey::new(table.site(i), key_of(table.kind(i)))
 }
 
+// Counts the siblings at `depth` from the index `next` on.
+fn count_siblings(table: &Table, depth: usize, next: usize) -> usize {
+    let mut count = 0;
+    let mut at = next;
+    while at < table.len() {
+        if table.depth(at) as usize != depth {
+            return count;
+        }
+        count += 1;
+        at = table.index_after(at);
+    }
+    count
+}
+
 // Returns the queues of the siblings at `depth` from the index `next` on.
 #[tactic(auto, using(crate::proofs::LevelIndexes::queue_is_whole, crate::proofs::LevelIndexes::level_inside))]
 fn queue_from<'a>(
@@ -170,7 +184,7 @@ fn queue_from<'a>(
     ensures inside { IfOk result (λ queues. (s : GroupKey) (k i : ℕ) → slice_get (queue_of queues s) k ≡ Some i →
         i < length table.now.groups) }
 {
-    let mut queues = SiblingQueues::new(alloc);
+    let mut queues = SiblingQueues::with_room(alloc, count_siblings(table, depth, next))?;
     let mut at = next;
     while is_level(table, depth, at) {
         queues.push(alloc, sibling_at(table, at), at)?;

@@ -62,6 +62,16 @@ impl Writer {
         }
     }
 
+    /// Returns a writer without groups, with capacity for `count` groups as far as memory allows. `next` is the number of
+    /// the next new node.
+    pub fn with_room(alloc: Global, next: u64, count: usize) -> Self
+        ensures { result ≡ record { groups = []; next = next; ran = 0; calculated = 0; reads = 0 } }
+    {
+        let mut writer = Writer::new(alloc, next);
+        let _ = writer.groups.reserve(count);
+        writer
+    }
+
     /// Returns the number of groups.
     pub fn len(&self) -> usize
         ensures { result ≡ length self.now.groups }

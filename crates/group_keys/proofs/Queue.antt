@@ -21,3 +21,8 @@ none_after items find t s none = by (same_sibling t s) (λ e. ap find (sym (same
     by : (b : Bool) → (b ≡ true → find s ≡ None) → option_map_or items (find s) [] ≡ (if b then drop 1 (option_map_or items (find s) []) else option_map_or items (find s) [])
     by true gone = ap (λ o. option_map_or items o []) (gone refl) ∙ sym (ap (λ o. drop 1 (option_map_or items o [])) (gone refl))
     by false gone = refl
+
+-- A key whose value is replaced twice has the last value.
+pub replaced_twice : {V : Type 0} (b : Bool) (was now after : Option V) (v w : V) → now ≡ cond b (Some v) was → after ≡ cond b (Some w) now → after ≡ cond b (Some w) was
+replaced_twice true was now after v w first last = last
+replaced_twice false was now after v w first last = last ∙ first

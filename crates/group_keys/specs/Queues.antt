@@ -3,11 +3,16 @@ use Rattle.std.specs.Prelude.{ℕ, ◌+◌, List, [], ◌∷◌, Option, slice_g
 use Rattle.std.specs.Option.{option_map_or}
 use Rattle.indexmap.specs.IndexMap.{get}
 use Rattle.rt_groups.specs.Paths.{GroupKey, same_sibling, occurrence}
+use Rattle.group_keys.specs.declared.queues.Queue.{Queue}
 use Rattle.group_keys.specs.declared.queues.SiblingQueues.{SiblingQueues}
+
+-- The indexes in a queue, in order.
+abbrev pub queued_indexes : Queue → List ℕ
+queued_indexes q = option_map_or (λ i. i ∷ q.later.items) q.first q.later.items
 
 -- The queued indexes of the old siblings with this site and key, in order.
 abbrev pub queue_of : SiblingQueues → GroupKey → List ℕ
-queue_of p s = option_map_or (λ q. q.items) (get same_sibling p.queues s) []
+queue_of p s = option_map_or queued_indexes (get same_sibling p.queues s) []
 
 -- The indexes, from k, of the siblings with the site and key of s.
 abbrev pub indexes_of : ℕ → List GroupKey → GroupKey → List ℕ
