@@ -14,7 +14,7 @@ use Rattle.lang_ast.specs.declared.script.ScriptForm.{ScriptForm}
 use Rattle.lang_ast.specs.declared.script.ScriptForm.TheVariants.{Once, Repeat}
 use Rattle.lang_ast.specs.declared.script.DoForm.{DoForm}
 use Rattle.script_lang.specs.Scripts.{actors_of, index_of, written_out, times_of, repeated_steps}
-use Rattle.script_lang.specs.ScriptFaults.{TextStep, CallStep, FrameStep, text_step, text_steps, text_forms, text_script, FirstUses, no_uses, with_framer, uses_after_call, uses_after, fault_if, foreign_name, step_faults, steps_faults, oversized, long_forms, most_steps, further_actors, forms_wrong_repeats, script_faults}
+use Rattle.script_lang.specs.ScriptFaults.{TextStep, CallStep, FrameStep, text_step, text_steps, text_forms, text_script, FirstUses, no_uses, with_framer, uses_after_call, uses_after, fault_if, foreign_name, step_faults, steps_faults, oversized_faults, long_forms, most_steps, further_actors, forms_wrong_repeats, script_faults}
 use Rattle.script_lang.specs.declared.faults.ScriptStop.{ScriptStop}
 use Rattle.script_lang.specs.declared.faults.ScriptStop.TheVariants as stop
 use Rattle.script_lang.specs.StepCalls.{Part, EndFrame, ActorPart, of_actor, call_parts, calls_parts, step_parts, steps_parts, with_states, opening_world, script_parts}
@@ -184,7 +184,7 @@ module _ (states : List State) where
 
   pub one_framer : (first : Option ℕ) (forms : List DoForm) → script_faults true states first forms ≡ [] → (f : ℕ) × OnlyFrames f (text_script (actors_of forms) forms)
   one_framer first forms h =
-      let one = (none_in (oversized first) _ h).1 in
+      let one = (none_in (oversized_faults first) _ h).1 in
       let two = (none_in (long_forms most_steps forms) _ one).1 in
       let three = (none_in (further_actors (actors_of forms) forms) _ two).1 in
       let four = (none_in (forms_wrong_repeats forms) _ three).1 in
