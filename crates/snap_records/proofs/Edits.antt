@@ -148,12 +148,3 @@ module _ (c : List Rec) (ids : List ℕ) (apart : AreApart c) where
     apart = λ j k p q one two positive same.
         apart j k p q (keeper j p one positive).0 (keeper k q two (omega (arith, positive, same))).0 positive same;
   }
-
--- a record comes in, and then records are lost
-pub puts_drops : {a b c : List Rec} {q : Rec} {g d j : ℕ → Bool} → Puts a b q g → Drops b c d → 0 < q.id → d q.id ≡ false → ((i : ℕ) → j i ≡ false → (g i ≡ false) × (d i ≡ false)) → Puts a c q j
-puts_drops put drop positive safe_q safe = record {
-  here = drop.kept _ put.here positive safe_q;
-  from = λ p there pos. put.from p (drop.from p there pos) pos;
-  kept = λ p there pos stays. drop.kept p (put.kept p there pos (safe p.id stays).0) pos (safe p.id stays).1;
-  apart = drop.apart;
-}

@@ -8,3 +8,4 @@ pub mod Finding
 pub mod Clearing
 pub mod Raising
 pub mod PadOver
+pub mod Overwritable

@@ -1,11 +1,12 @@
 -- Trusted: the chain of each object, as a list of records, and what each call does to the chains.
-use Rattle.std.specs.Prelude.{◌≡◌, ◌≢◌, ℕ, ◌==◌, List, [], ◌∷◌, length, map, slice_get, slice_index_or, slice_set, Option, Some, None, false, IsSome}
+use Rattle.std.specs.Prelude.{◌≡◌, ◌≢◌, ◌⊎◌, ℕ, ◌==◌, List, [], ◌∷◌, length, map, slice_get, slice_index_or, slice_set, Option, Some, None, IsSome}
 use Rattle.rt_values.specs.Maps.{contains, no_entry}
 use Rattle.rt_values.specs.declared.maps.StampedValue.{StampedValue}
 use Rattle.snap_records.specs.Edits.{record_without_ids, chain_without_ids, record_with_ids, chain_with_ids, with_head_id, Padded, blank}
 use Rattle.snap_records.specs.Records.{Rec, Puts}
 use Rattle.snap_records.specs.declared.chains.Chains.{Chains}
 use Rattle.snap_records.specs.declared.chains.Numbered.{Numbered}
+use Rattle.snap_records.specs.declared.slots.RecordNo.{RecordNo}
 use Rattle.snap_records.specs.declared.slots.Slot.{Slot}
 use Rattle.slab.specs.Slab.{get}
 
@@ -87,11 +88,15 @@ pub record KeepsAll (old new : Chains) (ids : List ℕ) (x : ℕ) : Type 0 where
   pub others : (y : ℕ) → y ≢ x → chain_of new y ≡ chain_of old y
   pub many : length new.heads.items ≡ length old.heads.items
 
--- Record r is in the chain of object x, and its id is not in the list.
-pub record FoundOther (c : Chains) (x : ℕ) (ids : List ℕ) (r : ℕ) : Type 0 where
-  pub at : ℕ
-  pub key : slice_get (keys_at c x) at ≡ Some r
-  pub other : contains (record_at c r).id ids ≡ false
+-- No record of object x has the id.
+abbrev pub HasNone : Chains → ℕ → ℕ → Type 0
+HasNone c x id = (k r : ℕ) → slice_get (keys_at c x) k ≡ Some r → (record_at c r).id ≢ id
+
+-- The record that a write under the id may overwrite: the one with this id, or else one with id 0. None if no record has this
+-- id or id 0.
+abbrev pub IsOverwritable : Chains → ℕ → ℕ → Option RecordNo → Type 0
+IsOverwritable c x id None = HasNone c x id × HasNone c x 0
+IsOverwritable c x id (Some r) = Found c x id r.0 ⊎ (HasNone c x id × Found c x 0 r.0)
 
 -- The first record of object x has id 0 and this stamped value, and its other records are as before, except for records
 -- with id 0.

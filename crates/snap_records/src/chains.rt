@@ -1,5 +1,5 @@
 // Chains of records in a slab.
-ghost use Rattle.std.specs.Prelude.{◌≡◌, ◌≢◌, ◌<◌, ◌+◌, ◌-◌, ℕ, Bool, List, [], ◌∷◌, Option, Some, None, length, slice_get, slice_set, slice_index_or, true, IfOk, OnOk, OnErr, IsSome, IfSome, IfNone, if◌then◌else◌, not, ◌&&◌};
+ghost use Rattle.std.specs.Prelude.{◌≡◌, ◌≢◌, ◌<◌, ◌+◌, ◌-◌, ◌==◌, ℕ, Bool, List, [], ◌∷◌, Option, Some, None, length, slice_get, slice_set, slice_index_or, true, IfOk, OnOk, OnErr, IsSome, IfSome, IfNone, if◌then◌else◌, not, ◌&&◌};
 ghost use Rattle.rt_values.specs.Maps.{contains};
 ghost use Rattle.slab.specs.Slab.{get};
 ghost use Rattle.snap_records.specs.Places.{ArePlaced, AreOnce};
@@ -42,6 +42,13 @@ struct Numbered {
     id: u64,
 }
 
+// Returns the record of `r` if its id is `id`, and else `found`.
+fn with_id(r: Numbered, id: u64, found: Option<RecordNo>) -> Option<RecordNo>
+    ensures { result ≡ (if r.id == id then Some r.record else found) }
+{
+    if r.id == id { Some(r.record) } else { found }
+}
+
 // Inserts a key before those of an object.
 fn put_at(heads: &mut Vec<Keys>, x: ObjectNo, key: usize) -> Result<(), NoMemory>
     requires { x < length heads.old.items }
@@ -63,7 +70,7 @@ pub struct Chains {
 }
 
 impl Chains {
-    ghost use Rattle.snap_records.specs.Chains.{record_at, keys_at, chain_of, IsNumbered, Replaces, Prepends, Found, FoundOther, PutIn, ClearsAt, ClearsAll, KeepsAt, KeepsAll, PadsAt, RaisesAt};
+    ghost use Rattle.snap_records.specs.Chains.{record_at, keys_at, chain_of, IsNumbered, Replaces, Prepends, Found, PutIn, ClearsAt, ClearsAll, KeepsAt, KeepsAll, IsOverwritable, PadsAt, RaisesAt};
     ghost use Rattle.snap_records.specs.Records.{AreApart};
 
     /// Returns the chains of no object.
@@ -491,47 +498,47 @@ impl Chains {
         }
     }
 
-    // Gives the record at index `i` id 0 if `ids` does not contain its id. Records with id 0 stay as they are.
-    fn keep_at(&mut self, x: ObjectNo, i: usize, ids: &KeptIds)
+    // Gives the record at index `i` id 0 if `ids` does not contain its id. Returns the record with the id that it has then.
+    fn keep_at(&mut self, x: ObjectNo, i: usize, ids: &KeptIds) -> Numbered
         requires object { x < length self.old.heads.items }
         requires place { i < length (keys_at self.old x) }
-        ensures { KeepsAt self.old self.new ids.now x i }
+        ensures keeps { KeepsAt self.old self.new ids.now x i }
+        ensures at { slice_get (keys_at self.new x) i ≡ Some result.record.0 }
+        ensures same { result.id ≡ (record_at self.new result.record.0).id }
     {
-        let r = self.at(x, i);
-        let id = self.id(r);
-        if id == 0 {
-            return;
+        let r = self.numbered(x, i);
+        if r.id == 0 {
+            return r;
         }
-        if !ids.has(id) {
-            self.invalidate(r);
+        if ids.has(r.id) {
+            return r;
+        }
+        self.invalidate(r.record);
+        Numbered {
+            record: r.record,
+            id: 0,
         }
     }
 
-    /// Gives id 0 to the records of object `x` whose ids are not in `ids`.
-    pub fn keep(&mut self, x: ObjectNo, ids: &KeptIds)
+    /// Gives id 0 to the records of object `x` whose ids are not in `ids`. Returns the record that a write under `id` may
+    /// overwrite then: the one with this id, or else one with id 0.
+    pub fn keep(&mut self, x: ObjectNo, id: u64, ids: &KeptIds) -> Option<RecordNo>
         requires { x < length self.old.heads.items }
-        ensures { KeepsAll self.old self.new ids.now x }
+        ensures keeps { KeepsAll self.old self.new ids.now x }
+        ensures free { IsOverwritable self.new x id result }
+        ensures there { IfSome result (λ r. IsSome (get self.new.slots r.0)) }
     {
+        let mut same = None;
+        let mut blank = None;
         for i in 0..self.count(x) {
-            self.keep_at(x, i, ids);
+            let r = self.keep_at(x, i, ids);
+            same = with_id(r, id, same);
+            blank = with_id(r, 0, blank);
         }
-    }
-
-    /// Returns the first record of object `x` whose id is not in `ids`. Records with id 0 are such records.
-    pub fn find_other(&self, x: ObjectNo, ids: &KeptIds) -> Option<RecordNo>
-        requires { x < length self.now.heads.items }
-        ensures some { IfSome result (λ r. FoundOther self.now x ids.now r.0) }
-        ensures none { IfNone result ((k r : ℕ) → slice_get (keys_at self.now x) k ≡ Some r
-            → contains (record_at self.now r).id ids.now ≡ true) }
-        ensures there { IfSome result (λ b. IsSome (get self.now.slots b.0)) }
-    {
-        for i in 0..self.count(x) {
-            let r = self.at(x, i);
-            if !ids.has(self.id(r)) {
-                return Some(r);
-            }
+        match same {
+            Some(r) => Some(r),
+            None => blank,
         }
-        None
     }
 
     // Moves the first record of object `x` to the place of `r`, whose id is 0, and puts a record with id 0 first.

@@ -1,16 +1,16 @@
 -- A record in place of one that is not kept, and what readers read.
-use Rattle.std.proofs.Common.{◌≡◌, ◌≢◌, ℕ, ◌==◌, ◌<◌, List, sym, ap, ◌∙◌, subst, Option, Some, None, Bool, true, false, not, arith}
+use Rattle.std.proofs.Common.{◌≡◌, ◌≢◌, ℕ, suc, ◌==◌, ◌<◌, List, [], ◌∷◌, length, map, refl, sym, ap, ◌∙◌, subst, Option, Some, None, Bool, true, false, not, cond, arith, ◌⊎◌, inl, inr}
 use Rattle.std.proofs.lemmas.Bool.Decides.{Decides-eqb}
 use Rattle.std.specs.Prelude.{slice_get}
 use Rattle.rt_values.specs.Maps.{contains}
 use Rattle.rt_values.specs.declared.maps.StampedValue.{StampedValue}
-use Rattle.snap_ids.proofs.Booleans.{not_both, not_true, or_left, or_right}
+use Rattle.snap_ids.proofs.Booleans.{same_or_other, not_both, not_true, or_left, or_right}
 use Rattle.snap_records.specs.Records.{Rec, AreApart, Reads, Puts, Drops}
-use Rattle.snap_records.specs.Edits.{readable, chain_with_ids}
-use Rattle.snap_records.specs.Chains.{record_at, keys_at, chain_of, FoundOther, Replaces, PutIn}
+use Rattle.snap_records.specs.Edits.{readable, record_with_ids}
+use Rattle.snap_records.specs.Chains.{record_at, keys_at, chain_of, Replaces, Prepends, KeepsAll, Found, HasNone}
 use Rattle.snap_records.specs.declared.chains.Chains.{Chains}
-use Rattle.snap_records.proofs.Edits.{overwritten, drops_unkept, puts_drops, not_false}
-use Rattle.snap_records.proofs.Putting.{rec_there, key_there}
+use Rattle.snap_records.proofs.Edits.{overwritten, drops_unkept, not_false}
+use Rattle.snap_records.proofs.Putting.{rec_there, key_there, put_over, put_front}
 use Rattle.snap_records.proofs.Readable.{Finds, finds}
 use Rattle.snap_reuse.specs.Readers.{has_id, is_unkept, IsReadWithin, PutsKeeping}
 
@@ -20,34 +20,59 @@ unkept_own kept id i h = not_true (i == id) (λ t. not_both (is_unkept kept id i
 unkept_other : (kept : List ℕ) (id i : ℕ) → is_unkept kept id i ≡ false → not (contains i kept) ≡ false
 unkept_other kept id i h = not_true (not (contains i kept)) (λ t. not_both (is_unkept kept id i) (or_right (i == id) (not (contains i kept)) t) h)
 
-wider : {c d : List Rec} {q : Rec} {g j : ℕ → Bool} → ((i : ℕ) → j i ≡ false → g i ≡ false) → Puts c d q g → Puts c d q j
-wider safe p = record { here = p.here; from = p.from; kept = λ t there positive stays. p.kept t there positive (safe t.id stays); apart = p.apart }
+-- records get id 0, and then a record comes in
+drops_puts : {a b c : List Rec} {q : Rec} {d g j : ℕ → Bool} → Drops a b d → Puts b c q g → ((i : ℕ) → 0 < i → j i ≡ false → (d i ≡ false) × (g i ≡ false)) → Puts a c q j
+drops_puts drop put safe = record {
+  here = put.here;
+  from = λ p there pos. elim (put.from p there pos) [ inl e ↦ inl e | inr h ↦ inr (drop.from p h pos) ];
+  kept = λ p there pos stays. put.kept p (drop.kept p there pos (safe p.id pos stays).0) pos (safe p.id pos stays).1;
+  apart = put.apart;
+}
 
--- in place of the record with the same id, or before the others
-pub puts_own : {old new : Chains} {x : ℕ} {q : Rec} (kept : List ℕ) → PutIn old new x q → Puts (chain_of old x) (chain_of new x) q (is_unkept kept q.id)
-puts_own {old} {new} {x} {q} kept p = wider (λ i h. unkept_own kept q.id i h) p.put
+module _ (old between new : Chains) (x : ℕ) (q : Rec) (kept : List ℕ) (apart : AreApart (chain_of old x)) (positive : 0 < q.id) (own : contains q.id kept ≡ true) (keeps : KeepsAll old between kept x) where
+  drops : Drops (chain_of old x) (chain_of between x) (λ i. not (contains i kept))
+  drops = subst (λ (c : List Rec). Drops (chain_of old x) c (λ i. not (contains i kept))) (sym keeps.here) (drops_unkept (chain_of old x) kept apart)
 
--- in place of a record whose id is not kept
-pub puts_over : (old new : Chains) (x r : ℕ) (q : Rec) (kept : List ℕ) → AreApart (chain_of old x) → ((k s : ℕ) → slice_get (keys_at old x) k ≡ Some s → (record_at old s).id ≢ q.id) → FoundOther old x kept r → Replaces old new r q →
-    Puts (chain_of old x) (chain_of new x) q (is_unkept kept q.id)
-puts_over old new x r q kept apart none f replaces =
-    subst (λ (c : List Rec). Puts (chain_of old x) c q (is_unkept kept q.id)) (sym (replaces.here x f.at f.key))
-    (wider (λ i h. not_true (i == (record_at old r).id) (λ t. not_both (not (contains i kept)) (ap not (ap (λ (n : ℕ). contains n kept) ((Decides-eqb i (record_at old r).id).0 t) ∙ f.other)) (unkept_other kept q.id i h)))
-    (overwritten (chain_of old x) f.at q (record_at old r) (rec_there old x f.at r f.key) apart (λ p j there other pos same.
-    let k = key_there old x j p there in
-    none j k.key k.there (ap (λ (s : Rec). s.id) k.is ∙ same))))
+  keeping : (g : ℕ → Bool) → ((i : ℕ) → 0 < i → (i == q.id) ≡ false → g i ≡ false) → Puts (chain_of between x) (chain_of new x) q g → PutsKeeping (chain_of old x) (chain_of new x) q kept
+  keeping g safe put = record {
+    put = drops_puts drops put (λ i pos h. (unkept_other kept q.id i h, safe i pos (unkept_own kept q.id i h)));
+    swept = λ p there pos. elim (put.from p there pos) [
+      | inl e ↦ ap (λ (t : Rec). contains t.id kept) e ∙ own
+      | inr h ↦ not_false (contains p.id kept) (drops.without p h pos)
+    ];
+  }
 
-pub others_over : (old new : Chains) (x r : ℕ) (q : Rec) (kept : List ℕ) → FoundOther old x kept r → Replaces old new r q → (y : ℕ) → y ≢ x → chain_of new y ≡ chain_of old y
-others_over old new x r q kept f replaces y other = replaces.others y (λ k there. other (old.once y x k f.at r there f.key).0)
+  -- in place of a record
+  pub puts_over : (r : ℕ) → Found between x q.id r ⊎ (HasNone between x q.id × Found between x 0 r) → Replaces between new r q → length new.heads.items ≡ length between.heads.items → PutsKeeping (chain_of old x) (chain_of new x) q kept
+  puts_over r (inl f) replaces many = keeping (λ i. i == q.id) (λ i pos h. h) (put_over between new x r q positive drops.apart f replaces many).put
+  puts_over r (inr f) replaces many = keeping (λ i. i == (record_at between r).id) (λ i pos h. not_true (i == (record_at between r).id) (λ t. omega (arith, pos, (Decides-eqb i (record_at between r).id).0 t, f.1.same)))
+      (subst (λ (c : List Rec). Puts (chain_of between x) c q (λ i. i == (record_at between r).id)) (sym (replaces.here x f.1.at f.1.key))
+      (overwritten (chain_of between x) f.1.at q (record_at between r) (rec_there between x f.1.at r f.1.key) drops.apart (λ p j there other pos same.
+      let k = key_there between x j p there in
+      f.0 j k.key k.there (ap (λ (s : Rec). s.id) k.is ∙ same))))
 
--- the records whose ids are not kept get id 0
-pub puts_keeping : (before between after : List Rec) (q : Rec) (kept : List ℕ) → Puts before between q (is_unkept kept q.id) → after ≡ chain_with_ids kept between → 0 < q.id → contains q.id kept ≡ true → PutsKeeping before after q kept
-puts_keeping before between after q kept put is positive own =
-    let drops = subst (λ (c : List Rec). Drops between c (λ i. not (contains i kept))) (sym is) (drops_unkept between kept put.apart) in
-    record {
-      put = puts_drops put drops positive (ap not own) (λ i h. (h, unkept_other kept q.id i h));
-      swept = λ p there pos. not_false (contains p.id kept) (drops.without p there pos);
-    }
+  -- before the others
+  pub puts_front : (r : ℕ) → HasNone between x q.id → Prepends between new x r q → length new.heads.items ≡ length between.heads.items → PutsKeeping (chain_of old x) (chain_of new x) q kept
+  puts_front r none p many = keeping (λ i. i == q.id) (λ i pos h. h) (put_front between new x r q drops.apart none p many).put
+
+pub others_over : (old new : Chains) (x r : ℕ) (q : Rec) (id : ℕ) → Found old x id r → Replaces old new r q → (y : ℕ) → y ≢ x → chain_of new y ≡ chain_of old y
+others_over old new x r q id f replaces y other = replaces.others y (λ k there. other (old.once y x k f.at r there f.key).0)
+
+-- where no record has id 0, all were kept
+all_kept : (ids : List ℕ) (c : List Rec) → ((k : ℕ) (p : Rec) → slice_get (map (record_with_ids ids) c) k ≡ Some p → p.id ≢ 0) → map (record_with_ids ids) c ≡ c
+all_kept ids [] none = refl
+all_kept ids (r ∷ c) none = ap (λ (p : Rec). p ∷ map (record_with_ids ids) c) (one (contains r.id ids) (none 0 (record_with_ids ids r) refl)) ∙ ap (λ (l : List Rec). r ∷ l) (all_kept ids c (λ k p there. none (suc k) p there)) where
+  one : (b : Bool) → (cond b r (record r { id = 0 })).id ≢ 0 → cond b r (record r { id = 0 }) ≡ r
+  one true h = refl
+  one false h = absurd (h refl)
+
+pub kept_as_before : (old between : Chains) (x : ℕ) (kept : List ℕ) → KeepsAll old between kept x → HasNone between x 0 → (y : ℕ) → chain_of between y ≡ chain_of old y
+kept_as_before old between x kept keeps none y = elim (same_or_other y x) [
+  | inl e ↦ subst (λ (z : ℕ). chain_of between z ≡ chain_of old z) (sym e) (keeps.here ∙ all_kept kept (chain_of old x) (λ k p there.
+      let key = key_there between x k p (ap (λ (c : List Rec). slice_get c k) keeps.here ∙ there) in
+      λ blank. none k key.key key.there (ap (λ (s : Rec). s.id) key.is ∙ blank)))
+  | inr other ↦ keeps.others y other
+]
 
 -- what a reader reads has the id of the readable record
 pub reads_id : (sees : ℕ → Bool) (c : List Rec) (e : StampedValue) (h : Reads sees c e) → has_id h.rec.id (readable sees c) ≡ true

@@ -4,8 +4,7 @@ ghost use Rattle.slab.specs.Slab.{get};
 ghost use Rattle.snap_records.specs.Records.{AreApart};
 ghost use Rattle.snap_records.specs.Chains.{keys_at, chain_of};
 ghost use Rattle.rt_values.specs.Maps.{contains};
-ghost use Rattle.snap_records.specs.Records.{Puts};
-ghost use Rattle.snap_reuse.specs.Readers.{is_read_by, is_read, is_unkept, lower_record, IsLowestUnread, IsReusable, PutsKeeping};
+ghost use Rattle.snap_reuse.specs.Readers.{is_read_by, is_read, lower_record, IsLowestUnread, IsReusable, PutsKeeping};
 
 use crate::{Readers, RecordReader};
 use rt_values::{NoMemory, ObjectNo, Value};
@@ -84,42 +83,6 @@ pub fn reusable(chains: &Chains, x: ObjectNo, readers: &Readers) -> Option<Recor
     }
 }
 
-// Puts a record into the chain of object `x`: in place of the record with the same id, or else of the first whose id is
-// not in `kept`, or else before the others.
-fn put_over(
-    chains: &mut Chains,
-    x: ObjectNo,
-    id: u64,
-    value: Value,
-    stamp: u64,
-    kept: &KeptIds,
-) -> Result<(), NoMemory>
-    requires object { x < length chains.old.heads.items }
-    ensures ok { OnOk result (AreApart (chain_of chains.old x) → 0 < id
-        → Puts (chain_of chains.old x) (chain_of chains.new x)
-        (record { id = id; entry = record { value = value; stamp = stamp } }) (is_unkept kept.now id)) }
-    ensures others { (y : ℕ) → y ≢ x → chain_of chains.new y ≡ chain_of chains.old y }
-    ensures err { OnErr result ((y : ℕ) → chain_of chains.new y ≡ chain_of chains.old y) }
-    ensures many { length chains.new.heads.items ≡ length chains.old.heads.items }
-{
-    match chains.find(x, id) {
-        Some(r) => {
-            chains.overwrite(r, id, value, stamp);
-            Ok(())
-        }
-        None => match chains.find_other(x, kept) {
-            Some(r) => {
-                chains.overwrite(r, id, value, stamp);
-                Ok(())
-            }
-            None => {
-                chains.prepend(x, id, value, stamp)?;
-                Ok(())
-            }
-        },
-    }
-}
-
 /// Puts a record into the chain of object `x`, with an id that `kept` contains. The record takes the place of the one
 /// with the same id, or else of one whose id is not in `kept`, or else is put before the others. The other records whose
 /// ids are not in `kept` get id 0. After `NoMemory` all chains are unchanged.
@@ -140,9 +103,14 @@ pub fn put(
     ensures err { OnErr result ((y : ℕ) → chain_of chains.new y ≡ chain_of chains.old y) }
     ensures many { length chains.new.heads.items ≡ length chains.old.heads.items }
 {
-    let Ok(()) = put_over(chains, x, id, value, stamp, kept) else {
-        return Err(NoMemory);
-    };
-    chains.keep(x, kept);
-    Ok(())
+    match chains.keep(x, id, kept) {
+        Some(r) => {
+            chains.overwrite(r, id, value, stamp);
+            Ok(())
+        }
+        None => match chains.prepend(x, id, value, stamp) {
+            Ok(_) => Ok(()),
+            Err(_) => Err(NoMemory),
+        },
+    }
 }

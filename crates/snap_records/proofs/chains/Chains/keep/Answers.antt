@@ -1,17 +1,35 @@
-use Rattle.std.proofs.Common.{◌≡◌, ◌∙◌, arith, length}
+use Rattle.std.proofs.Common.{◌≡◌, ◌==◌, ◌+◌, ◌∙◌, ap, arith, cond, length, refl, subst, sym, ℕ, List, Option, Some}
 use Rattle.std.proofs.lemmas.List.{length-map}
 use Rattle.snap_records.specs.Edits.{record_with_ids}
 use Rattle.snap_records.specs.Chains.{chain_of, keys_at, record_at}
+use Rattle.snap_records.specs.declared.slots.RecordNo.{RecordNo}
 use Rattle.snap_records.proofs.Clearing.{cleared_more}
+use Rattle.snap_records.proofs.Overwritable.{IsFoundBelow, found_more, blank_overwritable}
 use Rattle.snap_records.proofs.chains.Chains.keep.Goals as goal
 
 pub loop-i-preserved : goal.loop-i-preserved
 loop-i-preserved c =
     let old = c.args.self.now in
-    let many : length (chain_of old c.args.x) ≡ length (keys_at old c.args.x) = length-map (keys_at old c.args.x) (λ key. record_at old key) in
+    let x : ℕ = c.args.x in
+    let id : ℕ = c.args.id in
+    let r = c.keep_at-r.result in
+    let new = c.keep_at-r.new.self in
+    let is = c.keep_at-r.ensures.same in
+    let at = c.keep_at-r.ensures.at in
+    let keeps = c.keep_at-r.ensures.keeps in
+    let many : length (chain_of old x) ≡ length (keys_at old x) = length-map (keys_at old x) (λ key. record_at old key) in
     record {
-      keys = λ y. c.keep_at.ensures.keys y ∙ c.loop-i.invariant.keys y;
-      here = c.keep_at.ensures.here ∙ cleared_more (record_with_ids c.args.ids.now) (chain_of old c.args.x) (chain_of c.loop-i.self c.args.x) c.loop-i.i (omega (arith, many, c.loop-i-test.true, c.count-i-end.ensures)) c.loop-i.invariant.here;
-      others = λ y other. c.keep_at.ensures.others y other ∙ c.loop-i.invariant.others y other;
-      many = c.keep_at.ensures.many ∙ c.loop-i.invariant.many;
+      keys = λ y. keeps.keys y ∙ c.loop-i.invariant.keys y;
+      here = keeps.here ∙ cleared_more (record_with_ids c.args.ids.now) (chain_of old x) (chain_of c.loop-i.self x) c.loop-i.i (omega (arith, many, c.loop-i-test.true, c.count-i-end.ensures)) c.loop-i.invariant.here;
+      others = λ y other. keeps.others y other ∙ c.loop-i.invariant.others y other;
+      many = keeps.many ∙ c.loop-i.invariant.many;
+      same = subst (λ (o : Option RecordNo). IsFoundBelow new x id (c.loop-i.i + 1) o) (sym (c.with_id-same.ensures ∙ ap (λ (n : ℕ). cond (n == id) (Some r.record) c.loop-i.same) is))
+          (found_more c.loop-i.self new c.args.ids.now x c.loop-i.i r.record.0 keeps at id r.record c.loop-i.same refl c.loop-i.invariant.same);
+      blank = subst (λ (o : Option RecordNo). IsFoundBelow new x 0 (c.loop-i.i + 1) o) (sym (c.with_id-blank.ensures ∙ ap (λ (n : ℕ). cond (n == 0) (Some r.record) c.loop-i.blank) is))
+          (found_more c.loop-i.self new c.args.ids.now x c.loop-i.i r.record.0 keeps at 0 r.record c.loop-i.blank refl c.loop-i.invariant.blank);
     }
+
+pub returns-in-None-clause-free : goal.returns-in-None-clause-free
+returns-in-None-clause-free c =
+    let many : length (keys_at c.loop-i.self c.args.x) ≡ c.loop-i.i = ap (λ (l : List ℕ). length l) (c.loop-i.invariant.keys c.args.x) ∙ omega (arith, c.count-i-end.ensures, c.loop-i.auto.i-end, c.loop-i-test.false) in
+    blank_overwritable c.loop-i.self c.args.x c.args.id c.loop-i.i c.loop-i.same c.loop-i.blank c.in-None.is many c.loop-i.invariant.same c.loop-i.invariant.blank
