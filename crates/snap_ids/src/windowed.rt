@@ -19,6 +19,16 @@ fn count(ids: &[u64]) -> usize
     ids.len()
 }
 
+// Returns a copy. Most sets have no ids before their window.
+fn copy_ids(alloc: Global, ids: &Ids) -> Result<Ids, NoMemory>
+    ensures { IfOk result (λ s. s.items ≡ ids.now.items) }
+{
+    if ids.is_empty() {
+        return Ok(SmallVec::new(alloc));
+    }
+    Ok(SmallVec::from_slice(alloc, ids)?)
+}
+
 // Appends `id` if `is_set`.
 fn push_if(ids: &mut Ids, id: u64, is_set: bool) -> Result<(), NoMemory>
     ensures ok { OnOk result (ids.new.items ≡ (if is_set then ids.old.items ++ id ∷ [] else ids.old.items)) }
@@ -73,7 +83,7 @@ impl Windowed {
             ≡ ids_in self.now) }
     {
         Ok(Windowed {
-            older: SmallVec::from_slice(alloc, &self.older)?,
+            older: copy_ids(alloc, &self.older)?,
             lower: self.lower,
             bits: self.bits,
         })
