@@ -14,20 +14,23 @@ use rt_values::NoMemory;
 use script_lang::Flags;
 use snap_api::Versions;
 use snap_policy::BuiltIn;
-use snap_world::RecordWorld;
+use snap_world::{BoxedWorld, RecordWorld};
 use std::alloc::Global;
 use std::sync::Wait;
 use std::thread::Threads;
 
-// Creates a world with a program's states and the watcher of its frames.
-fn open_world(alloc: Global, program: &Checked) -> Result<RecordWorld<BuiltIn>, NoMemory>
+// Creates a world with a program's states and the watcher of its frames. It is on the heap, since each turn moves it.
+fn open_world(
+    alloc: Global,
+    program: &Checked,
+) -> Result<BoxedWorld<RecordWorld<BuiltIn>>, NoMemory>
     requires few { length program.now.states.items ≤ 256 }
     ensures { IfOk result (λ w.
-        ⟦<RecordWorld<BuiltIn> as Versions>⟧.stands w (opening_world program.now.states.items)) }
+        ⟦<BoxedWorld<RecordWorld<BuiltIn>> as Versions>⟧.stands w (opening_world program.now.states.items)) }
 {
     let mut world = RecordWorld::new(alloc)?;
     set_up_world(alloc, program, &mut world)?;
-    Ok(world)
+    BoxedWorld::new(alloc, world)
 }
 
 // Runs all actors of a job on one new world.

@@ -10,6 +10,7 @@
 #![tactic(auto)]
 
 mod applying;
+mod boxed;
 mod kept_ids;
 mod moving;
 mod noting;
@@ -17,4 +18,5 @@ mod settling;
 mod stamp_list;
 mod world;
 
+pub use boxed::BoxedWorld;
 pub use world::RecordWorld;
