@@ -65,13 +65,16 @@ fn append_name(undisposed: &mut Vec<Name>, name: Name)
     };
 }
 
-// Returns the index of `name`, if the list contains it.
+// Returns the index of `name`, if the list contains it. Looks at the last names first, since a frame disposes its snapshot
+// soon.
 fn index_of(undisposed: &[Name], name: Name) -> Option<usize>
     ensures { MatchOption result (contains name undisposed.now ≡ false) (λ i. (i < length undisposed.now)
         × (slice_index_or undisposed.now i 0 ≡ name)) }
 {
-    for (i, other) in undisposed.iter().enumerate() {
-        if *other == name {
+    let mut i = undisposed.len();
+    while i > 0 {
+        i -= 1;
+        if undisposed[i] == name {
             return Some(i);
         }
     }
