@@ -1,4 +1,4 @@
--- Kinds of groups that are equal with their values.
+-- Groups that are equal with their values.
 use Rattle.std.proofs.Common.{ℕ, zero, suc, List, [], ◌∷◌, ◌≡◌, refl, ap, sym, ◌∙◌, Bool, true, false, ◌&&◌, ◌==◌, length}
 use Rattle.std.specs.Bool.{Decides}
 use Rattle.std.specs.Str.{bytes_eq}
@@ -10,7 +10,7 @@ use Rattle.rt_values.proofs.Equal.{same_value_decides}
 use Rattle.rt_groups.specs.declared.groups.Attribute.{Attribute}
 use Rattle.rt_groups.specs.declared.groups.GroupKind.{GroupKind}
 use Rattle.rt_groups.specs.declared.groups.GroupKind.TheVariants as what
-use Rattle.composer.specs.Comparisons.{same_attribute, same_attributes, same_kind}
+use Rattle.composer.specs.Comparisons.{same_attribute, same_attributes}
 
 both_true : (a b : Bool) → (a && b) ≡ true → (a ≡ true) × (b ≡ true)
 both_true true b e = (refl, e)
@@ -36,29 +36,17 @@ equal_values vs ws e = (slice_eq-Decides same_value_decides vs ws (same_values v
 equal_attributes : (xs ys : List Attribute) → same_attributes xs ys ≡ true → xs ≡ ys
 equal_attributes xs ys e = (slice_eq-Decides same_attribute_decides xs ys (same_attributes xs ys) refl).0 e
 
-pub equal_kinds : (a b : GroupKind) → same_kind a b ≡ true → a ≡ b
-equal_kinds (what.Call f vs) (what.Call g ws) e =
-    let both = both_true (f == g) (same_values vs ws) e in
-    ap (λ n. what.Call n vs) (eqb-true f g both.0) ∙ ap (λ l. what.Call g l) (equal_values vs ws both.1)
-equal_kinds (what.Call f vs) (what.Node l ys) e = absurd cc
-equal_kinds (what.Call f vs) (what.Key w) e = absurd cc
-equal_kinds (what.Call f vs) (what.Cell js w) e = absurd cc
-equal_kinds (what.Node k xs) (what.Node l ys) e =
-    let both = both_true (bytes_eq k l) (same_attributes xs ys) e in
-    ap (λ n. what.Node n xs) ((bytes_eq-Decides k l).0 both.0) ∙ ap (λ z. what.Node l z) (equal_attributes xs ys both.1)
-equal_kinds (what.Node k xs) (what.Call g ws) e = absurd cc
-equal_kinds (what.Node k xs) (what.Key w) e = absurd cc
-equal_kinds (what.Node k xs) (what.Cell js w) e = absurd cc
-equal_kinds (what.Key v) (what.Key w) e = ap what.Key ((same_value_decides v w).0 e)
-equal_kinds (what.Key v) (what.Call g ws) e = absurd cc
-equal_kinds (what.Key v) (what.Node l ys) e = absurd cc
-equal_kinds (what.Key v) (what.Cell js w) e = absurd cc
-equal_kinds (what.Cell ks v) (what.Cell js w) e =
-    let both = both_true (same_values ks js) (same_value v w) e in
-    ap (λ l. what.Cell l v) (equal_values ks js both.0) ∙ ap (λ x. what.Cell js x) ((same_value_decides v w).0 both.1)
-equal_kinds (what.Cell ks v) (what.Call g ws) e = absurd cc
-equal_kinds (what.Cell ks v) (what.Node l ys) e = absurd cc
-equal_kinds (what.Cell ks v) (what.Key w) e = absurd cc
+-- A node with an equal kind and equal attributes.
+pub equal_nodes : (w : GroupKind) (k l : List ℕ) (xs ys : List Attribute) → w ≡ what.Node l ys → bytes_eq l k ≡ true → same_attributes ys xs ≡ true → w ≡ what.Node k xs
+equal_nodes w k l xs ys is kinds attributes = is ∙ ap (λ n. what.Node n ys) ((bytes_eq-Decides l k).0 kinds) ∙ ap (λ z. what.Node k z) (equal_attributes ys xs attributes)
+
+-- A cell with equal keys and an equal value.
+pub equal_cells : (w : GroupKind) (js ks : List Value) (u v : Value) → w ≡ what.Cell js u → same_values js ks ≡ true → same_value u v ≡ true → (w ≡ what.Cell ks v) × (same_values ks ks ≡ true)
+equal_cells w js ks u v is keys value =
+    let same = equal_values js ks keys in (
+      is ∙ ap (λ l. what.Cell l u) same ∙ ap (λ x. what.Cell ks x) ((same_value_decides u v).0 value),
+      sym (ap (λ l. same_values l ks) same) ∙ keys,
+    )
 
 pub no_items : (xs : List ℕ) → (length xs == 0) ≡ true → xs ≡ []
 no_items [] e = refl

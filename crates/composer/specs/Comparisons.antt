@@ -21,14 +21,6 @@ same_attribute a b = same_value a.value b.value && bytes_eq a.name b.name
 abbrev pub same_attributes : List Attribute → List Attribute → Bool
 same_attributes = pointwise same_attribute
 
--- Whether two kinds are equal, with their values.
-abbrev pub same_kind : GroupKind → GroupKind → Bool
-same_kind (what.Call f vs) (what.Call g ws) = (f == g) && same_values vs ws
-same_kind (what.Node k xs) (what.Node l ys) = bytes_eq k l && same_attributes xs ys
-same_kind (what.Key v) (what.Key w) = same_value v w
-same_kind (what.Cell ks v) (what.Cell js w) = same_values ks js && same_value v w
-same_kind _ _ = false
-
 -- Whether a call runs: it has no old group, its arguments differ, or its own reads include an owed object.
 abbrev pub call_runs : List ℕ → Option KeyInfo → GroupKind → Bool
 call_runs owed None w = true

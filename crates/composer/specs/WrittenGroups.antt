@@ -1,5 +1,5 @@
 -- Internal: the groups of a new frame as they are written, and what each group adds.
-use Rattle.std.specs.Prelude.{ℕ, ◌+◌, ◌++◌, List, [], ◌∷◌, length, Option, Some, None, Bool, true, false, if◌then◌else◌}
+use Rattle.std.specs.Prelude.{ℕ, ◌+◌, ◌++◌, ◌≡◌, List, [], ◌∷◌, length, Option, Some, None, Bool, true, false, if◌then◌else◌}
 use Rattle.rt_values.specs.declared.value.Value.{Value}
 use Rattle.rt_values.specs.Values.{same_values}
 use Rattle.rt_groups.specs.declared.groups.Group.{Group}
@@ -7,6 +7,8 @@ use Rattle.rt_groups.specs.declared.groups.GroupKind.{GroupKind}
 use Rattle.rt_groups.specs.declared.groups.GroupKind.TheVariants as what
 use Rattle.rt_groups.specs.PreorderGroups.{flat_group}
 use Rattle.slot_table.specs.TableGroups.{is_node_kind}
+use Rattle.composer.specs.declared.writer.NewKind.{NewKind}
+use Rattle.composer.specs.declared.writer.NewKind.TheVariants as new
 use Rattle.composer.specs.OldSiblings.{KeyInfo, old_group}
 use Rattle.composer.specs.FrameDrafts.{DraftGroups}
 use Rattle.composer.specs.Comparisons.{other_keys}
@@ -24,6 +26,11 @@ pub record WrittenGroups : Type 0 where
 -- The same as a state of the composer, with the reads that the view was asked for and those of the innermost call.
 abbrev pub state_of : WrittenGroups → List ℕ → List ℕ → ComposerState
 state_of w asked own = record { groups = w.groups; next = w.next; ran = w.ran; calculated = w.calculated; asked = asked; own = own }
+
+-- The kind of a new group.
+abbrev pub group_kind : NewKind → GroupKind
+group_kind (new.Node kind attributes) = what.Node kind.now attributes
+group_kind (new.Key v) = what.Key v
 
 -- The number of a node and the next unused number: the number of the old group, or the next one.
 abbrev pub number_for : Option KeyInfo → ℕ → ℕ × ℕ
@@ -117,3 +124,9 @@ draft_of w = record {
   next = w.next;
   report = record { ran = w.ran; calculated = w.calculated; reads = w.reads; groups = length w.groups; nodes = nodes_in w.groups };
 }
+
+-- A group is a cell that remembers v for the keys ks, and has no reads.
+pub record IsCellOf (ks : List Value) (v : Value) (g : Group) : Type 0 where
+  pub kind : g.what ≡ what.Cell ks v
+  pub same : same_values ks ks ≡ true
+  pub reads : g.reads ≡ []

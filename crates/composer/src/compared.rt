@@ -1,18 +1,18 @@
 // Comparisons of new groups with old ones, as the composer compares with the slot table.
-ghost use Rattle.std.specs.Prelude.{◌≡◌, IfOk, map};
+ghost use Rattle.std.specs.Prelude.{◌≡◌, IfOk, map, true};
 ghost use Rattle.std.specs.Option.{option_map};
 ghost use Rattle.rt_values.specs.Values.{same_values};
 ghost use Rattle.rt_groups.specs.declared.groups.GroupKind.TheVariants as kinds;
 ghost use Rattle.rt_groups.specs.Frames.{meets};
 ghost use Rattle.slot_table.specs.ReaderStates.{group_key};
-ghost use Rattle.composer.specs.Comparisons.{same_attribute, same_attributes, same_kind, same_call, call_runs, has_keys, other_keys};
+ghost use Rattle.composer.specs.Comparisons.{same_attribute, same_attributes, same_call, call_runs, has_keys, other_keys};
 ghost use Rattle.composer.specs.WrittenGroups.{kept_of};
 
 use crate::old_groups::OldGroup;
 use crate::owed::Owed;
 use lang_meaning::Env;
 use rt_groups::{Attribute, GroupKind};
-use rt_values::{NoMemory, ObjectNo, Value};
+use rt_values::{NoMemory, ObjectNo, Value, Word};
 use std::alloc::Global;
 
 /// Returns the value of a key group.
@@ -66,33 +66,30 @@ fn same_attributes(attributes: &[Attribute], others: &[Attribute]) -> bool
     rest.is_empty()
 }
 
-/// Returns whether both kinds are equal, with their values.
-pub fn is_same_kind(kind: &GroupKind, other: &GroupKind) -> bool
-    ensures { result ≡ same_kind kind.now other.now }
+/// Returns whether it is a node with this kind and equal attributes.
+pub fn is_same_node(what: &GroupKind, kind: &Word, attributes: &[Attribute]) -> bool
+    ensures { result ≡ true → what.now ≡ kinds.Node kind.now attributes.now }
 {
-    match (kind, other) {
-        (
-            GroupKind::Call { .. },
-            GroupKind::Call {
-                function,
-                arguments,
-            },
-        ) => { is_same_call(kind, *function, arguments.items()) }
-        (
-            GroupKind::Node { kind, attributes },
-            GroupKind::Node {
-                kind: word,
-                attributes: others,
-            },
-        ) => kind.is(word.bytes()) && same_attributes(attributes.items(), others.items()),
-        (GroupKind::Key(value), GroupKind::Key(key)) => value.same(key),
-        (
-            GroupKind::Cell { keys, value },
-            GroupKind::Cell {
-                keys: others,
-                value: kept,
-            },
-        ) => same_lists(keys.items(), others.items()) && value.same(kept),
+    match what {
+        GroupKind::Node {
+            kind: word,
+            attributes: others,
+        } => {
+            if !word.is(kind.bytes()) {
+                return false;
+            }
+            same_attributes(others.items(), attributes)
+        }
+        _ => false,
+    }
+}
+
+/// Returns whether it is a key with an equal value.
+pub fn is_same_key(what: &GroupKind, value: &Value) -> bool
+    ensures { result ≡ true → what.now ≡ kinds.Key value.now }
+{
+    match what {
+        GroupKind::Key(key) => key.same(value),
         _ => false,
     }
 }

@@ -11,12 +11,12 @@ ghost use Rattle.lang_ast.specs.SyntaxView.{expr_view, exprs_view, nameds_view, 
 ghost use Rattle.lang_ast.specs.Evaluation.{new_binding, eval, eval_all};
 ghost use Rattle.compose_model.specs.Composing.{forest_after};
 ghost use Rattle.recompose_laws.specs.CalculatedCells.{Calculation, CalculatesAtSite, StmtCalculates, StmtsCalculate};
-ghost use Rattle.composer.specs.WrittenGroups.{number_kept, kept_of, written_kept};
+ghost use Rattle.composer.specs.WrittenGroups.{number_kept, kept_of, written_kept, group_kind};
 ghost use Rattle.composer.specs.FrameDrafts.{Holds, IsOwing, ComposesFrame, functions_of, root_of};
 ghost use Rattle.composer.specs.OldSiblings.{old_group};
 ghost use Rattle.composer.specs.Recomposes.{Recomposes, Continues, RanBeside, Writes, HasRoom, HasRoomToWrite, group_at_level, statement_at, body_at, call_at, loop_at, BodyRan, GroupSkipped, GroupsSkipped, FrameWritten, any_calculation, is_container, is_call_kept};
 
-use crate::compared::{call_is_run, kept_value, key_of, meet};
+use crate::compared::{call_is_run, kept_value, meet};
 use crate::copies::copy_values;
 use crate::draft::{Draft, Held};
 use crate::old_groups::OldGroup;
@@ -24,7 +24,7 @@ use crate::owed::Owed;
 use crate::pending::Pending;
 use crate::runs::{is_end, quiet_end};
 use crate::stop::ComposeStop;
-use crate::writer::Writer;
+use crate::writer::{NewKind, Writer};
 use group_keys::SiblingKey;
 use lang_ast::{Expression, Function, Ident, Named, Statement};
 use lang_checks::Checked;
@@ -48,13 +48,14 @@ pub struct Level<'a> {
 }
 
 /// What composing has made so far: the variables in scope, the old siblings that are not matched yet, the reads of the
-/// innermost call, and the groups.
+/// innermost call, the groups, and a list for the attributes of the next node.
 #[derive(Drop)]
 pub struct Progress<'a> {
     pub scope: Env,
     pub pending: Pending<'a>,
     pub reads: Deps,
     pub writer: Writer,
+    pub room: Option<Attributes>,
 }
 
 /// What a cell remembers: the keys and the calculation of a `remember` at a site.
@@ -168,7 +169,7 @@ fn run_one<'a, V: View, L: Ledger>(
 fn run_group<'a, V: View, L: Ledger>(
     level: &Level<'a>,
     site: u32,
-    what: GroupKind,
+    what: NewKind,
     body: &[Statement],
     made: &mut Progress<'a>,
     view: &mut V,
@@ -176,15 +177,14 @@ fn run_group<'a, V: View, L: Ledger>(
 ) -> Result<(), ComposeStop>
     requires { HasRoom level.now made.old }
     ensures part { Continues V.shows V.asked V.keeps view.old view.new made.old made.new result }
-    ensures ran { (w : kind_data) → what ≡ flat_kind w → is_container w ≡ true → (m : Map) → V.shows view.old m →
+    ensures ran { (w : kind_data) → group_kind what.entry ≡ flat_kind w → is_container w ≡ true → (m : Map) → V.shows view.old m →
         RanBeside level.now (group_at_level level.now site w (stmts_view body.now) made.old.scope)
         (λ calc. StmtsCalculate calc (stmts_view body.now)) m (V.asked view.old) (V.asked view.new) made.old made.new result }
 {
     let found = made
         .pending
-        .take(level.alloc, &SiblingKey::new(site, key_of(&what)))?;
-    made.writer
-        .enter(level.alloc, level.depth, site, what, &found)?;
+        .take(level.alloc, &SiblingKey::new(site, what.key()))?;
+    made.writer.enter(level.alloc, level.depth, site, what, &found, &mut made.room)?;
     if body.is_empty() {
         return Ok(());
     }
@@ -220,7 +220,7 @@ fn run_node<'a, V: View, L: Ledger>(
         (λ calc. StmtsCalculate calc (stmts_view body.now))
         view.old view.new made.old made.new result }
 {
-    let room = Attributes::with_room(level.alloc, attributes.len())?;
+    let room = take_room(level.alloc, &mut made.room, attributes.len())?;
     let attributes = evaluate_attributes(
         level.alloc,
         room,
@@ -229,9 +229,23 @@ fn run_node<'a, V: View, L: Ledger>(
         view,
         &mut made.reads,
     )?;
-    let kind = kind.text.copy()?;
-    let node = GroupKind::Node { kind, attributes };
+    let node = NewKind::Node {
+        kind: &kind.text,
+        attributes,
+    };
     run_group(level, site, node, body, made, view, steps)
+}
+
+// Returns the list that was kept for attributes, or a new one with capacity for `count` of them.
+fn take_room(
+    alloc: Global,
+    room: &mut Option<Attributes>,
+    count: usize,
+) -> Result<Attributes, NoMemory> {
+    match room.take() {
+        Some(room) => Ok(room),
+        None => Attributes::with_room(alloc, count),
+    }
 }
 
 // Composes a key: evaluates it, and composes its group.
@@ -252,7 +266,7 @@ fn run_key<'a, V: View, L: Ledger>(
         view.old view.new made.old made.new result }
 {
     let key = eval_noting(level.alloc, key, &made.scope, view, &mut made.reads)?;
-    run_group(level, site, GroupKind::Key(key), body, made, view, steps)
+    run_group(level, site, NewKind::Key(key), body, made, view, steps)
 }
 
 // Evaluates the condition and composes one of two lists of statements.
@@ -421,11 +435,8 @@ fn run_remember<'a, V: View, L: Ledger>(
         .pending
         .take(level.alloc, &SiblingKey::new(cell.site, None))?;
     let value = remember(level.alloc, &found, &env, cell.value, view, &mut made.reads)?;
-    let keys = env.into_values(level.alloc)?;
-    let kept = value.copy(level.alloc)?;
-    let what = GroupKind::Cell { keys, value: kept };
     made.writer
-        .enter(level.alloc, level.depth, cell.site, what, &found)?;
+        .enter_cell(level.alloc, level.depth, cell.site, env, &value, &found)?;
     run_bound(level, name, value, body, made, view, steps)
 }
 
@@ -538,6 +549,7 @@ fn run_body<'a, V: View, L: Ledger>(
         pending,
         reads,
         writer: taken,
+        room: None,
     };
     let inside = Level {
         alloc: level.alloc,

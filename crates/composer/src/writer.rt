@@ -1,27 +1,53 @@
 // The groups of a new frame, as they are written.
-ghost use Rattle.std.specs.Prelude.{◌≡◌, ◌≤◌, ◌<◌, ◌+◌, ◌-◌, ◌^◌, ◌++◌, ◌∷◌, [], List, ℕ, Err, length, Bool, true, IfOk, OnOk};
+ghost use Rattle.std.specs.Prelude.{◌≡◌, ◌≤◌, ◌<◌, ◌+◌, ◌-◌, ◌^◌, ◌++◌, ◌∷◌, [], List, ℕ, Err, length, map, Bool, true, IfOk, OnOk};
 ghost use Rattle.std.specs.Option.{option_map};
 ghost use Rattle.rt_groups.specs.declared.groups.Group.{Group as group_data};
 ghost use Rattle.rt_groups.specs.declared.groups.GroupKind.TheVariants as kinds;
 ghost use Rattle.rt_groups.specs.PreorderGroups.{flat_group};
 ghost use Rattle.rt_groups.specs.Frames.{most_groups};
+ghost use Rattle.slot_table.specs.ReaderStates.{group_key};
 ghost use Rattle.composer.specs.ComposerState.{one_if};
 ghost use Rattle.composer.specs.OldSiblings.{old_group};
 ghost use Rattle.composer.specs.QuietRuns.{group_run};
-ghost use Rattle.composer.specs.WrittenGroups.{number_for, number_of, cells_in, entered, with_call, written_kept, written_run, draft_of, is_node as node, nodes_in};
+ghost use Rattle.composer.specs.WrittenGroups.{group_kind, number_for, entered, with_call, written_kept, written_run, draft_of, is_node as node, nodes_in, IsCellOf};
 
-use crate::compared::{has_other_keys, is_same_kind};
+use crate::compared::{has_other_keys, is_same_key, is_same_node};
 use crate::draft::Draft;
 use crate::old_groups::OldGroup;
 use crate::stop::ComposeStop;
-use rt_groups::{Deps, Group, GroupKind, Report};
-use rt_values::NoMemory;
+use lang_meaning::Env;
+use rt_groups::{Attribute, Attributes, Deps, Group, GroupKind, Report};
+use rt_values::{NoMemory, Value, Word};
 use slot_table::{SharedGroup, Table, TableBuilder};
 use std::alloc::Global;
 use std::marker::Model;
 
 // The maximum number of groups.
 const MOST_GROUPS: usize = 1000000;
+
+/// The kind of a new group that contains other groups, with what the kind records.
+#[derive(Drop)]
+pub enum NewKind<'a> {
+    /// A node with its kind and attributes.
+    Node {
+        kind: &'a Word,
+        attributes: Attributes,
+    },
+    /// A key with its value.
+    Key(Value),
+}
+
+impl<'a> NewKind<'a> {
+    /// Returns the value of a key.
+    pub fn key(&self) -> Option<&Value>
+        ensures { option_map (λ v. v.now) result ≡ group_key (group_kind self.now) }
+    {
+        match self {
+            NewKind::Key(value) => Some(value),
+            NewKind::Node { .. } => None,
+        }
+    }
+}
 
 /// Writes the groups of a new frame in preorder (`SlotWriter`). It keeps the number of the next new node, and counts the
 /// calls that ran, the cells that were calculated, and the reads of the calls that ran and ended.
@@ -116,28 +142,66 @@ impl Writer {
         Ok(self.groups.push(group)?)
     }
 
-    /// Appends a group that is no call and is matched with `found`. A node gets the number of `found`, or the next number.
-    /// A cell counts if it is calculated.
+    /// Appends a node or a key that is matched with `found`. A node gets the number of `found`, or the next number. Keeps the
+    /// list of the attributes in `room` if the group does not need it.
     pub fn enter(
         &mut self,
         alloc: Global,
         depth: u32,
         site: u32,
-        what: GroupKind,
+        what: NewKind,
         found: &Option<OldGroup>,
+        room: &mut Option<Attributes>,
     ) -> Result<(), ComposeStop>
         requires { length self.old.groups ≤ most_groups }
-        ensures entered { OnOk result (self.new ≡ entered depth site what found.now self.old) }
+        ensures entered { OnOk result (self.new ≡ entered depth site (group_kind what.entry) found.now self.old) }
         ensures fits { OnOk result (length self.new.groups ≤ most_groups) }
         ensures full { result ≡ Err ComposeStop.TooManyGroups → length self.old.groups ≡ most_groups }
     {
-        let (number, next) = group_number(&what, found, self.next)?;
-        let Some(calculated) = self.calculated.checked_add(cell_count(&what, found)) else {
+        match what {
+            NewKind::Node { kind, attributes } => {
+                let (number, next) = node_number(found, self.next)?;
+                let group = matched_node(alloc, kind, attributes, found, room)?;
+                self.push(group.placed(depth, site, number))?;
+                self.next = next;
+                Ok(())
+            }
+            NewKind::Key(value) => {
+                let group = matched_key(alloc, value, found)?;
+                self.push(group.placed(depth, site, 0))
+            }
+        }
+    }
+
+    /// Appends a cell that remembers `value` for the values of `keys` and is matched with `found`. It counts if it is
+    /// calculated.
+    pub fn enter_cell(
+        &mut self,
+        alloc: Global,
+        depth: u32,
+        site: u32,
+        keys: Env,
+        value: &Value,
+        found: &Option<OldGroup>,
+    ) -> Result<(), ComposeStop>
+        requires { length self.old.groups ≤ most_groups }
+        ensures entered { OnOk result (self.new ≡ entered depth site (kinds.Cell (map (λ b. b.value) keys) value.now) found.now self.old) }
+        ensures fits { OnOk result (length self.new.groups ≤ most_groups) }
+        ensures full { result ≡ Err ComposeStop.TooManyGroups → length self.old.groups ≡ most_groups }
+    {
+        if let Some(old) = found {
+            if is_cell_of(old, &keys, value) {
+                return self.push(old.share()?.placed(depth, site, 0));
+            }
+        }
+        let keys = keys.into_values(alloc)?;
+        let counts = one_where(has_other_keys(found, keys.items()));
+        let Some(calculated) = self.calculated.checked_add(counts) else {
             return Err(ComposeStop::NoMemory); // There are fewer cells than groups.
         };
-        let group = matched_group(alloc, depth, site, number, what, found)?;
-        self.push(group)?;
-        self.next = next;
+        let value = value.copy(alloc)?;
+        let group = new_group(alloc, GroupKind::Cell { keys, value })?;
+        self.push(group.placed(depth, site, 0))?;
         self.calculated = calculated;
         Ok(())
     }
@@ -159,8 +223,8 @@ impl Writer {
         let Some(ran) = self.ran.checked_add(one_where(runs)) else {
             return Err(ComposeStop::NoMemory); // There are fewer calls than groups.
         };
-        let group = new_group(alloc, depth, site, 0, call)?;
-        self.push(group)?;
+        let group = new_group(alloc, call)?;
+        self.push(group.placed(depth, site, 0))?;
         self.ran = ran;
         Ok(())
     }
@@ -187,6 +251,9 @@ impl Writer {
         ensures full { result ≡ Err ComposeStop.TooManyGroups →
             most_groups < length self.old.groups + length (group_run table.now.groups from to) }
     {
+        if from == to {
+            return Ok(());
+        }
         if to - from > MOST_GROUPS - self.groups.len() {
             return Err(ComposeStop::TooManyGroups);
         }
@@ -215,50 +282,96 @@ impl Writer {
     }
 }
 
-// Returns a group without reads.
-fn new_group(
-    alloc: Global,
-    depth: u32,
-    site: u32,
-    number: u64,
-    what: GroupKind,
-) -> Result<SharedGroup, NoMemory>
-    ensures { IfOk result (λ g. g ≡ flat_group depth site number what []) }
+// Returns a group without reads, which has no place yet.
+fn new_group(alloc: Global, what: GroupKind) -> Result<SharedGroup, NoMemory>
+    ensures kind { IfOk result (λ g. g.what ≡ what) }
+    ensures reads { IfOk result (λ g. g.reads ≡ []) }
 {
     let group = Group {
-        depth,
-        site,
-        number,
+        depth: 0,
+        site: 0,
+        number: 0,
         what,
         reads: Deps::new(alloc),
     };
     SharedGroup::new(alloc, group)
 }
 
-// Returns a group without reads. It shares the slots of `found` if they are equal.
-fn matched_group(
+// Returns a node without reads. It shares the slots of `found` if they are equal, and then keeps the list of the attributes
+// in `room`.
+fn matched_node(
     alloc: Global,
-    depth: u32,
-    site: u32,
-    number: u64,
-    what: GroupKind,
+    kind: &Word,
+    attributes: Attributes,
     found: &Option<OldGroup>,
+    room: &mut Option<Attributes>,
 ) -> Result<SharedGroup, NoMemory>
-    ensures { IfOk result (λ g. g ≡ flat_group depth site number what []) }
+    ensures kind { IfOk result (λ g. g.what ≡ kinds.Node kind.now attributes) }
+    ensures reads { IfOk result (λ g. g.reads ≡ []) }
 {
     if let Some(old) = found {
-        if has_same_slots(old, &what) {
-            return Ok(old.share()?.placed(depth, site, number));
+        if is_node_of(old, kind, attributes.items()) {
+            *room = Some(attributes);
+            return old.share();
         }
     }
-    new_group(alloc, depth, site, number, what)
+    let kind = kind.copy()?;
+    new_group(alloc, GroupKind::Node { kind, attributes })
 }
 
-// Returns whether the old group has this kind, with equal values, and no reads.
-fn has_same_slots(old: &OldGroup, what: &GroupKind) -> bool
-    ensures { result ≡ true → ((old_group old.now).what ≡ what.now) × ((old_group old.now).reads ≡ []) }
+// Returns a key without reads. It shares the slots of `found` if they are equal.
+fn matched_key(
+    alloc: Global,
+    value: Value,
+    found: &Option<OldGroup>,
+) -> Result<SharedGroup, NoMemory>
+    ensures kind { IfOk result (λ g. g.what ≡ kinds.Key value) }
+    ensures reads { IfOk result (λ g. g.reads ≡ []) }
 {
-    old.reads().is_empty() && is_same_kind(old.kind(), what)
+    if let Some(old) = found {
+        if is_key_of(old, &value) {
+            return old.share();
+        }
+    }
+    new_group(alloc, GroupKind::Key(value))
+}
+
+// Returns whether the old group is a node with this kind and equal attributes, and has no reads.
+fn is_node_of(old: &OldGroup, kind: &Word, attributes: &[Attribute]) -> bool
+    ensures { result ≡ true → ((old_group old.now).what ≡ kinds.Node kind.now attributes.now) × ((old_group old.now).reads ≡ []) }
+{
+    if !is_same_node(old.kind(), kind, attributes) {
+        return false;
+    }
+    old.reads().is_empty()
+}
+
+// Returns whether the old group is a key with an equal value, and has no reads.
+fn is_key_of(old: &OldGroup, value: &Value) -> bool
+    ensures { result ≡ true → ((old_group old.now).what ≡ kinds.Key value.now) × ((old_group old.now).reads ≡ []) }
+{
+    if !is_same_key(old.kind(), value) {
+        return false;
+    }
+    old.reads().is_empty()
+}
+
+// Returns whether the old group is a cell that remembers `value` for the values of `keys`, and has no reads.
+fn is_cell_of(old: &OldGroup, keys: &Env, value: &Value) -> bool
+    ensures { result ≡ true → IsCellOf (map (λ b. b.value) keys.now) value.now (old_group old.now) }
+{
+    match old.kind() {
+        GroupKind::Cell {
+            keys: kept,
+            value: remembered,
+        } => {
+            if !keys.has_values(kept.items()) || !remembered.same(value) {
+                return false;
+            }
+            old.reads().is_empty()
+        }
+        _ => false,
+    }
 }
 
 // Returns the number of a node and the next unused number: the number of the old group, or the next one.
@@ -274,30 +387,6 @@ fn node_number(found: &Option<OldGroup>, next: u64) -> Result<(u64, u64), NoMemo
             }
             Ok((next, next + 1))
         }
-    }
-}
-
-// Returns the number of a group and the next unused node number.
-fn group_number(
-    what: &GroupKind,
-    found: &Option<OldGroup>,
-    next: u64,
-) -> Result<(u64, u64), NoMemory>
-    ensures { IfOk result (λ n. n ≡ number_of what.now found.now next) }
-{
-    match what {
-        GroupKind::Node { .. } => node_number(found, next),
-        _ => Ok((0, next)),
-    }
-}
-
-// Returns 1 for a cell that is calculated, else 0.
-fn cell_count(what: &GroupKind, found: &Option<OldGroup>) -> u64
-    ensures { result ≡ cells_in found.now what.now }
-{
-    match what {
-        GroupKind::Cell { keys, .. } => one_where(has_other_keys(found, keys.items())),
-        _ => 0,
     }
 }
 

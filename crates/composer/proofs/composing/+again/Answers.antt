@@ -29,7 +29,7 @@ use Rattle.composer.specs.OldGroups.{Alike, SameGroup, Fits}
 use Rattle.composer.specs.declared.pending.Pending.{Pending}
 use Rattle.composer.specs.ComposerState.{composed_beside, skipped_groups, skipped_inside, run_beside}
 use Rattle.composer.specs.BesideContracts.{Reaches, IsOldPart}
-use Rattle.composer.specs.WrittenGroups.{WrittenGroups, state_of, kept_of}
+use Rattle.composer.specs.WrittenGroups.{WrittenGroups, state_of, kept_of, group_kind}
 use Rattle.composer.specs.Recomposes.{ComposesBeside, is_call_kept}
 use Rattle.composer.proofs.BesideCases.{node_beside, call_beside, key_beside, choice_beside, loop_beside, binding_beside, remember_beside, node_calculates, key_calculates, then_calculates, else_calculates, loop_calculates, binding_calculates, cell_calculates, remember_calculates}
 use Rattle.composer.proofs.Machine.{same_state}
@@ -229,11 +229,11 @@ run_group-returns-in_err-enter-clause-part g t c = record {
 pub run_group-returns-then-is_empty-clause-ran : goal.run_group-returns-then-is_empty-clause-ran
 run_group-returns-then-is_empty-clause-ran g t c w is plain m h o b calc =
     let x = sibling c.args.site w in
-    let xs = key_is c.args.site w c.args.what _ c.key_of.ensures is c.new.ensures in
+    let xs = key_is c.args.site w (group_kind c.args.what) _ c.key.ensures is c.new.ensures in
     let k = matched {left = c.take.new.self} x c.new.result xs b c.in_ok-found.ensures.found c.in_ok-found.ensures.left in
     let there = matching_sibling x (occurrence x o.seen) o.old in
     let inside = body_forest m c.args.level.now.functions.now (stmts_view c.args.body.now) c.args.made.now.scope in
-    let state = matched_state c.args.level.now.depth c.args.site w c.args.what inside c.in_ok-found.found there c.args.made.now.writer c.enter.new.self (g.V.View.asked c.args.view.now) c.args.made.now.reads (container_is_no_call w plain) k.like is c.in_ok-enter.ensures.entered in
+    let state = matched_state c.args.level.now.depth c.args.site w (group_kind c.args.what) inside c.in_ok-found.found there c.args.made.now.writer c.enter.new.self (g.V.View.asked c.args.view.now) c.args.made.now.reads (container_is_no_call w plain) k.like is c.in_ok-enter.ensures.entered in
     let empty : length c.args.body.now ≡ 0 = eqb-true (length c.args.body.now) 0 (sym c.is_empty.ensures ∙ c.if-is_empty.true) in
     let none : inside ≡ End = all_end m c.args.level.now.functions.now c.args.body.now 0 c.args.made.now.scope (omega (arith, empty)) in
     beside_alone w inside _ plain none state k.fits
@@ -243,7 +243,7 @@ run_group-returns-then-is_empty-clause-part g t c = record {
   keeps = search (rules, g.met.V.View.keeps_on, g.met.V.View.keeps_itself);
   same = search rules;
   same_scope = search rules;
-  longer = entered_longer _ _ c.args.what c.in_ok-found.found c.args.made.now.writer _ c.in_ok-enter.ensures.entered;
+  longer = entered_longer _ _ (group_kind c.args.what) c.in_ok-found.found c.args.made.now.writer _ c.in_ok-enter.ensures.entered;
   fits = c.in_ok-enter.ensures.fits;
   counted = λ m h. let e : c.enter.new.self.reads ≡ c.args.made.now.writer.reads = ap (λ (q : WrittenGroups). q.reads) c.in_ok-enter.ensures.entered in omega (arith, e);
 }
@@ -251,11 +251,11 @@ run_group-returns-then-is_empty-clause-part g t c = record {
 pub run_group-returns-in_err-run_all-clause-ran : goal.run_group-returns-in_err-run_all-clause-ran
 run_group-returns-in_err-run_all-clause-ran g t c w is plain m h o b calc =
     let x = sibling c.args.site w in
-    let xs = key_is c.args.site w c.args.what _ c.key_of.ensures is c.new.ensures in
+    let xs = key_is c.args.site w (group_kind c.args.what) _ c.key.ensures is c.new.ensures in
     let k = matched {left = c.take.new.self} x c.new.result xs b c.in_ok-found.ensures.found c.in_ok-found.ensures.left in
     let there = matching_sibling x (occurrence x o.seen) o.old in
     let inside = body_forest m c.args.level.now.functions.now (stmts_view c.args.body.now) c.args.made.now.scope in
-    let state = matched_state c.args.level.now.depth c.args.site w c.args.what inside c.in_ok-found.found there c.args.made.now.writer c.enter.new.self (g.V.View.asked c.args.view.now) c.args.made.now.reads (container_is_no_call w plain) k.like is c.in_ok-enter.ensures.entered in
+    let state = matched_state c.args.level.now.depth c.args.site w (group_kind c.args.what) inside c.in_ok-found.found there c.args.made.now.writer c.enter.new.self (g.V.View.asked c.args.view.now) c.args.made.now.reads (container_is_no_call w plain) k.like is c.in_ok-enter.ensures.entered in
     let within : c.replace-around.new.dest ≡ c.inside_found-within.result = search rules in
     let fits = subst (λ (p : Pending). Fits (c.args.level.now.depth + 1) p (inside_of there) []) (sym within) (fits_inside c.args.level.now.depth c.inside_found-within.result c.in_ok-found.found there c.inside_found-within.ensures k.like) in
     let e : c.from_residual-in_err-run_all.result ≡ Err c.in_err-run_all.field-0.0 = search rules in
@@ -275,11 +275,11 @@ run_group-returns-in_err-run_all-clause-part g t c = record {
 pub run_group-returns-clause-ran : goal.run_group-returns-clause-ran
 run_group-returns-clause-ran g t c w is plain m h o b calc =
     let x = sibling c.args.site w in
-    let xs = key_is c.args.site w c.args.what _ c.key_of.ensures is c.new.ensures in
+    let xs = key_is c.args.site w (group_kind c.args.what) _ c.key.ensures is c.new.ensures in
     let k = matched {left = c.take.new.self} x c.new.result xs b c.in_ok-found.ensures.found c.in_ok-found.ensures.left in
     let there = matching_sibling x (occurrence x o.seen) o.old in
     let inside = body_forest m c.args.level.now.functions.now (stmts_view c.args.body.now) c.args.made.now.scope in
-    let state = matched_state c.args.level.now.depth c.args.site w c.args.what inside c.in_ok-found.found there c.args.made.now.writer c.enter.new.self (g.V.View.asked c.args.view.now) c.args.made.now.reads (container_is_no_call w plain) k.like is c.in_ok-enter.ensures.entered in
+    let state = matched_state c.args.level.now.depth c.args.site w (group_kind c.args.what) inside c.in_ok-found.found there c.args.made.now.writer c.enter.new.self (g.V.View.asked c.args.view.now) c.args.made.now.reads (container_is_no_call w plain) k.like is c.in_ok-enter.ensures.entered in
     let within : c.replace-around.new.dest ≡ c.inside_found-within.result = search rules in
     let fits = subst (λ (p : Pending). Fits (c.args.level.now.depth + 1) p (inside_of there) []) (sym within) (fits_inside c.args.level.now.depth c.inside_found-within.result c.in_ok-found.found there c.inside_found-within.ensures k.like) in
     let inner = c.in_ok-run_all.ensures.ran m (inside_old o (inside_of there)) h (beside_inside (inside_of there) b k.part fits) calc in
@@ -291,7 +291,7 @@ run_group-returns-clause-part g t c = record {
   keeps = c.in_ok-run_all.ensures.keeps;
   same = c.in_ok-run_all.ensures.same;
   same_scope = c.in_ok-run_all.ensures.same_scope;
-  longer = let e = entered_longer _ _ c.args.what c.in_ok-found.found c.args.made.now.writer _ c.in_ok-enter.ensures.entered in omega (arith, e, c.in_ok-run_all.ensures.longer);
+  longer = let e = entered_longer _ _ (group_kind c.args.what) c.in_ok-found.found c.args.made.now.writer _ c.in_ok-enter.ensures.entered in omega (arith, e, c.in_ok-run_all.ensures.longer);
   fits = c.in_ok-run_all.ensures.fits;
   counted = λ m h. let f = c.in_ok-run_all.ensures.counted m h in let e : c.enter.new.self.reads ≡ c.args.made.now.writer.reads = ap (λ (q : WrittenGroups). q.reads) c.in_ok-enter.ensures.entered in omega (arith, e, f);
 }
@@ -356,19 +356,6 @@ run_node-returns-in_err-attributes g t c = record {
       beside_stop_after _ _ _ e p.rest p.is;
 }
 
-pub run_node-returns-in_err-kind : goal.run_node-returns-in_err-kind
-run_node-returns-in_err-kind g t c = record {
-  keeps = search (rules, g.met.V.View.keeps_on, g.met.V.View.keeps_itself);
-  same = search rules;
-  same_scope = search rules;
-  longer = search rules;
-  fits = search rules;
-  counted = λ m h. search rules;
-  ran = λ m o h b calc.
-      let e : c.from_residual-in_err-kind.result ≡ Err NoMemory = search rules in
-      beside_after _ _ (state_of c.args.made.now.writer (g.V.View.asked c.evaluate_attributes.new.view) c.evaluate_attributes.new.reads) (same_state refl refl refl refl (c.in_ok-attributes.ensures.asks m h) (c.in_ok-attributes.ensures.reads m h)) (beside_stop_here _ e refl);
-}
-
 pub run_node-returns : goal.run_node-returns
 run_node-returns g t c = record {
   keeps = g.met.V.View.keeps_on _ _ _ c.in_ok-attributes.ensures.keeps c.run_group.ensures.part.keeps;
@@ -380,7 +367,7 @@ run_node-returns g t c = record {
   ran = λ m o h b calc.
       let all = (eval_named m (nameds_view c.args.attributes.now) c.args.made.now.scope).value in
       let w = Node c.args.kind.now.text (map attribute all) in
-      let made : what.Node c.in_ok-kind.kind c.in_ok-attributes.attributes ≡ flat_kind w = ap (λ (k : List ℕ). what.Node k c.in_ok-attributes.attributes) c.in_ok-kind.ensures ∙ ap (λ (l : List Attribute). what.Node c.args.kind.now.text l) (c.in_ok-attributes.ensures.value m h) in
+      let made : what.Node c.args.kind.now.text c.in_ok-attributes.attributes ≡ flat_kind w = ap (λ (l : List Attribute). what.Node c.args.kind.now.text l) (c.in_ok-attributes.ensures.value m h) in
       let inner = c.run_group.ensures.ran w made refl m (c.evaluate_attributes.ensures.same m h) o b calc in
       beside_after _ _ (state_of c.args.made.now.writer (g.V.View.asked c.evaluate_attributes.new.view) c.evaluate_attributes.new.reads) (same_state refl refl refl refl (c.in_ok-attributes.ensures.asks m h) (c.in_ok-attributes.ensures.reads m h)) (inner);
 }
@@ -641,52 +628,8 @@ run_remember-returns-in_err-value g t c = record {
       beside_after _ _ (state_of c.args.made.now.writer (g.V.View.asked c.evaluate_keys.new.view) c.evaluate_keys.new.reads) (same_state refl refl refl refl (c.in_ok-env.ensures.asks m h) (c.in_ok-env.ensures.reads m h)) (beside_stop_after _ _ _ e p.rest p.is);
 }
 
-pub run_remember-returns-in_err-keys : goal.run_remember-returns-in_err-keys
-run_remember-returns-in_err-keys g t c = record {
-  keeps = search (rules, g.met.V.View.keeps_on, g.met.V.View.keeps_itself);
-  same = search rules;
-  same_scope = search rules;
-  longer = search rules;
-  fits = search rules;
-  counted = λ m h. search rules;
-  ran = λ m o h b calc.
-      let env = (eval_named m (nameds_view c.args.cell.keys.now) c.args.made.now.scope).value in
-      let ev = ap (λ (k : List Binding). eval m (expr_view c.args.cell.value.now) k) (c.in_ok-env.ensures.value m h) in
-      let there = c.in_ok-env.ensures.same m h in
-      let none = (calc.0 m c.args.made.now.scope).1 in
-      let quiet : (eval m (expr_view c.args.cell.value.now) c.in_ok-env.env).reads ≡ [] = ap (λ (r : Reading Value). r.reads) ev ∙ none in
-      let asks : g.V.View.asked c.remember.new.view ≡ g.V.View.asked c.evaluate_keys.new.view ++ (eval m (expr_view c.args.cell.value.now) env).reads =
-      c.in_ok-value.ensures.asks m there quiet ∙ sym (append-nil (g.V.View.asked c.evaluate_keys.new.view)) ∙ ap (λ l. g.V.View.asked c.evaluate_keys.new.view ++ l) (sym none) in
-      let reads : c.remember.new.reads ≡ c.evaluate_keys.new.reads ++ (eval m (expr_view c.args.cell.value.now) env).reads =
-      c.in_ok-value.ensures.reads m there quiet ∙ sym (append-nil c.evaluate_keys.new.reads) ∙ ap (λ l. c.evaluate_keys.new.reads ++ l) (sym none) in
-      let e : c.from_residual-in_err-keys.result ≡ Err NoMemory = search rules in
-      beside_after _ _ (state_of c.args.made.now.writer (g.V.View.asked c.evaluate_keys.new.view) c.evaluate_keys.new.reads) (same_state refl refl refl refl (c.in_ok-env.ensures.asks m h) (c.in_ok-env.ensures.reads m h)) (beside_after _ _ (state_of c.args.made.now.writer (g.V.View.asked c.remember.new.view) c.remember.new.reads) (same_state refl refl refl refl asks reads) (beside_stop_here _ e refl));
-}
-
-pub run_remember-returns-in_err-kept : goal.run_remember-returns-in_err-kept
-run_remember-returns-in_err-kept g t c = record {
-  keeps = search (rules, g.met.V.View.keeps_on, g.met.V.View.keeps_itself);
-  same = search rules;
-  same_scope = search rules;
-  longer = search rules;
-  fits = search rules;
-  counted = λ m h. search rules;
-  ran = λ m o h b calc.
-      let env = (eval_named m (nameds_view c.args.cell.keys.now) c.args.made.now.scope).value in
-      let ev = ap (λ (k : List Binding). eval m (expr_view c.args.cell.value.now) k) (c.in_ok-env.ensures.value m h) in
-      let there = c.in_ok-env.ensures.same m h in
-      let none = (calc.0 m c.args.made.now.scope).1 in
-      let quiet : (eval m (expr_view c.args.cell.value.now) c.in_ok-env.env).reads ≡ [] = ap (λ (r : Reading Value). r.reads) ev ∙ none in
-      let asks : g.V.View.asked c.remember.new.view ≡ g.V.View.asked c.evaluate_keys.new.view ++ (eval m (expr_view c.args.cell.value.now) env).reads =
-      c.in_ok-value.ensures.asks m there quiet ∙ sym (append-nil (g.V.View.asked c.evaluate_keys.new.view)) ∙ ap (λ l. g.V.View.asked c.evaluate_keys.new.view ++ l) (sym none) in
-      let reads : c.remember.new.reads ≡ c.evaluate_keys.new.reads ++ (eval m (expr_view c.args.cell.value.now) env).reads =
-      c.in_ok-value.ensures.reads m there quiet ∙ sym (append-nil c.evaluate_keys.new.reads) ∙ ap (λ l. c.evaluate_keys.new.reads ++ l) (sym none) in
-      let e : c.from_residual-in_err-kept.result ≡ Err NoMemory = search rules in
-      beside_after _ _ (state_of c.args.made.now.writer (g.V.View.asked c.evaluate_keys.new.view) c.evaluate_keys.new.reads) (same_state refl refl refl refl (c.in_ok-env.ensures.asks m h) (c.in_ok-env.ensures.reads m h)) (beside_after _ _ (state_of c.args.made.now.writer (g.V.View.asked c.remember.new.view) c.remember.new.reads) (same_state refl refl refl refl asks reads) (beside_stop_here _ e refl));
-}
-
-pub run_remember-returns-in_err-enter : goal.run_remember-returns-in_err-enter
-run_remember-returns-in_err-enter g t c = record {
+pub run_remember-returns-in_err-enter_cell : goal.run_remember-returns-in_err-enter_cell
+run_remember-returns-in_err-enter_cell g t c = record {
   keeps = search (rules, g.met.V.View.keeps_on, g.met.V.View.keeps_itself);
   same = search rules;
   same_scope = search rules;
@@ -711,9 +654,9 @@ run_remember-returns g t c = record {
   keeps = search (rules, g.met.V.View.keeps_on, g.met.V.View.keeps_itself);
   same = search rules;
   same_scope = search rules;
-  longer = longer_on _ _ _ _ (entered_longer _ _ (what.Cell c.in_ok-keys.keys c.in_ok-kept.kept) c.in_ok-found.found c.args.made.now.writer _ c.in_ok-enter.ensures.entered) c.run_bound.ensures.longer;
+  longer = longer_on _ _ _ _ (entered_longer _ _ (what.Cell (map (λ (k : Binding). k.value) c.in_ok-env.env) c.in_ok-value.value) c.in_ok-found.found c.args.made.now.writer _ c.in_ok-enter_cell.ensures.entered) c.run_bound.ensures.longer;
   fits = search rules;
-  counted = λ m h. counted_cell _ _ _ _ _ _ _ _ _ _ _ _ _ (c.in_ok-env.ensures.asks m h) (c.in_ok-env.ensures.reads m h) (c.in_ok-value.ensures.counted m (c.in_ok-env.ensures.same m h)) (ap (λ (q : WrittenGroups). q.reads) c.in_ok-enter.ensures.entered) (c.run_bound.ensures.counted m (c.in_ok-value.ensures.same m (c.in_ok-env.ensures.same m h)));
+  counted = λ m h. counted_cell _ _ _ _ _ _ _ _ _ _ _ _ _ (c.in_ok-env.ensures.asks m h) (c.in_ok-env.ensures.reads m h) (c.in_ok-value.ensures.counted m (c.in_ok-env.ensures.same m h)) (ap (λ (q : WrittenGroups). q.reads) c.in_ok-enter_cell.ensures.entered) (c.run_bound.ensures.counted m (c.in_ok-value.ensures.same m (c.in_ok-env.ensures.same m h)));
   ran = λ m o h b calc.
       let env = (eval_named m (nameds_view c.args.cell.keys.now) c.args.made.now.scope).value in
       let ev = ap (λ (k : List Binding). eval m (expr_view c.args.cell.value.now) k) (c.in_ok-env.ensures.value m h) in
@@ -728,19 +671,20 @@ run_remember-returns g t c = record {
       let v = (eval m (expr_view c.args.cell.value.now) env).value in
       let w = Cell ks v in
       let x = sibling c.args.cell.site w in
-      let keys_are : c.in_ok-keys.keys ≡ ks = c.in_ok-keys.ensures ∙ ap (λ (k : List Binding). map (λ b. b.value) k) (c.in_ok-env.ensures.value m h) in
+      let keys = map (λ (k : Binding). k.value) c.in_ok-env.env in
+      let keys_are : keys ≡ ks = ap (λ (k : List Binding). map (λ b. b.value) k) (c.in_ok-env.ensures.value m h) in
       let k = matched {left = c.take.new.self} x c.new.result c.new.ensures b c.in_ok-found.ensures.found c.in_ok-found.ensures.left in
       let old = matching_sibling x (occurrence x o.seen) o.old in
       let value : c.in_ok-value.value ≡ v = c.in_ok-value.ensures.value m v there
       (λ u e. kept_is_calculated o.last.calculation c.args.level.now.depth c.args.cell.site ks c.in_ok-found.found old u k.like k.there.cells (ap (λ (l : List Binding). kept_of c.in_ok-found.found (map (λ b. b.value) l)) (sym (c.in_ok-env.ensures.value m h)) ∙ e) ∙ sym (calc.0 m c.args.made.now.scope).0)
       (ap (λ (r : Reading Value). r.value) ev) in
-      let made : what.Cell c.in_ok-keys.keys c.in_ok-kept.kept ≡ flat_kind w = ap (λ (l : List Value). what.Cell l c.in_ok-kept.kept) keys_are ∙ ap (λ (y : Value). what.Cell ks y) (c.in_ok-kept.ensures.same ∙ value) in
-      let state = matched_state c.args.level.now.depth c.args.cell.site w (what.Cell c.in_ok-keys.keys c.in_ok-kept.kept) End c.in_ok-found.found old c.args.made.now.writer c.enter.new.self (g.V.View.asked c.remember.new.view) c.remember.new.reads refl k.like made c.in_ok-enter.ensures.entered in
+      let made : what.Cell keys c.in_ok-value.value ≡ flat_kind w = ap (λ (l : List Value). what.Cell l c.in_ok-value.value) keys_are ∙ ap (λ (y : Value). what.Cell ks y) value in
+      let state = matched_state c.args.level.now.depth c.args.cell.site w (what.Cell keys c.in_ok-value.value) End c.in_ok-found.found old c.args.made.now.writer c.enter_cell.new.self (g.V.View.asked c.remember.new.view) c.remember.new.reads refl k.like made c.in_ok-enter_cell.ensures.entered in
       let now = x ∷ o.seen in
-      let P : Value → Type 0 = λ y. ComposesBeside c.args.level.now.owed.now.objects o.old c.args.level.now.depth now (body_forest m c.args.level.now.functions.now (stmts_view c.args.body.now) (c.args.made.now.scope ++ new_binding c.args.name.now.text y ∷ [])) (state_of c.enter.new.self (g.V.View.asked c.remember.new.view) c.remember.new.reads)
+      let P : Value → Type 0 = λ y. ComposesBeside c.args.level.now.owed.now.objects o.old c.args.level.now.depth now (body_forest m c.args.level.now.functions.now (stmts_view c.args.body.now) (c.args.made.now.scope ++ new_binding c.args.name.now.text y ∷ [])) (state_of c.enter_cell.new.self (g.V.View.asked c.remember.new.view) c.remember.new.reads)
       (state_of c.run_bound.new.made.writer (g.V.View.asked c.run_bound.new.view) c.run_bound.new.made.reads) c.run_bound.new.made.pending c.run_bound.result in
       let inner = subst P value (c.run_bound.ensures.ran m (at_now o now) (c.in_ok-value.ensures.same m there) (beside_now now b k.fits) calc.1) in
-      beside_after _ _ (state_of c.args.made.now.writer (g.V.View.asked c.evaluate_keys.new.view) c.evaluate_keys.new.reads) (same_state refl refl refl refl (c.in_ok-env.ensures.asks m h) (c.in_ok-env.ensures.reads m h)) (beside_after _ _ (state_of c.args.made.now.writer (g.V.View.asked c.remember.new.view) c.remember.new.reads) (same_state refl refl refl refl asks reads) (beside_cell (state_of c.enter.new.self (g.V.View.asked c.remember.new.view) c.remember.new.reads) state inner));
+      beside_after _ _ (state_of c.args.made.now.writer (g.V.View.asked c.evaluate_keys.new.view) c.evaluate_keys.new.reads) (same_state refl refl refl refl (c.in_ok-env.ensures.asks m h) (c.in_ok-env.ensures.reads m h)) (beside_after _ _ (state_of c.args.made.now.writer (g.V.View.asked c.remember.new.view) c.remember.new.reads) (same_state refl refl refl refl asks reads) (beside_cell (state_of c.enter_cell.new.self (g.V.View.asked c.remember.new.view) c.remember.new.reads) state inner));
 }
 
 -- A call.
