@@ -1,5 +1,5 @@
 -- Actors before their first step and after their last one, and the history of all.
-use Rattle.std.proofs.Common.{◌≡◌, inl, inr, ℕ, zero, suc, ◌-◌, ◌<◌, List, [], ◌∷◌, ◌++◌, Bool, true, false, length, map, refl, sym, ap, ◌∙◌, subst, None, arith, append_assoc, length-append}
+use Rattle.std.proofs.Common.{◌≡◌, inl, inr, ℕ, zero, suc, ◌-◌, ◌<◌, List, [], ◌∷◌, ◌++◌, Bool, true, false, cond, length, map, refl, sym, ap, ◌∙◌, subst, None, arith, append_assoc, length-append}
 use Rattle.std.proofs.lemmas.Bool.{cases_lt}
 use Rattle.std.proofs.lemmas.List.{length-map, get_or-map, get_or-append_right}
 use Rattle.std.proofs.Math.ListN.{get_or-append}
@@ -12,11 +12,11 @@ use Rattle.snap_shared.specs.Seats.{opening_of, number_of, seen_by, mine_of, IsS
 use Rattle.snap_shared.specs.SharedCalls.{own_calls, numbers_below, ContainsSeat}
 use Rattle.snap_shared.specs.declared.shared.Seat.{Seat}
 use Rattle.snap_shared.specs.declared.shared.Shared.{Shared}
-use Rattle.script_lang.specs.PrintedCalls.{printed}
+use Rattle.script_lang.specs.PrintedCalls.{reads_frame, frames_after, printed}
 use Rattle.script_lang.specs.StepCalls.{ActorPart, no_notes}
 use Rattle.woven_laws.specs.Laws.{CanBeCompleted}
 use Rattle.woven_laws.specs.FirstParts.{IsFirstPart, SpellsTo}
-use Rattle.woven_laws.specs.PrintedHistory.{frames_after_calls}
+use Rattle.woven_laws.specs.PrintedHistory.{no_frames, with_frames, printed_from, printed_history, frames_after_calls}
 use Rattle.woven_laws.specs.Woven.{actor_at, initial_actor, parts_of, IsWoven, SpellsAll}
 use Rattle.woven_laws.proofs.Steps.{nothing_is_spelled, all_is_spelled}
 use Rattle.play_actors.specs.ActorNotes.{IsNoted}
@@ -132,6 +132,21 @@ module _ {W A : Type 0} (seat : A → Seat W) (short : A → Bool) (number : A �
       let holds_it = subst (λ s. ContainsSeat h (number_of s) (seen_by s)) at (holds a (seat e) (omega (arith, here, long))) in
       acted_in parts h a (seat x) (short x) any (act.seated.is_callers ∙ is) holds_it.1 (λ f. none f a e here)
       (subst (λ k. HasActed parts k (mine_of (seat x)) (short x)) is (act.acted o stood counts))
+
+-- What is printed of a first part of a history is a first part of what is printed of all.
+printed_part_from : (frames : ℕ → List ℕ) (h more : History) → (rest : History) × (printed_from frames h ++ rest ≡ printed_from frames (h ++ more))
+printed_part_from frames [] more = (printed_from frames more, refl)
+printed_part_from frames (e ∷ es) more =
+    let after = with_frames frames e.caller (frames_after (frames e.caller) e) in
+    by after (reads_frame (frames e.caller) e.request) (printed_part_from frames es more) (printed_part_from after es more)
+  where
+    by : (after : ℕ → List ℕ) (b : Bool) → (rest : History) × (printed_from frames es ++ rest ≡ printed_from frames (es ++ more)) → (rest : History) × (printed_from after es ++ rest ≡ printed_from after (es ++ more)) →
+        (rest : History) × (cond b (printed_from frames es) (e ∷ printed_from after es) ++ rest ≡ cond b (printed_from frames (es ++ more)) (e ∷ printed_from after (es ++ more)))
+    by after true same next = same
+    by after false same next = (next.0, ap (λ l. e ∷ l) next.1)
+
+pub printed_part : (h more all : History) → h ++ more ≡ all → (rest : History) × (printed_history h ++ rest ≡ printed_history all)
+printed_part h more all is = subst (λ l. (rest : History) × (printed_history h ++ rest ≡ printed_history l)) is (printed_part_from no_frames h more)
 
 -- A history can be continued to a legal and woven one if a longer one can.
 pub part_completed : (n : ℕ) (parts : List ActorPart) (w : World BuiltIn) (h more all : History) → h ++ more ≡ all → CanBeCompleted n parts w all → CanBeCompleted n parts w h

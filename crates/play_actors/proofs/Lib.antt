@@ -3,5 +3,4 @@ pub mod PartFacts
 pub mod PartsMade
 pub mod Sequences
 pub mod Openings
-pub mod CallersFrames
 pub mod ActorEnds

@@ -1,3 +1,2 @@
 pub mod ActorNotes
 pub mod ActorSteps
-pub mod OpenFrames

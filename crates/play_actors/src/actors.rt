@@ -6,10 +6,11 @@ ghost use Rattle.snap_shared.specs.Seats.{number_of, IsNewSeat};
 ghost use Rattle.snap_shared.specs.SharedCalls.{numbers_below};
 ghost use Rattle.script_lang.specs.StepCalls.{script_parts, opening_world};
 ghost use Rattle.woven_laws.specs.Laws.{CanBeCompleted};
+ghost use Rattle.woven_laws.specs.PrintedHistory.{printed_history};
 ghost use Rattle.woven_laws.specs.Woven.{initial_actor, IsWoven};
 ghost use Rattle.play_actors.specs.ActorSteps.{ActsThrough, IsActorsHistory};
 
-use crate::printed::keep_printed;
+use crate::cut::cut_history;
 use crate::steps::run_actor;
 use crate::worker::ActorRun;
 use core::mem;
@@ -26,8 +27,8 @@ use std::thread::{self, Threads};
 /// What the actors of a script have done.
 #[derive(Drop)]
 pub struct ActorsEnd {
-    /// The printed calls of the history, in its order. The reads of frames are left out. If an actor ran out of memory
-    /// while it composed a frame, the calls end before the dispose of that frame's snapshot.
+    /// The history of the world, with the reads of frames. If an actor ran out of memory while it composed a frame, the
+    /// calls end before the dispose of that frame's snapshot.
     pub calls: Vec<Entry>,
     /// Whether an actor stopped because it ran out of memory.
     pub short: bool,
@@ -229,10 +230,10 @@ pub fn run_actors<
     ensures legal { IfOk result (λ r. IsLegal table (opening_world job.now.program.states.items) r.calls.items) }
     ensures woven { let parts = script_parts job.now.script.actors.items job.now.script.forms.items in
         IfOk result (λ r. r.short ≡ false →
-        IsWoven (length job.now.script.actors.items) (initial_actor parts) r.calls.items) }
+        IsWoven (length job.now.script.actors.items) (initial_actor parts) (printed_history r.calls.items)) }
     ensures part { let parts = script_parts job.now.script.actors.items job.now.script.forms.items in
         IfOk result (λ r. CanBeCompleted (length job.now.script.actors.items) parts
-        (opening_world job.now.program.states.items) r.calls.items) }
+        (opening_world job.now.program.states.items) (printed_history r.calls.items)) }
 {
     if job.script.actors.is_empty() {
         return Ok(ActorsEnd {
@@ -240,13 +241,10 @@ pub fn run_actors<
             short: false,
         });
     }
-    let Ok(frames) = Vec::with_capacity(alloc, job.script.actors.len()) else {
-        return Err(NoMemory);
-    };
     let Ok(whole) = make_history(rt, alloc, job, world, gate) else {
         return Err(NoMemory);
     };
-    let (calls, cut) = keep_printed(whole.calls, frames, whole.failed);
+    let (calls, cut) = cut_history(whole.calls, whole.failed);
     Ok(ActorsEnd {
         calls,
         short: whole.short || cut,

@@ -3,16 +3,16 @@
 //! Each actor makes its steps through a seat of the world, with snapshot names and a composition of its own, and asks a
 //! gate before each call. The layer above prints the calls of the history. In Compose this is the work of a test driver
 //! that calls `Snapshot` and `Recomposer` from several threads. Scripts are rules of this project.
-//! Promises: the calls that are returned are legal on the world of the program's states. If no actor ran out of memory
-//! they are woven: each actor's calls are those that its steps make, in order. In any case they can be continued to a
-//! legal and woven history.
+//! Promises: the history that is returned is legal on the world of the program's states. If no actor ran out of memory
+//! its printed calls are woven: each actor's calls are those that its steps make, in order. In any case the printed calls
+//! can be continued to a legal and woven history.
 #![tactic(auto)]
 
 mod actors;
+mod cut;
 mod frames;
 mod memory;
 mod parts;
-mod printed;
 mod steps;
 mod worker;
 

@@ -5,6 +5,7 @@ use Rattle.snap_policy.specs.declared.policy.BuiltIn.{BuiltIn}
 use Rattle.snap_policy.specs.Table.{table}
 use Rattle.snap_api.specs.Calls.{Does, is_no_memory}
 use Rattle.snap_api.specs.World.{World, call}
+use Rattle.snap_api.specs.declared.data.Entry.{Entry}
 use Rattle.snap_api.specs.declared.data.Refusal.{Refusal}
 use Rattle.snap_api.specs.declared.data.Refusal.TheVariants as refusal
 use Rattle.snap_api.specs.declared.data.Reply.{Reply}
@@ -40,12 +41,12 @@ replied before after step reply.Applied had h w at = (h w at).0
 replied before after step reply.Disposed had h w at = (h w at).0
 
 -- The line of a call, from its two parts.
-pub whole_line : (t : Titles) (w : World BuiltIn) (actor : ℕ) (q : Request) (y : Reply) (bytes all first none : List ℕ) → none ≡ [] → first ≡ none ++ call_text t actor q → all ≡ first ++ line (reply_text t y) → bytes ≡ all →
-    y ≡ (call table w actor q).1 → bytes ≡ entry_line t (entry w actor q)
-whole_line t w actor q y bytes all first none empty one two is told =
-    is ∙ two ∙ ap (λ l. l ++ line (reply_text t y)) (one ∙ ap (λ l. l ++ call_text t actor q) empty)
-    ∙ sym (append_assoc (call_text t actor q) (reply_text t y) (10 ∷ []))
-    ∙ ap (λ (z : Reply). line (call_text t actor q ++ reply_text t z)) told
+pub whole_line : (t : Titles) (e : Entry) (first : List ℕ) → first ≡ call_text t e.caller e.request → first ++ line (reply_text t e.reply) ≡ entry_line t e
+whole_line t e first is = ap (λ l. l ++ line (reply_text t e.reply)) is ∙ sym (append_assoc (call_text t e.caller e.request) (reply_text t e.reply) (10 ∷ []))
+
+-- The line of a call that was made.
+pub made_line : (t : Titles) (w : World BuiltIn) (actor : ℕ) (q : Request) (y : Reply) (first : List ℕ) → first ≡ call_text t actor q → y ≡ (call table w actor q).1 → first ++ line (reply_text t y) ≡ entry_line t (entry w actor q)
+made_line t w actor q y first is told = ap (λ (z : Reply). first ++ line (reply_text t z)) told ∙ whole_line t (entry w actor q) first is
 
 -- Nothing was written.
 pub nothing_said : {T E : Type 0} (e : E) (written : Option (List ℕ)) (bytes : List ℕ) → WritesBytes {T = T} written written bytes (Err e)

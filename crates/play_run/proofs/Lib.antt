@@ -9,4 +9,6 @@ pub mod Sequences
 pub mod FrameParts
 pub mod RunLines
 pub mod Openings
+pub mod GivenReads
+pub mod PrintedCalls
 pub mod Replays

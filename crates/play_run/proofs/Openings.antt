@@ -28,8 +28,9 @@ use Rattle.composer.specs.FrameDrafts.{functions_of}
 use Rattle.recomposer.specs.Compositions.{IsAt}
 use Rattle.play_run.specs.Opening.{StatesFit}
 use Rattle.play_run.specs.RunOutput.{first_run}
-use Rattle.play_run.specs.RunState.{IsRun, IsLogged}
+use Rattle.play_run.specs.RunState.{RunFacts, IsRun, IsLogged}
 use Rattle.play_run.proofs.RunLogs.{logged_first}
+use Rattle.recomposer.specs.declared.composition.Composition.{Composition}
 use Rattle.play_run.specs.declared.memory.RunMemory.{RunMemory}
 
 -- Making states makes no watcher.
@@ -66,26 +67,30 @@ clock-states : (w : World BuiltIn) (ss : List State) → (with_states w ss).cloc
 clock-states w [] = refl
 clock-states w (s ∷ more) = clock-states (world_after_make w (type_of s.initial) s.policy s.initial) more
 
-pub opened : {functions : List Func} {V : Type 0} {stands : V → World BuiltIn → Type 0} {log : V → Option (List Entry)} {world : V} {memory : RunMemory} (actor : ℕ) (states : List State) (began : Option (List Entry)) → StatesFit states → log world ≡ began →
-    stands world (opening_world states) → IsAt memory.composition no_last_frame None → functions_of memory.composition.program.now ≡ functions → Holds memory.names [] →
-    IsRun functions stands log world memory actor None (first_run states began)
-opened {functions = functions} {log = log} {world = world} {memory = memory} actor states began fit untold stood at same holds =
+pub opened_facts : {functions : List Func} {V : Type 0} {stands : V → World BuiltIn → Type 0} {world : V} {kept : Composition} (actor : ℕ) (states : List State) (began : Option (List Entry)) → StatesFit states →
+    stands world (opening_world states) → IsAt kept no_last_frame None → functions_of kept.program.now ≡ functions → RunFacts functions stands world kept actor None (first_run states began)
+opened_facts {kept = kept} actor states began fit stood at same =
     let counted = count-states (start 0) states in
     let last : last_of (opening_world states) watcher_number ≡ None = ap (λ (ls : List (Option Map)). slice_index_or (ls ++ None ∷ []) watcher_number None) (lasts-states (start 0) states) in
     record {
-      facts = record {
-        world_stands = stood;
-        valid = valid_opening states fit;
-        few = omega (arith, counted);
-        known = λ name n found. absurd cc;
-        is_at = subst (λ o. IsAt memory.composition no_last_frame o) (sym last) at;
-        same_program = same;
-        noted = refl;
-        at_frame = refl;
-      };
-      named = holds;
-      logged = subst (λ l. IsLogged functions (first_run states began) began l) (sym untold) (logged_first functions states began);
+      world_stands = stood;
+      valid = valid_opening states fit;
+      few = omega (arith, counted);
+      known = λ name n found. absurd cc;
+      is_at = subst (λ o. IsAt kept no_last_frame o) (sym last) at;
+      same_program = same;
+      noted = refl;
+      at_frame = refl;
     }
+
+pub opened : {functions : List Func} {V : Type 0} {stands : V → World BuiltIn → Type 0} {log : V → Option (List Entry)} {world : V} {memory : RunMemory} (actor : ℕ) (states : List State) (began : Option (List Entry)) → StatesFit states → log world ≡ began →
+    stands world (opening_world states) → IsAt memory.composition no_last_frame None → functions_of memory.composition.program.now ≡ functions → Holds memory.names [] →
+    IsRun functions stands log world memory actor None (first_run states began)
+opened {functions = functions} actor states began fit untold stood at same holds = record {
+  facts = opened_facts actor states began fit stood at same;
+  named = holds;
+  logged = subst (λ l. IsLogged functions (first_run states began) began l) (sym untold) (logged_first functions states began);
+}
 
 -- The states of a program without faults fit.
 none_in : {A : Type 0} (xs ys : List A) → xs ++ ys ≡ [] → (xs ≡ []) × (ys ≡ [])

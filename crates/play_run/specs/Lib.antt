@@ -3,4 +3,7 @@ pub mod RunLog
 pub mod Opening
 pub mod RunOutput
 pub mod RunState
+pub mod RecordedReads
+pub mod RecordedReadsLaws
+pub mod CallsInFrames
 pub mod ReplayState

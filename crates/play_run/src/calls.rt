@@ -1,5 +1,5 @@
 // The calls of steps, with their lines.
-ghost use Rattle.std.specs.Prelude.{◌≡◌, ◌≤◌, List, ℕ, [], ◌∷◌, Option, Some, Err, IfOk, OnOk};
+ghost use Rattle.std.specs.Prelude.{◌≡◌, ◌≤◌, ◌++◌, List, ℕ, [], ◌∷◌, Option, Some, Err, IfOk, OnOk};
 ghost use Rattle.snap_policy.specs.declared.policy.BuiltIn.{BuiltIn as built_in};
 ghost use Rattle.snap_policy.specs.Table.{table};
 ghost use Rattle.snap_api.specs.World.{World, call};
@@ -8,7 +8,7 @@ ghost use Rattle.rt_values.specs.declared.names.Kind.{Kind as kind_data};
 ghost use Rattle.lang_ast.specs.declared.script.SnapshotRef.{SnapshotRef as snapshot_ref};
 ghost use Rattle.script_lang.specs.SnapshotNames.{snapshot_number};
 ghost use Rattle.script_lang.specs.StepCalls.{Part, Take, Read, WriteSum, request_of, number_taken, value_read, sum_request, entry, call_parts, calls_parts};
-ghost use Rattle.script_lang.specs.Lines.{entry_line};
+ghost use Rattle.script_lang.specs.Lines.{call_text, reply_text, line, entry_line};
 ghost use Rattle.play_run.specs.RunOutput.{Run, parts_of};
 ghost use Rattle.play_run.specs.RunPromise.{job_titles, style_of, job_functions};
 ghost use Rattle.play_run.specs.RunState.{KeepsNames, AddsEntry, IsRun, RunsAt, RunsParts};
@@ -20,7 +20,7 @@ use crate::write_lines::{Stop, write_piece};
 use lang_ast::CallForm;
 use rt_streams::Sink;
 use rt_values::operators::add;
-use rt_values::{Caller, Name, ObjectNo, Value, Word};
+use rt_values::{Caller, Name, NoMemory, ObjectNo, Value, Word};
 use script_lang::{Flags, NEVER_TAKEN, add_reply_line, add_request_line};
 use snap_api::{Reply, Request, Versions};
 use snap_policy::BuiltIn;
@@ -32,6 +32,51 @@ pub struct JobActor<'a> {
     pub job: &'a Job,
     pub flags: Flags,
     pub number: Caller,
+}
+
+// Begins the line of a call in the line buffer `text`: writes all that is before the reply.
+fn begin_line(
+    job: &Job,
+    caller: Caller,
+    request: &Request,
+    text: &mut Vec<u8>,
+) -> Result<(), NoMemory>
+    ensures { OnOk result (text.new.items ≡ call_text (job_titles job.now) caller request.now) }
+{
+    text.clear();
+    add_request_line(text, &job.program, &job.script, caller, request)
+}
+
+// Ends the line in the line buffer `text` with the reply, and writes the line.
+fn end_line<K: Sink>(job: &Job, reply: &Reply, text: &mut Vec<u8>, sink: &mut K) -> Result<(), Stop>
+    ensures says { let all = text.old.items ++ line (reply_text (job_titles job.now) reply.now) in
+        WritesBytes (K.written sink.old) (K.written sink.new) all result }
+    ensures faults { FaultsAfter (K.faults sink.old) (K.faults sink.new) result }
+{
+    let Ok(()) = add_reply_line(text, &job.program, &job.script, reply) else {
+        return Err(Stop::NoMemory);
+    };
+    write_piece(sink, text)
+}
+
+/// Writes the line of a call that has this reply. `text` is the line buffer.
+pub fn write_call<K: Sink>(
+    job: &Job,
+    caller: Caller,
+    request: &Request,
+    reply: &Reply,
+    text: &mut Vec<u8>,
+    sink: &mut K,
+) -> Result<(), Stop>
+    ensures says { let titles = job_titles job.now in
+        let all = line (call_text titles caller request.now ++ reply_text titles reply.now) in
+        WritesBytes (K.written sink.old) (K.written sink.new) all result }
+    ensures faults { FaultsAfter (K.faults sink.old) (K.faults sink.new) result }
+{
+    let Ok(()) = begin_line(job, caller, request, text) else {
+        return Err(Stop::NoMemory);
+    };
+    end_line(job, reply, text, sink)
 }
 
 /// Makes a call and writes its line. `text` is the line buffer. After an error the world may have made the call.
@@ -54,19 +99,14 @@ pub fn make_call<V: Versions<P = BuiltIn>, K: Sink>(
         OnOk result (AddsEntry (V.log world.old) (V.log world.new) (entry w actor.entry.number request)) }
     ensures faults { FaultsAfter (K.faults sink.old) (K.faults sink.new) result }
 {
-    text.clear();
-    let job = actor.job;
-    let Ok(()) = add_request_line(text, &job.program, &job.script, actor.number, &request) else {
+    let Ok(()) = begin_line(actor.job, actor.number, &request, text) else {
         return Err(Stop::NoMemory);
     };
     let reply = world.call(alloc, actor.number, request);
     if reply.is_no_memory() {
         return Err(Stop::NoMemory);
     }
-    let Ok(()) = add_reply_line(text, &job.program, &job.script, &reply) else {
-        return Err(Stop::NoMemory);
-    };
-    match write_piece(sink, text) {
+    match end_line(actor.job, &reply, text, sink) {
         Ok(()) => Ok(reply),
         Err(stop) => Err(stop),
     }

@@ -76,6 +76,40 @@ fn recompose<V: View, L: Ledger>(
     composition.recompose(alloc, view, steps)
 }
 
+// Composes the program in the open snapshot that the view shows (`Recomposer.recompose`). Returns the report of a good
+// frame, or `None` if there are too many groups. In that case everything kept stays, and the objects stay owed. `blank`
+// is the ledger of the steps, which nothing reads.
+pub fn compose_in<V: View, L: Ledger>(
+    alloc: Global,
+    flags: Flags,
+    composition: &mut Composition,
+    view: &mut V,
+    blank: Blank,
+) -> Result<Option<Report>, Stop>
+    requires ledger { blank.name ≡ L.name }
+    requires parts { blank.parts ≡ L.parts }
+    requires some { 0 < L.parts }
+    ensures told { (k : LastFrame) (m : Map) → IsAt composition.old k (Some m) → V.shows view.old m →
+        let good = frame_of (functions_of composition.old.program.now) k m in
+        IfOk result (λ r. r ≡ option_map (λ g. g.told) good) }
+    ensures left { (k : LastFrame) (m : Map) → IsAt composition.old k (Some m) → V.shows view.old m →
+        let good = frame_of (functions_of composition.old.program.now) k m in
+        OnOk result (IsAt composition.new (kept_after k good) (Some m)) }
+    ensures calls { (k : LastFrame) (m : Map) → IsAt composition.old k (Some m) → V.shows view.old m →
+        let good = frame_of (functions_of composition.old.program.now) k m in
+        OnOk result (MadeCalls flags k good composition.new.ops) }
+    ensures program { composition.new.program ≡ composition.old.program }
+    ensures fault { result ≢ Err Stop.WriteFault }
+{
+    let (book, share) = blank.open();
+    let mut steps: Steps<L> = Steps::new(book, share);
+    match recompose(alloc, flags, composition, view, &mut steps) {
+        Ok(report) => Ok(Some(report)),
+        Err(FrameStop::TooManyGroups) => Ok(None),
+        Err(_) => Err(Stop::NoMemory),
+    }
+}
+
 /// Composes the program in the caller's open snapshot `name` (`Recomposer.recompose`). Returns the report of a good
 /// frame, or `None` if there are too many groups. In that case everything kept stays, and the objects stay owed. `blank`
 /// is the ledger of the steps, which nothing reads.
@@ -344,9 +378,9 @@ fn write_good_frame<K: Sink>(
     }
 }
 
-// Writes what a frame prints: the report, the calls on an applier and the tree of a good frame, or the line of a refused
-// one.
-fn write_frame<K: Sink>(
+/// Writes what a frame prints: the report, the calls on an applier and the tree of a good frame, or the line of a refused
+/// one.
+pub fn write_frame<K: Sink>(
     alloc: Global,
     flags: Flags,
     report: &Option<Report>,

@@ -5,7 +5,7 @@
 //! rules of this project.
 //! Promises: the bytes written are those of `run_text`, the lines of the history that the steps make in the plain world,
 //! or a first part of them after an error. The log of the world, if it has one, grows by that history and by the reads
-//! that each frame owes. `replay` makes the calls of a history again, and writes the lines of the history.
+//! that each frame owes. `replay` writes the lines of a history from its calls and their replies.
 #![tactic(auto)]
 
 mod calls;
@@ -13,6 +13,7 @@ mod frame;
 mod job;
 mod memory;
 mod open;
+mod recorded;
 mod replaying;
 mod steps;
 mod write_lines;

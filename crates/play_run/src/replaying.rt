@@ -1,26 +1,70 @@
-// The lines of a history, written by making its calls again.
-ghost use Rattle.std.specs.Prelude.{◌≡◌, ◌≤◌, List, ℕ, [], ◌∷◌, Option, Some, None, Err, length};
+// The lines of a history, written from its calls and their replies.
+ghost use Rattle.std.specs.Prelude.{◌≡◌, ◌++◌, ◌∷◌, List, ℕ, [], zero, false, Option, Some, None, Err, IfOk, OnOk};
+ghost use Rattle.std.specs.Option.{option_map};
+ghost use Rattle.rt_values.specs.Maps.{Map};
+ghost use Rattle.rt_groups.specs.Frames.{LastFrame, no_last_frame};
+ghost use Rattle.compose_model.specs.Frame.{frame as frame_at};
+ghost use Rattle.composer.specs.FrameDrafts.{functions_of};
+ghost use Rattle.recomposer.specs.Compositions.{IsAt};
 ghost use Rattle.snap_policy.specs.Table.{table};
-ghost use Rattle.snap_api.specs.World.{World, start, IsLegal};
-ghost use Rattle.script_lang.specs.StepCalls.{opening_world, entry};
-ghost use Rattle.script_lang.specs.Lines.{Standing, initial_standing, lines, ends_frame};
-ghost use Rattle.woven_laws.specs.FramesInTurn.{OpenFrame, AreInTurn};
-ghost use Rattle.play_run.specs.RunPromise.{WritesBytes, FaultsAfter, job_style, style_of, job_functions};
+ghost use Rattle.snap_api.specs.World.{IsLegal};
+ghost use Rattle.script_lang.specs.StepCalls.{opening_world};
+ghost use Rattle.script_lang.specs.Lines.{Standing, initial_standing, lines, frame_lines, kept_after, ends_frame};
+ghost use Rattle.woven_laws.specs.FramesInTurn.{AreInTurn};
+ghost use Rattle.woven_laws.specs.PrintedHistory.{printed_history};
+ghost use Rattle.play_run.specs.RunPromise.{WritesBytes, FaultsAfter, job_style, job_functions};
 ghost use Rattle.play_run.specs.RunState.{flat};
-ghost use Rattle.play_run.specs.ReplayState.{IsReplay, IsInTurn, name_of, PlaysCall};
+ghost use Rattle.play_run.specs.RecordedReads.{AgreesWith};
+ghost use Rattle.play_run.specs.CallsInFrames.{frame_by, is_frame_read, object_asked, value_given, IsInTurn};
+ghost use Rattle.play_run.specs.ReplayState.{as_open, frame_of, IsAnswered, IsReplay, PlaysCall};
 
-use crate::calls::{JobActor, make_call};
-use crate::frame::{finish_frame, note_frame};
+use crate::calls::write_call;
+use crate::frame::{compose_in, note_frame, write_frame};
 use crate::job::Job;
-use crate::memory::RunMemory;
-use crate::open::set_up_world;
+use crate::memory::WATCHER;
+use crate::recorded::RecordedReads;
 use crate::write_lines::Stop;
+use lang_checks::Checked;
+use recomposer::Composition;
 use rt_streams::Sink;
-use rt_values::{Caller, Name};
+use rt_values::{Caller, Name, NoMemory, ObjectNo, Value};
 use script_lang::Flags;
-use snap_api::{Entry, Request, Versions};
-use snap_policy::BuiltIn;
+use snap_api::{Entry, Reply, Request};
 use std::alloc::Global;
+use std::marker::Brand;
+use std::sync::ledger::Blank;
+
+// An open frame: the caller that took its snapshot, and the number of the snapshot.
+#[derive(Clone, Copy)]
+struct ReplayFrame {
+    caller: Caller,
+    name: Name,
+}
+
+// What a replay keeps between calls: the composition, the line buffer, and the reads of the open frame so far.
+#[derive(Drop)]
+struct ReplayMemory<'p> {
+    composition: Composition<'p>,
+    text: Vec<u8>,
+    reads: RecordedReads,
+}
+
+impl<'p> ReplayMemory<'p> {
+    // Creates the state before the first call.
+    fn new(alloc: Global, program: &'p Checked) -> Result<Self, NoMemory>
+        ensures composition { IfOk result (λ m. IsAt m.composition no_last_frame None) }
+        ensures program { IfOk result (λ m. m.composition.program.now ≡ program.now) }
+        ensures reads { IfOk result (λ m. m.reads.reads.items ≡ []) }
+        ensures given { IfOk result (λ m. m.reads.given ≡ zero) }
+    {
+        let composition = Composition::new(alloc, program, WATCHER)?;
+        Ok(ReplayMemory {
+            composition,
+            text: Vec::new(alloc),
+            reads: RecordedReads::new(alloc),
+        })
+    }
+}
 
 // Checks whether a request disposes the snapshot `name`.
 fn is_dispose(request: &Request, name: Name) -> bool
@@ -32,106 +76,215 @@ fn is_dispose(request: &Request, name: Name) -> bool
     }
 }
 
-// Makes a call again while no frame is open. Returns the snapshot that the call takes for a frame, if it takes one.
-fn replay_outside<V: Versions<P = BuiltIn>, K: Sink>(
+// Returns the object that a call reads in the snapshot of the open frame, if it is such a read of the frame's caller.
+fn object_asked(frame: ReplayFrame, call: &Entry) -> Option<ObjectNo>
+    ensures { result ≡ object_asked (as_open frame) call.now.caller call.now.request }
+{
+    match &call.request {
+        Request::Read { name, object } => {
+            if frame.caller == call.caller && frame.name == *name {
+                return Some(*object);
+            }
+            None
+        }
+        _ => None,
+    }
+}
+
+// Returns the frame that `caller` began with the snapshot `name`, if there is one.
+fn begun_frame(caller: Caller, name: Option<Name>) -> Option<ReplayFrame>
+    ensures { frame_of result ≡ option_map (frame_by caller) name }
+{
+    match name {
+        Some(name) => Some(ReplayFrame { caller, name }),
+        None => None,
+    }
+}
+
+// Returns the value that a read gave, or the number 0 if there is no such object.
+fn into_value(reply: Reply) -> Value
+    ensures { result ≡ value_given reply }
+{
+    match reply {
+        Reply::Got(value) => value,
+        _ => Value::Int(0),
+    }
+}
+
+// Composes a frame from its reads, and writes its lines.
+fn compose_again<K: Sink>(
     alloc: Global,
-    actor: JobActor,
-    request: Request,
-    memory: &mut RunMemory,
-    world: &mut V,
+    flags: Flags,
+    memory: &mut ReplayMemory,
     sink: &mut K,
-) -> Result<Option<Name>, Stop>
-    ensures plays { (s : Standing) → IsReplay (job_functions actor.entry.job.now) V.stands world.old memory.old None s →
-        PlaysCall (style_of actor.entry) (job_functions actor.entry.job.now) V.stands world.new memory.new
-        (K.written sink.old) (K.written sink.new) None s (entry s.world actor.entry.number request) result }
+) -> Result<(), Stop>
+    ensures says { (k : LastFrame) (m : Map) → IsAt memory.old.composition k (Some m) →
+        AgreesWith m memory.old.reads.reads.items → memory.old.reads.given ≡ zero →
+        let good = frame_at (functions_of memory.old.composition.program.now) k m in
+        WritesBytes (K.written sink.old) (K.written sink.new) (flat (frame_lines flags k good)) result }
+    ensures left { (k : LastFrame) (m : Map) → IsAt memory.old.composition k (Some m) →
+        AgreesWith m memory.old.reads.reads.items → memory.old.reads.given ≡ zero →
+        let good = frame_at (functions_of memory.old.composition.program.now) k m in
+        OnOk result (IsAt memory.new.composition (kept_after k good) (Some m)) }
+    ensures program { memory.new.composition.program ≡ memory.old.composition.program }
+    ensures reads { memory.new.reads.reads.items ≡ [] }
+    ensures given { memory.new.reads.given ≡ zero }
     ensures faults { FaultsAfter (K.faults sink.old) (K.faults sink.new) result }
 {
-    match make_call(alloc, actor, request, &mut memory.text, world, sink) {
-        Ok(reply) => Ok(note_frame(reply, &mut memory.composition)),
+    let composed = compose_in::<RecordedReads, Brand>(
+        alloc,
+        flags,
+        &mut memory.composition,
+        &mut memory.reads,
+        Blank::new(1),
+    );
+    memory.reads.clear();
+    match composed {
+        Ok(report) => write_frame(
+            alloc,
+            flags,
+            &report,
+            &memory.composition,
+            &mut memory.text,
+            sink,
+        ),
         Err(stop) => Err(stop),
     }
 }
 
-// Makes a call again while the frame with this snapshot is open. Returns the snapshot if the frame stays open.
-fn replay_inside<V: Versions<P = BuiltIn>, K: Sink>(
-    alloc: Global,
-    actor: JobActor,
-    name: Name,
-    request: Request,
-    memory: &mut RunMemory,
-    world: &mut V,
+// Goes past a call while no frame is open: writes its line. Returns the frame that the call begins, if it begins one.
+fn replay_outside<K: Sink>(
+    job: &Job,
+    flags: Flags,
+    call: Entry,
+    memory: &mut ReplayMemory,
     sink: &mut K,
-) -> Result<Option<Name>, Stop>
-    ensures plays { (f : OpenFrame) (s : Standing) → f.name ≡ name →
-        IsReplay (job_functions actor.entry.job.now) V.stands world.old memory.old (Some f) s →
-        IsInTurn (Some f) (entry s.world actor.entry.number request) →
-        PlaysCall (style_of actor.entry) (job_functions actor.entry.job.now) V.stands world.new memory.new
-        (K.written sink.old) (K.written sink.new) (Some f) s (entry s.world actor.entry.number request) result }
+) -> Result<Option<ReplayFrame>, Stop>
+    ensures plays { (s : Standing) → IsReplay (job_functions job.now) memory.old None s →
+        IsAnswered s.world call →
+        PlaysCall (job_style job.now flags) (job_functions job.now) memory.new
+        (K.written sink.old) (K.written sink.new) None s call result }
     ensures faults { FaultsAfter (K.faults sink.old) (K.faults sink.new) result }
 {
-    if is_dispose(&request, name) {
-        return match finish_frame(alloc, actor, name, memory, world, sink) {
-            Ok(()) => Ok(None),
-            Err(stop) => Err(stop),
+    let Entry {
+        caller,
+        request,
+        reply,
+    } = call;
+    match write_call(job, caller, &request, &reply, &mut memory.text, sink) {
+        Ok(()) => {
+            let name = note_frame(reply, &mut memory.composition);
+            Ok(begun_frame(caller, name))
+        }
+        Err(stop) => Err(stop),
+    }
+}
+
+// Goes past a printed call while a frame is open: writes its line, and composes the frame if the call ends it. Returns
+// the frame if it stays open.
+fn print_inside<K: Sink>(
+    alloc: Global,
+    job: &Job,
+    flags: Flags,
+    frame: ReplayFrame,
+    call: &Entry,
+    memory: &mut ReplayMemory,
+    sink: &mut K,
+) -> Result<Option<ReplayFrame>, Stop>
+    ensures plays { (s : Standing) → IsReplay (job_functions job.now) memory.old (Some (as_open frame)) s →
+        IsAnswered s.world call.now → IsInTurn (Some (as_open frame)) call.now →
+        is_frame_read (Some (as_open frame)) call.now ≡ false →
+        PlaysCall (job_style job.now flags) (job_functions job.now) memory.new
+        (K.written sink.old) (K.written sink.new) (Some (as_open frame)) s call.now result }
+    ensures faults { FaultsAfter (K.faults sink.old) (K.faults sink.new) result }
+{
+    match write_call(
+        job,
+        call.caller,
+        &call.request,
+        &call.reply,
+        &mut memory.text,
+        sink,
+    ) {
+        Ok(()) => {
+            if !is_dispose(&call.request, frame.name) {
+                return Ok(Some(frame));
+            }
+            match compose_again(alloc, flags, memory, sink) {
+                Ok(()) => Ok(None),
+                Err(stop) => Err(stop),
+            }
+        }
+        Err(stop) => Err(stop),
+    }
+}
+
+// Goes past a call while a frame is open: records the call if it is a read of the frame, or else prints it. Returns the
+// frame if it stays open.
+fn replay_inside<K: Sink>(
+    alloc: Global,
+    job: &Job,
+    flags: Flags,
+    frame: ReplayFrame,
+    call: Entry,
+    memory: &mut ReplayMemory,
+    sink: &mut K,
+) -> Result<Option<ReplayFrame>, Stop>
+    ensures plays { (s : Standing) → IsReplay (job_functions job.now) memory.old (Some (as_open frame)) s →
+        IsAnswered s.world call → IsInTurn (Some (as_open frame)) call →
+        PlaysCall (job_style job.now flags) (job_functions job.now) memory.new
+        (K.written sink.old) (K.written sink.new) (Some (as_open frame)) s call result }
+    ensures faults { FaultsAfter (K.faults sink.old) (K.faults sink.new) result }
+{
+    if let Some(object) = object_asked(frame, &call) {
+        let Ok(()) = memory.reads.record(object, into_value(call.reply)) else {
+            return Err(Stop::NoMemory);
         };
+        return Ok(Some(frame));
     }
-    match make_call(alloc, actor, request, &mut memory.text, world, sink) {
-        Ok(_) => Ok(Some(name)),
-        Err(stop) => Err(stop),
-    }
+    print_inside(alloc, job, flags, frame, &call, memory, sink)
 }
 
-// Makes a call again, and composes the frame that it ends. Returns the snapshot of the frame that is open then.
-fn replay_call<V: Versions<P = BuiltIn>, K: Sink>(
+// Goes past a call. Returns the frame that is open then.
+fn replay_call<K: Sink>(
     alloc: Global,
-    actor: JobActor,
-    frame: Option<Name>,
-    request: Request,
-    memory: &mut RunMemory,
-    world: &mut V,
+    job: &Job,
+    flags: Flags,
+    frame: Option<ReplayFrame>,
+    call: Entry,
+    memory: &mut ReplayMemory,
     sink: &mut K,
-) -> Result<Option<Name>, Stop>
-    ensures plays { (o : Option OpenFrame) (s : Standing) → name_of o ≡ frame →
-        IsReplay (job_functions actor.entry.job.now) V.stands world.old memory.old o s →
-        IsInTurn o (entry s.world actor.entry.number request) →
-        PlaysCall (style_of actor.entry) (job_functions actor.entry.job.now) V.stands world.new memory.new
-        (K.written sink.old) (K.written sink.new) o s (entry s.world actor.entry.number request) result }
+) -> Result<Option<ReplayFrame>, Stop>
+    ensures plays { (s : Standing) → IsReplay (job_functions job.now) memory.old (frame_of frame) s →
+        IsAnswered s.world call → IsInTurn (frame_of frame) call →
+        PlaysCall (job_style job.now flags) (job_functions job.now) memory.new
+        (K.written sink.old) (K.written sink.new) (frame_of frame) s call result }
     ensures faults { FaultsAfter (K.faults sink.old) (K.faults sink.new) result }
 {
     match frame {
-        Some(name) => replay_inside(alloc, actor, name, request, memory, world, sink),
-        None => replay_outside(alloc, actor, request, memory, world, sink),
+        Some(frame) => replay_inside(alloc, job, flags, frame, call, memory, sink),
+        None => replay_outside(job, flags, call, memory, sink),
     }
 }
 
-// Returns the call of an entry, without its reply.
-fn into_call(entry: Entry) -> (Caller, Request)
-    ensures { result ≡ (entry.caller, entry.request) }
-{
-    (entry.caller, entry.request)
-}
-
-// Makes the calls of a history again, one after the other.
-fn replay_calls<V: Versions<P = BuiltIn>, K: Sink>(
+// Goes past all calls of a history, one after the other.
+fn replay_calls<K: Sink>(
     alloc: Global,
     job: &Job,
     flags: Flags,
     calls: Vec<Entry>,
-    memory: &mut RunMemory,
-    world: &mut V,
+    memory: &mut ReplayMemory,
     sink: &mut K,
 ) -> Result<(), Stop>
-    ensures says { (s : Standing) → IsReplay (job_functions job.now) V.stands world.old memory.old None s →
-        IsLegal table s.world calls.items → AreInTurn None calls.items →
+    ensures says { (s : Standing) → IsReplay (job_functions job.now) memory.old None s →
+        IsLegal table s.world calls.items → AreInTurn None (printed_history calls.items) →
         WritesBytes (K.written sink.old) (K.written sink.new)
-        (flat (lines (job_style job.now flags) (job_functions job.now) s calls.items)) result }
+        (flat (lines (job_style job.now flags) (job_functions job.now) s (printed_history calls.items))) result }
     ensures faults { FaultsAfter (K.faults sink.old) (K.faults sink.new) result }
 {
     let mut frame = None;
     for call in calls {
-        let (number, request) = into_call(call);
-        let actor = JobActor { job, flags, number };
-        match replay_call(alloc, actor, frame, request, memory, world, sink) {
+        match replay_call(alloc, job, flags, frame, call, memory, sink) {
             Ok(left) => frame = left,
             Err(stop) => return Err(stop),
         }
@@ -139,31 +292,28 @@ fn replay_calls<V: Versions<P = BuiltIn>, K: Sink>(
     Ok(())
 }
 
-/// Writes the lines of a history: makes its calls again in a new world, each by its caller, and composes each frame in
-/// its own snapshot. `calls` are the printed calls of a legal history in which frames are in turn. `flags` say what is
-/// printed of a frame. Fails if the sink fails or the process is out of memory.
-pub fn replay<V: Versions<P = BuiltIn>, K: Sink>(
+/// Writes the lines of a history: the line of each printed call from its request and its reply, and the lines of each
+/// frame, which is composed again from the values that its reads gave. No call is made.
+///
+/// `calls` is a whole legal history, with the reads of frames, and its frames are in turn. `flags` say what is printed
+/// of a frame. Fails if the sink fails, if the process is out of memory, or with `NoMemory` if a frame ends without all
+/// the reads of its composition.
+pub fn replay<K: Sink>(
     alloc: Global,
     job: &Job,
     flags: Flags,
     calls: Vec<Entry>,
-    world: &mut V,
     sink: &mut K,
 ) -> Result<(), Stop>
-    requires start { V.stands world.old (start 0) }
-    requires few { length job.now.program.states.items ≤ 256 }
     requires legal { IsLegal table (opening_world job.now.program.states.items) calls.items }
-    requires turn { AreInTurn None calls.items }
-    ensures says { let states = job.now.program.states.items in
+    requires turn { AreInTurn None (printed_history calls.items) }
+    ensures says { let standing = initial_standing job.now.program.states.items in
         WritesBytes (K.written sink.old) (K.written sink.new)
-        (flat (lines (job_style job.now flags) (job_functions job.now) (initial_standing states) calls.items)) result }
+        (flat (lines (job_style job.now flags) (job_functions job.now) standing (printed_history calls.items))) result }
     ensures faults { FaultsAfter (K.faults sink.old) (K.faults sink.new) result }
 {
-    let Ok(mut memory) = RunMemory::new(alloc, &job.program) else {
+    let Ok(mut memory) = ReplayMemory::new(alloc, &job.program) else {
         return Err(Stop::NoMemory);
     };
-    let Ok(()) = set_up_world(alloc, &job.program, world) else {
-        return Err(Stop::NoMemory);
-    };
-    replay_calls(alloc, job, flags, calls, &mut memory, world, sink)
+    replay_calls(alloc, job, flags, calls, &mut memory, sink)
 }

@@ -12,7 +12,9 @@ use Rattle.script_lang.specs.Lines.{LineStyle, initial_standing, standing_after,
 use Rattle.script_lang.specs.StepCalls.{script_parts, opening_world}
 use Rattle.woven_laws.specs.FramesInTurn.{OpenFrame, frame_opened, AreInTurn}
 use Rattle.woven_laws.specs.Laws.{CanBeCompleted, text_of}
+use Rattle.woven_laws.specs.PrintedHistory.{printed_history}
 use Rattle.woven_laws.specs.Woven.{initial_actor}
+use Rattle.woven_laws.proofs.Prints.{printed_is_legal}
 use Rattle.woven_laws.proofs.Rests.{part_is_completed}
 use Rattle.woven_laws.proofs.Steps.{nothing_is_spelled}
 use Rattle.woven_laws.proofs.Weaves.{text_goes_on, lines_tell_the_history}
@@ -66,40 +68,35 @@ in_turn_part (Some f) (e ∷ es) more t = by (ends_frame (f.name ∷ []) e.reque
   by true t ended going = (t.0, ended t.1)
   by false t ended going = (t.0, going t.1)
 
-pub legal_part : (w : World BuiltIn) (h more : History) → IsLegal table w (h ++ more) → IsLegal table w h
-legal_part w [] more l = tt
-legal_part w (e ∷ es) more l = (l.0, legal_part (call table w e.caller e.request).0 es more l.1)
-
 pub text_tells : TextTellsItsHistory
 text_tells style functions forms h k names a b e =
     lines_tell_the_history style functions (length style.titles.actors) names (initial_standing style.titles.states) (initial_actor (script_parts style.titles.actors forms)) h k a.legal b.legal a.woven b.woven e
 
--- Frames are in turn in the calls that the actors of a job made.
-pub calls_in_turn : (job : Job) (end : ActorsEnd) → StatesFit job.program.states.items → HasNoFault job → AreActorsCalls job end → AreInTurn None end.calls.items
+-- Frames are in turn in the printed calls of the actors of a job.
+pub calls_in_turn : (job : Job) (end : ActorsEnd) → StatesFit job.program.states.items → HasNoFault job → AreActorsCalls job end → AreInTurn None (printed_history end.calls.items)
 calls_in_turn job end fit fault made =
     let states = job.program.states.items in
     let forms = job.script.forms.items in
+    let h = printed_history end.calls.items in
     let more = made.part.0 in
-    in_turn_part None end.calls.items more
-    (frames_are_in_turn states None forms (end.calls.items ++ more) (valid_opening states fit) fault.fine made.part.1
-    (subst (λ (actors : List (List ℕ)). IsWoven (length actors) (initial_actor (script_parts actors forms)) (end.calls.items ++ more)) fault.actors made.part.2))
+    in_turn_part None h more
+    (frames_are_in_turn states None forms (h ++ more) (valid_opening states fit) fault.fine made.part.1
+    (subst (λ (actors : List (List ℕ)). IsWoven (length actors) (initial_actor (script_parts actors forms)) (h ++ more)) fault.actors made.part.2))
 
 -- A first part of the lines of the calls, or all of them.
 module _ (job : Job) (flags : Flags) (end : ActorsEnd) (made : AreActorsCalls job end) where
   abbrev made_text : List ℕ
-  made_text = text_of (job_style job flags) (job_functions job) (initial_standing job.program.states.items) end.calls.items
+  made_text = text_of (job_style job flags) (job_functions job) (initial_standing job.program.states.items) (printed_history end.calls.items)
 
   pub part_is_written : {T E : Type 0} (e : E) (before now : Option (List ℕ)) → AppendsPart before now made_text → WritesWovenText {T = T} before now flags job (Err e)
   part_is_written e before now part =
-      let whole = whole_text (job_style job flags) (job_functions job) job.script.forms.items end.calls.items made.part in
+      let whole = whole_text (job_style job flags) (job_functions job) job.script.forms.items (printed_history end.calls.items) made.part in
       (made_text ++ whole.0, whole.1, record { all = tt; part = part-front before now made_text whole.0 part })
-
-  pub nothing_is_written : {T E : Type 0} (e : E) (written : Option (List ℕ)) → WritesWovenText {T = T} written written flags job (Err e)
-  nothing_is_written e written = part_is_written e written written (part-none written made_text)
 
   pub all_is_written : {T E : Type 0} (t : T) (before now : Option (List ℕ)) → end.short ≡ false → Appends before now made_text → WritesWovenText {T = T} {E = E} before now flags job (Ok t)
   all_is_written t before now whole done =
-      (made_text, record { history = end.calls.items; possible = record { legal = made.legal; woven = made.woven whole }; is = refl }, record { all = done; part = tt })
+      let legal = (printed_is_legal table (opening_world job.program.states.items) end.calls.items made.legal).0 in
+      (made_text, record { history = printed_history end.calls.items; possible = record { legal = legal; woven = made.woven whole }; is = refl }, record { all = done; part = tt })
 
 -- If nothing was made, nothing is written.
 pub none_is_written : {T E : Type 0} (e : E) (job : Job) (flags : Flags) (written : Option (List ℕ)) → WritesWovenText {T = T} written written flags job (Err e)

@@ -4,15 +4,17 @@ use Rattle.snap_policy.specs.Table.{table}
 use Rattle.snap_api.specs.World.{IsLegal}
 use Rattle.script_lang.specs.StepCalls.{script_parts, opening_world}
 use Rattle.woven_laws.specs.Laws.{CanBeCompleted}
+use Rattle.woven_laws.specs.PrintedHistory.{printed_history}
 use Rattle.woven_laws.specs.Woven.{initial_actor, IsWoven}
 use Rattle.play_actors.specs.declared.actors.ActorsEnd.{ActorsEnd}
 use Rattle.play_run.specs.declared.job.Job.{Job}
 
--- The calls can be continued to a legal and woven history, and are one if no actor ran out of memory.
+-- The history is legal. Its printed calls can be continued to a legal and woven history, and are one if no actor ran out
+-- of memory.
 pub record AreActorsCalls (job : Job) (end : ActorsEnd) : Type 0 where
   pub part : CanBeCompleted (length job.script.actors.items)
       (script_parts job.script.actors.items job.script.forms.items) (opening_world job.program.states.items)
-      end.calls.items
+      (printed_history end.calls.items)
   pub legal : IsLegal table (opening_world job.program.states.items) end.calls.items
   pub woven : end.short ≡ false → IsWoven (length job.script.actors.items)
-      (initial_actor (script_parts job.script.actors.items job.script.forms.items)) end.calls.items
+      (initial_actor (script_parts job.script.actors.items job.script.forms.items)) (printed_history end.calls.items)

@@ -47,7 +47,7 @@ fn run_job<R: Threads + Wait + Sync, G: Gate + Sync>(
     run_actors(rt, alloc, job, world, gate)
 }
 
-// Writes the lines of the calls that the actors made, by playing them again on a second world.
+// Writes the lines of the calls that the actors made.
 fn write_calls<K: Sink>(
     alloc: Global,
     job: &Job,
@@ -55,17 +55,13 @@ fn write_calls<K: Sink>(
     end: ActorsEnd,
     sink: &mut K,
 ) -> Result<(), Stop>
-    requires few { length job.now.program.states.items ≤ 256 }
     requires fine { HasNoFault job.now }
     requires calls { AreActorsCalls job.now end }
     ensures says { WritesWovenText (K.written sink.old) (K.written sink.new) flags job.now result }
     ensures faults { FaultsAfter (K.faults sink.old) (K.faults sink.new) result }
 {
     let ActorsEnd { calls, short } = end;
-    let Ok(mut world) = RecordWorld::new(alloc) else {
-        return Err(Stop::NoMemory);
-    };
-    match replay(alloc, job, flags, calls, &mut world, sink) {
+    match replay(alloc, job, flags, calls, sink) {
         Ok(()) => {
             if short {
                 return Err(Stop::NoMemory);

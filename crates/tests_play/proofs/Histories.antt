@@ -1,4 +1,4 @@
--- Histories whose calls are made again.
+-- Histories whose lines are written from their calls and replies.
 use Rattle.std.proofs.Common.{◌≡◌, ℕ, List, [], ◌∷◌, Option, Some, refl, sym, ap, ◌∙◌, subst}
 use Rattle.std.specs.Option.{option_map, unwrap_or}
 use Rattle.snap_policy.specs.Rules.{Rules}

@@ -1,11 +1,13 @@
-// Histories whose calls are made again.
-ghost use Rattle.std.specs.Prelude.{◌≡◌, ◌≤◌, [], ◌∷◌, Option, Some, None, true, length, IfOk, IfSome};
+// Histories whose lines are written from their calls and replies.
+ghost use Rattle.std.specs.Prelude.{◌≡◌, ◌≤◌, ◌×◌, [], ◌∷◌, Option, Some, None, true, length, IfOk, IfSome};
 ghost use Rattle.std.specs.Option.{option_map};
 ghost use Rattle.snap_policy.specs.Table.{table};
-ghost use Rattle.snap_api.specs.World.{History, IsLegal};
+ghost use Rattle.snap_api.specs.World.{IsLegal};
 ghost use Rattle.script_lang.specs.StepCalls.{opening_world};
 ghost use Rattle.script_lang.specs.Lines.{ends_frame, frame_taken};
 ghost use Rattle.woven_laws.specs.FramesInTurn.{OpenFrame, AreInTurn, frame_opened};
+ghost use Rattle.woven_laws.specs.PrintedHistory.{printed_history};
+ghost use Rattle.play_run.specs.CallsInFrames.{frame_after, IsInTurn};
 
 use crate::programs::parse_program;
 use lang_checks::check;
@@ -75,9 +77,9 @@ fn disposes(call: &Entry, name: Name) -> bool
 
 // Returns the frame that is open after `call`, or `None` if the call is out of turn.
 fn next_frame(frame: Option<(Caller, Name)>, call: &Entry) -> Option<Option<(Caller, Name)>>
-    ensures { IfSome result (λ next. (more : History) →
-        AreInTurn (option_map (λ f. record { caller = f.0; name = f.1 }) next) more →
-        AreInTurn (option_map (λ f. record { caller = f.0; name = f.1 }) frame) (call.now ∷ more)) }
+    ensures { let open = option_map (λ f. record { caller = f.0; name = f.1 }) frame in
+        IfSome result (λ next. IsInTurn open call.now
+        × (option_map (λ f. record { caller = f.0; name = f.1 }) next ≡ frame_after open call.now)) }
 {
     let begun = begun_frame(call);
     let Some((caller, name)) = frame else {
@@ -95,7 +97,7 @@ fn next_frame(frame: Option<(Caller, Name)>, call: &Entry) -> Option<Option<(Cal
 
 // Checks whether frames are in turn.
 fn is_in_turn(calls: &[Entry]) -> bool
-    ensures { result ≡ true → AreInTurn None calls.now }
+    ensures { result ≡ true → AreInTurn None (printed_history calls.now) }
 {
     let mut frame = None;
     let mut rest = calls;
@@ -124,27 +126,17 @@ fn make_calls(alloc: Global, job: &Job, calls: &Vec<(Caller, Request)>) -> Resul
     Ok(entries)
 }
 
-// Makes the calls of a history again. Returns the bytes that are written.
+// Writes the lines of a history. Returns the bytes that are written.
 fn lines_of(alloc: Global, job: &Job, flags: Flags, calls: Vec<Entry>) -> Result<Vec<u8>, Fail>
-    requires few { length job.now.program.states.items ≤ 256 }
     requires legal { IsLegal table (opening_world job.now.program.states.items) calls.items }
-    requires turn { AreInTurn None calls.items }
+    requires turn { AreInTurn None (printed_history calls.items) }
 {
-    let mut world = PlainWorld::<BuiltIn>::new(alloc)?;
     let mut sink = MemSink::new(alloc, 4096, 4096, Vec::new(alloc))?;
-    let _ = replay(alloc, job, flags, calls, &mut world, &mut sink);
+    let _ = replay(alloc, job, flags, calls, &mut sink);
     Ok(sink.bytes().to_vec(alloc)?)
 }
 
-// Checks whether `call` reads this snapshot.
-fn reads(call: &Entry, frame: Option<Name>) -> bool {
-    match &call.request {
-        Request::Read { name, .. } => frame == Some(*name),
-        _ => false,
-    }
-}
-
-// Runs the script of a job. Returns its calls without the reads of frames, and the bytes that are written.
+// Runs the script of a job. Returns its calls with the reads of frames, and the bytes that are written.
 fn run_with_calls(
     alloc: Global,
     job: &Job,
@@ -157,24 +149,20 @@ fn run_with_calls(
     let mut sink = MemSink::new(alloc, 4096, 4096, Vec::new(alloc))?;
     let _ = run_script(alloc, job, flags, &mut world, &mut sink);
     let (_, entries) = world.into_parts();
-    let mut frame = None;
     let mut calls = Vec::new(alloc);
     for entry in entries {
-        if let Some((_, name)) = begun_frame(&entry) {
-            frame = Some(name);
-        }
-        if !reads(&entry, frame) {
-            calls.push((entry.caller, entry.request))?;
-        }
+        calls.push((entry.caller, entry.request))?;
     }
     Ok((calls, sink.bytes().to_vec(alloc)?))
 }
 
-// Returns calls of `other` while a frame of `main` is open, and a frame of `other` after it.
+// Returns calls of `other` while a frame of `main` is open and between the reads of this frame, and a frame of `other`
+// after it.
 fn interleaved_calls(alloc: Global) -> Result<Vec<(Caller, Request)>, Fail> {
-    let (a, main, other) = (0, 0, 1);
+    let (a, t, main, other) = (0, 1, 0, 1);
     let frame = || Request::TakeFor { watcher: 0 };
     let read = |name| Request::Read { name, object: a };
+    let read_text = |name| Request::Read { name, object: t };
     let write = |name, value| Request::Write {
         name,
         object: a,
@@ -191,11 +179,14 @@ fn interleaved_calls(alloc: Global) -> Result<Vec<(Caller, Request)>, Fail> {
         (other, write(2, 6)),
         (other, Request::Apply { name: 2 }),
         (main, read(0)),
+        (main, read_text(1)),
         (other, Request::TakeFor { watcher: 1 }),
         (other, write(1, 9)),
         (other, read(1)),
+        (main, read(1)),
         (main, Request::Dispose { name: 1 }),
         (other, frame()),
+        (other, read(3)),
         (other, Request::Dispose { name: 3 }),
     ]?)
 }
@@ -209,7 +200,7 @@ fn parse_job(alloc: Global, text: &[u8]) -> Result<Job, Fail> {
 }
 
 #[test]
-fn calls_made_again_write_the_same_lines(rt: HostRuntime) -> Result<(), Fail> {
+fn calls_and_replies_give_the_lines_of_a_run(rt: HostRuntime) -> Result<(), Fail> {
     let alloc = rt.alloc();
     let job = parse_job(alloc, TWO_ACTORS)?;
     assert!(rt; job.program.states().len() <= 256);

@@ -1,22 +1,24 @@
-use Rattle.std.proofs.Common.{◌∙◌}
-use Rattle.script_lang.specs.StepCalls.{entry}
-use Rattle.play_run.specs.RunPromise.{style_of, job_functions}
-use Rattle.play_run.specs.ReplayState.{IsReplay, IsInTurn, PlaysCall}
-use Rattle.play_run.proofs.Replays.{inside, outside}
+use Rattle.std.proofs.Common.{subst, sym, Option, Some, None, ◌≡◌}
+use Rattle.snap_policy.specs.Table.{table}
+use Rattle.snap_api.specs.World.{call}
+use Rattle.play_run.specs.RunPromise.{job_style, job_functions}
+use Rattle.play_run.specs.CallsInFrames.{IsInTurn}
+use Rattle.play_run.specs.ReplayState.{frame_of, IsAnswered, IsReplay, PlaysCall}
+use Rattle.play_run.specs.declared.replaying.ReplayFrame.{ReplayFrame}
 use Rattle.play_run.proofs.replaying.replay_call.Goals as goal
 
 pub returns-in-Some-clause-plays : goal.returns-in-Some-clause-plays
-returns-in-Some-clause-plays g c o s named =
-    let fs = job_functions c.args.actor.job.now in
-    let e = entry s.world c.args.actor.number c.args.request in
-    inside (λ o. IsReplay fs g.V.Versions.stands c.args.world.now c.args.memory.now o s → IsInTurn o e →
-    PlaysCall (style_of c.args.actor) fs g.V.Versions.stands c.replay_inside.new.world c.replay_inside.new.memory (g.K.Sink.written c.args.sink.now) (g.K.Sink.written c.replay_inside.new.sink) o s e c.replay_inside.result)
-    o c.in-Some.name (named ∙ c.in-Some.is) (λ f same. c.replay_inside.ensures.plays f s same)
+returns-in-Some-clause-plays g c s =
+    let fs = job_functions c.args.job.now in
+    let e = c.args.call in
+    subst (λ (o : Option ReplayFrame). IsReplay fs c.args.memory.now (frame_of o) s → IsAnswered s.world e → IsInTurn (frame_of o) e →
+    PlaysCall (job_style c.args.job.now c.args.flags) fs c.replay_inside.new.memory (g.K.Sink.written c.args.sink.now) (g.K.Sink.written c.replay_inside.new.sink) (frame_of o) s e c.replay_inside.result)
+    (sym c.in-Some.is) (c.replay_inside.ensures.plays s)
 
 pub returns-in-None-clause-plays : goal.returns-in-None-clause-plays
-returns-in-None-clause-plays g c o s named =
-    let fs = job_functions c.args.actor.job.now in
-    let e = entry s.world c.args.actor.number c.args.request in
-    outside (λ o. IsReplay fs g.V.Versions.stands c.args.world.now c.args.memory.now o s → IsInTurn o e →
-    PlaysCall (style_of c.args.actor) fs g.V.Versions.stands c.replay_outside.new.world c.replay_outside.new.memory (g.K.Sink.written c.args.sink.now) (g.K.Sink.written c.replay_outside.new.sink) o s e c.replay_outside.result)
-    o (named ∙ c.in-None.is) (λ h turn. c.replay_outside.ensures.plays s h)
+returns-in-None-clause-plays g c s =
+    let fs = job_functions c.args.job.now in
+    let e = c.args.call in
+    subst (λ (o : Option ReplayFrame). IsReplay fs c.args.memory.now (frame_of o) s → IsAnswered s.world e → IsInTurn (frame_of o) e →
+    PlaysCall (job_style c.args.job.now c.args.flags) fs c.replay_outside.new.memory (g.K.Sink.written c.args.sink.now) (g.K.Sink.written c.replay_outside.new.sink) (frame_of o) s e c.replay_outside.result)
+    (sym c.in-None.is) (λ h legal turn. c.replay_outside.ensures.plays s h legal)

@@ -1,10 +1,7 @@
 use Rattle.lang_ast.specs.SyntaxView.{functions_view}
 use Rattle.play_run.proofs.Openings.{program-fits}
-use Rattle.play_threads.proofs.Texts.{calls_in_turn, part_is_written, nothing_is_written, all_is_written, whole_part}
+use Rattle.play_threads.proofs.Texts.{calls_in_turn, part_is_written, all_is_written, whole_part}
 use Rattle.play_threads.proofs.threads.write_calls.Goals as goal
-
-pub returns-in_default-clause-says : goal.returns-in_default-clause-says
-returns-in_default-clause-says g c = nothing_is_written c.args.job.now c.args.flags c.args.end c.requires.calls _ _
 
 pub replay-requires-clause-turn : goal.replay-requires-clause-turn
 replay-requires-clause-turn g c =
