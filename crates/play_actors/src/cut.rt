@@ -1,5 +1,5 @@
 // The end of a history at a frame that ran out of memory.
-ghost use Rattle.std.specs.Prelude.{◌≡◌, ◌++◌, List, false, length};
+ghost use Rattle.std.specs.Prelude.{◌≡◌, ◌++◌, List, false};
 ghost use Rattle.snap_api.specs.declared.data.Entry.{Entry as entry_data};
 
 use rt_values::Name;

@@ -1,5 +1,5 @@
 -- The calls of a frame on an applier without a tree, which never fails.
-use Rattle.std.proofs.Common.{◌≡◌, true, List, Option, Some, None, Result, Ok, Err, OnOk, OnErr, refl, sym, subst, arith}
+use Rattle.std.proofs.Common.{◌≡◌, true, List, Option, Some, None, Result, Ok, Err, OnOk, OnErr, refl, arith}
 use Rattle.rt_groups.specs.Frames.{LastFrame}
 use Rattle.compose_model.specs.Frame.{FrameResult}
 use Rattle.node_tree.specs.NodeTrees.{CursorTree}
@@ -25,10 +25,6 @@ pub calls_unseen : {U : Type 0} (flags : Flags) (k : LastFrame) (good : Option F
 calls_unseen flags k None calls (Ok u) off = tt
 calls_unseen flags k (Some good) calls (Ok u) off = λ on. absurd (off on)
 calls_unseen flags k good calls (Err stop) off = tt
-
--- No calls are printed of a refused frame.
-pub calls_refused : (flags : Flags) (k : LastFrame) (good : Option FrameResult) (calls : List Op) → good ≡ None → MadeCalls flags k good calls
-calls_refused flags k good calls is = subst (λ o. MadeCalls flags k o calls) (sym is) tt
 
 -- An applier whose count of faults stays 0 does not fail.
 pub no_fault : {U : Type 0} (result : Result U FrameStop) → FaultHasCause 0 0 result → result ≡ Err ApplierFault → ⊥

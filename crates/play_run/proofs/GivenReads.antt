@@ -1,5 +1,5 @@
 -- The reads of a frame that were given, and those that are left.
-use Rattle.std.proofs.Common.{◌≡◌, ℕ, zero, suc, ◌<◌, ◌+◌, List, [], ◌∷◌, ◌++◌, length, take, drop, refl, sym, ap, ◌∙◌, append-nil, arith, slice_index_or, slice_set}
+use Rattle.std.proofs.Common.{◌≡◌, ℕ, zero, suc, ◌<◌, ◌+◌, List, [], ◌∷◌, ◌++◌, length, take, drop, refl, ap, ◌∙◌, arith, slice_index_or, slice_set}
 use Rattle.rt_values.specs.Maps.{Map, value_at}
 use Rattle.rt_values.specs.Views.{Extends, Grew}
 use Rattle.rt_values.specs.declared.value.Value.{Value}

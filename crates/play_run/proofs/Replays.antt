@@ -14,10 +14,9 @@ use Rattle.rt_streams.proofs.Parts.{part-front}
 use Rattle.lang_ast.specs.declared.program.State.{State}
 use Rattle.lang_ast.specs.Terms.{Func}
 use Rattle.rt_values.specs.Maps.{Map, no_entry, value_at}
-use Rattle.rt_values.specs.Values.{no_value}
 use Rattle.rt_values.specs.declared.maps.StampedValue.{StampedValue}
 use Rattle.rt_values.specs.declared.value.Value.{Value}
-use Rattle.rt_groups.specs.Frames.{LastFrame, no_last_frame}
+use Rattle.rt_groups.specs.Frames.{no_last_frame}
 use Rattle.compose_model.specs.Frame.{FrameResult, frame}
 use Rattle.snap_policy.specs.declared.policy.BuiltIn.{BuiltIn}
 use Rattle.snap_policy.specs.Table.{table}
@@ -32,7 +31,7 @@ use Rattle.snap_api.specs.declared.data.Reply.TheVariants as reply
 use Rattle.snap_api.specs.declared.data.Request.{Request}
 use Rattle.snap_api.specs.declared.data.Request.TheVariants as request
 use Rattle.snap_api.specs.declared.data.Snapshot.{Snapshot}
-use Rattle.script_lang.specs.StepCalls.{BeginFrame, EndFrame, of_actor, entry, frame_begun, opening_world, watcher_number}
+use Rattle.script_lang.specs.StepCalls.{entry, frame_begun, opening_world, watcher_number}
 use Rattle.script_lang.specs.Lines.{LineStyle, Standing, entry_line, ends_frame, frame_lines, frame_taken, kept_after, lines, lines_at, next, initial_standing}
 use Rattle.script_lang.specs.PrintedCalls.{reads_frame}
 use Rattle.composer.specs.FrameDrafts.{functions_of}
@@ -43,8 +42,8 @@ use Rattle.woven_laws.specs.PrintedHistory.{no_frames, printed_from, printed_his
 use Rattle.play_run.specs.Opening.{StatesFit}
 use Rattle.play_run.specs.RecordedReads.{AgreesWith}
 use Rattle.play_run.specs.CallsInFrames.{frame_by, name_of, caller_of, frames_by, is_frame_read, object_asked, value_given, frame_after, IsInTurn, call_lines, standing_then}
-use Rattle.play_run.specs.ReplayState.{as_open, frame_of, run_from, no_world, IsAnswered, AreFrameReads, IsRecorded, IsReplay, PlaysCall}
-use Rattle.play_run.specs.RunOutput.{Run, part_after, parts_lines}
+use Rattle.play_run.specs.ReplayState.{frame_of, run_from, no_world, IsAnswered, IsRecorded, IsReplay, PlaysCall}
+use Rattle.play_run.specs.RunOutput.{Run}
 use Rattle.play_run.specs.RunState.{IsAtFrame, RunFacts, flat}
 use Rattle.play_run.specs.RunPromise.{WritesBytes}
 use Rattle.play_run.specs.declared.recorded.RecordedReads.{RecordedReads}
@@ -59,7 +58,7 @@ use Rattle.play_run.proofs.PrintedCalls.{Turn, itself, dispose_name, reads_none,
 use Rattle.play_run.proofs.RunLogs.{next_world}
 use Rattle.play_run.proofs.Openings.{lasts-states, opened_facts}
 use Rattle.play_run.proofs.Sequences.{facts_as}
-use Rattle.play_run.proofs.Written.{part_next, says_behind, says_none, appends_none}
+use Rattle.play_run.proofs.Written.{part_next, says_behind, appends_none}
 use Rattle.play_run.proofs.RunParts.{ends_none}
 
 -- A call that does not end the open frame does not dispose its snapshot.

@@ -1,5 +1,5 @@
 -- What the calls of a run add to the log of its world.
-use Rattle.std.proofs.Common.{◌≡◌, inl, inr, ℕ, ◌==◌, not, List, [], ◌∷◌, ◌++◌, map, All, Bool, true, false, cond, Option, Some, None, Result, Ok, Err, OnOk, refl, sym, ap, ◌∙◌, subst, append_assoc, append-nil}
+use Rattle.std.proofs.Common.{◌≡◌, inl, inr, ℕ, ◌==◌, not, List, [], ◌∷◌, ◌++◌, map, All, Bool, true, false, cond, Option, Some, None, Result, Ok, Err, OnOk, IfOk, refl, sym, ap, ◌∙◌, subst, append_assoc, append-nil}
 use Rattle.std.proofs.lemmas.Bool.Decides.{eqb_tells}
 use Rattle.std.proofs.lemmas.List.Elements.{All-nil, All-cons}
 use Rattle.std.proofs.lemmas.List.{append_cancel_left}
@@ -30,7 +30,7 @@ use Rattle.script_lang.specs.Lines.{Titles, Standing, next, kept_after, ends_fra
 use Rattle.script_lang.specs.PrintedCalls.{reads_frame, frames_after, printed}
 use Rattle.play_run.specs.RunLog.{frames_in, owed_reads, ReadsForResult, ReadsOwed, LogsRun}
 use Rattle.play_run.specs.RunOutput.{Run, first_run, run_after_request, parts_after}
-use Rattle.play_run.specs.RunState.{LogSoFar, IsLogged, AddsEntry, FrameReadsLogged, LogsFrameReads}
+use Rattle.play_run.specs.RunState.{HasAsked, LogSoFar, IsLogged, AddsEntry, FrameReadsLogged, LogsFrameReads}
 
 -- A call that had memory is added to the log.
 adds_refused : (old new : Option (List Entry)) (caller : ℕ) (q : Request) (e : Refusal) → is_no_memory (reply.Refused e) ≡ false → Logs old new caller q (reply.Refused e) → AddsEntry old new (record { caller = caller; request = q; reply = reply.Refused e })
@@ -237,6 +237,11 @@ owed_good (Some good) told all xs is same = same
 owed_part : (o : Option FrameResult) (all xs rest : List ℕ) → o ≡ None → xs ++ rest ≡ all → ReadsForResult o all xs
 owed_part o all xs rest is same = subst (λ p. ReadsForResult p all xs) (sym is) (rest, same)
 
+-- A frame without a report was refused.
+no_frame : (o : Option FrameResult) → None ≡ option_map (λ g. g.told) o → o ≡ None
+no_frame None is = refl
+no_frame (Some good) is = absurd cc
+
 module _ (functions : List Func) (stands : World BuiltIn → Type 0) (caller name : ℕ) (k : LastFrame) (m : Map) where
   reads_logged : (old new : Option (List Entry)) (xs : List ℕ) → LogsReadsIn old new caller (Some name) xs → AreLegal table stands old new → ReadsOwed functions (record { kept = k; map = m; reads = xs }) → LogsFrameReads functions stands caller name k m old new
   reads_logged None new xs told legal owed = told
@@ -253,17 +258,24 @@ module _ (functions : List Func) (stands : World BuiltIn → Type 0) (caller nam
       }
 
   -- The reads of a good frame.
-  pub good_logged : (old new : Option (List Entry)) (asked asked' xs : List ℕ) (told : Report) → asked' ≡ asked ++ xs → LogsReadsIn old new caller (Some name) xs → AreLegal table stands old new → asked' ≡ asked ++ owed_reads functions k m → Some told ≡ option_map (λ g. g.told) (frame functions k m) →
+  good_logged : (old new : Option (List Entry)) (asked asked' xs : List ℕ) (told : Report) → asked' ≡ asked ++ xs → LogsReadsIn old new caller (Some name) xs → AreLegal table stands old new → asked' ≡ asked ++ owed_reads functions k m → Some told ≡ option_map (λ g. g.told) (frame functions k m) →
       LogsFrameReads functions stands caller name k m old new
   good_logged old new asked asked' xs told asks logs legal all is =
       reads_logged old new xs logs legal (owed_good (frame functions k m) told (owed_reads functions k m) xs is (append_cancel_left asked xs (owed_reads functions k m) (sym asks ∙ all)))
 
   -- The reads of a refused frame.
-  pub part_logged : (old new : Option (List Entry)) (asked asked' xs : List ℕ) → asked' ≡ asked ++ xs → LogsReadsIn old new caller (Some name) xs → AreLegal table stands old new → Grew asked asked' (owed_reads functions k m) → frame functions k m ≡ None →
+  part_logged : (old new : Option (List Entry)) (asked asked' xs : List ℕ) → asked' ≡ asked ++ xs → LogsReadsIn old new caller (Some name) xs → AreLegal table stands old new → Grew asked asked' (owed_reads functions k m) → frame functions k m ≡ None →
       LogsFrameReads functions stands caller name k m old new
   part_logged old new asked asked' xs asks logs legal grew is =
       reads_logged old new xs logs legal (owed_part (frame functions k m) (owed_reads functions k m) xs grew.rest is
       (append_cancel_left asked (xs ++ grew.rest) (owed_reads functions k m) (sym (append_assoc asked xs grew.rest) ∙ ap (λ l. l ++ grew.rest) (sym asks) ∙ grew.is)))
+
+  -- The reads of a frame, by its result.
+  pub result_logged : {E : Type 0} (r : Result (Option Report) E) (old new : Option (List Entry)) (asked asked' xs : List ℕ) → asked' ≡ asked ++ xs → LogsReadsIn old new caller (Some name) xs → AreLegal table stands old new →
+      IfOk r (HasAsked asked asked' (owed_reads functions k m)) → IfOk r (λ o. o ≡ option_map (λ g. g.told) (frame functions k m)) → OnOk r (LogsFrameReads functions stands caller name k m old new)
+  result_logged (Ok (Some told)) old new asked asked' xs asks logs legal all is = good_logged old new asked asked' xs told asks logs legal all is
+  result_logged (Ok None) old new asked asked' xs asks logs legal part is = part_logged old new asked asked' xs asks logs legal part (no_frame (frame functions k m) is)
+  result_logged (Err e) old new asked asked' xs asks logs legal all is = tt
 
 -- What follows from the state after good steps.
 pub logged_after : {A B : Type 0} → (A → B) → {T E : Type 0} (result : Result T E) → OnOk result A → OnOk result B

@@ -1,5 +1,5 @@
 -- Internal: the proofs of the laws of `RecordedReads`.
-use Rattle.std.specs.Prelude.{◌≡◌, ℕ, List, [], ◌++◌}
+use Rattle.std.specs.Prelude.{ℕ, List, [], ◌++◌}
 use Rattle.std.proofs.Common.{sym, ap, ◌∙◌, append-nil, append_assoc}
 use Rattle.rt_values.specs.Views.{Extends}
 

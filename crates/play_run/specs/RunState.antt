@@ -2,7 +2,9 @@
 use Rattle.std.specs.Prelude.{◌≡◌, ◌≢◌, ◌⊎◌, ◌<◌, ◌≤◌, ◌+◌, ℕ, List, [], ◌∷◌, ◌++◌, All, true, false, length, map, Option, Some, None, Result, OnOk}
 use Rattle.std.specs.List.{flat_map}
 use Rattle.rt_values.specs.Maps.{Map}
+use Rattle.rt_values.specs.Views.{Grew}
 use Rattle.rt_groups.specs.Frames.{LastFrame}
+use Rattle.rt_groups.specs.declared.report.Report.{Report}
 use Rattle.lang_ast.specs.Terms.{Func}
 use Rattle.compose_model.specs.Frame.{FrameResult}
 use Rattle.node_tree.specs.declared.ops.Op.{Op}
@@ -81,6 +83,11 @@ IsLogged functions r (Some old) now = LogSoFar functions r old now
 abbrev pub AddsEntry : Option (List Entry) → Option (List Entry) → Entry → Type 0
 AddsEntry None new e = new ≡ None
 AddsEntry (Some old) new e = new ≡ Some (old ++ e ∷ [])
+
+-- The list of reads grew by all reads that a good frame owes, or by a first part of them if the frame was refused.
+abbrev pub HasAsked : List ℕ → List ℕ → List ℕ → Option Report → Type 0
+HasAsked asked asked' reads (Some told) = asked' ≡ asked ++ reads
+HasAsked asked asked' reads None = Grew asked asked' reads
 
 -- A log grew by the reads of a frame after the kept state `k` in the map `m`. Their replies are those of each represented
 -- plain world, which they do not change, and the frame read what it owes.

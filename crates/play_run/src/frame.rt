@@ -22,7 +22,7 @@ ghost use Rattle.script_lang.specs.GroupLines.{group_lines, open_after, group_li
 ghost use Rattle.script_lang.specs.GroupJson.{group_json, json_after_group};
 ghost use Rattle.play_run.specs.RunOutput.{Run, parts_of, parts_lines, parts_after, shown_ops, json_line, shown_groups};
 ghost use Rattle.play_run.specs.RunPromise.{style_of, job_functions};
-ghost use Rattle.play_run.specs.RunState.{IsRun, MadeCalls, LogsFrameReads, RunsParts, flat};
+ghost use Rattle.play_run.specs.RunState.{HasAsked, IsRun, MadeCalls, LogsFrameReads, RunsParts, flat};
 ghost use Rattle.play_run.specs.RunPromise.{WritesBytes, FaultsAfter};
 
 use crate::calls::{JobActor, make_call, run_calls};
@@ -89,6 +89,7 @@ pub fn compose_in<V: View, L: Ledger>(
     requires ledger { blank.name ≡ L.name }
     requires parts { blank.parts ≡ L.parts }
     requires some { 0 < L.parts }
+    ensures keeps { V.keeps view.old view.new }
     ensures told { (k : LastFrame) (m : Map) → IsAt composition.old k (Some m) → V.shows view.old m →
         let good = frame_of (functions_of composition.old.program.now) k m in
         IfOk result (λ r. r ≡ option_map (λ g. g.told) good) }
@@ -98,6 +99,9 @@ pub fn compose_in<V: View, L: Ledger>(
     ensures calls { (k : LastFrame) (m : Map) → IsAt composition.old k (Some m) → V.shows view.old m →
         let good = frame_of (functions_of composition.old.program.now) k m in
         OnOk result (MadeCalls flags k good composition.new.ops) }
+    ensures asks { (k : LastFrame) (m : Map) → IsAt composition.old k (Some m) → V.shows view.old m →
+        let reads = frame_reads composition.old.program.now k m in
+        IfOk result (λ r. HasAsked (V.asked view.old) (V.asked view.new) reads r) }
     ensures program { composition.new.program ≡ composition.old.program }
     ensures fault { result ≢ Err Stop.WriteFault }
 {
@@ -146,15 +150,9 @@ pub fn compose<V: Versions<P = BuiltIn>, L: Ledger>(
     ensures names { memory.new.names ≡ memory.old.names }
     ensures fault { result ≢ Err Stop.WriteFault }
 {
-    let (book, share) = blank.open();
-    let mut steps: Steps<L> = Steps::new(book, share);
     memory.reads.clear();
     let mut desk = OwnDesk::new(world, &mut memory.reads, caller, Some(name));
-    match recompose(alloc, flags, &mut memory.composition, &mut desk, &mut steps) {
-        Ok(report) => Ok(Some(report)),
-        Err(FrameStop::TooManyGroups) => Ok(None),
-        Err(_) => Err(Stop::NoMemory),
-    }
+    compose_in::<_, L>(alloc, flags, &mut memory.composition, &mut desk, blank)
 }
 
 // Writes the line of a report. `text` is the line buffer.

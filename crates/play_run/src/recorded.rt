@@ -1,5 +1,5 @@
 // The reads of a frame with their values, as a view that answers the same reads again.
-ghost use Rattle.std.specs.Prelude.{◌≡◌, ◌++◌, ◌∷◌, ◌<◌, ◌+◌, [], OnOk, length, map, take, drop, zero, true, slice_index_or};
+ghost use Rattle.std.specs.Prelude.{◌≡◌, ◌++◌, ◌∷◌, ◌<◌, ◌+◌, [], OnOk, length, take, drop, zero, true, slice_index_or};
 ghost use Rattle.rt_values.specs.Views.{Extends};
 ghost use Rattle.play_run.specs.RecordedReads.{AgreesWith, objects_read};
 ghost use Rattle.play_run.specs.RecordedReadsLaws.{extends_itself, extends_on};

@@ -1,5 +1,5 @@
 // The lines of a history, written from its calls and their replies.
-ghost use Rattle.std.specs.Prelude.{◌≡◌, ◌++◌, ◌∷◌, List, ℕ, [], zero, false, Option, Some, None, Err, IfOk, OnOk};
+ghost use Rattle.std.specs.Prelude.{◌≡◌, ◌∷◌, [], zero, false, Option, Some, None, Err, IfOk, OnOk};
 ghost use Rattle.std.specs.Option.{option_map};
 ghost use Rattle.rt_values.specs.Maps.{Map};
 ghost use Rattle.rt_groups.specs.Frames.{LastFrame, no_last_frame};

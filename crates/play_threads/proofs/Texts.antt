@@ -6,8 +6,7 @@ use Rattle.rt_streams.proofs.Parts.{part-none, part-front}
 use Rattle.lang_ast.specs.Terms.{Func}
 use Rattle.lang_ast.specs.declared.script.DoForm.{DoForm}
 use Rattle.snap_policy.specs.Table.{table}
-use Rattle.snap_api.specs.World.{World, History, IsLegal, call}
-use Rattle.snap_policy.specs.declared.policy.BuiltIn.{BuiltIn}
+use Rattle.snap_api.specs.World.{History}
 use Rattle.script_lang.specs.Lines.{LineStyle, initial_standing, standing_after, ends_frame, frame_taken}
 use Rattle.script_lang.specs.StepCalls.{script_parts, opening_world}
 use Rattle.woven_laws.specs.FramesInTurn.{OpenFrame, frame_opened, AreInTurn}

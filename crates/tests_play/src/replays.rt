@@ -5,9 +5,9 @@ ghost use Rattle.snap_policy.specs.Table.{table};
 ghost use Rattle.snap_api.specs.World.{IsLegal};
 ghost use Rattle.script_lang.specs.StepCalls.{opening_world};
 ghost use Rattle.script_lang.specs.Lines.{ends_frame, frame_taken};
-ghost use Rattle.woven_laws.specs.FramesInTurn.{OpenFrame, AreInTurn, frame_opened};
+ghost use Rattle.woven_laws.specs.FramesInTurn.{AreInTurn, frame_opened};
 ghost use Rattle.woven_laws.specs.PrintedHistory.{printed_history};
-ghost use Rattle.play_run.specs.CallsInFrames.{frame_after, IsInTurn};
+ghost use Rattle.play_run.specs.CallsInFrames.{frame_by, frame_after, IsInTurn};
 
 use crate::programs::parse_program;
 use lang_checks::check;
@@ -56,7 +56,7 @@ report: ran 1, calculated 0, reads 1, groups 4, nodes 2
 
 // Returns the caller and the snapshot of the frame that `call` begins.
 fn begun_frame(call: &Entry) -> Option<(Caller, Name)>
-    ensures { option_map (λ f. record { caller = f.0; name = f.1 }) result
+    ensures { option_map (λ f. frame_by f.0 f.1) result
         ≡ frame_opened call.now.caller (frame_taken call.now.request call.now.reply) }
 {
     match (&call.request, &call.reply) {
@@ -77,9 +77,9 @@ fn disposes(call: &Entry, name: Name) -> bool
 
 // Returns the frame that is open after `call`, or `None` if the call is out of turn.
 fn next_frame(frame: Option<(Caller, Name)>, call: &Entry) -> Option<Option<(Caller, Name)>>
-    ensures { let open = option_map (λ f. record { caller = f.0; name = f.1 }) frame in
-        IfSome result (λ next. IsInTurn open call.now
-        × (option_map (λ f. record { caller = f.0; name = f.1 }) next ≡ frame_after open call.now)) }
+    ensures { let before = option_map (λ f. frame_by f.0 f.1) frame in
+        IfSome result (λ next. IsInTurn before call.now
+        × (option_map (λ f. frame_by f.0 f.1) next ≡ frame_after before call.now)) }
 {
     let begun = begun_frame(call);
     let Some((caller, name)) = frame else {
@@ -191,6 +191,14 @@ fn interleaved_calls(alloc: Global) -> Result<Vec<(Caller, Request)>, Fail> {
     ]?)
 }
 
+// Checks whether a call reads the state `t` in the snapshot of the first frame.
+fn reads_text(call: &(Caller, Request)) -> bool {
+    match &call.1 {
+        Request::Read { name, object } => *name == 1 && *object == 1,
+        _ => false,
+    }
+}
+
 // Parses a job.
 fn parse_job(alloc: Global, text: &[u8]) -> Result<Job, Fail> {
     let (program, rest) = parse_program(alloc, text)?;
@@ -223,5 +231,24 @@ fn calls_and_replies_give_the_lines_of_a_run(rt: HostRuntime) -> Result<(), Fail
     assert!(rt; is_in_turn(&made));
     let lines = lines_of(alloc, &job, plain, made)?;
     assert!(rt; lines.as_slice() == INTERLEAVED_LINES);
+    Ok(())
+}
+
+#[test]
+fn lines_end_at_a_frame_that_lacks_a_read(rt: HostRuntime) -> Result<(), Fail> {
+    let alloc = rt.alloc();
+    let job = parse_job(alloc, TWO_ACTORS)?;
+    assert!(rt; job.program.states().len() <= 256);
+    let plain = Flags {
+        ops: false,
+        json: false,
+    };
+    let mut calls = interleaved_calls(alloc)?;
+    calls.retain(|call| !reads_text(call));
+    let made = make_calls(alloc, &job, &calls)?;
+    assert!(rt; is_in_turn(&made));
+    let lines = lines_of(alloc, &job, plain, made)?;
+    assert!(rt; INTERLEAVED_LINES.starts_with(&lines));
+    assert!(rt; lines.ends_with(b"main: dispose @1 = disposed\n"));
     Ok(())
 }

@@ -1,6 +1,4 @@
-use Rattle.std.proofs.Common.{subst, sym, Option, Some, None, ◌≡◌}
-use Rattle.snap_policy.specs.Table.{table}
-use Rattle.snap_api.specs.World.{call}
+use Rattle.std.proofs.Common.{subst, sym, Option}
 use Rattle.play_run.specs.RunPromise.{job_style, job_functions}
 use Rattle.play_run.specs.CallsInFrames.{IsInTurn}
 use Rattle.play_run.specs.ReplayState.{frame_of, IsAnswered, IsReplay, PlaysCall}

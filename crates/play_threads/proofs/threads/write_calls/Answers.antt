@@ -10,11 +10,11 @@ replay-requires-clause-turn g c =
 
 pub returns-then-short-clause-says : goal.returns-then-short-clause-says
 returns-then-short-clause-says g c =
-    part_is_written c.args.job.now c.args.flags c.args.end c.requires.calls _ _ _ (whole_part _ _ _ c.in-Ok-replay.ensures.says.all)
+    part_is_written c.args.job.now c.args.flags c.args.end c.requires.calls _ _ _ (whole_part _ _ _ c.in-Ok.ensures.says.all)
 
-pub returns-in-Ok-replay-clause-says : goal.returns-in-Ok-replay-clause-says
-returns-in-Ok-replay-clause-says g c =
-    all_is_written c.args.job.now c.args.flags c.args.end c.requires.calls _ _ _ c.if-short.false c.in-Ok-replay.ensures.says.all
+pub returns-else-short-clause-says : goal.returns-else-short-clause-says
+returns-else-short-clause-says g c =
+    all_is_written c.args.job.now c.args.flags c.args.end c.requires.calls _ _ _ c.if-short.false c.in-Ok.ensures.says.all
 
-pub returns-clause-says : goal.returns-clause-says
-returns-clause-says g c = part_is_written c.args.job.now c.args.flags c.args.end c.requires.calls _ _ _ c.in-Err.ensures.says.part
+pub returns-in-Err-clause-says : goal.returns-in-Err-clause-says
+returns-in-Err-clause-says g c = part_is_written c.args.job.now c.args.flags c.args.end c.requires.calls _ _ _ c.in-Err.ensures.says.part
