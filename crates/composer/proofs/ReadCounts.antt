@@ -2,13 +2,13 @@
 use Rattle.std.proofs.Common.{ℕ, ◌+◌, ◌++◌, ◌≤◌, ◌≡◌, List, length, length-append, ap, Result, Ok, Err, OnOk, arith}
 
 -- Reads that the view was asked for and that the innermost call made.
-pub counted_after : {U E : Type 0} (result : Result U E) (w now : ℕ) (r r1 r2 a a1 a2 xs : List ℕ) → a1 ≡ a ++ xs → r1 ≡ r ++ xs → OnOk result (now + length r2 + length a1 ≡ w + length r1 + length a2) →
-    OnOk result (now + length r2 + length a ≡ w + length r + length a2)
-counted_after (Ok u) w now r r1 r2 a a1 a2 xs e1 e2 h =
+pub counted_after : {U E : Type 0} (result : Result U E) (w now : ℕ) (own own1 own2 a a1 a2 xs : List ℕ) → a1 ≡ a ++ xs → own1 ≡ own ++ xs → OnOk result (now + length own2 + length a1 ≡ w + length own1 + length a2) →
+    OnOk result (now + length own2 + length a ≡ w + length own + length a2)
+counted_after (Ok u) w now own own1 own2 a a1 a2 xs e1 e2 h =
     let f1 = ap (λ (l : List ℕ). length l) e1 in
     let f2 = ap (λ (l : List ℕ). length l) e2 in
-    omega (arith, h, f1, f2, length-append a xs, length-append r xs)
-counted_after (Err x) w now r r1 r2 a a1 a2 xs e1 e2 h = tt
+    omega (arith, h, f1, f2, length-append a xs, length-append own xs)
+counted_after (Err x) w now own own1 own2 a a1 a2 xs e1 e2 h = tt
 
 -- Lengths of lists that grow.
 pub longer_on : {U E : Type 0} (result : Result U E) (a b c : ℕ) → a ≤ b → OnOk result (b ≤ c) → OnOk result (a ≤ c)
@@ -16,10 +16,10 @@ longer_on (Ok u) a b c h k = omega (arith, h, k)
 longer_on (Err x) a b c h k = tt
 
 -- The same for a cell, whose keys read `xs` and whose calculation reads on. The writer has `was` reads after the cell.
-pub counted_cell : {U E : Type 0} (result : Result U E) (w was now : ℕ) (r r1 r2 r3 a a1 a2 a3 xs : List ℕ) → a1 ≡ a ++ xs → r1 ≡ r ++ xs → length r2 + length a1 ≡ length r1 + length a2 → was ≡ w →
-    OnOk result (now + length r3 + length a2 ≡ was + length r2 + length a3) → OnOk result (now + length r3 + length a ≡ w + length r + length a3)
-counted_cell (Ok u) w was now r r1 r2 r3 a a1 a2 a3 xs e1 e2 e3 e4 h =
+pub counted_cell : {U E : Type 0} (result : Result U E) (w was now : ℕ) (own own1 own2 own3 a a1 a2 a3 xs : List ℕ) → a1 ≡ a ++ xs → own1 ≡ own ++ xs → length own2 + length a1 ≡ length own1 + length a2 → was ≡ w →
+    OnOk result (now + length own3 + length a2 ≡ was + length own2 + length a3) → OnOk result (now + length own3 + length a ≡ w + length own + length a3)
+counted_cell (Ok u) w was now own own1 own2 own3 a a1 a2 a3 xs e1 e2 e3 e4 h =
     let f1 = ap (λ (l : List ℕ). length l) e1 in
     let f2 = ap (λ (l : List ℕ). length l) e2 in
-    omega (arith, h, e3, e4, f1, f2, length-append a xs, length-append r xs)
-counted_cell (Err x) w was now r r1 r2 r3 a a1 a2 a3 xs e1 e2 e3 e4 h = tt
+    omega (arith, h, e3, e4, f1, f2, length-append a xs, length-append own xs)
+counted_cell (Err x) w was now own own1 own2 own3 a a1 a2 a3 xs e1 e2 e3 e4 h = tt

@@ -1,7 +1,5 @@
 -- Trusted: the parts of a `RecordWorld`.
-use Rattle.std.specs.Prelude.{◌≡◌, ℕ, ◌<◌, Bool, [], length, slice_index_or, slice_get, true, Some, IsSome, List, Option}
-use Rattle.std.specs.Option.{option_map}
-use Rattle.snap_api.specs.World.{World}
+use Rattle.std.specs.Prelude.{◌≡◌, ℕ, ◌<◌, Bool, [], length, slice_index_or, slice_get, true, Some, IsSome, List}
 use Rattle.rt_values.specs.declared.maps.StampedValue.{StampedValue}
 use Rattle.rt_values.specs.declared.value.Value.{Value}
 use Rattle.snap_policy.specs.Rules.{Rules}
