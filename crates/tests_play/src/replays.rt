@@ -1,5 +1,5 @@
 // Histories whose lines are written from their calls and replies.
-ghost use Rattle.std.specs.Prelude.{◌≡◌, ◌≤◌, ◌×◌, [], ◌∷◌, Option, Some, None, true, length, IfOk, IfSome};
+ghost use Rattle.std.specs.Prelude.{◌≡◌, ◌≤◌, [], ◌∷◌, Option, Some, None, true, length, IfOk, IfSome};
 ghost use Rattle.std.specs.Option.{option_map};
 ghost use Rattle.snap_policy.specs.Table.{table};
 ghost use Rattle.snap_api.specs.World.{IsLegal};
