@@ -58,15 +58,24 @@ FAULTS = [
 ]
 
 
+def changes(text):
+    """Returns how often the line of a call is of another actor than the line before it."""
+    actors = [line.split(b":")[0] for line in text.splitlines()]
+    return sum(1 for one, next_one in zip(actors, actors[1:]) if one != next_one)
+
+
 def test(command, run_command, tally):
     """Tests `threads` by `run`."""
     def run(data):
         return run_command(command + ["run"], data)[1]
 
     wanted = outputs(run, CONFLICT)
+    woven = 0
     for _ in range(40):
         status, text = run_command(command + ["threads"], CONFLICT)
         tally.judge("threads, two actors", (status, text if text in wanted else b"another output"), (0, text))
+        woven += changes(text) > 2
+    tally.judge("threads, two actors take turns", (0, b"in %d of 40 runs" % woven), (0, b"in %d of 40 runs" % max(woven, 4)))
     for _ in range(3):
         counter(command, run_command, tally)
     for data, fault in FAULTS:

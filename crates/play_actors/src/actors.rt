@@ -21,7 +21,9 @@ use snap_api::{Entry, LogWorld, Versions};
 use snap_policy::BuiltIn;
 use snap_shared::{Seat, Shared};
 use std::alloc::Global;
+use std::hint;
 use std::sync::Wait;
+use std::sync::atomic::{AtomicUsize, Ordering};
 use std::thread::{self, Threads};
 
 /// What the actors of a script have done.
@@ -146,7 +148,29 @@ fn make_steps<V: Versions<P = BuiltIn> + Drop, R: Wait, G: Gate>(
     }
 }
 
-// Lets all actors make their steps at once, each on a thread of its own.
+// How often an actor looks whether all others have started, at most.
+const LOOKS: usize = 2000;
+
+// How long an actor pauses before it looks again, in turns of a loop.
+const PAUSES: usize = 20;
+
+// Counts one more actor that has started, and waits until all have. It does not wait for ever: if there is only one
+// thread, it runs one actor after the other.
+fn wait_for_all(started: &AtomicUsize, actors: usize) {
+    started.fetch_add(1, Ordering::SeqCst);
+    for _ in 0..LOOKS {
+        if started.load(Ordering::SeqCst) >= actors {
+            return;
+        }
+        for _ in 0..PAUSES {
+            hint::spin_loop();
+        }
+        thread::yield_now();
+    }
+}
+
+// Lets all actors make their steps at once, each on a thread of its own. They wait for each other before the first step,
+// since a thread takes longer to start than a short actor to end.
 //
 // Takes no memory itself. An actor that is not short has made all its steps when the call returns, so no steps are left
 // for the caller to make. An actor works by value, since the desk of a frame owns the seat.
@@ -164,6 +188,7 @@ fn run_together<
         (slice_index_or actors.new.items k d).short }
 {
     let threads = actors.len();
+    let started = AtomicUsize::new(0);
     thread::for_each_mut(
         rt,
         actors.as_mut_slice(),
@@ -174,6 +199,7 @@ fn run_together<
                 ActsThrough V.stands shared.entry.now parts
                 actor.entry.now.number actor.exit.now.seat actor.exit.now.short }
         {
+            wait_for_all(&started, threads);
             mem::replace_with(
                 actor,
                 (),

@@ -14,6 +14,10 @@ use snap_policy::BuiltIn;
 use snap_shared::{Seat, Shared};
 use std::alloc::Global;
 use std::sync::Wait;
+use std::thread;
+
+// The number of calls after which an actor no longer lets other threads run.
+const YIELDING_CALLS: u64 = 16;
 
 /// The world, the gate and the number of an actor, which the functions of a worker share.
 #[derive(Drop)]
@@ -37,6 +41,13 @@ pub struct Worker<'p, V> {
     pub(crate) failed: Option<Name>,
 }
 
+// Lets other threads run after one of the first calls of an actor, so that the calls of short actors interleave.
+fn yield_early(call: u64) {
+    if call <= YIELDING_CALLS {
+        thread::yield_now();
+    }
+}
+
 // Makes the call of a part, and notes the reply.
 fn make_call<V: Versions<P = BuiltIn> + Drop, R: Wait, G: Gate>(
     run: &ActorRun<'_, V, R, G>,
@@ -54,6 +65,7 @@ fn make_call<V: Versions<P = BuiltIn> + Drop, R: Wait, G: Gate>(
     let reply = run
         .shared
         .call(run.rt, run.alloc, &mut worker.seat, request);
+    yield_early(worker.step);
     if reply.is_no_memory() {
         worker.short = true;
         return;
