@@ -8,7 +8,8 @@ use Rattle.lang_ast.specs.declared.program.State.{State}
 use Rattle.lang_checks.specs.declared.environment.TypedName.{TypedName}
 use Rattle.lang_checks.specs.Expressions.{ExpressionScope, expr_faults, exprs_faults}
 use Rattle.lang_checks.specs.Statements.{StatementContext, inside, stmt_faults, stmts_faults}
-use Rattle.lang_checks.specs.Numbers.{stmt_sites, stmts_sites, functions_sites, Rises}
+use Rattle.lang_checks.specs.Numbers.{stmt_sites, stmts_sites, functions_sites}
+use Rattle.lang_checks.proofs.RisingSites.{Rises, counts_rise, last_of, last_on, rises_to, rises_apart}
 use Rattle.lang_checks.proofs.Fine.{none_in, held}
 use Rattle.lang_meaning.specs.Skipping.{has_get, have_get}
 use Rattle.recompose_laws.specs.CalculatedCells.{Calculation, StmtCalculates, StmtsCalculate, FunctionsCalculate, calculated_from}
@@ -36,24 +37,6 @@ mutual
   no_gets l (more e es) calculating h =
       let both = none_in _ _ h in
       both_false (has_get e) (have_get es) (no_get l e calculating both.0) (no_gets l es calculating both.1)
-
--- Rising sites.
-
-abbrev last_of : ℕ → List ℕ → ℕ
-last_of k [] = k
-last_of k (x ∷ xs) = last_of x xs
-
-last_on : (k : ℕ) (xs ys : List ℕ) → last_of k (xs ++ ys) ≡ last_of (last_of k xs) ys
-last_on k [] ys = refl
-last_on k (x ∷ xs) ys = last_on x xs ys
-
-rises_to : (k : ℕ) (xs : List ℕ) → Rises k xs → k ≤ last_of k xs
-rises_to k [] h = omega arith
-rises_to k (x ∷ xs) h = let on = rises_to x xs h.1 in omega (arith, on, h.0)
-
-rises_apart : (k : ℕ) (xs ys : List ℕ) → Rises k (xs ++ ys) → Rises k xs × Rises (last_of k xs) ys
-rises_apart k [] ys h = (tt, h)
-rises_apart k (x ∷ xs) ys h = let on = rises_apart x xs ys h.1 in ((h.0, on.0), on.1)
 
 -- A number is outside of the sites from `k` on up to the last.
 abbrev IsOutside : ℕ → ℕ → List ℕ → Type 0
@@ -211,4 +194,4 @@ functions_calculate look states functions me k (f ∷ fs) h a e =
 
 pub calculations_are_by_site : CalculationsAreBySite
 calculations_are_by_site p h e =
-    functions_calculate (functions_calculation p.functions) p.states p.functions 0 0 p.functions h.sites (λ x lt le. refl) (bodies p e)
+    functions_calculate (functions_calculation p.functions) p.states p.functions 0 0 p.functions (counts_rise 0 1 _ (omega arith) h.sites) (λ x lt le. refl) (bodies p e)

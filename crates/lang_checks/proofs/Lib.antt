@@ -5,3 +5,4 @@ pub mod Steps
 pub mod Numbered
 pub mod Fine
 pub mod Capped
+pub mod RisingSites

@@ -25,10 +25,10 @@ abbrev pub functions_sites : List Func → List ℕ
 functions_sites [] = []
 functions_sites (f ∷ fs) = stmts_sites f.body ++ functions_sites fs
 
--- `Rises k xs`: each number is above the number before it, and the first is above `k`.
-abbrev pub Rises : ℕ → List ℕ → Type 0
-Rises k [] = Unit {0}
-Rises k (x ∷ xs) = (k < x) × Rises x xs
+-- `Counts k xs`: the numbers are `k`, `k` + 1, `k` + 2 and so on.
+abbrev pub Counts : ℕ → List ℕ → Type 0
+Counts k [] = Unit {0}
+Counts k (x ∷ xs) = (x ≡ k) × Counts (k + 1) xs
 
 -- A call of `name` by function `me` has the number of the first function with this name, if that function comes before
 -- function `me`.
@@ -57,9 +57,9 @@ abbrev pub FunctionsCalls : List Func → ℕ → List Func → Type 0
 FunctionsCalls functions me [] = Unit {0}
 FunctionsCalls functions me (f ∷ fs) = StmtsCalls functions me f.body × FunctionsCalls functions (me + 1) fs
 
--- The sites of a program rise in the order of the text, from 1 or more since 0 is the site of the root, and its calls
+-- The sites of a program are 1, 2, 3 and so on in the order of the text, since 0 is the site of the root, and its calls
 -- have their numbers. The number of a `get` is not here, since any number that is not that of a state with its name is
 -- a fault.
 pub record IsNumberedProgram (p : Program) : Type 0 where
-  pub sites : Rises 0 (functions_sites p.functions)
+  pub sites : Counts 1 (functions_sites p.functions)
   pub calls : FunctionsCalls p.functions 0 p.functions

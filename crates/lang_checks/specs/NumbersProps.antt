@@ -3,11 +3,11 @@ use Rattle.std.specs.Prelude.{ℕ, ◌+◌, List, [], ◌∷◌}
 use Rattle.std.proofs.Props.{props}
 use Rattle.lang_ast.specs.Terms.{Stmt, Node, Call, Key, If, For, Let, Remember, Stmts, done, next, Func}
 use Rattle.lang_ast.specs.Programs.{Program}
-use Rattle.lang_checks.specs.Numbers.{functions_sites, Rises, HasItsNumber, StmtCalls, StmtsCalls, FunctionsCalls, IsNumberedProgram}
+use Rattle.lang_checks.specs.Numbers.{functions_sites, Counts, HasItsNumber, StmtCalls, StmtsCalls, FunctionsCalls, IsNumberedProgram}
 
-rises-prop : (k : ℕ) (xs : List ℕ) → IsProp (Rises k xs)
-rises-prop k [] = hlevel props
-rises-prop k (x ∷ xs) = let rest = rises-prop x xs in hlevel (props, rest)
+counts-prop : (k : ℕ) (xs : List ℕ) → IsProp (Counts k xs)
+counts-prop k [] = hlevel props
+counts-prop k (x ∷ xs) = let rest = counts-prop (k + 1) xs in hlevel (props, rest)
 
 number-prop : (functions : List Func) (me : ℕ) (name : List ℕ) (number : ℕ) → IsProp (HasItsNumber functions me name number)
 number-prop functions me name number = hlevel props
@@ -41,6 +41,6 @@ functions-prop functions me (f ∷ fs) =
 
 pub numbered-prop : (p : Program) → IsProp (IsNumberedProgram p)
 numbered-prop p =
-    let sites = rises-prop 0 (functions_sites p.functions) in
+    let sites = counts-prop 1 (functions_sites p.functions) in
     let calls = functions-prop p.functions 0 p.functions in
     hlevel (sites, calls)

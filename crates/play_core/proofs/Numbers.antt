@@ -13,39 +13,28 @@ use Rattle.lang_forms.specs.Names.{number_in, number_of}
 use Rattle.lang_forms.specs.Forms.{HasForms, KnownNames, state_name, function_name, site_after, site_after_all, SpelledStmt, SpelledStmts, SpelledFunctions}
 use Rattle.lang_forms.specs.Sources.{Source, parsed_source_view}
 use Rattle.lang_checks.specs.Scopes.{first_named}
-use Rattle.lang_checks.specs.Numbers.{stmt_sites, stmts_sites, functions_sites, Rises, HasItsNumber, StmtCalls, StmtsCalls, FunctionsCalls, IsNumberedProgram}
+use Rattle.lang_checks.specs.Numbers.{stmt_sites, stmts_sites, functions_sites, Counts, HasItsNumber, StmtCalls, StmtsCalls, FunctionsCalls, IsNumberedProgram}
 use Rattle.play_core.proofs.Uniques.{few_functions}
 
--- The last of some numbers, or `k` if there are none.
-abbrev last_of : ℕ → List ℕ → ℕ
-last_of k [] = k
-last_of k (x ∷ xs) = last_of x xs
+counts_on : (k n : ℕ) (xs ys : List ℕ) → Counts k xs → k + length xs ≡ n → Counts n ys → Counts k (xs ++ ys)
+counts_on k n [] ys h many g = subst (λ j. Counts j ys) (sym many ∙ omega arith) g
+counts_on k n (x ∷ xs) ys h many g = (h.0, counts_on (k + 1) n xs ys h.1 (omega (arith, many)) g)
 
-rises_on : (k : ℕ) (xs ys : List ℕ) → Rises k xs → Rises (last_of k xs) ys → Rises k (xs ++ ys)
-rises_on k [] ys h g = g
-rises_on k (x ∷ xs) ys h g = (h.0, rises_on x xs ys h.1 g)
-
-last_on : (k : ℕ) (xs ys : List ℕ) → last_of k (xs ++ ys) ≡ last_of (last_of k xs) ys
-last_on k [] ys = refl
-last_on k (x ∷ xs) ys = last_on x xs ys
-
--- Sites from `k` on and before `n` rise.
+-- Sites from `k` to before `n`.
 abbrev AreSites : List ℕ → ℕ → ℕ → Type 0
-AreSites xs k n = (j : ℕ) → j < k → Rises j xs × (last_of j xs < n)
+AreSites xs k n = Counts k xs × (k + length xs ≡ n)
 
 first_site : (site k n : ℕ) (xs : List ℕ) → site ≡ k → AreSites xs (k + 1) n → AreSites (site ∷ xs) k n
-first_site site k n xs e h j lt = let on = h site (omega (arith, e)) in ((omega (arith, e, lt), on.0), on.1)
+first_site site k n xs e h = ((e, h.0), omega (arith, h.1))
 
 joined_sites : (xs ys : List ℕ) (k n p : ℕ) → AreSites xs k n → AreSites ys n p → AreSites (xs ++ ys) k p
-joined_sites xs ys k n p h g j lt =
-    let here = h j lt in
-    let more = g (last_of j xs) here.1 in
-    (rises_on j xs ys here.0 more.0, subst (λ l. l < p) (sym (last_on j xs ys)) more.1)
+joined_sites xs ys k n p h g =
+    (counts_on k n xs ys h.0 h.1 g.0, let all = length-append xs ys in omega (arith, all, h.1, g.1))
 
 mutual
   stmt_has_sites : (m : KnownNames) (k : ℕ) (s : Stmt) → SpelledStmt m k s → AreSites (stmt_sites s) k (site_after k s)
   stmt_has_sites m k (Node at site n ns body) h = first_site site k _ _ h.0 (stmts_have_sites m (k + 1) body h.3)
-  stmt_has_sites m k (Call at site n function es) h = first_site site k _ [] h.0 (λ j lt. (tt, lt))
+  stmt_has_sites m k (Call at site n function es) h = first_site site k _ [] h.0 (tt, omega arith)
   stmt_has_sites m k (Key at site e body) h = first_site site k _ _ h.0 (stmts_have_sites m (k + 1) body h.2)
   stmt_has_sites m k (If at site e a b) h =
       first_site site k _ _ h.0 (joined_sites (stmts_sites a) (stmts_sites b) (k + 1) (site_after_all (k + 1) a) _ (stmts_have_sites m (k + 1) a h.2) (stmts_have_sites m (site_after_all (k + 1) a) b h.3))
@@ -54,15 +43,15 @@ mutual
   stmt_has_sites m k (Remember at site n ks e body) h = first_site site k _ _ h.0 (stmts_have_sites m (k + 1) body h.4)
 
   stmts_have_sites : (m : KnownNames) (k : ℕ) (ss : Stmts) → SpelledStmts m k ss → AreSites (stmts_sites ss) k (site_after_all k ss)
-  stmts_have_sites m k done h = λ j lt. (tt, lt)
+  stmts_have_sites m k done h = (tt, omega arith)
   stmts_have_sites m k (next s ss) h =
       joined_sites (stmt_sites s) (stmts_sites ss) k (site_after k s) _ (stmt_has_sites m k s h.0) (stmts_have_sites m (site_after k s) ss h.1)
 
-functions_rise : (m : KnownNames) (k j : ℕ) (fs : List Func) → j < k → SpelledFunctions m k fs → Rises j (functions_sites fs)
-functions_rise m k j [] lt h = tt
-functions_rise m k j (f ∷ fs) lt h =
-    let here = stmts_have_sites m k f.body h.2 j lt in
-    rises_on j (stmts_sites f.body) (functions_sites fs) here.0 (functions_rise (record { states = m.states; functions = m.functions ++ function_name f ∷ [] }) (site_after_all k f.body) (last_of j (stmts_sites f.body)) fs here.1 h.3)
+functions_count : (m : KnownNames) (k : ℕ) (fs : List Func) → SpelledFunctions m k fs → Counts k (functions_sites fs)
+functions_count m k [] h = tt
+functions_count m k (f ∷ fs) h =
+    let here = stmts_have_sites m k f.body h.2 in
+    counts_on k (site_after_all k f.body) (stmts_sites f.body) (functions_sites fs) here.0 here.1 (functions_count (record { states = m.states; functions = m.functions ++ function_name f ∷ [] }) (site_after_all k f.body) fs h.3)
 
 abbrev number_found : Option (ℕ × Func) → ℕ
 number_found None = 0
@@ -128,7 +117,7 @@ numbered : (f g : Forest) (t : Source) → HasForms f t → program_limits g t.p
 numbered f g t forms small =
     let known : KnownNames = record { states = map state_name t.program.states; functions = [] } in
     record {
-      sites = functions_rise known 1 0 t.program.functions (omega arith) forms.spelled.functions;
+      sites = functions_count known 1 t.program.functions forms.spelled.functions;
       calls = functions_calls t.program.functions [] t.program.functions known 0 1 refl refl refl (few_functions g t.program small) forms.spelled.functions;
     }
 

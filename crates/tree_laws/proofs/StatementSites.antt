@@ -12,8 +12,9 @@ use Rattle.lang_ast.specs.Programs.{Program}
 use Rattle.lang_checks.specs.declared.environment.TypedName.{TypedName}
 use Rattle.lang_checks.specs.Scopes.{duplicate_faults}
 use Rattle.lang_checks.specs.Statements.{StatementContext, names, stmt_faults, stmts_faults}
-use Rattle.lang_checks.specs.Numbers.{stmt_sites, stmts_sites, functions_sites, Rises, IsNumberedProgram}
+use Rattle.lang_checks.specs.Numbers.{stmt_sites, stmts_sites, functions_sites, IsNumberedProgram}
 use Rattle.lang_checks.specs.ProgramFaults.{program_faults}
+use Rattle.lang_checks.proofs.RisingSites.{Rises, counts_rise, last_of, last_on, rises_to, rises_apart}
 use Rattle.lang_checks.proofs.Fine.{none_in, held}
 use Rattle.checked_laws.proofs.Parts.{parts, BodiesAreFine, bodies}
 
@@ -73,24 +74,6 @@ abbrev mutual
 abbrev pub FunctionsAreTold : (ℕ → Told) → List Func → Type 0
 FunctionsAreTold look [] = Unit {0}
 FunctionsAreTold look (f ∷ fs) = AreTold look f.body × FunctionsAreTold look fs
-
--- Rising sites.
-
-abbrev last_of : ℕ → List ℕ → ℕ
-last_of k [] = k
-last_of k (x ∷ xs) = last_of x xs
-
-last_on : (k : ℕ) (xs ys : List ℕ) → last_of k (xs ++ ys) ≡ last_of (last_of k xs) ys
-last_on k [] ys = refl
-last_on k (x ∷ xs) ys = last_on x xs ys
-
-rises_to : (k : ℕ) (xs : List ℕ) → Rises k xs → k ≤ last_of k xs
-rises_to k [] h = omega arith
-rises_to k (x ∷ xs) h = let on = rises_to x xs h.1 in omega (arith, on, h.0)
-
-rises_apart : (k : ℕ) (xs ys : List ℕ) → Rises k (xs ++ ys) → Rises k xs × Rises (last_of k xs) ys
-rises_apart k [] ys h = (tt, h)
-rises_apart k (x ∷ xs) ys h = let on = rises_apart x xs ys h.1 in ((h.0, on.0), on.1)
 
 -- A site is one of a part whose sites rise from `k`.
 abbrev IsBetween : ℕ → ℕ → List ℕ → Type 0
@@ -281,8 +264,8 @@ abbrev pub look_up : List Func → ℕ → Told
 look_up functions x = functions_told x functions
 
 pub functions_are_told : (p : Program) → IsNumberedProgram p → program_faults p ≡ [] → FunctionsAreTold (look_up p.functions) p.functions
-functions_are_told p h e = functions_told_from (look_up p.functions) p.states p.functions 0 0 p.functions h.sites (λ x v f. f) (bodies p e)
+functions_are_told p h e = functions_told_from (look_up p.functions) p.states p.functions 0 0 p.functions (counts_rise 0 1 _ (omega arith) h.sites) (λ x v f. f) (bodies p e)
 
 -- No statement is at site 0.
 pub none_at_root : (p : Program) (v : Option Shape) → IsNumberedProgram p → look_up p.functions 0 ≡ Some v → ⊥
-none_at_root p v h e = let at = functions_between 0 0 p.functions v h.sites e in omega (arith, at.0)
+none_at_root p v h e = let at = functions_between 0 0 p.functions v (counts_rise 0 1 _ (omega arith) h.sites) e in omega (arith, at.0)
