@@ -42,21 +42,36 @@ fn add_digits(text: &mut Vec<u8>, number: u64) -> Result<(), NoMemory>
     add(text, digits.format(number).as_bytes())
 }
 
+/// Appends a name. Most names have few bytes, which a loop copies faster than a call does.
+#[inline(always)]
+#[tactic(auto, using(crate::proofs::Texts::prefixes))]
+pub fn add_name(text: &mut Vec<u8>, name: &Word) -> Result<(), NoMemory>
+    ensures { OnOk result (text.new.items ≡ text.old.items ++ name.now) }
+{
+    for byte in name.bytes() {
+        text.push(*byte)?;
+    }
+    Ok(())
+}
+
+// Appends the name of a state.
+#[inline(always)]
 fn add_state(text: &mut Vec<u8>, states: &[State], x: ObjectNo) -> Result<(), NoMemory>
     ensures { OnOk result (text.new.items ≡ text.old.items ++ state_name states.now x) }
 {
     match states.get(x as usize) {
-        Some(state) => add(text, state.name.text.bytes()),
+        Some(state) => add_name(text, &state.name.text),
         None => Ok(()),
     }
 }
 
 // Appends the name of an actor.
+#[inline(always)]
 fn add_actor(text: &mut Vec<u8>, actors: &[Word], number: Caller) -> Result<(), NoMemory>
     ensures { OnOk result (text.new.items ≡ text.old.items ++ actor_name actors.now number) }
 {
     match actors.get(number as usize) {
-        Some(name) => add(text, name.bytes()),
+        Some(name) => add_name(text, name),
         None => Ok(()),
     }
 }
@@ -99,8 +114,8 @@ fn type_word(ty: Ty) -> &'static [u8]
     }
 }
 
-// Appends the printed form of a value. A number of one digit needs no buffer.
-fn add_printed(text: &mut Vec<u8>, value: &Value) -> Result<(), NoMemory>
+/// Appends the printed form of a value. A number of one digit needs no buffer.
+pub fn add_printed(text: &mut Vec<u8>, value: &Value) -> Result<(), NoMemory>
     ensures { OnOk result (text.new.items ≡ text.old.items ++ value_text value.now) }
 {
     match value {

@@ -4,7 +4,7 @@ ghost use Rattle.std.specs.Fmt.{decimal};
 ghost use Rattle.script_lang.specs.Lines.{report_line, count_text, work_text, size_text, margin, node_text, node_line, attributes_text, line};
 ghost use Rattle.script_lang.specs.GroupLines.{plain_attribute, node_depth, line_of, is_node};
 
-use crate::line::{add, add_number};
+use crate::line::{add, add_name, add_number, add_printed};
 use rt_groups::{Attribute, Attributes, GroupKind, Report};
 use rt_values::{NoMemory, Word};
 use std::alloc::Global;
@@ -63,9 +63,9 @@ fn add_attributes(text: &mut Vec<u8>, attributes: &[Attribute]) -> Result<(), No
     let mut rest = attributes;
     while let Some((attribute, more)) = rest.split_first() {
         text.push(b' ')?;
-        add(text, attribute.name.bytes())?;
+        add_name(text, &attribute.name)?;
         text.push(b'=')?;
-        attribute.value.put(text)?;
+        add_printed(text, &attribute.value)?;
         rest = more;
     }
     Ok(())
@@ -100,7 +100,7 @@ pub fn add_node_text(
     text.push(b'#')?;
     add_number(text, number)?;
     text.push(b' ')?;
-    add(text, kind.bytes())?;
+    add_name(text, kind)?;
     add_attributes(text, attributes)
 }
 
