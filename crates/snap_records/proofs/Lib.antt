@@ -4,7 +4,7 @@ pub mod Readable
 pub mod Padding
 pub mod Placing
 pub mod Putting
-pub mod Finding
+pub mod Best
 pub mod Clearing
 pub mod Raising
 pub mod PadOver

@@ -1,6 +1,6 @@
 -- Trusted: the chain of each object, as a list of records, and what each call does to the chains.
 use Rattle.std.specs.Prelude.{◌≡◌, ◌≢◌, ◌⊎◌, ℕ, ◌==◌, List, [], ◌∷◌, length, map, slice_get, slice_index_or, slice_set, Option, Some, None, IsSome}
-use Rattle.rt_values.specs.Maps.{contains, no_entry}
+use Rattle.rt_values.specs.Maps.{no_entry}
 use Rattle.rt_values.specs.declared.maps.StampedValue.{StampedValue}
 use Rattle.snap_records.specs.Edits.{record_without_ids, chain_without_ids, record_with_ids, chain_with_ids, with_head_id, Padded, blank}
 use Rattle.snap_records.specs.Records.{Rec, Puts}

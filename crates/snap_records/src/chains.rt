@@ -1,10 +1,10 @@
 // Chains of records in a slab.
-ghost use Rattle.std.specs.Prelude.{◌≡◌, ◌≢◌, ◌<◌, ◌+◌, ◌-◌, ◌==◌, ℕ, Bool, List, [], ◌∷◌, Option, Some, None, length, slice_get, slice_set, slice_index_or, true, IfOk, OnOk, OnErr, IsSome, IfSome, IfNone, if◌then◌else◌, not, ◌&&◌};
+ghost use Rattle.std.specs.Prelude.{◌≡◌, ◌≢◌, ◌<◌, ◌+◌, ◌-◌, ◌==◌, ℕ, Bool, List, [], ◌∷◌, Option, Some, None, length, slice_get, slice_set, slice_index_or, nat_lt, IfOk, OnOk, OnErr, IsSome, IfSome, IfNone, if◌then◌else◌, not, ◌&&◌};
 ghost use Rattle.rt_values.specs.Maps.{contains};
 ghost use Rattle.slab.specs.Slab.{get};
 ghost use Rattle.snap_records.specs.Places.{ArePlaced, AreOnce};
 ghost use Rattle.snap_ids.specs.IdLists.{is_valid};
-ghost use Rattle.snap_records.specs.Edits.{better_of, is_valid_except, readable};
+ghost use Rattle.snap_records.specs.Edits.{is_valid_except, readable};
 ghost use Rattle.std.specs.Option.{option_map};
 
 use crate::{KeptIds, Keys, RecordNo, Slot};
@@ -28,25 +28,41 @@ fn valid_except(own: &IdSet, id: u64, invalid: &IdSet, other: u64) -> bool
     valid(id, invalid, other) && !own.get(other)
 }
 
-// Returns `is_valid`, or false if `own` contains `id`.
-fn except(own: &IdSet, id: u64, is_valid: bool) -> bool
-    ensures { result ≡ (is_valid && not (contains id own.now)) }
-{
-    is_valid && !own.get(id)
-}
-
-// A record with its id.
+// A record with its id. Id 0 stands for no record.
 #[derive(Clone, Copy, Drop)]
 struct Numbered {
     record: RecordNo,
     id: u64,
 }
 
-// Returns the record of `r` if its id is `id`, and else `found`.
-fn with_id(r: Numbered, id: u64, found: Option<RecordNo>) -> Option<RecordNo>
-    ensures { result ≡ (if r.id == id then Some r.record else found) }
+impl Numbered {
+    // Returns no record.
+    fn none() -> Numbered
+        ensures { result.id ≡ 0 }
+    {
+        Numbered {
+            record: RecordNo(0),
+            id: 0,
+        }
+    }
+
+    // Returns the record, if there is one.
+    fn found(self) -> Option<RecordNo>
+        ensures { result ≡ (if self.id == 0 then None else Some self.record) }
+    {
+        if self.id == 0 {
+            None
+        } else {
+            Some(self.record)
+        }
+    }
+}
+
+// Returns `r` if its id is higher than that of `best`, and else `best`.
+fn higher(r: Numbered, best: Numbered) -> Numbered
+    ensures { result ≡ (if nat_lt best.id r.id then r else best) }
 {
-    if r.id == id { Some(r.record) } else { found }
+    if best.id < r.id { r } else { best }
 }
 
 // Inserts a key before those of an object.
@@ -228,89 +244,6 @@ impl Chains {
         }
     }
 
-    // Returns whether the id of `r` is lower than that of `best`. Then `best` is kept, whether `r` is valid or not.
-    fn is_lower(&self, r: Numbered, best: Option<Numbered>) -> bool
-        requires there { IsNumbered self.now r }
-        requires behind { IfSome best (λ b. IsNumbered self.now b) }
-        ensures { result ≡ true → (is_valid : Bool) → better_of is_valid (record_at self.now r.record.0)
-            (option_map (λ b. record_at self.now b.record.0) best)
-            ≡ option_map (λ b. record_at self.now b.record.0) best }
-    {
-        match best {
-            Some(other) => r.id < other.id,
-            None => false,
-        }
-    }
-
-    // Returns `r` if it is valid for the reader and its id is not lower than that of `best`, and else `best`.
-    fn better(&self, r: Numbered, best: Option<Numbered>, is_valid: bool) -> Option<Numbered>
-        requires there { IsNumbered self.now r }
-        requires behind { IfSome best (λ b. IsNumbered self.now b) }
-        ensures is { option_map (λ b. record_at self.now b.record.0) result
-            ≡ better_of is_valid (record_at self.now r.record.0) (option_map (λ b. record_at self.now b.record.0) best) }
-        ensures there { IfSome result (λ b. IsNumbered self.now b) }
-    {
-        if !is_valid {
-            return best;
-        }
-        match best {
-            Some(other) if r.id < other.id => best,
-            _ => Some(r),
-        }
-    }
-
-    // Returns `r` if it is valid for a snapshot and its id is not lower than that of `best`, and else `best`.
-    fn better_for(
-        &self,
-        r: Numbered,
-        best: Option<Numbered>,
-        id: u64,
-        invalid: &IdSet,
-    ) -> Option<Numbered>
-        requires there { IsNumbered self.now r }
-        requires behind { IfSome best (λ b. IsNumbered self.now b) }
-        ensures is { option_map (λ b. record_at self.now b.record.0) result
-            ≡ better_of (is_valid id invalid.now (record_at self.now r.record.0).id) (record_at self.now r.record.0)
-            (option_map (λ b. record_at self.now b.record.0) best) }
-        ensures there { IfSome result (λ b. IsNumbered self.now b) }
-    {
-        if self.is_lower(r, best) {
-            return best;
-        }
-        self.better(r, best, valid(id, invalid, r.id))
-    }
-
-    // Does what `better_for` does for a snapshot's view, and for its base, for which the ids `own` are invalid too.
-    fn better_for_both(
-        &self,
-        r: Numbered,
-        view: Option<Numbered>,
-        base: Option<Numbered>,
-        id: u64,
-        invalid: &IdSet,
-        own: &IdSet,
-    ) -> (Option<Numbered>, Option<Numbered>)
-        requires there { IsNumbered self.now r }
-        requires view_there { IfSome view (λ b. IsNumbered self.now b) }
-        requires base_there { IfSome base (λ b. IsNumbered self.now b) }
-        ensures view { option_map (λ b. record_at self.now b.record.0) result.0
-            ≡ better_of (is_valid id invalid.now (record_at self.now r.record.0).id) (record_at self.now r.record.0)
-            (option_map (λ b. record_at self.now b.record.0) view) }
-        ensures base { option_map (λ b. record_at self.now b.record.0) result.1
-            ≡ better_of (is_valid_except own.now id invalid.now (record_at self.now r.record.0).id)
-            (record_at self.now r.record.0) (option_map (λ b. record_at self.now b.record.0) base) }
-        ensures view_there { IfSome result.0 (λ b. IsNumbered self.now b) }
-        ensures base_there { IfSome result.1 (λ b. IsNumbered self.now b) }
-    {
-        if self.is_lower(r, view) && self.is_lower(r, base) {
-            return (view, base);
-        }
-        let is_valid = valid(id, invalid, r.id);
-        let view = self.better(r, view, is_valid);
-        let base = self.better(r, base, except(own, r.id, is_valid));
-        (view, base)
-    }
-
     /// Returns the readable record of object `x` for a snapshot id and its invalid set (`readable`).
     pub fn readable(&self, x: ObjectNo, id: u64, invalid: &IdSet) -> Option<RecordNo>
         requires { x < length self.now.heads.items }
@@ -318,14 +251,17 @@ impl Chains {
             ≡ readable (is_valid id invalid.now) (chain_of self.now x) }
         ensures there { IfSome result (λ b. IsSome (get self.now.slots b.0)) }
     {
-        let mut best = None;
-        let mut i = self.count(x);
-        while i > 0 {
-            i -= 1;
+        let mut best = Numbered::none();
+        for i in 0..self.count(x) {
             let r = self.numbered(x, i);
-            best = self.better_for(r, best, id, invalid);
+            if best.id < r.id && valid(id, invalid, r.id) {
+                if r.id == id {
+                    return Some(r.record);
+                }
+                best = r;
+            }
         }
-        best.map(|b| b.record)
+        best.found()
     }
 
     /// Returns the readable record of object `x` for a snapshot's base: the snapshot's own ids are invalid too.
@@ -341,14 +277,14 @@ impl Chains {
             ≡ readable (is_valid_except own.now id invalid.now) (chain_of self.now x) }
         ensures there { IfSome result (λ b. IsSome (get self.now.slots b.0)) }
     {
-        let mut best = None;
-        let mut i = self.count(x);
-        while i > 0 {
-            i -= 1;
+        let mut best = Numbered::none();
+        for i in 0..self.count(x) {
             let r = self.numbered(x, i);
-            best = self.better(r, best, valid_except(own, id, invalid, r.id));
+            if best.id < r.id && valid_except(own, id, invalid, r.id) {
+                best = r;
+            }
         }
-        best.map(|b| b.record)
+        best.found()
     }
 
     /// Returns the readable records of object `x` for a snapshot's view and for its base, for which the snapshot's own ids
@@ -368,17 +304,18 @@ impl Chains {
         ensures view_there { IfSome result.0 (λ b. IsSome (get self.now.slots b.0)) }
         ensures base_there { IfSome result.1 (λ b. IsSome (get self.now.slots b.0)) }
     {
-        let mut view = None;
-        let mut base = None;
-        let mut i = self.count(x);
-        while i > 0 {
-            i -= 1;
+        let mut view = Numbered::none();
+        let mut base = Numbered::none();
+        for i in 0..self.count(x) {
             let r = self.numbered(x, i);
-            let both = self.better_for_both(r, view, base, id, invalid, own);
-            view = both.0;
-            base = both.1;
+            if base.id < r.id && valid(id, invalid, r.id) {
+                if !own.get(r.id) {
+                    base = r;
+                }
+                view = higher(r, view);
+            }
         }
-        (view.map(|b| b.record), base.map(|b| b.record))
+        (view.found(), base.found())
     }
 
     /// Overwrites a record. No other record of its object may have the id, unless it is 0.
@@ -532,8 +469,11 @@ impl Chains {
         let mut blank = None;
         for i in 0..self.count(x) {
             let r = self.keep_at(x, i, ids);
-            same = with_id(r, id, same);
-            blank = with_id(r, 0, blank);
+            if r.id == id {
+                same = Some(r.record);
+            } else if r.id == 0 {
+                blank = Some(r.record);
+            }
         }
         match same {
             Some(r) => Some(r),

@@ -1,5 +1,5 @@
 // The ids of the records that a write keeps.
-ghost use Rattle.std.specs.Prelude.{◌≡◌, [], ◌∷◌, ◌++◌, IfOk, OnOk, OnErr};
+ghost use Rattle.std.specs.Prelude.{◌≡◌, [], ◌∷◌, ◌++◌, OnOk, OnErr};
 ghost use Rattle.rt_values.specs.Maps.{contains};
 
 use rt_values::NoMemory;
@@ -22,13 +22,24 @@ impl Model for KeptIds {
 }
 
 impl KeptIds {
-    /// Returns the list with only `id`.
-    pub fn of(alloc: Global, id: u64) -> Result<KeptIds, NoMemory>
-        ensures { IfOk result (λ k. k ≡ id ∷ []) }
+    /// Returns the empty list.
+    #[inline]
+    pub fn new(alloc: Global) -> KeptIds
+        ensures { result ≡ [] }
     {
-        let mut ids = SmallVec::new(alloc);
-        ids.push(id)?;
-        Ok(KeptIds { ids })
+        KeptIds {
+            ids: SmallVec::new(alloc),
+        }
+    }
+
+    /// Makes `id` the only one. After `NoMemory` the list is empty.
+    #[inline]
+    pub fn set_only(&mut self, id: u64) -> Result<(), NoMemory>
+        ensures { OnOk result (self.new ≡ id ∷ []) }
+    {
+        self.ids.clear();
+        self.ids.push(id)?;
+        Ok(())
     }
 
     /// Returns whether the list contains `id`.

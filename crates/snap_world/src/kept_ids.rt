@@ -1,5 +1,5 @@
 // The records of an object that a write must keep.
-ghost use Rattle.std.specs.Prelude.{◌≡◌, ◌≢◌, ℕ, Bool, true, ◌+◌, ◌*◌, ◌<◌, ◌≤◌, ◌⊎◌, if◌then◌else◌, length, IfOk, OnOk, IfSome, IsSome};
+ghost use Rattle.std.specs.Prelude.{◌≡◌, ◌≢◌, ℕ, Bool, true, ◌+◌, ◌*◌, ◌<◌, ◌≤◌, ◌⊎◌, if◌then◌else◌, length, OnOk, IfSome, IsSome};
 ghost use Rattle.std.specs.Option.{option_map};
 ghost use Rattle.slab.specs.Slab.{get};
 ghost use Rattle.rt_values.specs.Maps.{contains};
@@ -12,33 +12,33 @@ ghost use Rattle.snap_laws.specs.Coverage.{AreReadWithin, AreLiveNames, IsNeeded
 use rt_values::{Name, NoMemory, ObjectNo};
 use snap_nested::Family;
 use snap_records::{Chains, KeptIds, RecordNo};
-use std::alloc::Global;
 
-/// Returns the ids of the records of object `x` that a write in the snapshot `name` must keep: the current id of `name`,
-/// the ids of the records that the other live snapshots read, and of those that all but global read for their bases.
+/// Puts into `ids` the ids of the records of object `x` that a write in the snapshot `name` must keep, and no others: the
+/// current id of `name`, the ids of the records that the other live snapshots read, and of those that all but global read
+/// for their bases. After `NoMemory` the list may have some of them.
 pub fn find_kept_ids(
-    alloc: Global,
     family: &Family,
     chains: &Chains,
     x: ObjectNo,
     name: Name,
-) -> Result<KeptIds, NoMemory>
+    ids: &mut KeptIds,
+) -> Result<(), NoMemory>
     requires live { (member family.now.members.items name).is_live ≡ true }
     requires there { x < length chains.now.heads.items }
-    ensures own { IfOk result (λ ids. contains (member family.now.members.items name).id ids ≡ true) }
-    ensures read { IfOk result (λ ids. AreReadWithin (ids_of family.now.members.items) name
-        (chain_of chains.now x) ids) }
-    ensures needed { IfOk result (λ ids. (i : ℕ) → contains i ids ≡ true
+    ensures own { OnOk result (contains (member family.now.members.items name).id ids.new ≡ true) }
+    ensures read { OnOk result (AreReadWithin (ids_of family.now.members.items) name
+        (chain_of chains.now x) ids.new) }
+    ensures needed { OnOk result ((i : ℕ) → contains i ids.new ≡ true
         → IsNeeded (ids_of family.now.members.items) name (chain_of chains.now x) i) }
-    ensures few { IfOk result (λ ids. length ids
+    ensures few { OnOk result (length ids.new
         ≤ 2 * live_count (ids_of family.now.members.items).live family.now.held + 1) }
-    ensures names { IfOk result (λ ids. AreLiveNames (ids_of family.now.members.items) family.now.held) }
+    ensures names { OnOk result (AreLiveNames (ids_of family.now.members.items) family.now.held) }
 {
-    let mut ids = KeptIds::of(alloc, family.id(name))?;
+    ids.set_only(family.id(name))?;
     for reader in family.open_names() {
-        add_read_ids(family, chains, x, name, *reader, &mut ids)?;
+        add_read_ids(family, chains, x, name, *reader, ids)?;
     }
-    Ok(ids)
+    Ok(())
 }
 
 // Adds the ids of the records of object `x` that the snapshot `reader` reads, if it is live: for its view, unless it is

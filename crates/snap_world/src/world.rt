@@ -248,7 +248,8 @@ impl<P: Policy> RecordWorld<P> {
             ((parts_of self.old).chains object) ((parts_of self.new).chains object)) }
         ensures err { OnErr result (IsUnchanged (parts_of self.old) (parts_of self.new)) }
     {
-        let Ok(kept) = find_kept_ids(alloc, &self.family, &self.chains, object, name) else {
+        let mut kept = KeptIds::new(alloc);
+        let Ok(()) = find_kept_ids(&self.family, &self.chains, object, name, &mut kept) else {
             return Err(NoMemory);
         };
         self.put_record(alloc, name, object, value, &kept)

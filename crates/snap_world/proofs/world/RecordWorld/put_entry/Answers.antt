@@ -13,7 +13,7 @@ returns-clause-ok g c = on_ok_more c.put_record.result (λ written w s.
 pub returns-clause-swept : goal.returns-clause-swept
 returns-clause-swept g c = on_ok_more c.put_record.result (λ swept w s.
     let t = swept w s in
-    let few : used_count ((parts_of c.put_record.new.self).chains c.args.object) ≤ length c.in-Ok.kept = used_within ((parts_of c.put_record.new.self).chains c.args.object) c.in-Ok.kept t.apart t.listed in
+    let few : used_count ((parts_of c.put_record.new.self).chains c.args.object) ≤ length c.find_kept_ids.new.ids = used_within ((parts_of c.put_record.new.self).chains c.args.object) c.find_kept_ids.new.ids t.apart t.listed in
     record {
       needed = λ p there positive. c.in-Ok.ensures.needed p.id (t.listed p there positive);
       names_live = c.in-Ok.ensures.names;
