@@ -1,7 +1,7 @@
 -- A group of the table compares as the group of the old forest.
 use Rattle.std.proofs.Common.{◌≡◌, ℕ, not, ◌||◌, List, Option, Some, None, refl, ap, ◌∙◌}
 use Rattle.rt_values.specs.declared.value.Value.{Value}
-use Rattle.rt_groups.specs.GroupForest.{GroupForest, GroupKind, Call, Node, Key, Cell, asks, own}
+use Rattle.rt_groups.specs.GroupForest.{GroupForest, GroupKind, Call, Node, Key, Cell, asks, own_part}
 use Rattle.rt_groups.specs.Paths.{Found}
 use Rattle.rt_groups.specs.PreorderGroups.{flat_kind, flat_reads}
 use Rattle.rt_groups.specs.Frames.{meets, runs_after}
@@ -21,7 +21,7 @@ same_call_kept (Key w) b = refl
 same_call_kept (Cell ks w) b = refl
 
 -- If the old group was no call, its reads do not matter.
-runs_kept : (owed : List ℕ) (a b : GroupKind) (inside : GroupForest) → (not (frames.same_call a b) || meets (flat_reads a inside) owed) ≡ (not (frames.same_call a b) || meets (asks (own inside)) owed)
+runs_kept : (owed : List ℕ) (a b : GroupKind) (inside : GroupForest) → (not (frames.same_call a b) || meets (flat_reads a inside) owed) ≡ (not (frames.same_call a b) || meets (asks (own_part inside)) owed)
 runs_kept owed (Call f vs) b inside = refl
 runs_kept owed (Node kind attributes) b inside = refl
 runs_kept owed (Key w) b inside = refl

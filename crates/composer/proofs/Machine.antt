@@ -3,7 +3,7 @@ use Rattle.std.proofs.Common.{ℕ, ◌+◌, ◌≤◌, List, [], ◌∷◌, ◌+
 use Rattle.rt_values.specs.declared.value.Value.{Value}
 use Rattle.rt_groups.specs.declared.groups.Group.{Group as FlatGroup}
 use Rattle.rt_values.specs.Maps.{Map}
-use Rattle.rt_groups.specs.GroupForest.{GroupForest, End, Read, Group, GroupKind, Call, Node, Key, Cell, joined_forest, reads_then, asks, own, inside_own}
+use Rattle.rt_groups.specs.GroupForest.{GroupForest, End, Read, Group, GroupKind, Call, Node, Key, Cell, joined_forest, reads_then, asks, own_part, inside_own}
 use Rattle.rt_groups.specs.Paths.{GroupKey, sibling, occurrence, Found, matching_sibling, inside_of}
 use Rattle.rt_groups.specs.PreorderGroups.{flat_kind, flat_reads, flat_group, preorder}
 use Rattle.rt_groups.specs.Frames.{other_keys, number_of}
@@ -58,25 +58,25 @@ siblings-reads_then (x ∷ xs) t seen = siblings-reads_then xs t seen
 abbrev pub state_after_work : ℕ → GroupForest × ℕ → Work → List ℕ → ComposerState → ComposerState
 state_after_work d given w mine s = state (s.groups ++ preorder d given.0) given.1 (s.ran + w.ran) (s.calculated + w.calculated) (s.asked ++ w.reads) (s.own ++ mine)
 
-own-beside : (old : GroupForest) (seen : List GroupKey) (k : ℕ) (t : GroupForest) → asks (own (numbered_by_siblings old seen k t).0) ≡ asks (own t)
+own-beside : (old : GroupForest) (seen : List GroupKey) (k : ℕ) (t : GroupForest) → asks (own_part (numbered_by_siblings old seen k t).0) ≡ asks (own_part t)
 own-beside old seen k End = refl
 own-beside old seen k (Read x rest) = ap (λ l. x ∷ l) (own-beside old seen k rest)
 own-beside old seen k (Group site n (Call f vs) inside rest) = own-beside old _ _ rest
 own-beside old seen k (Group site n (Node kind attributes) inside rest) =
     let found = matching_sibling (sibling site (Node kind attributes)) (occurrence (sibling site (Node kind attributes)) seen) old in
     let within = numbered_by_siblings (inside_of found) [] (number_of (Node kind attributes) found k).1 inside in
-    ap (λ l. l ++ asks (own (numbered_by_siblings old (sibling site (Node kind attributes) ∷ seen) within.1 rest).0)) (own-beside (inside_of found) [] (number_of (Node kind attributes) found k).1 inside)
-    ∙ ap (λ l. asks (own inside) ++ l) (own-beside old (sibling site (Node kind attributes) ∷ seen) within.1 rest)
+    ap (λ l. l ++ asks (own_part (numbered_by_siblings old (sibling site (Node kind attributes) ∷ seen) within.1 rest).0)) (own-beside (inside_of found) [] (number_of (Node kind attributes) found k).1 inside)
+    ∙ ap (λ l. asks (own_part inside) ++ l) (own-beside old (sibling site (Node kind attributes) ∷ seen) within.1 rest)
 own-beside old seen k (Group site n (Key v) inside rest) =
     let found = matching_sibling (sibling site (Key v)) (occurrence (sibling site (Key v)) seen) old in
     let within = numbered_by_siblings (inside_of found) [] k inside in
-    ap (λ l. l ++ asks (own (numbered_by_siblings old (sibling site (Key v) ∷ seen) within.1 rest).0)) (own-beside (inside_of found) [] k inside)
-    ∙ ap (λ l. asks (own inside) ++ l) (own-beside old (sibling site (Key v) ∷ seen) within.1 rest)
+    ap (λ l. l ++ asks (own_part (numbered_by_siblings old (sibling site (Key v) ∷ seen) within.1 rest).0)) (own-beside (inside_of found) [] k inside)
+    ∙ ap (λ l. asks (own_part inside) ++ l) (own-beside old (sibling site (Key v) ∷ seen) within.1 rest)
 own-beside old seen k (Group site n (Cell ks v) inside rest) =
     let found = matching_sibling (sibling site (Cell ks v)) (occurrence (sibling site (Cell ks v)) seen) old in
     let within = numbered_by_siblings (inside_of found) [] k inside in
-    ap (λ l. l ++ asks (own (numbered_by_siblings old (sibling site (Cell ks v) ∷ seen) within.1 rest).0)) (own-beside (inside_of found) [] k inside)
-    ∙ ap (λ l. asks (own inside) ++ l) (own-beside old (sibling site (Cell ks v) ∷ seen) within.1 rest)
+    ap (λ l. l ++ asks (own_part (numbered_by_siblings old (sibling site (Cell ks v) ∷ seen) within.1 rest).0)) (own-beside (inside_of found) [] k inside)
+    ∙ ap (λ l. asks (own_part inside) ++ l) (own-beside old (sibling site (Cell ks v) ∷ seen) within.1 rest)
 
 -- The reads that a group records do not depend on node numbers.
 reads_beside : (old : GroupForest) (k : ℕ) (what : GroupKind) (inside : GroupForest) → flat_reads what (numbered_by_siblings old [] k inside).0 ≡ flat_reads what inside
@@ -94,8 +94,8 @@ groups_more g l r e = append_assoc g (e ∷ (l ++ [])) r ∙ ap (λ x. g ++ (e �
 
 -- The state after one group, from the state after the forest inside.
 one_group : (d : ℕ) (runs : Bool) (found : Option Found) (site : ℕ) (what : GroupKind) (inside : GroupForest) (within : GroupForest × ℕ) (w : Work) (s : ComposerState) → flat_reads what within.0 ≡ flat_reads what inside →
-    closed_group what s (state_after_work (d + 1) within w (asks (own inside)) (opened_group d runs found site what inside s))
-    ≡ state_after_work d (Group site (number_of what found s.next).0 what within.0 End, within.1) (work_at_group runs found what w) (asks (inside_own what (own inside))) s
+    closed_group what s (state_after_work (d + 1) within w (asks (own_part inside)) (opened_group d runs found site what inside s))
+    ≡ state_after_work d (Group site (number_of what found s.next).0 what within.0 End, within.1) (work_at_group runs found what w) (asks (inside_own what (own_part inside))) s
 one_group d true found site (Call f vs) inside within w s e =
     same_state (groups_step s.groups (preorder (d + 1) within.0) _ _ (ap (λ r. flat_group d site 0 (flat_kind (Call f vs)) r) (sym e))) refl (omega arith) refl refl (sym (append-nil s.own))
 one_group d false found site (Call f vs) inside within w s e =
@@ -104,8 +104,8 @@ one_group d runs found site (Node kind attributes) inside within w s e = same_st
 one_group d runs found site (Key v) inside within w s e = same_state (groups_step s.groups (preorder (d + 1) within.0) _ _ refl) refl refl refl refl refl
 one_group d runs found site (Cell ks v) inside within w s e = by (runs && other_keys found ks)
   where
-    by : (b : Bool) → state_after_work (d + 1) within w (asks (own inside)) (record (put_group (flat_group d site 0 (flat_kind (Cell ks v)) []) s.next s) { calculated = s.calculated + one_if b })
-        ≡ state_after_work d (Group site 0 (Cell ks v) within.0 End, within.1) (with_cell b w) (asks (own inside)) s
+    by : (b : Bool) → state_after_work (d + 1) within w (asks (own_part inside)) (record (put_group (flat_group d site 0 (flat_kind (Cell ks v)) []) s.next s) { calculated = s.calculated + one_if b })
+        ≡ state_after_work d (Group site 0 (Cell ks v) within.0 End, within.1) (with_cell b w) (asks (own_part inside)) s
     by true = same_state (groups_step s.groups (preorder (d + 1) within.0) _ _ refl) refl refl (omega arith) refl refl
     by false = same_state (groups_step s.groups (preorder (d + 1) within.0) _ _ refl) refl refl (omega arith) refl refl
 
@@ -117,7 +117,7 @@ opened_next d runs found site (Cell ks v) inside s = refl
 
 -- Composing next to old siblings makes the new groups, numbered by siblings, and does the work that is found by siblings.
 pub composed_is : (owed : List ℕ) (old : GroupForest) (d : ℕ) (running : Bool) (seen : List GroupKey) (t : GroupForest) (s : ComposerState) →
-    composed_beside owed old d running seen t s ≡ state_after_work d (numbered_by_siblings old seen s.next t) (work owed old seen running t) (asks (own t)) s
+    composed_beside owed old d running seen t s ≡ state_after_work d (numbered_by_siblings old seen s.next t) (work owed old seen running t) (asks (own_part t)) s
 composed_is owed old d running seen End s = same_state (sym (append-nil s.groups)) refl (omega arith) (omega arith) (sym (append-nil s.asked)) (sym (append-nil s.own))
 composed_is owed old d true seen (Read x rest) s =
     composed_is owed old d true seen rest (read_in true x s) ∙ same_state refl refl refl refl (append_assoc s.asked (x ∷ []) _) (append_assoc s.own (x ∷ []) _)
@@ -128,10 +128,10 @@ composed_is owed old d running seen (Group site n what inside rest) s =
     let first = opened_group d runs found site what inside s in
     let within = numbered_by_siblings (inside_of found) [] (number_of what found s.next).1 inside in
     let w = work owed (inside_of found) [] runs inside in
-    let here = state_after_work d (Group site (number_of what found s.next).0 what within.0 End, within.1) (work_at_group runs found what w) (asks (inside_own what (own inside))) s in
-    let inner : composed_beside owed (inside_of found) (d + 1) runs [] inside first ≡ state_after_work (d + 1) within w (asks (own inside)) first =
+    let here = state_after_work d (Group site (number_of what found s.next).0 what within.0 End, within.1) (work_at_group runs found what w) (asks (inside_own what (own_part inside))) s in
+    let inner : composed_beside owed (inside_of found) (d + 1) runs [] inside first ≡ state_after_work (d + 1) within w (asks (own_part inside)) first =
     composed_is owed (inside_of found) (d + 1) runs [] inside first
-    ∙ ap (λ k. state_after_work (d + 1) (numbered_by_siblings (inside_of found) [] k inside) w (asks (own inside)) first) (opened_next d runs found site what inside s) in
+    ∙ ap (λ k. state_after_work (d + 1) (numbered_by_siblings (inside_of found) [] k inside) w (asks (own_part inside)) first) (opened_next d runs found site what inside s) in
     let group : closed_group what s (composed_beside owed (inside_of found) (d + 1) runs [] inside first) ≡ here =
     ap (λ q. closed_group what s q) inner ∙ one_group d runs found site what inside within w s (reads_beside (inside_of found) (number_of what found s.next).1 what inside) in
     ap (λ q. composed_beside owed old d running (sibling site what ∷ seen) rest q) group
@@ -143,19 +143,19 @@ composed_is owed old d running seen (Group site n what inside rest) s =
 abbrev pub state_after_walk : ℕ → GroupForest × ℕ → Work → ComposerState → ComposerState
 state_after_walk d given w s = state (s.groups ++ preorder d given.0) given.1 (s.ran + w.ran) (s.calculated + w.calculated) (s.asked ++ w.reads) s.own
 
-own-renewed_groups : (m : Map) (owed : List ℕ) (t : GroupForest) (functions : List Func) (k : ℕ) → asks (own (renewed_groups m owed t functions k).0) ≡ asks (own t)
+own-renewed_groups : (m : Map) (owed : List ℕ) (t : GroupForest) (functions : List Func) (k : ℕ) → asks (own_part (renewed_groups m owed t functions k).0) ≡ asks (own_part t)
 own-renewed_groups m owed End functions k = refl
 own-renewed_groups m owed (Read x rest) functions k = ap (λ l. x ∷ l) (own-renewed_groups m owed rest functions k)
 own-renewed_groups m owed (Group site n (Call f vs) inside rest) functions k = own-renewed_groups m owed rest functions _
 own-renewed_groups m owed (Group site n (Node kind attributes) inside rest) functions k =
-    ap (λ l. l ++ asks (own (renewed_groups m owed rest functions (renewed_groups m owed inside functions k).1).0)) (own-renewed_groups m owed inside functions k)
-    ∙ ap (λ l. asks (own inside) ++ l) (own-renewed_groups m owed rest functions (renewed_groups m owed inside functions k).1)
+    ap (λ l. l ++ asks (own_part (renewed_groups m owed rest functions (renewed_groups m owed inside functions k).1).0)) (own-renewed_groups m owed inside functions k)
+    ∙ ap (λ l. asks (own_part inside) ++ l) (own-renewed_groups m owed rest functions (renewed_groups m owed inside functions k).1)
 own-renewed_groups m owed (Group site n (Key v) inside rest) functions k =
-    ap (λ l. l ++ asks (own (renewed_groups m owed rest functions (renewed_groups m owed inside functions k).1).0)) (own-renewed_groups m owed inside functions k)
-    ∙ ap (λ l. asks (own inside) ++ l) (own-renewed_groups m owed rest functions (renewed_groups m owed inside functions k).1)
+    ap (λ l. l ++ asks (own_part (renewed_groups m owed rest functions (renewed_groups m owed inside functions k).1).0)) (own-renewed_groups m owed inside functions k)
+    ∙ ap (λ l. asks (own_part inside) ++ l) (own-renewed_groups m owed rest functions (renewed_groups m owed inside functions k).1)
 own-renewed_groups m owed (Group site n (Cell ks v) inside rest) functions k =
-    ap (λ l. l ++ asks (own (renewed_groups m owed rest functions (renewed_groups m owed inside functions k).1).0)) (own-renewed_groups m owed inside functions k)
-    ∙ ap (λ l. asks (own inside) ++ l) (own-renewed_groups m owed rest functions (renewed_groups m owed inside functions k).1)
+    ap (λ l. l ++ asks (own_part (renewed_groups m owed rest functions (renewed_groups m owed inside functions k).1).0)) (own-renewed_groups m owed inside functions k)
+    ∙ ap (λ l. asks (own_part inside) ++ l) (own-renewed_groups m owed rest functions (renewed_groups m owed inside functions k).1)
 
 -- Skipping a forest makes the groups of the walk, and does its work.
 abbrev pub SkipsAs : Map → List ℕ → GroupForest → Type 0
@@ -174,7 +174,7 @@ skip_call m owed functions d site f vs n true inside s h =
     ∙ one_group d true None site (Call f vs) new within w s (reads_beside inside s.next (Call f vs) new)
     ∙ same_state refl refl refl refl refl (append-nil s.own)
 skip_call m owed functions d site f vs n false inside s h =
-    h (take f functions) (d + 1) (put_group (flat_group d site 0 (flat_kind (Call f vs)) (asks (own inside))) s.next s)
+    h (take f functions) (d + 1) (put_group (flat_group d site 0 (flat_kind (Call f vs)) (asks (own_part inside))) s.next s)
     ∙ same_state (groups_step s.groups _ _ _ (ap (λ r. flat_group d site 0 (flat_kind (Call f vs)) r) (sym (own-renewed_groups m owed inside (take f functions) s.next)))) refl refl refl refl refl
 
 pub skip_group : (m : Map) (owed : List ℕ) (functions : List Func) (d site n : ℕ) (what : GroupKind) (inside : GroupForest) (s : ComposerState) → SkipsAs m owed inside →
@@ -229,7 +229,7 @@ pub skip_is_new : (m m' : Map) (owed : List ℕ) (functions : List Func) (f : �
 skip_is_new m m' owed functions f vs inside n d site s law was same quiet =
     let new = meaning_at (meanings m' functions) f vs in
     let is = law m m' owed functions f vs inside s.next was same quiet in
-    let kept = put_group (flat_group d site 0 (flat_kind (Call f vs)) (asks (own inside))) s.next s in
+    let kept = put_group (flat_group d site 0 (flat_kind (Call f vs)) (asks (own_part inside))) s.next s in
     let first = opened_group d false (Some (record { number = n; what = Call f vs; inside = inside })) site (Call f vs) new s in
     ap (λ b. skipped_inside m' owed functions d site n (Call f vs) b inside (skipped_groups m' owed inside) s) quiet
     ∙ skipped_is m' owed inside (take f functions) (d + 1) kept

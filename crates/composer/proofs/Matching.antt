@@ -19,7 +19,7 @@ use Rattle.composer.specs.OldGroups.{Alike, Fits}
 use Rattle.composer.specs.ComposerState.{one_if, opened_group}
 use Rattle.composer.specs.BesideContracts.{OldSiblings, IsOldPart, IsOldFound}
 use Rattle.composer.specs.Recomposes.{IsBeside, is_container}
-use Rattle.composer.specs.WrittenGroups.{WrittenGroups, state_of, number_of, entered, with_call, written_kept, kept_in, kept_of}
+use Rattle.composer.specs.WrittenGroups.{WrittenGroups, state_of, number_of, enter_group, with_call, written_kept, kept_in, kept_of}
 use Rattle.composer.proofs.OldMatches.{fits_found, fits_next}
 use Rattle.composer.proofs.OldParts.{inside_old, part_found, part_matched}
 use Rattle.composer.proofs.Comparisons.{number_of_kept, other_keys_kept}
@@ -27,7 +27,7 @@ use Rattle.composer.proofs.Machine.{same_state}
 
 -- The state after a group that is no call.
 entered_is : (d site : ℕ) (w : GroupKind) (inside : GroupForest) (k : Option KeyInfo) (f : Option Found) (written : WrittenGroups) (asked mine : List ℕ) → is_call w ≡ false → Alike d k f →
-    state_of (entered d site (flat_kind w) k written) asked mine ≡ opened_group d true f site w inside (state_of written asked mine)
+    state_of (enter_group d site (flat_kind w) k written) asked mine ≡ opened_group d true f site w inside (state_of written asked mine)
 entered_is d site (Call g vs) inside k f written asked mine e a = absurd cc
 entered_is d site (Node kind attributes) inside k f written asked mine e a =
     let same = number_of_kept d k f (Node kind attributes) written.next a in
@@ -62,14 +62,14 @@ matched {o = o} {d = d} {before = before} {left = left} {found = found} x key is
 }
 
 -- The state after the group.
-pub matched_state : (d site : ℕ) (w : GroupKind) (code : ListedKind) (inside : GroupForest) (k : Option KeyInfo) (f : Option Found) (written written' : WrittenGroups) (asked mine : List ℕ) → is_call w ≡ false → Alike d k f → code ≡ flat_kind w → written' ≡ entered d site code k written →
+pub matched_state : (d site : ℕ) (w : GroupKind) (code : ListedKind) (inside : GroupForest) (k : Option KeyInfo) (f : Option Found) (written written' : WrittenGroups) (asked mine : List ℕ) → is_call w ≡ false → Alike d k f → code ≡ flat_kind w → written' ≡ enter_group d site code k written →
     state_of written' asked mine ≡ opened_group d true f site w inside (state_of written asked mine)
 matched_state d site w code inside k f written written' asked mine plain a is e =
-    ap (λ (q : WrittenGroups). state_of q asked mine) (e ∙ ap (λ (c : ListedKind). entered d site c k written) is) ∙ entered_is d site w inside k f written asked mine plain a
+    ap (λ (q : WrittenGroups). state_of q asked mine) (e ∙ ap (λ (c : ListedKind). enter_group d site c k written) is) ∙ entered_is d site w inside k f written asked mine plain a
 
 -- One more group.
 
-pub entered_longer : (d site : ℕ) (code : ListedKind) (k : Option KeyInfo) (written written' : WrittenGroups) → written' ≡ entered d site code k written → length written.groups ≤ length written'.groups
+pub entered_longer : (d site : ℕ) (code : ListedKind) (k : Option KeyInfo) (written written' : WrittenGroups) → written' ≡ enter_group d site code k written → length written.groups ≤ length written'.groups
 entered_longer d site code k written written' e =
     let long = ap (λ (q : WrittenGroups). length q.groups) e in
     omega (arith, long, length-append written.groups (flat_group d site (number_of code k written.next).0 code [] ∷ []))

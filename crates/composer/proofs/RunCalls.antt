@@ -5,7 +5,7 @@ use Rattle.rt_groups.specs.declared.groups.Group.{Group as Listed}
 use Rattle.rt_groups.specs.declared.groups.GroupKind.{GroupKind as ListedKind}
 use Rattle.rt_groups.specs.declared.groups.GroupKind.TheVariants as listed
 use Rattle.rt_values.specs.Maps.{Map}
-use Rattle.rt_groups.specs.GroupForest.{GroupForest, End, Group, GroupKind, Call, Node, Key, Cell, is_call, asks, own}
+use Rattle.rt_groups.specs.GroupForest.{GroupForest, End, Group, GroupKind, Call, Node, Key, Cell, is_call, asks, own_part}
 use Rattle.rt_groups.specs.Paths.{Found}
 use Rattle.rt_groups.specs.PreorderGroups.{flat_kind, flat_reads, flat_group, preorder}
 use Rattle.rt_groups.specs.Frames.{meets}
@@ -38,18 +38,18 @@ part_ran owed was d site f vs new s = part_of owed was (d + 1) true [] new (open
 pub longer_ran : (owed : List ℕ) (was : GroupForest) (d site f : ℕ) (vs : List Value) (new : GroupForest) (s : ComposerState) → length s.groups < length (run_beside owed was d site (Call f vs) new s).groups
 longer_ran owed was d site f vs new s =
     let e = longer owed was (d + 1) true [] new (opened_group d true None site (Call f vs) new s) in
-    omega (arith, e, length-append s.groups (flat_group d site 0 (flat_kind (Call f vs)) (asks (own new)) ∷ []))
+    omega (arith, e, length-append s.groups (flat_group d site 0 (flat_kind (Call f vs)) (asks (own_part new)) ∷ []))
 
 -- The state after a body, after the group of its call without reads.
 inner_is : (owed : List ℕ) (was : GroupForest) (d site f : ℕ) (vs : List Value) (new : GroupForest) (written written1 : WrittenGroups) (asked none : List ℕ) → none ≡ [] → written1 ≡ with_call d site (listed.Call f vs) true written →
-    composed_beside owed was (d + 1) true [] new (state_of written1 asked none) ≡ state_after_work (d + 1) (numbered_by_siblings was [] written.next new) (work owed was [] true new) (asks (own new)) (state_of (with_call d site (listed.Call f vs) true written) asked [])
+    composed_beside owed was (d + 1) true [] new (state_of written1 asked none) ≡ state_after_work (d + 1) (numbered_by_siblings was [] written.next new) (work owed was [] true new) (asks (own_part new)) (state_of (with_call d site (listed.Call f vs) true written) asked [])
 inner_is owed was d site f vs new written written1 asked none e1 e2 =
     ap (λ (q : WrittenGroups). composed_beside owed was (d + 1) true [] new (state_of q asked none)) e2
     ∙ ap (λ (l : List ℕ). composed_beside owed was (d + 1) true [] new (state_of (with_call d site (listed.Call f vs) true written) asked l)) e1
     ∙ composed_is owed was (d + 1) true [] new (state_of (with_call d site (listed.Call f vs) true written) asked [])
 
 outer_is : (owed : List ℕ) (was : GroupForest) (d site f : ℕ) (vs : List Value) (new : GroupForest) (s : ComposerState) →
-    run_beside owed was d site (Call f vs) new s ≡ closed_group (Call f vs) s (state_after_work (d + 1) (numbered_by_siblings was [] s.next new) (work owed was [] true new) (asks (own new)) (opened_group d true None site (Call f vs) new s))
+    run_beside owed was d site (Call f vs) new s ≡ closed_group (Call f vs) s (state_after_work (d + 1) (numbered_by_siblings was [] s.next new) (work owed was [] true new) (asks (own_part new)) (opened_group d true None site (Call f vs) new s))
 outer_is owed was d site f vs new s = ap (λ (q : ComposerState). closed_group (Call f vs) s q) (composed_is owed was (d + 1) true [] new (opened_group d true None site (Call f vs) new s))
 
 pub body_done : (owed : List ℕ) (was : GroupForest) (d site f : ℕ) (vs : List Value) (new : GroupForest) (written written1 written2 written3 : WrittenGroups) (asked asked' mine theirs none : List ℕ) → none ≡ [] → written1 ≡ with_call d site (listed.Call f vs) true written →
@@ -64,7 +64,7 @@ body_done owed was d site f vs new written written1 written2 written3 asked aske
     ap (λ (q : ComposerState). q.groups) is ∙ append_assoc written.groups (flat_group d site 0 (flat_kind (Call f vs)) [] ∷ []) tail in
     let groups = set written.groups tail (flat_group d site 0 (flat_kind (Call f vs)) []) refl there
     ∙ ap (λ r. written.groups ++ (flat_group d site 0 (flat_kind (Call f vs)) r ∷ tail)) (ap (λ (q : ComposerState). q.own) is)
-    ∙ sym (append_assoc written.groups (flat_group d site 0 (flat_kind (Call f vs)) (asks (own new)) ∷ []) tail) in record {
+    ∙ sym (append_assoc written.groups (flat_group d site 0 (flat_kind (Call f vs)) (asks (own_part new)) ∷ []) tail) in record {
       all = same_state groups (rest.0 ∙ ap (λ (q : ComposerState). q.next) is) (rest.1 ∙ ap (λ (q : ComposerState). q.ran) is) (rest.2 ∙ ap (λ (q : ComposerState). q.calculated) is) (ap (λ (q : ComposerState). q.asked) is) refl
           ∙ sym (outer_is owed was d site f vs new (state_of written asked mine));
       part = tt;
@@ -94,9 +94,9 @@ body_stop {s' = s'} owed was d site f vs new written written1 written2 asked ask
             one,
             two,
             length-append (written.groups ++ flat_group d site 0 (flat_kind (Call f vs)) [] ∷ []) tail,
-            length-append (written.groups ++ flat_group d site 0 (flat_kind (Call f vs)) (asks (own new)) ∷ []) tail,
+            length-append (written.groups ++ flat_group d site 0 (flat_kind (Call f vs)) (asks (own_part new)) ∷ []) tail,
             length-append written.groups (flat_group d site 0 (flat_kind (Call f vs)) [] ∷ []),
-            length-append written.groups (flat_group d site 0 (flat_kind (Call f vs)) (asks (own new)) ∷ []),
+            length-append written.groups (flat_group d site 0 (flat_kind (Call f vs)) (asks (own_part new)) ∷ []),
           );
     }
 

@@ -8,7 +8,7 @@ use Rattle.rt_values.specs.declared.value.Value.{Value}
 use Rattle.rt_values.specs.Maps.{Map}
 use Rattle.rt_values.specs.Values.{same_values}
 use Rattle.rt_values.proofs.Equal.{same_value_decides}
-use Rattle.rt_groups.specs.GroupForest.{GroupKind, Call, Node, Key, Cell, asks, own}
+use Rattle.rt_groups.specs.GroupForest.{GroupKind, Call, Node, Key, Cell, asks, own_part}
 use Rattle.rt_groups.specs.Paths.{Found, inside_of}
 use Rattle.rt_groups.specs.Frames.{meets, runs_after, same_call}
 use Rattle.lang_ast.specs.Terms.{Func}
@@ -53,7 +53,7 @@ pub skips : (owed : List ℕ) (m : Map) (functions : List Func) (l : LastComposi
     runs_after owed found (Call f vs) ≡ false → IsSkipped owed functions l f vs found
 skips owed m functions l site f vs None since below p e = absurd cc
 skips owed m functions l site f vs (Some g) since below p e =
-    let both = or_false (not (same_call g.what (Call f vs))) (meets (asks (own g.inside)) owed) e in
+    let both = or_false (not (same_call g.what (Call f vs))) (meets (asks (own_part g.inside)) owed) e in
     let what : g.what ≡ Call f vs = same_call_is g.what f vs (not_false (same_call g.what (Call f vs)) both.0) in
     let inside : IsMadeInside l.map l.functions (Call f vs) g.inside = subst (λ (w : GroupKind). IsMadeInside l.map l.functions w g.inside) what p.made.0 in
     let first : take (length functions) l.functions ≡ functions = ap (λ (xs : List Func). take (length functions) xs) since.front ∙ take-append_seam functions since.more in

@@ -5,7 +5,7 @@ use Rattle.rt_values.specs.Maps.{Map}
 use Rattle.rt_groups.specs.declared.groups.Group.{Group as FlatGroup}
 use Rattle.rt_groups.specs.GroupForest.{GroupForest, End, Read, Group, GroupKind, Call, Node, Key, Cell, is_node, asks, how_many, how_many_nodes}
 use Rattle.rt_groups.specs.PreorderGroups.{preorder, flat_kind}
-use Rattle.rt_groups.specs.Frames.{LastFrame, numbered_forest, ran as calls_run, calculated as cells_made, reads, most_groups}
+use Rattle.rt_groups.specs.Frames.{LastFrame, numbered_forest, ran as calls_run, calculated_cells as cells_made, reads, most_groups}
 use Rattle.lang_ast.specs.Terms.{Func}
 use Rattle.compose_model.specs.Composing.{meaning_at, meanings, forest}
 use Rattle.lang_meaning.proofs.ForestSteps.{how_many-preorder}

@@ -2,7 +2,7 @@
 use Rattle.std.specs.Prelude.{ℕ, ◌+◌, List, [], ◌∷◌, ◌++◌, take, Bool, true, false, ◌&&◌, Option, None, if◌then◌else◌}
 use Rattle.rt_values.specs.Maps.{Map}
 use Rattle.rt_groups.specs.declared.groups.Group.{Group as FlatGroup}
-use Rattle.rt_groups.specs.GroupForest.{GroupForest, End, Read, Group, GroupKind, Call, Node, Key, Cell, asks, own}
+use Rattle.rt_groups.specs.GroupForest.{GroupForest, End, Read, Group, GroupKind, Call, Node, Key, Cell, asks, own_part}
 use Rattle.rt_groups.specs.Paths.{GroupKey, sibling, occurrence, Found, matching_sibling, inside_of}
 use Rattle.rt_groups.specs.PreorderGroups.{flat_kind, flat_reads, flat_group}
 use Rattle.rt_groups.specs.Frames.{other_keys, number_of}
@@ -75,7 +75,7 @@ run_beside owed old depth site what new s =
 abbrev pub skipped_inside : Map → List ℕ → List Func → ℕ → ℕ → ℕ → GroupKind → Bool → GroupForest → (List Func → ℕ → ComposerState → ComposerState) → ComposerState → ComposerState
 skipped_inside m owed functions depth site n (Call f vs) anew inside go s =
     if anew then run_beside owed inside depth site (Call f vs) (meaning_at (meanings m functions) f vs) s
-    else go (take f functions) (depth + 1) (put_group (flat_group depth site 0 (flat_kind (Call f vs)) (asks (own inside))) s.next s)
+    else go (take f functions) (depth + 1) (put_group (flat_group depth site 0 (flat_kind (Call f vs)) (asks (own_part inside))) s.next s)
 skipped_inside m owed functions depth site n (Node kind attributes) anew inside go s =
     go functions (depth + 1) (put_group (flat_group depth site n (flat_kind (Node kind attributes)) []) s.next s)
 skipped_inside m owed functions depth site n (Key v) anew inside go s =

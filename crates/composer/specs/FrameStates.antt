@@ -3,7 +3,7 @@ use Rattle.std.specs.Prelude.{ℕ, ◌+◌, List, [], ◌++◌, length}
 use Rattle.rt_values.specs.Maps.{Map}
 use Rattle.rt_groups.specs.GroupForest.{GroupForest}
 use Rattle.rt_groups.specs.PreorderGroups.{preorder}
-use Rattle.rt_groups.specs.Frames.{numbered_forest, ran, calculated, reads}
+use Rattle.rt_groups.specs.Frames.{numbered_forest, ran, calculated_cells, reads}
 use Rattle.lang_ast.specs.Terms.{Func}
 use Rattle.compose_model.specs.Composing.{forest}
 use Rattle.recompose_laws.specs.MadeCalls.{AreOrdered}
@@ -27,7 +27,7 @@ frame_state functions root owed old next m s =
       groups = s.groups ++ preorder 0 given.0;
       next = given.1;
       ran = s.ran + length (ran owed old new);
-      calculated = s.calculated + length (calculated owed old new);
+      calculated = s.calculated + length (calculated_cells owed old new);
       asked = s.asked ++ reads owed old new;
       own = s.own;
     }

@@ -51,8 +51,8 @@ cells_in found (what.Key v) = 0
 cells_in found (what.Cell ks v) = one_if (other_keys found ks)
 
 -- A new group with its number. It counts if it is a cell that is calculated.
-abbrev pub entered : ℕ → ℕ → GroupKind → Option KeyInfo → WrittenGroups → WrittenGroups
-entered depth site w found d = record {
+abbrev pub enter_group : ℕ → ℕ → GroupKind → Option KeyInfo → WrittenGroups → WrittenGroups
+enter_group depth site w found d = record {
   groups = d.groups ++ flat_group depth site (number_of w found d.next).0 w [] ∷ [];
   next = (number_of w found d.next).1;
   ran = d.ran;

@@ -9,7 +9,7 @@ ghost use Rattle.slot_table.specs.ReaderStates.{group_key};
 ghost use Rattle.composer.specs.ComposerState.{one_if};
 ghost use Rattle.composer.specs.OldSiblings.{old_group};
 ghost use Rattle.composer.specs.QuietRuns.{group_run};
-ghost use Rattle.composer.specs.WrittenGroups.{group_kind, number_for, entered, with_call, written_kept, written_run, draft_of, is_node as node, nodes_in, IsCellOf};
+ghost use Rattle.composer.specs.WrittenGroups.{group_kind, number_for, enter_group, with_call, written_kept, written_run, draft_of, is_node as node, nodes_in, IsCellOf};
 
 use crate::compared::{has_other_keys, is_same_key, is_same_node};
 use crate::draft::Draft;
@@ -154,7 +154,7 @@ impl Writer {
         room: &mut Option<Attributes>,
     ) -> Result<(), ComposeStop>
         requires { length self.old.groups ≤ most_groups }
-        ensures entered { OnOk result (self.new ≡ entered depth site (group_kind what.entry) found.now self.old) }
+        ensures entered { OnOk result (self.new ≡ enter_group depth site (group_kind what.entry) found.now self.old) }
         ensures fits { OnOk result (length self.new.groups ≤ most_groups) }
         ensures full { result ≡ Err ComposeStop.TooManyGroups → length self.old.groups ≡ most_groups }
     {
@@ -185,7 +185,7 @@ impl Writer {
         found: &Option<OldGroup>,
     ) -> Result<(), ComposeStop>
         requires { length self.old.groups ≤ most_groups }
-        ensures entered { OnOk result (self.new ≡ entered depth site (kinds.Cell (map (λ b. b.value) keys) value.now) found.now self.old) }
+        ensures entered { OnOk result (self.new ≡ enter_group depth site (kinds.Cell (map (λ b. b.value) keys) value.now) found.now self.old) }
         ensures fits { OnOk result (length self.new.groups ≤ most_groups) }
         ensures full { result ≡ Err ComposeStop.TooManyGroups → length self.old.groups ≡ most_groups }
     {

@@ -6,10 +6,10 @@ use Rattle.lang_limits.specs.Sizes.{program_limits}
 use Rattle.lang_limits.specs.Clamped.{within}
 use Rattle.lang_forms.specs.declared.stop.FormStop.{FormStop}
 use Rattle.lang_forms.specs.declared.stop.FormStop.TheVariants.{Form, Limit, NoMemory}
-use Rattle.lang_forms.specs.TextAnswers.{answered, unless_beyond, text_answer}
+use Rattle.lang_forms.specs.TextAnswers.{parsed_answer, unless_beyond, text_answer}
 use Rattle.lang_forms.specs.Sources.{Source}
 use Rattle.lang_forms.specs.Forms.{HasForms}
-use Rattle.lang_forms.specs.Readings.{Seen, seen, is_there, header_form, is_header, place}
+use Rattle.lang_forms.specs.Readings.{Seen, seen_trees, is_there, header_form, is_header, place}
 use Rattle.lang_forms.specs.FirstWrong.{only, first_place, IsFirstWrong, IsAnswerFor}
 use Rattle.lang_forms.specs.TextReading.{PartialSource, source, source_with_tree, source_with_rest, tops_of, text_of, start, source_or_offset, source_of}
 use Rattle.lang_forms.proofs.FirstWrong.{listed}
@@ -49,28 +49,28 @@ abbrev stop_at : ℕ → Result PartialSource ℕ
 stop_at at = Err at
 
 -- the first tree after the parsed ones stops the parser, if it is not taken with nothing after it
-next_stop : (end : ℕ) (w : Forest) (q : PartialSource) → ((r : PartialSource) → tops_of q (seen (only w)) ≡ Ok r → ⊥) → tops_of q (seen w) ≡ stop_at (first_place end w)
+next_stop : (end : ℕ) (w : Forest) (q : PartialSource) → ((r : PartialSource) → tops_of q (seen_trees (only w)) ≡ Ok r → ⊥) → tops_of q (seen_trees w) ≡ stop_at (first_place end w)
 unfolding tops_of
 next_stop end empty q never = absurd (never q refl)
 next_stop end (atom x a f) q never = refl
 next_stop end (text x s f) q never = refl
 next_stop end (list x i f) q never = by (source_with_tree q (listed x i)) refl
   where
-    by : (o : Option PartialSource) → source_with_tree q (listed x i) ≡ o → source_with_rest x (source_with_tree q (listed x i)) (λ r. tops_of r (seen f)) ≡ stop_at x
-    by None e = ap (λ (o : Option PartialSource). source_with_rest x o (λ r. tops_of r (seen f))) e
+    by : (o : Option PartialSource) → source_with_tree q (listed x i) ≡ o → source_with_rest x (source_with_tree q (listed x i)) (λ r. tops_of r (seen_trees f)) ≡ stop_at x
+    by None e = ap (λ (o : Option PartialSource). source_with_rest x o (λ r. tops_of r (seen_trees f))) e
     by (Some r) e = absurd (never r (ap (λ (o : Option PartialSource). source_with_rest x o (λ r. tops_of r [])) e))
 
 -- the first tree of all
-first_stop : (end : ℕ) (w : Forest) → ((r : PartialSource) → text_of end (seen (only w)) ≡ Ok r → ⊥) → text_of end (seen w) ≡ stop_at (first_place end w)
+first_stop : (end : ℕ) (w : Forest) → ((r : PartialSource) → text_of end (seen_trees (only w)) ≡ Ok r → ⊥) → text_of end (seen_trees w) ≡ stop_at (first_place end w)
 unfolding text_of tops_of
 first_stop end empty never = refl
 first_stop end (atom x a f) never = refl
 first_stop end (text x s f) never = refl
-first_stop end (list x i f) never = by (is_there (header_form (seen i))) refl
+first_stop end (list x i f) never = by (is_there (header_form (seen_trees i))) refl
   where
-    by : (b : Bool) → is_there (header_form (seen i)) ≡ b → cond (is_there (header_form (seen i))) (tops_of (start x) (seen f)) (Err x) ≡ stop_at x
+    by : (b : Bool) → is_there (header_form (seen_trees i)) ≡ b → cond (is_there (header_form (seen_trees i))) (tops_of (start x) (seen_trees f)) (Err x) ≡ stop_at x
     by true e = absurd (never (start x) (ap (λ (b : Bool). cond b (tops_of (start x) []) (Err x)) e))
-    by false e = ap (λ (b : Bool). cond b (tops_of (start x) (seen f)) (Err x)) e
+    by false e = ap (λ (b : Bool). cond b (tops_of (start x) (seen_trees f)) (Err x)) e
 
 abbrev read_as : Source → Result Source ℕ
 read_as t = Ok t
@@ -80,31 +80,31 @@ front_read (Ok q) t h = (q, refl)
 front_read (Err x) t h = absurd (cc)
 
 -- the parser stops where the forms stop
-pub wrong_read : (end at : ℕ) (f : Forest) → IsFirstWrong end f at → text_of end (seen f) ≡ stop_at at
+pub wrong_read : (end at : ℕ) (f : Forest) → IsFirstWrong end f at → text_of end (seen_trees f) ≡ stop_at at
 wrong_read end at f h = elim h.before [
   | inl none ↦
       let here : f ≡ h.wrong = h.is ∙ ap (λ (x : Forest). behind x h.wrong) none in
       let alone : behind h.front (only h.wrong) ≡ only h.wrong = ap (λ (x : Forest). behind x (only h.wrong)) none in
-      ap (λ (x : Forest). text_of end (seen x)) here
-      ∙ first_stop end h.wrong (λ r k. h.none (source r) (source_found end (behind h.front (only h.wrong)) (source r) (ap (λ (x : Forest). source_of end (seen x)) alone ∙ ap source_or_offset k)))
+      ap (λ (x : Forest). text_of end (seen_trees x)) here
+      ∙ first_stop end h.wrong (λ r k. h.none (source r) (source_found end (behind h.front (only h.wrong)) (source r) (ap (λ (x : Forest). source_of end (seen_trees x)) alone ∙ ap source_or_offset k)))
       ∙ ap stop_at (sym h.place)
   | inr some ↦
-      let q = front_read (text_of end (seen h.front)) some.0 (text_read end h.front some.0 some.1) in
-      let site_after = λ (w : Forest). ap (text_of end) (seen-behind h.front w) ∙ text_on end (seen h.front) (seen w) q.0 q.1 in
-      ap (λ (x : Forest). text_of end (seen x)) h.is ∙ site_after h.wrong
+      let q = front_read (text_of end (seen_trees h.front)) some.0 (text_read end h.front some.0 some.1) in
+      let site_after = λ (w : Forest). ap (text_of end) (seen-behind h.front w) ∙ text_on end (seen_trees h.front) (seen_trees w) q.0 q.1 in
+      ap (λ (x : Forest). text_of end (seen_trees x)) h.is ∙ site_after h.wrong
       ∙ next_stop end h.wrong q.0 (λ r k. h.none (source r) (source_found end (behind h.front (only h.wrong)) (source r) (ap source_or_offset (site_after (only h.wrong) ∙ k))))
       ∙ ap stop_at (sym h.place)
 ]
 
 -- the answer of the parser is one of the forms
 pub answer_is : (end : ℕ) (f : Forest) → IsAnswerFor end f (text_answer end f)
-answer_is end f = by (source_of end (seen (within f))) refl
+answer_is end f = by (source_of end (seen_trees (within f))) refl
   where
     limits : (t : Source) → HasForms (within f) t → (o : Option ℕ) → least (program_limits f t.program) ≡ o → IsAnswerFor end f (unless_beyond o t)
     limits t has None e = (has, e)
     limits t has (Some at) e = (t, has, e)
 
-    by : (r : Result Source ℕ) → source_of end (seen (within f)) ≡ r → IsAnswerFor end f (answered f r)
+    by : (r : Result Source ℕ) → source_of end (seen_trees (within f)) ≡ r → IsAnswerFor end f (parsed_answer f r)
     by (Ok t) e = limits t (source_found end (within f) t e) (least (program_limits f t.program)) refl
     by (Err at) e = stop_read end at (within f) e
 
@@ -113,7 +113,7 @@ answer a = a
 
 -- and no other answer is
 pub answer_one : (end : ℕ) (f : Forest) (a : Result Source FormStop) → IsAnswerFor end f a → a ≡ text_answer end f
-answer_one end f (Ok t) h = sym (ap (answered f) (text_read end (within f) t h.0) ∙ ap (λ (o : Option ℕ). unless_beyond o t) h.1)
-answer_one end f (Err (Form at)) h = sym (ap (answered f) (ap source_or_offset (wrong_read end at (within f) h)))
-answer_one end f (Err (Limit at)) h = sym (ap (answered f) (text_read end (within f) h.0 h.1) ∙ ap (λ (o : Option ℕ). unless_beyond o h.0) h.2)
+answer_one end f (Ok t) h = sym (ap (parsed_answer f) (text_read end (within f) t h.0) ∙ ap (λ (o : Option ℕ). unless_beyond o t) h.1)
+answer_one end f (Err (Form at)) h = sym (ap (parsed_answer f) (ap source_or_offset (wrong_read end at (within f) h)))
+answer_one end f (Err (Limit at)) h = sym (ap (parsed_answer f) (text_read end (within f) h.0 h.1) ∙ ap (λ (o : Option ℕ). unless_beyond o h.0) h.2)
 answer_one end f (Err NoMemory) h = absurd h

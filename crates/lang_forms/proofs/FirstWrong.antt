@@ -3,7 +3,7 @@ use Rattle.std.proofs.Common.{◌≡◌, inl, inr, ℕ, ◌∷◌, Option, Some,
 use Rattle.sexp_text.specs.Forest.{Forest, empty, atom, text, list, behind}
 use Rattle.lang_forms.specs.Sources.{Source}
 use Rattle.lang_forms.specs.Forms.{HasForms}
-use Rattle.lang_forms.specs.Readings.{Seen, seen, form, roles, is_there, header_form}
+use Rattle.lang_forms.specs.Readings.{Seen, seen_trees, form, roles, is_there, header_form}
 use Rattle.lang_forms.specs.TextReading.{PartialSource, source, source_with_tree, source_with_rest, tops_of, text_of, start, source_or_offset}
 use Rattle.lang_forms.specs.FirstWrong.{only, first_place, IsFirstWrong}
 use Rattle.lang_forms.proofs.TextIsRead.{text_read}
@@ -16,8 +16,8 @@ record Stopped (end : ℕ) (f : Forest) (p : PartialSource) (at : ℕ) : Type 0 
   is : f ≡ behind front wrong
   place : at ≡ first_place end wrong
   last : PartialSource
-  before : tops_of p (seen front) ≡ Ok last
-  stuck : tops_of p (seen (behind front (only wrong))) ≡ Err at
+  before : tops_of p (seen_trees front) ≡ Ok last
+  stuck : tops_of p (seen_trees (behind front (only wrong))) ≡ Err at
 
 abbrev wrong_at : ℕ → Result PartialSource ℕ
 wrong_at y = Err y
@@ -29,11 +29,11 @@ err_same : (p : PartialSource) (s : Seen) (at x : ℕ) (go : PartialSource → R
 err_same p s at x go none h = err_is at x (sym h ∙ ap (λ o. source_with_rest x o go) none)
 
 -- a first tree that the parser does not take
-stuck_here : (end at x : ℕ) (f g : Forest) (s : Seen) (p : PartialSource) → seen f ≡ s ∷ seen g → seen (only f) ≡ s ∷ seen empty → first_place end f ≡ x → source_with_tree p s ≡ None → source_with_rest x (source_with_tree p s) (λ q. tops_of q (seen g)) ≡ Err at
-    → tops_of p (s ∷ seen empty) ≡ source_with_rest x (source_with_tree p s) (λ q. tops_of q (seen empty)) → Stopped end f p at
+stuck_here : (end at x : ℕ) (f g : Forest) (s : Seen) (p : PartialSource) → seen_trees f ≡ s ∷ seen_trees g → seen_trees (only f) ≡ s ∷ seen_trees empty → first_place end f ≡ x → source_with_tree p s ≡ None → source_with_rest x (source_with_tree p s) (λ q. tops_of q (seen_trees g)) ≡ Err at
+    → tops_of p (s ∷ seen_trees empty) ≡ source_with_rest x (source_with_tree p s) (λ q. tops_of q (seen_trees empty)) → Stopped end f p at
 unfolding tops_of
 stuck_here end at x f g s p is alone place none h step =
-    let here : at ≡ x = err_same p s at x (λ q. tops_of q (seen g)) none h in
+    let here : at ≡ x = err_same p s at x (λ q. tops_of q (seen_trees g)) none h in
     record {
       front = empty;
       wrong = f;
@@ -41,45 +41,45 @@ stuck_here end at x f g s p is alone place none h step =
       place = here ∙ sym place;
       last = p;
       before = refl;
-      stuck = ap (tops_of p) alone ∙ step ∙ ap (λ o. source_with_rest x o (λ q. tops_of q (seen empty))) none ∙ ap (λ (y : ℕ). Err y) (sym here);
+      stuck = ap (tops_of p) alone ∙ step ∙ ap (λ o. source_with_rest x o (λ q. tops_of q (seen_trees empty))) none ∙ ap (λ (y : ℕ). Err y) (sym here);
     }
 
 -- a list, with what it can be parsed as
 abbrev pub listed : ℕ → Forest → Seen
-listed x i = form x (roles x (seen i))
+listed x i = form x (roles x (seen_trees i))
 
-stopped : (end at : ℕ) (f : Forest) (p : PartialSource) → tops_of p (seen f) ≡ Err at → Stopped end f p at
+stopped : (end at : ℕ) (f : Forest) (p : PartialSource) → tops_of p (seen_trees f) ≡ Err at → Stopped end f p at
 unfolding tops_of
 stopped end at empty p h = absurd (cc)
 stopped end at (atom x a f) p h = stuck_here end at x (atom x a f) f _ p refl refl refl refl h refl
 stopped end at (text x s f) p h = stuck_here end at x (text x s f) f _ p refl refl refl refl h refl
 stopped end at (list x i f) p h = by (λ q. stopped end at f q) (source_with_tree p (listed x i)) refl
   where
-    by : ((q : PartialSource) → tops_of q (seen f) ≡ Err at → Stopped end f q at) → (o : Option PartialSource) → source_with_tree p (listed x i) ≡ o → Stopped end (list x i f) p at
+    by : ((q : PartialSource) → tops_of q (seen_trees f) ≡ Err at → Stopped end f q at) → (o : Option PartialSource) → source_with_tree p (listed x i) ≡ o → Stopped end (list x i f) p at
     by go None e = stuck_here end at x (list x i f) f (listed x i) p refl refl refl e h refl
     by go (Some q) e =
-        let more = go q (sym (ap (λ o. source_with_rest x o (λ r. tops_of r (seen f))) e) ∙ h) in
+        let more = go q (sym (ap (λ o. source_with_rest x o (λ r. tops_of r (seen_trees f))) e) ∙ h) in
         record {
           front = list x i more.front;
           wrong = more.wrong;
           is = ap (list x i) more.is;
           place = more.place;
           last = more.last;
-          before = ap (λ o. source_with_rest x o (λ r. tops_of r (seen more.front))) e ∙ more.before;
-          stuck = ap (λ o. source_with_rest x o (λ r. tops_of r (seen (behind more.front (only more.wrong))))) e ∙ more.stuck;
+          before = ap (λ o. source_with_rest x o (λ r. tops_of r (seen_trees more.front))) e ∙ more.before;
+          stuck = ap (λ o. source_with_rest x o (λ r. tops_of r (seen_trees (behind more.front (only more.wrong))))) e ∙ more.stuck;
         }
 
 abbrev refusal : ℕ → Result Source ℕ
 refusal x = Err x
 
-refused : (end at : ℕ) (f : Forest) (t : Source) → text_of end (seen f) ≡ Err at → ¬ HasForms f t
+refused : (end at : ℕ) (f : Forest) (t : Source) → text_of end (seen_trees f) ≡ Err at → ¬ HasForms f t
 refused end at f t h has = apart (sym (ap source_or_offset h) ∙ text_read end f t has)
   where
     apart : refusal at ≡ Ok t → ⊥
     apart e = cc
 
 -- a first tree that is no header
-no_header : (end at : ℕ) (f : Forest) → text_of end (seen f) ≡ Err at → at ≡ first_place end f → ((x : ℕ) × (text_of end (seen (only f)) ≡ Err x)) → IsFirstWrong end f at
+no_header : (end at : ℕ) (f : Forest) → text_of end (seen_trees f) ≡ Err at → at ≡ first_place end f → ((x : ℕ) × (text_of end (seen_trees (only f)) ≡ Err x)) → IsFirstWrong end f at
 no_header end at f h place alone = record {
   front = empty;
   wrong = f;
@@ -90,19 +90,19 @@ no_header end at f h place alone = record {
   nor_all = λ t. refused end at f t h;
 }
 
-pub first_wrong : (end at : ℕ) (f : Forest) → text_of end (seen f) ≡ Err at → IsFirstWrong end f at
+pub first_wrong : (end at : ℕ) (f : Forest) → text_of end (seen_trees f) ≡ Err at → IsFirstWrong end f at
 unfolding text_of
 first_wrong end at empty h = no_header end at empty h (err_is at end (sym h)) (end, refl)
 first_wrong end at (atom x a f) h = no_header end at (atom x a f) h (err_is at x (sym h)) (x, refl)
 first_wrong end at (text x s f) h = no_header end at (text x s f) h (err_is at x (sym h)) (x, refl)
-first_wrong end at (list x i f) h = by (is_there (header_form (seen i))) refl h
+first_wrong end at (list x i f) h = by (is_there (header_form (seen_trees i))) refl h
   where
-    by : (b : Bool) → is_there (header_form (seen i)) ≡ b → cond b (tops_of (start x) (seen f)) (Err x) ≡ Err at → IsFirstWrong end (list x i f) at
-    by false e k = no_header end at (list x i f) h (err_is at x (sym k)) (x, ap (λ (b : Bool). cond b (tops_of (start x) (seen empty)) (Err x)) e)
+    by : (b : Bool) → is_there (header_form (seen_trees i)) ≡ b → cond b (tops_of (start x) (seen_trees f)) (Err x) ≡ Err at → IsFirstWrong end (list x i f) at
+    by false e k = no_header end at (list x i f) h (err_is at x (sym k)) (x, ap (λ (b : Bool). cond b (tops_of (start x) (seen_trees empty)) (Err x)) e)
     by true e k =
         let s = stopped end at f (start x) k in
-        let front : text_of end (seen (list x i s.front)) ≡ Ok s.last = ap (λ (b : Bool). cond b (tops_of (start x) (seen s.front)) (Err x)) e ∙ s.before in
-        let stuck : text_of end (seen (list x i (behind s.front (only s.wrong)))) ≡ Err at = ap (λ (b : Bool). cond b (tops_of (start x) (seen (behind s.front (only s.wrong)))) (Err x)) e ∙ s.stuck in
+        let front : text_of end (seen_trees (list x i s.front)) ≡ Ok s.last = ap (λ (b : Bool). cond b (tops_of (start x) (seen_trees s.front)) (Err x)) e ∙ s.before in
+        let stuck : text_of end (seen_trees (list x i (behind s.front (only s.wrong)))) ≡ Err at = ap (λ (b : Bool). cond b (tops_of (start x) (seen_trees (behind s.front (only s.wrong)))) (Err x)) e ∙ s.stuck in
         record {
           front = list x i s.front;
           wrong = s.wrong;

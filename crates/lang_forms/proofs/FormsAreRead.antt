@@ -21,21 +21,21 @@ use Rattle.lang_forms.specs.Names.{is_name, all_fit, is_string, is_list_long, nu
 use Rattle.lang_forms.specs.Words.{type_word, policy_word, kind_word, operator_word, takes, type_for_word, policy_for_word, kind_for_word, number_operator, truth_operator, list_operator, operator_for_word}
 use Rattle.lang_forms.specs.Sketch.{Sketch, nothing, Fits}
 use Rattle.lang_forms.specs.Forms.{numbers, literal, expr_forms, exprs_forms, pairs_forms, stmt_forms, stmts_forms, literal_fits, operand_count, KnownNames, Spelled, AllSpelled, SpelledPairs, site_after, site_after_all, SpelledStmt, SpelledStmts}
-use Rattle.lang_forms.specs.Readings.{Seen, seen, form, roles, word_of, name_of, type_of, policy_of, kind_of, operator_of, truth_of, plain_of, string_of, number_of_first, ints_of, literal_form, literal_at, literal_of, leaf_of, expr_at, expr_of, exprs_of, get_form, apply_form, expr_form, pair_form, pairs_form, stmt_at, stmts_of, block_of, binding_of, named_pairs_of, node_form, call_form, key_form, if_form, for_form, let_form, remember_form, stmt_form}
+use Rattle.lang_forms.specs.Readings.{Seen, seen_trees, form, roles, word_of, name_of, type_of, policy_of, kind_of, operator_of, truth_of, plain_of, string_of, number_of_first, ints_of, literal_form, literal_at, literal_of, leaf_of, expr_at, expr_of, exprs_of, get_form, apply_form, expr_form, pair_form, pairs_form, stmt_at, stmts_of, block_of, binding_of, named_pairs_of, node_form, call_form, key_form, if_form, for_form, let_form, remember_form, stmt_form}
 use Rattle.lang_forms.proofs.Ints.{int-decimal, letters_no_int, decimal_no_name}
 
 -- a first tree that is parsed as a part, and the trees after it
 pub record First {A : Type 0} (f : Forest) (read : Seen → Option A) (a : A) (g : Sketch) : Type 0 where
   pub tree : Seen
   pub rest : Forest
-  pub is : seen f ≡ tree ∷ seen rest
+  pub is : seen_trees f ≡ tree ∷ seen_trees rest
   pub as_read : read tree ≡ Some a
   pub behind : Fits rest g
 
 -- a first tree that is a list of these trees
-pub one_list : {A : Type 0} (read : Seen → Option A) (at p : ℕ) (f i r : Forest) (a : A) (g : Sketch) → f ≡ list at i r → at ≡ p → read (form p (roles p (seen i))) ≡ Some a → Fits r g → First f read a g
+pub one_list : {A : Type 0} (read : Seen → Option A) (at p : ℕ) (f i r : Forest) (a : A) (g : Sketch) → f ≡ list at i r → at ≡ p → read (form p (roles p (seen_trees i))) ≡ Some a → Fits r g → First f read a g
 one_list read at p f i r a g is told h rest =
-    subst (λ (x : Forest). First x read a g) (sym is) (record { tree = form at (roles at (seen i)); rest = r; is = refl; as_read = ap (λ (q : ℕ). read (form q (roles q (seen i)))) told ∙ h; behind = rest })
+    subst (λ (x : Forest). First x read a g) (sym is) (record { tree = form at (roles at (seen_trees i)); rest = r; is = refl; as_read = ap (λ (q : ℕ). read (form q (roles q (seen_trees i)))) told ∙ h; behind = rest })
 
 -- a first tree that is an atom
 one_atom : {A : Type 0} (read : Seen → Option A) (at p : ℕ) (f r : Forest) (w : List ℕ) (a : A) (g : Sketch) → f ≡ atom at w r → at ≡ p → read (Seen.word p w) ≡ Some a → Fits r g → First f read a g
@@ -47,18 +47,18 @@ one_string : {A : Type 0} (read : Seen → Option A) (at p : ℕ) (f r : Forest)
 one_string read at p f r s a g is told h rest =
     subst (λ (x : Forest). First x read a g) (sym is) (record { tree = Seen.chars at s; rest = r; is = refl; as_read = ap (λ (q : ℕ). read (Seen.chars q s)) told ∙ h; behind = rest })
 
-pub name_there : (n : Ident) (r : Forest) → is_name n.text ≡ true → name_of (seen (atom n.at n.text r)) ≡ Some (n, seen r)
+pub name_there : (n : Ident) (r : Forest) → is_name n.text ≡ true → name_of (seen_trees (atom n.at n.text r)) ≡ Some (n, seen_trees r)
 unfolding name_of
 name_there n r h = rw h
 
-pub type_there : (t : Ty) (a : ℕ) (r : Forest) → type_of (seen (atom a (type_word t) r)) ≡ Some (t, seen r)
+pub type_there : (t : Ty) (a : ℕ) (r : Forest) → type_of (seen_trees (atom a (type_word t) r)) ≡ Some (t, seen_trees r)
 unfolding type_of type_for_word
 type_there ty.Int a r = refl
 type_there ty.Bool a r = refl
 type_there ty.Text a r = refl
 type_there ty.Ints a r = refl
 
-pub policy_there : (p : BuiltIn) (a : ℕ) (r : Forest) → policy_of (seen (atom a (policy_word p) r)) ≡ Some (p, seen r)
+pub policy_there : (p : BuiltIn) (a : ℕ) (r : Forest) → policy_of (seen_trees (atom a (policy_word p) r)) ≡ Some (p, seen_trees r)
 unfolding policy_of policy_for_word
 policy_there policy.Structural a r = refl
 policy_there policy.Never a r = refl
@@ -66,12 +66,12 @@ policy_there policy.Counter a r = refl
 policy_there policy.Largest a r = refl
 policy_there policy.Append a r = refl
 
-pub kind_there : (k : Kind) (a : ℕ) (r : Forest) → kind_of (seen (atom a (kind_word k) r)) ≡ Some (k, seen r)
+pub kind_there : (k : Kind) (a : ℕ) (r : Forest) → kind_of (seen_trees (atom a (kind_word k) r)) ≡ Some (k, seen_trees r)
 unfolding kind_of kind_for_word
 kind_there kind.Mutable a r = refl
 kind_there kind.Readonly a r = refl
 
-operator_there : (o : Operator) (a : ℕ) (r : Forest) → operator_of (seen (atom a (operator_word o) r)) ≡ Some (o, seen r)
+operator_there : (o : Operator) (a : ℕ) (r : Forest) → operator_of (seen_trees (atom a (operator_word o) r)) ≡ Some (o, seen_trees r)
 unfolding operator_of operator_for_word number_operator truth_operator list_operator
 operator_there operator.Add a r = refl
 operator_there operator.Subtract a r = refl
@@ -93,7 +93,7 @@ operator_there operator.Concat a r = refl
 operator_there operator.Length a r = refl
 operator_there operator.At a r = refl
 
-operator_no_get : (o : Operator) (a : ℕ) (r : Forest) → word_of (codes "get") (seen (atom a (operator_word o) r)) ≡ None
+operator_no_get : (o : Operator) (a : ℕ) (r : Forest) → word_of (codes "get") (seen_trees (atom a (operator_word o) r)) ≡ None
 unfolding word_of
 operator_no_get operator.Add a r = refl
 operator_no_get operator.Subtract a r = refl
@@ -122,7 +122,7 @@ unfolding plain_of
 int_read z h = rw (int-decimal z h)
 
 -- a first tree that is a number
-pub number_there : (z : ℤ) (a : ℕ) (r : Forest) → fits z ≡ true → number_of_first (seen (atom a (signed_decimal z) r)) ≡ Some (z, seen r)
+pub number_there : (z : ℤ) (a : ℕ) (r : Forest) → fits z ≡ true → number_of_first (seen_trees (atom a (signed_decimal z) r)) ≡ Some (z, seen_trees r)
 number_there z a r h = rw (int-decimal z h)
 
 truth_read : (b : Bool) → plain_of (truth_text b) ≡ Some (value.Bool b)
@@ -134,14 +134,14 @@ string_read : (cs : List ℕ) → is_string cs ≡ true → string_of cs ≡ Som
 unfolding string_of
 string_read cs h = rw h
 
-ints_read : (zs : List ℤ) (f : Forest) → all_fit zs ≡ true → Fits f (numbers zs) → ints_of (seen f) ≡ Some zs
+ints_read : (zs : List ℤ) (f : Forest) → all_fit zs ≡ true → Fits f (numbers zs) → ints_of (seen_trees f) ≡ Some zs
 unfolding ints_of
 ints_read [] f s h = rw h
 ints_read (z ∷ zs) f s h =
     let fit = and_parts (fits z) (all_fit zs) s in
-    ap (λ (x : Forest). ints_of (seen x)) h.2 ∙ rw (int-decimal z fit.0, ints_read zs h.1 fit.1 h.4)
+    ap (λ (x : Forest). ints_of (seen_trees x)) h.2 ∙ rw (int-decimal z fit.0, ints_read zs h.1 fit.1 h.4)
 
-list_read : (zs : List ℤ) (a : ℕ) (f : Forest) → is_list_long (length zs) ≡ true → ints_of (seen f) ≡ Some zs → literal_form (seen (atom a (codes "ints") f)) ≡ Some (value.Ints zs)
+list_read : (zs : List ℤ) (a : ℕ) (f : Forest) → is_list_long (length zs) ≡ true → ints_of (seen_trees f) ≡ Some zs → literal_form (seen_trees (atom a (codes "ints") f)) ≡ Some (value.Ints zs)
 unfolding literal_form word_of
 list_read zs a f h r = rw (r, h)
 
@@ -153,17 +153,17 @@ literal_read (value.Text cs) f g s h = one_string literal_at h.0 h.0 f h.1 cs (v
 literal_read (value.Ints zs) f g s h =
     let fit = and_parts (is_list_long (length zs)) (all_fit zs) s in
     let w = h.5 in
-    let read : literal_form (seen h.1) ≡ Some (value.Ints zs) = ap (λ (i : Forest). literal_form (seen i)) w.2 ∙ list_read zs w.0 w.1 fit.0 (ints_read zs w.1 fit.1 w.4) in
+    let read : literal_form (seen_trees h.1) ≡ Some (value.Ints zs) = ap (λ (i : Forest). literal_form (seen_trees i)) w.2 ∙ list_read zs w.0 w.1 fit.0 (ints_read zs w.1 fit.1 w.4) in
     one_list literal_at h.0 h.0 f h.1 h.2 (value.Ints zs) g h.3 refl read h.6
 
-pub literal_there : (v : Value) (f : Forest) (g : Sketch) → (one : First f literal_at v g) → literal_of (seen f) ≡ Some (v, seen one.rest)
+pub literal_there : (v : Value) (f : Forest) (g : Sketch) → (one : First f literal_at v g) → literal_of (seen_trees f) ≡ Some (v, seen_trees one.rest)
 literal_there v f g one = ap literal_of one.is ∙ rw one.as_read
 
 -- Expressions.
 
 pub record ReadsAll (m : List (List ℕ)) (f : Forest) (es : Exprs) : Type 0 where
   pub found : List Expr
-  pub read : exprs_of m (seen f) ≡ Some found
+  pub read : exprs_of m (seen_trees f) ≡ Some found
   pub is : exprs found ≡ es
 
 variable_read : (n : Ident) → is_name n.text ≡ true → leaf_of n.at n.text ≡ Some (Variable n)
@@ -179,7 +179,7 @@ unfolding leaf_of
 truth_leaf at true = rw (truth_read true)
 truth_leaf at false = rw (truth_read false)
 
-get_read : (m : List (List ℕ)) (at a : ℕ) (n : Ident) → is_name n.text ≡ true → expr_form m at (seen (atom a (codes "get") (atom n.at n.text empty))) ≡ Some (Get at n (number_of n.text m))
+get_read : (m : List (List ℕ)) (at a : ℕ) (n : Ident) → is_name n.text ≡ true → expr_form m at (seen_trees (atom a (codes "get") (atom n.at n.text empty))) ≡ Some (Get at n (number_of n.text m))
 unfolding expr_form get_form word_of
 get_read m at a n h = rw (name_there n empty h)
 
@@ -187,7 +187,7 @@ count_is : (es : List Expr) → operand_count (exprs es) ≡ length es
 count_is [] = refl
 count_is (e ∷ es) = ap suc (count_is es)
 
-apply_read : (m : List (List ℕ)) (at a : ℕ) (o : Operator) (es : Exprs) (f : Forest) → takes o (operand_count es) ≡ true → ReadsAll m f es → expr_form m at (seen (atom a (operator_word o) f)) ≡ Some (Apply at o es)
+apply_read : (m : List (List ℕ)) (at a : ℕ) (o : Operator) (es : Exprs) (f : Forest) → takes o (operand_count es) ≡ true → ReadsAll m f es → expr_form m at (seen_trees (atom a (operator_word o) f)) ≡ Some (Apply at o es)
 unfolding expr_form apply_form
 apply_read m at a o es f h r =
     let enough : takes o (length r.found) ≡ true = ap (takes o) (sym (count_is r.found) ∙ ap operand_count r.is) ∙ h in
@@ -220,11 +220,11 @@ mutual
       let w = h.5 in
       let k = w.4 in
       let is : h.1 ≡ atom w.0 (codes "get") (atom n.at n.text empty) = list_with_word h.1 w.1 k.1 w.0 k.0 (codes "get") n w.2 k.2 k.3 ∙ ap (λ (x : Forest). atom w.0 (codes "get") (atom n.at n.text x)) k.4 in
-      let read : expr_form m at (seen h.1) ≡ Some (Get at n number) = ap (λ (i : Forest). expr_form m at (seen i)) is ∙ get_read m at w.0 n s.0 ∙ ap (λ (x : ℕ). Some (Get at n x)) (sym s.1) in
+      let read : expr_form m at (seen_trees h.1) ≡ Some (Get at n number) = ap (λ (i : Forest). expr_form m at (seen_trees i)) is ∙ get_read m at w.0 n s.0 ∙ ap (λ (x : ℕ). Some (Get at n x)) (sym s.1) in
       one_list (expr_at m) h.0 at f h.1 h.2 (Get at n number) g h.3 h.4 read h.6
   expr_read m (Apply at o es) f g s h =
       let w = h.5 in
-      let read : expr_form m at (seen h.1) ≡ Some (Apply at o es) = ap (λ (i : Forest). expr_form m at (seen i)) w.2 ∙ apply_read m at w.0 o es w.1 s.0 (exprs_read m es w.1 s.1 w.4) in
+      let read : expr_form m at (seen_trees h.1) ≡ Some (Apply at o es) = ap (λ (i : Forest). expr_form m at (seen_trees i)) w.2 ∙ apply_read m at w.0 o es w.1 s.0 (exprs_read m es w.1 s.1 w.4) in
       one_list (expr_at m) h.0 at f h.1 h.2 (Apply at o es) g h.3 h.4 read h.6
 
   exprs_read : (m : List (List ℕ)) (es : Exprs) (f : Forest) → AllSpelled m es → Fits f (exprs_forms es) → ReadsAll m f es
@@ -233,27 +233,27 @@ mutual
       let one = expr_read m e f (exprs_forms es) s.0 h in
       more_read m f e es one (exprs_read m es one.rest s.1 one.behind)
 
-expr_there : (m : List (List ℕ)) (f : Forest) (e : Expr) (g : Sketch) → (one : First f (expr_at m) e g) → expr_of m (seen f) ≡ Some (e, seen one.rest)
+expr_there : (m : List (List ℕ)) (f : Forest) (e : Expr) (g : Sketch) → (one : First f (expr_at m) e g) → expr_of m (seen_trees f) ≡ Some (e, seen_trees one.rest)
 expr_there m f e g one = ap (expr_of m) one.is ∙ rw one.as_read
 
-pair_read : (m : List (List ℕ)) (n : Ident) (e : Expr) (f : Forest) → is_name n.text ≡ true → First f (expr_at m) e nothing → pair_form m (seen (atom n.at n.text f)) ≡ Some (record { name = n; value = e })
+pair_read : (m : List (List ℕ)) (n : Ident) (e : Expr) (f : Forest) → is_name n.text ≡ true → First f (expr_at m) e nothing → pair_form m (seen_trees (atom n.at n.text f)) ≡ Some (record { name = n; value = e })
 unfolding pair_form
 pair_read m n e f h one = rw (name_there n f h, expr_there m f e nothing one, one.behind)
 
-pairs_read : (m : List (List ℕ)) (ks : List Named) (f : Forest) → SpelledPairs m ks → Fits f (pairs_forms ks) → pairs_form m (seen f) ≡ Some ks
+pairs_read : (m : List (List ℕ)) (ks : List Named) (f : Forest) → SpelledPairs m ks → Fits f (pairs_forms ks) → pairs_form m (seen_trees f) ≡ Some ks
 unfolding pairs_form
 pairs_read m [] f s h = rw h
 pairs_read m (k ∷ ks) f s h =
     let n = h.5 in
     let one = expr_read m k.value n.1 nothing s.1 n.4 in
-    let read : pair_form m (seen h.1) ≡ Some k = ap (λ (i : Forest). pair_form m (seen i)) (n.2 ∙ ap (λ (p : ℕ). atom p k.name.text n.1) n.3) ∙ pair_read m k.name k.value n.1 s.0 one in
-    ap (λ (x : Forest). pairs_form m (seen x)) h.3 ∙ rw (read, pairs_read m ks h.2 s.2 h.6)
+    let read : pair_form m (seen_trees h.1) ≡ Some k = ap (λ (i : Forest). pair_form m (seen_trees i)) (n.2 ∙ ap (λ (p : ℕ). atom p k.name.text n.1) n.3) ∙ pair_read m k.name k.value n.1 s.0 one in
+    ap (λ (x : Forest). pairs_form m (seen_trees x)) h.3 ∙ rw (read, pairs_read m ks h.2 s.2 h.6)
 
 -- Statements.
 
 pub record ReadsBody (m : KnownNames) (k : ℕ) (f : Forest) (b : Stmts) : Type 0 where
   pub found : List Stmt
-  pub read : stmts_of m k (seen f) ≡ Some (found, site_after_all k b)
+  pub read : stmts_of m k (seen_trees f) ≡ Some (found, site_after_all k b)
   pub is : stmts found ≡ b
 
 -- a first tree that is a statement, and the number of the next
@@ -272,50 +272,50 @@ next_read m k f t ts one r = record {
   is = ap (next t) r.is;
 }
 
-node_read : (m : KnownNames) (k at a p : ℕ) (n : Ident) (ns : List Named) (b : Stmts) (i f : Forest) → is_name n.text ≡ true → pairs_form m.states (seen i) ≡ Some ns → ReadsBody m (k + 1) f b →
-    stmt_form m k at (seen (atom a (codes "node") (atom n.at n.text (list p i f)))) ≡ Some (Node at k n ns b, site_after_all (k + 1) b)
+node_read : (m : KnownNames) (k at a p : ℕ) (n : Ident) (ns : List Named) (b : Stmts) (i f : Forest) → is_name n.text ≡ true → pairs_form m.states (seen_trees i) ≡ Some ns → ReadsBody m (k + 1) f b →
+    stmt_form m k at (seen_trees (atom a (codes "node") (atom n.at n.text (list p i f)))) ≡ Some (Node at k n ns b, site_after_all (k + 1) b)
 unfolding stmt_form node_form named_pairs_of word_of
 node_read m k at a p n ns b i f h read r = rw (name_there n (list p i f) h, read, r.read, r.is)
 
 call_read : (m : KnownNames) (k at a : ℕ) (n : Ident) (es : Exprs) (f : Forest) → is_name n.text ≡ true → ReadsAll m.states f es →
-    stmt_form m k at (seen (atom a (codes "call") (atom n.at n.text f))) ≡ Some (Call at k n (number_of n.text m.functions) es, k + 1)
+    stmt_form m k at (seen_trees (atom a (codes "call") (atom n.at n.text f))) ≡ Some (Call at k n (number_of n.text m.functions) es, k + 1)
 unfolding stmt_form call_form word_of
 call_read m k at a n es f h r = rw (name_there n f h, r.read, r.is)
 
 key_read : (m : KnownNames) (k at a : ℕ) (e : Expr) (b : Stmts) (f : Forest) (g : Sketch) → (one : First f (expr_at m.states) e g) → ReadsBody m (k + 1) one.rest b →
-    stmt_form m k at (seen (atom a (codes "key") f)) ≡ Some (Key at k e b, site_after_all (k + 1) b)
+    stmt_form m k at (seen_trees (atom a (codes "key") f)) ≡ Some (Key at k e b, site_after_all (k + 1) b)
 unfolding stmt_form key_form word_of
 key_read m k at a e b f g one r = rw (expr_there m.states f e g one, r.read, r.is)
 
 -- the statements of a first tree that is a list
-block_there : (m : KnownNames) (k p : ℕ) (f i r : Forest) (b : Stmts) → f ≡ list p i r → (all : ReadsBody m k i b) → block_of m k (seen f) ≡ Some ((all.found, site_after_all k b), seen r)
-block_there m k p f i r b is all = ap (λ (x : Forest). block_of m k (seen x)) is ∙ rw all.read
+block_there : (m : KnownNames) (k p : ℕ) (f i r : Forest) (b : Stmts) → f ≡ list p i r → (all : ReadsBody m k i b) → block_of m k (seen_trees f) ≡ Some ((all.found, site_after_all k b), seen_trees r)
+block_there m k p f i r b is all = ap (λ (x : Forest). block_of m k (seen_trees x)) is ∙ rw all.read
 
 if_read : (m : KnownNames) (k at w p q : ℕ) (e : Expr) (a b : Stmts) (f i j r : Forest) (g : Sketch) → (one : First f (expr_at m.states) e g) → one.rest ≡ list p i r → r ≡ list q j empty →
     ReadsBody m (k + 1) i a → ReadsBody m (site_after_all (k + 1) a) j b →
-    stmt_form m k at (seen (atom w (codes "if") f)) ≡ Some (If at k e a b, site_after_all (site_after_all (k + 1) a) b)
+    stmt_form m k at (seen_trees (atom w (codes "if") f)) ≡ Some (If at k e a b, site_after_all (site_after_all (k + 1) a) b)
 unfolding stmt_form if_form word_of
 if_read m k at w p q e a b f i j r g one x y s t =
     rw (expr_there m.states f e g one, block_there m (k + 1) p one.rest i r a x s, block_there m (site_after_all (k + 1) a) q r j empty b y t, s.is, t.is)
 
 for_read : (m : KnownNames) (k at a : ℕ) (n : Ident) (e : Expr) (b : Stmts) (f : Forest) (g : Sketch) → is_name n.text ≡ true → (one : First f (expr_at m.states) e g) → ReadsBody m (k + 1) one.rest b →
-    stmt_form m k at (seen (atom a (codes "for") (atom n.at n.text f))) ≡ Some (For at k n e b, site_after_all (k + 1) b)
+    stmt_form m k at (seen_trees (atom a (codes "for") (atom n.at n.text f))) ≡ Some (For at k n e b, site_after_all (k + 1) b)
 unfolding stmt_form for_form binding_of word_of
 for_read m k at a n e b f g h one r = rw (name_there n f h, expr_there m.states f e g one, r.read, r.is)
 
 let_read : (m : KnownNames) (k at a : ℕ) (n : Ident) (e : Expr) (b : Stmts) (f : Forest) (g : Sketch) → is_name n.text ≡ true → (one : First f (expr_at m.states) e g) → ReadsBody m (k + 1) one.rest b →
-    stmt_form m k at (seen (atom a (codes "let") (atom n.at n.text f))) ≡ Some (Let at k n e b, site_after_all (k + 1) b)
+    stmt_form m k at (seen_trees (atom a (codes "let") (atom n.at n.text f))) ≡ Some (Let at k n e b, site_after_all (k + 1) b)
 unfolding stmt_form let_form binding_of word_of
 let_read m k at a n e b f g h one r = rw (name_there n f h, expr_there m.states f e g one, r.read, r.is)
 
-remember_read : (m : KnownNames) (k at a p : ℕ) (n : Ident) (ks : List Named) (e : Expr) (b : Stmts) (i f : Forest) (g : Sketch) → is_name n.text ≡ true → pairs_form m.states (seen i) ≡ Some ks →
+remember_read : (m : KnownNames) (k at a p : ℕ) (n : Ident) (ks : List Named) (e : Expr) (b : Stmts) (i f : Forest) (g : Sketch) → is_name n.text ≡ true → pairs_form m.states (seen_trees i) ≡ Some ks →
     (one : First f (expr_at m.states) e g) → ReadsBody m (k + 1) one.rest b →
-    stmt_form m k at (seen (atom a (codes "remember") (atom n.at n.text (list p i f)))) ≡ Some (Remember at k n ks e b, site_after_all (k + 1) b)
+    stmt_form m k at (seen_trees (atom a (codes "remember") (atom n.at n.text (list p i f)))) ≡ Some (Remember at k n ks e b, site_after_all (k + 1) b)
 unfolding stmt_form remember_form named_pairs_of word_of
 remember_read m k at a p n ks e b i f g h read one r = rw (name_there n (list p i f) h, read, expr_there m.states f e g one, r.read, r.is)
 
 -- a list that is parsed as a statement, with its number
-one_stmt : (m : KnownNames) (k site at p x : ℕ) (f i r : Forest) (t : ℕ → Stmt) (g : Sketch) → site ≡ k → f ≡ list at i r → at ≡ p → stmt_form m k p (seen i) ≡ Some (t k, x) → Fits r g → First f (stmt_at m k) (t site, x) g
+one_stmt : (m : KnownNames) (k site at p x : ℕ) (f i r : Forest) (t : ℕ → Stmt) (g : Sketch) → site ≡ k → f ≡ list at i r → at ≡ p → stmt_form m k p (seen_trees i) ≡ Some (t k, x) → Fits r g → First f (stmt_at m k) (t site, x) g
 one_stmt m k site at p x f i r t g same is told h rest =
     one_list (stmt_at m k) at p f i r (t site, x) g is told (h ∙ ap (λ (j : ℕ). Some (t j, x)) (sym same)) rest
 
@@ -327,25 +327,25 @@ mutual
       let l = v.4 in
       let is = list_with_word h.1 w.1 v.1 w.0 v.0 (codes "node") n w.2 v.2 v.3 ∙ ap (λ (i : Forest). atom w.0 (codes "node") (atom n.at n.text i)) l.3 in
       one_stmt m k site h.0 at _ f h.1 h.2 (λ j. Node at j n ns b) g s.0 h.3 h.4
-      (ap (λ (i : Forest). stmt_form m k at (seen i)) is ∙ node_read m k at w.0 l.0 n ns b l.1 l.2 s.1 (pairs_read m.states ns l.1 s.2 l.5) (stmts_read m (k + 1) b l.2 s.3 l.6)) h.6
+      (ap (λ (i : Forest). stmt_form m k at (seen_trees i)) is ∙ node_read m k at w.0 l.0 n ns b l.1 l.2 s.1 (pairs_read m.states ns l.1 s.2 l.5) (stmts_read m (k + 1) b l.2 s.3 l.6)) h.6
   stmt_read m k (Call at site n function es) f g s h =
       let w = h.5 in
       let v = w.4 in
       let is = list_with_word h.1 w.1 v.1 w.0 v.0 (codes "call") n w.2 v.2 v.3 in
       one_stmt m k site h.0 at _ f h.1 h.2 (λ j. Call at j n function es) g s.0 h.3 h.4
-      (ap (λ (i : Forest). stmt_form m k at (seen i)) is ∙ call_read m k at w.0 n es v.1 s.1 (exprs_read m.states es v.1 s.3 v.4) ∙ ap (λ (c : ℕ). Some (Call at k n c es, k + 1)) (sym s.2)) h.6
+      (ap (λ (i : Forest). stmt_form m k at (seen_trees i)) is ∙ call_read m k at w.0 n es v.1 s.1 (exprs_read m.states es v.1 s.3 v.4) ∙ ap (λ (c : ℕ). Some (Call at k n c es, k + 1)) (sym s.2)) h.6
   stmt_read m k (Key at site e b) f g s h =
       let w = h.5 in
       let one = expr_read m.states e w.1 (stmts_forms b) s.1 w.4 in
       one_stmt m k site h.0 at _ f h.1 h.2 (λ j. Key at j e b) g s.0 h.3 h.4
-      (ap (λ (i : Forest). stmt_form m k at (seen i)) w.2 ∙ key_read m k at w.0 e b w.1 (stmts_forms b) one (stmts_read m (k + 1) b one.rest s.2 one.behind)) h.6
+      (ap (λ (i : Forest). stmt_form m k at (seen_trees i)) w.2 ∙ key_read m k at w.0 e b w.1 (stmts_forms b) one (stmts_read m (k + 1) b one.rest s.2 one.behind)) h.6
   stmt_read m k (If at site e a b) f g s h =
       let w = h.5 in
       let one = expr_read m.states e w.1 _ s.1 w.4 in
       let x = one.behind in
       let y = x.6 in
       one_stmt m k site h.0 at _ f h.1 h.2 (λ j. If at j e a b) g s.0 h.3 h.4
-      (ap (λ (i : Forest). stmt_form m k at (seen i)) w.2
+      (ap (λ (i : Forest). stmt_form m k at (seen_trees i)) w.2
       ∙ if_read m k at w.0 x.0 y.0 e a b w.1 x.1 y.1 x.2 _ one x.3 (y.3 ∙ ap (list y.0 y.1) y.6) (stmts_read m (k + 1) a x.1 s.2 x.5) (stmts_read m (site_after_all (k + 1) a) b y.1 s.3 y.5)) h.6
   stmt_read m k (For at site n e b) f g s h =
       let w = h.5 in
@@ -353,14 +353,14 @@ mutual
       let is = list_with_word h.1 w.1 v.1 w.0 v.0 (codes "for") n w.2 v.2 v.3 in
       let one = expr_read m.states e v.1 (stmts_forms b) s.2 v.4 in
       one_stmt m k site h.0 at _ f h.1 h.2 (λ j. For at j n e b) g s.0 h.3 h.4
-      (ap (λ (i : Forest). stmt_form m k at (seen i)) is ∙ for_read m k at w.0 n e b v.1 (stmts_forms b) s.1 one (stmts_read m (k + 1) b one.rest s.3 one.behind)) h.6
+      (ap (λ (i : Forest). stmt_form m k at (seen_trees i)) is ∙ for_read m k at w.0 n e b v.1 (stmts_forms b) s.1 one (stmts_read m (k + 1) b one.rest s.3 one.behind)) h.6
   stmt_read m k (Let at site n e b) f g s h =
       let w = h.5 in
       let v = w.4 in
       let is = list_with_word h.1 w.1 v.1 w.0 v.0 (codes "let") n w.2 v.2 v.3 in
       let one = expr_read m.states e v.1 (stmts_forms b) s.2 v.4 in
       one_stmt m k site h.0 at _ f h.1 h.2 (λ j. Let at j n e b) g s.0 h.3 h.4
-      (ap (λ (i : Forest). stmt_form m k at (seen i)) is ∙ let_read m k at w.0 n e b v.1 (stmts_forms b) s.1 one (stmts_read m (k + 1) b one.rest s.3 one.behind)) h.6
+      (ap (λ (i : Forest). stmt_form m k at (seen_trees i)) is ∙ let_read m k at w.0 n e b v.1 (stmts_forms b) s.1 one (stmts_read m (k + 1) b one.rest s.3 one.behind)) h.6
   stmt_read m k (Remember at site n ks e b) f g s h =
       let w = h.5 in
       let v = w.4 in
@@ -368,7 +368,7 @@ mutual
       let is = list_with_word h.1 w.1 v.1 w.0 v.0 (codes "remember") n w.2 v.2 v.3 ∙ ap (λ (i : Forest). atom w.0 (codes "remember") (atom n.at n.text i)) l.3 in
       let one = expr_read m.states e l.2 (stmts_forms b) s.3 l.6 in
       one_stmt m k site h.0 at _ f h.1 h.2 (λ j. Remember at j n ks e b) g s.0 h.3 h.4
-      (ap (λ (i : Forest). stmt_form m k at (seen i)) is
+      (ap (λ (i : Forest). stmt_form m k at (seen_trees i)) is
       ∙ remember_read m k at w.0 l.0 n ks e b l.1 l.2 (stmts_forms b) s.1 (pairs_read m.states ks l.1 s.2 l.5) one (stmts_read m (k + 1) b one.rest s.4 one.behind)) h.6
 
   pub stmts_read : (m : KnownNames) (k : ℕ) (b : Stmts) (f : Forest) → SpelledStmts m k b → Fits f (stmts_forms b) → ReadsBody m k f b

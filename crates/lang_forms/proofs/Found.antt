@@ -21,10 +21,10 @@ use Rattle.lang_ast.specs.declared.syntax.Operator.{Operator}
 use Rattle.lang_ast.specs.declared.syntax.Operator.TheVariants as operator
 use Rattle.lang_limits.specs.Tokens.{fits}
 use Rattle.lang_forms.specs.Names.{is_name, all_fit, is_string, is_list_long}
-use Rattle.lang_forms.specs.Words.{type_word, policy_word, kind_word, operator_word, named, type_for_word, policy_for_word, kind_for_word, number_operator, truth_operator, list_operator, operator_for_word}
+use Rattle.lang_forms.specs.Words.{type_word, policy_word, kind_word, operator_word, if_word, type_for_word, policy_for_word, kind_for_word, number_operator, truth_operator, list_operator, operator_for_word}
 use Rattle.lang_forms.specs.Sketch.{Sketch, Fits, IsAtOffset}
 use Rattle.lang_forms.specs.Forms.{numbers, literal, literal_fits, plain_fits}
-use Rattle.lang_forms.specs.Readings.{◌>>=◌, choose, Seen, seen, is_end, word_of, name_of, type_of, policy_of, kind_of, operator_of, int_of, truth_of, plain_of, string_of, number_of_first, ints_of, literal_form, literal_of}
+use Rattle.lang_forms.specs.Readings.{◌>>=◌, choose, Seen, seen_trees, is_end, word_of, name_of, type_of, policy_of, kind_of, operator_of, int_of, truth_of, plain_of, string_of, number_of_first, ints_of, literal_form, literal_of}
 use Rattle.lang_forms.proofs.Ints.{decimal-int}
 
 pub inject : {A : Type 0} {a b : A} → Some a ≡ Some b → a ≡ b
@@ -52,42 +52,42 @@ pub record Worded (i : Forest) (w : List ℕ) (ss : List Seen) : Type 0 where
   pub at : ℕ
   pub rest : Forest
   pub is : i ≡ atom at w rest
-  pub behind : ss ≡ seen rest
+  pub behind : ss ≡ seen_trees rest
 
-pub word_found : (w : List ℕ) (i : Forest) (ss : List Seen) → word_of w (seen i) ≡ Some ss → Worded i w ss
+pub word_found : (w : List ℕ) (i : Forest) (ss : List Seen) → word_of w (seen_trees i) ≡ Some ss → Worded i w ss
 unfolding word_of
 word_found w empty ss h = absurd (cc)
 word_found w (atom b v r) ss h =
-    let c = cond_some (bytes_eq v w) (seen r) ss h in
+    let c = cond_some (bytes_eq v w) (seen_trees r) ss h in
     record { at = b; rest = r; is = ap (λ (x : List ℕ). atom b x r) (bytes_same v w c.0); behind = sym c.1 }
 word_found w (text b v r) ss h = absurd (cc)
 word_found w (list b j r) ss h = absurd (cc)
 
 -- the same for trees that are seen already
-pub word_next : (w : List ℕ) (i : Forest) (rs ss : List Seen) → rs ≡ seen i → word_of w rs ≡ Some ss → Worded i w ss
+pub word_next : (w : List ℕ) (i : Forest) (rs ss : List Seen) → rs ≡ seen_trees i → word_of w rs ≡ Some ss → Worded i w ss
 word_next w i rs ss is h = word_found w i ss (ap (word_of w) (sym is) ∙ h)
 
 -- a first tree that is a name, and the trees after it
 pub record NamedBy (i : Forest) (n : Ident × List Seen) : Type 0 where
   pub rest : Forest
   pub is : i ≡ atom n.0.at n.0.text rest
-  pub behind : n.1 ≡ seen rest
+  pub behind : n.1 ≡ seen_trees rest
   pub good : is_name n.0.text ≡ true
 
-name_found : (i : Forest) (n : Ident × List Seen) → name_of (seen i) ≡ Some n → NamedBy i n
+name_found : (i : Forest) (n : Ident × List Seen) → name_of (seen_trees i) ≡ Some n → NamedBy i n
 unfolding name_of
 name_found empty n h = absurd (cc)
 name_found (atom b v r) n h =
-    let c = cond_some (is_name v) (record { at = b; text = v }, seen r) n h in
+    let c = cond_some (is_name v) (record { at = b; text = v }, seen_trees r) n h in
     subst (λ (m : Ident × List Seen). NamedBy (atom b v r) m) c.1 (record { rest = r; is = refl; behind = refl; good = c.0 })
 name_found (text b v r) n h = absurd (cc)
 name_found (list b j r) n h = absurd (cc)
 
-pub name_next : (i : Forest) (rs : List Seen) (n : Ident × List Seen) → rs ≡ seen i → name_of rs ≡ Some n → NamedBy i n
+pub name_next : (i : Forest) (rs : List Seen) (n : Ident × List Seen) → rs ≡ seen_trees i → name_of rs ≡ Some n → NamedBy i n
 name_next i rs n is h = name_found i n (ap name_of (sym is) ∙ h)
 
 -- the keyword of one value, or of another
-named_some : {A : Type 0} (word : A → List ℕ) (a b : A) (w : List ℕ) (other : Option A) → (other ≡ Some b → w ≡ word b) → named (word a) a w other ≡ Some b → w ≡ word b
+named_some : {A : Type 0} (word : A → List ℕ) (a b : A) (w : List ℕ) (other : Option A) → (other ≡ Some b → w ≡ word b) → if_word (word a) a w other ≡ Some b → w ≡ word b
 named_some word a b w other rest h = by (bytes_eq w (word a)) refl h
   where
     by : (t : Bool) → bytes_eq w (word a) ≡ t → cond t (Some a) other ≡ Some b → w ≡ word b
@@ -149,14 +149,14 @@ pub record Typed (i : Forest) (t : Ty × List Seen) : Type 0 where
   pub at : ℕ
   pub rest : Forest
   pub is : i ≡ atom at (type_word t.0) rest
-  pub behind : t.1 ≡ seen rest
+  pub behind : t.1 ≡ seen_trees rest
 
-pub type_next : (i : Forest) (rs : List Seen) (t : Ty × List Seen) → rs ≡ seen i → type_of rs ≡ Some t → Typed i t
+pub type_next : (i : Forest) (rs : List Seen) (t : Ty × List Seen) → rs ≡ seen_trees i → type_of rs ≡ Some t → Typed i t
 unfolding type_of
 type_next empty rs t is h = absurd (cc (ap type_of (sym is) ∙ h))
 type_next (atom b v r) rs t is h =
-    let c = bind_some (type_for_word v) (λ x. Some (x, seen r)) t (ap type_of (sym is) ∙ h) in
-    let same : (c.0, seen r) ≡ t = inject c.2 in
+    let c = bind_some (type_for_word v) (λ x. Some (x, seen_trees r)) t (ap type_of (sym is) ∙ h) in
+    let same : (c.0, seen_trees r) ≡ t = inject c.2 in
     subst (λ (m : Ty × List Seen). Typed (atom b v r) m) same (record { at = b; rest = r; is = ap (λ (x : List ℕ). atom b x r) (type_found v c.0 c.1); behind = refl })
 type_next (text b v r) rs t is h = absurd (cc (ap type_of (sym is) ∙ h))
 type_next (list b j r) rs t is h = absurd (cc (ap type_of (sym is) ∙ h))
@@ -166,14 +166,14 @@ pub record Policied (i : Forest) (p : BuiltIn × List Seen) : Type 0 where
   pub at : ℕ
   pub rest : Forest
   pub is : i ≡ atom at (policy_word p.0) rest
-  pub behind : p.1 ≡ seen rest
+  pub behind : p.1 ≡ seen_trees rest
 
-pub policy_next : (i : Forest) (rs : List Seen) (p : BuiltIn × List Seen) → rs ≡ seen i → policy_of rs ≡ Some p → Policied i p
+pub policy_next : (i : Forest) (rs : List Seen) (p : BuiltIn × List Seen) → rs ≡ seen_trees i → policy_of rs ≡ Some p → Policied i p
 unfolding policy_of
 policy_next empty rs p is h = absurd (cc (ap policy_of (sym is) ∙ h))
 policy_next (atom b v r) rs p is h =
-    let c = bind_some (policy_for_word v) (λ x. Some (x, seen r)) p (ap policy_of (sym is) ∙ h) in
-    let same : (c.0, seen r) ≡ p = inject c.2 in
+    let c = bind_some (policy_for_word v) (λ x. Some (x, seen_trees r)) p (ap policy_of (sym is) ∙ h) in
+    let same : (c.0, seen_trees r) ≡ p = inject c.2 in
     subst (λ (m : BuiltIn × List Seen). Policied (atom b v r) m) same (record { at = b; rest = r; is = ap (λ (x : List ℕ). atom b x r) (policy_found v c.0 c.1); behind = refl })
 policy_next (text b v r) rs p is h = absurd (cc (ap policy_of (sym is) ∙ h))
 policy_next (list b j r) rs p is h = absurd (cc (ap policy_of (sym is) ∙ h))
@@ -183,14 +183,14 @@ pub record Kinded (i : Forest) (k : Kind × List Seen) : Type 0 where
   pub at : ℕ
   pub rest : Forest
   pub is : i ≡ atom at (kind_word k.0) rest
-  pub behind : k.1 ≡ seen rest
+  pub behind : k.1 ≡ seen_trees rest
 
-pub kind_next : (i : Forest) (rs : List Seen) (k : Kind × List Seen) → rs ≡ seen i → kind_of rs ≡ Some k → Kinded i k
+pub kind_next : (i : Forest) (rs : List Seen) (k : Kind × List Seen) → rs ≡ seen_trees i → kind_of rs ≡ Some k → Kinded i k
 unfolding kind_of
 kind_next empty rs k is h = absurd (cc (ap kind_of (sym is) ∙ h))
 kind_next (atom b v r) rs k is h =
-    let c = bind_some (kind_for_word v) (λ x. Some (x, seen r)) k (ap kind_of (sym is) ∙ h) in
-    let same : (c.0, seen r) ≡ k = inject c.2 in
+    let c = bind_some (kind_for_word v) (λ x. Some (x, seen_trees r)) k (ap kind_of (sym is) ∙ h) in
+    let same : (c.0, seen_trees r) ≡ k = inject c.2 in
     subst (λ (m : Kind × List Seen). Kinded (atom b v r) m) same (record { at = b; rest = r; is = ap (λ (x : List ℕ). atom b x r) (kind_found v c.0 c.1); behind = refl })
 kind_next (text b v r) rs k is h = absurd (cc (ap kind_of (sym is) ∙ h))
 kind_next (list b j r) rs k is h = absurd (cc (ap kind_of (sym is) ∙ h))
@@ -200,25 +200,25 @@ pub record Operated (i : Forest) (o : Operator × List Seen) : Type 0 where
   pub at : ℕ
   pub rest : Forest
   pub is : i ≡ atom at (operator_word o.0) rest
-  pub behind : o.1 ≡ seen rest
+  pub behind : o.1 ≡ seen_trees rest
 
-pub operator_found : (i : Forest) (o : Operator × List Seen) → operator_of (seen i) ≡ Some o → Operated i o
+pub operator_found : (i : Forest) (o : Operator × List Seen) → operator_of (seen_trees i) ≡ Some o → Operated i o
 unfolding operator_of
 operator_found empty o h = absurd (cc)
 operator_found (atom b v r) o h =
-    let c = bind_some (operator_for_word v) (λ x. Some (x, seen r)) o h in
-    let same : (c.0, seen r) ≡ o = inject c.2 in
+    let c = bind_some (operator_for_word v) (λ x. Some (x, seen_trees r)) o h in
+    let same : (c.0, seen_trees r) ≡ o = inject c.2 in
     subst (λ (m : Operator × List Seen). Operated (atom b v r) m) same (record { at = b; rest = r; is = ap (λ (x : List ℕ). atom b x r) (operator_word_found v c.0 c.1); behind = refl })
 operator_found (text b v r) o h = absurd (cc)
 operator_found (list b j r) o h = absurd (cc)
 
-end_found : (i : Forest) → is_end (seen i) ≡ true → i ≡ empty
+end_found : (i : Forest) → is_end (seen_trees i) ≡ true → i ≡ empty
 end_found empty h = refl
 end_found (atom b v r) h = absurd (cc)
 end_found (text b v r) h = absurd (cc)
 end_found (list b j r) h = absurd (cc)
 
-pub end_next : (i : Forest) (rs : List Seen) → rs ≡ seen i → is_end rs ≡ true → i ≡ empty
+pub end_next : (i : Forest) (rs : List Seen) → rs ≡ seen_trees i → is_end rs ≡ true → i ≡ empty
 end_next i rs is h = end_found i (ap is_end (sym is) ∙ h)
 
 -- Literals.
@@ -265,27 +265,27 @@ pub record Numbered (i : Forest) (z : ℤ × List Seen) : Type 0 where
   pub at : ℕ
   pub rest : Forest
   pub is : i ≡ atom at (signed_decimal z.0) rest
-  pub behind : z.1 ≡ seen rest
+  pub behind : z.1 ≡ seen_trees rest
   pub good : fits z.0 ≡ true
 
-number_found : (i : Forest) (z : ℤ × List Seen) → number_of_first (seen i) ≡ Some z → Numbered i z
+number_found : (i : Forest) (z : ℤ × List Seen) → number_of_first (seen_trees i) ≡ Some z → Numbered i z
 number_found empty z h = absurd (cc)
 number_found (atom b v r) z h =
-    let x = map_some (int_of v) (λ (y : ℤ). (y, seen r)) z h in
+    let x = map_some (int_of v) (λ (y : ℤ). (y, seen_trees r)) z h in
     let d = decimal-int v x.0 x.1 in
     subst (λ (m : ℤ × List Seen). Numbered (atom b v r) m) x.2 (record { at = b; rest = r; is = ap (λ (y : List ℕ). atom b y r) d.0; behind = refl; good = d.1 })
 number_found (text b v r) z h = absurd (cc)
 number_found (list b j r) z h = absurd (cc)
 
-pub number_next : (i : Forest) (rs : List Seen) (z : ℤ × List Seen) → rs ≡ seen i → number_of_first rs ≡ Some z → Numbered i z
+pub number_next : (i : Forest) (rs : List Seen) (z : ℤ × List Seen) → rs ≡ seen_trees i → number_of_first rs ≡ Some z → Numbered i z
 number_next i rs z is h = number_found i z (ap number_of_first (sym is) ∙ h)
 
-ints_found : (f : Forest) (zs : List ℤ) → ints_of (seen f) ≡ Some zs → Fits f (numbers zs) × (all_fit zs ≡ true)
+ints_found : (f : Forest) (zs : List ℤ) → ints_of (seen_trees f) ≡ Some zs → Fits f (numbers zs) × (all_fit zs ≡ true)
 unfolding ints_of
 ints_found empty zs h = rw (← inject h) (refl, refl)
 ints_found (atom at a f) zs h =
     let z = bind_some (int_of a) _ zs h in
-    let rest = map_some (ints_of (seen f)) (λ (ys : List ℤ). z.0 ∷ ys) zs z.2 in
+    let rest = map_some (ints_of (seen_trees f)) (λ (ys : List ℤ). z.0 ∷ ys) zs z.2 in
     let d = decimal-int a z.0 z.1 in
     let all = ints_found f rest.0 rest.1 in
     subst (λ (l : List ℤ). Fits (atom at a f) (numbers l) × (all_fit l ≡ true)) rest.2 ((at, f, ap (λ (y : List ℕ). atom at y f) d.0, tt, all.0), and_from (fits z.0) (all_fit rest.0) d.1 all.1)
@@ -297,10 +297,10 @@ record Listed (i : Forest) (v : Value) : Type 0 where
   fit : (at : ℕ) (r : Forest) (g : Sketch) → Fits r g → Fits (list at i r) (literal None v g)
   whole : literal_fits v ≡ true
 
-list_found : (i : Forest) (v : Value) → literal_form (seen i) ≡ Some v → Listed i v
+list_found : (i : Forest) (v : Value) → literal_form (seen_trees i) ≡ Some v → Listed i v
 unfolding literal_form
 list_found i v h =
-    let w = bind_some (word_of (codes "ints") (seen i)) _ v h in
+    let w = bind_some (word_of (codes "ints") (seen_trees i)) _ v h in
     let zs = bind_some (ints_of w.0) _ v w.2 in
     let c = cond_some (is_list_long (length zs.0)) (value.Ints zs.0) v zs.2 in
     let word = word_found (codes "ints") i w.0 w.1 in
@@ -317,24 +317,24 @@ tail (list at i f) = f
 
 -- a first tree that is a literal, and the trees after it
 pub record LiteralFirst (f : Forest) (v : Value × List Seen) : Type 0 where
-  pub behind : v.1 ≡ seen (tail f)
+  pub behind : v.1 ≡ seen_trees (tail f)
   pub fit : (g : Sketch) → Fits (tail f) g → Fits f (literal None v.0 g)
   pub whole : literal_fits v.0 ≡ true
 
-literal_found : (f : Forest) (v : Value × List Seen) → literal_of (seen f) ≡ Some v → LiteralFirst f v
+literal_found : (f : Forest) (v : Value × List Seen) → literal_of (seen_trees f) ≡ Some v → LiteralFirst f v
 literal_found empty v h = absurd (cc)
 literal_found (atom at a f) v h =
-    let x = map_some (plain_of a) (λ (y : Value). (y, seen f)) v h in
+    let x = map_some (plain_of a) (λ (y : Value). (y, seen_trees f)) v h in
     let p = plain_found a x.0 x.1 in
     subst (λ (y : Value × List Seen). LiteralFirst (atom at a f) y) x.2 (record { behind = refl; fit = λ g rest. p.fit None at f g tt rest; whole = p.whole })
 literal_found (text at s f) v h =
-    let x = map_some (string_of s) (λ (y : Value). (y, seen f)) v h in
+    let x = map_some (string_of s) (λ (y : Value). (y, seen_trees f)) v h in
     let q = string_found s x.0 x.1 in
-    subst (λ (y : Value × List Seen). LiteralFirst (text at s f) y) (ap (λ (y : Value). (y, seen f)) q.is ∙ x.2) (record { behind = refl; fit = λ g rest. (at, f, refl, tt, rest); whole = q.good })
+    subst (λ (y : Value × List Seen). LiteralFirst (text at s f) y) (ap (λ (y : Value). (y, seen_trees f)) q.is ∙ x.2) (record { behind = refl; fit = λ g rest. (at, f, refl, tt, rest); whole = q.good })
 literal_found (list at i f) v h =
-    let x = map_some (literal_form (seen i)) (λ (y : Value). (y, seen f)) v h in
+    let x = map_some (literal_form (seen_trees i)) (λ (y : Value). (y, seen_trees f)) v h in
     let l = list_found i x.0 x.1 in
     subst (λ (y : Value × List Seen). LiteralFirst (list at i f) y) x.2 (record { behind = refl; fit = λ g rest. l.fit at f g rest; whole = l.whole })
 
-pub literal_next : (f : Forest) (rs : List Seen) (v : Value × List Seen) → rs ≡ seen f → literal_of rs ≡ Some v → LiteralFirst f v
+pub literal_next : (f : Forest) (rs : List Seen) (v : Value × List Seen) → rs ≡ seen_trees f → literal_of rs ≡ Some v → LiteralFirst f v
 literal_next f rs v is h = literal_found f v (ap literal_of (sym is) ∙ h)

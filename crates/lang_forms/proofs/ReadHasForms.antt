@@ -11,7 +11,7 @@ use Rattle.lang_forms.specs.Names.{is_name, number_of}
 use Rattle.lang_forms.specs.Words.{takes}
 use Rattle.lang_forms.specs.Sketch.{Sketch, nothing, Fits}
 use Rattle.lang_forms.specs.Forms.{name, expr_forms, exprs_forms, pairs_forms, stmt_forms, stmts_forms, operand_count, KnownNames, Spelled, AllSpelled, SpelledPairs, site_after, site_after_all, SpelledStmt, SpelledStmts, plain_fits}
-use Rattle.lang_forms.specs.Readings.{choose, Seen, seen, is_end, word_of, name_of, plain_of, string_of, leaf_of, expr_at, expr_of, exprs_of, get_form, apply_form, expr_form, pair_form, pairs_form, pairs_of, stmts_of, block_of, node_form, call_form, key_form, if_form, for_form, let_form, remember_form, stmt_form, operator_of}
+use Rattle.lang_forms.specs.Readings.{choose, Seen, seen_trees, is_end, word_of, name_of, plain_of, string_of, leaf_of, expr_at, expr_of, exprs_of, get_form, apply_form, expr_form, pair_form, pairs_form, pairs_of, stmts_of, block_of, node_form, call_form, key_form, if_form, for_form, let_form, remember_form, stmt_form, operator_of}
 use Rattle.lang_forms.proofs.Bindings.{node_is, for_is, let_is, remember_is}
 use Rattle.lang_forms.proofs.Found.{inject, bind_some, map_some, choose_some, Worded, word_found, name_next, operator_found, end_next, plain_found, string_found, tail}
 
@@ -23,9 +23,9 @@ pub record BodyFits (m : KnownNames) (k : ℕ) (f : Forest) (b : List Stmt × �
 
 -- the forms of all trees of a forest
 pub record Claims (f : Forest) : Type 0 where
-  pub exprs_fit : (m : List (List ℕ)) (es : List Expr) → exprs_of m (seen f) ≡ Some es → Fits f (exprs_forms (exprs es)) × AllSpelled m (exprs es)
-  pub pairs_fit : (m : List (List ℕ)) (ks : List Named) → pairs_form m (seen f) ≡ Some ks → Fits f (pairs_forms ks) × SpelledPairs m ks
-  pub stmts_fit : (m : KnownNames) (k : ℕ) (b : List Stmt × ℕ) → stmts_of m k (seen f) ≡ Some b → BodyFits m k f b
+  pub exprs_fit : (m : List (List ℕ)) (es : List Expr) → exprs_of m (seen_trees f) ≡ Some es → Fits f (exprs_forms (exprs es)) × AllSpelled m (exprs es)
+  pub pairs_fit : (m : List (List ℕ)) (ks : List Named) → pairs_form m (seen_trees f) ≡ Some ks → Fits f (pairs_forms ks) × SpelledPairs m ks
+  pub stmts_fit : (m : KnownNames) (k : ℕ) (b : List Stmt × ℕ) → stmts_of m k (seen_trees f) ≡ Some b → BodyFits m k f b
 
 -- the forms of the trees after each tree and of those inside it
 abbrev pub Good : Forest → Type 0
@@ -75,7 +75,7 @@ behind_claims i a w r is good = let all : Good (atom a w r) = subst Good is good
 
 -- a first tree that is an expression, and the trees after it
 record ExprFirst (m : List (List ℕ)) (f : Forest) (e : Expr × List Seen) : Type 0 where
-  behind : e.1 ≡ seen (tail f)
+  behind : e.1 ≡ seen_trees (tail f)
   fit : (g : Sketch) → Fits (tail f) g → Fits f (expr_forms e.0 g)
   spelled : Spelled m e.0
 
@@ -118,10 +118,10 @@ get_found m at i e ss w h =
     subst (λ (d : Expr). ListExpr m at i d) c.1
     (record { fit = λ r g rest. (at, i, r, refl, refl, (w.at, w.rest, w.is, tt, (n.0.0.at, x.rest, x.is, refl, over)), rest); spelled = (x.good, refl) })
 
-apply_found : (m : List (List ℕ)) (at : ℕ) (i : Forest) (e : Expr) → Good i → apply_form m at (seen i) ≡ Some e → ListExpr m at i e
+apply_found : (m : List (List ℕ)) (at : ℕ) (i : Forest) (e : Expr) → Good i → apply_form m at (seen_trees i) ≡ Some e → ListExpr m at i e
 unfolding apply_form
 apply_found m at i e good h =
-    let o = bind_some (operator_of (seen i)) _ e h in
+    let o = bind_some (operator_of (seen_trees i)) _ e h in
     let w = operator_found i o.0 o.1 in
     let es = bind_some (exprs_of m o.0.1) _ e o.2 in
     let c = cond_some (takes o.0.0 (length es.0)) (Apply at o.0.0 (exprs es.0)) e es.2 in
@@ -129,43 +129,43 @@ apply_found m at i e good h =
     subst (λ (d : Expr). ListExpr m at i d) c.1
     (record { fit = λ r g rest. (at, i, r, refl, refl, (w.at, w.rest, w.is, tt, all.0), rest); spelled = (ap (takes o.0.0) (count_is es.0) ∙ c.0, all.1) })
 
-list_found : (m : List (List ℕ)) (at : ℕ) (i : Forest) (e : Expr) → Good i → expr_form m at (seen i) ≡ Some e → ListExpr m at i e
+list_found : (m : List (List ℕ)) (at : ℕ) (i : Forest) (e : Expr) → Good i → expr_form m at (seen_trees i) ≡ Some e → ListExpr m at i e
 unfolding expr_form
-list_found m at i e good h = elim (choose_some (word_of (codes "get") (seen i)) (get_form m at) (apply_form m at (seen i)) e h) [
+list_found m at i e good h = elim (choose_some (word_of (codes "get") (seen_trees i)) (get_form m at) (apply_form m at (seen_trees i)) e h) [
   | inl x ↦ get_found m at i e x.0 (word_found (codes "get") i x.0 x.1) x.2
   | inr x ↦ apply_found m at i e good x.1
 ]
 
-expr_found : (m : List (List ℕ)) (f : Forest) (e : Expr × List Seen) → Good f → expr_of m (seen f) ≡ Some e → ExprFirst m f e
+expr_found : (m : List (List ℕ)) (f : Forest) (e : Expr × List Seen) → Good f → expr_of m (seen_trees f) ≡ Some e → ExprFirst m f e
 expr_found m empty e good h = absurd (cc)
 expr_found m (atom at a f) e good h =
-    let x = map_some (leaf_of at a) (λ (d : Expr). (d, seen f)) e h in
+    let x = map_some (leaf_of at a) (λ (d : Expr). (d, seen_trees f)) e h in
     let l = leaf_found m at a x.0 x.1 in
     subst (λ (p : Expr × List Seen). ExprFirst m (atom at a f) p) x.2 (record { behind = refl; fit = λ g rest. l.fit f g rest; spelled = l.spelled })
 expr_found m (text at s f) e good h =
-    let x = map_some (option_map (Literal at) (string_of s)) (λ (d : Expr). (d, seen f)) e h in
+    let x = map_some (option_map (Literal at) (string_of s)) (λ (d : Expr). (d, seen_trees f)) e h in
     let v = map_some (string_of s) (Literal at) x.0 x.1 in
     let q = string_found s v.0 v.1 in
-    let is : (Literal at (value.Text s), seen f) ≡ e = ap (λ (y : Value). (Literal at y, seen f)) q.is ∙ ap (λ (y : Expr). (y, seen f)) v.2 ∙ x.2 in
+    let is : (Literal at (value.Text s), seen_trees f) ≡ e = ap (λ (y : Value). (Literal at y, seen_trees f)) q.is ∙ ap (λ (y : Expr). (y, seen_trees f)) v.2 ∙ x.2 in
     subst (λ (p : Expr × List Seen). ExprFirst m (text at s f) p) is (record { behind = refl; fit = λ g rest. (at, f, refl, refl, rest); spelled = q.good })
 expr_found m (list at i f) e good h =
-    let x = map_some (expr_form m at (seen i)) (λ (d : Expr). (d, seen f)) e h in
+    let x = map_some (expr_form m at (seen_trees i)) (λ (d : Expr). (d, seen_trees f)) e h in
     let l = list_found m at i x.0 good.1 x.1 in
     subst (λ (p : Expr × List Seen). ExprFirst m (list at i f) p) x.2 (record { behind = refl; fit = λ g rest. l.fit f g rest; spelled = l.spelled })
 
-expr_next : (m : List (List ℕ)) (f : Forest) (rs : List Seen) (e : Expr × List Seen) → Good f → rs ≡ seen f → expr_of m rs ≡ Some e → ExprFirst m f e
+expr_next : (m : List (List ℕ)) (f : Forest) (rs : List Seen) (e : Expr × List Seen) → Good f → rs ≡ seen_trees f → expr_of m rs ≡ Some e → ExprFirst m f e
 expr_next m f rs e good is h = expr_found m f e good (ap (expr_of m) (sym is) ∙ h)
 
-exprs_step : (m : List (List ℕ)) (f : Forest) (s : Seen) → seen f ≡ s ∷ seen (tail f) → Good f → (es : List Expr) → exprs_of m (seen f) ≡ Some es → Fits f (exprs_forms (exprs es)) × AllSpelled m (exprs es)
+exprs_step : (m : List (List ℕ)) (f : Forest) (s : Seen) → seen_trees f ≡ s ∷ seen_trees (tail f) → Good f → (es : List Expr) → exprs_of m (seen_trees f) ≡ Some es → Fits f (exprs_forms (exprs es)) × AllSpelled m (exprs es)
 unfolding exprs_of
 exprs_step m f s is good es h =
-    let e = bind_some (expr_at m s) (λ (e : Expr). option_map (λ (es : List Expr). e ∷ es) (exprs_of m (seen (tail f)))) es (ap (exprs_of m) (sym is) ∙ h) in
-    let rest = map_some (exprs_of m (seen (tail f))) (λ (es : List Expr). e.0 ∷ es) es e.2 in
-    let first = expr_found m f (e.0, seen (tail f)) good (ap (expr_of m) is ∙ ap (option_map (λ (d : Expr). (d, seen (tail f)))) e.1) in
+    let e = bind_some (expr_at m s) (λ (e : Expr). option_map (λ (es : List Expr). e ∷ es) (exprs_of m (seen_trees (tail f)))) es (ap (exprs_of m) (sym is) ∙ h) in
+    let rest = map_some (exprs_of m (seen_trees (tail f))) (λ (es : List Expr). e.0 ∷ es) es e.2 in
+    let first = expr_found m f (e.0, seen_trees (tail f)) good (ap (expr_of m) is ∙ ap (option_map (λ (d : Expr). (d, seen_trees (tail f)))) e.1) in
     let all = (tail_claims f good).exprs_fit m rest.0 rest.1 in
     subst (λ (l : List Expr). Fits f (exprs_forms (exprs l)) × AllSpelled m (exprs l)) rest.2 (first.fit (exprs_forms (exprs rest.0)) all.0, (first.spelled, all.1))
 
-exprs_claim : (f : Forest) → Good f → (m : List (List ℕ)) (es : List Expr) → exprs_of m (seen f) ≡ Some es → Fits f (exprs_forms (exprs es)) × AllSpelled m (exprs es)
+exprs_claim : (f : Forest) → Good f → (m : List (List ℕ)) (es : List Expr) → exprs_of m (seen_trees f) ≡ Some es → Fits f (exprs_forms (exprs es)) × AllSpelled m (exprs es)
 exprs_claim empty good m es h = no_exprs m es h
 exprs_claim (atom at a f) good m es h = exprs_step m (atom at a f) _ refl good es h
 exprs_claim (text at a f) good m es h = exprs_step m (text at a f) _ refl good es h
@@ -177,11 +177,11 @@ record PairFits (m : List (List ℕ)) (i : Forest) (k : Named) : Type 0 where
   good : is_name k.name.text ≡ true
   spelled : Spelled m k.value
 
-pair_found : (m : List (List ℕ)) (i : Forest) (k : Named) → Good i → pair_form m (seen i) ≡ Some k → PairFits m i k
+pair_found : (m : List (List ℕ)) (i : Forest) (k : Named) → Good i → pair_form m (seen_trees i) ≡ Some k → PairFits m i k
 unfolding pair_form
 pair_found m i k good h =
-    let n = bind_some (name_of (seen i)) _ k h in
-    let x = name_next i (seen i) n.0 refl n.1 in
+    let n = bind_some (name_of (seen_trees i)) _ k h in
+    let x = name_next i (seen_trees i) n.0 refl n.1 in
     let e = bind_some (expr_of m n.0.1) _ k n.2 in
     let first = expr_next m x.rest n.0.1 e.0 (behind_good i _ _ x.rest x.is good) x.behind e.1 in
     let made : Named = record { name = n.0.0; value = e.0.0 } in
@@ -189,14 +189,14 @@ pair_found m i k good h =
     let over = end_next (tail x.rest) e.0.1 first.behind c.0 in
     subst (λ (y : Named). PairFits m i y) c.1 (record { fits = (n.0.0.at, x.rest, x.is, refl, first.fit nothing over); good = x.good; spelled = first.spelled })
 
-pairs_claim : (f : Forest) → Good f → (m : List (List ℕ)) (ks : List Named) → pairs_form m (seen f) ≡ Some ks → Fits f (pairs_forms ks) × SpelledPairs m ks
+pairs_claim : (f : Forest) → Good f → (m : List (List ℕ)) (ks : List Named) → pairs_form m (seen_trees f) ≡ Some ks → Fits f (pairs_forms ks) × SpelledPairs m ks
 unfolding pairs_form
 pairs_claim empty good m ks h = no_pairs m ks h
 pairs_claim (atom at a f) good m ks h = absurd (cc)
 pairs_claim (text at a f) good m ks h = absurd (cc)
 pairs_claim (list at i f) good m ks h =
-    let k = bind_some (pair_form m (seen i)) _ ks h in
-    let rest = map_some (pairs_form m (seen f)) (λ (l : List Named). k.0 ∷ l) ks k.2 in
+    let k = bind_some (pair_form m (seen_trees i)) _ ks h in
+    let rest = map_some (pairs_form m (seen_trees f)) (λ (l : List Named). k.0 ∷ l) ks k.2 in
     let all = good.2.pairs_fit m rest.0 rest.1 in
     let one = pair_found m i k.0 good.1 k.1 in
     subst (λ (l : List Named). Fits (list at i f) (pairs_forms l) × SpelledPairs m l) rest.2 ((at, i, f, refl, tt, one.fits, all.0), (one.good, one.spelled, all.1))
@@ -207,29 +207,29 @@ record PairsFirst (m : List (List ℕ)) (f : Forest) (k : List Named × List See
   inner : Forest
   rest : Forest
   is : f ≡ list at inner rest
-  behind : k.1 ≡ seen rest
+  behind : k.1 ≡ seen_trees rest
   fits : Fits inner (pairs_forms k.0)
   spelled : SpelledPairs m k.0
   good : Good rest
   claims : Claims rest
 
-pairs_found : (m : List (List ℕ)) (f : Forest) (k : List Named × List Seen) → Good f → pairs_of m (seen f) ≡ Some k → PairsFirst m f k
+pairs_found : (m : List (List ℕ)) (f : Forest) (k : List Named × List Seen) → Good f → pairs_of m (seen_trees f) ≡ Some k → PairsFirst m f k
 pairs_found m empty k good h = absurd (cc)
 pairs_found m (atom at a f) k good h = absurd (cc)
 pairs_found m (text at a f) k good h = absurd (cc)
 pairs_found m (list at i f) k good h =
-    let x = map_some (pairs_form m (seen i)) (λ (ns : List Named). (ns, seen f)) k h in
+    let x = map_some (pairs_form m (seen_trees i)) (λ (ns : List Named). (ns, seen_trees f)) k h in
     let all = good.0.pairs_fit m x.0 x.1 in
     subst (λ (p : List Named × List Seen). PairsFirst m (list at i f) p) x.2
     (record { at = at; inner = i; rest = f; is = refl; behind = refl; fits = all.0; spelled = all.1; good = good.3; claims = good.2 })
 
-pairs_next : (m : List (List ℕ)) (f : Forest) (rs : List Seen) (k : List Named × List Seen) → Good f → rs ≡ seen f → pairs_of m rs ≡ Some k → PairsFirst m f k
+pairs_next : (m : List (List ℕ)) (f : Forest) (rs : List Seen) (k : List Named × List Seen) → Good f → rs ≡ seen_trees f → pairs_of m rs ≡ Some k → PairsFirst m f k
 pairs_next m f rs k good is h = pairs_found m f k good (ap (pairs_of m) (sym is) ∙ h)
 
 -- Statements.
 
 -- statements after the parsed trees
-body_next : (m : KnownNames) (k : ℕ) (f : Forest) (rs : List Seen) (b : List Stmt × ℕ) → Claims f → rs ≡ seen f → stmts_of m k rs ≡ Some b → BodyFits m k f b
+body_next : (m : KnownNames) (k : ℕ) (f : Forest) (rs : List Seen) (b : List Stmt × ℕ) → Claims f → rs ≡ seen_trees f → stmts_of m k rs ≡ Some b → BodyFits m k f b
 body_next m k f rs b claims is h = claims.stmts_fit m k b (ap (stmts_of m k) (sym is) ∙ h)
 
 -- a list that is a statement
@@ -286,20 +286,20 @@ record BlockFirst (m : KnownNames) (k : ℕ) (f : Forest) (b : (List Stmt × ℕ
   inner : Forest
   rest : Forest
   is : f ≡ list at inner rest
-  behind : b.1 ≡ seen rest
+  behind : b.1 ≡ seen_trees rest
   body : BodyFits m k inner b.0
   good : Good rest
 
-block_found : (m : KnownNames) (k : ℕ) (f : Forest) (b : (List Stmt × ℕ) × List Seen) → Good f → block_of m k (seen f) ≡ Some b → BlockFirst m k f b
+block_found : (m : KnownNames) (k : ℕ) (f : Forest) (b : (List Stmt × ℕ) × List Seen) → Good f → block_of m k (seen_trees f) ≡ Some b → BlockFirst m k f b
 block_found m k empty b good h = absurd (cc)
 block_found m k (atom at a f) b good h = absurd (cc)
 block_found m k (text at a f) b good h = absurd (cc)
 block_found m k (list at i f) b good h =
-    let x = map_some (stmts_of m k (seen i)) (λ (c : List Stmt × ℕ). (c, seen f)) b h in
+    let x = map_some (stmts_of m k (seen_trees i)) (λ (c : List Stmt × ℕ). (c, seen_trees f)) b h in
     subst (λ (p : (List Stmt × ℕ) × List Seen). BlockFirst m k (list at i f) p) x.2
     (record { at = at; inner = i; rest = f; is = refl; behind = refl; body = good.0.stmts_fit m k x.0 x.1; good = good.3 })
 
-block_next : (m : KnownNames) (k : ℕ) (f : Forest) (rs : List Seen) (b : (List Stmt × ℕ) × List Seen) → Good f → rs ≡ seen f → block_of m k rs ≡ Some b → BlockFirst m k f b
+block_next : (m : KnownNames) (k : ℕ) (f : Forest) (rs : List Seen) (b : (List Stmt × ℕ) × List Seen) → Good f → rs ≡ seen_trees f → block_of m k rs ≡ Some b → BlockFirst m k f b
 block_next m k f rs b good is h = block_found m k f b good (ap (block_of m k) (sym is) ∙ h)
 
 if_found : (m : KnownNames) (k at : ℕ) (i : Forest) (t : Stmt × ℕ) (ss : List Seen) → Good i → Worded i (codes "if") ss → if_form m k at ss ≡ Some t → StmtFits m k at i t
@@ -328,7 +328,7 @@ record BindingFits (m : KnownNames) (k : ℕ) (f : Forest) (n : Ident) (e : Expr
   body : SpelledStmts m (k + 1) (stmts b.0)
   next : b.1 ≡ site_after_all (k + 1) (stmts b.0)
 
-binding_found : (m : KnownNames) (k : ℕ) (f : Forest) (ss : List Seen) (n : Ident × List Seen) (e : Expr × List Seen) (b : List Stmt × ℕ) → Good f → ss ≡ seen f
+binding_found : (m : KnownNames) (k : ℕ) (f : Forest) (ss : List Seen) (n : Ident × List Seen) (e : Expr × List Seen) (b : List Stmt × ℕ) → Good f → ss ≡ seen_trees f
     → name_of ss ≡ Some n → expr_of m.states n.1 ≡ Some e → stmts_of m (k + 1) e.1 ≡ Some b → BindingFits m k f n.0 e.0 b
 binding_found m k f ss n e b good is hn he hb =
     let x = name_next f ss n is hn in
@@ -379,27 +379,27 @@ pub either : {A B : Type 0} (C : Type 0) (o : Option A) (f : A → Option B) (ot
 either C None f other y h one two = two h
 either C (Some x) f other y h one two = one x refl h
 
-stmt_found : (m : KnownNames) (k at : ℕ) (i : Forest) (t : Stmt × ℕ) → Good i → stmt_form m k at (seen i) ≡ Some t → StmtFits m k at i t
+stmt_found : (m : KnownNames) (k at : ℕ) (i : Forest) (t : Stmt × ℕ) → Good i → stmt_form m k at (seen_trees i) ≡ Some t → StmtFits m k at i t
 unfolding stmt_form
 stmt_found m k at i t good h =
     let C = StmtFits m k at i t in
-    either C (word_of (codes "node") (seen i)) (node_form m k at) _ t h (λ ss w x. node_found m k at i t ss good (word_found (codes "node") i ss w) x) (λ h1.
-    either C (word_of (codes "call") (seen i)) (call_form m k at) _ t h1 (λ ss w x. call_found m k at i t ss good (word_found (codes "call") i ss w) x) (λ h2.
-    either C (word_of (codes "key") (seen i)) (key_form m k at) _ t h2 (λ ss w x. key_found m k at i t ss good (word_found (codes "key") i ss w) x) (λ h3.
-    either C (word_of (codes "if") (seen i)) (if_form m k at) _ t h3 (λ ss w x. if_found m k at i t ss good (word_found (codes "if") i ss w) x) (λ h4.
-    either C (word_of (codes "for") (seen i)) (for_form m k at) _ t h4 (λ ss w x. for_found m k at i t ss good (word_found (codes "for") i ss w) x) (λ h5.
-    either C (word_of (codes "let") (seen i)) (let_form m k at) _ t h5 (λ ss w x. let_found m k at i t ss good (word_found (codes "let") i ss w) x) (λ h6.
-    either C (word_of (codes "remember") (seen i)) (remember_form m k at) None t h6 (λ ss w x. remember_found m k at i t ss good (word_found (codes "remember") i ss w) x) (λ h7.
+    either C (word_of (codes "node") (seen_trees i)) (node_form m k at) _ t h (λ ss w x. node_found m k at i t ss good (word_found (codes "node") i ss w) x) (λ h1.
+    either C (word_of (codes "call") (seen_trees i)) (call_form m k at) _ t h1 (λ ss w x. call_found m k at i t ss good (word_found (codes "call") i ss w) x) (λ h2.
+    either C (word_of (codes "key") (seen_trees i)) (key_form m k at) _ t h2 (λ ss w x. key_found m k at i t ss good (word_found (codes "key") i ss w) x) (λ h3.
+    either C (word_of (codes "if") (seen_trees i)) (if_form m k at) _ t h3 (λ ss w x. if_found m k at i t ss good (word_found (codes "if") i ss w) x) (λ h4.
+    either C (word_of (codes "for") (seen_trees i)) (for_form m k at) _ t h4 (λ ss w x. for_found m k at i t ss good (word_found (codes "for") i ss w) x) (λ h5.
+    either C (word_of (codes "let") (seen_trees i)) (let_form m k at) _ t h5 (λ ss w x. let_found m k at i t ss good (word_found (codes "let") i ss w) x) (λ h6.
+    either C (word_of (codes "remember") (seen_trees i)) (remember_form m k at) None t h6 (λ ss w x. remember_found m k at i t ss good (word_found (codes "remember") i ss w) x) (λ h7.
     absurd (cc (h7)))))))))
 
-stmts_claim : (f : Forest) → Good f → (m : KnownNames) (k : ℕ) (b : List Stmt × ℕ) → stmts_of m k (seen f) ≡ Some b → BodyFits m k f b
+stmts_claim : (f : Forest) → Good f → (m : KnownNames) (k : ℕ) (b : List Stmt × ℕ) → stmts_of m k (seen_trees f) ≡ Some b → BodyFits m k f b
 unfolding stmts_of
 stmts_claim empty good m k b h = no_stmts m k b h
 stmts_claim (atom at a f) good m k b h = absurd (cc)
 stmts_claim (text at a f) good m k b h = absurd (cc)
 stmts_claim (list at i f) good m k b h =
-    let t = bind_some (stmt_form m k at (seen i)) _ b h in
-    let rest = map_some (stmts_of m t.0.1 (seen f)) (λ (ts : List Stmt × ℕ). (t.0.0 ∷ ts.0, ts.1)) b t.2 in
+    let t = bind_some (stmt_form m k at (seen_trees i)) _ b h in
+    let rest = map_some (stmts_of m t.0.1 (seen_trees f)) (λ (ts : List Stmt × ℕ). (t.0.0 ∷ ts.0, ts.1)) b t.2 in
     let all = good.2.stmts_fit m t.0.1 rest.0 rest.1 in
     let one = stmt_found m k at i t.0 good.1 t.1 in
     subst (λ (c : List Stmt × ℕ). BodyFits m k (list at i f) c) rest.2 (record {
@@ -418,5 +418,5 @@ all_good (text at a f) = (claims f (all_good f), all_good f)
 all_good (list at i f) = (claims i (all_good i), all_good i, claims f (all_good f), all_good f)
 
 -- Trees that are parsed as a body have its forms.
-pub body_found : (m : KnownNames) (k : ℕ) (f : Forest) (rs : List Seen) (b : List Stmt × ℕ) → rs ≡ seen f → stmts_of m k rs ≡ Some b → BodyFits m k f b
+pub body_found : (m : KnownNames) (k : ℕ) (f : Forest) (rs : List Seen) (b : List Stmt × ℕ) → rs ≡ seen_trees f → stmts_of m k rs ≡ Some b → BodyFits m k f b
 body_found m k f rs b is h = body_next m k f rs b (claims f (all_good f)) is h

@@ -13,7 +13,7 @@ use Rattle.lang_forms.specs.Names.{is_name}
 use Rattle.lang_forms.specs.Sketch.{Sketch, nothing, Fits}
 use Rattle.lang_forms.specs.Sources.{Source}
 use Rattle.lang_forms.specs.Forms.{parameters_forms, state_forms, function_forms, do_forms, top_forms, KnownNames, site_after_all, state_name, function_name, literal_fits, SpelledStmts, SpelledParameters, SpelledStates, SpelledFunctions, SpelledActor, SpelledScripts, HasForms}
-use Rattle.lang_forms.specs.Readings.{Top, StateTop, FunctionTop, DoTop, Seen, seen, is_end, word_of, name_of, type_of, policy_of, literal_of, actor_steps_of, parameter_form, parameters_form, parameters_of, stmts_of, state_form, function_form, do_form, top_form, header_form, is_there}
+use Rattle.lang_forms.specs.Readings.{Top, StateTop, FunctionTop, DoTop, Seen, seen_trees, is_end, word_of, name_of, type_of, policy_of, literal_of, actor_steps_of, parameter_form, parameters_form, parameters_of, stmts_of, state_form, function_form, do_form, top_form, header_form, is_there}
 use Rattle.lang_forms.specs.TextReading.{PartialSource, known, source, is_none, source_with_form, source_with_rest, tops_of, text_of, start, source_of, source_or_offset}
 use Rattle.lang_forms.proofs.Found.{inject, bind_some, map_some, Worded, word_found, word_next, name_next, type_next, policy_next, literal_next, end_next, tail}
 use Rattle.lang_forms.proofs.ReadHasForms.{either, body_found}
@@ -26,11 +26,11 @@ record ParameterFits (i : Forest) (p : Parameter) : Type 0 where
   fits : (at : ℕ) (f : Forest) (ps : List Parameter) → Fits f (parameters_forms ps) → Fits (list at i f) (parameters_forms (p ∷ ps))
   good : is_name p.name.text ≡ true
 
-parameter_found : (i : Forest) (p : Parameter) → parameter_form (seen i) ≡ Some p → ParameterFits i p
+parameter_found : (i : Forest) (p : Parameter) → parameter_form (seen_trees i) ≡ Some p → ParameterFits i p
 unfolding parameter_form
 parameter_found i p h =
-    let n = bind_some (name_of (seen i)) _ p h in
-    let x = name_next i (seen i) n.0 refl n.1 in
+    let n = bind_some (name_of (seen_trees i)) _ p h in
+    let x = name_next i (seen_trees i) n.0 refl n.1 in
     let t = bind_some (type_of n.0.1) _ p n.2 in
     let y = type_next x.rest n.0.1 t.0 x.behind t.1 in
     let made : Parameter = record { name = n.0.0; ty = t.0.0 } in
@@ -39,14 +39,14 @@ parameter_found i p h =
     subst (λ (q : Parameter). ParameterFits i q) c.1
     (record { fits = λ at f ps rest. (at, i, f, refl, tt, (n.0.0.at, x.rest, x.is, refl, (y.at, y.rest, y.is, tt, over)), rest); good = x.good })
 
-parameters_found : (f : Forest) (ps : List Parameter) → parameters_form (seen f) ≡ Some ps → Fits f (parameters_forms ps) × SpelledParameters ps
+parameters_found : (f : Forest) (ps : List Parameter) → parameters_form (seen_trees f) ≡ Some ps → Fits f (parameters_forms ps) × SpelledParameters ps
 unfolding parameters_form
 parameters_found empty ps h = rw (← inject h) (refl, tt)
 parameters_found (atom at a f) ps h = absurd (cc)
 parameters_found (text at s f) ps h = absurd (cc)
 parameters_found (list at i f) ps h =
-    let p = bind_some (parameter_form (seen i)) _ ps h in
-    let rest = map_some (parameters_form (seen f)) (λ (l : List Parameter). p.0 ∷ l) ps p.2 in
+    let p = bind_some (parameter_form (seen_trees i)) _ ps h in
+    let rest = map_some (parameters_form (seen_trees f)) (λ (l : List Parameter). p.0 ∷ l) ps p.2 in
     let all = parameters_found f rest.0 rest.1 in
     let one = parameter_found i p.0 p.1 in
     subst (λ (l : List Parameter). Fits (list at i f) (parameters_forms l) × SpelledParameters l) rest.2 (one.fits at f rest.0 all.0, (one.good, all.1))
@@ -57,16 +57,16 @@ record ParametersFirst (f : Forest) (ps : List Parameter × List Seen) : Type 0 
   inner : Forest
   rest : Forest
   is : f ≡ list at inner rest
-  behind : ps.1 ≡ seen rest
+  behind : ps.1 ≡ seen_trees rest
   fits : Fits inner (parameters_forms ps.0)
   spelled : SpelledParameters ps.0
 
-parameters_first : (f : Forest) (ps : List Parameter × List Seen) → parameters_of (seen f) ≡ Some ps → ParametersFirst f ps
+parameters_first : (f : Forest) (ps : List Parameter × List Seen) → parameters_of (seen_trees f) ≡ Some ps → ParametersFirst f ps
 parameters_first empty ps h = absurd (cc)
 parameters_first (atom at a f) ps h = absurd (cc)
 parameters_first (text at s f) ps h = absurd (cc)
 parameters_first (list at i f) ps h =
-    let x = map_some (parameters_form (seen i)) (λ (l : List Parameter). (l, seen f)) ps h in
+    let x = map_some (parameters_form (seen_trees i)) (λ (l : List Parameter). (l, seen_trees f)) ps h in
     let all = parameters_found i x.0 x.1 in
     subst (λ (p : List Parameter × List Seen). ParametersFirst (list at i f) p) x.2
     (record { at = at; inner = i; rest = f; is = refl; behind = refl; fits = all.0; spelled = all.1 })
@@ -122,15 +122,15 @@ do_found m k at i d ss w h =
     subst (λ (q : DoForm). TopFits m k at i (DoTop q) k) (inject ts.2)
     ((λ f g rest. (at, i, f, refl, refl, (w.at, w.rest, w.is, tt, (n.0.0.at, x.rest, x.is, refl, all.0)), rest)), x.good, all.1, refl)
 
-top_found : (m : KnownNames) (k at : ℕ) (i : Forest) (t : Top × ℕ) → top_form m k at (seen i) ≡ Some t → Topped m k at i t
+top_found : (m : KnownNames) (k at : ℕ) (i : Forest) (t : Top × ℕ) → top_form m k at (seen_trees i) ≡ Some t → Topped m k at i t
 unfolding top_form
 top_found m k at i t h =
     let C = Topped m k at i t in
-    either C (word_of (codes "state") (seen i)) (λ r. option_map (λ s. (StateTop s, k)) (state_form at r)) _ t h
+    either C (word_of (codes "state") (seen_trees i)) (λ r. option_map (λ s. (StateTop s, k)) (state_form at r)) _ t h
     (λ ss w x. let s = map_some (state_form at ss) (λ (s : State). (StateTop s, k)) t x in subst (Topped m k at i) s.2 (state_found m k at i s.0 ss (word_found (codes "state") i ss w) s.1)) (λ h1.
-    either C (word_of (codes "fun") (seen i)) (λ r. option_map (λ c. (FunctionTop c.0, c.1)) (function_form m k at r)) _ t h1
+    either C (word_of (codes "fun") (seen_trees i)) (λ r. option_map (λ c. (FunctionTop c.0, c.1)) (function_form m k at r)) _ t h1
     (λ ss w x. let c = map_some (function_form m k at ss) (λ (c : Func × ℕ). (FunctionTop c.0, c.1)) t x in subst (Topped m k at i) c.2 (function_found m k at i c.0 ss (word_found (codes "fun") i ss w) c.1)) (λ h2.
-    either C (word_of (codes "do") (seen i)) (λ r. option_map (λ d. (DoTop d, k)) (do_form m.states at r)) None t h2
+    either C (word_of (codes "do") (seen_trees i)) (λ r. option_map (λ d. (DoTop d, k)) (do_form m.states at r)) None t h2
     (λ ss w x. let d = map_some (do_form m.states at ss) (λ (d : DoForm). (DoTop d, k)) t x in subst (Topped m k at i) d.2 (do_found m k at i d.0 ss (word_found (codes "do") i ss w) d.1))
     (λ h3. absurd (cc (h3)))))
 
@@ -279,14 +279,14 @@ good a = Ok a
 pub ok_same : {A : Type 0} (a b : A) → good a ≡ good b → a ≡ b
 ok_same a b h = cc
 
-tops_found : (f : Forest) (p q : PartialSource) → tops_of p (seen f) ≡ Ok q → Leads f p q
+tops_found : (f : Forest) (p q : PartialSource) → tops_of p (seen_trees f) ≡ Ok q → Leads f p q
 unfolding tops_of
 tops_found empty p q h = nothing_more p q (ok_same p q h)
 tops_found (atom at a f) p q h = absurd (cc)
 tops_found (text at s f) p q h = absurd (cc)
 tops_found (list at i f) p q h =
-    let r = followed_ok at _ (λ x. tops_of x (seen f)) q h in
-    let t = bind_some (top_form (known p) p.site at (seen i)) (λ x. source_with_form p x.0 x.1) r.0 r.1 in
+    let r = followed_ok at _ (λ x. tops_of x (seen_trees f)) q h in
+    let t = bind_some (top_form (known p) p.site at (seen_trees i)) (λ x. source_with_form p x.0 x.1) r.0 r.1 in
     top_leads at i f p q r.0 t.0.0 t.0.1 (top_found (known p) p.site at i t.0 t.1) t.2 (tops_found f r.0 q r.2)
 
 -- compose 1
@@ -297,14 +297,14 @@ record Headed (i : Forest) : Type 0 where
   one : ℕ
   one_is : rest ≡ atom one (codes "1") empty
 
-header_found : (i : Forest) → is_there (header_form (seen i)) ≡ true → Headed i
+header_found : (i : Forest) → is_there (header_form (seen_trees i)) ≡ true → Headed i
 unfolding header_form
-header_found i h = by (header_form (seen i)) refl h
+header_found i h = by (header_form (seen_trees i)) refl h
   where
-    by : (o : Option (List Seen)) → header_form (seen i) ≡ o → is_there o ≡ true → Headed i
+    by : (o : Option (List Seen)) → header_form (seen_trees i) ≡ o → is_there o ≡ true → Headed i
     by None e false_there = absurd (true≢false (sym false_there))
     by (Some ss) e there =
-        let c = bind_some (word_of (codes "compose") (seen i)) _ ss e in
+        let c = bind_some (word_of (codes "compose") (seen_trees i)) _ ss e in
         let w = word_found (codes "compose") i c.0 c.1 in
         let o = bind_some (word_of (codes "1") c.0) _ ss c.2 in
         let v = word_next (codes "1") w.rest c.0 o.0 w.behind o.1 in
@@ -324,21 +324,21 @@ whole at i f q head all =
       };
     })
 
-text_found : (end : ℕ) (f : Forest) (q : PartialSource) → text_of end (seen f) ≡ Ok q → HasForms f (source q)
+text_found : (end : ℕ) (f : Forest) (q : PartialSource) → text_of end (seen_trees f) ≡ Ok q → HasForms f (source q)
 unfolding text_of
 text_found end empty q h = absurd (cc)
 text_found end (atom at a f) q h = absurd (cc)
 text_found end (text at s f) q h = absurd (cc)
-text_found end (list at i f) q h = by (is_there (header_form (seen i))) refl h
+text_found end (list at i f) q h = by (is_there (header_form (seen_trees i))) refl h
   where
-    by : (b : Bool) → is_there (header_form (seen i)) ≡ b → cond b (tops_of (start at) (seen f)) (Err at) ≡ Ok q → HasForms (list at i f) (source q)
+    by : (b : Bool) → is_there (header_form (seen_trees i)) ≡ b → cond b (tops_of (start at) (seen_trees f)) (Err at) ≡ Ok q → HasForms (list at i f) (source q)
     by true e k = whole at i f q (header_found i e) (tops_found f (start at) q k)
     by false e k = absurd (cc)
 
 -- Trees that are parsed as a text have its forms.
-pub source_found : (end : ℕ) (f : Forest) (t : Source) → source_of end (seen f) ≡ Ok t → HasForms f t
-source_found end f t h = by (text_of end (seen f)) refl h
+pub source_found : (end : ℕ) (f : Forest) (t : Source) → source_of end (seen_trees f) ≡ Ok t → HasForms f t
+source_found end f t h = by (text_of end (seen_trees f)) refl h
   where
-    by : (r : Result PartialSource ℕ) → text_of end (seen f) ≡ r → source_or_offset r ≡ Ok t → HasForms f t
+    by : (r : Result PartialSource ℕ) → text_of end (seen_trees f) ≡ r → source_or_offset r ≡ Ok t → HasForms f t
     by (Ok q) e k = subst (HasForms f) (ok_same (source q) t k) (text_found end f q e)
     by (Err at) e k = absurd (cc)

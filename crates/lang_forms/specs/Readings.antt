@@ -541,11 +541,11 @@ roles at ss = record {
 }
 
 -- The trees of a forest, each with what it can be parsed as.
-abbrev pub seen : Forest → List Seen
-seen empty = []
-seen (atom at a f) = word at a ∷ seen f
-seen (text at s f) = chars at s ∷ seen f
-seen (list at i f) = form at (roles at (seen i)) ∷ seen f
+abbrev pub seen_trees : Forest → List Seen
+seen_trees empty = []
+seen_trees (atom at a f) = word at a ∷ seen_trees f
+seen_trees (text at s f) = chars at s ∷ seen_trees f
+seen_trees (list at i f) = form at (roles at (seen_trees i)) ∷ seen_trees f
 
 abbrev pub place : Seen → ℕ
 place (word at a) = at

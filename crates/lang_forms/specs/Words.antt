@@ -76,45 +76,45 @@ takes operator.Length n = n == 1
 takes operator.At n = n == 2
 
 -- A value if the word is c, and else another.
-abbrev pub named : {A : Type 0} → List ℕ → A → List ℕ → Option A → Option A
-named c a w other = if bytes_eq w c then Some a else other
+abbrev pub if_word : {A : Type 0} → List ℕ → A → List ℕ → Option A → Option A
+if_word c a w other = if bytes_eq w c then Some a else other
 
 -- The type of a keyword.
 unfoldable pub type_for_word : List ℕ → Option Ty
-type_for_word w = named (codes "Int") ty.Int w
-    (named (codes "Bool") ty.Bool w (named (codes "Text") ty.Text w (named (codes "Ints") ty.Ints w None)))
+type_for_word w = if_word (codes "Int") ty.Int w
+    (if_word (codes "Bool") ty.Bool w (if_word (codes "Text") ty.Text w (if_word (codes "Ints") ty.Ints w None)))
 
 -- The policy of a keyword.
 unfoldable pub policy_for_word : List ℕ → Option BuiltIn
 policy_for_word w =
-    named (codes "Structural") policy.Structural w (named (codes "Never") policy.Never w (
-    named (codes "Counter") policy.Counter w
-    (named (codes "Largest") policy.Largest w (named (codes "Append") policy.Append w None))))
+    if_word (codes "Structural") policy.Structural w (if_word (codes "Never") policy.Never w (
+    if_word (codes "Counter") policy.Counter w
+    (if_word (codes "Largest") policy.Largest w (if_word (codes "Append") policy.Append w None))))
 
 -- The kind of snapshots of a keyword.
 unfoldable pub kind_for_word : List ℕ → Option Kind
-kind_for_word w = named (codes "mutable") kind.Mutable w (named (codes "readonly") kind.Readonly w None)
+kind_for_word w = if_word (codes "mutable") kind.Mutable w (if_word (codes "readonly") kind.Readonly w None)
 
 -- The operators on numbers.
 unfoldable pub number_operator : List ℕ → Option Operator
 number_operator w =
-    named (codes "+") operator.Add w (named (codes "-") operator.Subtract w (named (codes "*") operator.Multiply w (
-    named (codes "/") operator.Divide w (named (codes "%") operator.Remainder w None))))
+    if_word (codes "+") operator.Add w (if_word (codes "-") operator.Subtract w (if_word (codes "*") operator.Multiply w (
+    if_word (codes "/") operator.Divide w (if_word (codes "%") operator.Remainder w None))))
 
 -- The operators that compare and choose.
 unfoldable pub truth_operator : List ℕ → Option Operator
 truth_operator w =
-    named (codes "=") operator.Equal w (named (codes "<") operator.Less w (named (codes "not") operator.Not w (
-    named (codes "and") operator.And w
-    (named (codes "or") operator.Or w (named (codes "pick") operator.Pick w None)))))
+    if_word (codes "=") operator.Equal w (if_word (codes "<") operator.Less w (if_word (codes "not") operator.Not w (
+    if_word (codes "and") operator.And w
+    (if_word (codes "or") operator.Or w (if_word (codes "pick") operator.Pick w None)))))
 
 -- The operators on texts and lists.
 unfoldable pub list_operator : List ℕ → Option Operator
 list_operator w =
-    named (codes "join") operator.Join w (named (codes "text") operator.Text w (named (codes "ints") operator.Ints w (
-    named (codes "range") operator.Range w
-    (named (codes "push") operator.Push w (named (codes "concat") operator.Concat w (
-    named (codes "len") operator.Length w (named (codes "at") operator.At w None)))))))
+    if_word (codes "join") operator.Join w (if_word (codes "text") operator.Text w (if_word (codes "ints") operator.Ints w (
+    if_word (codes "range") operator.Range w
+    (if_word (codes "push") operator.Push w (if_word (codes "concat") operator.Concat w (
+    if_word (codes "len") operator.Length w (if_word (codes "at") operator.At w None)))))))
 
 -- The operator of a keyword.
 unfoldable pub operator_for_word : List ℕ → Option Operator

@@ -7,10 +7,10 @@ ghost use Rattle.lang_limits.specs.LeastOffset.{least};
 ghost use Rattle.lang_limits.specs.Sizes.{program_limits};
 ghost use Rattle.lang_limits.specs.Tokens.{beyond, program_trees, oversized_script_offsets};
 ghost use Rattle.lang_limits.specs.Clamped.{within};
-ghost use Rattle.lang_forms.specs.TextAnswers.{answered, text_answer};
+ghost use Rattle.lang_forms.specs.TextAnswers.{parsed_answer, text_answer};
 ghost use Rattle.lang_forms.specs.Sources.{Source, parsed_source_view};
 ghost use Rattle.lang_forms.specs.Forms.{HasForms};
-ghost use Rattle.lang_forms.specs.Readings.{seen};
+ghost use Rattle.lang_forms.specs.Readings.{seen_trees};
 ghost use Rattle.lang_forms.specs.TextReading.{source, tops_of, text_of};
 ghost use Rattle.lang_forms.specs.FirstWrong.{IsFirstWrong, IsAnswerFor, Answers};
 ghost use Rattle.lang_forms.specs.Views.{seen_all, partial_source_view, Gives};
@@ -76,7 +76,7 @@ fn parse_clamped_text(
 ) -> Result<PartialSource, FormStop>
     requires program { limits.program ≡ least (beyond (program_trees (forest_view trees.now))) }
     requires script { limits.script ≡ least (oversized_script_offsets (forest_view trees.now)) }
-    ensures { Gives partial_source_view result (text_of end (seen (within (forest_view trees.now)))) }
+    ensures { Gives partial_source_view result (text_of end (seen_trees (within (forest_view trees.now)))) }
 {
     if limits.program.is_none() && limits.script.is_none() {
         return parse_text(alloc, trees, end);
@@ -90,7 +90,7 @@ fn parse_clamped_text(
 #[tactic(auto, using(lang_limits::proofs::Lesser::least_append))]
 fn unless_beyond(front: PartialSource, limits: TokenLimits) -> Result<(Program, Rest), FormStop>
     ensures read { (f : Forest) → limits.program ≡ least (beyond (program_trees f)) →
-        Answers parsed_source_view result (answered f (Ok (source (partial_source_view front)))) }
+        Answers parsed_source_view result (parsed_answer f (Ok (source (partial_source_view front)))) }
     ensures beyond { IfOk result (λ r. r.1.first_oversized ≡ limits.script) }
 {
     let program = Program {

@@ -4,7 +4,7 @@ use Rattle.std.proofs.lemmas.List.{drop_all}
 use Rattle.std.specs.Prelude.{OnOk}
 use Rattle.rt_values.specs.declared.value.Value.{Value}
 use Rattle.rt_values.specs.Views.{Grew}
-use Rattle.rt_groups.specs.GroupForest.{GroupForest, End, Read, Group, GroupKind, joined_forest, reads_then, asks, how_many, own, inside_own}
+use Rattle.rt_groups.specs.GroupForest.{GroupForest, End, Read, Group, GroupKind, joined_forest, reads_then, asks, how_many, own_part, inside_own}
 use Rattle.rt_groups.specs.GroupForest as trail
 use Rattle.rt_groups.specs.PreorderGroups.{preorder, flat_group, flat_kind, flat_reads}
 use Rattle.rt_groups.specs.Frames.{most_groups}
@@ -29,13 +29,13 @@ preorder-reads_then : (d : ℕ) (xs : List ℕ) (t : GroupForest) → preorder d
 preorder-reads_then d [] t = refl
 preorder-reads_then d (x ∷ xs) t = preorder-reads_then d xs t
 
-own-joined_forest : (t u : GroupForest) → asks (own (joined_forest t u)) ≡ asks (own t) ++ asks (own u)
+own-joined_forest : (t u : GroupForest) → asks (own_part (joined_forest t u)) ≡ asks (own_part t) ++ asks (own_part u)
 own-joined_forest End u = refl
 own-joined_forest (Read x rest) u = ap (λ l. x ∷ l) (own-joined_forest rest u)
 own-joined_forest (Group site n what inside rest) u =
-    ap (λ l. asks (inside_own what (own inside)) ++ l) (own-joined_forest rest u) ∙ sym (append_assoc (asks (inside_own what (own inside))) (asks (own rest)) (asks (own u)))
+    ap (λ l. asks (inside_own what (own_part inside)) ++ l) (own-joined_forest rest u) ∙ sym (append_assoc (asks (inside_own what (own_part inside))) (asks (own_part rest)) (asks (own_part u)))
 
-own-reads_then : (xs : List ℕ) (t : GroupForest) → asks (own (reads_then xs t)) ≡ xs ++ asks (own t)
+own-reads_then : (xs : List ℕ) (t : GroupForest) → asks (own_part (reads_then xs t)) ≡ xs ++ asks (own_part t)
 own-reads_then [] t = refl
 own-reads_then (x ∷ xs) t = ap (λ l. x ∷ l) (own-reads_then xs t)
 
@@ -70,7 +70,7 @@ unfolding forest_after
 ran_after d r go out out' asked mid asked' mine between mine' (Ok u) e f h = record {
   made = h.made ∙ ap (λ l. out ++ l) (sym (preorder-reads_then d r.reads (go r.value)));
   came = h.came ∙ ap (λ l. l ++ asks (go r.value)) e ∙ append_assoc asked r.reads (asks (go r.value)) ∙ ap (λ l. asked ++ l) (sym (asks-reads_then r.reads (go r.value)));
-  charged = h.charged ∙ ap (λ l. l ++ asks (own (go r.value))) f ∙ append_assoc mine r.reads (asks (own (go r.value))) ∙ ap (λ l. mine ++ l) (sym (own-reads_then r.reads (go r.value)));
+  charged = h.charged ∙ ap (λ l. l ++ asks (own_part (go r.value))) f ∙ append_assoc mine r.reads (asks (own_part (go r.value))) ∙ ap (λ l. mine ++ l) (sym (own-reads_then r.reads (go r.value)));
   part = tt;
   many = λ x. cc;
 }
@@ -96,14 +96,14 @@ ran_full d site what inside rest out out' asked mine mine' (Err x) i h = record 
 
 -- A group without reads, and the forest inside it.
 pub ran_group : {U : Type 0} (d site : ℕ) (what : GroupKind) (inside : GroupForest) (out out1 out' : List Listed) (asked asked' mine mine' : List ℕ) (result : Result U ScratchStop) →
-    flat_reads what inside ≡ [] → inside_own what (own inside) ≡ own inside → out1 ≡ out ++ flat_group d site 0 (flat_kind what) [] ∷ [] →
+    flat_reads what inside ≡ [] → inside_own what (own_part inside) ≡ own_part inside → out1 ≡ out ++ flat_group d site 0 (flat_kind what) [] ∷ [] →
     ComposesForest (d + 1) inside out1 out' asked asked' mine mine' result → ComposesForest d (Group site 0 what inside End) out out' asked asked' mine mine' result
 ran_group d site what inside out out1 out' asked asked' mine mine' (Ok u) none same e h = record {
   made = h.made ∙ ap (λ l. l ++ preorder (d + 1) inside) e ∙ append_assoc out (flat_group d site 0 (flat_kind what) [] ∷ []) (preorder (d + 1) inside)
       ∙ ap (λ l. out ++ flat_group d site 0 (flat_kind what) [] ∷ l) (sym (append-nil (preorder (d + 1) inside)))
       ∙ ap (λ r. out ++ flat_group d site 0 (flat_kind what) r ∷ (preorder (d + 1) inside ++ [])) (sym none);
   came = h.came ∙ ap (λ l. asked ++ l) (sym (append-nil (asks inside)));
-  charged = h.charged ∙ ap (λ t. mine ++ asks t) (sym same) ∙ ap (λ l. mine ++ l) (sym (append-nil (asks (inside_own what (own inside)))));
+  charged = h.charged ∙ ap (λ t. mine ++ asks t) (sym same) ∙ ap (λ l. mine ++ l) (sym (append-nil (asks (inside_own what (own_part inside)))));
   part = tt;
   many = λ x. cc;
 }
@@ -133,8 +133,8 @@ ran_call d site function arguments inside out out1 out2 out' asked asked' mine t
     h.made ∙ ap (λ l. l ++ preorder (d + 1) inside) e ∙ append_assoc out (flat_group d site 0 (flat_kind (trail.Call function arguments)) [] ∷ []) (preorder (d + 1) inside) in
     record {
       made = set out (preorder (d + 1) inside) (flat_group d site 0 (flat_kind (trail.Call function arguments)) []) refl there
-          ∙ ap (λ r. out ++ (flat_group d site 0 (flat_kind (trail.Call function arguments)) r ∷ preorder (d + 1) inside)) (h.charged ∙ ap (λ l. l ++ asks (own inside)) first)
-          ∙ ap (λ l. out ++ (flat_group d site 0 (flat_kind (trail.Call function arguments)) (asks (own inside)) ∷ l)) (sym (append-nil (preorder (d + 1) inside)));
+          ∙ ap (λ r. out ++ (flat_group d site 0 (flat_kind (trail.Call function arguments)) r ∷ preorder (d + 1) inside)) (h.charged ∙ ap (λ l. l ++ asks (own_part inside)) first)
+          ∙ ap (λ l. out ++ (flat_group d site 0 (flat_kind (trail.Call function arguments)) (asks (own_part inside)) ∷ l)) (sym (append-nil (preorder (d + 1) inside)));
       came = h.came ∙ ap (λ l. asked ++ l) (sym (append-nil (asks inside)));
       charged = sym (append-nil mine);
       part = tt;
@@ -174,7 +174,7 @@ ran_cell d site what rest out out1 out' asked asked' mine mine' (Ok u) none same
   made = h.made ∙ ap (λ l. l ++ preorder d rest) e ∙ append_assoc out (flat_group d site 0 (flat_kind what) [] ∷ []) (preorder d rest)
       ∙ ap (λ r. out ++ flat_group d site 0 (flat_kind what) r ∷ preorder d rest) (sym none);
   came = h.came;
-  charged = h.charged ∙ ap (λ t. mine ++ (asks t ++ asks (own rest))) (sym same);
+  charged = h.charged ∙ ap (λ t. mine ++ (asks t ++ asks (own_part rest))) (sym same);
   part = tt;
   many = λ x. cc;
 }
@@ -212,7 +212,7 @@ pub going_more : {U : Type 0} (d : ℕ) (rest s more t : GroupForest) (out0 out1
 going_more d rest s more t out0 out1 out2 asked0 asked1 asked2 mine0 mine1 mine2 u e g h = record {
   made = ap (λ l. l ++ preorder d more) h.made ∙ append_assoc out1 (preorder d s) (preorder d more) ∙ ap (λ l. out1 ++ l) (sym (preorder-joined_forest d s more)) ∙ ap (λ r. out1 ++ preorder d r) (sym e) ∙ g.made;
   came = ap (λ l. l ++ asks more) h.came ∙ append_assoc asked1 (asks s) (asks more) ∙ ap (λ l. asked1 ++ l) (sym (asks-joined_forest s more)) ∙ ap (λ r. asked1 ++ asks r) (sym e) ∙ g.came;
-  charged = ap (λ l. l ++ asks (own more)) h.charged ∙ append_assoc mine1 (asks (own s)) (asks (own more)) ∙ ap (λ l. mine1 ++ l) (sym (own-joined_forest s more)) ∙ ap (λ r. mine1 ++ asks (own r)) (sym e) ∙ g.charged;
+  charged = ap (λ l. l ++ asks (own_part more)) h.charged ∙ append_assoc mine1 (asks (own_part s)) (asks (own_part more)) ∙ ap (λ l. mine1 ++ l) (sym (own-joined_forest s more)) ∙ ap (λ r. mine1 ++ asks (own_part r)) (sym e) ∙ g.charged;
 }
 
 pub going_done : (d : ℕ) (rest t : GroupForest) (out0 out1 : List Listed) (asked0 asked1 mine0 mine1 : List ℕ) → rest ≡ End →
@@ -220,7 +220,7 @@ pub going_done : (d : ℕ) (rest t : GroupForest) (out0 out1 : List Listed) (ask
 going_done d rest t out0 out1 asked0 asked1 mine0 mine1 e g = record {
   made = sym (append-nil out1) ∙ ap (λ r. out1 ++ preorder d r) (sym e) ∙ g.made;
   came = sym (append-nil asked1) ∙ ap (λ r. asked1 ++ asks r) (sym e) ∙ g.came;
-  charged = sym (append-nil mine1) ∙ ap (λ r. mine1 ++ asks (own r)) (sym e) ∙ g.charged;
+  charged = sym (append-nil mine1) ∙ ap (λ r. mine1 ++ asks (own_part r)) (sym e) ∙ g.charged;
   part = tt;
   many = λ y. cc;
 }

@@ -4,7 +4,7 @@ use Rattle.rt_values.specs.declared.value.Value.{Value}
 use Rattle.rt_values.specs.declared.value.Value.TheVariants as value
 use Rattle.rt_values.specs.Maps.{Map}
 use Rattle.rt_values.specs.Views.{Grew}
-use Rattle.rt_groups.specs.GroupForest.{GroupForest, asks, own}
+use Rattle.rt_groups.specs.GroupForest.{GroupForest, asks, own_part}
 use Rattle.rt_groups.specs.GroupForest as trail
 use Rattle.rt_groups.specs.PreorderGroups.{preorder}
 use Rattle.rt_groups.specs.Frames.{most_groups}
@@ -26,7 +26,7 @@ pub record ComposesForest (depth : ℕ) (t : GroupForest) (groups groups' : List
     {U : Type 0} (result : Result U ScratchStop) : Type 0 where
   pub made : OnOk result (groups' ≡ groups ++ preorder depth t)
   pub came : OnOk result (asked' ≡ asked ++ asks t)
-  pub charged : OnOk result (reads' ≡ reads ++ asks (own t))
+  pub charged : OnOk result (reads' ≡ reads ++ asks (own_part t))
   pub part : OnErr result (Grew asked asked' (asks t))
   pub many : result ≡ Err TooManyGroups → most_groups < length (groups ++ preorder depth t)
 
@@ -35,7 +35,7 @@ pub record LoopProgress (depth : ℕ) (rest t : GroupForest) (groups groups' : L
     : Type 0 where
   pub made : groups' ++ preorder depth rest ≡ groups ++ preorder depth t
   pub came : asked' ++ asks rest ≡ asked ++ asks t
-  pub charged : reads' ++ asks (own rest) ≡ reads ++ asks (own t)
+  pub charged : reads' ++ asks (own_part rest) ≡ reads ++ asks (own_part t)
 
 -- The forest of a statement, where `functions` are those that it can call.
 abbrev pub statement_forest : Map → List Function → Stmt → Bindings → GroupForest

@@ -2,7 +2,7 @@
 use Rattle.std.specs.Prelude.{ℕ, ◌<◌, ◌≤◌, List, [], ◌∷◌, ◌≡◌, length, take, get_or, Bool, true, false, ◌||◌}
 use Rattle.rt_values.specs.declared.value.Value.{Value}
 use Rattle.rt_values.specs.Maps.{Map, value_at}
-use Rattle.rt_groups.specs.GroupForest.{GroupForest, End, Read, Group, GroupKind, Call, Node, Key, Cell, asks, own}
+use Rattle.rt_groups.specs.GroupForest.{GroupForest, End, Read, Group, GroupKind, Call, Node, Key, Cell, asks, own_part}
 use Rattle.lang_ast.specs.Terms.{Expr, Literal, Variable, Get, Apply, Exprs, none, more, Stmts, Func}
 use Rattle.lang_ast.specs.Evaluation.{Bindings, eval}
 use Rattle.compose_model.specs.Composing.{Meaning, meaning, meaning_at, meanings, run_all}
@@ -33,13 +33,13 @@ EvaluationAgrees = (m m' : Map) (e : Expr) (env : Bindings) → Agree m m' (eval
 -- The own part of a call depends only on the values of its variables and on the values of its own reads.
 abbrev pub OwnPartsAgree : Type 0
 OwnPartsAgree = (m m' : Map) (fs fs' : List Meaning) (body : Stmts) (env : Bindings) →
-    Agree m m' (asks (own (run_all m fs body env))) → own (run_all m fs body env) ≡ own (run_all m' fs' body env)
+    Agree m m' (asks (own_part (run_all m fs body env))) → own_part (run_all m fs body env) ≡ own_part (run_all m' fs' body env)
 
 -- If the own reads of a call agree, composing it again gives its old own part, in which the inner calls are composed
 -- again.
 abbrev pub SkippingIsRight : Type 0
 SkippingIsRight = (m m' : Map) (fs fs' : List Meaning) (body : Stmts) (env : Bindings) →
-    Agree m m' (asks (own (run_all m fs body env))) → run_all m' fs' body env ≡ recomposed_forest fs' (own (run_all m fs body env))
+    Agree m m' (asks (own_part (run_all m fs body env))) → run_all m' fs' body env ≡ recomposed_forest fs' (own_part (run_all m fs body env))
 
 -- A call makes the forest of the body of its function, which sees only the earlier functions. A call of a missing
 -- function makes nothing.

@@ -12,7 +12,7 @@ use Rattle.snap_shared.specs.Seats.{opening_of, number_of, seen_by, mine_of, IsS
 use Rattle.snap_shared.specs.SharedCalls.{own_calls, numbers_below, ContainsSeat}
 use Rattle.snap_shared.specs.declared.shared.Seat.{Seat}
 use Rattle.snap_shared.specs.declared.shared.Shared.{Shared}
-use Rattle.script_lang.specs.PrintedCalls.{reads_frame, frames_after, printed}
+use Rattle.script_lang.specs.PrintedCalls.{reads_frame, frames_after, printed_calls}
 use Rattle.script_lang.specs.StepCalls.{ActorPart, no_notes}
 use Rattle.woven_laws.specs.Laws.{CanBeCompleted}
 use Rattle.woven_laws.specs.FirstParts.{IsFirstPart, SpellsTo}
@@ -24,9 +24,9 @@ use Rattle.play_actors.specs.ActorSteps.{CountsSnapshots, HasCome, HasActed, Act
 use Rattle.play_actors.specs.declared.worker.Worker.{Worker}
 
 -- A seat that has seen nothing has no own calls.
-first_none : {W : Type 0} (parts : List ActorPart) (a : ℕ) (seat : Seat W) → seen_by seat ≡ [] → IsFirstPart (initial_actor parts a) (printed [] (mine_of seat))
+first_none : {W : Type 0} (parts : List ActorPart) (a : ℕ) (seat : Seat W) → seen_by seat ≡ [] → IsFirstPart (initial_actor parts a) (printed_calls [] (mine_of seat))
 first_none parts a seat none =
-    subst (λ l. IsFirstPart (initial_actor parts a) (printed [] (own_calls (number_of seat) l))) (sym none) (nothing_is_spelled (initial_actor parts a)).0
+    subst (λ l. IsFirstPart (initial_actor parts a) (printed_calls [] (own_calls (number_of seat) l))) (sym none) (nothing_is_spelled (initial_actor parts a)).0
 
 -- An actor before its first step.
 pub started : {W : Type 0} (o : World BuiltIn) (parts left : List ActorPart) (a : ℕ) (w : Worker W) → left ≡ parts_of a parts → seen_by w.seat ≡ [] → IsNoted w.memory no_notes →
@@ -37,7 +37,7 @@ started o parts left a w same none noted = record {
     notes = no_notes;
     noted = noted;
     at_frame = refl;
-    spells = subst (λ l. SpellsTo (initial_actor parts a) (printed [] (own_calls (number_of w.seat) l)) (actor_at no_notes left)) (sym none)
+    spells = subst (λ l. SpellsTo (initial_actor parts a) (printed_calls [] (own_calls (number_of w.seat) l)) (actor_at no_notes left)) (sym none)
         (subst (λ l. SpellsTo (initial_actor parts a) [] (actor_at no_notes l)) (sym same) (nothing_is_spelled (initial_actor parts a)));
     frames = ap (λ l. frames_after_calls [] (own_calls (number_of w.seat) l)) none;
     known = λ name n found. absurd cc;
@@ -47,7 +47,7 @@ started o parts left a w same none noted = record {
 
 -- An actor after its last step.
 pub ended : {W : Type 0} (o : World BuiltIn) (parts : List ActorPart) (a : ℕ) (w : Worker W) → HasCome o (initial_actor parts a) w None [] → HasActed parts a (mine_of w.seat) w.short
-ended o parts a w h = record { first = h.first; whole = λ ns. let at = h.on ns in all_is_spelled (initial_actor parts a) (printed [] (mine_of w.seat)) at.notes at.spells }
+ended o parts a w h = record { first = h.first; whole = λ ns. let at = h.on ns in all_is_spelled (initial_actor parts a) (printed_calls [] (mine_of w.seat)) at.notes at.spells }
 
 -- An actor that could not begin.
 pub unstarted : {W : Type 0} (parts : List ActorPart) (a : ℕ) (seat : Seat W) → seen_by seat ≡ [] → HasActed parts a (mine_of seat) true
@@ -80,8 +80,8 @@ module _ {W : Type 0} (parts : List ActorPart) (h : History) where
   acted_in a seat short any is same all acted =
       let calls : mine_of seat ≡ own_calls a h = sym same ∙ ap (λ n. own_calls n h) is in
       record {
-        first = subst (λ l. IsFirstPart (initial_actor parts a) (printed [] l)) calls acted.first;
-        whole = λ none. subst (λ l. SpellsAll (initial_actor parts a) (printed [] l)) calls (acted.whole (all none));
+        first = subst (λ l. IsFirstPart (initial_actor parts a) (printed_calls [] l)) calls acted.first;
+        whole = λ none. subst (λ l. SpellsAll (initial_actor parts a) (printed_calls [] l)) calls (acted.whole (all none));
       }
 
 module _ {A : Type 0} (number : A → ℕ) (actors : List A) where

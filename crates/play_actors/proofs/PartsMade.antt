@@ -13,7 +13,7 @@ use Rattle.snap_shared.specs.HistoryEffects.{after_append, legal_parts}
 use Rattle.snap_shared.specs.SeatDesk.{SeatAfterReads}
 use Rattle.snap_shared.specs.Seats.{seen_by, mine_of}
 use Rattle.snap_shared.specs.SharedCalls.{own_calls, entries_added, SeesOwnCall}
-use Rattle.script_lang.specs.PrintedCalls.{printed, reads_frame, frames_after}
+use Rattle.script_lang.specs.PrintedCalls.{printed_calls, reads_frame, frames_after}
 use Rattle.script_lang.specs.StepCalls.{Part, Take, Read, Write, WriteSum, Apply, Dispose, BeginFrame, EndFrame, ActorPart, Notes, of_actor, request_of, notes_after}
 use Rattle.woven_laws.specs.FirstParts.{IsFirstPart, SpellsTo}
 use Rattle.woven_laws.specs.PrintedHistory.{frames_after_calls}
@@ -72,17 +72,17 @@ module _ {W : Type 0} (stands : W → World BuiltIn → Type 0) (opening : W) (o
         part_done world_then number n (counts_after o (seen ++ c.continues.between) counts) (known_on (world_after table o seen) world_then n.names more at.known)
         (apart_on (world_after table o seen) world_then n.names n.frame more at.apart) p q r (may_same p n.frame frame at.at_frame may) asks told
 
-    one_printed : (printed [] (mine ++ entry_made ∷ []) ≡ printed [] mine ++ entry_made ∷ []) × (frames_after_calls [] (mine ++ entry_made ∷ []) ≡ frames_after (frames_after_calls [] mine) entry_made)
+    one_printed : (printed_calls [] (mine ++ entry_made ∷ []) ≡ printed_calls [] mine ++ entry_made ∷ []) × (frames_after_calls [] (mine ++ entry_made ∷ []) ≡ frames_after (frames_after_calls [] mine) entry_made)
     one_printed = call_is_printed mine entry_made (ap (λ fs. reads_frame fs q) at.frames ∙ made.unread)
 
-    spelled_then : SpellsTo before (printed [] mine') (actor_at (notes_after at.notes p r) rest)
+    spelled_then : SpellsTo before (printed_calls [] mine') (actor_at (notes_after at.notes p r) rest)
     spelled_then =
-        subst (λ l. SpellsTo before l (actor_at (notes_after at.notes p r) rest)) (sym (ap (λ l. printed [] l) mine_grew ∙ one_printed.0))
-        (subst (λ (k : ℕ). SpellsTo before (printed [] mine ++ record { caller = k; request = q; reply = r } ∷ []) (actor_at (notes_after at.notes p r) rest)) (sym is_callers)
-        (call_is_spelled before (printed [] mine) at.notes (of_actor a p) rest q r at.spells asks))
+        subst (λ l. SpellsTo before l (actor_at (notes_after at.notes p r) rest)) (sym (ap (λ l. printed_calls [] l) mine_grew ∙ one_printed.0))
+        (subst (λ (k : ℕ). SpellsTo before (printed_calls [] mine ++ record { caller = k; request = q; reply = r } ∷ []) (actor_at (notes_after at.notes p r) rest)) (sym is_callers)
+        (call_is_spelled before (printed_calls [] mine) at.notes (of_actor a p) rest q r at.spells asks))
 
     -- The call of a part, also if the reply could not be noted.
-    pub first_made : IsFirstPart before (printed [] mine')
+    pub first_made : IsFirstPart before (printed_calls [] mine')
     first_made = spelled_then.0
 
     pub part_made : (m' : ActorMemory) → IsNoted m' (notes_after at.notes p r) → IsActorAt o before seen' mine' m' (frame_then p frame m'.frame) rest
@@ -121,7 +121,7 @@ frame_read o opens opens' before seen seen' number number' opened opened' m m' n
       notes = n;
       noted = same n at.noted;
       at_frame = at.at_frame;
-      spells = subst (λ l. SpellsTo before l (actor_at n left)) (sym (ap (λ l. printed [] l) grew ∙ unread.0)) at.spells;
+      spells = subst (λ l. SpellsTo before l (actor_at n left)) (sym (ap (λ l. printed_calls [] l) grew ∙ unread.0)) at.spells;
       frames = ap (λ l. frames_after_calls [] l) grew ∙ unread.1 ∙ at.frames;
       known = subst (λ w. AreKnown w n.names) (sym world_same) (known_on (world_after table o seen) (world_after table o (seen ++ k.more)) n.names more at.known);
       apart = subst (λ w. FrameIsApart w n.names n.frame) (sym world_same) (apart_on (world_after table o seen) (world_after table o (seen ++ k.more)) n.names n.frame more at.apart);
@@ -129,9 +129,9 @@ frame_read o opens opens' before seen seen' number number' opened opened' m m' n
 
 -- A worker that has stopped, and one that goes on.
 pub came_short : {W : Type 0} (o : World BuiltIn) (before : ActorState) (w : Worker W) (frame : Option ℕ) (left : List ActorPart) (mine : History) → mine_of w.seat ≡ mine → w.short ≡ true →
-    IsFirstPart before (printed [] mine) → HasCome o before w frame left
+    IsFirstPart before (printed_calls [] mine) → HasCome o before w frame left
 came_short o before w frame left mine same short first = record {
-  first = subst (λ l. IsFirstPart before (printed [] l)) (sym same) first;
+  first = subst (λ l. IsFirstPart before (printed_calls [] l)) (sym same) first;
   on = λ ns. let e : true ≡ false = sym short ∙ ns in absurd cc;
 }
 

@@ -11,7 +11,7 @@ use Rattle.snap_shared.specs.declared.shared.Seat.{Seat}
 use Rattle.snap_shared.specs.declared.shared.Shared.{Shared}
 use Rattle.script_lang.specs.SnapshotNames.{NamedNumber, latest, never_taken}
 use Rattle.script_lang.specs.StepCalls.{Part, BeginFrame, EndFrame, ActorPart, Notes, of_actor, request_of}
-use Rattle.script_lang.specs.PrintedCalls.{printed}
+use Rattle.script_lang.specs.PrintedCalls.{printed_calls}
 use Rattle.play_run.specs.RunState.{AreKnown}
 use Rattle.woven_laws.specs.FirstParts.{IsFirstPart, SpellsTo}
 use Rattle.woven_laws.specs.PrintedHistory.{frames_after_calls}
@@ -59,7 +59,7 @@ pub record IsActorAt (o : World BuiltIn) (before : ActorState) (seen mine : Hist
   pub notes : Notes
   pub noted : IsNoted m notes
   pub at_frame : notes.frame ≡ frame
-  pub spells : SpellsTo before (printed [] mine) (actor_at notes left)
+  pub spells : SpellsTo before (printed_calls [] mine) (actor_at notes left)
   pub frames : frames_after_calls [] mine ≡ frame_list notes.frame
   pub known : AreKnown (world_after table o seen) notes.names
   pub apart : FrameIsApart (world_after table o seen) notes.names notes.frame
@@ -68,7 +68,7 @@ pub record IsActorAt (o : World BuiltIn) (before : ActorState) (seen mine : Hist
 -- has these parts left and this frame open.
 pub record HasCome {W : Type 0} (o : World BuiltIn) (before : ActorState) (w : Worker W) (frame : Option ℕ)
     (left : List ActorPart) : Type 0 where
-  pub first : IsFirstPart before (printed [] (mine_of w.seat))
+  pub first : IsFirstPart before (printed_calls [] (mine_of w.seat))
   pub on : w.short ≡ false → IsActorAt o before (seen_by w.seat) (mine_of w.seat) w.memory frame left
 
 -- A worker that has `parts` to make, and then others, has come to where `left` are to be made of them. `frame` is the
@@ -107,8 +107,8 @@ MakesCall stands shared a w w' p q =
 
 -- The calls of an actor with these parts are those of a first part, and all that the parts make unless it has stopped.
 pub record HasActed (parts : List ActorPart) (a : ℕ) (mine : History) (short : Bool) : Type 0 where
-  pub first : IsFirstPart (initial_actor parts a) (printed [] mine)
-  pub whole : short ≡ false → SpellsAll (initial_actor parts a) (printed [] mine)
+  pub first : IsFirstPart (initial_actor parts a) (printed_calls [] mine)
+  pub whole : short ≡ false → SpellsAll (initial_actor parts a) (printed_calls [] mine)
 
 -- The actor of this number has acted through the seat, which is at rest.
 pub record ActsThrough {W : Type 0} (stands : W → World BuiltIn → Type 0) (shared : Shared W BuiltIn)

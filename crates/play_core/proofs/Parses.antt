@@ -4,7 +4,7 @@ use Rattle.std.specs.Prelude.{IfSome}
 use Rattle.std.proofs.lemmas.Bool.Decides.{eqb_tells}
 use Rattle.sexp_text.specs.Forest.{Forest, empty, atom, behind, nesting}
 use Rattle.sexp_text.specs.Grammar.{is_blank, is_atom_byte}
-use Rattle.sexp_text.specs.Machine.{Mode, gap, in_comment, in_word, in_text, in_escape, OpenLists, State, closed, start, step, next, forest_at_end, first_state, state_at, whole, IsShallow, Refuses}
+use Rattle.sexp_text.specs.Machine.{Mode, gap, in_comment, in_word, in_text, in_escape, OpenLists, State, close_list, start, step, next, forest_at_end, first_state, state_at, whole, IsShallow, Refuses}
 use Rattle.sexp_text.specs.declared.stop.TextStop.{TextStop}
 use Rattle.sexp_text.specs.declared.stop.TextStop.TheVariants as stop
 use Rattle.sexp_text.proofs.Walks.{walk_on, tested, length_le-depth_reached, next_deepens, finish_reaches, whole_is, stops_refuses}
@@ -13,7 +13,7 @@ use Rattle.sexp_text.proofs.Walks.{walk_on, tested, length_le-depth_reached, nex
 Opens : ℕ → OpenLists → State → Type 0
 Opens b os t = (b ≡ 40) ⊎ (length t.1 ≤ length os)
 
-closed-opens : (b : ℕ) (os : OpenLists) (f : Forest) → IfSome (closed os f) (Opens b os)
+closed-opens : (b : ℕ) (os : OpenLists) (f : Forest) → IfSome (close_list os f) (Opens b os)
 unfolding Opens
 closed-opens b [] f = tt
 closed-opens b (o ∷ os) f = inr (omega arith)

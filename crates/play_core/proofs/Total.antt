@@ -14,7 +14,7 @@ use Rattle.sexp_text.proofs.Sound.{spells-whole}
 use Rattle.lang_limits.specs.LeastOffset.{least}
 use Rattle.lang_limits.specs.Tokens.{oversized_script_offsets}
 use Rattle.lang_forms.specs.Sources.{Source}
-use Rattle.lang_forms.specs.TextAnswers.{text_answer, answered, unless_beyond}
+use Rattle.lang_forms.specs.TextAnswers.{text_answer, parsed_answer, unless_beyond}
 use Rattle.lang_forms.specs.declared.stop.FormStop.{FormStop}
 use Rattle.lang_forms.specs.declared.stop.FormStop.TheVariants as form
 use Rattle.lang_forms.proofs.Limits.{forms_answer, small_answers}
@@ -49,7 +49,7 @@ module _ (threads : Bool) where
   stopped bytes stop.NoMemory n c = absurd (n refl)
 
 -- The forms never report out of memory.
-never : (f : Forest) (r : Result Source ℕ) → answered f r ≢ Err form.NoMemory
+never : (f : Forest) (r : Result Source ℕ) → parsed_answer f r ≢ Err form.NoMemory
 never f (Err at) e = absurd cc
 never f (Ok t) e = by _ e
   where

@@ -15,8 +15,8 @@ use Rattle.lang_limits.proofs.Copies.{within_stays}
 use Rattle.lang_limits.proofs.Lesser.{no_least}
 use Rattle.lang_ast.specs.declared.script.DoForm.{DoForm}
 use Rattle.lang_ast.specs.declared.program.State.{State}
-use Rattle.lang_forms.specs.TextAnswers.{text_answer, answered, unless_beyond}
-use Rattle.lang_forms.specs.Readings.{seen}
+use Rattle.lang_forms.specs.TextAnswers.{text_answer, parsed_answer, unless_beyond}
+use Rattle.lang_forms.specs.Readings.{seen_trees}
 use Rattle.lang_forms.specs.TextReading.{source_of}
 use Rattle.lang_forms.specs.Sources.{Source}
 use Rattle.lang_forms.specs.Forms.{HasForms}
@@ -53,8 +53,8 @@ stays f p small brief = within_stays f (both_none (beyond (program_trees f)) (pr
 -- A forest that keeps the limits is parsed as the source text whose forms it has.
 read-as : (end : ℕ) (f : Forest) (t : Source) → HasForms f t → program_limits f t.program ≡ [] → oversized_script_offsets f ≡ [] → text_answer end f ≡ Ok t
 read-as end f t forms small brief =
-    ap (λ g. answered f (source_of end (seen g))) (stays f t.program small brief)
-    ∙ ap (answered f) (text_read end f t forms)
+    ap (λ g. parsed_answer f (source_of end (seen_trees g))) (stays f t.program small brief)
+    ∙ ap (parsed_answer f) (text_read end f t forms)
     ∙ ap (λ places. unless_beyond (least places) t) small
 
 module _ (threads : Bool) where

@@ -6,7 +6,7 @@ use Rattle.script_lang.specs.StepCalls.{BeginFrame, EndFrame, ActorPart, script_
 use Rattle.play_run.specs.RunOutput.{parts_of}
 use Rattle.play_gen.specs.declared.rounds.Change.{Change}
 use Rattle.play_gen.specs.declared.rounds.Change.TheVariants as change
-use Rattle.play_gen.specs.Draws.{initial_state, next_state, drawn}
+use Rattle.play_gen.specs.Draws.{initial_state, next_state, draw}
 use Rattle.play_gen.specs.GeneratedProgram.{first_items}
 use Rattle.play_gen.specs.GeneratedScript.{frame_step, change_drawn, items_after, change_steps, round_change, rounds, generated_script}
 use Rattle.play_gen.specs.Counting.{forms_parts}
@@ -29,7 +29,7 @@ round_first size left x items some =
     ∙ change_first size (round_change x) (next_state x) items (rounds size (left - 1) (next_state (next_state x)) (items_after size (round_change x) (next_state x) items))
 
 -- The parts so far and those that are left, after one more round of the loop.
-pub parts_step : (done all : List ActorPart) (size left x x1 x2 k : ℕ) (c : Change) (items items1 : List ℤ) → 0 < left → done ++ forms_parts (rounds size left x items) ≡ all → k ≡ drawn x 4 → x1 ≡ next_state x → c ≡ change_drawn k → x2 ≡ next_state x1 → items1 ≡ items_after size c x1 items
+pub parts_step : (done all : List ActorPart) (size left x x1 x2 k : ℕ) (c : Change) (items items1 : List ℤ) → 0 < left → done ++ forms_parts (rounds size left x items) ≡ all → k ≡ draw x 4 → x1 ≡ next_state x → c ≡ change_drawn k → x2 ≡ next_state x1 → items1 ≡ items_after size c x1 items
     → (done ++ (forms_parts (change_steps size c x1 items) ++ frame_parts)) ++ forms_parts (rounds size (left - 1) x2 items1) ≡ all
 parts_step done all size left x x1 x2 k c items items1 some so_far drew once is twice after =
     let this : c ≡ round_change x = is ∙ ap change_drawn drew in

@@ -8,7 +8,7 @@ use Rattle.rt_values.specs.Operators.{numbers_from, concatenation}
 use Rattle.lang_ast.specs.declared.script.ScriptForm.{ScriptForm}
 use Rattle.play_gen.specs.declared.rounds.Change.{Change}
 use Rattle.play_gen.specs.declared.rounds.Change.TheVariants as change
-use Rattle.play_gen.specs.Draws.{next_state, drawn}
+use Rattle.play_gen.specs.Draws.{next_state, draw}
 use Rattle.play_gen.specs.GeneratedProgram.{first_items}
 use Rattle.play_gen.specs.GeneratedScript.{frame_step, change_drawn, rotated_list, items_after, change_steps, round_change, rounds}
 
@@ -28,7 +28,7 @@ pub items-length : (size : ℕ) (c : Change) (x : ℕ) (items : List ℤ) → le
 items-length size change.AddToTotal x items = refl
 items-length size change.RaiseBest x items = refl
 items-length size change.SetScale x items = refl
-items-length size change.RotateItems x items = rotated-length (drawn x size) items
+items-length size change.RotateItems x items = rotated-length (draw x size) items
 
 -- The range from `a` has `n` numbers, if it may.
 range-length : (most a n : ℕ) → n ≤ most → length (numbers_from most (pos a) (pos (a + n))) ≡ n
@@ -63,7 +63,7 @@ steps-more steps with_change with_frame whole size left x items some changed fra
 
 -- One more round of the loop, by its draws and its change.
 pub round-step : (steps with_change with_frame whole : List ScriptForm) (size left x x1 x2 k : ℕ) (c : Change) (items items1 : List ℤ) → 0 < left → size ≡ length items → steps ++ rounds size left x items ≡ whole
-    → k ≡ drawn x 4 → x1 ≡ next_state x → c ≡ change_drawn k → x2 ≡ next_state x1 → items1 ≡ items_after size c x1 items → with_change ≡ steps ++ change_steps size c x1 items → with_frame ≡ with_change ++ frame_step ∷ []
+    → k ≡ draw x 4 → x1 ≡ next_state x → c ≡ change_drawn k → x2 ≡ next_state x1 → items1 ≡ items_after size c x1 items → with_change ≡ steps ++ change_steps size c x1 items → with_frame ≡ with_change ++ frame_step ∷ []
     → (size ≡ length items1) × (with_frame ++ rounds size (left - 1) x2 items1 ≡ whole)
 round-step steps with_change with_frame whole size left x x1 x2 k c items items1 some long so_far drew once is twice after changed framed =
     let this : c ≡ round_change x = is ∙ ap change_drawn drew in

@@ -10,5 +10,5 @@ abbrev pub next_state : ℕ → ℕ
 next_state x = (1103515245 * x + 12345) % 2 ^ 31
 
 -- The number below `n` that the next draw gives.
-abbrev pub drawn : ℕ → ℕ → ℕ
-drawn x n = next_state x / 65536 % n
+abbrev pub draw : ℕ → ℕ → ℕ
+draw x n = next_state x / 65536 % n

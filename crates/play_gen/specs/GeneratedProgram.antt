@@ -32,8 +32,8 @@ abbrev pub product : Expr → Expr → Expr
 product a b = Apply 0 operator.Multiply (more a (more b none))
 
 -- `(NAME EXPR)`: an attribute of a node, or a key of a `remember`.
-abbrev pub named : List ℕ → Expr → Named
-named name e = record { name = ident name; value = e }
+abbrev pub named_value : List ℕ → Expr → Named
+named_value name e = record { name = ident name; value = e }
 
 abbrev pub function : List ℕ → List Parameter → List Stmt → Func
 function name parameters body = record { at = 0; name = ident name; parameters = parameters; body = stmts body }
@@ -54,16 +54,16 @@ generated_states size =
 abbrev pub row_node : Stmt
 row_node =
     Node 0 2 (ident (codes "Row"))
-    (named (codes "item") (variable (codes "i"))
-    ∷ named (codes "square") (variable (codes "sq"))
-    ∷ named (codes "scaled") (product (variable (codes "i")) (state_value (codes "scale") 3))
+    (named_value (codes "item") (variable (codes "i"))
+    ∷ named_value (codes "square") (variable (codes "sq"))
+    ∷ named_value (codes "scaled") (product (variable (codes "i")) (state_value (codes "scale") 3))
     ∷ [])
     (stmts [])
 
 -- `(remember sq ((n i)) (* n n) ROW_NODE)`
 abbrev pub row_cell : Stmt
 row_cell =
-    Remember 0 1 (ident (codes "sq")) (named (codes "n") (variable (codes "i")) ∷ [])
+    Remember 0 1 (ident (codes "sq")) (named_value (codes "n") (variable (codes "i")) ∷ [])
     (product (variable (codes "n")) (variable (codes "n"))) (stmts (row_node ∷ []))
 
 -- `(fun row ((i Int)) ROW_CELL)`
@@ -84,7 +84,7 @@ all_rows = For 0 3 (ident (codes "i")) (state_value (codes "items") 0) (stmts (k
 abbrev pub total_node : Stmt
 total_node =
     Node 0 7 (ident (codes "Total"))
-    (named (codes "value") (state_value (codes "total") 1) ∷ named (codes "best") (state_value (codes "best") 2) ∷ [])
+    (named_value (codes "value") (state_value (codes "total") 1) ∷ named_value (codes "best") (state_value (codes "best") 2) ∷ [])
     (stmts [])
 
 -- `(node Page () TOTAL_NODE (call list))`

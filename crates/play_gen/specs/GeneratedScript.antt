@@ -13,7 +13,7 @@ use Rattle.lang_ast.specs.declared.script.ScriptForm.TheVariants.{Once}
 use Rattle.lang_ast.specs.declared.script.DoForm.{DoForm}
 use Rattle.play_gen.specs.declared.rounds.Change.{Change}
 use Rattle.play_gen.specs.declared.rounds.Change.TheVariants as change
-use Rattle.play_gen.specs.Draws.{initial_state, next_state, drawn}
+use Rattle.play_gen.specs.Draws.{initial_state, next_state, draw}
 use Rattle.play_gen.specs.GeneratedProgram.{ident, first_items}
 
 -- A step without inner steps.
@@ -58,21 +58,21 @@ rotated_list turn items = drop turn items ++ take turn items
 
 -- The items after a change. The state of the draws is `x`.
 abbrev pub items_after : ℕ → Change → ℕ → List ℤ → List ℤ
-items_after size change.RotateItems x items = rotated_list (drawn x size) items
+items_after size change.RotateItems x items = rotated_list (draw x size) items
 items_after size _ x items = items
 
 -- The steps of a change. The state of the draws is `x`.
 abbrev pub change_steps : ℕ → Change → ℕ → List ℤ → List ScriptForm
-change_steps size change.AddToTotal x items = add_step (drawn x 10) ∷ []
+change_steps size change.AddToTotal x items = add_step (draw x 10) ∷ []
 change_steps size change.RaiseBest x items =
-    take_step ∷ write_step named_g (codes "best") 2 (value.Int (pos (drawn x 10))) ∷ apply_step ∷ []
-change_steps size change.SetScale x items = write_step Global (codes "scale") 3 (value.Int (pos (drawn x 10))) ∷ []
+    take_step ∷ write_step named_g (codes "best") 2 (value.Int (pos (draw x 10))) ∷ apply_step ∷ []
+change_steps size change.SetScale x items = write_step Global (codes "scale") 3 (value.Int (pos (draw x 10))) ∷ []
 change_steps size change.RotateItems x items =
-    write_step Global (codes "items") 0 (value.Ints (rotated_list (drawn x size) items)) ∷ []
+    write_step Global (codes "items") 0 (value.Ints (rotated_list (draw x size) items)) ∷ []
 
 -- The change of the round that begins in the state `x` of the draws.
 abbrev pub round_change : ℕ → Change
-round_change x = change_drawn (drawn x 4)
+round_change x = change_drawn (draw x 4)
 
 -- The steps of so many rounds: each makes a change and a frame. A change takes the second draw of its round.
 abbrev pub rounds : ℕ → ℕ → ℕ → List ℤ → List ScriptForm

@@ -1,6 +1,6 @@
 // Numbers drawn one after the other.
 ghost use Rattle.std.specs.Prelude.{◌≡◌, ◌<◌, ◌^◌};
-ghost use Rattle.play_gen.specs.Draws.{initial_state, next_state, drawn};
+ghost use Rattle.play_gen.specs.Draws.{initial_state, next_state, draw};
 
 use std::marker::Model;
 
@@ -34,7 +34,7 @@ impl Draws {
     /// Draws the next number, below `end`.
     pub fn draw(&mut self, end: u32) -> u32
         requires { 0 < end }
-        ensures value { result ≡ drawn self.old end }
+        ensures value { result ≡ draw self.old end }
         ensures below { result < end }
         ensures next { self.new ≡ next_state self.old }
     {

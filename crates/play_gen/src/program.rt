@@ -3,7 +3,7 @@ ghost use Rattle.std.specs.Prelude.{◌≡◌, ◌≤◌, ℕ, [], ◌∷◌, If
 ghost use Rattle.lang_ast.specs.SyntaxView.{expr_view, exprs_view, named_view, nameds_view, stmt_view, stmts_view, function_view, functions_view};
 ghost use Rattle.lang_ast.specs.Terms.{Node, Call};
 ghost use Rattle.lang_ast.specs.Programs.{program_view};
-ghost use Rattle.play_gen.specs.GeneratedProgram.{ident, state, variable, state_value, product, named, first_items, generated_states, row_node, row_cell, row_function, keyed_row, all_rows, total_node, page_node, function, generated_functions, generated_program};
+ghost use Rattle.play_gen.specs.GeneratedProgram.{ident, state, variable, state_value, product, named_value, first_items, generated_states, row_node, row_cell, row_function, keyed_row, all_rows, total_node, page_node, function, generated_functions, generated_program};
 
 use lang_ast::{
     Expression, Function, Ident, Named, Operator, Parameter, Program, State, Statement,
@@ -98,7 +98,7 @@ fn product(alloc: Global, a: Expression, b: Expression) -> Result<Expression, No
 
 // Returns the expression with a name.
 fn named(alloc: Global, name: &[u8], value: Expression) -> Result<Named, NoMemory>
-    ensures { IfOk result (λ n. named_view n ≡ named name.now (expr_view value)) }
+    ensures { IfOk result (λ n. named_view n ≡ named_value name.now (expr_view value)) }
 {
     let name = ident(alloc, name)?;
     Ok(Named { name, value })

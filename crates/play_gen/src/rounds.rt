@@ -2,7 +2,7 @@
 ghost use Rattle.std.specs.Prelude.{◌≡◌, ◌<◌, ◌≤◌, ◌++◌, ◌∷◌, [], codes, length, IfOk, OnOk, pos};
 ghost use Rattle.rt_values.specs.declared.value.Value.{Value as value_data};
 ghost use Rattle.lang_ast.specs.declared.script.SnapshotRef.{SnapshotRef as snapshot_ref};
-ghost use Rattle.play_gen.specs.Draws.{drawn, next_state};
+ghost use Rattle.play_gen.specs.Draws.{draw, next_state};
 ghost use Rattle.play_gen.specs.GeneratedScript.{add_step, take_step, apply_step, frame_step, write_step, named_g, change_drawn, rotated_list, items_after, change_steps, round_change, rounds};
 
 use crate::draws::Draws;

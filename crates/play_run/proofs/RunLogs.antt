@@ -27,7 +27,7 @@ use Rattle.snap_api.specs.declared.data.Request.TheVariants as request
 use Rattle.recomposer.proofs.Draws.{read_first}
 use Rattle.script_lang.specs.StepCalls.{ActorPart, request_of, notes_after, entry, sequential}
 use Rattle.script_lang.specs.Lines.{Titles, Standing, next, kept_after, ends_frame, frame_at, frame_taken, name_in}
-use Rattle.script_lang.specs.PrintedCalls.{reads_frame, frames_after, printed}
+use Rattle.script_lang.specs.PrintedCalls.{reads_frame, frames_after, printed_calls}
 use Rattle.play_run.specs.RunLog.{frames_in, owed_reads, ReadsForResult, ReadsOwed, LogsRun}
 use Rattle.play_run.specs.RunOutput.{Run, first_run, run_after_request, parts_after}
 use Rattle.play_run.specs.RunState.{HasAsked, LogSoFar, IsLogged, AddsEntry, FrameReadsLogged, LogsFrameReads}
@@ -66,13 +66,13 @@ legal_append w [] b one two = two
 legal_append w (e ∷ es) b one two = (one.0, legal_append (call table w e.caller e.request).0 es b one.1 two)
 
 -- The reads of a frame are not printed.
-unprinted : (frames : List ℕ) (caller name : ℕ) → contains name frames ≡ true → (more rest : History) (xs : List ℕ) → map call_of more ≡ reads_of caller name xs → printed frames (more ++ rest) ≡ printed frames rest
+unprinted : (frames : List ℕ) (caller name : ℕ) → contains name frames ≡ true → (more rest : History) (xs : List ℕ) → map call_of more ≡ reads_of caller name xs → printed_calls frames (more ++ rest) ≡ printed_calls frames rest
 unprinted frames caller name inside [] rest xs is = refl
 unprinted frames caller name inside (x ∷ more) rest [] is = absurd cc
 unprinted frames caller name inside (x ∷ more) rest (o ∷ xs) is =
     let first = read_first caller name o xs x more is in
-    ap (λ q. cond (reads_frame frames q) (printed frames (more ++ rest)) (x ∷ printed (frames_after frames x) (more ++ rest))) first.0
-    ∙ ap (λ b. cond b (printed frames (more ++ rest)) (x ∷ printed (frames_after frames x) (more ++ rest))) inside
+    ap (λ q. cond (reads_frame frames q) (printed_calls frames (more ++ rest)) (x ∷ printed_calls (frames_after frames x) (more ++ rest))) first.0
+    ∙ ap (λ b. cond b (printed_calls frames (more ++ rest)) (x ∷ printed_calls (frames_after frames x) (more ++ rest))) inside
     ∙ unprinted frames caller name inside more rest xs first.1
 
 module _ (functions : List Func) where
@@ -108,11 +108,11 @@ module _ (functions : List Func) where
   legal_from w s actor q es is legal =
       subst (λ v. IsLegal table v (entry s.world actor q ∷ es)) (sym is) (refl, subst (λ v. IsLegal table v es) (next_world s (entry s.world actor q)) legal)
 
-  printed_first : (s : Standing) (e : Entry) (es made : History) → reads_frame s.frames e.request ≡ false → made ++ printed s.frames (e ∷ es) ≡ (made ++ e ∷ []) ++ printed (next functions s e).frames es
+  printed_first : (s : Standing) (e : Entry) (es made : History) → reads_frame s.frames e.request ≡ false → made ++ printed_calls s.frames (e ∷ es) ≡ (made ++ e ∷ []) ++ printed_calls (next functions s e).frames es
   printed_first s e es made unread =
-      ap (λ b. made ++ cond b (printed s.frames es) (e ∷ printed (frames_after s.frames e) es)) unread
-      ∙ ap (λ f. made ++ (e ∷ printed f es)) (sym (next_frames s e))
-      ∙ sym (append_assoc made (e ∷ []) (printed (next functions s e).frames es))
+      ap (λ b. made ++ cond b (printed_calls s.frames es) (e ∷ printed_calls (frames_after s.frames e) es)) unread
+      ∙ ap (λ f. made ++ (e ∷ printed_calls f es)) (sym (next_frames s e))
+      ∙ sym (append_assoc made (e ∷ []) (printed_calls (next functions s e).frames es))
 
   module _ (r : Run) (p : ActorPart) (q : Request) where
     abbrev made_entry : Entry
@@ -130,7 +130,7 @@ module _ (functions : List Func) where
           more = h.more ++ e ∷ [];
           log_is = added ∙ ap (λ (l : List Entry). Some l) (append_assoc o h.more (e ∷ []));
           legal = λ es legal. subst (λ l. IsLegal table r.first.world l) (sym (append_assoc h.more (e ∷ []) es)) (h.legal (e ∷ es) (legal_from r.standing.world r.standing p.actor q es refl legal));
-          printed_is = λ es. ap (printed r.first.frames) (append_assoc h.more (e ∷ []) es) ∙ h.printed_is (e ∷ es) ∙ printed_first r.standing e es r.made unread;
+          printed_is = λ es. ap (printed_calls r.first.frames) (append_assoc h.more (e ∷ []) es) ∙ h.printed_is (e ∷ es) ∙ printed_first r.standing e es r.made unread;
           frames_read = λ es all.
               let same : frames_in functions r.standing [] (e ∷ es) ≡ frames_in functions (next functions r.standing e) [] es = rw unread (rw unended refl) in
               subst (λ l. All (ReadsOwed functions) (frames_in functions r.first [] l)) (sym (append_assoc h.more (e ∷ []) es)) (h.frames_read (e ∷ es) (subst (λ l. All (ReadsOwed functions) l) (sym same) all));
@@ -168,7 +168,7 @@ module _ (functions : List Func) where
           log_is = added ∙ ap (λ (l : List Entry). Some l) (append_assoc (o ++ h.more) f.more (e ∷ []) ∙ append_assoc o h.more (f.more ++ e ∷ []));
           legal = λ es legal. subst (λ l. IsLegal table r.first.world l) (sym (split es))
               (h.legal (f.more ++ (e ∷ es)) (legal_append w f.more (e ∷ es) (f.legal w stood) (legal_from (world_after table w f.more) r.standing p.actor (request.Dispose name) es (f.leaves w stood) legal)));
-          printed_is = λ es. ap (printed r.first.frames) (split es) ∙ h.printed_is (f.more ++ (e ∷ es))
+          printed_is = λ es. ap (printed_calls r.first.frames) (split es) ∙ h.printed_is (f.more ++ (e ∷ es))
               ∙ ap (λ l. r.made ++ l) (unprinted r.standing.frames p.actor name inside f.more (e ∷ es) f.xs f.reads) ∙ printed_first r.standing e es r.made refl;
           frames_read = λ es all.
               let last : frames_in functions r.standing f.xs (e ∷ es) ≡ record { kept = r.standing.kept; map = m; reads = f.xs } ∷ frames_in functions (next functions r.standing e) [] es = rw inside refl in
@@ -219,7 +219,7 @@ logged_last t functions ps (Some o) now r first made h = record {
   more = h.more;
   log_is = h.log_is;
   legal = subst (λ l. IsLegal table _ l) (append-nil h.more) (subst (λ (s : Standing). IsLegal table s.world (h.more ++ [])) first (h.legal [] tt));
-  printed_is = ap (printed []) (sym (append-nil h.more)) ∙ ap (λ (s : Standing). printed s.frames (h.more ++ [])) (sym first) ∙ h.printed_is [] ∙ append-nil r.made ∙ made;
+  printed_is = ap (printed_calls []) (sym (append-nil h.more)) ∙ ap (λ (s : Standing). printed_calls s.frames (h.more ++ [])) (sym first) ∙ h.printed_is [] ∙ append-nil r.made ∙ made;
   frames_read = subst (λ l. All (ReadsOwed functions) (frames_in functions _ [] l)) (append-nil h.more) (subst (λ (s : Standing). All (ReadsOwed functions) (frames_in functions s [] (h.more ++ []))) first (h.frames_read [] (All-nil (ReadsOwed functions))));
 }
 

@@ -13,7 +13,7 @@ use Rattle.snap_api.specs.declared.data.Request.TheVariants as request
 use Rattle.snap_api.specs.World.{History, IsLegal, snapshot_of}
 use Rattle.script_lang.specs.StepCalls.{ActorPart, no_notes, opening_world, sequential}
 use Rattle.script_lang.specs.Lines.{Titles, Standing, initial_standing, next, ends_frame, name_in}
-use Rattle.script_lang.specs.PrintedCalls.{reads_frame, printed}
+use Rattle.script_lang.specs.PrintedCalls.{reads_frame, printed_calls}
 
 -- The object of a read.
 abbrev pub object_read : Request → ℕ
@@ -56,7 +56,7 @@ pub record RunLogged (t : Titles) (functions : List Func) (parts : List ActorPar
   pub more : History
   pub log_is : new ≡ Some (old ++ more)
   pub legal : IsLegal table (opening_world t.states) more
-  pub printed_is : printed [] more ≡ sequential (opening_world t.states) no_notes parts
+  pub printed_is : printed_calls [] more ≡ sequential (opening_world t.states) no_notes parts
   pub frames_read : All (ReadsOwed functions) (frames_in functions (initial_standing t.states) [] more)
 
 -- The log grew so, if there is one.

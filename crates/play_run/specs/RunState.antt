@@ -24,7 +24,7 @@ use Rattle.script_lang.specs.StepCalls.{Part, Take, BeginFrame, EndFrame, ActorP
 use Rattle.script_lang.specs.declared.flags.Flags.{Flags}
 use Rattle.script_lang.specs.Lines.{LineStyle, frame_calls}
 use Rattle.play_run.specs.RunPromise.{WritesBytes}
-use Rattle.script_lang.specs.PrintedCalls.{printed}
+use Rattle.script_lang.specs.PrintedCalls.{printed_calls}
 use Rattle.play_run.specs.RunLog.{frames_in, ReadsOwed}
 use Rattle.play_run.specs.RunOutput.{Run, parts_lines, parts_after}
 use Rattle.play_run.specs.declared.memory.RunMemory.{RunMemory}
@@ -71,7 +71,7 @@ pub record LogSoFar (functions : List Func) (r : Run) (old : List Entry) (now : 
   pub more : History
   pub log_is : now ≡ Some (old ++ more)
   pub legal : (es : History) → IsLegal table r.standing.world es → IsLegal table r.first.world (more ++ es)
-  pub printed_is : (es : History) → printed r.first.frames (more ++ es) ≡ r.made ++ printed r.standing.frames es
+  pub printed_is : (es : History) → printed_calls r.first.frames (more ++ es) ≡ r.made ++ printed_calls r.standing.frames es
   pub frames_read : (es : History) → All (ReadsOwed functions) (frames_in functions r.standing [] es)
       → All (ReadsOwed functions) (frames_in functions r.first [] (more ++ es))
 

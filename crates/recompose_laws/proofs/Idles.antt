@@ -2,9 +2,9 @@
 use Rattle.std.proofs.Common.{ℕ, ◌-◌, ◌^◌, min, List, [], ◌∷◌, ◌++◌, ◌≡◌, refl, ap, ◌∙◌, sym, length, true, false, if◌then◌else◌, Option, take, arith}
 use Rattle.rt_groups.specs.declared.report.Report.{Report}
 use Rattle.rt_values.specs.Maps.{Map}
-use Rattle.rt_groups.specs.GroupForest.{GroupForest, End, Read, Group, GroupKind, Call, Node, Key, Cell, asks, own, how_many, how_many_nodes}
+use Rattle.rt_groups.specs.GroupForest.{GroupForest, End, Read, Group, GroupKind, Call, Node, Key, Cell, asks, own_part, how_many, how_many_nodes}
 use Rattle.rt_groups.specs.Paths.{Path, GroupKey, sibling, step, Found, at_path}
-use Rattle.rt_groups.specs.Frames.{meets, number_of, numbered_forest, ran, calculated, reads}
+use Rattle.rt_groups.specs.Frames.{meets, number_of, numbered_forest, ran, calculated_cells, reads}
 use Rattle.lang_ast.specs.Terms.{Func}
 use Rattle.compose_model.specs.Composing.{meanings, meaning_at, forest}
 use Rattle.recompose_laws.specs.Work.{Work, no_work, work_sum, with_call, work}
@@ -44,7 +44,7 @@ meets_none [] = refl
 meets_none (x ∷ xs) = meets_none xs
 
 nothing_owed : (inside : GroupForest) → is_owed [] inside ≡ false
-nothing_owed inside = meets_none (asks (own inside))
+nothing_owed inside = meets_none (asks (own_part inside))
 
 quiet_call : (what : GroupKind) (inside : GroupForest) → IsNotOwed [] what inside
 quiet_call (Call f vs) inside = nothing_owed inside
@@ -135,7 +135,7 @@ idle_frame m m' functions root old k kept numbers same =
     let plain : forest functions root m' ≡ without_numbers old =
     sym (kept_trail_is_the_forest old k functions root m') ∙ ap (λ (p : GroupForest × ℕ). without_numbers p.0) keeps in (
       keeps,
-      told_nothing (record { ran = length (ran [] old new); calculated = length (calculated [] old new); reads = reads [] old new }) (how_many new) (how_many_nodes new) (how_many old) (how_many_nodes old)
+      told_nothing (record { ran = length (ran [] old new); calculated = length (calculated_cells [] old new); reads = reads [] old new }) (how_many new) (how_many_nodes new) (how_many old) (how_many_nodes old)
           (sym both.1 ∙ idles m' [] old functions (quiet old)) (ap how_many plain ∙ groups-without_numbers old) (ap how_many_nodes plain ∙ nodes-without_numbers old)
           ∙ idle_is old,
     )

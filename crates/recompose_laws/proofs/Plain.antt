@@ -4,7 +4,7 @@ use Rattle.rt_values.specs.declared.value.Value.{Value}
 use Rattle.rt_values.specs.declared.value.Value.TheVariants as value
 use Rattle.rt_values.specs.Operators.{is_true, items_of}
 use Rattle.rt_values.specs.Maps.{Map}
-use Rattle.rt_groups.specs.GroupForest.{GroupForest, End, Read, Group, GroupKind, joined_forest, reads_then, asks, own}
+use Rattle.rt_groups.specs.GroupForest.{GroupForest, End, Read, Group, GroupKind, joined_forest, reads_then, asks, own_part}
 use Rattle.rt_groups.specs.GroupForest as trail
 use Rattle.rt_groups.specs.Paths.{Path, GroupKey, sibling, step, occurrence, matching_sibling, inside_of, at_path}
 use Rattle.rt_groups.specs.Frames.{meets, number_of, numbered_forest}
@@ -135,16 +135,16 @@ beside-without_numbers old seen k (Group site n what inside rest) =
 
 -- A walk does not depend on the numbers of the old forest.
 
-pub asks-own-without_numbers : (t : GroupForest) → asks (own (without_numbers t)) ≡ asks (own t)
+pub asks-own-without_numbers : (t : GroupForest) → asks (own_part (without_numbers t)) ≡ asks (own_part t)
 asks-own-without_numbers End = refl
 asks-own-without_numbers (Read x rest) = ap (λ l. x ∷ l) (asks-own-without_numbers rest)
 asks-own-without_numbers (Group site n (trail.Call f vs) inside rest) = asks-own-without_numbers rest
 asks-own-without_numbers (Group site n (trail.Node kind attributes) inside rest) =
-    ap (λ l. l ++ asks (own (without_numbers rest))) (asks-own-without_numbers inside) ∙ ap (λ l. asks (own inside) ++ l) (asks-own-without_numbers rest)
+    ap (λ l. l ++ asks (own_part (without_numbers rest))) (asks-own-without_numbers inside) ∙ ap (λ l. asks (own_part inside) ++ l) (asks-own-without_numbers rest)
 asks-own-without_numbers (Group site n (trail.Key v) inside rest) =
-    ap (λ l. l ++ asks (own (without_numbers rest))) (asks-own-without_numbers inside) ∙ ap (λ l. asks (own inside) ++ l) (asks-own-without_numbers rest)
+    ap (λ l. l ++ asks (own_part (without_numbers rest))) (asks-own-without_numbers inside) ∙ ap (λ l. asks (own_part inside) ++ l) (asks-own-without_numbers rest)
 asks-own-without_numbers (Group site n (trail.Cell ks v) inside rest) =
-    ap (λ l. l ++ asks (own (without_numbers rest))) (asks-own-without_numbers inside) ∙ ap (λ l. asks (own inside) ++ l) (asks-own-without_numbers rest)
+    ap (λ l. l ++ asks (own_part (without_numbers rest))) (asks-own-without_numbers inside) ∙ ap (λ l. asks (own_part inside) ++ l) (asks-own-without_numbers rest)
 
 choice_unnumbered : (b : Bool) (x y z : GroupForest) → without_numbers x ≡ x → without_numbers y ≡ z → without_numbers (if b then x else y) ≡ (if b then x else z)
 choice_unnumbered true x y z f g = f

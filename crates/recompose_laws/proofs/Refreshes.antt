@@ -4,7 +4,7 @@ use Rattle.rt_values.specs.declared.value.Value.{Value}
 use Rattle.rt_values.specs.declared.value.Value.TheVariants as value
 use Rattle.rt_values.specs.Operators.{is_true, items_of}
 use Rattle.rt_values.specs.Maps.{Map, contains}
-use Rattle.rt_groups.specs.GroupForest.{GroupForest, End, Read, Group, GroupKind, joined_forest, reads_then, asks, own}
+use Rattle.rt_groups.specs.GroupForest.{GroupForest, End, Read, Group, GroupKind, joined_forest, reads_then, asks, own_part}
 use Rattle.rt_groups.specs.GroupForest as trail
 use Rattle.rt_groups.specs.Frames.{meets}
 use Rattle.lang_ast.specs.Terms.{Stmt, Node, Call, Key, If, For, Let, Remember, Stmts, done, next, Func}
@@ -32,16 +32,16 @@ body_at : (fs : List Func) (j : ℕ) → j < length fs → (f : Func) × ((m : M
 body_at [] j h = absurd (omega arith)
 body_at (f ∷ fs) j h = (get_or (f ∷ fs) j f, λ m args. meaning_found m (f ∷ fs) j args f h)
 
-recomposed_forest-own : (fs : List Meaning) (t : GroupForest) → recomposed_forest fs (own t) ≡ recomposed_forest fs t
+recomposed_forest-own : (fs : List Meaning) (t : GroupForest) → recomposed_forest fs (own_part t) ≡ recomposed_forest fs t
 recomposed_forest-own fs End = refl
 recomposed_forest-own fs (Read x rest) = ap (λ t. Read x t) (recomposed_forest-own fs rest)
 recomposed_forest-own fs (Group site n (trail.Call f vs) inside rest) = ap (λ t. Group site n (trail.Call f vs) (meaning_at fs f vs) t) (recomposed_forest-own fs rest)
 recomposed_forest-own fs (Group site n (trail.Node kind attributes) inside rest) =
-    ap (λ t. Group site n (trail.Node kind attributes) t (recomposed_forest fs (own rest))) (recomposed_forest-own fs inside) ∙ ap (λ t. Group site n (trail.Node kind attributes) (recomposed_forest fs inside) t) (recomposed_forest-own fs rest)
+    ap (λ t. Group site n (trail.Node kind attributes) t (recomposed_forest fs (own_part rest))) (recomposed_forest-own fs inside) ∙ ap (λ t. Group site n (trail.Node kind attributes) (recomposed_forest fs inside) t) (recomposed_forest-own fs rest)
 recomposed_forest-own fs (Group site n (trail.Key v) inside rest) =
-    ap (λ t. Group site n (trail.Key v) t (recomposed_forest fs (own rest))) (recomposed_forest-own fs inside) ∙ ap (λ t. Group site n (trail.Key v) (recomposed_forest fs inside) t) (recomposed_forest-own fs rest)
+    ap (λ t. Group site n (trail.Key v) t (recomposed_forest fs (own_part rest))) (recomposed_forest-own fs inside) ∙ ap (λ t. Group site n (trail.Key v) (recomposed_forest fs inside) t) (recomposed_forest-own fs rest)
 recomposed_forest-own fs (Group site n (trail.Cell ks v) inside rest) =
-    ap (λ t. Group site n (trail.Cell ks v) t (recomposed_forest fs (own rest))) (recomposed_forest-own fs inside) ∙ ap (λ t. Group site n (trail.Cell ks v) (recomposed_forest fs inside) t) (recomposed_forest-own fs rest)
+    ap (λ t. Group site n (trail.Cell ks v) t (recomposed_forest fs (own_part rest))) (recomposed_forest-own fs inside) ∙ ap (λ t. Group site n (trail.Cell ks v) (recomposed_forest fs inside) t) (recomposed_forest-own fs rest)
 
 pub or_false : (a b : Bool) → (a || b) ≡ false → (a ≡ false) × (b ≡ false)
 or_false true b e = (e, cc)
@@ -77,16 +77,16 @@ same-both : (m m' : Map) (owed xs ys : List ℕ) → SameReads owed xs m m' → 
 same-both m m' owed [] ys h g = g
 same-both m m' owed (x ∷ xs) ys h g = (h.0, same-both m m' owed xs ys h.1 g)
 
-same-own : (m m' : Map) (owed : List ℕ) (t : GroupForest) → SameReads owed (asks t) m m' → SameReads owed (asks (own t)) m m'
+same-own : (m m' : Map) (owed : List ℕ) (t : GroupForest) → SameReads owed (asks t) m m' → SameReads owed (asks (own_part t)) m m'
 same-own m m' owed End h = tt
 same-own m m' owed (Read x rest) h = (h.0, same-own m m' owed rest h.1)
 same-own m m' owed (Group site n (trail.Call f vs) inside rest) h = same-own m m' owed rest (same-back m m' owed (asks inside) (asks rest) h)
 same-own m m' owed (Group site n (trail.Node kind attributes) inside rest) h =
-    same-both m m' owed (asks (own inside)) (asks (own rest)) (same-own m m' owed inside (same-front m m' owed (asks inside) (asks rest) h)) (same-own m m' owed rest (same-back m m' owed (asks inside) (asks rest) h))
+    same-both m m' owed (asks (own_part inside)) (asks (own_part rest)) (same-own m m' owed inside (same-front m m' owed (asks inside) (asks rest) h)) (same-own m m' owed rest (same-back m m' owed (asks inside) (asks rest) h))
 same-own m m' owed (Group site n (trail.Key v) inside rest) h =
-    same-both m m' owed (asks (own inside)) (asks (own rest)) (same-own m m' owed inside (same-front m m' owed (asks inside) (asks rest) h)) (same-own m m' owed rest (same-back m m' owed (asks inside) (asks rest) h))
+    same-both m m' owed (asks (own_part inside)) (asks (own_part rest)) (same-own m m' owed inside (same-front m m' owed (asks inside) (asks rest) h)) (same-own m m' owed rest (same-back m m' owed (asks inside) (asks rest) h))
 same-own m m' owed (Group site n (trail.Cell ks v) inside rest) h =
-    same-both m m' owed (asks (own inside)) (asks (own rest)) (same-own m m' owed inside (same-front m m' owed (asks inside) (asks rest) h)) (same-own m m' owed rest (same-back m m' owed (asks inside) (asks rest) h))
+    same-both m m' owed (asks (own_part inside)) (asks (own_part rest)) (same-own m m' owed inside (same-front m m' owed (asks inside) (asks rest) h)) (same-own m m' owed rest (same-back m m' owed (asks inside) (asks rest) h))
 
 pub split_at : (a b : ℕ) → (a < b) ⊎ (b ≤ a)
 split_at a zero = inr (omega arith)
@@ -100,7 +100,7 @@ kept_call m m' owed functions f vs inside same made e = elim (split_at f (length
   | inl h ↦
       let b = body_at functions f h in
       let was : inside ≡ run_all m (meanings m (take f functions)) b.0.body (bind b.0.parameters vs) = made ∙ b.1 m vs in
-      let agree = subst (λ (t : GroupForest). Agree m m' (asks (own t))) was (agree_from m m' owed (asks (own inside)) (same-own m m' owed inside same) e) in
+      let agree = subst (λ (t : GroupForest). Agree m m' (asks (own_part t))) was (agree_from m m' owed (asks (own_part inside)) (same-own m m' owed inside same) e) in
       let now = skipping_is_right m m' (meanings m (take f functions)) (meanings m' (take f functions)) b.0.body (bind b.0.parameters vs) agree in
       ap (λ t. recomposed_forest (meanings m' (take f functions)) t) was
       ∙ sym (recomposed_forest-own (meanings m' (take f functions)) (run_all m (meanings m (take f functions)) b.0.body (bind b.0.parameters vs))) ∙ sym now ∙ sym (b.1 m' vs)

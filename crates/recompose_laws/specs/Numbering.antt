@@ -3,7 +3,7 @@ use Rattle.std.specs.Prelude.{ℕ, List, [], ◌∷◌, ◌≡◌, length, Bool,
 use Rattle.rt_values.specs.Maps.{Map}
 use Rattle.rt_groups.specs.GroupForest.{GroupForest, End, Read, Group, GroupKind, Call, Node, Key, Cell, is_node, asks}
 use Rattle.rt_groups.specs.Paths.{GroupKey, sibling, occurrence, matching_sibling, inside_of}
-use Rattle.rt_groups.specs.Frames.{number_of, numbered_forest, ran, calculated, reads}
+use Rattle.rt_groups.specs.Frames.{number_of, numbered_forest, ran, calculated_cells, reads}
 use Rattle.lang_ast.specs.Terms.{Func}
 use Rattle.compose_model.specs.Composing.{meanings, meaning_at, forest}
 use Rattle.recompose_laws.specs.Refreshing.{is_owed, SameReads}
@@ -67,4 +67,4 @@ ComposingAgainIsTheFrame = (m m' : Map) (owed : List ℕ) (functions : List Func
     without_numbers old ≡ forest functions root m → SameReads owed (asks old) m m' →
     let new = forest functions root m' in
     (renewed_groups m' owed old functions next ≡ numbered_forest old [] [] next new)
-    × (walk_work m' owed old functions ≡ record { ran = length (ran owed old new); calculated = length (calculated owed old new); reads = reads owed old new })
+    × (walk_work m' owed old functions ≡ record { ran = length (ran owed old new); calculated = length (calculated_cells owed old new); reads = reads owed old new })

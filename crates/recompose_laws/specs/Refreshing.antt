@@ -1,14 +1,14 @@
 -- Trusted: The groups of a frame, made from those of the last frame in one walk.
 use Rattle.std.specs.Prelude.{ℕ, ◌<◌, ◌≤◌, List, [], ◌∷◌, ◌≡◌, length, Bool, false, Some, take, if◌then◌else◌}
 use Rattle.rt_values.specs.Maps.{Map, entry_at, value_at, contains, differ}
-use Rattle.rt_groups.specs.GroupForest.{GroupForest, End, Read, Group, GroupKind, Call, Node, Key, Cell, asks, own}
+use Rattle.rt_groups.specs.GroupForest.{GroupForest, End, Read, Group, GroupKind, Call, Node, Key, Cell, asks, own_part}
 use Rattle.rt_groups.specs.Frames.{meets}
 use Rattle.lang_ast.specs.Terms.{Func}
 use Rattle.compose_model.specs.Composing.{meanings, meaning_at, forest}
 
 -- Whether a call with these old inner groups is owed: its own reads include an owed object.
 abbrev pub is_owed : List ℕ → GroupForest → Bool
-is_owed owed inside = meets (asks (own inside)) owed
+is_owed owed inside = meets (asks (own_part inside)) owed
 
 -- The groups inside one group: composed again if the group is an owed call; else the walk goes on inside. Inside a
 -- call, only earlier functions are called.

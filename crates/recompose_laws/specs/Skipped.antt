@@ -2,7 +2,7 @@
 use Rattle.std.specs.Prelude.{ℕ, List, [], ◌≡◌, take, false}
 use Rattle.rt_values.specs.declared.value.Value.{Value}
 use Rattle.rt_values.specs.Maps.{Map}
-use Rattle.rt_groups.specs.GroupForest.{GroupForest, asks, own}
+use Rattle.rt_groups.specs.GroupForest.{GroupForest, asks, own_part}
 use Rattle.lang_ast.specs.Terms.{Func}
 use Rattle.compose_model.specs.Composing.{meanings, meaning_at}
 use Rattle.recompose_laws.specs.Work.{work}
@@ -18,4 +18,4 @@ SkippedCallIsRenewed = (m m' : Map) (owed : List ℕ) (functions : List Func) (f
     let new = meaning_at (meanings m' functions) f vs in
     (renewed_groups m' owed inside (take f functions) next ≡ numbered_by_siblings inside [] next new)
     × (walk_work m' owed inside (take f functions) ≡ work owed inside [] false new)
-    × (asks (own new) ≡ asks (own inside))
+    × (asks (own_part new) ≡ asks (own_part inside))

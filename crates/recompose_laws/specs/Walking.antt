@@ -2,7 +2,7 @@
 use Rattle.std.specs.Prelude.{ℕ, List, [], ◌≡◌, length, Bool, true, take, if◌then◌else◌}
 use Rattle.rt_values.specs.Maps.{Map}
 use Rattle.rt_groups.specs.GroupForest.{GroupForest, End, Read, Group, GroupKind, Call, Node, Key, Cell, asks}
-use Rattle.rt_groups.specs.Frames.{ran, calculated, reads}
+use Rattle.rt_groups.specs.Frames.{ran, calculated_cells, reads}
 use Rattle.lang_ast.specs.Terms.{Func}
 use Rattle.compose_model.specs.Composing.{meanings, meaning_at, forest}
 use Rattle.recompose_laws.specs.Work.{Work, no_work, work_sum, with_call, work}
@@ -30,4 +30,4 @@ abbrev pub WalkDoesTheFrame : Type 0
 WalkDoesTheFrame = (m m' : Map) (owed : List ℕ) (functions : List Func) (root : ℕ) → SameReads owed (asks (forest functions root m)) m m' →
     let old = forest functions root m in
     let new = forest functions root m' in
-    walk_work m' owed old functions ≡ record { ran = length (ran owed old new); calculated = length (calculated owed old new); reads = reads owed old new }
+    walk_work m' owed old functions ≡ record { ran = length (ran owed old new); calculated = length (calculated_cells owed old new); reads = reads owed old new }

@@ -2,7 +2,7 @@
 use Rattle.std.specs.Prelude.{ℕ, suc, ◌+◌, List, [], ◌∷◌, ◌++◌, ◌≡◌, length, Bool, true, false, ◌&&◌, Option}
 use Rattle.rt_groups.specs.GroupForest.{GroupForest, End, Read, Group, GroupKind, Call, Node, Key, Cell, joined_forest}
 use Rattle.rt_groups.specs.Paths.{GroupKey, sibling, occurrence, Found, matching_sibling, inside_of}
-use Rattle.rt_groups.specs.Frames.{runs_after, other_keys, ran, calculated, reads}
+use Rattle.rt_groups.specs.Frames.{runs_after, other_keys, ran, calculated_cells, reads}
 
 -- Counts of the calls that run and the cells that are calculated, and the objects that are read, in order.
 pub record Work : Type 0 where
@@ -59,7 +59,7 @@ work owed old seen running (Group site n what inside rest) =
 -- Law: the work of a frame by paths is the work by siblings.
 abbrev pub PathWorkIsSiblingWork : Type 0
 PathWorkIsSiblingWork = (owed : List ℕ) (old new : GroupForest) →
-    record { ran = length (ran owed old new); calculated = length (calculated owed old new); reads = reads owed old new } ≡ work owed old [] true new
+    record { ran = length (ran owed old new); calculated = length (calculated_cells owed old new); reads = reads owed old new } ≡ work owed old [] true new
 
 -- The siblings at the top of a forest, last first, followed by `seen`.
 abbrev pub siblings : GroupForest → List GroupKey → List GroupKey

@@ -5,7 +5,7 @@ use Rattle.rt_values.specs.Maps.{Map, differ}
 use Rattle.rt_groups.specs.declared.report.Report.{Report}
 use Rattle.rt_groups.specs.GroupForest.{GroupForest, End, Read, Group, GroupKind, Call, Node, Key, Cell, asks, how_many, how_many_nodes}
 use Rattle.rt_groups.specs.Nodes.{nodes}
-use Rattle.rt_groups.specs.Frames.{LastFrame, numbered_forest, most_groups, ran, calculated, reads, report}
+use Rattle.rt_groups.specs.Frames.{LastFrame, numbered_forest, most_groups, ran, calculated_cells, reads, report}
 use Rattle.lang_ast.specs.Terms.{Func}
 use Rattle.compose_model.specs.Composing.{meanings, meaning_at, forest}
 use Rattle.compose_model.specs.Frame.{FrameResult, frame}
@@ -78,7 +78,7 @@ module _ (p : Checked) (seen m : Map) (trail : GroupForest) (next : ℕ) (owed :
   before = record { seen = Some seen; trail = trail; next = next }
 
   abbrev frame_work : Work
-  frame_work = record { ran = length (ran owed trail new); calculated = length (calculated owed trail new); reads = reads owed trail new }
+  frame_work = record { ran = length (ran owed trail new); calculated = length (calculated_cells owed trail new); reads = reads owed trail new }
 
   abbrev IsStill : Type 0
   IsStill = numbered_forest trail [] [] next new ≡ (trail, next)

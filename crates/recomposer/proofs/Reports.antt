@@ -3,9 +3,9 @@ use Rattle.std.proofs.Common.{ℕ, ◌<◌, ◌-◌, ◌^◌, List, [], ◌∷�
 use Rattle.std.specs.List.{filter}
 use Rattle.rt_groups.specs.declared.report.Report.{Report}
 use Rattle.rt_values.specs.Maps.{Map, differ, contains}
-use Rattle.rt_groups.specs.GroupForest.{GroupForest, End, GroupKind, asks, own, how_many, how_many_nodes}
+use Rattle.rt_groups.specs.GroupForest.{GroupForest, End, GroupKind, asks, own_part, how_many, how_many_nodes}
 use Rattle.rt_groups.specs.Paths.{Path, Found, inside_of, at_path}
-use Rattle.rt_groups.specs.Frames.{CallAtPath, nobody, calls, cells, trace, meets, same_call, runs_after, call_runs, other_keys, is_calculated, ran, calculated, reads, report}
+use Rattle.rt_groups.specs.Frames.{CallAtPath, nobody, calls, cells, trace, meets, same_call, runs_after, call_runs, other_keys, is_calculated, ran, calculated_cells, reads, report}
 use Rattle.lang_checks.specs.declared.checks.Checked.{Checked}
 use Rattle.composer.specs.OwedObjects.{OwedObjects}
 use Rattle.recomposer.specs.Compositions.{Owes}
@@ -22,10 +22,10 @@ module _ (o p : List ℕ) (old : GroupForest) (same : (c : CallAtPath) → call_
   report_same : report o old new ≡ report p old new
   report_same =
       let runs : ran o old new ≡ ran p old new = filter_same (call_runs o old) (call_runs p old) (calls [] [] new) same in
-      let cells : calculated o old new ≡ calculated p old new = filter_same (is_calculated o old) (is_calculated p old) (cells nobody [] [] new) (λ c. ap (λ b. b && other_keys (at_path c.path old) c.keys) (same c.caller)) in
-      ap (λ l. told (length l) (length (calculated o old new)) (length (reads o old new))) runs
+      let cells : calculated_cells o old new ≡ calculated_cells p old new = filter_same (is_calculated o old) (is_calculated p old) (cells nobody [] [] new) (λ c. ap (λ b. b && other_keys (at_path c.path old) c.keys) (same c.caller)) in
+      ap (λ l. told (length l) (length (calculated_cells o old new)) (length (reads o old new))) runs
       ∙ ap (λ l. told (length (ran p old new)) (length l) (length (reads o old new))) cells
-      ∙ ap (λ l. told (length (ran p old new)) (length (calculated p old new)) (length l)) reads_same
+      ∙ ap (λ l. told (length (ran p old new)) (length (calculated_cells p old new)) (length l)) reads_same
     where
       told : ℕ → ℕ → ℕ → Report
       told a b c = record { ran = a; calculated = b; reads = min c (2 ^ 64 - 1); groups = how_many new; nodes = how_many_nodes new }
@@ -45,9 +45,9 @@ module _ (n : ℕ) (o p : List ℕ) (same : (x : ℕ) → x < n → contains x o
   meets_same [] h = refl
   meets_same (x ∷ xs) h = ap (λ b. b || meets xs o) (same x h.0) ∙ ap (λ b. contains x p || b) (meets_same xs h.1)
 
-  runs_same : (old : Option Found) (what : GroupKind) → AreBelow n (asks (own (inside_of old))) → runs_after o old what ≡ runs_after p old what
+  runs_same : (old : Option Found) (what : GroupKind) → AreBelow n (asks (own_part (inside_of old))) → runs_after o old what ≡ runs_after p old what
   runs_same None what h = refl
-  runs_same (Some old) what h = ap (λ b. not (same_call old.what what) || b) (meets_same (asks (own old.inside)) h)
+  runs_same (Some old) what h = ap (λ b. not (same_call old.what what) || b) (meets_same (asks (own_part old.inside)) h)
 
   call_same : (old : GroupForest) → AreBelow n (asks old) → (c : CallAtPath) → call_runs o old c ≡ call_runs p old c
   call_same old h c = runs_same (at_path c.path old) c.what (own_below n (inside_of (at_path c.path old)) (path_below n c.path old h))

@@ -2,7 +2,7 @@
 use Rattle.std.proofs.Common.{ℕ, zero, suc, ◌<◌, List, [], ◌∷◌, ◌++◌, ◌≡◌, ap, ◌∙◌, sym, subst, length, All, Bool, true, false, if◌then◌else◌}
 use Rattle.std.proofs.lemmas.List.Elements.{All-head, All-tail}
 use Rattle.rt_values.specs.Maps.{Map}
-use Rattle.rt_groups.specs.GroupForest.{GroupForest, End, Read, Group, Call, Node, Key, Cell, asks, own}
+use Rattle.rt_groups.specs.GroupForest.{GroupForest, End, Read, Group, Call, Node, Key, Cell, asks, own_part}
 use Rattle.rt_groups.specs.Paths.{Path, GroupKey, Found, sibling, same_sibling, nth, matching_sibling, inside_of, at_path}
 use Rattle.lang_ast.specs.SyntaxView.{functions_view}
 use Rattle.lang_checks.specs.declared.checks.Checked.{Checked}
@@ -35,16 +35,16 @@ module _ (n : ℕ) where
   both_below (x ∷ xs) ys h g = (h.0, both_below xs ys h.1 g)
 
   -- The own reads of a call are among its reads.
-  pub own_below : (t : GroupForest) → AreBelow n (asks t) → AreBelow n (asks (own t))
+  pub own_below : (t : GroupForest) → AreBelow n (asks t) → AreBelow n (asks (own_part t))
   own_below End h = tt
   own_below (Read x rest) h = (h.0, own_below rest h.1)
   own_below (Group site number (Call f vs) inside rest) h = own_below rest (back_below (asks inside) (asks rest) h)
   own_below (Group site number (Node kind attributes) inside rest) h =
-      both_below (asks (own inside)) (asks (own rest)) (own_below inside (front_below (asks inside) (asks rest) h)) (own_below rest (back_below (asks inside) (asks rest) h))
+      both_below (asks (own_part inside)) (asks (own_part rest)) (own_below inside (front_below (asks inside) (asks rest) h)) (own_below rest (back_below (asks inside) (asks rest) h))
   own_below (Group site number (Key v) inside rest) h =
-      both_below (asks (own inside)) (asks (own rest)) (own_below inside (front_below (asks inside) (asks rest) h)) (own_below rest (back_below (asks inside) (asks rest) h))
+      both_below (asks (own_part inside)) (asks (own_part rest)) (own_below inside (front_below (asks inside) (asks rest) h)) (own_below rest (back_below (asks inside) (asks rest) h))
   own_below (Group site number (Cell ks v) inside rest) h =
-      both_below (asks (own inside)) (asks (own rest)) (own_below inside (front_below (asks inside) (asks rest) h)) (own_below rest (back_below (asks inside) (asks rest) h))
+      both_below (asks (own_part inside)) (asks (own_part rest)) (own_below inside (front_below (asks inside) (asks rest) h)) (own_below rest (back_below (asks inside) (asks rest) h))
 
   choice_below : (s : GroupKey) (b : Bool) (k : ℕ) (found : Found) (rest : GroupForest) → AreBelow n (asks found.inside) → ((i : ℕ) → AreBelow n (asks (inside_of (matching_sibling s i rest)))) →
       AreBelow n (asks (inside_of (if b then nth k found (λ i. matching_sibling s i rest) else matching_sibling s k rest)))

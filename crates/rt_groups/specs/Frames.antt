@@ -6,7 +6,7 @@ use Rattle.rt_values.specs.declared.value.Value.{Value}
 use Rattle.rt_groups.specs.declared.report.Report.{Report}
 use Rattle.rt_values.specs.Values.{same_values}
 use Rattle.rt_values.specs.Maps.{Map, contains}
-use Rattle.rt_groups.specs.GroupForest.{GroupForest, End, Read, Group, GroupKind, Call, Node, Key, Cell, is_call, is_node, asks, own, how_many, how_many_nodes}
+use Rattle.rt_groups.specs.GroupForest.{GroupForest, End, Read, Group, GroupKind, Call, Node, Key, Cell, is_call, is_node, asks, own_part, how_many, how_many_nodes}
 use Rattle.rt_groups.specs.Paths.{Path, GroupKey, sibling, step, Found, at_path}
 
 -- The number of a node, and the next unused number: the number at its path in the old forest, or the next unused
@@ -91,7 +91,7 @@ same_call _ _ = false
 -- owed object.
 abbrev pub runs_after : List ℕ → Option Found → GroupKind → Bool
 runs_after owed None what = true
-runs_after owed (Some old) what = not (same_call old.what what) || meets (asks (own old.inside)) owed
+runs_after owed (Some old) what = not (same_call old.what what) || meets (asks (own_part old.inside)) owed
 
 abbrev pub call_runs : List ℕ → GroupForest → CallAtPath → Bool
 call_runs owed old caller = runs_after owed (at_path caller.path old) caller.what
@@ -113,8 +113,8 @@ abbrev pub ran : List ℕ → GroupForest → GroupForest → List CallAtPath
 ran owed old new = filter (call_runs owed old) (calls [] [] new)
 
 -- The cells that are calculated.
-abbrev pub calculated : List ℕ → GroupForest → GroupForest → List CellAtPath
-calculated owed old new = filter (is_calculated owed old) (cells nobody [] [] new)
+abbrev pub calculated_cells : List ℕ → GroupForest → GroupForest → List CellAtPath
+calculated_cells owed old new = filter (is_calculated owed old) (cells nobody [] [] new)
 
 -- The objects that the running calls read, in order, repeats included.
 abbrev pub reads : List ℕ → GroupForest → GroupForest → List ℕ
@@ -124,7 +124,7 @@ reads owed old new = map (λ r. r.1) (filter (λ r. call_runs owed old r.0) (tra
 abbrev pub report : List ℕ → GroupForest → GroupForest → Report
 report owed old new = record {
   ran = length (ran owed old new);
-  calculated = length (calculated owed old new);
+  calculated = length (calculated_cells owed old new);
   reads = min (length (reads owed old new)) (2 ^ 64 - 1);
   groups = how_many new;
   nodes = how_many_nodes new;

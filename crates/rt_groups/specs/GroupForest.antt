@@ -73,7 +73,7 @@ inside_own (Key v) own = own
 inside_own (Cell ks v) own = own
 
 -- The own part of a call: its reads and groups, with the calls in it as empty groups.
-abbrev pub own : GroupForest → GroupForest
-own End = End
-own (Read x rest) = Read x (own rest)
-own (Group site number what inside rest) = Group site number what (inside_own what (own inside)) (own rest)
+abbrev pub own_part : GroupForest → GroupForest
+own_part End = End
+own_part (Read x rest) = Read x (own_part rest)
+own_part (Group site number what inside rest) = Group site number what (inside_own what (own_part inside)) (own_part rest)

@@ -1,6 +1,6 @@
 -- Trusted: a group forest as the list of its groups in preorder, each with its depth.
 use Rattle.std.specs.Prelude.{ℕ, ◌+◌, List, [], ◌∷◌, ◌++◌, map}
-use Rattle.rt_groups.specs.GroupForest.{GroupForest, End, Read, Attribute, asks, own}
+use Rattle.rt_groups.specs.GroupForest.{GroupForest, End, Read, Attribute, asks, own_part}
 use Rattle.rt_groups.specs.GroupForest as trail
 use Rattle.rt_groups.specs.declared.groups.Attribute.{Attribute as CellAtPath}
 use Rattle.rt_groups.specs.declared.groups.GroupKind.{GroupKind}
@@ -20,7 +20,7 @@ flat_kind (trail.Cell keys value) = what.Cell keys value
 
 -- The reads that the list records with a group: a call's own reads, in order, and nothing for the other kinds.
 abbrev pub flat_reads : trail.GroupKind → GroupForest → List ℕ
-flat_reads (trail.Call function arguments) inside = asks (own inside)
+flat_reads (trail.Call function arguments) inside = asks (own_part inside)
 flat_reads (trail.Node kind attributes) inside = []
 flat_reads (trail.Key value) inside = []
 flat_reads (trail.Cell keys value) inside = []

@@ -4,17 +4,17 @@ use Rattle.std.proofs.Math.Seq.{take-suc}
 use Rattle.std.proofs.lemmas.List.{append-nil}
 use Rattle.std.proofs.lemmas.Int.{to_z-of_z}
 use Rattle.std.specs.Fmt.{signed_decimal}
-use Rattle.rt_values.specs.Values.{escape, escaped, items_text}
+use Rattle.rt_values.specs.Values.{escape, escape_all, items_text}
 
-escaped-append : (xs ys : List ℕ) → escaped (xs ++ ys) ≡ escaped xs ++ escaped ys
+escaped-append : (xs ys : List ℕ) → escape_all (xs ++ ys) ≡ escape_all xs ++ escape_all ys
 escaped-append [] ys = refl
-escaped-append (x ∷ xs) ys = ap (λ l. escape x ++ l) (escaped-append xs ys) ∙ sym (append_assoc (escape x) (escaped xs) (escaped ys))
+escaped-append (x ∷ xs) ys = ap (λ l. escape x ++ l) (escaped-append xs ys) ∙ sym (append_assoc (escape x) (escape_all xs) (escape_all ys))
 
 -- The literal of a prefix that is one byte longer.
-pub escaped-more : (xs : List ℕ) (i : ℕ) → i < length xs → escaped (take (i + 1) xs) ≡ escaped (take i xs) ++ escape (get_or xs i 0)
+pub escaped-more : (xs : List ℕ) (i : ℕ) → i < length xs → escape_all (take (i + 1) xs) ≡ escape_all (take i xs) ++ escape (get_or xs i 0)
 escaped-more xs i lt =
-    ap (λ n. escaped (take n xs)) (add-one i) ∙ ap escaped (take-suc xs i 0 lt) ∙ escaped-append (take i xs) (get_or xs i 0 ∷ [])
-    ∙ ap (λ l. escaped (take i xs) ++ l) (append-nil (escape (get_or xs i 0)))
+    ap (λ n. escape_all (take n xs)) (add-one i) ∙ ap escape_all (take-suc xs i 0 lt) ∙ escaped-append (take i xs) (get_or xs i 0 ∷ [])
+    ∙ ap (λ l. escape_all (take i xs) ++ l) (append-nil (escape (get_or xs i 0)))
 
 pub ruleset strings = (escaped-more, append_assoc)
 

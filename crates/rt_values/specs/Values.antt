@@ -53,9 +53,9 @@ truth_text false = codes "false"
 abbrev pub escape : ℕ → List ℕ
 escape b = if b == 34 then 92 ∷ 34 ∷ [] else if b == 92 then 92 ∷ 92 ∷ [] else if b == 10 then 92 ∷ 110 ∷ [] else b ∷ []
 
-abbrev pub escaped : List ℕ → List ℕ
-escaped [] = []
-escaped (b ∷ bs) = escape b ++ escaped bs
+abbrev pub escape_all : List ℕ → List ℕ
+escape_all [] = []
+escape_all (b ∷ bs) = escape b ++ escape_all bs
 
 -- The decimal digits of the numbers, each after a space.
 abbrev pub items_text : List ℤ → List ℕ
@@ -66,7 +66,7 @@ items_text (z ∷ zs) = 32 ∷ signed_decimal z ++ items_text zs
 abbrev pub value_text : Value → List ℕ
 value_text (value.Int z) = signed_decimal z
 value_text (value.Bool b) = truth_text b
-value_text (value.Text t) = 34 ∷ escaped t ++ 34 ∷ []
+value_text (value.Text t) = 34 ∷ escape_all t ++ 34 ∷ []
 value_text (value.Ints l) = codes "(ints" ++ items_text l ++ 41 ∷ []
 
 -- Whether a copy takes no memory: the value is an Int or a Bool.

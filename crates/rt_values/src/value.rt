@@ -1,7 +1,7 @@
 // Values of states and expressions, with their types and printed forms.
 ghost use Rattle.std.specs.Prelude.{◌≡◌, ◌++◌, ◌∷◌, [], ◌↔◌, List, ℕ, codes, true, IfOk, OnOk, OnErr};
 ghost use Rattle.std.specs.Fmt.{signed_decimal};
-ghost use Rattle.rt_values.specs.Values.{type_of, same_type, same_value, value_text, truth_text, escape, escaped, items_text, is_flat};
+ghost use Rattle.rt_values.specs.Values.{type_of, same_type, same_value, value_text, truth_text, escape, escape_all, items_text, is_flat};
 
 use crate::{IntList, NoMemory, Txt};
 use itoa::Buffer;
@@ -131,7 +131,7 @@ fn append_escaped(text: &mut Vec<u8>, c: u8) -> Result<(), NoMemory>
 // Appends a string literal with its quotes.
 #[tactic(auto, using(crate::proofs::PrintedForms::strings))]
 fn append_string(text: &mut Vec<u8>, chars: &Txt) -> Result<(), NoMemory>
-    ensures { OnOk result (text.new.items ≡ text.old.items ++ 34 ∷ escaped chars.now ++ 34 ∷ []) }
+    ensures { OnOk result (text.new.items ≡ text.old.items ++ 34 ∷ escape_all chars.now ++ 34 ∷ []) }
 {
     text.push(b'"')?;
     for c in chars.bytes() {

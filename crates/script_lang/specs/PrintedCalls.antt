@@ -21,7 +21,7 @@ frames_after frames e =
     else frames ++ frame_taken e.request e.reply
 
 -- The calls of a history that are printed.
-abbrev pub printed : List ℕ → History → History
-printed frames [] = []
-printed frames (e ∷ es) =
-    if reads_frame frames e.request then printed frames es else e ∷ printed (frames_after frames e) es
+abbrev pub printed_calls : List ℕ → History → History
+printed_calls frames [] = []
+printed_calls frames (e ∷ es) =
+    if reads_frame frames e.request then printed_calls frames es else e ∷ printed_calls (frames_after frames e) es

@@ -7,7 +7,7 @@ use Rattle.std.proofs.Math.Bool.{or-false, ◌||◌}
 use Rattle.std.specs.List.{list_all}
 use Rattle.std.specs.Option.{option_and_then}
 use Rattle.sexp_text.specs.Forest.{Forest, empty, atom, text, list, behind}
-use Rattle.sexp_text.specs.Grammar.{is_blank, is_atom_byte, is_char, is_name, is_comment, is_tail, escape, escaped_string, Spelling, nothing, blank, comment, word, quoted, parens, written, begins_with_word, is_well_spelled, forest_at, Spells}
+use Rattle.sexp_text.specs.Grammar.{is_blank, is_atom_byte, is_char, is_name, is_comment, is_tail, escape, escaped_string, Spelling, nothing, blank, comment, word, quoted, parens, spelling_bytes, begins_with_word, is_well_spelled, forest_at, Spells}
 use Rattle.sexp_text.specs.Machine.{Mode, gap, in_comment, in_word, in_text, in_escape, OpenLists, State, start, step, run, finish, forest_at_end, whole}
 use Rattle.sexp_text.proofs.Trees.{behind-empty, behind_assoc}
 use Rattle.sexp_text.proofs.Walks.{run_on}
@@ -118,7 +118,7 @@ behind_it m f at (blank b s) = behind_it gap (settled m f) (at + 1) s
 behind_it m f at (comment cs s) = behind_it gap (settled m f) (at + length cs + 2) s
 behind_it m f at (word name s) = behind_it (in_word at name) (settled m f) (at + length name) s
 behind_it m f at (quoted chars s) = behind_it gap (behind (settled m f) (text at chars empty)) (at + length (escaped_string chars) + 2) s
-behind_it m f at (parens inner s) = behind_it gap (behind (settled m f) (list at (forest_at (at + 1) inner) empty)) (at + length (written inner) + 2) s
+behind_it m f at (parens inner s) = behind_it gap (behind (settled m f) (list at (forest_at (at + 1) inner) empty)) (at + length (spelling_bytes inner) + 2) s
 
 -- no atom comes directly after an atom
 abbrev pub IsApart : Mode → Spelling → Type 0
@@ -142,7 +142,7 @@ behind-between (blank b s) m f at h = behind-between s gap (settled m f) (at + 1
 behind-between (comment cs s) m f at h = behind-between s gap (settled m f) (at + length cs + 2) tt
 behind-between (word name s) m f at h = behind-between s (in_word at name) (settled m f) (at + length name) tt
 behind-between (quoted chars s) m f at h = behind-between s gap (behind (settled m f) (text at chars empty)) (at + length (escaped_string chars) + 2) tt
-behind-between (parens inner s) m f at h = behind-between s gap (behind (settled m f) (list at (forest_at (at + 1) inner) empty)) (at + length (written inner) + 2) tt
+behind-between (parens inner s) m f at h = behind-between s gap (behind (settled m f) (list at (forest_at (at + 1) inner) empty)) (at + length (spelling_bytes inner) + 2) tt
 
 -- the trees of the spelling come after those before it
 pub behind-settled : (s : Spelling) (m : Mode) (f : Forest) (at : ℕ) → settled (behind_it m f at s).0 (behind_it m f at s).1 ≡ behind (settled m f) (forest_at at s)
@@ -156,8 +156,8 @@ behind-settled (quoted chars s) m f at =
     behind-settled s gap (behind (settled m f) (text at chars empty)) (at + length (escaped_string chars) + 2)
     ∙ behind_assoc (settled m f) (text at chars empty) (forest_at (at + length (escaped_string chars) + 2) s)
 behind-settled (parens inner s) m f at =
-    behind-settled s gap (behind (settled m f) (list at (forest_at (at + 1) inner) empty)) (at + length (written inner) + 2)
-    ∙ behind_assoc (settled m f) (list at (forest_at (at + 1) inner) empty) (forest_at (at + length (written inner) + 2) s)
+    behind-settled s gap (behind (settled m f) (list at (forest_at (at + 1) inner) empty)) (at + length (spelling_bytes inner) + 2)
+    ∙ behind_assoc (settled m f) (list at (forest_at (at + 1) inner) empty) (forest_at (at + length (spelling_bytes inner) + 2) s)
 
 -- a state with the mode and the trees of a pair
 abbrev pub beside : OpenLists → Mode × Forest → State
@@ -193,57 +193,57 @@ finish-between (in_escape from chars) f h = absurd h
 
 -- the machine after a spelling
 pub spelling_on : (s : Spelling) (m : Mode) (os : OpenLists) (f : Forest) (at : ℕ) (rest : List ℕ) → is_well_spelled s ≡ true → IsApart m s
-    → run (m, os, f) at (written s ++ rest) ≡ run (beside os (behind_it m f at s)) (at + length (written s)) rest
+    → run (m, os, f) at (spelling_bytes s ++ rest) ≡ run (beside os (behind_it m f at s)) (at + length (spelling_bytes s)) rest
 spelling_on nothing m os f at rest h k = ap (λ n. run (m, os, f) n rest) (omega arith)
 spelling_on (blank b s) m os f at rest h k =
     let p = both (is_blank b) (is_well_spelled s) h in
-    begins_on m os f at b (written s ++ rest) (gap, os, settled m f) (between-apart m (blank b s) k) (blank_no_atom b p.0) (rw p.0 refl)
+    begins_on m os f at b (spelling_bytes s ++ rest) (gap, os, settled m f) (between-apart m (blank b s) k) (blank_no_atom b p.0) (rw p.0 refl)
     ∙ spelling_on s gap os (settled m f) (at + 1) rest p.1 tt
     ∙ ap (λ n. run (beside os (behind_it gap (settled m f) (at + 1) s)) n rest) (omega arith)
 spelling_on (comment cs s) m os f at rest h k =
     let p = both (is_comment cs) (is_well_spelled s) h in
     let o : State = (in_comment, os, settled m f) in
-    begins_on m os f at 59 ((cs ++ 10 ∷ written s) ++ rest) o (between-apart m (comment cs s) k) refl refl
-    ∙ ap (run o (at + 1)) (append_assoc cs (10 ∷ written s) rest)
-    ∙ run_on cs (10 ∷ written s ++ rest) o o (at + 1) (comment_on cs os (settled m f) (at + 1) p.0)
-    ∙ ap (λ n. run (gap, os, settled m f) n (written s ++ rest)) (omega arith)
+    begins_on m os f at 59 ((cs ++ 10 ∷ spelling_bytes s) ++ rest) o (between-apart m (comment cs s) k) refl refl
+    ∙ ap (run o (at + 1)) (append_assoc cs (10 ∷ spelling_bytes s) rest)
+    ∙ run_on cs (10 ∷ spelling_bytes s ++ rest) o o (at + 1) (comment_on cs os (settled m f) (at + 1) p.0)
+    ∙ ap (λ n. run (gap, os, settled m f) n (spelling_bytes s ++ rest)) (omega arith)
     ∙ spelling_on s gap os (settled m f) (at + length cs + 2) rest p.1 tt
-    ∙ ap (λ n. run (beside os (behind_it gap (settled m f) (at + length cs + 2) s)) n rest) (omega (arith, length-append cs (10 ∷ written s)))
+    ∙ ap (λ n. run (beside os (behind_it gap (settled m f) (at + length cs + 2) s)) n rest) (omega (arith, length-append cs (10 ∷ spelling_bytes s)))
 spelling_on (word [] s) m os f at rest h k = cc
 spelling_on (word (b ∷ bs) s) m os f at rest h k =
     let p = both (is_name (b ∷ bs) && not (begins_with_word s)) (is_well_spelled s) h in
     let q = both (is_name (b ∷ bs)) (not (begins_with_word s)) p.0 in
     let r = both (is_atom_byte b) (list_all is_atom_byte bs) q.0 in
     let o : State = (in_word at (b ∷ []), os, settled m f) in
-    word_begins m os f at b ((bs ++ written s) ++ rest) (word_ready m (b ∷ bs) s k) r.0
-    ∙ ap (run o (at + 1)) (append_assoc bs (written s) rest)
-    ∙ run_on bs (written s ++ rest) o (in_word at (b ∷ bs), os, settled m f) (at + 1) (name_on bs at (b ∷ []) os (settled m f) (at + 1) r.1)
-    ∙ ap (λ n. run (in_word at (b ∷ bs), os, settled m f) n (written s ++ rest)) (omega arith)
+    word_begins m os f at b ((bs ++ spelling_bytes s) ++ rest) (word_ready m (b ∷ bs) s k) r.0
+    ∙ ap (run o (at + 1)) (append_assoc bs (spelling_bytes s) rest)
+    ∙ run_on bs (spelling_bytes s ++ rest) o (in_word at (b ∷ bs), os, settled m f) (at + 1) (name_on bs at (b ∷ []) os (settled m f) (at + 1) r.1)
+    ∙ ap (λ n. run (in_word at (b ∷ bs), os, settled m f) n (spelling_bytes s ++ rest)) (omega arith)
     ∙ spelling_on s (in_word at (b ∷ bs)) os (settled m f) (at + suc (length bs)) rest p.1 (negated (begins_with_word s) q.1)
-    ∙ ap (λ n. run (beside os (behind_it (in_word at (b ∷ bs)) (settled m f) (at + suc (length bs)) s)) n rest) (omega (arith, length-append bs (written s)))
+    ∙ ap (λ n. run (beside os (behind_it (in_word at (b ∷ bs)) (settled m f) (at + suc (length bs)) s)) n rest) (omega (arith, length-append bs (spelling_bytes s)))
 spelling_on (quoted chars s) m os f at rest h k =
     let p = both (list_all is_char chars) (is_well_spelled s) h in
     let o : State = (in_text at [], os, settled m f) in
     let g : Forest = behind (settled m f) (text at chars empty) in
-    begins_on m os f at 34 ((escaped_string chars ++ 34 ∷ written s) ++ rest) o (between-apart m (quoted chars s) k) refl refl
-    ∙ ap (run o (at + 1)) (append_assoc (escaped_string chars) (34 ∷ written s) rest)
-    ∙ run_on (escaped_string chars) (34 ∷ written s ++ rest) o (in_text at chars, os, settled m f) (at + 1) (chars_on chars at [] os (settled m f) (at + 1) p.0)
-    ∙ ap (λ n. run (gap, os, g) n (written s ++ rest)) (omega arith)
+    begins_on m os f at 34 ((escaped_string chars ++ 34 ∷ spelling_bytes s) ++ rest) o (between-apart m (quoted chars s) k) refl refl
+    ∙ ap (run o (at + 1)) (append_assoc (escaped_string chars) (34 ∷ spelling_bytes s) rest)
+    ∙ run_on (escaped_string chars) (34 ∷ spelling_bytes s ++ rest) o (in_text at chars, os, settled m f) (at + 1) (chars_on chars at [] os (settled m f) (at + 1) p.0)
+    ∙ ap (λ n. run (gap, os, g) n (spelling_bytes s ++ rest)) (omega arith)
     ∙ spelling_on s gap os g (at + length (escaped_string chars) + 2) rest p.1 tt
-    ∙ ap (λ n. run (beside os (behind_it gap g (at + length (escaped_string chars) + 2) s)) n rest) (omega (arith, length-append (escaped_string chars) (34 ∷ written s)))
+    ∙ ap (λ n. run (beside os (behind_it gap g (at + length (escaped_string chars) + 2) s)) n rest) (omega (arith, length-append (escaped_string chars) (34 ∷ spelling_bytes s)))
 spelling_on (parens inner s) m os f at rest h k =
     let p = both (is_well_spelled inner) (is_well_spelled s) h in
     let around : OpenLists = (at, settled m f) ∷ os in
     let t : Mode × Forest = behind_it gap empty (at + 1) inner in
     let g : Forest = behind (settled m f) (list at (forest_at (at + 1) inner) empty) in
-    begins_on m os f at 40 ((written inner ++ 41 ∷ written s) ++ rest) (gap, around, empty) (between-apart m (parens inner s) k) refl refl
-    ∙ ap (run (gap, around, empty) (at + 1)) (append_assoc (written inner) (41 ∷ written s) rest)
-    ∙ spelling_on inner gap around empty (at + 1) (41 ∷ written s ++ rest) p.0 tt
-    ∙ begins_on t.0 around t.1 (at + 1 + length (written inner)) 41 (written s ++ rest) (gap, os, g) (behind-between inner gap empty (at + 1) tt) refl
+    begins_on m os f at 40 ((spelling_bytes inner ++ 41 ∷ spelling_bytes s) ++ rest) (gap, around, empty) (between-apart m (parens inner s) k) refl refl
+    ∙ ap (run (gap, around, empty) (at + 1)) (append_assoc (spelling_bytes inner) (41 ∷ spelling_bytes s) rest)
+    ∙ spelling_on inner gap around empty (at + 1) (41 ∷ spelling_bytes s ++ rest) p.0 tt
+    ∙ begins_on t.0 around t.1 (at + 1 + length (spelling_bytes inner)) 41 (spelling_bytes s ++ rest) (gap, os, g) (behind-between inner gap empty (at + 1) tt) refl
     (ap (λ i. Some (gap, os, behind (settled m f) (list at i empty))) (behind-settled inner gap empty (at + 1)))
-    ∙ ap (λ n. run (gap, os, g) n (written s ++ rest)) (omega arith)
-    ∙ spelling_on s gap os g (at + length (written inner) + 2) rest p.1 tt
-    ∙ ap (λ n. run (beside os (behind_it gap g (at + length (written inner) + 2) s)) n rest) (omega (arith, length-append (written inner) (41 ∷ written s)))
+    ∙ ap (λ n. run (gap, os, g) n (spelling_bytes s ++ rest)) (omega arith)
+    ∙ spelling_on s gap os g (at + length (spelling_bytes inner) + 2) rest p.1 tt
+    ∙ ap (λ n. run (beside os (behind_it gap g (at + length (spelling_bytes inner) + 2) s)) n rest) (omega (arith, length-append (spelling_bytes inner) (41 ∷ spelling_bytes s)))
 
 -- a comment that the end of the input ends changes no tree
 pub tail_on : (tail : List ℕ) (m : Mode) (f : Forest) (at : ℕ) → IsBetween m → is_tail tail ≡ true → option_and_then forest_at_end (run (m, [], f) at tail) ≡ Some (settled m f)
@@ -260,7 +260,7 @@ whole-spells bytes f s =
     let t : Mode × Forest = behind_it gap empty 0 s.spelling in
     ap whole s.bytes_are
     ∙ ap (option_and_then forest_at_end) (spelling_on s.spelling gap [] empty 0 s.tail s.well_spelled tt)
-    ∙ tail_on s.tail t.0 t.1 (0 + length (written s.spelling)) (behind-between s.spelling gap empty 0 tt) s.ends
+    ∙ tail_on s.tail t.0 t.1 (0 + length (spelling_bytes s.spelling)) (behind-between s.spelling gap empty 0 tt) s.ends
     ∙ ap Some (behind-settled s.spelling gap empty 0)
     ∙ ap Some (sym s.forest_is)
 

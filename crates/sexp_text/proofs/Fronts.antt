@@ -9,7 +9,7 @@ use Rattle.std.specs.declared.option.Option.{Option}
 use Rattle.std.specs.Option.{option_and_then, IfSome}
 use Rattle.sexp_text.specs.Forest.{Forest, empty, atom, text, list, behind, nesting}
 use Rattle.sexp_text.specs.Grammar.{is_blank, is_atom_byte, Spells}
-use Rattle.sexp_text.specs.Machine.{Mode, gap, in_comment, in_word, in_text, in_escape, OpenLists, State, closed, start, step, next, run, first_state, forest_at_end, state_at, depth_reached}
+use Rattle.sexp_text.specs.Machine.{Mode, gap, in_comment, in_word, in_text, in_escape, OpenLists, State, close_list, start, step, next, run, first_state, forest_at_end, state_at, depth_reached}
 use Rattle.sexp_text.proofs.Walks.{tested, run_none, run_on, walk_on, depth_reached-behind, reached_same, length_le-depth_reached}
 use Rattle.sexp_text.proofs.Complete.{both}
 use Rattle.sexp_text.proofs.Sound.{spells-whole}
@@ -148,7 +148,7 @@ IsSharp (in_escape from chars) = Unit {0}
 abbrev SharpAscii : ℕ → State → Type 0
 SharpAscii b t = IsSharp t.0 → b < 128
 
-closed_ascii : (b : ℕ) (os : OpenLists) (f : Forest) → b < 128 → IfSome (closed os f) (SharpAscii b)
+closed_ascii : (b : ℕ) (os : OpenLists) (f : Forest) → b < 128 → IfSome (close_list os f) (SharpAscii b)
 closed_ascii b [] f lt = tt
 closed_ascii b (o ∷ os) f lt = λ _. lt
 

@@ -5,7 +5,7 @@ use Rattle.std.proofs.lemmas.Str.{IsUtf8-append, IsUtf8-nil}
 use Rattle.std.specs.List.{list_all}
 use Rattle.std.specs.Str.{IsUtf8}
 use Rattle.sexp_text.specs.Forest.{Forest, empty, atom, text, list, nesting, without_offsets}
-use Rattle.sexp_text.specs.Grammar.{is_blank, is_atom_byte, is_char, is_name, is_comment, escaped_string, Spelling, nothing, blank, comment, word, quoted, parens, written, begins_with_word, is_well_spelled, forest_at, Spells}
+use Rattle.sexp_text.specs.Grammar.{is_blank, is_atom_byte, is_char, is_name, is_comment, escaped_string, Spelling, nothing, blank, comment, word, quoted, parens, spelling_bytes, begins_with_word, is_well_spelled, forest_at, Spells}
 use Rattle.sexp_text.specs.Layout.{separator, inline_form, lines, CanBeSpelled, SpellsUnplaced}
 use Rattle.sexp_text.proofs.Complete.{both}
 use Rattle.sexp_text.proofs.Fronts.{ascii_one, blank_ascii, atom_ascii}
@@ -28,11 +28,11 @@ lines_spelling (atom at a f) = word a (blank 10 (lines_spelling f))
 lines_spelling (text at s f) = quoted s (blank 10 (lines_spelling f))
 lines_spelling (list at i f) = parens (row_spelling false i) (blank 10 (lines_spelling f))
 
-written-behind_blank : (due : Bool) (s : Spelling) → written (behind_blank due s) ≡ separator due ++ written s
+written-behind_blank : (due : Bool) (s : Spelling) → spelling_bytes (behind_blank due s) ≡ separator due ++ spelling_bytes s
 written-behind_blank true s = refl
 written-behind_blank false s = refl
 
-written-inline_form : (f : Forest) (due : Bool) → written (row_spelling due f) ≡ inline_form due f
+written-inline_form : (f : Forest) (due : Bool) → spelling_bytes (row_spelling due f) ≡ inline_form due f
 written-inline_form empty due = refl
 written-inline_form (atom at a f) due =
     written-behind_blank due (word a (row_spelling true f)) ∙ ap (λ l. separator due ++ (a ++ l)) (written-inline_form f true) ∙ sym (append_assoc (separator due) a (inline_form true f))
@@ -41,16 +41,16 @@ written-inline_form (text at s f) due =
     ∙ sym (append_assoc (separator due) (34 ∷ escaped_string s) (34 ∷ inline_form true f))
 written-inline_form (list at i f) due =
     written-behind_blank due (parens (row_spelling false i) (row_spelling true f))
-    ∙ ap (λ l. separator due ++ (40 ∷ written (row_spelling false i) ++ 41 ∷ l)) (written-inline_form f true)
+    ∙ ap (λ l. separator due ++ (40 ∷ spelling_bytes (row_spelling false i) ++ 41 ∷ l)) (written-inline_form f true)
     ∙ ap (λ l. separator due ++ (40 ∷ l ++ 41 ∷ inline_form true f)) (written-inline_form i false)
     ∙ sym (append_assoc (separator due) (40 ∷ inline_form false i) (41 ∷ inline_form true f))
 
-written-lines : (f : Forest) → written (lines_spelling f) ≡ lines f
+written-lines : (f : Forest) → spelling_bytes (lines_spelling f) ≡ lines f
 written-lines empty = refl
 written-lines (atom at a f) = ap (λ l. a ++ 10 ∷ l) (written-lines f)
 written-lines (text at s f) = ap (λ l. 34 ∷ escaped_string s ++ 34 ∷ 10 ∷ l) (written-lines f)
 written-lines (list at i f) =
-    ap (λ l. 40 ∷ written (row_spelling false i) ++ 41 ∷ 10 ∷ l) (written-lines f) ∙ ap (λ l. 40 ∷ l ++ 41 ∷ 10 ∷ lines f) (written-inline_form i false)
+    ap (λ l. 40 ∷ spelling_bytes (row_spelling false i) ++ 41 ∷ 10 ∷ l) (written-lines f) ∙ ap (λ l. 40 ∷ l ++ 41 ∷ 10 ∷ lines f) (written-inline_form i false)
 
 -- the forest that it spells, except for offsets
 without_offsets-behind_blank : (due : Bool) (s : Spelling) (f : Forest) → ((at : ℕ) → without_offsets (forest_at at s) ≡ f) → (at : ℕ) → without_offsets (forest_at at (behind_blank due s)) ≡ f
@@ -65,16 +65,16 @@ without_offsets-inline_form (text p s f) due at =
     without_offsets-behind_blank due (quoted s (row_spelling true f)) (text 0 s (without_offsets f)) (λ k. ap (text 0 s) (without_offsets-inline_form f true (k + length (escaped_string s) + 2))) at
 without_offsets-inline_form (list p i f) due at =
     without_offsets-behind_blank due (parens (row_spelling false i) (row_spelling true f)) (list 0 (without_offsets i) (without_offsets f))
-    (λ k. ap (λ g. list 0 g (without_offsets (forest_at (k + length (written (row_spelling false i)) + 2) (row_spelling true f)))) (without_offsets-inline_form i false (k + 1))
-    ∙ ap (list 0 (without_offsets i)) (without_offsets-inline_form f true (k + length (written (row_spelling false i)) + 2))) at
+    (λ k. ap (λ g. list 0 g (without_offsets (forest_at (k + length (spelling_bytes (row_spelling false i)) + 2) (row_spelling true f)))) (without_offsets-inline_form i false (k + 1))
+    ∙ ap (list 0 (without_offsets i)) (without_offsets-inline_form f true (k + length (spelling_bytes (row_spelling false i)) + 2))) at
 
 without_offsets-lines : (f : Forest) (at : ℕ) → without_offsets (forest_at at (lines_spelling f)) ≡ without_offsets f
 without_offsets-lines empty at = refl
 without_offsets-lines (atom p a f) at = ap (atom 0 a) (without_offsets-lines f (at + length a + 1))
 without_offsets-lines (text p s f) at = ap (text 0 s) (without_offsets-lines f (at + length (escaped_string s) + 2 + 1))
 without_offsets-lines (list p i f) at =
-    ap (λ g. list 0 g (without_offsets (forest_at (at + length (written (row_spelling false i)) + 2 + 1) (lines_spelling f)))) (without_offsets-inline_form i false (at + 1))
-    ∙ ap (list 0 (without_offsets i)) (without_offsets-lines f (at + length (written (row_spelling false i)) + 2 + 1))
+    ap (λ g. list 0 g (without_offsets (forest_at (at + length (spelling_bytes (row_spelling false i)) + 2 + 1) (lines_spelling f)))) (without_offsets-inline_form i false (at + 1))
+    ∙ ap (list 0 (without_offsets i)) (without_offsets-lines f (at + length (spelling_bytes (row_spelling false i)) + 2 + 1))
 
 -- each part of it is well spelled
 well-behind_blank : (due : Bool) (s : Spelling) → is_well_spelled s ≡ true → is_well_spelled (behind_blank due s) ≡ true
@@ -153,7 +153,7 @@ printed_spells f h =
         tail = [];
         well_spelled = well-lines f h;
         ends = refl;
-        bytes_are = sym (append-nil (written s) ∙ written-lines f);
+        bytes_are = sym (append-nil (spelling_bytes s) ∙ written-lines f);
         forest_is = refl;
       };
       same = same;
@@ -177,29 +177,29 @@ enclosed b d xs ys rest small other u =
     ((split_utf8 [] b xs small p.0).1, p.1)
 
 -- the trees of a spelling in UTF-8 can be spelled, and the bytes after it are UTF-8
-spelling_can : (s : Spelling) (rest : List ℕ) (at : ℕ) → is_well_spelled s ≡ true → IsUtf8 (written s ++ rest) → CanBeSpelled (forest_at at s) × IsUtf8 rest
+spelling_can : (s : Spelling) (rest : List ℕ) (at : ℕ) → is_well_spelled s ≡ true → IsUtf8 (spelling_bytes s ++ rest) → CanBeSpelled (forest_at at s) × IsUtf8 rest
 spelling_can nothing rest at h u = (tt, u)
 spelling_can (blank b s) rest at h u =
     let p = both (is_blank b) (is_well_spelled s) h in
-    spelling_can s rest (at + 1) p.1 (split_utf8 [] b (written s ++ rest) (blank_ascii b p.0) u).1
+    spelling_can s rest (at + 1) p.1 (split_utf8 [] b (spelling_bytes s ++ rest) (blank_ascii b p.0) u).1
 spelling_can (comment cs s) rest at h u =
     let p = both (is_comment cs) (is_well_spelled s) h in
-    spelling_can s rest (at + length cs + 2) p.1 (enclosed 59 10 cs (written s) rest (omega arith) (omega arith) u).1
+    spelling_can s rest (at + length cs + 2) p.1 (enclosed 59 10 cs (spelling_bytes s) rest (omega arith) (omega arith) u).1
 spelling_can (word name s) rest at h u =
     let p = both (is_name name && not (begins_with_word s)) (is_well_spelled s) h in
     let q = both (is_name name) (not (begins_with_word s)) p.0 in
-    let r = spelling_can s rest (at + length name) p.1 (after_word name (written s ++ rest) q.0 (subst IsUtf8 (append_assoc name (written s) rest) u)) in
+    let r = spelling_can s rest (at + length name) p.1 (after_word name (spelling_bytes s ++ rest) q.0 (subst IsUtf8 (append_assoc name (spelling_bytes s) rest) u)) in
     ((q.0, r.0), r.1)
 spelling_can (quoted cs s) rest at h u =
     let p = both (list_all is_char cs) (is_well_spelled s) h in
-    let e = enclosed 34 34 (escaped_string cs) (written s) rest (omega arith) (omega arith) u in
+    let e = enclosed 34 34 (escaped_string cs) (spelling_bytes s) rest (omega arith) (omega arith) u in
     let r = spelling_can s rest (at + length (escaped_string cs) + 2) p.1 e.1 in
     ((unescaped_utf8 cs e.0, p.0, r.0), r.1)
 spelling_can (parens inner s) rest at h u =
     let p = both (is_well_spelled inner) (is_well_spelled s) h in
-    let inside = (split_utf8 [] 40 ((written inner ++ 41 ∷ written s) ++ rest) (omega arith) u).1 in
-    let q = spelling_can inner (41 ∷ written s ++ rest) (at + 1) p.0 (subst IsUtf8 (append_assoc (written inner) (41 ∷ written s) rest) inside) in
-    let r = spelling_can s rest (at + length (written inner) + 2) p.1 (split_utf8 [] 41 (written s ++ rest) (omega arith) q.1).1 in
+    let inside = (split_utf8 [] 40 ((spelling_bytes inner ++ 41 ∷ spelling_bytes s) ++ rest) (omega arith) u).1 in
+    let q = spelling_can inner (41 ∷ spelling_bytes s ++ rest) (at + 1) p.0 (subst IsUtf8 (append_assoc (spelling_bytes inner) (41 ∷ spelling_bytes s) rest) inside) in
+    let r = spelling_can s rest (at + length (spelling_bytes inner) + 2) p.1 (split_utf8 [] 41 (spelling_bytes s ++ rest) (omega arith) q.1).1 in
     ((q.0, r.0), r.1)
 
 -- what a text spells can be spelled

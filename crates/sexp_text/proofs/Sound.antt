@@ -9,8 +9,8 @@ use Rattle.std.specs.Str.{IsUtf8}
 use Rattle.std.specs.declared.option.Option.{Option}
 use Rattle.std.specs.Option.{option_and_then, IfSome}
 use Rattle.sexp_text.specs.Forest.{Forest, empty, atom, text, list, behind}
-use Rattle.sexp_text.specs.Grammar.{is_blank, is_atom_byte, is_char, is_name, is_comment, is_tail, escape, escaped_string, Spelling, nothing, blank, comment, word, quoted, parens, written, begins_with_word, is_well_spelled, forest_at, Spells}
-use Rattle.sexp_text.specs.Machine.{Mode, gap, in_comment, in_word, in_text, in_escape, OpenLists, State, closed, start, step, next, run, first_state, finish, forest_at_end, all_closed, whole}
+use Rattle.sexp_text.specs.Grammar.{is_blank, is_atom_byte, is_char, is_name, is_comment, is_tail, escape, escaped_string, Spelling, nothing, blank, comment, word, quoted, parens, spelling_bytes, begins_with_word, is_well_spelled, forest_at, Spells}
+use Rattle.sexp_text.specs.Machine.{Mode, gap, in_comment, in_word, in_text, in_escape, OpenLists, State, close_list, start, step, next, run, first_state, finish, forest_at_end, all_closed, whole}
 use Rattle.sexp_text.proofs.Trees.{behind-empty, behind_assoc}
 use Rattle.sexp_text.proofs.Walks.{tested}
 use Rattle.sexp_text.proofs.Complete.{both}
@@ -18,35 +18,35 @@ use Rattle.sexp_text.proofs.Complete.{both}
 -- The rest of the input between tokens: the trees up to the parenthesis that closes the innermost list, and the rest
 -- after it; or the last trees.
 abbrev pub Remains : OpenLists → Forest → ℕ → List ℕ → Forest → Type 0
-Remains [] f at bs g = (s : Spelling) × (tail : List ℕ) × (is_well_spelled s ≡ true) × (is_tail tail ≡ true) × (bs ≡ written s ++ tail) × (g ≡ behind f (forest_at at s))
-Remains (o ∷ os) f at bs g = (s : Spelling) × (more : List ℕ) × (is_well_spelled s ≡ true) × (bs ≡ written s ++ 41 ∷ more)
-    × Remains os (behind o.1 (list o.0 (behind f (forest_at at s)) empty)) (at + length (written s) + 1) more g
+Remains [] f at bs g = (s : Spelling) × (tail : List ℕ) × (is_well_spelled s ≡ true) × (is_tail tail ≡ true) × (bs ≡ spelling_bytes s ++ tail) × (g ≡ behind f (forest_at at s))
+Remains (o ∷ os) f at bs g = (s : Spelling) × (more : List ℕ) × (is_well_spelled s ≡ true) × (bs ≡ spelling_bytes s ++ 41 ∷ more)
+    × Remains os (behind o.1 (list o.0 (behind f (forest_at at s)) empty)) (at + length (spelling_bytes s) + 1) more g
 
 -- a further part at the beginning of the rest
 prepend : (p : Spelling → Spelling) (at : ℕ) (front : List ℕ) (trees : Forest) (bs : List ℕ)
-    → ((s : Spelling) → written (p s) ≡ front ++ written s)
+    → ((s : Spelling) → spelling_bytes (p s) ≡ front ++ spelling_bytes s)
     → ((s : Spelling) → forest_at at (p s) ≡ behind trees (forest_at (at + length front) s))
-    → ((s : Spelling) (rest : List ℕ) → is_well_spelled s ≡ true → bs ≡ written s ++ rest → is_well_spelled (p s) ≡ true)
+    → ((s : Spelling) (rest : List ℕ) → is_well_spelled s ≡ true → bs ≡ spelling_bytes s ++ rest → is_well_spelled (p s) ≡ true)
     → (os : OpenLists) (f g : Forest) → Remains os (behind f trees) (at + length front) bs g → Remains os f at (front ++ bs) g
 prepend p at front trees bs writes reads fits [] f g r = (
   p r.0,
   r.1,
   fits r.0 r.1 r.2 r.4,
   r.3,
-  ap (λ l. front ++ l) r.4 ∙ sym (append_assoc front (written r.0) r.1) ∙ ap (λ l. l ++ r.1) (sym (writes r.0)),
+  ap (λ l. front ++ l) r.4 ∙ sym (append_assoc front (spelling_bytes r.0) r.1) ∙ ap (λ l. l ++ r.1) (sym (writes r.0)),
   r.5 ∙ behind_assoc f trees (forest_at (at + length front) r.0) ∙ ap (behind f) (sym (reads r.0)),
 )
 prepend p at front trees bs writes reads fits (o ∷ os) f g r =
     let trees_are : behind (behind f trees) (forest_at (at + length front) r.0) ≡ behind f (forest_at at (p r.0))
     = behind_assoc f trees (forest_at (at + length front) r.0) ∙ ap (behind f) (sym (reads r.0)) in
-    let long : length (written (p r.0)) ≡ length front + length (written r.0) = ap length (writes r.0) ∙ length-append front (written r.0) in
-    let place : at + length front + length (written r.0) + 1 ≡ at + length (written (p r.0)) + 1 = omega arith in (
+    let long : length (spelling_bytes (p r.0)) ≡ length front + length (spelling_bytes r.0) = ap length (writes r.0) ∙ length-append front (spelling_bytes r.0) in
+    let place : at + length front + length (spelling_bytes r.0) + 1 ≡ at + length (spelling_bytes (p r.0)) + 1 = omega arith in (
       p r.0,
       r.1,
       fits r.0 (41 ∷ r.1) r.2 r.3,
-      ap (λ l. front ++ l) r.3 ∙ sym (append_assoc front (written r.0) (41 ∷ r.1)) ∙ ap (λ l. l ++ 41 ∷ r.1) (sym (writes r.0)),
+      ap (λ l. front ++ l) r.3 ∙ sym (append_assoc front (spelling_bytes r.0) (41 ∷ r.1)) ∙ ap (λ l. l ++ 41 ∷ r.1) (sym (writes r.0)),
       subst (λ (n : ℕ). Remains os (behind o.1 (list o.0 (behind f (forest_at at (p r.0))) empty)) n r.1 g) place
-          (subst (λ (h : Forest). Remains os (behind o.1 (list o.0 h empty)) (at + length front + length (written r.0) + 1) r.1 g) trees_are r.4),
+          (subst (λ (h : Forest). Remains os (behind o.1 (list o.0 h empty)) (at + length front + length (spelling_bytes r.0) + 1) r.1 g) trees_are r.4),
     )
 
 -- the rest, at the same offset and forest otherwise written
@@ -62,16 +62,16 @@ comment_before : (cs : List ℕ) (at : ℕ) (bs : List ℕ) (os : OpenLists) (f 
     → Remains os f at (59 ∷ cs ++ 10 ∷ bs) g
 comment_before cs at bs os f g e r =
     subst (λ (l : List ℕ). Remains os f at l g) (ap (λ l. 59 ∷ l) (append_assoc cs (10 ∷ []) bs))
-    (prepend (comment cs) at (59 ∷ cs ++ 10 ∷ []) empty bs (λ s. ap (λ l. 59 ∷ l) (sym (append_assoc cs (10 ∷ []) (written s))))
+    (prepend (comment cs) at (59 ∷ cs ++ 10 ∷ []) empty bs (λ s. ap (λ l. 59 ∷ l) (sym (append_assoc cs (10 ∷ []) (spelling_bytes s))))
     (λ s. ap (λ n. forest_at n s) (omega (arith, length-append cs (10 ∷ [])))) (λ s rest h _. rw (e, h) refl) os f g
     (moved os f (behind f empty) (at + length cs + 2) (at + length (59 ∷ cs ++ 10 ∷ [])) bs g (sym (behind-empty f)) (omega (arith, length-append cs (10 ∷ []))) r))
 
 open_before : (at : ℕ) (bs : List ℕ) (os : OpenLists) (f g : Forest) → Remains ((at, f) ∷ os) empty (at + 1) bs g → Remains os f at (40 ∷ bs) g
 open_before at bs os f g r =
-    let inner = written r.0 in
+    let inner = spelling_bytes r.0 in
     subst (λ (l : List ℕ). Remains os f at l g) (ap (λ l. 40 ∷ l) (append_assoc inner (41 ∷ []) r.1 ∙ sym r.3))
     (prepend (parens r.0) at (40 ∷ inner ++ 41 ∷ []) (list at (forest_at (at + 1) r.0) empty) r.1
-    (λ s. ap (λ l. 40 ∷ l) (sym (append_assoc inner (41 ∷ []) (written s))))
+    (λ s. ap (λ l. 40 ∷ l) (sym (append_assoc inner (41 ∷ []) (spelling_bytes s))))
     (λ s. ap (λ n. list at (forest_at (at + 1) r.0) (forest_at n s)) (omega (arith, length-append inner (41 ∷ [])))) (λ s rest h _. rw (r.2, h) refl) os f g
     (moved os (behind f (list at (forest_at (at + 1) r.0) empty)) (behind f (list at (forest_at (at + 1) r.0) empty)) (at + 1 + length inner + 1)
     (at + length (40 ∷ inner ++ 41 ∷ [])) r.1 g refl (omega (arith, length-append inner (41 ∷ []))) r.4))
@@ -90,7 +90,7 @@ text_before : (cs : List ℕ) (at : ℕ) (bs : List ℕ) (os : OpenLists) (f g :
     → Remains os (behind f (text at cs empty)) (at + length (escaped_string cs) + 2) bs g → Remains os f at (34 ∷ escaped_string cs ++ 34 ∷ bs) g
 text_before cs at bs os f g e r =
     subst (λ (l : List ℕ). Remains os f at l g) (ap (λ l. 34 ∷ l) (append_assoc (escaped_string cs) (34 ∷ []) bs))
-    (prepend (quoted cs) at (34 ∷ escaped_string cs ++ 34 ∷ []) (text at cs empty) bs (λ s. ap (λ l. 34 ∷ l) (sym (append_assoc (escaped_string cs) (34 ∷ []) (written s))))
+    (prepend (quoted cs) at (34 ∷ escaped_string cs ++ 34 ∷ []) (text at cs empty) bs (λ s. ap (λ l. 34 ∷ l) (sym (append_assoc (escaped_string cs) (34 ∷ []) (spelling_bytes s))))
     (λ s. ap (λ n. text at cs (forest_at n s)) (omega (arith, length-append (escaped_string cs) (34 ∷ [])))) (λ s rest h _. rw (e, h) refl) os f g
     (moved os (behind f (text at cs empty)) (behind f (text at cs empty)) (at + length (escaped_string cs) + 2) (at + length (34 ∷ escaped_string cs ++ 34 ∷ [])) bs g
     refl (omega (arith, length-append (escaped_string cs) (34 ∷ []))) r))
@@ -100,7 +100,7 @@ starts_atom [] = false
 starts_atom (b ∷ bs) = is_atom_byte b
 
 -- bytes that begin with no atom's byte begin with no atom
-no_word : (s : Spelling) (rest bs : List ℕ) → is_well_spelled s ≡ true → bs ≡ written s ++ rest → starts_atom bs ≡ false → begins_with_word s ≡ false
+no_word : (s : Spelling) (rest bs : List ℕ) → is_well_spelled s ≡ true → bs ≡ spelling_bytes s ++ rest → starts_atom bs ≡ false → begins_with_word s ≡ false
 no_word nothing rest bs h e k = refl
 no_word (blank b s) rest bs h e k = refl
 no_word (comment cs s) rest bs h e k = refl
@@ -168,7 +168,7 @@ text_follows at bs os f g r =
     (text_before r.0 at r.1 os f g r.2
     (moved os (behind f (text at r.0 empty)) (behind f (text at r.0 empty)) (at + 1 + length (escaped_string r.0) + 1) (at + length (escaped_string r.0) + 2) r.1 g refl (omega arith) r.4))
 
-closed_follows : (at : ℕ) (bs : List ℕ) (os : OpenLists) (f g : Forest) → IfSome (closed os f) (λ t. FollowsIn (at + 1) bs g t → Remains os f at (41 ∷ bs) g)
+closed_follows : (at : ℕ) (bs : List ℕ) (os : OpenLists) (f g : Forest) → IfSome (close_list os f) (λ t. FollowsIn (at + 1) bs g t → Remains os f at (41 ∷ bs) g)
 closed_follows at bs [] f g = tt
 closed_follows at bs (o ∷ os) f g = close_before o at bs os f g
 
@@ -180,7 +180,7 @@ start_follows at b bs os f g =
     (λ _. tested P (b == 59) _ _ (λ e r. as_byte _ e (comment_follows at bs os f g r))
     (λ _. tested P (b == 40) _ _ (λ e r. as_byte _ e (open_before at bs os f g r))
     (λ _. tested P (b == 41) _ _
-    (λ e. subst (λ (x : ℕ). IfSome (closed os f) (λ t. FollowsIn (at + 1) bs g t → Remains os f at (x ∷ bs) g)) (sym (eqb-true b 41 e)) (closed_follows at bs os f g))
+    (λ e. subst (λ (x : ℕ). IfSome (close_list os f) (λ t. FollowsIn (at + 1) bs g t → Remains os f at (x ∷ bs) g)) (sym (eqb-true b 41 e)) (closed_follows at bs os f g))
     (λ _. tested P (b == 34) _ _ (λ e r. as_byte _ e (text_follows at bs os f g r))
     (λ _. tested P (is_atom_byte b) _ _ (λ e r. word_follows at b bs os f g e r) (λ _. tt))))))
   where

@@ -14,7 +14,7 @@ use Rattle.sexp_text.specs.declared.stop.TextStop.{TextStop}
 use Rattle.sexp_text.specs.declared.stop.TextStop.TheVariants as stops
 use Rattle.sexp_text.specs.Forest.{Forest, empty, atom, text, list, behind}
 use Rattle.sexp_text.specs.Grammar.{is_blank, is_atom_byte, is_comment}
-use Rattle.sexp_text.specs.Machine.{Mode, gap, in_comment, in_word, in_text, in_escape, OpenLists, State, closed, start, step, next, run, first_state, forest_at_end, state_at, depth_reached, Refuses, is_plain, Leads, EndsText, RefusesAfter, Rests}
+use Rattle.sexp_text.specs.Machine.{Mode, gap, in_comment, in_word, in_text, in_escape, OpenLists, State, close_list, start, step, next, run, first_state, forest_at_end, state_at, depth_reached, Refuses, is_plain, Leads, EndsText, RefusesAfter, Rests}
 use Rattle.sexp_text.proofs.Walks.{run_on, walk_on, reached_same, depth_reached-behind, length_le-depth_reached, whole_is, stops_refuses}
 use Rattle.sexp_text.proofs.Complete.{both, negated, name_on, comment_on, start_word}
 
@@ -71,7 +71,7 @@ open_refuses bytes at os f r lt e many =
     stops_refuses bytes at r.state (stops.TooDeep at) lt r.here (omega (arith, r.reached, r.shallow)) (refl, e, rw here (omega arith))
 
 -- how deep the lists are after the innermost is closed
-closed_shallow : (os : OpenLists) (f : Forest) (after : OpenLists) (g : Forest) → closed os f ≡ Some (gap, after, g) → depth_reached os f ≤ 100 → depth_reached after g ≤ 100
+closed_shallow : (os : OpenLists) (f : Forest) (after : OpenLists) (g : Forest) → close_list os f ≡ Some (gap, after, g) → depth_reached os f ≤ 100 → depth_reached after g ≤ 100
 closed_shallow [] f after g e le = cc
 closed_shallow (o ∷ os) f after g e le =
     subst (λ (t : State). depth_reached t.1 t.2 ≤ 100) (same_Some _ _ e)
@@ -79,7 +79,7 @@ closed_shallow (o ∷ os) f after g e le =
 
 -- a parenthesis that closes a list
 pub close_rests : (bytes : List ℕ) (at : ℕ) (os : OpenLists) (f : Forest) (after : OpenLists) (g : Forest) → Rests bytes at os f → at < length bytes → get_or bytes at 0 ≡ 41
-    → closed os f ≡ Some (gap, after, g) → Rests bytes (at + 1) after g
+    → close_list os f ≡ Some (gap, after, g) → Rests bytes (at + 1) after g
 close_rests bytes at os f after g r lt e c =
     gap_rests bytes (at + 1) after g (rw add-one (started bytes at os f (Some (gap, after, g)) r lt (rw e c))) (closed_shallow os f after g c r.shallow)
 

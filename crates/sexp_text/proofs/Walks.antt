@@ -9,7 +9,7 @@ use Rattle.sexp_text.specs.declared.stop.TextStop.{TextStop}
 use Rattle.sexp_text.specs.declared.stop.TextStop.TheVariants as stops
 use Rattle.sexp_text.specs.Forest.{Forest, empty, atom, text, list, behind, nesting}
 use Rattle.sexp_text.specs.Grammar.{is_blank, is_atom_byte}
-use Rattle.sexp_text.specs.Machine.{finish, forest_at_end, all_closed, IsShallow, Stops, Refuses, Fails, GoesDeep, Mode, gap, in_comment, in_word, in_text, in_escape, OpenLists, State, closed, start, step, next, run, first_state, state_at, depth_reached, whole}
+use Rattle.sexp_text.specs.Machine.{finish, forest_at_end, all_closed, IsShallow, Stops, Refuses, Fails, GoesDeep, Mode, gap, in_comment, in_word, in_text, in_escape, OpenLists, State, close_list, start, step, next, run, first_state, state_at, depth_reached, whole}
 
 -- one step and the steps after it, in two ways
 onward : (o : Option State) (f g h : State → Option State) → ((t : State) → f t ≡ option_and_then g (h t)) → option_and_then f o ≡ option_and_then g (option_and_then h o)
@@ -75,7 +75,7 @@ kept m os f = omega (arith, length_le-depth_reached os f)
 grown : (os : OpenLists) (f g : Forest) → nesting g ≡ 0 → Deepens os f (gap, os, behind f g)
 grown os f g e = omega (arith, depth_reached-behind os f g, length_le-depth_reached os f)
 
-closed_deepens : (os : OpenLists) (f : Forest) → IfSome (closed os f) (Deepens os f)
+closed_deepens : (os : OpenLists) (f : Forest) → IfSome (close_list os f) (Deepens os f)
 closed_deepens [] f = tt
 closed_deepens (o ∷ os) f = omega (arith, depth_reached-behind os o.1 (list o.0 f empty), length_le-depth_reached os o.1)
 

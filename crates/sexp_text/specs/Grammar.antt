@@ -43,13 +43,13 @@ pub data Spelling : Type 0 where
   parens : (inner rest : Spelling) → Spelling
 
 -- The bytes of a spelling: a comment is from `;` to LF, a string is in quotes, a list in parentheses.
-abbrev pub written : Spelling → List ℕ
-written nothing = []
-written (blank b s) = b ∷ written s
-written (comment cs s) = 59 ∷ cs ++ 10 ∷ written s
-written (word name s) = name ++ written s
-written (quoted chars s) = 34 ∷ escaped_string chars ++ 34 ∷ written s
-written (parens inner s) = 40 ∷ written inner ++ 41 ∷ written s
+abbrev pub spelling_bytes : Spelling → List ℕ
+spelling_bytes nothing = []
+spelling_bytes (blank b s) = b ∷ spelling_bytes s
+spelling_bytes (comment cs s) = 59 ∷ cs ++ 10 ∷ spelling_bytes s
+spelling_bytes (word name s) = name ++ spelling_bytes s
+spelling_bytes (quoted chars s) = 34 ∷ escaped_string chars ++ 34 ∷ spelling_bytes s
+spelling_bytes (parens inner s) = 40 ∷ spelling_bytes inner ++ 41 ∷ spelling_bytes s
 
 -- Whether a spelling begins with an atom.
 abbrev pub begins_with_word : Spelling → Bool
@@ -80,7 +80,7 @@ forest_at at (blank b s) = forest_at (at + 1) s
 forest_at at (comment cs s) = forest_at (at + length cs + 2) s
 forest_at at (word name s) = atom at name (forest_at (at + length name) s)
 forest_at at (quoted chars s) = text at chars (forest_at (at + length (escaped_string chars) + 2) s)
-forest_at at (parens inner s) = list at (forest_at (at + 1) inner) (forest_at (at + length (written inner) + 2) s)
+forest_at at (parens inner s) = list at (forest_at (at + 1) inner) (forest_at (at + length (spelling_bytes inner) + 2) s)
 
 -- Nothing, or a comment that the end of the input ends.
 abbrev pub is_tail : List ℕ → Bool
@@ -95,5 +95,5 @@ pub record Spells (bytes : List ℕ) (f : Forest) : Type 0 where
   pub tail : List ℕ
   pub well_spelled : is_well_spelled spelling ≡ true
   pub ends : is_tail tail ≡ true
-  pub bytes_are : bytes ≡ written spelling ++ tail
+  pub bytes_are : bytes ≡ spelling_bytes spelling ++ tail
   pub forest_is : f ≡ forest_at 0 spelling

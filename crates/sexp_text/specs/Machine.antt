@@ -27,9 +27,9 @@ abbrev pub State : Type 0
 State = Mode × OpenLists × Forest
 
 -- The state after a parenthesis that closes the innermost list. None if no list is open.
-abbrev pub closed : OpenLists → Forest → Option State
-closed [] f = None
-closed (o ∷ os) f = Some (gap, os, behind o.1 (list o.0 f empty))
+abbrev pub close_list : OpenLists → Forest → Option State
+close_list [] f = None
+close_list (o ∷ os) f = Some (gap, os, behind o.1 (list o.0 f empty))
 
 -- The state after a byte between tokens.
 abbrev pub start : ℕ → ℕ → OpenLists → Forest → Option State
@@ -37,7 +37,7 @@ start at b os f =
     if is_blank b then Some (gap, os, f)
     else if b == 59 then Some (in_comment, os, f)
     else if b == 40 then Some (gap, (at, f) ∷ os, empty)
-    else if b == 41 then closed os f
+    else if b == 41 then close_list os f
     else if b == 34 then Some (in_text at [], os, f)
     else if is_atom_byte b then Some (in_word at (b ∷ []), os, f)
     else None

@@ -5,7 +5,7 @@ ghost use Rattle.sexp_text.specs.Forest.{Forest, empty, atom, behind, nesting};
 ghost use Rattle.sexp_text.specs.View.{tree_view, forest_view};
 ghost use Rattle.sexp_text.specs.Grammar.{is_atom_byte, Spells};
 ghost use Rattle.sexp_text.specs.TextFaults.{Cause};
-ghost use Rattle.sexp_text.specs.Machine.{trees, lists, state_of, first_state, whole, Refuses, gap, closed, all_closed, Rests};
+ghost use Rattle.sexp_text.specs.Machine.{trees, lists, state_of, first_state, whole, Refuses, gap, close_list, all_closed, Rests};
 
 use crate::lexer::{atom_len, comment_len, is_blank_byte, is_byte_of_atom, parse_string};
 use crate::{TextStop, Tree};
@@ -95,9 +95,9 @@ impl Reader {
     // Closes the innermost list. Fails if no list is open.
     #[tactic(auto, using(crate::proofs::Trees::pushes))]
     fn close_list(&mut self, at: usize) -> Result<(), TextStop>
-        ensures ok { OnOk result (closed (lists self.old) (trees self.old) ≡ Some (state_of self.new)) }
+        ensures ok { OnOk result (close_list (lists self.old) (trees self.old) ≡ Some (state_of self.new)) }
         ensures err { IfErr result (λ e. (e ≡ TextStop.NoMemory)
-            ⊎ ((e ≡ TextStop.Bad at) × (closed (lists self.old) (trees self.old) ≡ None))) }
+            ⊎ ((e ≡ TextStop.Bad at) × (close_list (lists self.old) (trees self.old) ≡ None))) }
     {
         match self.around.pop() {
             None => Err(TextStop::Bad { at }),

@@ -8,7 +8,7 @@ use Rattle.std.proofs.lemmas.List.{append-nil, append_cancel_left, map-append}
 use Rattle.std.proofs.lemmas.List.Elements.{filter-append}
 use Rattle.std.proofs.lemmas.Option.{none-some, same_Some}
 use Rattle.std.proofs.lemmas.Slice.Eq.{slice_eq-Decides}
-use Rattle.rt_groups.specs.GroupForest.{GroupForest, End, Read, Group, GroupKind, Call, Node, Key, Cell, is_call, asks, own, inside_own}
+use Rattle.rt_groups.specs.GroupForest.{GroupForest, End, Read, Group, GroupKind, Call, Node, Key, Cell, is_call, asks, own_part, inside_own}
 use Rattle.rt_groups.specs.Paths.{Path, PathStep, GroupKey, sibling, same_sibling, step, occurrence, Found, nth, matching_sibling, inside_of, at_path}
 use Rattle.rt_groups.specs.Frames.{CallAtPath, nobody, innermost_call, trace}
 use Rattle.group_paths.specs.SiblingEquality.{same_is, itself}
@@ -107,14 +107,14 @@ none_elsewhere (Group site k what inside rest) p caller here seen n h =
     ∙ none_elsewhere rest p caller here (sibling site what ∷ seen) n h
 
 -- The part of the call at the path has its own reads.
-own_reads : (t : GroupForest) (p : Path) (caller : CallAtPath) (here : Path) (seen : List GroupKey) → caller.path ≡ p → length p ≤ length here → reads_at p (trace caller here seen t) ≡ asks (own t)
+own_reads : (t : GroupForest) (p : Path) (caller : CallAtPath) (here : Path) (seen : List GroupKey) → caller.path ≡ p → length p ≤ length here → reads_at p (trace caller here seen t) ≡ asks (own_part t)
 own_reads End p caller here seen same h = refl
 own_reads (Read x rest) p caller here seen same h =
     read_if p caller x (trace caller here seen rest) true ((path_decides caller.path p).1 same) ∙ ap (λ l. x ∷ l) (own_reads rest p caller here seen same h)
 own_reads (Group site k what inside rest) p caller here seen same h =
     reads_append p (trace (innermost_call caller path what) path [] inside) (trace caller here (sibling site what ∷ seen) rest)
     ∙ ap (λ l. l ++ reads_at p (trace caller here (sibling site what ∷ seen) rest)) (within what (elsewhere_longer here (step site what seen) p h) (own_reads inside p caller path [] same longer))
-    ∙ ap (λ l. asks (inside_own what (own inside)) ++ l) (own_reads rest p caller here (sibling site what ∷ seen) same h)
+    ∙ ap (λ l. asks (inside_own what (own_part inside)) ++ l) (own_reads rest p caller here (sibling site what ∷ seen) same h)
   where
     path : Path
     path = here ++ step site what seen ∷ []
@@ -122,7 +122,7 @@ own_reads (Group site k what inside rest) p caller here seen same h =
     longer : length p ≤ length path
     longer = let front = length-append here (step site what seen ∷ []) in omega (arith, front, h)
 
-    within : (kind : GroupKind) → IsElsewhere path p → reads_at p (trace caller path [] inside) ≡ asks (own inside) → reads_at p (trace (innermost_call caller path kind) path [] inside) ≡ asks (inside_own kind (own inside))
+    within : (kind : GroupKind) → IsElsewhere path p → reads_at p (trace caller path [] inside) ≡ asks (own_part inside) → reads_at p (trace (innermost_call caller path kind) path [] inside) ≡ asks (inside_own kind (own_part inside))
     within (Call f vs) away deeper = none_elsewhere inside p (record { path = path; what = Call f vs }) path [] (elsewhere_itself path p away) away
     within (Node kind attributes) away deeper = deeper
     within (Key v) away deeper = deeper
@@ -172,7 +172,7 @@ short_caller caller here s (Key v) h = let front = length-append here (s ∷ [])
 short_caller caller here s (Cell ks v) h = let front = length-append here (s ∷ []) in omega (arith, front, h)
 
 found_reads : (t : GroupForest) (caller : CallAtPath) (here : Path) (s : GroupKey) (n : ℕ) (q p : Path) (seen : List GroupKey) (g : Found) → here ++ record { of = s; occurrence = occurrence s seen + n } ∷ q ≡ p → length caller.path ≤ length here
-    → lookup q (matching_sibling s n t) ≡ Some g → is_call g.what ≡ true → reads_at p (trace caller here seen t) ≡ asks (own g.inside)
+    → lookup q (matching_sibling s n t) ≡ Some g → is_call g.what ≡ true → reads_at p (trace caller here seen t) ≡ asks (own_part g.inside)
 found_reads End caller here s n q p seen g is short e call = absurd (no_group (sym (none_in_none q) ∙ e))
 found_reads (Read x rest) caller here s n q p seen g is short e call =
     read_if p caller x (trace caller here seen rest) false (other_path caller.path p other) ∙ found_reads rest caller here s n q p seen g is short e call
@@ -205,7 +205,7 @@ found_reads (Group site k what inside rest) caller here s n q p seen g is short 
     later = reads_at p (trace caller here (sibling site what ∷ seen) rest)
 
     Goal : Type 0
-    Goal = within ++ later ≡ asks (own g.inside)
+    Goal = within ++ later ≡ asks (own_part g.inside)
 
     other : (m : ℕ) → here ++ record { of = s; occurrence = m } ∷ q ≡ p → caller.path ≡ p → ⊥
     other m is same =
@@ -215,24 +215,24 @@ found_reads (Group site k what inside rest) caller here s n q p seen g is short 
         absurd (omega (arith, all, whole, mine, short))
 
     -- The path goes on in a later sibling.
-    in_later : (m : ℕ) → here ++ record { of = s; occurrence = m } ∷ q ≡ p → (here_step ≡ record { of = s; occurrence = m } → ⊥) → later ≡ asks (own g.inside) → Goal
+    in_later : (m : ℕ) → here ++ record { of = s; occurrence = m } ∷ q ≡ p → (here_step ≡ record { of = s; occurrence = m } → ⊥) → later ≡ asks (own_part g.inside) → Goal
     in_later m is apart go =
         let away : IsElsewhere path p = elsewhere_beside here here_step (record { of = s; occurrence = m }) q p is apart in
         ap (λ l. l ++ later) (none_elsewhere inside p (innermost_call caller path what) path [] (other_caller caller path p what (other m is) (elsewhere_itself path p away)) away) ∙ go
 
     -- The path goes through this group.
-    in_this : (m : ℕ) → here ++ record { of = s; occurrence = m } ∷ q ≡ p → m < occurrence s (sibling site what ∷ seen) → within ≡ asks (own g.inside) → Goal
+    in_this : (m : ℕ) → here ++ record { of = s; occurrence = m } ∷ q ≡ p → m < occurrence s (sibling site what ∷ seen) → within ≡ asks (own_part g.inside) → Goal
     in_this m is passed go =
         ap (λ l. within ++ l) (none_later rest caller here s m q p (sibling site what ∷ seen) is (other m is) passed) ∙ append-nil within ∙ go
 
     first : (o : Path) → path ++ o ≡ p → lookup o (Some group) ≡ Some g
-        → ((r : PathStep) (o : Path) → path ++ record { of = r.of; occurrence = 0 + r.occurrence } ∷ o ≡ p → lookup o (matching_sibling r.of r.occurrence inside) ≡ Some g → within ≡ asks (own g.inside)) → within ≡ asks (own g.inside)
+        → ((r : PathStep) (o : Path) → path ++ record { of = r.of; occurrence = 0 + r.occurrence } ∷ o ≡ p → lookup o (matching_sibling r.of r.occurrence inside) ≡ Some g → within ≡ asks (own_part g.inside)) → within ≡ asks (own_part g.inside)
     first [] is e deeper =
         let this : group ≡ g = same_Some group g e in
         let here_call : is_call what ≡ true = ap (λ f. is_call f.what) this ∙ call in
         let whole : path ≡ p = sym (append-nil path) ∙ is in
         let mine : (innermost_call caller path what).path ≡ p = ap (λ b. (if b then record { path = path; what = what } else caller).path) here_call ∙ whole in
-        own_reads inside p (innermost_call caller path what) path [] mine (let long = ap length whole in omega (arith, long)) ∙ ap (λ f. asks (own f.inside)) this
+        own_reads inside p (innermost_call caller path what) path [] mine (let long = ap length whole in omega (arith, long)) ∙ ap (λ f. asks (own_part f.inside)) this
     first (r ∷ o) is e deeper =
         let sum : 0 + r.occurrence ≡ r.occurrence = omega arith in
         deeper r o (ap (λ m. path ++ record { of = r.of; occurrence = m } ∷ o) sum ∙ is) (sym (first_step r o inside) ∙ e)
@@ -241,8 +241,8 @@ found_reads (Group site k what inside rest) caller here s n q p seen g is short 
     same_step_here e = let sum : occurrence s seen ≡ occurrence s seen + 0 = omega arith in ap (λ r. record { of = r; occurrence = occurrence r seen }) e ∙ ap (λ j. record { of = s; occurrence = j }) sum
 
     by : (b : Bool) → b ≡ same_sibling (sibling site what) s → (n : ℕ) → here ++ record { of = s; occurrence = occurrence s seen + n } ∷ q ≡ p → lookup q (if b then nth n group (λ j. matching_sibling s j rest) else matching_sibling s n rest) ≡ Some g
-        → ((m : ℕ) → here ++ record { of = s; occurrence = occurrence s (sibling site what ∷ seen) + m } ∷ q ≡ p → lookup q (matching_sibling s m rest) ≡ Some g → later ≡ asks (own g.inside))
-        → ((r : PathStep) (o : Path) → path ++ record { of = r.of; occurrence = 0 + r.occurrence } ∷ o ≡ p → lookup o (matching_sibling r.of r.occurrence inside) ≡ Some g → within ≡ asks (own g.inside)) → Goal
+        → ((m : ℕ) → here ++ record { of = s; occurrence = occurrence s (sibling site what ∷ seen) + m } ∷ q ≡ p → lookup q (matching_sibling s m rest) ≡ Some g → later ≡ asks (own_part g.inside))
+        → ((r : PathStep) (o : Path) → path ++ record { of = r.of; occurrence = 0 + r.occurrence } ∷ o ≡ p → lookup o (matching_sibling r.of r.occurrence inside) ≡ Some g → within ≡ asks (own_part g.inside)) → Goal
     by true b zero is e after deeper =
         let counts : occurrence s (sibling site what ∷ seen) ≡ 1 + occurrence s seen = ap (λ c. (if c then 1 else 0) + occurrence s seen) (sym b) in
         in_this (occurrence s seen + 0) is (omega (arith, counts))

@@ -2,7 +2,7 @@
 use Rattle.std.specs.Prelude.{ℕ, ◌==◌, ◌&&◌, ◌≡◌, List, [], map, Bool, true, Some}
 use Rattle.std.specs.List.{filter}
 use Rattle.std.specs.Cmp.Lexicographic.{pointwise}
-use Rattle.rt_groups.specs.GroupForest.{GroupForest, is_call, asks, own}
+use Rattle.rt_groups.specs.GroupForest.{GroupForest, is_call, asks, own_part}
 use Rattle.rt_groups.specs.Paths.{Path, PathStep, same_sibling, Found, at_path}
 use Rattle.rt_groups.specs.Frames.{CallAtPath, nobody, trace}
 
@@ -21,4 +21,4 @@ reads_at p rs = map (λ r. r.1) (filter (λ r. same_path r.0.path p) rs)
 -- reads of this call, in order.
 abbrev pub OwnReadsAreTraced : Type 0
 OwnReadsAreTraced = (t : GroupForest) (p : Path) (g : Found) → at_path p t ≡ Some g → is_call g.what ≡ true →
-    reads_at p (trace nobody [] [] t) ≡ asks (own g.inside)
+    reads_at p (trace nobody [] [] t) ≡ asks (own_part g.inside)

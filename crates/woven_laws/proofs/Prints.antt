@@ -10,7 +10,7 @@ use Rattle.snap_api.specs.declared.data.Request.TheVariants as request
 use Rattle.snap_api.specs.DeskReads.{call_of, reads_of}
 use Rattle.rt_values.specs.Maps.{contains}
 use Rattle.snap_shared.specs.SharedCalls.{own_calls, HasOnlyCallersBelow}
-use Rattle.script_lang.specs.PrintedCalls.{reads_frame, frames_after, printed}
+use Rattle.script_lang.specs.PrintedCalls.{reads_frame, frames_after, printed_calls}
 use Rattle.woven_laws.specs.PrintedHistory.{no_frames, with_frames, printed_from, printed_history, frames_after_calls}
 use Rattle.woven_laws.specs.Woven.{SpellsAll}
 use Rattle.woven_laws.specs.Laws.{PrintedIsLegal, PrintedByCaller, PrintedIsWoven, CallIsPrinted, FrameReadsAreLeftOut}
@@ -45,31 +45,31 @@ module _ {P : Type 0} (rules : Rules P) where
   pub printed_is_legal : PrintedIsLegal rules
   printed_is_legal w h l = legal_from w no_frames h l
 
-by_caller : (a : ℕ) (h : History) (fs : ℕ → List ℕ) → own_calls a (printed_from fs h) ≡ printed (fs a) (own_calls a h)
+by_caller : (a : ℕ) (h : History) (fs : ℕ → List ℕ) → own_calls a (printed_from fs h) ≡ printed_calls (fs a) (own_calls a h)
 by_caller a [] fs = refl
 by_caller a (e ∷ es) fs = by (λ gs. by_caller a es gs) (e.caller == a) refl (reads_frame (fs e.caller) e.request) refl where
-  by : ((gs : ℕ → List ℕ) → own_calls a (printed_from gs es) ≡ printed (gs a) (own_calls a es)) → (mine : Bool) → (e.caller == a) ≡ mine → (b : Bool) → reads_frame (fs e.caller) e.request ≡ b →
-      own_calls a (cond b (printed_from fs es) (e ∷ printed_from (next fs e) es)) ≡ printed (fs a) (cond mine (e ∷ own_calls a es) (own_calls a es))
+  by : ((gs : ℕ → List ℕ) → own_calls a (printed_from gs es) ≡ printed_calls (gs a) (own_calls a es)) → (mine : Bool) → (e.caller == a) ≡ mine → (b : Bool) → reads_frame (fs e.caller) e.request ≡ b →
+      own_calls a (cond b (printed_from fs es) (e ∷ printed_from (next fs e) es)) ≡ printed_calls (fs a) (cond mine (e ∷ own_calls a es) (own_calls a es))
   by rest false m true r = rest fs
   by rest false m false r =
       ap (λ b. cond b (e ∷ own_calls a (printed_from (next fs e) es)) (own_calls a (printed_from (next fs e) es))) m
-      ∙ rest (next fs e) ∙ ap (λ b. printed (cond b (frames_after (fs e.caller) e) (fs a)) (own_calls a es)) m
+      ∙ rest (next fs e) ∙ ap (λ b. printed_calls (cond b (frames_after (fs e.caller) e) (fs a)) (own_calls a es)) m
   by rest true m true r =
       let read : reads_frame (fs a) e.request ≡ true = subst (λ (c : ℕ). reads_frame (fs c) e.request ≡ true) (eqb-true e.caller a m) r in
-      rest fs ∙ ap (λ b. cond b (printed (fs a) (own_calls a es)) (e ∷ printed (frames_after (fs a) e) (own_calls a es))) (sym read)
+      rest fs ∙ ap (λ b. cond b (printed_calls (fs a) (own_calls a es)) (e ∷ printed_calls (frames_after (fs a) e) (own_calls a es))) (sym read)
   by rest true m false r =
       let same = eqb-true e.caller a m in
       let read : reads_frame (fs a) e.request ≡ false = subst (λ (c : ℕ). reads_frame (fs c) e.request ≡ false) same r in
       ap (λ b. cond b (e ∷ own_calls a (printed_from (next fs e) es)) (own_calls a (printed_from (next fs e) es))) m
-      ∙ ap (λ l. e ∷ l) (rest (next fs e) ∙ ap (λ b. printed (cond b (frames_after (fs e.caller) e) (fs a)) (own_calls a es)) m ∙ ap (λ c. printed (frames_after (fs c) e) (own_calls a es)) same)
-      ∙ ap (λ b. cond b (printed (fs a) (own_calls a es)) (e ∷ printed (frames_after (fs a) e) (own_calls a es))) (sym read)
+      ∙ ap (λ l. e ∷ l) (rest (next fs e) ∙ ap (λ b. printed_calls (cond b (frames_after (fs e.caller) e) (fs a)) (own_calls a es)) m ∙ ap (λ c. printed_calls (frames_after (fs c) e) (own_calls a es)) same)
+      ∙ ap (λ b. cond b (printed_calls (fs a) (own_calls a es)) (e ∷ printed_calls (frames_after (fs a) e) (own_calls a es))) (sym read)
 
 pub printed_by_caller : PrintedByCaller
 printed_by_caller a h = by_caller a h no_frames
 
 -- No one else is printed.
 pub printed_callers : (n : ℕ) (h : History) → HasOnlyCallersBelow n h → HasOnlyCallersBelow n (printed_history h)
-printed_callers n h others a far = printed_by_caller a h ∙ ap (printed []) (others a far)
+printed_callers n h others a far = printed_by_caller a h ∙ ap (printed_calls []) (others a far)
 
 pub printed_is_woven : {P : Type 0} (rules : Rules P) → PrintedIsWoven rules
 printed_is_woven rules n actors w h legal spells others = (
@@ -80,12 +80,12 @@ printed_is_woven rules n actors w h legal spells others = (
   },
 )
 
-printed-append : (fs : List ℕ) (xs ys : History) → printed fs (xs ++ ys) ≡ printed fs xs ++ printed (frames_after_calls fs xs) ys
+printed-append : (fs : List ℕ) (xs ys : History) → printed_calls fs (xs ++ ys) ≡ printed_calls fs xs ++ printed_calls (frames_after_calls fs xs) ys
 printed-append fs [] ys = refl
 printed-append fs (x ∷ xs) ys = by (λ gs. printed-append gs xs ys) (reads_frame fs x.request) where
-  by : ((gs : List ℕ) → printed gs (xs ++ ys) ≡ printed gs xs ++ printed (frames_after_calls gs xs) ys) → (b : Bool) →
-      cond b (printed fs (xs ++ ys)) (x ∷ printed (frames_after fs x) (xs ++ ys))
-      ≡ cond b (printed fs xs) (x ∷ printed (frames_after fs x) xs) ++ printed (cond b (frames_after_calls fs xs) (frames_after_calls (frames_after fs x) xs)) ys
+  by : ((gs : List ℕ) → printed_calls gs (xs ++ ys) ≡ printed_calls gs xs ++ printed_calls (frames_after_calls gs xs) ys) → (b : Bool) →
+      cond b (printed_calls fs (xs ++ ys)) (x ∷ printed_calls (frames_after fs x) (xs ++ ys))
+      ≡ cond b (printed_calls fs xs) (x ∷ printed_calls (frames_after fs x) xs) ++ printed_calls (cond b (frames_after_calls fs xs) (frames_after_calls (frames_after fs x) xs)) ys
   by rest true = rest fs
   by rest false = ap (λ l. x ∷ l) (rest (frames_after fs x))
 
@@ -101,25 +101,25 @@ frames-append fs (x ∷ xs) ys = by (λ gs. frames-append gs xs ys) (reads_frame
 pub call_is_printed : CallIsPrinted
 call_is_printed h e reads =
     let fs = frames_after_calls [] h in (
-      printed-append [] h (e ∷ []) ∙ ap (λ b. printed [] h ++ cond b [] (e ∷ [])) reads,
+      printed-append [] h (e ∷ []) ∙ ap (λ b. printed_calls [] h ++ cond b [] (e ∷ [])) reads,
       frames-append [] h (e ∷ []) ∙ ap (λ b. cond b fs (frames_after fs e)) reads,
     )
 
 reads_drop : (more : History) (a name : ℕ) (xs fs : List ℕ) → contains name fs ≡ true → map call_of more ≡ reads_of a name xs →
-    (printed fs more ≡ []) × (frames_after_calls fs more ≡ fs)
+    (printed_calls fs more ≡ []) × (frames_after_calls fs more ≡ fs)
 reads_drop [] a name xs fs h e = (refl, refl)
 reads_drop (x ∷ more) a name [] fs h e = absurd cc
 reads_drop (x ∷ more) a name (o ∷ xs) fs h e =
     let first : x.request ≡ request.Read name o = ap (λ (p : ℕ × Request). p.1) (ap (λ l. head_or (a, request.Read name o) l) e) in
     let read : reads_frame fs x.request ≡ true = ap (reads_frame fs) first ∙ h in
     let rest = reads_drop more a name xs fs h (ap tail_of e) in (
-      ap (λ b. cond b (printed fs more) (x ∷ printed (frames_after fs x) more)) read ∙ rest.0,
+      ap (λ b. cond b (printed_calls fs more) (x ∷ printed_calls (frames_after fs x) more)) read ∙ rest.0,
       ap (λ b. cond b (frames_after_calls fs more) (frames_after_calls (frames_after fs x) more)) read ∙ rest.1,
     )
 
 pub frame_reads_are_left_out : FrameReadsAreLeftOut
 frame_reads_are_left_out h more a name xs opened reads =
     let rest = reads_drop more a name xs (frames_after_calls [] h) opened reads in (
-      printed-append [] h more ∙ ap (λ l. printed [] h ++ l) rest.0 ∙ append-nil (printed [] h),
+      printed-append [] h more ∙ ap (λ l. printed_calls [] h ++ l) rest.0 ∙ append-nil (printed_calls [] h),
       frames-append [] h more ∙ rest.1,
     )

@@ -19,7 +19,7 @@ use Rattle.script_lang.specs.Scripts.{actors_of}
 use Rattle.script_lang.specs.ScriptFaults.{script_faults}
 use Rattle.script_lang.specs.StepCalls.{Notes, ActorPart, no_notes, request_of, notes_after, opening_world, script_parts, sequential}
 use Rattle.script_lang.specs.Lines.{LineStyle, Standing, actor_name, lines, standing_after}
-use Rattle.script_lang.specs.PrintedCalls.{reads_frame, frames_after, printed}
+use Rattle.script_lang.specs.PrintedCalls.{reads_frame, frames_after, printed_calls}
 use Rattle.woven_laws.specs.PrintedHistory.{printed_history, frames_after_calls}
 use Rattle.woven_laws.specs.Woven.{parts_of, AreOf, actor_parts, ActorState, actor_at, initial_actor, SpellsAll, IsWoven}
 use Rattle.woven_laws.specs.FirstParts.{IsFirstPart, SpellsTo}
@@ -32,13 +32,13 @@ PrintedIsLegal {P} rules = (w : World P) (h : History) → IsLegal rules w h →
 
 -- Of each caller the printed history has the calls that are printed of this caller alone.
 abbrev pub PrintedByCaller : Type 0
-PrintedByCaller = (a : ℕ) (h : History) → own_calls a (printed_history h) ≡ printed [] (own_calls a h)
+PrintedByCaller = (a : ℕ) (h : History) → own_calls a (printed_history h) ≡ printed_calls [] (own_calls a h)
 
 -- If each actor's own calls, as printed, are those that its parts make, and no one else calls, then the printed calls
 -- of a legal history are legal and woven.
 abbrev pub PrintedIsWoven : {P : Type 0} → Rules P → Type 0
 PrintedIsWoven {P} rules = (n : ℕ) (actors : ℕ → ActorState) (w : World P) (h : History) → IsLegal rules w h →
-    ((a : ℕ) → a < n → SpellsAll (actors a) (printed [] (own_calls a h))) → HasOnlyCallersBelow n h →
+    ((a : ℕ) → a < n → SpellsAll (actors a) (printed_calls [] (own_calls a h))) → HasOnlyCallersBelow n h →
     IsLegal rules w (printed_history h) × IsWoven n actors (printed_history h)
 
 -- Of each actor below `n` these calls are those of a first part of its steps.
@@ -60,7 +60,7 @@ PartIsCompleted = (n : ℕ) (parts : List ActorPart) (w : World BuiltIn) (h : Hi
 -- printed calls of a legal history can be continued to a legal and woven one.
 abbrev pub PrintedPartIsCompleted : Type 0
 PrintedPartIsCompleted = (n : ℕ) (parts : List ActorPart) (w : World BuiltIn) (h : History) → IsLegal table w h →
-    AreFirstParts n parts (λ a. printed [] (own_calls a h)) → HasOnlyCallersBelow n h →
+    AreFirstParts n parts (λ a. printed_calls [] (own_calls a h)) → HasOnlyCallersBelow n h →
     CanBeCompleted n parts w (printed_history h)
 
 -- A text without a colon (code 58).
@@ -130,7 +130,7 @@ AllIsSpelled = (before : ActorState) (h : History) (n : Notes) → SpellsTo befo
 -- A call of a caller is printed if it does not read the snapshot of an open frame.
 abbrev pub CallIsPrinted : Type 0
 CallIsPrinted = (h : History) (e : Entry) → reads_frame (frames_after_calls [] h) e.request ≡ false →
-    (printed [] (h ++ e ∷ []) ≡ printed [] h ++ e ∷ [])
+    (printed_calls [] (h ++ e ∷ []) ≡ printed_calls [] h ++ e ∷ [])
     × (frames_after_calls [] (h ++ e ∷ []) ≡ frames_after (frames_after_calls [] h) e)
 
 -- Reads of the snapshot of an open frame are not printed, and leave the frames open.
@@ -138,7 +138,7 @@ abbrev pub FrameReadsAreLeftOut : Type 0
 FrameReadsAreLeftOut = (h more : History) (a name : ℕ) (xs : List ℕ) →
     contains name (frames_after_calls [] h) ≡ true →
     map call_of more ≡ reads_of a name xs →
-    (printed [] (h ++ more) ≡ printed [] h) × (frames_after_calls [] (h ++ more) ≡ frames_after_calls [] h)
+    (printed_calls [] (h ++ more) ≡ printed_calls [] h) × (frames_after_calls [] (h ++ more) ≡ frames_after_calls [] h)
 
 -- The parts of one actor are those of the script's steps for this actor.
 abbrev pub PartsAreOfScript : Type 0

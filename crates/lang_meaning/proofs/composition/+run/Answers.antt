@@ -6,7 +6,7 @@ use Rattle.rt_groups.specs.declared.groups.Attribute.{Attribute}
 use Rattle.rt_groups.specs.PreorderGroups.{flat_group}
 use Rattle.rt_values.specs.Maps.{Map}
 use Rattle.rt_values.specs.Operators.{is_true, items_of}
-use Rattle.rt_groups.specs.GroupForest.{GroupForest, asks, own}
+use Rattle.rt_groups.specs.GroupForest.{GroupForest, asks, own_part}
 use Rattle.rt_values.specs.Views.{Grew}
 use Rattle.lang_ast.specs.declared.binding.Binding.{Binding}
 use Rattle.lang_ast.specs.ResultsWithReads.{Reading}
@@ -567,7 +567,7 @@ run_call-returns-then-function-level g t c = record {
       let none = call_none m c.args.level.now.functions.now c.args.function c.args.arguments (omega arith) in
       let added = c.in_ok-add_group.ensures.added ∙ ap (λ (x : _). c.args.made.now.groups ++ x ∷ []) c.group.ensures in
       let inner = subst (λ (t : GroupForest). ComposesForest (c.args.level.now.depth + 1) t c.add_group.new.groups c.add_group.new.groups (g.V.View.asked c.args.view.now) (g.V.View.asked c.args.view.now) c.args.made.now.reads c.args.made.now.reads {U = Unit {0}} (Ok tt)) (sym none) (ran_end tt _ _ _ _) in
-      ran_group _ _ _ _ _ _ _ _ _ _ _ _ (ap (λ (t : GroupForest). asks (own t)) none) (sym (ap own none)) added inner;
+      ran_group _ _ _ _ _ _ _ _ _ _ _ _ (ap (λ (t : GroupForest). asks (own_part t)) none) (sym (ap own_part none)) added inner;
 }
 
 pub run_call-run_all-requires : goal.run_call-run_all-requires
