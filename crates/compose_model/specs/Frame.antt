@@ -1,5 +1,5 @@
 -- Trusted: one frame of a composition in the map of its snapshot.
-use Rattle.std.specs.Prelude.{List, [], Option, Some}
+use Rattle.std.specs.Prelude.{List, [], Option, Some, None}
 use Rattle.std.specs.Option.{option_map}
 use Rattle.rt_values.specs.Maps.{Map, differ}
 use Rattle.rt_groups.specs.GroupForest.{GroupForest}
@@ -28,3 +28,8 @@ good_frame k m new =
 -- last good frame.
 abbrev pub frame : List Func → LastFrame → Map → Option FrameResult
 frame functions k m = option_map (good_frame k m) (scratch functions (root_number functions) m)
+
+-- What is kept after a frame. A refused frame changes nothing.
+abbrev pub kept_after : LastFrame → Option FrameResult → LastFrame
+kept_after k None = k
+kept_after k (Some good) = good.left

@@ -8,9 +8,8 @@ use Rattle.rt_groups.specs.GroupForest.{GroupForest, End, asks, how_many}
 use Rattle.rt_groups.specs.PreorderGroups.{preorder}
 use Rattle.rt_groups.specs.Frames.{LastFrame, numbered_forest, report, reads, most_groups}
 use Rattle.lang_ast.specs.Terms.{Func}
-use Rattle.lang_ast.specs.SyntaxView.{functions_view}
-use Rattle.lang_ast.specs.Programs.{root_number}
-use Rattle.lang_checks.specs.declared.checks.Checked.{Checked}
+use Rattle.lang_ast.specs.Programs.{functions_of, root_number}
+use Rattle.lang_ast.specs.declared.program.Program.{Program}
 use Rattle.compose_model.specs.Composing.{forest}
 use Rattle.recompose_laws.specs.Refreshing.{SameReads}
 use Rattle.recompose_laws.specs.Numbering.{without_numbers}
@@ -19,11 +18,8 @@ use Rattle.composer.specs.declared.stop.ComposeStop.{ComposeStop}
 use Rattle.composer.specs.declared.stop.ComposeStop.TheVariants.{TooManyGroups}
 use Rattle.composer.specs.OwedObjects.{OwedObjects}
 
--- The functions of a checked program, and the index of its root.
-abbrev pub functions_of : Checked → List Func
-functions_of p = functions_view p.functions.items
-
-abbrev pub root_of : Checked → ℕ
+-- The index of a program's root.
+abbrev pub root_of : Program → ℕ
 root_of p = root_number (functions_of p)
 
 -- The groups of the last good frame in preorder, and the number of the next new node.

@@ -23,9 +23,10 @@ use Rattle.composer.specs.ComposerState.{ComposerState, composed_beside, run_bes
 use Rattle.composer.specs.BesideContracts.{Reaches, LastComposition, IsSince, OldSiblings, IsOldPart}
 use Rattle.composer.specs.declared.pending.Pending.{Pending}
 use Rattle.rt_groups.specs.PreorderGroups.{preorder}
-use Rattle.lang_checks.specs.declared.checks.Checked.{Checked}
+use Rattle.lang_ast.specs.declared.program.Program.{Program}
 use Rattle.composer.specs.OwedObjects.{OwedObjects}
-use Rattle.composer.specs.FrameDrafts.{functions_of, root_of, IsOwing}
+use Rattle.composer.specs.FrameDrafts.{root_of, IsOwing}
+use Rattle.lang_ast.specs.Programs.{functions_of}
 use Rattle.composer.specs.FrameStates.{frame_state}
 use Rattle.composer.specs.OldSiblings.{KeyInfo}
 use Rattle.composer.specs.OldGroups.{Fits, Alike, Begins}
@@ -174,7 +175,7 @@ GroupsSkipped level m groups asked asked' written written' result =
     (state_of written' asked' own) result
 
 -- The groups of a frame were written after those of `written`.
-abbrev pub FrameWritten : Checked → List Listed → OwedObjects → Map → List ℕ → List ℕ → WrittenGroups → WrittenGroups → {U : Type 0} → Result U ComposeStop → Type 0
+abbrev pub FrameWritten : Program → List Listed → OwedObjects → Map → List ℕ → List ℕ → WrittenGroups → WrittenGroups → {U : Type 0} → Result U ComposeStop → Type 0
 FrameWritten p groups owed m asked asked' written written' result =
     (seen : Option Map) (t : GroupForest) (own : List ℕ) → groups ≡ preorder 0 t →
     IsOwing (functions_of p) (root_of p) seen t m owed →

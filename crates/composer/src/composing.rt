@@ -12,7 +12,8 @@ ghost use Rattle.lang_ast.specs.Evaluation.{new_binding, eval, eval_all};
 ghost use Rattle.compose_model.specs.Composing.{forest_after};
 ghost use Rattle.recompose_laws.specs.CalculatedCells.{Calculation, CalculatesAtSite, StmtCalculates, StmtsCalculate};
 ghost use Rattle.composer.specs.WrittenGroups.{number_kept, kept_of, written_kept, group_kind};
-ghost use Rattle.composer.specs.FrameDrafts.{Holds, IsOwing, ComposesFrame, functions_of, root_of};
+ghost use Rattle.composer.specs.FrameDrafts.{Holds, IsOwing, ComposesFrame, root_of};
+ghost use Rattle.lang_ast.specs.Programs.{functions_of};
 ghost use Rattle.composer.specs.OldSiblings.{old_group};
 ghost use Rattle.composer.specs.Recomposes.{Recomposes, Continues, RanBeside, Writes, HasRoom, HasRoomToWrite, group_at_level, statement_at, body_at, call_at, loop_at, BodyRan, GroupSkipped, GroupsSkipped, FrameWritten, any_calculation, is_container, is_call_kept};
 

@@ -15,6 +15,10 @@ pub record Program : Type 0 where
 abbrev pub program_view : declared.Program → Program
 program_view p = record { header = p.header; states = p.states.items; functions = functions_view p.functions.items }
 
+-- The functions of a program in memory.
+abbrev pub functions_of : declared.Program → List Func
+functions_of p = functions_view p.functions.items
+
 abbrev pub is_root : Func → Bool
 is_root f = bytes_eq f.name.text (codes "root")
 

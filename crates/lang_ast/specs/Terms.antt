@@ -1,5 +1,5 @@
 -- Trusted: expressions, statements and functions without pointers, each with its offset in the source text.
-use Rattle.std.specs.Prelude.{ℕ, List, [], ◌∷◌}
+use Rattle.std.specs.Prelude.{ℕ, suc, List, [], ◌∷◌}
 use Rattle.rt_values.specs.declared.value.Value.{Value}
 use Rattle.lang_ast.specs.declared.syntax.Ident.{Ident}
 use Rattle.lang_ast.specs.declared.syntax.Operator.{Operator}
@@ -50,6 +50,11 @@ pub record Func : Type 0 where
 abbrev pub exprs : List Expr → Exprs
 exprs [] = none
 exprs (e ∷ es) = more e (exprs es)
+
+-- The number of expressions in sequence.
+abbrev pub operand_count : Exprs → ℕ
+operand_count none = 0
+operand_count (more e es) = suc (operand_count es)
 
 -- The items of a list as a sequence of statements.
 abbrev pub stmts : List Stmt → Stmts

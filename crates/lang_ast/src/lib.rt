@@ -11,11 +11,13 @@
 mod binding;
 mod place;
 mod program;
+mod root;
 mod script;
 mod syntax;
 
 pub use binding::Binding;
-pub use program::{Program, State, root_number};
+pub use program::{Program, State};
+pub use root::root_number;
 pub use script::{
     CallForm, CallForms, DoForm, Rest, ScriptForm, ScriptForms, SnapshotRef, StepForm, StepForms,
 };

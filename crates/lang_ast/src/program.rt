@@ -1,7 +1,7 @@
-// Programs, and the index of the root function.
-ghost use Rattle.std.specs.Prelude.{◌≡◌};
+// Programs and their states.
+ghost use Rattle.std.specs.Prelude.{◌≡◌, []};
 ghost use Rattle.lang_ast.specs.SyntaxView.{functions_view};
-ghost use Rattle.lang_ast.specs.Programs.{root_number};
+ghost use Rattle.lang_ast.specs.Sizes.{oversized_parts};
 
 use crate::{Function, Ident};
 use rt_values::{Ty, Value};
@@ -18,27 +18,12 @@ pub struct State {
     pub initial: Value,
 }
 
-/// A program: the offset of its header, its states, and its functions. The first function with the name `root` is the
-/// content of the composition (`setContent`).
+/// A program within the limits of size: the offset of its header, its states, and its functions. The first function with
+/// the name `root` is the content of the composition (`setContent`). The type keeps that no part is oversized.
 #[derive(Drop)]
 pub struct Program {
     pub header: usize,
     pub states: Vec<State>,
     pub functions: Vec<Function>,
-}
-
-/// Returns the index of the first function with the name `root`, or the number of functions if there is none.
-pub fn root_number(functions: &[Function]) -> usize
-    ensures { result ≡ root_number (functions_view functions.now) }
-{
-    let mut number = 0;
-    let mut rest = functions;
-    while let Some((function, more)) = rest.split_first() {
-        if function.name.text.is(b"root") {
-            return number;
-        }
-        number += 1;
-        rest = more;
-    }
-    number
+    ghost small: { oversized_parts states.items (functions_view functions.items) ≡ [] },
 }

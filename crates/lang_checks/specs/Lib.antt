@@ -7,6 +7,6 @@ pub mod Chains
 pub mod CappedChains
 pub mod ProgramFaults
 pub mod Numbers
-pub mod NumbersProps
+pub mod CheckedProgram
 pub mod Laws
 pub mod Views

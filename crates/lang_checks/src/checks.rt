@@ -1,18 +1,18 @@
 // The check of whole programs.
 ghost use Rattle.std.specs.Prelude.{◌≡◌, ◌<◌, [], length, Some, Err, IfOk, IfErr, OnOk};
-ghost use Rattle.lang_ast.specs.SyntaxView.{functions_view};
-ghost use Rattle.lang_ast.specs.Programs.{Program as program_data, program_view, root_number};
+ghost use Rattle.lang_ast.specs.Programs.{program_view, functions_of, root_number};
 ghost use Rattle.lang_checks.specs.declared.faults.ProgramFault.{ProgramFault as fault_data};
 ghost use Rattle.lang_checks.specs.FaultOrder.{least_fault};
 ghost use Rattle.lang_checks.specs.ProgramFaults.{program_faults};
 ghost use Rattle.lang_checks.specs.Numbers.{IsNumberedProgram};
-ghost use Rattle.lang_checks.specs.NumbersProps.{numbered-prop};
+ghost use Rattle.lang_checks.specs.CheckedProgram.{IsChecked};
 
 use crate::faults::ProgramFault;
 use crate::functions::least_fault;
 use lang_ast::{Function, Program, State, root_number};
 use rt_values::NoMemory;
 use std::alloc::Global;
+use std::marker::Model;
 
 /// Why a program is refused.
 #[derive(Clone, Copy, Debug, PartialEq, Eq)]
@@ -34,14 +34,27 @@ impl From<NoMemory> for CheckStop {
     }
 }
 
-/// A program without faults, whose statements and calls are numbered in the order of the text.
+/// A program without faults, whose statements and calls are numbered in the order of the text. Contracts see it as the
+/// program that it is.
 #[derive(Drop)]
 pub struct Checked {
-    header: usize,
-    states: Vec<State>,
-    functions: Vec<Function>,
-    ghost fine: { program_faults (record { header = header; states = states.items; functions = functions_view functions.items }) ≡ [] },
-    ghost numbered: { IsNumberedProgram (record { header = header; states = states.items; functions = functions_view functions.items }) } by { numbered-prop _ },
+    program: Program,
+}
+
+impl Model for Checked {
+    ghost use Rattle.std.specs.Coded.{codes};
+    ghost use Rattle.lang_ast.specs.declared.program.Program.{Program};
+    ghost use Rattle.lang_ast.specs.contracts.program.Program.{the_row};
+    ghost use Rattle.lang_ast.specs.Programs.{program_view};
+    ghost use Rattle.lang_checks.specs.CheckedProgram.{IsChecked};
+
+    ghost Value = { Program };
+
+    ghost coded = { Prim.hlevel (codes, the_row.coded) };
+
+    ghost view = { λ c. c.program };
+
+    ghost invariant = { λ c. IsChecked (program_view c.program) };
 }
 
 impl Checked {
@@ -49,30 +62,32 @@ impl Checked {
     pub fn header(&self) -> usize
         ensures { result ≡ self.now.header }
     {
-        self.header
+        self.program.header
     }
 
     /// The states: objects 0, 1, .. of the program's world.
     pub fn states(&self) -> &[State]
-        ensures { result.now ≡ self.now.states.items }
+        ensures states { result.now ≡ self.now.states.items }
+        ensures checked { IsChecked (program_view self.now) }
     {
-        &self.states
+        &self.program.states
     }
 
     /// The functions, by number. Each calls only functions before it.
     pub fn functions(&self) -> &[Function]
-        ensures { result.now ≡ self.now.functions.items }
+        ensures functions { result.now ≡ self.now.functions.items }
+        ensures checked { IsChecked (program_view self.now) }
     {
-        &self.functions
+        &self.program.functions
     }
 
     /// The number of the function `root`, the content of the composition (`setContent`).
     #[tactic(auto, using(crate::proofs::Fine::root_is_there))]
     pub fn root(&self) -> usize
-        ensures root { result ≡ root_number (functions_view self.now.functions.items) }
+        ensures root { result ≡ root_number (functions_of self.now) }
         ensures there { result < length self.now.functions.items }
     {
-        root_number(&self.functions)
+        root_number(&self.program.functions)
     }
 }
 
@@ -84,8 +99,7 @@ impl Checked {
 #[tactic(auto, using(crate::proofs::Least::no_answer))]
 pub fn check(alloc: Global, program: Program) -> Result<Checked, CheckStop>
     requires numbered { IsNumberedProgram (program_view program) }
-    ensures same { IfOk result (λ c. (c.header ≡ program.header) × (c.states ≡ program.states)
-        × (c.functions ≡ program.functions)) }
+    ensures same { IfOk result (λ c. c ≡ program) }
     ensures fine { OnOk result (program_faults (program_view program) ≡ []) }
     ensures taken { program_faults (program_view program) ≡ [] →
         IfErr result (λ stop. stop ≡ CheckStop.NoMemory) }
@@ -94,10 +108,6 @@ pub fn check(alloc: Global, program: Program) -> Result<Checked, CheckStop>
 {
     match least_fault(alloc, &program)? {
         Some(fault) => Err(CheckStop::ProgramFault(fault)),
-        None => Ok(Checked {
-            header: program.header,
-            states: program.states,
-            functions: program.functions,
-        }),
+        None => Ok(Checked { program }),
     }
 }

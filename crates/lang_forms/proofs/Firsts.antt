@@ -5,7 +5,7 @@ use Rattle.std.proofs.lemmas.List.{take_min, take-map}
 use Rattle.lang_ast.specs.SyntaxView.{function_view, functions_view}
 use Rattle.lang_ast.specs.declared.program.State.{State}
 use Rattle.lang_ast.specs.declared.syntax.Function.{Function}
-use Rattle.lang_limits.specs.Sizes.{most_forms}
+use Rattle.lang_ast.specs.Sizes.{most_forms}
 use Rattle.lang_forms.specs.Forms.{state_name, function_name}
 use Rattle.lang_forms.specs.Views.{state_names}
 

@@ -12,7 +12,7 @@ use Rattle.rt_values.specs.declared.value.Ty.TheVariants as ty
 use Rattle.rt_values.specs.declared.value.Value.{Value}
 use Rattle.rt_values.specs.declared.value.Value.TheVariants as value
 use Rattle.rt_values.specs.Values.{truth_text}
-use Rattle.lang_ast.specs.Terms.{Expr, Literal, Variable, Get, Apply, Exprs, none, more, Named, Stmt, Node, Call, Key, If, For, Let, Remember, Stmts, done, next, exprs, stmts}
+use Rattle.lang_ast.specs.Terms.{Expr, Literal, Variable, Get, Apply, Exprs, none, more, Named, Stmt, Node, Call, Key, If, For, Let, Remember, Stmts, done, next, exprs, stmts, operand_count}
 use Rattle.lang_ast.specs.declared.syntax.Ident.{Ident}
 use Rattle.lang_ast.specs.declared.syntax.Operator.{Operator}
 use Rattle.lang_ast.specs.declared.syntax.Operator.TheVariants as operator
@@ -20,7 +20,7 @@ use Rattle.lang_limits.specs.Tokens.{fits}
 use Rattle.lang_forms.specs.Names.{is_name, all_fit, is_string, is_list_long, number_of}
 use Rattle.lang_forms.specs.Words.{type_word, policy_word, kind_word, operator_word, takes, type_for_word, policy_for_word, kind_for_word, number_operator, truth_operator, list_operator, operator_for_word}
 use Rattle.lang_forms.specs.Sketch.{Sketch, nothing, Fits}
-use Rattle.lang_forms.specs.Forms.{numbers, literal, expr_forms, exprs_forms, pairs_forms, stmt_forms, stmts_forms, literal_fits, operand_count, KnownNames, Spelled, AllSpelled, SpelledPairs, site_after, site_after_all, SpelledStmt, SpelledStmts}
+use Rattle.lang_forms.specs.Forms.{numbers, literal, expr_forms, exprs_forms, pairs_forms, stmt_forms, stmts_forms, literal_fits, KnownNames, Spelled, AllSpelled, SpelledPairs, site_after, site_after_all, SpelledStmt, SpelledStmts}
 use Rattle.lang_forms.specs.Readings.{Seen, seen_trees, form, roles, word_of, name_of, type_of, policy_of, kind_of, operator_of, truth_of, plain_of, string_of, number_of_first, ints_of, literal_form, literal_at, literal_of, leaf_of, expr_at, expr_of, exprs_of, get_form, apply_form, expr_form, pair_form, pairs_form, stmt_at, stmts_of, block_of, binding_of, named_pairs_of, node_form, call_form, key_form, if_form, for_form, let_form, remember_form, stmt_form}
 use Rattle.lang_forms.proofs.Ints.{int-decimal, letters_no_int, decimal_no_name}
 

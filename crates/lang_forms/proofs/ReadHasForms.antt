@@ -5,12 +5,12 @@ use Rattle.std.proofs.lemmas.Option.{cond_some}
 use Rattle.sexp_text.specs.Forest.{Forest, empty, atom, text, list}
 use Rattle.rt_values.specs.declared.value.Value.{Value}
 use Rattle.rt_values.specs.declared.value.Value.TheVariants as value
-use Rattle.lang_ast.specs.Terms.{Expr, Literal, Variable, Get, Apply, Named, Stmt, If, exprs, stmts}
+use Rattle.lang_ast.specs.Terms.{Expr, Literal, Variable, Get, Apply, Named, Stmt, If, exprs, stmts, operand_count}
 use Rattle.lang_ast.specs.declared.syntax.Ident.{Ident}
 use Rattle.lang_forms.specs.Names.{is_name, number_of}
 use Rattle.lang_forms.specs.Words.{takes}
 use Rattle.lang_forms.specs.Sketch.{Sketch, nothing, Fits}
-use Rattle.lang_forms.specs.Forms.{name, expr_forms, exprs_forms, pairs_forms, stmt_forms, stmts_forms, operand_count, KnownNames, Spelled, AllSpelled, SpelledPairs, site_after, site_after_all, SpelledStmt, SpelledStmts, plain_fits}
+use Rattle.lang_forms.specs.Forms.{name, expr_forms, exprs_forms, pairs_forms, stmt_forms, stmts_forms, KnownNames, Spelled, AllSpelled, SpelledPairs, site_after, site_after_all, SpelledStmt, SpelledStmts, plain_fits}
 use Rattle.lang_forms.specs.Readings.{choose, Seen, seen_trees, is_end, word_of, name_of, plain_of, string_of, leaf_of, expr_at, expr_of, exprs_of, get_form, apply_form, expr_form, pair_form, pairs_form, pairs_of, stmts_of, block_of, node_form, call_form, key_form, if_form, for_form, let_form, remember_form, stmt_form, operator_of}
 use Rattle.lang_forms.proofs.Bindings.{node_is, for_is, let_is, remember_is}
 use Rattle.lang_forms.proofs.Found.{inject, bind_some, map_some, choose_some, Worded, word_found, name_next, operator_found, end_next, plain_found, string_found, tail}

@@ -5,6 +5,7 @@ use Rattle.std.specs.Str.{bytes_eq}
 use Rattle.std.specs.Prelude.{slice_index}
 use Rattle.std.proofs.lemmas.Bool.{and_parts, and_from, ltb-true, leb-true, le-leb, eqb-true}
 use Rattle.std.proofs.lemmas.Slice.Eq.{bytes_eq-Decides}
+use Rattle.std.specs.Char.{is_ascii_digit}
 use Rattle.rt_values.specs.Limits.{most_items}
 use Rattle.rt_values.specs.declared.value.Ty.{Ty}
 use Rattle.rt_values.specs.declared.value.Ty.TheVariants as ty
@@ -16,7 +17,7 @@ use Rattle.lang_ast.specs.declared.syntax.Operator.{Operator}
 use Rattle.lang_ast.specs.declared.syntax.Operator.TheVariants as operator
 use Rattle.lang_ast.specs.declared.syntax.Parameter.{Parameter}
 use Rattle.lang_ast.specs.declared.program.State.{State}
-use Rattle.lang_limits.specs.Tokens.{is_digit, is_counting, is_int, is_oversized_int, tree_count}
+use Rattle.lang_limits.specs.Tokens.{is_counting, is_int, is_oversized_int, tree_count}
 use Rattle.lang_limits.specs.Clamped.{nearest_int, clamped_atom, clamped_string, are_ints, is_oversized_ints, first_trees, clamped_list, within}
 use Rattle.lang_ast.specs.declared.script.SnapshotRef.{SnapshotRef}
 use Rattle.lang_ast.specs.declared.script.SnapshotRef.TheVariants.{Global, Named as NamedSnapshot}
@@ -305,8 +306,8 @@ int_no_letter (b ∷ bs) h = by (b == 45) refl h
   where
     counting : is_counting (b ∷ bs) ≡ true → is_letter b ≡ false
     counting k =
-        let p = and_parts (is_digit b && not (b == 48)) (list_all is_digit bs) k in
-        let q = and_parts (is_digit b) (not (b == 48)) p.0 in
+        let p = and_parts (is_ascii_digit b && not (b == 48)) (list_all is_ascii_digit bs) k in
+        let q = and_parts (is_ascii_digit b) (not (b == 48)) p.0 in
         let r = and_parts (nat_le 48 b) (nat_le b 57) q.0 in
         digit_no_letter b (leb-true 48 b r.0) (leb-true b 57 r.1)
 

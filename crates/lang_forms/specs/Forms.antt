@@ -1,11 +1,11 @@
 -- Trusted: the forms of a program and a script, that is the trees of each part and what the parts may be. Keywords
 -- have no offset of their own in a program, nor have lists of pairs, of parameters or of a branch.
-use Rattle.std.specs.Prelude.{◌≡◌, ℕ, suc, ◌+◌, ◌&&◌, List, [], ◌∷◌, ◌++◌, length, map, Option, Some, None, Bool, true, false, codes, ℤ}
+use Rattle.std.specs.Prelude.{◌≡◌, ℕ, ◌+◌, ◌&&◌, List, [], ◌∷◌, ◌++◌, length, map, Option, Some, None, Bool, true, false, codes, ℤ}
 use Rattle.sexp_text.specs.Forest.{Forest}
 use Rattle.rt_values.specs.Values.{truth_text}
 use Rattle.rt_values.specs.declared.value.Value.{Value}
 use Rattle.rt_values.specs.declared.value.Value.TheVariants as value
-use Rattle.lang_ast.specs.Terms.{Expr, Literal, Variable, Get, Apply, Exprs, none, more, Named, Stmt, Node, Call, Key, If, For, Let, Remember, Stmts, done, next, Func}
+use Rattle.lang_ast.specs.Terms.{Expr, Literal, Variable, Get, Apply, Exprs, none, more, Named, Stmt, Node, Call, Key, If, For, Let, Remember, Stmts, done, next, Func, operand_count}
 use Rattle.lang_ast.specs.declared.syntax.Ident.{Ident}
 use Rattle.lang_ast.specs.declared.syntax.Parameter.{Parameter}
 use Rattle.lang_ast.specs.declared.program.State.{State}
@@ -187,10 +187,6 @@ plain_fits (value.Int z) = fits z
 plain_fits (value.Bool b) = true
 plain_fits (value.Text cs) = is_string cs
 plain_fits (value.Ints zs) = false
-
-abbrev pub operand_count : Exprs → ℕ
-operand_count none = 0
-operand_count (more e es) = suc (operand_count es)
 
 -- The names of the states, and of the functions before a form.
 pub record KnownNames : Type 0 where

@@ -3,7 +3,7 @@ use Rattle.std.specs.Prelude.{ℕ, suc, ◌&&◌, ◌==◌, ◌||◌, not, nat_l
 use Rattle.std.specs.List.{list_all}
 use Rattle.std.specs.Str.{bytes_eq, is_utf8}
 use Rattle.rt_values.specs.Limits.{most_bytes, most_items}
-use Rattle.lang_limits.specs.Sizes.{most_forms}
+use Rattle.lang_ast.specs.Sizes.{most_forms}
 use Rattle.lang_limits.specs.Tokens.{fits}
 
 abbrev pub is_letter : ℕ → Bool

@@ -87,21 +87,20 @@ fn parse_clamped_text(
 
 // Returns the parsed text, or the first offset of its program that exceeds a limit. The clauses
 // hold for all trees with these limits, since only the least offset counts.
-#[tactic(auto, using(lang_limits::proofs::Lesser::least_append))]
+#[tactic(auto, using(lang_limits::proofs::Lesser::least_append, lang_limits::proofs::Lesser::none_exceeds))]
 fn unless_beyond(front: PartialSource, limits: TokenLimits) -> Result<(Program, Rest), FormStop>
     ensures read { (f : Forest) → limits.program ≡ least (beyond (program_trees f)) →
         Answers parsed_source_view result (parsed_answer f (Ok (source (partial_source_view front)))) }
     ensures beyond { IfOk result (λ r. r.1.first_oversized ≡ limits.script) }
 {
-    let program = Program {
-        header: front.header,
-        states: front.states,
-        functions: front.functions,
-    };
-    match size_limit(&program, limits.program) {
+    match size_limit(&front.states, &front.functions, limits.program) {
         Some(at) => Err(FormStop::Limit { at }),
         None => Ok((
-            program,
+            Program {
+                header: front.header,
+                states: front.states,
+                functions: front.functions,
+            },
             Rest {
                 forms: front.script,
                 first_oversized: limits.script,

@@ -5,7 +5,7 @@ use Rattle.sexp_text.specs.View.{tree_view, forest_view}
 use Rattle.sexp_text.specs.declared.tree.Tree.{Tree}
 use Rattle.sexp_text.proofs.Trees.{behind-empty, behind_assoc, forest_view-push, OneTree, one_atom, one_text, one_list, one_tree, view-Atom, view-Text, view-List}
 use Rattle.lang_limits.specs.Laws.{WithinStays}
-use Rattle.lang_limits.specs.LeastOffset.{offset_if}
+use Rattle.lang_ast.specs.Sizes.{offset_if}
 use Rattle.lang_limits.specs.Tokens.{is_int, is_oversized_int, is_oversized_atom, is_oversized_string, is_oversized_list, beyond, is_do, program_trees, script_trees}
 use Rattle.lang_limits.specs.Clamped.{clamped_atom, clamped_string, are_ints, first_trees, clamped_list, within}
 use Rattle.lang_limits.proofs.Walks.{view_drop}

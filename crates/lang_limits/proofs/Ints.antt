@@ -10,19 +10,20 @@ use Rattle.std.proofs.lemmas.Bool.{and_parts, leb-true, ltb-true, lt-ltb, ne_eqb
 use Rattle.std.proofs.lemmas.Int.{ints}
 use Rattle.std.proofs.lemmas.Slice.Eq.{bytes_eq-Decides}
 use Rattle.std.proofs.lemmas.Str.{IsUtf8-from_ascii, digit_value_digit}
-use Rattle.lang_limits.specs.Tokens.{fits, is_digit, is_counting, is_int}
+use Rattle.std.specs.Char.{is_ascii_digit}
+use Rattle.lang_limits.specs.Tokens.{fits, is_counting, is_int}
 
 pub fits-true : (z : ℤ) → fits z ≡ true → FitsSigned w64 z
 fits-true (pos n) h = let lt : n < 2 ^ 63 = ltb-true n (2 ^ 63) h in omega (arith, ints)
 fits-true (negsuc n) h = let lt : n < 2 ^ 63 = ltb-true n (2 ^ 63) h in omega (arith, ints)
 
-digit_of : (b : ℕ) → is_digit b ≡ true → IsInRange 48 57 b
+digit_of : (b : ℕ) → is_ascii_digit b ≡ true → IsInRange 48 57 b
 digit_of b h = let p = and_parts (nat_le 48 b) (nat_le b 57) h in (leb-true 48 b p.0, leb-true b 57 p.1)
 
-digits : (bs : List ℕ) → list_all is_digit bs ≡ true → AllDigits 10 bs
+digits : (bs : List ℕ) → list_all is_ascii_digit bs ≡ true → AllDigits 10 bs
 digits [] h = tt
 digits (b ∷ bs) h =
-    let p = and_parts (is_digit b) (list_all is_digit bs) h in
+    let p = and_parts (is_ascii_digit b) (list_all is_ascii_digit bs) h in
     let range = digit_of b p.0 in
     (omega (arith, digit_value_digit b range, range.0, range.1), digits bs p.1)
 
@@ -30,21 +31,21 @@ digits (b ∷ bs) h =
 counting : (bs : List ℕ) → is_counting bs ≡ true → IsNumeral 10 bs
 counting [] h = absurd (cc)
 counting (b ∷ bs) h =
-    let p = and_parts (is_digit b && not (b == 48)) (list_all is_digit bs) h in
-    let q = and_parts (is_digit b) (not (b == 48)) p.0 in
+    let p = and_parts (is_ascii_digit b && not (b == 48)) (list_all is_ascii_digit bs) h in
+    let q = and_parts (is_ascii_digit b) (not (b == 48)) p.0 in
     let range = digit_of b q.0 in
     (omega arith, (omega (arith, digit_value_digit b range, range.0, range.1), digits bs p.1))
 
-digits_ascii : (bs : List ℕ) → list_all is_digit bs ≡ true → IsAscii bs
+digits_ascii : (bs : List ℕ) → list_all is_ascii_digit bs ≡ true → IsAscii bs
 digits_ascii [] h i = omega arith
-digits_ascii (b ∷ bs) h zero = let p = and_parts (is_digit b) (list_all is_digit bs) h in omega (arith, (digit_of b p.0).1)
-digits_ascii (b ∷ bs) h (suc i) = let p = and_parts (is_digit b) (list_all is_digit bs) h in digits_ascii bs p.1 i
+digits_ascii (b ∷ bs) h zero = let p = and_parts (is_ascii_digit b) (list_all is_ascii_digit bs) h in omega (arith, (digit_of b p.0).1)
+digits_ascii (b ∷ bs) h (suc i) = let p = and_parts (is_ascii_digit b) (list_all is_ascii_digit bs) h in digits_ascii bs p.1 i
 
-counting_digits : (bs : List ℕ) → is_counting bs ≡ true → list_all is_digit bs ≡ true
+counting_digits : (bs : List ℕ) → is_counting bs ≡ true → list_all is_ascii_digit bs ≡ true
 counting_digits [] h = refl
 counting_digits (b ∷ bs) h =
-    let p = and_parts (is_digit b && not (b == 48)) (list_all is_digit bs) h in
-    let q = and_parts (is_digit b) (not (b == 48)) p.0 in
+    let p = and_parts (is_ascii_digit b && not (b == 48)) (list_all is_ascii_digit bs) h in
+    let q = and_parts (is_ascii_digit b) (not (b == 48)) p.0 in
     rw (q.0, p.1) refl
 
 -- a number after its sign, if it has one
@@ -52,14 +53,14 @@ data Written : List ℕ → Type 0 where
   negative : (bs : List ℕ) → IsNumeral 10 bs → IsAscii bs → Written (45 ∷ bs)
   plain : (b : ℕ) (bs : List ℕ) → b ≢ 45 → b ≢ 43 → IsNumeral 10 (b ∷ bs) → IsAscii (b ∷ bs) → Written (b ∷ bs)
 
-plain_one : (b : ℕ) (bs : List ℕ) → b ≢ 45 → list_all is_digit (b ∷ bs) ≡ true → Written (b ∷ bs)
+plain_one : (b : ℕ) (bs : List ℕ) → b ≢ 45 → list_all is_ascii_digit (b ∷ bs) ≡ true → Written (b ∷ bs)
 plain_one b bs ne h =
-    let p = and_parts (is_digit b) (list_all is_digit bs) h in
+    let p = and_parts (is_ascii_digit b) (list_all is_ascii_digit bs) h in
     let range = digit_of b p.0 in
     plain b bs ne (λ e. omega (arith, range.0)) (omega arith, digits (b ∷ bs) h) (digits_ascii (b ∷ bs) h)
 
-zero_digits : (a : List ℕ) → bytes_eq a (codes "0") ≡ true → list_all is_digit a ≡ true
-zero_digits a h = ap (list_all is_digit) ((bytes_eq-Decides a (codes "0")).0 h)
+zero_digits : (a : List ℕ) → bytes_eq a (codes "0") ≡ true → list_all is_ascii_digit a ≡ true
+zero_digits a h = ap (list_all is_ascii_digit) ((bytes_eq-Decides a (codes "0")).0 h)
 
 written : (a : List ℕ) → is_int a ≡ true → Written a
 written [] h = absurd (cc)

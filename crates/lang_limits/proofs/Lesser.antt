@@ -1,5 +1,5 @@
 -- The least offset of several lists.
-use Rattle.std.proofs.Common.{arith, ◌≡◌, ◌⊎◌, ◌≤◌, ℕ, inl, inr, suc, min, All, Contains, nat_lt, List, [], ◌∷◌, ◌++◌, Option, Some, false, refl}
+use Rattle.std.proofs.Common.{arith, ◌≡◌, ◌⊎◌, ◌≤◌, ℕ, inl, inr, suc, min, All, Contains, nat_lt, List, [], ◌∷◌, ◌++◌, Option, Some, None, false, refl}
 use Rattle.std.proofs.lemmas.Bool.Decides.{nat_tests}
 use Rattle.std.proofs.lemmas.List.Elements.{All-cons, All-nil}
 use Rattle.lang_limits.specs.LeastOffset.{lesser_offset, least_offset_from}
@@ -58,3 +58,9 @@ kept (p ∷ ps) at = kept ps (min at p)
 pub no_least : NoLeastNoPlace
 no_least [] h = refl
 no_least (p ∷ ps) h = let k = kept ps p in absurd (cc (k.1))
+
+-- No least offset of further ones, so there are none.
+pub none_exceeds : (o : Option ℕ) (places : List ℕ) → least_offset_from o places ≡ None → places ≡ []
+none_exceeds o [] h = refl
+none_exceeds None (p ∷ ps) h = let k = kept ps p in absurd (cc (k.1))
+none_exceeds (Some at) (p ∷ ps) h = let k = kept ps (min at p) in absurd (cc (k.1))

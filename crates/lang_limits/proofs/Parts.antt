@@ -4,15 +4,16 @@ use Rattle.std.proofs.lemmas.Bool.{lt-ltb, leb-true, leb-false}
 use Rattle.std.proofs.lemmas.List.{append-nil, length-map}
 use Rattle.std.proofs.lemmas.Option.{slice_get-map}
 use Rattle.lang_ast.proofs.Views.{view-Literal, view-Variable, view-Get, view-Apply, view-Node, view-Call, view-Key, view-If, view-For, view-Let, view-Remember}
-use Rattle.lang_ast.specs.Terms.{Stmt, Node, Call, Key, If, For, Let, Remember, Stmts, done, next}
+use Rattle.lang_ast.specs.Terms.{Stmt, Node, Call, Key, If, For, Let, Remember, Stmts, done, next, operand_count}
 use Rattle.lang_ast.specs.SyntaxView.{expr_view, exprs_view, nameds_view, stmt_view, stmts_view, function_view, functions_view}
 use Rattle.lang_ast.specs.declared.program.State.{State}
 use Rattle.lang_ast.specs.declared.syntax.Expression.{Expression}
 use Rattle.lang_ast.specs.declared.syntax.Statement.{Statement}
 use Rattle.lang_ast.specs.declared.syntax.Function.{Function}
+use Rattle.lang_ast.specs.declared.syntax.Parameter.{Parameter}
 use Rattle.lang_ast.specs.declared.syntax.Named as named
-use Rattle.lang_limits.specs.LeastOffset.{offset_if, least_offset_from}
-use Rattle.lang_limits.specs.Sizes.{most_parts, nesting, deepest, expr_sizes, exprs_sizes, named_sizes, stmt_sizes, stmts_sizes, function_sizes, functions_sizes, state_place, function_place}
+use Rattle.lang_limits.specs.LeastOffset.{least_offset_from}
+use Rattle.lang_ast.specs.Sizes.{most_parts, nesting, deepest, name_sizes, expr_lengths, exprs_lengths, expr_sizes, exprs_sizes, named_sizes, stmt_sizes, stmts_sizes, parameters_sizes, function_sizes, functions_sizes, states_sizes, state_place, function_place, offset_if}
 use Rattle.lang_limits.proofs.Lesser.{least_append}
 
 -- the view of each form in memory, and the least of one list after another
@@ -32,11 +33,36 @@ exprs_step es i e o h is =
     ap (λ (l : List Expression). least_offset_from o (exprs_sizes (exprs_view l))) (drop_item es i e h is)
     ∙ least_append o (expr_sizes (expr_view e)) (exprs_sizes (exprs_view (drop (i + 1) es)))
 
+pub lengths_step : (es : List Expression) (i : ℕ) (e : Expression) (o : Option ℕ) → i < length es → e ≡ get_or es i e →
+    least_offset_from o (exprs_lengths (exprs_view (drop i es))) ≡ least_offset_from (least_offset_from o (expr_lengths (expr_view e))) (exprs_lengths (exprs_view (drop (i + 1) es)))
+lengths_step es i e o h is =
+    ap (λ (l : List Expression). least_offset_from o (exprs_lengths (exprs_view l))) (drop_item es i e h is)
+    ∙ least_append o (expr_lengths (expr_view e)) (exprs_lengths (exprs_view (drop (i + 1) es)))
+
+-- The number of operands in memory.
+pub operands_counted : (es : List Expression) → operand_count (exprs_view es) ≡ length es
+operands_counted [] = refl
+operands_counted (e ∷ es) = ap suc (operands_counted es)
+
+pub parameters_step : (ps : List Parameter) (i : ℕ) (p : Parameter) (o : Option ℕ) → i < length ps → p ≡ get_or ps i p →
+    least_offset_from o (parameters_sizes (drop i ps)) ≡ least_offset_from (least_offset_from o (name_sizes p.name)) (parameters_sizes (drop (i + 1) ps))
+parameters_step ps i p o h is =
+    ap (λ (l : List Parameter). least_offset_from o (parameters_sizes l)) (drop_item ps i p h is)
+    ∙ least_append o (name_sizes p.name) (parameters_sizes (drop (i + 1) ps))
+
+pub states_step : (ss : List State) (i : ℕ) (s : State) (o : Option ℕ) → i < length ss → s ≡ get_or ss i s →
+    least_offset_from o (states_sizes (drop i ss)) ≡ least_offset_from (least_offset_from o (name_sizes s.name)) (states_sizes (drop (i + 1) ss))
+states_step ss i s o h is =
+    ap (λ (l : List State). least_offset_from o (states_sizes l)) (drop_item ss i s h is)
+    ∙ least_append o (name_sizes s.name) (states_sizes (drop (i + 1) ss))
+
 pub named_step : (ns : List named.Named) (i : ℕ) (n : named.Named) (o : Option ℕ) → i < length ns → n ≡ get_or ns i n →
-    least_offset_from o (named_sizes (nameds_view (drop i ns))) ≡ least_offset_from (least_offset_from o (expr_sizes (expr_view n.value))) (named_sizes (nameds_view (drop (i + 1) ns)))
+    least_offset_from o (named_sizes (nameds_view (drop i ns)))
+    ≡ least_offset_from (least_offset_from (least_offset_from o (name_sizes n.name)) (expr_sizes (expr_view n.value))) (named_sizes (nameds_view (drop (i + 1) ns)))
 named_step ns i n o h is =
     ap (λ (l : List named.Named). least_offset_from o (named_sizes (nameds_view l))) (drop_item ns i n h is)
-    ∙ least_append o (expr_sizes (expr_view n.value)) (named_sizes (nameds_view (drop (i + 1) ns)))
+    ∙ least_append o (name_sizes n.name ++ expr_sizes (expr_view n.value)) (named_sizes (nameds_view (drop (i + 1) ns)))
+    ∙ ap (λ (p : Option ℕ). least_offset_from p (named_sizes (nameds_view (drop (i + 1) ns)))) (least_append o (name_sizes n.name) (expr_sizes (expr_view n.value)))
 
 pub stmts_step : (d : ℕ) (ss : List Statement) (i : ℕ) (s : Statement) (o : Option ℕ) → i < length ss → s ≡ get_or ss i s →
     least_offset_from o (stmts_sizes d (stmts_view (drop i ss))) ≡ least_offset_from (least_offset_from o (stmt_sizes d (stmt_view s))) (stmts_sizes d (stmts_view (drop (i + 1) ss)))

@@ -5,7 +5,8 @@ use Rattle.sexp_text.specs.Forest.{Forest, empty, atom, text, list, behind}
 use Rattle.sexp_text.specs.View.{tree_view, forest_view}
 use Rattle.sexp_text.specs.declared.tree.Tree.{Tree}
 use Rattle.sexp_text.proofs.Trees.{OneTree, one_atom, one_text, one_list, one_tree, view-Atom, view-Text, view-List}
-use Rattle.lang_limits.specs.LeastOffset.{offset_if, least_offset_from}
+use Rattle.lang_limits.specs.LeastOffset.{least_offset_from}
+use Rattle.lang_ast.specs.Sizes.{offset_if}
 use Rattle.lang_limits.specs.Tokens.{tree_count, is_oversized_atom, is_oversized_string, beyond, is_script, program_trees, script_trees}
 use Rattle.lang_limits.proofs.Lesser.{least_append}
 

@@ -1,9 +1,5 @@
 -- Trusted: the least of several offsets.
-use Rattle.std.specs.Prelude.{ℕ, min, List, [], ◌∷◌, Bool, Option, Some, None, if◌then◌else◌}
-
--- The offset, if something exceeds a limit there.
-abbrev pub offset_if : Bool → ℕ → List ℕ
-offset_if is_over at = if is_over then at ∷ [] else []
+use Rattle.std.specs.Prelude.{ℕ, min, List, [], ◌∷◌, Option, Some, None}
 
 -- The lesser of an offset, if there is one, and a further offset.
 abbrev pub lesser_offset : Option ℕ → ℕ → Option ℕ

@@ -1,28 +1,22 @@
 -- Trusted: names, numbers, strings and lists of numbers that exceed their limits.
-use Rattle.std.specs.Prelude.{ℕ, suc, ◌^◌, ◌==◌, ◌&&◌, ◌||◌, not, nat_le, nat_lt, List, [], ◌∷◌, ◌++◌, length, Bool, false, codes, ℤ, pos, negsuc, if◌then◌else◌}
+use Rattle.std.specs.Prelude.{ℕ, suc, ◌^◌, ◌==◌, ◌&&◌, ◌||◌, not, nat_lt, List, [], ◌∷◌, ◌++◌, length, Bool, false, codes, ℤ, pos, negsuc, if◌then◌else◌}
 use Rattle.std.specs.List.{list_all}
+use Rattle.std.specs.Char.{is_ascii_digit}
 use Rattle.std.specs.Str.{bytes_eq}
 use Rattle.std.specs.Str.Parse.{signed_digits_value}
 use Rattle.sexp_text.specs.Forest.{Forest, empty, atom, text, list}
 use Rattle.rt_values.specs.Limits.{most_bytes, most_items}
-use Rattle.lang_limits.specs.LeastOffset.{offset_if}
-
--- The most bytes of a name.
-abbrev pub most_name_bytes : ℕ
-most_name_bytes = 64
+use Rattle.lang_ast.specs.Sizes.{offset_if, most_name_bytes}
 
 -- Whether a number fits into 64 bits with a sign.
 abbrev pub fits : ℤ → Bool
 fits (pos n) = nat_lt n (2 ^ 63)
 fits (negsuc n) = nat_lt n (2 ^ 63)
 
-abbrev pub is_digit : ℕ → Bool
-is_digit b = nat_le 48 b && nat_le b 57
-
 -- Digits, the first of which is not 0.
 abbrev pub is_counting : List ℕ → Bool
 is_counting [] = false
-is_counting (b ∷ bs) = is_digit b && not (b == 48) && list_all is_digit bs
+is_counting (b ∷ bs) = is_ascii_digit b && not (b == 48) && list_all is_ascii_digit bs
 
 -- A number of the notation: 0, or digits that do not begin with 0, with or without a `-` before them.
 abbrev pub is_int : List ℕ → Bool

@@ -1,6 +1,7 @@
 // The least of several offsets.
 ghost use Rattle.std.specs.Prelude.{◌≡◌};
-ghost use Rattle.lang_limits.specs.LeastOffset.{offset_if, least_offset_from};
+ghost use Rattle.lang_limits.specs.LeastOffset.{least_offset_from};
+ghost use Rattle.lang_ast.specs.Sizes.{offset_if};
 
 /// Returns the lesser of `least` and `at` if `is_over`, and else `least`.
 pub fn note(is_over: bool, at: usize, least: Option<usize>) -> Option<usize>

@@ -12,6 +12,7 @@
 mod clamping;
 mod laws;
 mod least;
+mod lengths;
 mod numbers;
 mod sizes;
 mod tokens;

@@ -1,21 +1,15 @@
 // Numbers in decimals, and those that do not fit into 64 bits.
 ghost use Rattle.std.specs.Prelude.{◌≡◌, true};
+ghost use Rattle.std.specs.Char.{is_ascii_digit};
 ghost use Rattle.std.specs.List.{list_all};
 ghost use Rattle.std.specs.Str.Parse.{signed_digits_value};
-ghost use Rattle.lang_limits.specs.Tokens.{fits, is_digit, is_counting, is_int, is_oversized_int};
-
-// Whether a byte is a digit.
-fn is_digit(b: u8) -> bool
-    ensures { result ≡ is_digit b }
-{
-    b'0' <= b && b <= b'9'
-}
+ghost use Rattle.lang_limits.specs.Tokens.{fits, is_counting, is_int, is_oversized_int};
 
 // Whether all bytes are digits.
 fn are_digits(bytes: &[u8]) -> bool
-    ensures { result ≡ list_all is_digit bytes.now }
+    ensures { result ≡ list_all is_ascii_digit bytes.now }
 {
-    bytes.iter().all(|b| is_digit(*b))
+    bytes.iter().all(|b| b.is_ascii_digit())
 }
 
 // Whether the bytes are digits, the first of which is not 0.
@@ -24,7 +18,7 @@ fn is_counting(bytes: &[u8]) -> bool
 {
     match bytes.split_first() {
         None => false,
-        Some((first, rest)) => is_digit(*first) && *first != b'0' && are_digits(rest),
+        Some((first, rest)) => first.is_ascii_digit() && *first != b'0' && are_digits(rest),
     }
 }
 

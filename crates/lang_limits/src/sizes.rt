@@ -1,13 +1,13 @@
-// The parts of a program that are too many or nested too deep.
+// The parts of a program that are too many, too long or nested too deep.
 ghost use Rattle.std.specs.Prelude.{◌≡◌, ◌+◌, ◌++◌, nat_lt, map, length};
 ghost use Rattle.lang_ast.specs.SyntaxView.{expr_view, exprs_view, nameds_view, stmt_view, stmts_view, function_view, functions_view};
-ghost use Rattle.lang_ast.specs.Programs.{program_view};
 ghost use Rattle.lang_ast.specs.declared.syntax.Function.{Function as function_data};
-ghost use Rattle.lang_limits.specs.LeastOffset.{offset_if, least_offset_from};
-ghost use Rattle.lang_limits.specs.Sizes.{most_parts, nesting, deepest, expr_sizes, exprs_sizes, named_sizes, stmt_sizes, stmts_sizes, function_sizes, functions_sizes, first_excess, state_place, program_sizes};
+ghost use Rattle.lang_limits.specs.LeastOffset.{least_offset_from};
+ghost use Rattle.lang_ast.specs.Sizes.{most_parts, nesting, deepest, expr_sizes, exprs_sizes, named_sizes, stmt_sizes, stmts_sizes, function_sizes, functions_sizes, first_excess, state_place, oversized_parts, offset_if};
 
 use crate::least::note;
-use lang_ast::{Expression, Function, Named, Program, State, Statement};
+use crate::lengths::{lengths, name, parameter_names, state_names};
+use lang_ast::{Expression, Function, Named, State, Statement};
 
 /// The most states of a program, and the most functions. A rule of this project.
 pub const MOST_FORMS: usize = 256;
@@ -47,14 +47,16 @@ fn has_deeper(most: usize, es: &[Expression]) -> bool
     false
 }
 
-// Updates `least` with the offset of an outermost expression if it nests too deep.
+// Updates `least` with the offset of an outermost expression if it nests too deep, and with those of what is too long in
+// it.
+#[tactic(auto, using(crate::proofs::Parts::parts))]
 fn expression(e: &Expression, least: Option<usize>) -> Option<usize>
     ensures { result ≡ least_offset_from least (expr_sizes (expr_view e.now)) }
 {
-    note(is_deeper(MOST_NESTING, e), e.place(), least)
+    lengths(e, note(is_deeper(MOST_NESTING, e), e.place(), least))
 }
 
-// Updates `least` with the offsets of the outermost expressions that nest too deep.
+// Updates `least` with the oversized parts of expressions.
 #[tactic(auto, using(crate::proofs::Parts::exprs_step))]
 fn expressions(es: &[Expression], least: Option<usize>) -> Option<usize>
     ensures { result ≡ least_offset_from least (exprs_sizes (exprs_view es.now)) }
@@ -66,14 +68,14 @@ fn expressions(es: &[Expression], least: Option<usize>) -> Option<usize>
     least
 }
 
-// Updates `least` with the offsets of the named expressions that nest too deep.
+// Updates `least` with the oversized parts of named expressions.
 #[tactic(auto, using(crate::proofs::Parts::named_step))]
 fn values(all: &[Named], least: Option<usize>) -> Option<usize>
     ensures { result ≡ least_offset_from least (named_sizes (nameds_view all.now)) }
 {
     let mut least = least;
     for named in all {
-        least = expression(&named.value, least);
+        least = expression(&named.value, name(&named.name, least));
     }
     least
 }
@@ -87,13 +89,20 @@ fn statement(depth: usize, s: &Statement, least: Option<usize>) -> Option<usize>
     match s {
         Statement::Node {
             at,
+            kind,
             attributes,
             body,
             ..
-        } => node(depth, *at, attributes, body, least),
-        Statement::Call { at, arguments, .. } => {
-            expressions(arguments, note(depth > MOST_PARTS, *at, least))
-        }
+        } => node(depth, *at, attributes, body, name(kind, least)),
+        Statement::Call {
+            at,
+            name: callee,
+            arguments,
+            ..
+        } => expressions(
+            arguments,
+            note(depth > MOST_PARTS, *at, name(callee, least)),
+        ),
         Statement::Key { at, key, body, .. } => block(depth, *at, key, body, least),
         Statement::If {
             at,
@@ -102,20 +111,28 @@ fn statement(depth: usize, s: &Statement, least: Option<usize>) -> Option<usize>
             else_branch,
             ..
         } => if_in(depth, *at, condition, then_branch, else_branch, least),
-        Statement::For { at, list, body, .. } => block(depth, *at, list, body, least),
+        Statement::For {
+            at,
+            name: variable,
+            list,
+            body,
+            ..
+        } => block(depth, *at, list, body, name(variable, least)),
         Statement::Let {
             at,
+            name: variable,
             value,
             body,
             ..
-        } => block(depth, *at, value, body, least),
+        } => block(depth, *at, value, body, name(variable, least)),
         Statement::Remember {
             at,
+            name: variable,
             keys,
             value,
             body,
             ..
-        } => remember(depth, *at, keys, value, body, least),
+        } => remember(depth, *at, keys, value, body, name(variable, least)),
     }
 }
 
@@ -228,6 +245,8 @@ fn statements(depth: usize, body: &[Statement], least: Option<usize>) -> Option<
 fn function(function: &Function, least: Option<usize>) -> Option<usize>
     ensures { result ≡ least_offset_from least (function_sizes (function_view function.now)) }
 {
+    let least = name(&function.name, least);
+    let least = parameter_names(&function.parameters, least);
     let least = note(function.parameters.len() > MOST_PARTS, function.at, least);
     statements(1, &function.body, least)
 }
@@ -267,15 +286,15 @@ fn functions_too_many(functions: &[Function], least: Option<usize>) -> Option<us
     }
 }
 
-/// Returns the least of `least` and the offsets of a program's oversized parts.
+/// Returns the least of `least` and the offsets of the oversized parts of a program with these states and functions.
 ///
-/// Those are too many states, functions, parameters, attributes or keys, and expressions or
-/// statements that nest too deep. A rule of this project.
+/// Those are too many states, functions, parameters, attributes or keys, names that are too long, lists of too many numbers,
+/// and expressions or statements that nest too deep. A rule of this project.
 #[tactic(auto, using(crate::proofs::Parts::parts, crate::proofs::Parts::function_places))]
-pub fn size_limit(program: &Program, least: Option<usize>) -> Option<usize>
-    ensures { result ≡ least_offset_from least (program_sizes (program_view program.now)) }
+pub fn size_limit(states: &[State], all: &[Function], least: Option<usize>) -> Option<usize>
+    ensures { result ≡ least_offset_from least (oversized_parts states.now (functions_view all.now)) }
 {
-    let least = states_too_many(&program.states, least);
-    let least = functions_too_many(&program.functions, least);
-    functions(&program.functions, least)
+    let least = states_too_many(states, least);
+    let least = functions_too_many(all, least);
+    functions(all, state_names(states, least))
 }

@@ -5,12 +5,10 @@ ghost use Rattle.lang_limits.specs.LeastOffset.{least_offset_from, least};
 ghost use Rattle.lang_limits.specs.Tokens.{is_oversized_atom, is_oversized_string, is_oversized_list, is_do, is_script, beyond, program_trees, script_trees, oversized_script_offsets};
 
 use crate::least::note;
+use crate::lengths::MOST_NAME_BYTES;
 use crate::numbers::is_oversized_int;
 use rt_values::{IntList, Txt};
 use sexp_text::Tree;
-
-// The most bytes of a name.
-const MOST_NAME_BYTES: usize = 64;
 
 /// The offsets of the first oversized tokens of the program and of the script.
 #[derive(Clone, Copy, Debug, PartialEq, Eq)]

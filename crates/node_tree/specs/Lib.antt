@@ -1,6 +1,7 @@
 pub mod NodeTrees
 pub mod Calls
 pub mod Placing
+pub mod FrameOps
 pub mod Premises
 pub mod KeptNodes
 pub mod StoredTree

@@ -2,22 +2,18 @@
 ghost use Rattle.std.specs.Prelude.{◌≡◌, ◌++◌, List, false};
 ghost use Rattle.snap_api.specs.declared.data.Entry.{Entry as entry_data};
 
+use play_run::is_dispose;
 use rt_values::Name;
-use snap_api::{Entry, Request};
-
-// Checks whether a request disposes the snapshot `name`.
-fn disposes(request: &Request, name: Name) -> bool {
-    match request {
-        Request::Dispose { name: disposed } => name == *disposed,
-        _ => false,
-    }
-}
+use snap_api::Entry;
 
 // Ends a history before its first dispose of the snapshot `name`.
 fn cut_before(calls: &mut Vec<Entry>, name: Name)
     ensures { (more : List entry_data) × (calls.new.items ++ more ≡ calls.old.items) }
 {
-    if let Some(kept) = calls.iter().position(|call| disposes(&call.request, name)) {
+    if let Some(kept) = calls
+        .iter()
+        .position(|call| is_dispose(&call.request, name))
+    {
         calls.truncate(kept);
     }
 }

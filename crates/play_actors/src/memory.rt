@@ -1,19 +1,17 @@
 // What an actor keeps between its calls.
 ghost use Rattle.std.specs.Prelude.{◌≡◌, IfOk, OnOk};
-ghost use Rattle.script_lang.specs.StepCalls.{Notes, no_notes, request_of, notes_after, number_taken, value_read, frame_begun, sum_request};
+ghost use Rattle.script_lang.specs.StepCalls.{Notes, no_notes, request_of, notes_after, value_read, frame_begun, sum_request};
 ghost use Rattle.play_actors.specs.ActorNotes.{IsNoted, part_of};
 
 use crate::parts::StepPart;
 use lang_checks::Checked;
+use play_run::{WATCHER, number_taken};
 use recomposer::Composition;
 use rt_values::operators::add;
-use rt_values::{Name, NoMemory, ObjectNo, Value, WatcherNo};
-use script_lang::{NEVER_TAKEN, NameTable};
+use rt_values::{Name, NoMemory, ObjectNo, Value};
+use script_lang::NameTable;
 use snap_api::{Reply, Request};
 use std::alloc::Global;
-
-// The number of the one watcher of frames.
-const WATCHER: WatcherNo = 0;
 
 /// What an actor keeps between its calls: the composition, the numbers of its snapshot names, the value of the last
 /// read if it was not refused, and the snapshot of the open frame.
@@ -23,16 +21,6 @@ pub struct ActorMemory<'p> {
     names: NameTable,
     value: Option<Value>,
     pub(crate) frame: Option<Name>,
-}
-
-// Returns the number of the snapshot that a take gave, or a number that no snapshot has.
-fn number_taken(reply: &Reply) -> Name
-    ensures { result ≡ number_taken reply.now }
-{
-    match reply {
-        Reply::Taken(name) => *name,
-        _ => NEVER_TAKEN,
-    }
 }
 
 // Returns the value that a read gave.

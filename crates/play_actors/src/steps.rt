@@ -1,7 +1,7 @@
 // The steps of an actor, one after the other.
 ghost use Rattle.std.specs.Prelude.{◌≡◌, ◌∷◌, [], ℕ, None};
 ghost use Rattle.snap_shared.specs.Seats.{number_of, IsNewSeat};
-ghost use Rattle.script_lang.specs.Scripts.{written_out, times_of, repeated_steps};
+ghost use Rattle.script_lang.specs.Scripts.{written_out, repeated_steps};
 ghost use Rattle.script_lang.specs.StepCalls.{step_parts, steps_parts, script_parts};
 ghost use Rattle.woven_laws.specs.Woven.{actor_parts};
 ghost use Rattle.play_actors.specs.ActorSteps.{by_actor, IsSeated, Makes, ActsThrough};
@@ -10,7 +10,7 @@ use crate::frames::run_frame;
 use crate::memory::ActorMemory;
 use crate::worker::{ActorRun, Worker, run_call};
 use lang_ast::{DoForm, ScriptForm, StepForm};
-use play_run::Job;
+use play_run::{Job, times_of};
 use rt_streams::Gate;
 use rt_values::{Name, Word};
 use script_lang::{Script, index_of};
@@ -58,13 +58,6 @@ fn run_steps<'p, V: Versions<P = BuiltIn> + Drop, R: Wait, G: Gate>(
         rest = more;
     }
     worker
-}
-
-// Returns how often the steps of a repeat are made.
-fn times_of(times: i64) -> u64
-    ensures { result ≡ times_of times }
-{
-    if times < 0 { 0 } else { times as u64 }
 }
 
 // Makes the steps of a repeat.

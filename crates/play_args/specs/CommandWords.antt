@@ -1,6 +1,7 @@
 -- Trusted: The command that the arguments after the program name ask for.
 use Rattle.std.specs.Prelude.{ℕ, ◌+◌, ◌-◌, ◌*◌, ◌==◌, nat_le, List, [], ◌∷◌, map, Bool, ◌&&◌, not, true, false, Option, Some, None, codes, String, string_bytes, if◌then◌else◌}
 use Rattle.std.specs.Option.{option_map}
+use Rattle.std.specs.Char.{is_ascii_digit}
 use Rattle.std.specs.Str.{bytes_eq}
 use Rattle.std.specs.declared.alloc.Global.{Global}
 use Rattle.script_lang.specs.declared.flags.Flags.{Flags}
@@ -23,14 +24,11 @@ abbrev pub check_with : List (List ℕ) → Option Command
 check_with [] = Some Check
 check_with (w ∷ ws) = None
 
-abbrev pub is_digit : ℕ → Bool
-is_digit b = nat_le 48 b && nat_le b 57
-
 -- The number that further digits make of `n`, if it is at most `most`.
 abbrev pub with_digits : ℕ → ℕ → List ℕ → Option ℕ
 with_digits most n [] = Some n
 with_digits most n (b ∷ bs) =
-    if is_digit b && nat_le (10 * n + (b - 48)) most then with_digits most (10 * n + (b - 48)) bs else None
+    if is_ascii_digit b && nat_le (10 * n + (b - 48)) most then with_digits most (10 * n + (b - 48)) bs else None
 
 -- The number, at most `most`, that a word of decimal digits without a leading zero writes.
 abbrev pub number_word : ℕ → List ℕ → Option ℕ

@@ -8,7 +8,8 @@ use Rattle.lang_ast.specs.Programs.{program_view}
 use Rattle.lang_ast.specs.declared.program.Program as memory
 use Rattle.lang_ast.specs.declared.script.Rest.{Rest}
 use Rattle.lang_limits.specs.Clamped.{within}
-use Rattle.lang_limits.specs.Sizes.{most_forms, program_limits}
+use Rattle.lang_limits.specs.Sizes.{program_limits}
+use Rattle.lang_ast.specs.Sizes.{most_forms}
 use Rattle.lang_forms.specs.Names.{number_in, number_of}
 use Rattle.lang_forms.specs.Forms.{HasForms, KnownNames, state_name, function_name, site_after, site_after_all, SpelledStmt, SpelledStmts, SpelledFunctions}
 use Rattle.lang_forms.specs.Sources.{Source, parsed_source_view}
@@ -113,7 +114,7 @@ functions_calls functions before (f ∷ fs) m me k all names here few h =
     )
 
 -- The program of a text within the limits is numbered.
-numbered : (f g : Forest) (t : Source) → HasForms f t → program_limits g t.program ≡ [] → IsNumberedProgram t.program
+pub numbered : (f g : Forest) (t : Source) → HasForms f t → program_limits g t.program ≡ [] → IsNumberedProgram t.program
 numbered f g t forms small =
     let known : KnownNames = record { states = map state_name t.program.states; functions = [] } in
     record {

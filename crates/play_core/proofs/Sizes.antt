@@ -2,10 +2,11 @@
 use Rattle.std.proofs.Common.{◌≡◌, ◌≤◌, ◌+◌, ◌-◌, ◌*◌, ◌==◌, ◌&&◌, ℕ, List, [], ◌∷◌, Bool, true, false, Option, Some, None, option_map, if◌then◌else◌, refl, sym, ap, ◌∙◌, arith, codes}
 use Rattle.std.specs.Prelude.{nat_le}
 use Rattle.std.specs.Str.{bytes_eq}
+use Rattle.std.specs.Char.{is_ascii_digit}
 use Rattle.script_lang.specs.declared.flags.Flags.{Flags}
 use Rattle.play_args.specs.declared.command.Command.{Command}
 use Rattle.play_args.specs.declared.command.Command.TheVariants.{Run, Threads, Gen}
-use Rattle.play_args.specs.CommandWords.{no_flags, flags_after, check_with, is_digit, with_digits, number_word, gen_of, gen_with, command_of_args}
+use Rattle.play_args.specs.CommandWords.{no_flags, flags_after, check_with, with_digits, number_word, gen_of, gen_with, command_of_args}
 
 second : (a b : Bool) → a && b ≡ true → b ≡ true
 second true b h = h
@@ -13,11 +14,11 @@ second false b h = absurd cc
 
 digits_at_most : (most n : ℕ) (bs : List ℕ) (k : ℕ) → n ≤ most → with_digits most n bs ≡ Some k → k ≤ most
 digits_at_most most n [] k few is = let same : n ≡ k = cc in omega (arith, few, same)
-digits_at_most most n (b ∷ bs) k few is = by (λ low e. digits_at_most most (10 * n + (b - 48)) bs k low e) (is_digit b && nat_le (10 * n + (b - 48)) most) refl
+digits_at_most most n (b ∷ bs) k few is = by (λ low e. digits_at_most most (10 * n + (b - 48)) bs k low e) (is_ascii_digit b && nat_le (10 * n + (b - 48)) most) refl
   where
-    by : ((10 * n + (b - 48) ≤ most) → with_digits most (10 * n + (b - 48)) bs ≡ Some k → k ≤ most) → (t : Bool) → (is_digit b && nat_le (10 * n + (b - 48)) most) ≡ t → k ≤ most
+    by : ((10 * n + (b - 48) ≤ most) → with_digits most (10 * n + (b - 48)) bs ≡ Some k → k ≤ most) → (t : Bool) → (is_ascii_digit b && nat_le (10 * n + (b - 48)) most) ≡ t → k ≤ most
     by rest true e =
-        let low : nat_le (10 * n + (b - 48)) most ≡ true = second (is_digit b) (nat_le (10 * n + (b - 48)) most) e in
+        let low : nat_le (10 * n + (b - 48)) most ≡ true = second (is_ascii_digit b) (nat_le (10 * n + (b - 48)) most) e in
         rest (grind (arith, low)) (ap (λ t. if t then with_digits most (10 * n + (b - 48)) bs else None) (sym e) ∙ is)
     by rest false e = let none = ap (λ t. if t then with_digits most (10 * n + (b - 48)) bs else None) (sym e) ∙ is in absurd cc
 

@@ -9,7 +9,10 @@ use Rattle.sexp_text.proofs.Complete.{spells_one}
 use Rattle.lang_ast.specs.Programs.{Program}
 use Rattle.lang_limits.specs.LeastOffset.{least}
 use Rattle.lang_limits.specs.Tokens.{beyond, program_trees, oversized_script_offsets}
-use Rattle.lang_limits.specs.Sizes.{most_forms, program_limits, program_sizes, functions_sizes, first_excess, state_place, function_place}
+use Rattle.lang_limits.specs.Sizes.{program_limits, program_sizes}
+use Rattle.lang_ast.specs.Sizes.{most_forms}
+use Rattle.lang_ast.proofs.Limits as limits
+use Rattle.lang_ast.proofs.Limits.{none_in}
 use Rattle.lang_limits.specs.Clamped.{within}
 use Rattle.lang_limits.proofs.Copies.{within_stays}
 use Rattle.lang_limits.proofs.Lesser.{no_least}
@@ -41,14 +44,9 @@ module _ {threads : Bool} where
   pub text_one : (bytes : List ℕ) (t u : Source) → IsText threads bytes t → IsText threads bytes u → t ≡ u
   text_one bytes t u h i = ok_same t u (sym (text_read 0 i.forest t (text-forms bytes i.forest t i.spelled h)) ∙ text_read 0 i.forest u i.forms)
 
--- If a concatenation is empty, both lists are.
-both_none : (xs ys : List ℕ) → xs ++ ys ≡ [] → (xs ≡ []) × (ys ≡ [])
-both_none [] ys h = (refl, h)
-both_none (x ∷ xs) ys h = absurd cc
-
 -- A forest that keeps the limits is unchanged by clamping.
 stays : (f : Forest) (p : Program) → program_limits f p ≡ [] → oversized_script_offsets f ≡ [] → within f ≡ f
-stays f p small brief = within_stays f (both_none (beyond (program_trees f)) (program_sizes p) small).0 brief
+stays f p small brief = within_stays f (none_in (beyond (program_trees f)) (program_sizes p) small).0 brief
 
 -- A forest that keeps the limits is parsed as the source text whose forms it has.
 read-as : (end : ℕ) (f : Forest) (t : Source) → HasForms f t → program_limits f t.program ≡ [] → oversized_script_offsets f ≡ [] → text_answer end f ≡ Ok t
@@ -92,33 +90,9 @@ module _ (threads : Bool) where
         runs = subst (λ o. script_faults threads t.program.states o t.script ≡ []) none faults;
       }
 
--- If there is no item at an index, the list is not longer.
-few : {A : Type 0} (xs : List A) (n : ℕ) → slice_get xs n ≡ None → length xs ≤ n
-few xs n h = elim (slice_get_cases xs n).1 [ inl found ↦ absurd cc | inr past ↦ past.0 ]
-
-none-too-many : (places : List ℕ) → first_excess places ≡ [] → slice_get places most_forms ≡ None
-none-too-many places h = by (slice_get places most_forms) refl
-  where
-    by : (o : Option ℕ) → slice_get places most_forms ≡ o → o ≡ None
-    by None e = refl
-    by (Some at) e = let bad : at ∷ [] ≡ [] = rw e at h in absurd cc
-
--- A program that keeps the limits has at most 256 states and 256 functions.
-few_forms : (f : Forest) (p : Program) → program_limits f p ≡ [] → (first_excess (map state_place p.states) ≡ []) × (first_excess (map function_place p.functions) ≡ [])
-few_forms f p h =
-    let sizes = (both_none (beyond (program_trees f)) (program_sizes p) h).1 in
-    let forms = (both_none (first_excess (map state_place p.states) ++ first_excess (map function_place p.functions)) (functions_sizes p.functions) sizes).0 in
-    both_none (first_excess (map state_place p.states)) (first_excess (map function_place p.functions)) forms
-
-pub few_states : (f : Forest) (p : Program) → program_limits f p ≡ [] → length p.states ≤ most_forms
-few_states f p h =
-    let many = few (map state_place p.states) most_forms (none-too-many (map state_place p.states) (few_forms f p h).0) in
-    subst (λ n. n ≤ most_forms) (length-map p.states state_place) many
-
+-- A program that keeps the limits has at most 256 functions.
 pub few_functions : (f : Forest) (p : Program) → program_limits f p ≡ [] → length p.functions ≤ most_forms
-few_functions f p h =
-    let many = few (map function_place p.functions) most_forms (none-too-many (map function_place p.functions) (few_forms f p h).1) in
-    subst (λ n. n ≤ most_forms) (length-map p.functions function_place) many
+few_functions f p h = limits.few_functions p.states p.functions (none_in (beyond (program_trees f)) (program_sizes p) h).1
 
 module _ (threads : Bool) where
   -- Rejected bytes are not a source text.

@@ -17,7 +17,8 @@ use Rattle.play_threads.specs.WovenText.{IsWovenText}
 use Rattle.play_gen.specs.Tallies.{generated_counts}
 use Rattle.play_gen.specs.SummaryText.{summary_text}
 use Rattle.script_lang.specs.declared.flags.Flags.{Flags}
-use Rattle.script_lang.specs.Lines.{Titles, LineStyle, functions_of, line, run_text}
+use Rattle.script_lang.specs.Lines.{Titles, LineStyle, line, run_text}
+use Rattle.lang_ast.specs.Programs.{functions_of}
 use Rattle.lang_ast.specs.declared.program.State.{State}
 use Rattle.lang_ast.specs.declared.script.DoForm.{DoForm}
 use Rattle.lang_ast.specs.Terms.{Func}
@@ -97,7 +98,6 @@ pub record IsRead (threads : Bool) (bytes : List ℕ) (states : List State) (fun
   pub functions_are : functions ≡ source.program.functions
   pub actors_are : actors ≡ actors_of source.script
   pub forms_are : forms ≡ source.script
-  pub few_states : length states ≤ 256
 
 -- The input in memory is that of the bytes: they spell its trees, and its program and script are those of the source
 -- text.

@@ -1,6 +1,10 @@
-// Laws of the faults of an input and of what is written for it, each the contract of a function without a body.
-ghost use Rattle.std.specs.Prelude.{◌≡◌, ◌⊎◌, ℕ, Bool, List};
+// Laws of the faults of an input, of its program and of what is written for it, each the contract of a function without a body.
+ghost use Rattle.std.specs.Prelude.{◌≡◌, ◌⊎◌, ℕ, Bool, List, []};
+ghost use Rattle.sexp_text.specs.Forest.{Forest};
+ghost use Rattle.lang_limits.specs.Sizes.{program_limits};
 ghost use Rattle.lang_forms.specs.Sources.{Source as source_data};
+ghost use Rattle.lang_forms.specs.Forms.{HasForms};
+ghost use Rattle.lang_checks.specs.Numbers.{IsNumberedProgram};
 ghost use Rattle.play_core.specs.Texts.{IsText, IsNoText};
 ghost use Rattle.play_core.specs.Faults.{IsFault};
 ghost use Rattle.play_core.specs.ThreadsOutput.{OutputTellsItsHistory};
@@ -28,4 +32,10 @@ pub fn bytes_are_a_text_or_have_a_fault()
 /// lines.
 pub fn threads_output_tells_its_history()
     ensures { OutputTellsItsHistory }
+{}
+
+/// Law: a program within the limits whose forms a forest has is numbered, as the check of programs requires.
+pub fn parsed_programs_are_numbered()
+    ensures { (f g : Forest) (t : source_data) → HasForms f t → program_limits g t.program ≡ [] →
+        IsNumberedProgram t.program }
 {}

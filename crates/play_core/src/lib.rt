@@ -20,6 +20,6 @@ mod top;
 
 pub use fault_laws::{
     bytes_are_a_text_or_have_a_fault, bytes_have_one_fault, faulty_bytes_are_no_text,
-    threads_output_tells_its_history,
+    parsed_programs_are_numbered, threads_output_tells_its_history,
 };
 pub use top::{Status, play, play_alone};

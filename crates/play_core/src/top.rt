@@ -92,7 +92,6 @@ fn do_command<V: Versions<P = BuiltIn>, K: Sink>(
     sink: &mut K,
 ) -> Result<(), Stop>
     requires start { V.stands world.old (start 0) }
-    requires few { length input.job.program.states.items ≤ 256 }
     requires alone { has_threads command ≡ false }
     requires reads { has_input command ≡ true }
     ensures says { (bytes : List ℕ) (t : source_data) → IsInput false bytes input → IsText false bytes t →

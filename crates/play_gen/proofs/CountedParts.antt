@@ -5,8 +5,8 @@ use Rattle.std.specs.declared.result.Result.{Result}
 use Rattle.rt_values.specs.declared.names.NoMemory.{NoMemory}
 use Rattle.lang_ast.specs.Terms.{Func}
 use Rattle.lang_ast.specs.declared.program.State.{State}
-use Rattle.compose_model.specs.Frame.{frame}
-use Rattle.composer.specs.FrameDrafts.{functions_of}
+use Rattle.compose_model.specs.Frame.{frame, kept_after}
+use Rattle.lang_ast.specs.Programs.{functions_of}
 use Rattle.recomposer.specs.Compositions.{IsAt}
 use Rattle.snap_policy.specs.declared.policy.BuiltIn.{BuiltIn}
 use Rattle.snap_policy.specs.Table.{table}
@@ -16,7 +16,7 @@ use Rattle.snap_api.specs.declared.data.Request.{Request}
 use Rattle.snap_api.specs.declared.data.Request.TheVariants as request
 use Rattle.snap_api.specs.declared.data.Entry.{Entry}
 use Rattle.script_lang.specs.StepCalls.{Part, BeginFrame, EndFrame, ActorPart, of_actor, request_of, end_request, notes_after, entry, sequential, frame_begun, watcher_number}
-use Rattle.script_lang.specs.Lines.{LineStyle, Standing, ends_frame, next, kept_after}
+use Rattle.script_lang.specs.Lines.{LineStyle, Standing, ends_frame, next}
 use Rattle.play_run.specs.RunOutput.{Run, first_run, run_after_request, part_after, parts_after}
 use Rattle.play_run.specs.RunState.{RunFacts, IsPlain}
 use Rattle.play_run.proofs.OpenFrames.{IsPlainCall}

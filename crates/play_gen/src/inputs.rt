@@ -1,12 +1,12 @@
 // Program and script from a number.
 ghost use Rattle.std.specs.Prelude.{◌≡◌, ◌<◌, ◌≤◌, [], ◌∷◌, length, None, false, codes, IfOk};
+ghost use Rattle.lang_ast.specs.Programs.{program_view};
 ghost use Rattle.lang_checks.specs.ProgramFaults.{program_faults};
 ghost use Rattle.script_lang.specs.ScriptFaults.{script_faults};
 ghost use Rattle.play_gen.specs.GeneratedProgram.{first_items, generated_states, generated_program};
 ghost use Rattle.script_lang.specs.Scripts.{actors_of};
 ghost use Rattle.play_gen.specs.Draws.{initial_state};
 ghost use Rattle.play_gen.specs.GeneratedScript.{frame_step, rounds, generated_script};
-ghost use Rattle.play_gen.specs.Pairs.{checked_view};
 
 use crate::draws::Draws;
 use crate::program::{first_items, generated_program, ident};
@@ -19,7 +19,7 @@ use std::alloc::Global;
 
 /// Returns the checked program. A rule of this project.
 pub fn checked_program(alloc: Global, size: u32) -> Result<Checked, NoMemory>
-    ensures { IfOk result (λ c. checked_view c ≡ generated_program size) }
+    ensures { IfOk result (λ c. program_view c ≡ generated_program size) }
 {
     match check(alloc, generated_program(alloc, size)?) {
         Ok(program) => Ok(program),
@@ -65,7 +65,7 @@ fn generated_script(alloc: Global, number: u32, size: u32) -> Result<Script, NoM
 pub fn generate(alloc: Global, number: u32, size: u32) -> Result<(Checked, Script), NoMemory>
     requires some { 1 ≤ size }
     requires few { size ≤ 1000 }
-    ensures program { IfOk result (λ p. checked_view p.0 ≡ generated_program size) }
+    ensures program { IfOk result (λ p. program_view p.0 ≡ generated_program size) }
     ensures actors { IfOk result (λ p. p.1.actors.items ≡ actors_of (generated_script number size)) }
     ensures script { IfOk result (λ p. p.1.forms.items ≡ generated_script number size) }
     ensures sound { program_faults (generated_program size) ≡ [] }

@@ -5,10 +5,10 @@ use Rattle.std.specs.Option.{unwrap_or}
 use Rattle.rt_values.specs.Maps.{Map, differ, entry_at}
 use Rattle.rt_groups.specs.Frames.{LastFrame}
 use Rattle.lang_ast.specs.Terms.{Func}
-use Rattle.composer.specs.FrameDrafts.{functions_of}
+use Rattle.lang_ast.specs.Programs.{functions_of}
 use Rattle.recomposer.specs.Compositions.{IsAt}
 use Rattle.recomposer.specs.declared.composition.Composition.{Composition}
-use Rattle.compose_model.specs.Frame.{FrameResult, frame}
+use Rattle.compose_model.specs.Frame.{FrameResult, frame, kept_after}
 use Rattle.snap_policy.specs.declared.policy.BuiltIn.{BuiltIn}
 use Rattle.snap_policy.specs.Table.{table}
 use Rattle.snap_policy.specs.TableLaws.{table_merge_keeps_type}
@@ -24,7 +24,7 @@ use Rattle.snap_api.specs.World.{World, call, snapshot_of, last_of, is_mutable}
 use Rattle.snap_api.proofs.LawsCases.{Did, did, refused, took_for}
 use Rattle.snap_api.proofs.Takes.{call-TakeFor, took_own}
 use Rattle.snap_api.proofs.ValidCalls.{valid_call}
-use Rattle.script_lang.specs.Lines.{LineStyle, entry_line, frame_lines, kept_after, frame_taken}
+use Rattle.script_lang.specs.Lines.{LineStyle, entry_line, frame_lines, frame_taken}
 use Rattle.script_lang.specs.StepCalls.{BeginFrame, EndFrame, of_actor, frame_begun, entry, watcher_number, end_request}
 use Rattle.script_lang.specs.NamesInMemory.{Holds}
 use Rattle.play_run.specs.RunOutput.{Run, request_lines, run_after_request, part_lines, part_after, parts_lines}

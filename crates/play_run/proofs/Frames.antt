@@ -9,10 +9,10 @@ use Rattle.rt_groups.specs.Frames.{LastFrame}
 use Rattle.rt_groups.specs.GroupForest.{GroupForest}
 use Rattle.rt_groups.specs.Nodes.{nodes}
 use Rattle.rt_groups.specs.PreorderGroups as groups
-use Rattle.compose_model.specs.Frame.{FrameResult}
-use Rattle.recomposer.specs.Compositions as compositions
+use Rattle.compose_model.specs.Frame.{FrameResult, kept_after}
 use Rattle.script_lang.specs.declared.flags.Flags.{Flags}
-use Rattle.script_lang.specs.Lines.{kept_after, line, report_line, tree_lines, op_line, frame_calls, ops_lines, shown_tree, frame_lines}
+use Rattle.script_lang.specs.Lines.{line, report_line, tree_lines, op_line, ops_lines, shown_tree, frame_lines}
+use Rattle.node_tree.specs.FrameOps.{frame_ops}
 use Rattle.script_lang.specs.TreeJson.{tree_json}
 use Rattle.script_lang.specs.GroupLines.{group_lines}
 use Rattle.script_lang.specs.GroupJson.{groups_json, initial_json}
@@ -20,11 +20,6 @@ use Rattle.script_lang.proofs.Trees.{groups_tell_the_tree}
 use Rattle.script_lang.proofs.Jsons.{groups_tell_the_json}
 use Rattle.play_run.specs.RunOutput.{shown_ops, json_line, shown_groups}
 use Rattle.play_run.specs.RunState.{MadeCalls, flat}
-
--- The recomposer keeps what the lines define.
-pub same_kept : (k : LastFrame) (good : Option FrameResult) → compositions.kept_after k good ≡ kept_after k good
-same_kept k None = refl
-same_kept k (Some good) = refl
 
 -- The lines of a tree are those of its groups.
 shown : (flags : Flags) (t : GroupForest) → shown_groups flags (groups.preorder 0 t) ≡ flat (shown_tree flags (nodes t))
@@ -37,15 +32,15 @@ shown flags t = by flags.json
     by false = groups_tell_the_tree t
 
 -- The lines of calls on an applier.
-shown_calls : (flags : Flags) (k : LastFrame) (trail : GroupForest) (calls : List Op) → (flags.ops ≡ true → calls ≡ frame_calls k trail) → shown_ops flags calls ≡ flat (ops_lines flags k trail)
+shown_calls : (flags : Flags) (k : LastFrame) (trail : GroupForest) (calls : List Op) → (flags.ops ≡ true → calls ≡ frame_ops k trail) → shown_ops flags calls ≡ flat (ops_lines flags k trail)
 shown_calls flags k trail calls made = by flags.ops made
   where
     mapped : (xs : List Op) → flat_map op_line xs ≡ flat (map op_line xs)
     mapped [] = refl
     mapped (x ∷ xs) = ap (λ l. op_line x ++ l) (mapped xs)
 
-    by : (b : Bool) → (b ≡ true → calls ≡ frame_calls k trail) → (if b then flat_map op_line calls else []) ≡ flat (if b then map op_line (frame_calls k trail) else [])
-    by true is = ap (flat_map op_line) (is refl) ∙ mapped (frame_calls k trail)
+    by : (b : Bool) → (b ≡ true → calls ≡ frame_ops k trail) → (if b then flat_map op_line calls else []) ≡ flat (if b then map op_line (frame_ops k trail) else [])
+    by true is = ap (flat_map op_line) (is refl) ∙ mapped (frame_ops k trail)
     by false is = refl
 
 -- The lines of a good frame are those of its report, of its calls on an applier and of its groups.

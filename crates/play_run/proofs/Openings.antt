@@ -9,7 +9,7 @@ use Rattle.rt_values.specs.declared.value.Ty.TheVariants as ty
 use Rattle.rt_values.specs.declared.value.Value.{Value}
 use Rattle.lang_ast.specs.declared.program.State.{State}
 use Rattle.lang_ast.specs.Terms.{Func}
-use Rattle.lang_ast.specs.Programs.{root_number}
+use Rattle.lang_ast.specs.Programs.{root_number, functions_of}
 use Rattle.lang_checks.specs.declared.faults.CheckKind.{CheckKind}
 use Rattle.lang_checks.specs.declared.faults.CheckKind.TheVariants as kind
 use Rattle.lang_checks.specs.Scopes.{duplicate_faults}
@@ -24,7 +24,6 @@ use Rattle.snap_api.proofs.ValidMade.{valid_start, valid_made, makeable}
 use Rattle.snap_api.proofs.ValidMoves.{valid_watched}
 use Rattle.script_lang.specs.NamesInMemory.{Holds}
 use Rattle.script_lang.specs.StepCalls.{with_states, opening_world, watcher_number}
-use Rattle.composer.specs.FrameDrafts.{functions_of}
 use Rattle.recomposer.specs.Compositions.{IsAt}
 use Rattle.play_run.specs.Opening.{StatesFit}
 use Rattle.play_run.specs.RunOutput.{first_run}

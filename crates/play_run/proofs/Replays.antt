@@ -17,7 +17,7 @@ use Rattle.rt_values.specs.Maps.{Map, no_entry, value_at}
 use Rattle.rt_values.specs.declared.maps.StampedValue.{StampedValue}
 use Rattle.rt_values.specs.declared.value.Value.{Value}
 use Rattle.rt_groups.specs.Frames.{no_last_frame}
-use Rattle.compose_model.specs.Frame.{FrameResult, frame}
+use Rattle.compose_model.specs.Frame.{FrameResult, frame, kept_after}
 use Rattle.snap_policy.specs.declared.policy.BuiltIn.{BuiltIn}
 use Rattle.snap_policy.specs.Table.{table}
 use Rattle.snap_policy.specs.TableLaws.{table_merge_keeps_type}
@@ -32,9 +32,9 @@ use Rattle.snap_api.specs.declared.data.Request.{Request}
 use Rattle.snap_api.specs.declared.data.Request.TheVariants as request
 use Rattle.snap_api.specs.declared.data.Snapshot.{Snapshot}
 use Rattle.script_lang.specs.StepCalls.{entry, frame_begun, opening_world, watcher_number}
-use Rattle.script_lang.specs.Lines.{LineStyle, Standing, entry_line, ends_frame, frame_lines, frame_taken, kept_after, lines, lines_at, next, initial_standing}
+use Rattle.script_lang.specs.Lines.{LineStyle, Standing, entry_line, ends_frame, frame_lines, frame_taken, lines, lines_at, next, initial_standing}
 use Rattle.script_lang.specs.PrintedCalls.{reads_frame}
-use Rattle.composer.specs.FrameDrafts.{functions_of}
+use Rattle.lang_ast.specs.Programs.{functions_of}
 use Rattle.recomposer.specs.Compositions.{IsAt}
 use Rattle.recomposer.specs.declared.composition.Composition.{Composition}
 use Rattle.woven_laws.specs.FramesInTurn.{OpenFrame, AreInTurn, frame_opened}

@@ -11,7 +11,7 @@ use Rattle.rt_groups.specs.Frames.{LastFrame}
 use Rattle.rt_groups.specs.declared.report.Report.{Report}
 use Rattle.lang_ast.specs.Terms.{Func}
 use Rattle.lang_ast.specs.declared.program.State.{State}
-use Rattle.compose_model.specs.Frame.{FrameResult, frame}
+use Rattle.compose_model.specs.Frame.{FrameResult, frame, kept_after}
 use Rattle.snap_policy.specs.declared.policy.BuiltIn.{BuiltIn}
 use Rattle.snap_policy.specs.Table.{table}
 use Rattle.snap_api.specs.Calls.{Logs, is_no_memory}
@@ -26,7 +26,7 @@ use Rattle.snap_api.specs.declared.data.Request.{Request}
 use Rattle.snap_api.specs.declared.data.Request.TheVariants as request
 use Rattle.recomposer.proofs.Draws.{read_first}
 use Rattle.script_lang.specs.StepCalls.{ActorPart, request_of, notes_after, entry, sequential}
-use Rattle.script_lang.specs.Lines.{Titles, Standing, next, kept_after, ends_frame, frame_at, frame_taken, name_in}
+use Rattle.script_lang.specs.Lines.{Titles, Standing, next, ends_frame, frame_at, frame_taken, name_in}
 use Rattle.script_lang.specs.PrintedCalls.{reads_frame, frames_after, printed_calls}
 use Rattle.play_run.specs.RunLog.{frames_in, owed_reads, ReadsForResult, ReadsOwed, LogsRun}
 use Rattle.play_run.specs.RunOutput.{Run, first_run, run_after_request, parts_after}

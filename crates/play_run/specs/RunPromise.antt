@@ -3,7 +3,8 @@ use Rattle.std.specs.Prelude.{◌≡◌, ℕ, List, Option, Result, Ok, Err, OnO
 use Rattle.std.specs.Io.KnownBytes.{Appends}
 use Rattle.rt_streams.specs.Streams.{AppendsPart, Rose}
 use Rattle.lang_ast.specs.Terms.{Func}
-use Rattle.script_lang.specs.Lines.{Titles, LineStyle, titles_of, functions_of}
+use Rattle.script_lang.specs.Lines.{Titles, LineStyle, titles_of}
+use Rattle.lang_ast.specs.Programs.{functions_of}
 use Rattle.script_lang.specs.declared.flags.Flags.{Flags}
 use Rattle.play_run.specs.declared.calls.JobActor.{JobActor}
 use Rattle.play_run.specs.declared.job.Job.{Job}

@@ -8,7 +8,7 @@ use Rattle.rt_groups.specs.declared.report.Report.{Report}
 use Rattle.lang_ast.specs.Terms.{Func}
 use Rattle.compose_model.specs.Frame.{FrameResult}
 use Rattle.node_tree.specs.declared.ops.Op.{Op}
-use Rattle.composer.specs.FrameDrafts.{functions_of}
+use Rattle.lang_ast.specs.Programs.{functions_of}
 use Rattle.recomposer.specs.Compositions.{IsAt}
 use Rattle.recomposer.specs.declared.composition.Composition.{Composition}
 use Rattle.snap_policy.specs.Table.{table}
@@ -22,7 +22,8 @@ use Rattle.script_lang.specs.SnapshotNames.{NamedNumber, latest, never_taken}
 use Rattle.script_lang.specs.NamesInMemory.{Holds}
 use Rattle.script_lang.specs.StepCalls.{Part, Take, BeginFrame, EndFrame, ActorPart, watcher_number}
 use Rattle.script_lang.specs.declared.flags.Flags.{Flags}
-use Rattle.script_lang.specs.Lines.{LineStyle, frame_calls}
+use Rattle.script_lang.specs.Lines.{LineStyle}
+use Rattle.node_tree.specs.FrameOps.{frame_ops}
 use Rattle.play_run.specs.RunPromise.{WritesBytes}
 use Rattle.script_lang.specs.PrintedCalls.{printed_calls}
 use Rattle.play_run.specs.RunLog.{frames_in, ReadsOwed}
@@ -110,7 +111,7 @@ LogsFrameReads functions stands caller name k m (Some old) new =
 -- With `--ops` the calls of a frame with this result after the kept state are these, if it is good.
 abbrev pub MadeCalls : Flags → LastFrame → Option FrameResult → List Op → Type 0
 MadeCalls flags k None calls = Unit {0}
-MadeCalls flags k (Some good) calls = flags.ops ≡ true → calls ≡ frame_calls k good.left.trail
+MadeCalls flags k (Some good) calls = flags.ops ≡ true → calls ≡ frame_ops k good.left.trail
 
 -- The same with the table of names in memory, and with the log of the world.
 pub record IsRun {V : Type 0} (functions : List Func) (stands : V → World BuiltIn → Type 0) (log : V → Option (List Entry))

@@ -6,10 +6,10 @@ ghost use Rattle.rt_values.specs.Maps.{Map, differ};
 ghost use Rattle.rt_values.specs.Views.{Grew};
 ghost use Rattle.rt_groups.specs.PreorderGroups.{preorder};
 ghost use Rattle.rt_groups.specs.Frames.{LastFrame};
-ghost use Rattle.compose_model.specs.Frame.{FrameResult, frame as frame_of};
+ghost use Rattle.compose_model.specs.Frame.{FrameResult, frame as frame_of, kept_after};
 ghost use Rattle.slot_table.specs.TableGroups.{group_at};
-ghost use Rattle.composer.specs.FrameDrafts.{functions_of};
-ghost use Rattle.recomposer.specs.Compositions.{IsAt, frame_reads, kept_after as recomposed};
+ghost use Rattle.lang_ast.specs.Programs.{functions_of};
+ghost use Rattle.recomposer.specs.Compositions.{IsAt, frame_reads};
 ghost use Rattle.snap_policy.specs.declared.policy.BuiltIn.{BuiltIn as built_in};
 ghost use Rattle.snap_policy.specs.Table.{table};
 ghost use Rattle.snap_api.specs.World.{World};
@@ -17,7 +17,7 @@ ghost use Rattle.snap_api.specs.ShownMap.{ShownMap};
 ghost use Rattle.snap_api.specs.Desks.{FollowsLast};
 ghost use Rattle.snap_api.specs.declared.data.Reply.TheVariants as reply_data;
 ghost use Rattle.script_lang.specs.StepCalls.{BeginFrame, EndFrame, calls_parts, frame_begun};
-ghost use Rattle.script_lang.specs.Lines.{line, report_line, op_line, frame_lines, kept_after};
+ghost use Rattle.script_lang.specs.Lines.{line, report_line, op_line, frame_lines};
 ghost use Rattle.script_lang.specs.GroupLines.{group_lines, open_after, group_line};
 ghost use Rattle.script_lang.specs.GroupJson.{group_json, json_after_group};
 ghost use Rattle.play_run.specs.RunOutput.{Run, parts_of, parts_lines, parts_after, shown_ops, json_line, shown_groups};
@@ -54,7 +54,7 @@ fn recompose<V: View, L: Ledger>(
     ensures keeps { V.keeps view.old view.new }
     ensures good { (k : LastFrame) (m : Map) → IsAt composition.old k (Some m) → V.shows view.old m →
         let good = frame_of (functions_of composition.old.program.now) k m in
-        OnOk result (IsAt composition.new (recomposed k good) (Some m)) }
+        OnOk result (IsAt composition.new (kept_after k good) (Some m)) }
     ensures report { (k : LastFrame) (m : Map) → IsAt composition.old k (Some m) → V.shows view.old m →
         IfOk result (λ r. Some r ≡ option_map (λ g. g.told) (frame_of (functions_of composition.old.program.now) k m)) }
     ensures many { (k : LastFrame) (m : Map) → IsAt composition.old k (Some m) → V.shows view.old m →

@@ -23,6 +23,6 @@ pub use frame::{compose, note_frame};
 pub use job::Job;
 pub use memory::{RunMemory, WATCHER};
 pub use open::set_up_world;
-pub use replaying::replay;
-pub use steps::run_script;
+pub use replaying::{is_dispose, replay};
+pub use steps::{run_script, times_of};
 pub use write_lines::{Stop, write_piece};

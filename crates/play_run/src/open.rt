@@ -85,7 +85,6 @@ pub fn set_up_world<V: Versions<P = BuiltIn>>(
     world: &mut V,
 ) -> Result<(), NoMemory>
     requires start { V.stands world.old (start 0) }
-    requires few { length program.now.states.items ≤ 256 }
     ensures opened { OnOk result (V.stands world.new (opening_world program.now.states.items)) }
     ensures log { V.log world.new ≡ V.log world.old }
 {

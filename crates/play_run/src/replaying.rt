@@ -3,13 +3,13 @@ ghost use Rattle.std.specs.Prelude.{◌≡◌, ◌∷◌, [], zero, false, Optio
 ghost use Rattle.std.specs.Option.{option_map};
 ghost use Rattle.rt_values.specs.Maps.{Map};
 ghost use Rattle.rt_groups.specs.Frames.{LastFrame, no_last_frame};
-ghost use Rattle.compose_model.specs.Frame.{frame as frame_at};
-ghost use Rattle.composer.specs.FrameDrafts.{functions_of};
+ghost use Rattle.compose_model.specs.Frame.{frame as frame_at, kept_after};
+ghost use Rattle.lang_ast.specs.Programs.{functions_of};
 ghost use Rattle.recomposer.specs.Compositions.{IsAt};
 ghost use Rattle.snap_policy.specs.Table.{table};
 ghost use Rattle.snap_api.specs.World.{IsLegal};
 ghost use Rattle.script_lang.specs.StepCalls.{opening_world};
-ghost use Rattle.script_lang.specs.Lines.{Standing, initial_standing, lines, frame_lines, kept_after, ends_frame};
+ghost use Rattle.script_lang.specs.Lines.{Standing, initial_standing, lines, frame_lines, ends_frame};
 ghost use Rattle.woven_laws.specs.FramesInTurn.{AreInTurn};
 ghost use Rattle.woven_laws.specs.PrintedHistory.{printed_history};
 ghost use Rattle.play_run.specs.RunPromise.{WritesBytes, FaultsAfter, job_style, job_functions};
@@ -66,8 +66,8 @@ impl<'p> ReplayMemory<'p> {
     }
 }
 
-// Checks whether a request disposes the snapshot `name`.
-fn is_dispose(request: &Request, name: Name) -> bool
+/// Returns whether a request disposes the snapshot `name`. A rule of this project.
+pub fn is_dispose(request: &Request, name: Name) -> bool
     ensures { result ≡ ends_frame (name ∷ []) request.now }
 {
     match request {

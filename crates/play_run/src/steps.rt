@@ -73,8 +73,8 @@ fn run_steps<V: Versions<P = BuiltIn>, K: Sink>(
     Ok(())
 }
 
-// Returns how often the steps of a repeat are made.
-fn times_of(times: i64) -> u64
+/// Returns how often the steps of a repeat are made: never if the number is negative. A rule of this project.
+pub fn times_of(times: i64) -> u64
     ensures { result ≡ times_of times }
 {
     if times < 0 { 0 } else { times as u64 }
@@ -202,7 +202,6 @@ pub fn run_script<V: Versions<P = BuiltIn>, K: Sink>(
     sink: &mut K,
 ) -> Result<(), Stop>
     requires start { V.stands world.old (start 0) }
-    requires few { length job.now.program.states.items ≤ 256 }
     ensures says { let parts = script_parts job.now.script.actors.items job.now.script.forms.items in
         WritesBytes (K.written sink.old) (K.written sink.new)
         (run_text (job_style job.now flags) (job_functions job.now) parts) result }

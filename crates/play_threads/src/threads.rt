@@ -24,7 +24,6 @@ fn open_world(
     alloc: Global,
     program: &Checked,
 ) -> Result<BoxedWorld<RecordWorld<BuiltIn>>, NoMemory>
-    requires few { length program.now.states.items ≤ 256 }
     ensures { IfOk result (λ w.
         ⟦<BoxedWorld<RecordWorld<BuiltIn>> as Versions>⟧.stands w (opening_world program.now.states.items)) }
 {
@@ -40,7 +39,6 @@ fn run_job<R: Threads + Wait + Sync, G: Gate + Sync>(
     job: &Job,
     gate: &G,
 ) -> Result<ActorsEnd, NoMemory>
-    requires few { length job.now.program.states.items ≤ 256 }
     ensures { IfOk result (λ end. AreActorsCalls job.now end) }
 {
     let world = open_world(alloc, &job.program)?;
@@ -87,7 +85,6 @@ pub fn run_threads<R: Threads + Wait + Sync, K: Sink, G: Gate + Sync>(
     gate: &G,
     sink: &mut K,
 ) -> Result<(), Stop>
-    requires few { length job.now.program.states.items ≤ 256 }
     requires fine { HasNoFault job.now }
     ensures says { WritesWovenText (K.written sink.old) (K.written sink.new) flags job.now result }
     ensures faults { FaultsAfter (K.faults sink.old) (K.faults sink.new) result }

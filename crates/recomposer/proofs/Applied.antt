@@ -6,9 +6,8 @@ use Rattle.rt_values.specs.Maps.{Map}
 use Rattle.rt_groups.specs.GroupForest.{GroupForest, End, Read, Group, GroupKind, Call, Node, Key, Cell}
 use Rattle.rt_groups.specs.Nodes.{Nodes, joined_nodes, group_nodes, nodes}
 use Rattle.rt_groups.specs.Nodes as tree
-use Rattle.rt_groups.specs.Frames.{LastFrame, numbered_forest}
-use Rattle.lang_ast.specs.SyntaxView.{functions_view}
-use Rattle.lang_checks.specs.declared.checks.Checked.{Checked}
+use Rattle.rt_groups.specs.Frames.{LastFrame, numbered_forest, is_detached}
+use Rattle.lang_ast.specs.declared.program.Program.{Program}
 use Rattle.compose_model.specs.Composing.{forest}
 use Rattle.compose_model.specs.Frame.{FrameResult}
 use Rattle.recompose_laws.specs.Distinct.{has_number, how_often, AreDistinct}
@@ -26,36 +25,39 @@ use Rattle.tree_laws.proofs.ForestTrees.{kept_tree_is_distinct}
 use Rattle.tree_laws.proofs.KeptShapes.{next_tree_can_follow}
 use Rattle.tree_laws.proofs.GivenNumbers.{numbers_are_not_given_again}
 use Rattle.composer.specs.OwedObjects.{OwedObjects}
-use Rattle.composer.specs.FrameDrafts.{functions_of, root_of}
-use Rattle.recomposer.specs.AppliedFrames.{is_detached, frame_ops, Mirrors, MayCall, tree_after_frame, Applies}
+use Rattle.composer.specs.FrameDrafts.{root_of}
+use Rattle.lang_ast.specs.Programs.{program_view, functions_of}
+use Rattle.lang_checks.specs.CheckedProgram.{IsChecked}
+use Rattle.recomposer.specs.AppliedFrames.{Mirrors, MayCall, tree_after_frame, Applies}
+use Rattle.node_tree.specs.FrameOps.{frame_ops}
 use Rattle.recomposer.specs.Compositions.{Owes, CountsFromOne}
 
 -- What is kept was composed, and everything is owed exactly if nothing is kept.
 
-was_composed : (p : Checked) (seen : Option Map) (trail : GroupForest) (last : Option Map) (owed : OwedObjects) → Owes p seen trail last owed → WasComposed (functions_of p) (root_of p) trail
+was_composed : (p : Program) (seen : Option Map) (trail : GroupForest) (last : Option Map) (owed : OwedObjects) → Owes p seen trail last owed → WasComposed (functions_of p) (root_of p) trail
 was_composed p None trail last owed h = inl h.0
 was_composed p (Some m) trail None owed h = absurd h
 was_composed p (Some m) trail (Some l) owed h = inr (m, h.3.composed)
 
-pub next_follows : (p : Checked) (k : LastFrame) (last : Option Map) (m : Map) (owed : OwedObjects) → Owes p k.seen k.trail last owed → AreDistinct k.trail k.next →
+pub next_follows : (p : Program) (k : LastFrame) (last : Option Map) (m : Map) (owed : OwedObjects) → IsChecked (program_view p) → Owes p k.seen k.trail last owed → AreDistinct k.trail k.next →
     let new = numbered_forest k.trail [] [] k.next (forest (functions_of p) (root_of p) m) in CanFollow (nodes k.trail) (nodes new.0) × AreDistinct new.0 new.1
-next_follows p k last m owed h d =
-    next_tree_can_follow (record { header = p.header; states = p.states.items; functions = functions_view p.functions.items }) (root_of p) k.trail k.next m p.numbered p.fine (was_composed p k.seen k.trail last owed h) d
+next_follows p k last m owed checked h d =
+    next_tree_can_follow (program_view p) (root_of p) k.trail k.next m checked.numbered checked.fine (was_composed p k.seen k.trail last owed h) d
 
-pub still_from_one : (p : Checked) (k : LastFrame) (last : Option Map) (m : Map) (owed : OwedObjects) → Owes p k.seen k.trail last owed → CountsFromOne k →
+pub still_from_one : (p : Program) (k : LastFrame) (last : Option Map) (m : Map) (owed : OwedObjects) → IsChecked (program_view p) → Owes p k.seen k.trail last owed → CountsFromOne k →
     let new = numbered_forest k.trail [] [] k.next (forest (functions_of p) (root_of p) m) in (1 ≤ new.1) × (how_often 0 new.0 ≡ 0)
-still_from_one p k last m owed h one =
-    let given = numbers_are_not_given_again (record { header = p.header; states = p.states.items; functions = functions_view p.functions.items }) (root_of p) k.trail k.next m p.numbered p.fine (was_composed p k.seen k.trail last owed h) in
+still_from_one p k last m owed checked h one =
+    let given = numbers_are_not_given_again (program_view p) (root_of p) k.trail k.next m checked.numbered checked.fine (was_composed p k.seen k.trail last owed h) in
     let rises = given.0 in
     let first = one.0 in
     (omega (arith, rises, first), given.1 0 (omega (arith, first)) one.1)
 
-pub all_is_owed : (p : Checked) (seen : Option Map) (trail : GroupForest) (last : Option Map) (owed : OwedObjects) → Owes p seen trail last owed → owed.all ≡ is_none seen
+pub all_is_owed : (p : Program) (seen : Option Map) (trail : GroupForest) (last : Option Map) (owed : OwedObjects) → Owes p seen trail last owed → owed.all ≡ is_none seen
 all_is_owed p None trail last owed h = h.1
 all_is_owed p (Some m) trail None owed h = absurd h
 all_is_owed p (Some m) trail (Some l) owed h = h.0
 
-pub nothing_is_kept : (p : Checked) (k : LastFrame) (last : Option Map) (owed : OwedObjects) → Owes p k.seen k.trail last owed → is_detached k ≡ true → k.trail ≡ End
+pub nothing_is_kept : (p : Program) (k : LastFrame) (last : Option Map) (owed : OwedObjects) → Owes p k.seen k.trail last owed → is_detached k ≡ true → k.trail ≡ End
 nothing_is_kept p k last owed h e = by k.seen h e
   where
     by : (seen : Option Map) → Owes p seen k.trail last owed → (is_none seen && nat_lt 1 k.next) ≡ true → k.trail ≡ End
@@ -63,7 +65,7 @@ nothing_is_kept p k last owed h e = by k.seen h e
     by (Some m) h e = absurd (let f : false ≡ true = e in cc)
 
 -- Whether a composition is detached, by what is owed and the next number.
-pub detached_is : (p : Checked) (k : LastFrame) (last : Option Map) (owed : OwedObjects) (all : Bool) (next : ℕ) → Owes p k.seen k.trail last owed → all ≡ owed.all → next ≡ k.next → (all && nat_lt 1 next) ≡ is_detached k
+pub detached_is : (p : Program) (k : LastFrame) (last : Option Map) (owed : OwedObjects) (all : Bool) (next : ℕ) → Owes p k.seen k.trail last owed → all ≡ owed.all → next ≡ k.next → (all && nat_lt 1 next) ≡ is_detached k
 detached_is p k last owed all next h is same = ap (λ (b : Bool). b && nat_lt 1 next) (is ∙ all_is_owed p k.seen k.trail last owed h) ∙ ap (λ (n : ℕ). is_none k.seen && nat_lt 1 n) same
 
 -- The calls of a frame.
@@ -152,13 +154,13 @@ no_number : (t : GroupForest) (next : ℕ) → AreDistinct t next → how_often 
 no_number t next distinct none low zero = none
 no_number t next distinct none low (suc x) = (distinct (suc x)).1 (omega (arith, low))
 
-pub detached_if_called : (p : Checked) (k : LastFrame) (last : Option Map) (m : Map) (owed : OwedObjects) → Owes p k.seen k.trail last owed → AreDistinct k.trail k.next → CountsFromOne k →
+pub detached_if_called : (p : Program) (k : LastFrame) (last : Option Map) (m : Map) (owed : OwedObjects) → IsChecked (program_view p) → Owes p k.seen k.trail last owed → AreDistinct k.trail k.next → CountsFromOne k →
     let new = numbered_forest k.trail [] [] k.next (forest (functions_of p) (root_of p) m) in (frame_ops k new.0 ≡ [] → ⊥) → nat_lt 1 new.1 ≡ true
-detached_if_called p k last m owed h distinct one some =
+detached_if_called p k last m owed checked h distinct one some =
     let new = numbered_forest k.trail [] [] k.next (forest (functions_of p) (root_of p) m) in
-    let given = numbers_are_not_given_again (record { header = p.header; states = p.states.items; functions = functions_view p.functions.items }) (root_of p) k.trail k.next m p.numbered p.fine (was_composed p k.seen k.trail last owed h) in
-    let apart = (next_follows p k last m owed h distinct).1 in
-    let zero_new = (still_from_one p k last m owed h one).1 in
+    let given = numbers_are_not_given_again (program_view p) (root_of p) k.trail k.next m checked.numbered checked.fine (was_composed p k.seen k.trail last owed h) in
+    let apart = (next_follows p k last m owed checked h distinct).1 in
+    let zero_new = (still_from_one p k last m owed checked h one).1 in
     elim (split_at 1 new.1) [
       | inl more ↦ lt-ltb 1 new.1 more
       | inr few ↦

@@ -6,16 +6,18 @@ use Rattle.rt_values.specs.Maps.{Map, differ, contains}
 use Rattle.rt_values.specs.Views.{Grew}
 use Rattle.rt_groups.specs.declared.report.Report.{Report}
 use Rattle.rt_groups.specs.GroupForest.{GroupForest, End, Read, Group, asks, how_many, how_many_nodes}
-use Rattle.rt_groups.specs.Frames.{LastFrame, numbered_forest, most_groups, reads, report}
+use Rattle.rt_groups.specs.Frames.{LastFrame, numbered_forest, most_groups, reads, report, is_detached}
 use Rattle.compose_model.specs.Composing.{forest}
-use Rattle.compose_model.specs.Frame.{FrameResult, good_frame, frame}
-use Rattle.lang_checks.specs.declared.checks.Checked.{Checked}
+use Rattle.compose_model.specs.Frame.{FrameResult, good_frame, frame, kept_after}
+use Rattle.lang_ast.specs.declared.program.Program.{Program}
 use Rattle.recompose_laws.specs.Numbering.{without_numbers}
 use Rattle.recompose_laws.specs.Idle.{unchanged_report}
 use Rattle.recompose_laws.proofs.Idles.{idle_frame, kept_is_numbered}
 use Rattle.recompose_laws.proofs.Plain.{kept_trail_is_the_forest}
 use Rattle.composer.specs.OwedObjects.{OwedObjects}
-use Rattle.composer.specs.FrameDrafts.{DraftGroups, HeldGroups, Holds, IsOwing, IsFrameDraft, functions_of, root_of}
+use Rattle.composer.specs.FrameDrafts.{DraftGroups, HeldGroups, Holds, IsOwing, IsFrameDraft, root_of}
+use Rattle.lang_ast.specs.Programs.{program_view, functions_of}
+use Rattle.lang_checks.specs.CheckedProgram.{IsChecked}
 use Rattle.rt_groups.specs.Nodes.{nodes}
 use Rattle.rt_groups.specs.Nodes as tree
 use Rattle.node_tree.specs.declared.ops.Op.{Op}
@@ -27,8 +29,9 @@ use Rattle.node_tree.specs.Premises.{CanFollow}
 use Rattle.snap_api.specs.declared.data.Entry.{Entry}
 use Rattle.recomposer.specs.declared.composition.Composition.{Composition}
 use Rattle.recomposer.specs.declared.composition.FrameStop.{FrameStop}
-use Rattle.recomposer.specs.AppliedFrames.{is_detached, Mirrors, ops_of, frame_ops, kept_after_fault, Applies}
-use Rattle.recomposer.specs.Compositions.{IsKept, Owes, IsAt, kept_after, frame_reads, MakesFrame, MakesNoFrame, LogsNoFrame}
+use Rattle.recomposer.specs.AppliedFrames.{Mirrors, ops_of, kept_after_fault, Applies}
+use Rattle.node_tree.specs.FrameOps.{frame_ops}
+use Rattle.recomposer.specs.Compositions.{IsKept, Owes, IsAt, frame_reads, MakesFrame, MakesNoFrame, LogsNoFrame}
 use Rattle.recomposer.proofs.Applied.{next_follows, still_from_one, detached_if_called, nothing_is_kept, anew_ops, usual_ops, applied, applied_nothing, frame_turns}
 use Rattle.recomposer.proofs.Owings.{owes_nothing, owing, same_below}
 use Rattle.recomposer.proofs.Reports.{owed_report, owed_reads}
@@ -52,7 +55,7 @@ nodes_counted (Group site n what inside rest) =
     let f = nodes_counted rest in
     omega (arith, e, f)
 
-module _ (p : Checked) (k : LastFrame) (m : Map) where
+module _ (p : Program) (k : LastFrame) (m : Map) where
   -- A forest with few enough groups gives a good frame.
   pub good_is : how_many (forest (functions_of p) (root_of p) m) ≤ most_groups → frame (functions_of p) k m ≡ Some (good_frame k m (forest (functions_of p) (root_of p) m))
   good_is few = ap (λ b. option_map (good_frame k m) (cond b (Some (forest (functions_of p) (root_of p) m)) None)) (le-leb (how_many (forest (functions_of p) (root_of p) m)) most_groups few)
@@ -62,10 +65,10 @@ module _ (p : Checked) (k : LastFrame) (m : Map) where
   refused_is many = ap (λ b. option_map (good_frame k m) (cond b (Some (forest (functions_of p) (root_of p) m)) None)) (lt-leb (how_many (forest (functions_of p) (root_of p) m)) most_groups many)
 
   -- The report of a good frame.
-  pub told_good : (r : Report) (owed : OwedObjects) → r ≡ report owed.objects k.trail (forest (functions_of p) (root_of p) m) → how_many (forest (functions_of p) (root_of p) m) ≤ most_groups → Owes p k.seen k.trail (Some m) owed →
+  pub told_good : (r : Report) (owed : OwedObjects) → r ≡ report owed.objects k.trail (forest (functions_of p) (root_of p) m) → how_many (forest (functions_of p) (root_of p) m) ≤ most_groups → IsChecked (program_view p) → Owes p k.seen k.trail (Some m) owed →
       Some r ≡ option_map (λ g. g.told) (frame (functions_of p) k m)
-  told_good r owed is few owes =
-      ap Some (is ∙ owed_report p k.seen k.trail m owed (forest (functions_of p) (root_of p) m) owes)
+  told_good r owed is few checked owes =
+      ap Some (is ∙ owed_report p k.seen k.trail m owed (forest (functions_of p) (root_of p) m) checked owes)
       ∙ sym (ap (option_map (λ (g : FrameResult). g.told)) (good_is few))
 
   abbrev pub new_trail : GroupForest
@@ -89,12 +92,13 @@ finished_at c c' k m d h few draft program held_groups held_next groups nodes ow
     let kept : IsKept p m (good_frame k m new).left.trail =
     record { composed = kept_trail_is_the_forest k.trail k.next (functions_of p) (root_of p) m; few = few; numbered = kept_is_numbered k.trail new k.next } in
     subst (λ (o : Option FrameResult). IsAt c' (kept_after k o) (Some m)) (sym (good_is p k m few)) (record {
+      checked = subst (λ (q : Program). IsChecked (program_view q)) (sym same) h.checked;
       holds = (held_groups ∙ draft.groups, held_next ∙ draft.next);
-      owes = subst (λ (q : Checked). Owes q (Some m) left.trail (Some m) c'.owed) (sym same)
+      owes = subst (λ (q : Program). Owes q (Some m) left.trail (Some m) c'.owed) (sym same)
           (owes_nothing p m left.trail c'.owed (ap (λ (o : OwedObjects). o.all) owed) (ap (λ (o : OwedObjects). o.objects) owed) kept);
-      numbers = (next_follows p k (Some m) m c.owed h.owes h.numbers).1;
-      from_one = still_from_one p k (Some m) m c.owed h.owes h.from_one;
-      states = ap (λ (o : OwedObjects). o.states) owed ∙ h.states ∙ ap (λ (q : Checked). length q.states.items) (sym same);
+      numbers = (next_follows p k (Some m) m c.owed h.checked h.owes h.numbers).1;
+      from_one = still_from_one p k (Some m) m c.owed h.checked h.owes h.from_one;
+      states = ap (λ (o : OwedObjects). o.states) owed ∙ h.states ∙ ap (λ (q : Program). length q.states.items) (sym same);
       groups = groups ∙ ap (λ (r : Report). r.groups) draft.report ∙ sym (same_groups p k m);
       nodes = nodes ∙ ap (λ (r : Report). r.nodes) draft.report ∙ sym (same_nodes p k m);
     })
@@ -105,11 +109,12 @@ pub detached_at : (c c' : Composition) (k : LastFrame) (m : Map) (d : DraftGroup
     c'.owed ≡ record { all = true; objects = c.owed.objects; states = c.owed.states } → IsAt c' (kept_after_fault k (frame (functions_of c.program.now) k m)) (Some m)
 detached_at c c' k m d h few draft program held_groups held_next groups nodes owed =
     subst (λ (o : Option FrameResult). IsAt c' (kept_after_fault k o) (Some m)) (sym (good_is c.program.now k m few)) (record {
+      checked = subst (λ (q : Bor Program). IsChecked (program_view q.now)) (sym program) h.checked;
       holds = (held_groups, held_next ∙ draft.next);
       owes = (refl, ap (λ (o : OwedObjects). o.all) owed);
       numbers = λ x. (omega arith, λ above. refl);
-      from_one = ((still_from_one c.program.now k (Some m) m c.owed h.owes h.from_one).0, refl);
-      states = ap (λ (o : OwedObjects). o.states) owed ∙ h.states ∙ ap (λ (q : Bor Checked). length q.now.states.items) (sym program);
+      from_one = ((still_from_one c.program.now k (Some m) m c.owed h.checked h.owes h.from_one).0, refl);
+      states = ap (λ (o : OwedObjects). o.states) owed ∙ h.states ∙ ap (λ (q : Bor Program). length q.now.states.items) (sym program);
       groups = groups;
       nodes = nodes;
     })
@@ -117,27 +122,28 @@ detached_at c c' k m d h few draft program held_groups held_next groups nodes ow
 -- A composition with the same parts, except for the calls of its last frame.
 pub same_at : (c c' : Composition) (k : LastFrame) (l : Option Map) → c'.program ≡ c.program → c'.held ≡ c.held → c'.owed ≡ c.owed → c'.groups ≡ c.groups → c'.nodes ≡ c.nodes → IsAt c k l → IsAt c' k l
 same_at c c' k l program held owed groups nodes h = record {
+  checked = subst (λ (q : Bor Program). IsChecked (program_view q.now)) (sym program) h.checked;
   holds = subst (λ (x : HeldGroups). Holds x k) (sym held) h.holds;
-  owes = subst (λ (x : OwedObjects). Owes c'.program.now k.seen k.trail l x) (sym owed) (subst (λ (q : Bor Checked). Owes q.now k.seen k.trail l c.owed) (sym program) h.owes);
+  owes = subst (λ (x : OwedObjects). Owes c'.program.now k.seen k.trail l x) (sym owed) (subst (λ (q : Bor Program). Owes q.now k.seen k.trail l c.owed) (sym program) h.owes);
   numbers = h.numbers;
   from_one = h.from_one;
-  states = ap (λ (x : OwedObjects). x.states) owed ∙ h.states ∙ ap (λ (q : Bor Checked). length q.now.states.items) (sym program);
+  states = ap (λ (x : OwedObjects). x.states) owed ∙ h.states ∙ ap (λ (q : Bor Program). length q.now.states.items) (sym program);
   groups = groups ∙ h.groups;
   nodes = nodes ∙ h.nodes;
 }
 
 -- What a frame owes.
 pub owing_at : (c : Composition) (k : LastFrame) (m : Map) → IsAt c k (Some m) → IsOwing (functions_of c.program.now) (root_of c.program.now) k.seen k.trail m c.owed
-owing_at c k m h = owing c.program.now k.seen k.trail m c.owed h.owes
+owing_at c k m h = owing c.program.now k.seen k.trail m c.owed h.checked h.owes
 
 -- The report of a frame.
 pub told_at : (c : Composition) (k : LastFrame) (m : Map) (d : DraftGroups) → IsAt c k (Some m) → how_many (forest (functions_of c.program.now) (root_of c.program.now) m) ≤ most_groups →
     IsFrameDraft (functions_of c.program.now) (root_of c.program.now) c.owed k m d → Some d.report ≡ option_map (λ g. g.told) (frame (functions_of c.program.now) k m)
-told_at c k m d h few draft = told_good c.program.now k m d.report c.owed draft.report few h.owes
+told_at c k m d h few draft = told_good c.program.now k m d.report c.owed draft.report few h.checked h.owes
 
 -- The reads of a frame.
 pub reads_at : (c : Composition) (k : LastFrame) (m : Map) → IsAt c k (Some m) → reads c.owed.objects k.trail (forest (functions_of c.program.now) (root_of c.program.now) m) ≡ frame_reads c.program.now k m
-reads_at c k m h = owed_reads c.program.now k.seen k.trail m c.owed (forest (functions_of c.program.now) (root_of c.program.now) m) h.owes
+reads_at c k m h = owed_reads c.program.now k.seen k.trail m c.owed (forest (functions_of c.program.now) (root_of c.program.now) m) h.checked h.owes
 
 -- A frame that owes nothing.
 
@@ -158,23 +164,23 @@ no_reads [] e = refl
 no_reads (x ∷ xs) e = absurd (omega (arith, e))
 
 -- A frame that owes nothing keeps everything, and reads nothing.
-record IsIdle (p : Checked) (k : LastFrame) (m : Map) : Type 0 where
+record IsIdle (p : Program) (k : LastFrame) (m : Map) : Type 0 where
   is : frame (functions_of p) k m ≡ Some (record { left = record { seen = Some m; trail = k.trail; next = k.next }; told = unchanged_report k.trail })
   kept : IsKept p m k.trail
   reads_none : frame_reads p k m ≡ []
 
-idle_from : (p : Checked) (seen : Option Map) (trail : GroupForest) (next : ℕ) (m : Map) (owed : OwedObjects) → owed.all ≡ false → owed.objects ≡ [] → Owes p seen trail (Some m) owed → IsIdle p (record { seen = seen; trail = trail; next = next }) m
-idle_from p None trail next m owed all none h = absurd (let e : true ≡ false = sym h.1 ∙ all in cc)
-idle_from p (Some seen) trail next m owed all none h =
+idle_from : (p : Program) (seen : Option Map) (trail : GroupForest) (next : ℕ) (m : Map) (owed : OwedObjects) → owed.all ≡ false → owed.objects ≡ [] → IsChecked (program_view p) → Owes p seen trail (Some m) owed → IsIdle p (record { seen = seen; trail = trail; next = next }) m
+idle_from p None trail next m owed all none checked h = absurd (let e : true ≡ false = sym h.1 ∙ all in cc)
+idle_from p (Some seen) trail next m owed all none checked h =
     let functions = functions_of p in
     let root = root_of p in
     let new = forest functions root m in
     let k : LastFrame = record { seen = Some seen; trail = trail; next = next } in
     let same : (x : ℕ) → x < length p.states.items → contains x [] ≡ contains x (differ (Some seen) m) = λ x low. ap (λ l. contains x l) (sym none) ∙ h.2 x low in
-    let still = idle_frame seen m functions root trail next h.3.composed h.3.numbered (same_below (length p.states.items) seen m [] h.1 same (asks trail) (kept_below p seen trail h.3.composed)) in
+    let still = idle_frame seen m functions root trail next h.3.composed h.3.numbered (same_below (length p.states.items) seen m [] h.1 same (asks trail) (kept_below p seen trail checked h.3.composed)) in
     let composed : without_numbers trail ≡ new = ap (λ (q : GroupForest × ℕ). without_numbers q.0) (sym still.0) ∙ kept_trail_is_the_forest trail next functions root m in
     let few : how_many new ≤ most_groups = subst (λ t. how_many t ≤ most_groups) (sym h.3.composed ∙ composed) h.3.few in
-    let told : report (differ (Some seen) m) trail new ≡ unchanged_report trail = sym (owed_report p (Some seen) trail m owed new h) ∙ ap (λ l. report l trail new) none ∙ still.1 in
+    let told : report (differ (Some seen) m) trail new ≡ unchanged_report trail = sym (owed_report p (Some seen) trail m owed new checked h) ∙ ap (λ l. report l trail new) none ∙ still.1 in
     record {
       is = good_is p k m few
           ∙ ap (λ (q : GroupForest × ℕ). Some (good (record { seen = Some m; trail = q.0; next = q.1 }) (report (differ (Some seen) m) trail new))) still.0
@@ -188,11 +194,12 @@ idle_from p (Some seen) trail next m owed all none h =
 
 module _ (c : Composition) (k : LastFrame) (m : Map) (h : IsAt c k (Some m)) (all : c.owed.all ≡ false) (none : c.owed.objects ≡ []) where
   idle : IsIdle c.program.now k m
-  idle = idle_from c.program.now k.seen k.trail k.next m c.owed all none h.owes
+  idle = idle_from c.program.now k.seen k.trail k.next m c.owed all none h.checked h.owes
 
   -- The composition after a frame that owes nothing.
   pub idle_at : IsAt c (kept_after k (frame (functions_of c.program.now) k m)) (Some m)
   idle_at = subst (λ (o : Option FrameResult). IsAt c (kept_after k o) (Some m)) (sym idle.is) (record {
+    checked = h.checked;
     holds = h.holds;
     owes = owes_nothing c.program.now m k.trail c.owed all none idle.kept;
     numbers = h.numbers;
@@ -228,19 +235,19 @@ grew_in_all (Ok d) asked asked' last all same whole part = record { rest = []; i
 grew_in_all (Err e) asked asked' last all same whole part = subst (λ l. Grew asked l all) (sym same) part
 
 -- A frame that was made of the same program.
-pub made_frame : (p p' : Checked) (k : LastFrame) (at_frame : LastFrame → Option Map → Type 0) (last : Option Map → Type 0) (does : List ℕ → Type 0) (applies : Option FrameResult → Type 0) (told : Report) → p' ≡ p → MakesFrame p' k at_frame last does applies told → MakesFrame p k at_frame last does applies told
-made_frame p p' k at_frame last does applies told same made = subst (λ (q : Checked). MakesFrame q k at_frame last does applies told) same made
+pub made_frame : (p p' : Program) (k : LastFrame) (at_frame : LastFrame → Option Map → Type 0) (last : Option Map → Type 0) (does : List ℕ → Type 0) (applies : Option FrameResult → Type 0) (told : Report) → p' ≡ p → MakesFrame p' k at_frame last does applies told → MakesFrame p k at_frame last does applies told
+made_frame p p' k at_frame last does applies told same made = subst (λ (q : Program). MakesFrame q k at_frame last does applies told) same made
 
 -- A frame of the same program that was not made.
-pub made_no_frame : (p p' : Checked) (k : LastFrame) (at_frame : LastFrame → Option Map → Type 0) (last : Option Map → Type 0) (old new : Option (List Entry)) (caller watcher : ℕ) (stop : FrameStop) → p' ≡ p →
+pub made_no_frame : (p p' : Program) (k : LastFrame) (at_frame : LastFrame → Option Map → Type 0) (last : Option Map → Type 0) (old new : Option (List Entry)) (caller watcher : ℕ) (stop : FrameStop) → p' ≡ p →
     MakesNoFrame p' k at_frame last (LogsNoFrame p' k old new caller watcher) stop → MakesNoFrame p k at_frame last (LogsNoFrame p k old new caller watcher) stop
-made_no_frame p p' k at_frame last old new caller watcher stop same made = subst (λ (q : Checked). MakesNoFrame q k at_frame last (LogsNoFrame q k old new caller watcher) stop) same made
+made_no_frame p p' k at_frame last old new caller watcher stop same made = subst (λ (q : Program). MakesNoFrame q k at_frame last (LogsNoFrame q k old new caller watcher) stop) same made
 
 -- The calls of a frame.
 
 -- The new tree can follow the kept one.
 pub tree_follows : (c : Composition) (k : LastFrame) (m : Map) → IsAt c k (Some m) → CanFollow (nodes k.trail) (nodes (new_trail c.program.now k m))
-tree_follows c k m h = (next_follows c.program.now k (Some m) m c.owed h.owes h.numbers).0
+tree_follows c k m h = (next_follows c.program.now k (Some m) m c.owed h.checked h.owes h.numbers).0
 
 pub none_kept : (c : Composition) (k : LastFrame) (l : Option Map) → IsAt c k l → is_detached k ≡ true → k.trail ≡ End
 none_kept c k l h e = nothing_is_kept c.program.now k l c.owed h.owes e
@@ -264,7 +271,7 @@ module _ (c : Composition) (k : LastFrame) (m : Map) (d : DraftGroups) (h : IsAt
   pub detached_after : (calls : List Op) → calls ≡ ops_of k (frame (functions_of c.program.now) k m) → (length calls ≡ 0 → ⊥) → is_detached (kept_after_fault k (frame (functions_of c.program.now) k m)) ≡ true
   detached_after calls is some =
       ap (λ (o : Option FrameResult). is_detached (kept_after_fault k o)) (good_is c.program.now k m few)
-      ∙ detached_if_called c.program.now k (Some m) m c.owed h.owes h.numbers h.from_one (λ none. some (ap (λ (l : List Op). length l) (is ∙ sym calls_are ∙ none)))
+      ∙ detached_if_called c.program.now k (Some m) m c.owed h.checked h.owes h.numbers h.from_one (λ none. some (ap (λ (l : List Op). length l) (is ∙ sym calls_are ∙ none)))
 
   -- The calls may be made.
   pub calls_may : (calls : List Op) (t : CursorTree) → calls ≡ ops_of k (frame (functions_of c.program.now) k m) → Mirrors (Some t) k → AllMayCome t calls

@@ -5,13 +5,15 @@ use Rattle.std.proofs.lemmas.Option.{slice_get_cases, slice_get_past, get_or_fro
 use Rattle.rt_values.specs.declared.maps.StampedValue.{StampedValue}
 use Rattle.rt_values.specs.Maps.{Map, no_entry, entry_at, differs, differ, differ_from, contains}
 use Rattle.rt_groups.specs.GroupForest.{GroupForest, asks}
-use Rattle.lang_checks.specs.declared.checks.Checked.{Checked}
+use Rattle.lang_ast.specs.declared.program.Program.{Program}
 use Rattle.snap_api.specs.Desks.{Follows, FollowsLast}
 use Rattle.recompose_laws.specs.Refreshing.{SameReads}
 use Rattle.recompose_laws.proofs.Owed.{owed_is_what_changed}
 use Rattle.recompose_laws.proofs.Refreshes.{split_at}
 use Rattle.composer.specs.OwedObjects.{OwedObjects}
-use Rattle.composer.specs.FrameDrafts.{IsOwing, functions_of, root_of}
+use Rattle.composer.specs.FrameDrafts.{IsOwing, root_of}
+use Rattle.lang_ast.specs.Programs.{program_view, functions_of}
+use Rattle.lang_checks.specs.CheckedProgram.{IsChecked}
 use Rattle.recomposer.specs.Compositions.{IsKept, Owes}
 use Rattle.recomposer.proofs.StateReads.{AreBelow, kept_below}
 
@@ -137,7 +139,7 @@ follows_trans m n p h i =
     }
 
 -- A state that changed since the last take is owed too.
-pub owes_more : (p : Checked) (seen : Option Map) (trail : GroupForest) (last : Option Map) (now : Map) (owed owed' : OwedObjects) (changed : List ℕ) → Owes p seen trail last owed → FollowsLast last now → changed ≡ differ last now →
+pub owes_more : (p : Program) (seen : Option Map) (trail : GroupForest) (last : Option Map) (now : Map) (owed owed' : OwedObjects) (changed : List ℕ) → Owes p seen trail last owed → FollowsLast last now → changed ≡ differ last now →
     owed'.all ≡ owed.all → ((x : ℕ) → x < length p.states.items → contains x owed'.objects ≡ (contains x owed.objects || contains x changed)) → Owes p seen trail (Some now) owed'
 owes_more p None trail last now owed owed' changed h after is all marked = (h.0, all ∙ h.1)
 owes_more p (Some m) trail None now owed owed' changed h after is all marked = absurd h
@@ -149,7 +151,7 @@ owes_more p (Some m) trail (Some n) now owed owed' changed h after is all marked
 )
 
 -- After a good frame nothing is owed.
-pub owes_nothing : (p : Checked) (m : Map) (trail : GroupForest) (owed : OwedObjects) → owed.all ≡ false → owed.objects ≡ [] → IsKept p m trail → Owes p (Some m) trail (Some m) owed
+pub owes_nothing : (p : Program) (m : Map) (trail : GroupForest) (owed : OwedObjects) → owed.all ≡ false → owed.objects ≡ [] → IsKept p m trail → Owes p (Some m) trail (Some m) owed
 owes_nothing p m trail owed all none kept = (
   all,
   record { long = omega arith; stamps = λ x h. omega arith; values = λ x h same. refl },
@@ -170,11 +172,11 @@ module _ (n : ℕ) (seen m : Map) (owed : List ℕ) (after : Follows seen m) (sa
   same_below (x ∷ xs) h = (λ out. owed_is_what_changed seen m after.long after.values x (sym (same x h.0) ∙ out), same_below xs h.1)
 
 -- What a frame owes.
-pub owing : (p : Checked) (seen : Option Map) (t : GroupForest) (m : Map) (owed : OwedObjects) → Owes p seen t (Some m) owed → IsOwing (functions_of p) (root_of p) seen t m owed
-owing p None t m owed h = h
-owing p (Some seen) t m owed h = (
+pub owing : (p : Program) (seen : Option Map) (t : GroupForest) (m : Map) (owed : OwedObjects) → IsChecked (program_view p) → Owes p seen t (Some m) owed → IsOwing (functions_of p) (root_of p) seen t m owed
+owing p None t m owed checked h = h
+owing p (Some seen) t m owed checked h = (
   h.3.composed,
   h.0,
   h.3.numbered,
-  same_below (length p.states.items) seen m owed.objects h.1 h.2 (asks t) (kept_below p seen t h.3.composed),
+  same_below (length p.states.items) seen m owed.objects h.1 h.2 (asks t) (kept_below p seen t checked h.3.composed),
 )

@@ -8,8 +8,8 @@ use Rattle.rt_groups.specs.Nodes.{nodes}
 use Rattle.rt_groups.specs.Frames.{LastFrame, numbered_forest, most_groups, ran, calculated_cells, reads, report}
 use Rattle.lang_ast.specs.Terms.{Func}
 use Rattle.compose_model.specs.Composing.{meanings, meaning_at, forest}
-use Rattle.compose_model.specs.Frame.{FrameResult, frame}
-use Rattle.lang_checks.specs.declared.checks.Checked.{Checked}
+use Rattle.compose_model.specs.Frame.{FrameResult, frame, kept_after}
+use Rattle.lang_ast.specs.declared.program.Program.{Program}
 use Rattle.recompose_laws.specs.Work.{Work, no_work, with_call, work}
 use Rattle.recompose_laws.specs.Refreshing.{is_owed, SameReads}
 use Rattle.recompose_laws.specs.Walking.{walk_work_inside, walk_work}
@@ -22,11 +22,14 @@ use Rattle.recompose_laws.proofs.Renewals.{composing_again_is_the_frame}
 use Rattle.node_tree.proofs.SameLevels.{unchanged_tree_needs_no_calls}
 use Rattle.tree_laws.proofs.ForestTrees.{kept_tree_is_distinct}
 use Rattle.composer.specs.OwedObjects.{OwedObjects}
-use Rattle.composer.specs.FrameDrafts.{functions_of, root_of}
+use Rattle.composer.specs.FrameDrafts.{root_of}
+use Rattle.lang_ast.specs.Programs.{program_view, functions_of}
+use Rattle.lang_checks.specs.CheckedProgram.{IsChecked}
 use Rattle.recomposer.specs.declared.composition.Composition.{Composition}
-use Rattle.recomposer.specs.AppliedFrames.{frame_ops, ops_of}
+use Rattle.recomposer.specs.AppliedFrames.{ops_of}
+use Rattle.node_tree.specs.FrameOps.{frame_ops}
 use Rattle.recomposer.specs.declared.composition.FrameStop.{FrameStop}
-use Rattle.recomposer.specs.Compositions.{IsKept, Owes, IsAt, kept_after, frame_reads, OwesNoCall, seen_again, ChangesNothing}
+use Rattle.recomposer.specs.Compositions.{IsKept, Owes, IsAt, frame_reads, OwesNoCall, seen_again, ChangesNothing}
 use Rattle.recomposer.proofs.Applied.{usual_ops}
 use Rattle.recomposer.proofs.Frames.{good_is, groups_counted, nodes_counted}
 use Rattle.recomposer.proofs.Owings.{same_below}
@@ -67,7 +70,7 @@ nothing_told t =
     ap {B = Report} (λ x. record { ran = 0; calculated = 0; reads = x; groups = how_many t; nodes = how_many_nodes t }) e
 
 -- The frame in the map `m` after a kept forest of the map `seen`. Every object that the forest read and that changed is owed.
-module _ (p : Checked) (seen m : Map) (trail : GroupForest) (next : ℕ) (owed : List ℕ) (kept : IsKept p seen trail) (same : SameReads owed (asks trail) seen m) where
+module _ (p : Program) (seen m : Map) (trail : GroupForest) (next : ℕ) (owed : List ℕ) (kept : IsKept p seen trail) (same : SameReads owed (asks trail) seen m) where
   abbrev functions : List Func
   functions = functions_of p
 
@@ -118,24 +121,24 @@ module _ (p : Checked) (seen m : Map) (trail : GroupForest) (next : ℕ) (owed :
       ∙ nothing_told trail
 
 -- If no call ran, no call is made on an applier.
-calls_none_from : (p : Checked) (seen : Option Map) (trail : GroupForest) (next : ℕ) (m : Map) (owed : OwedObjects) → owed.all ≡ false → Owes p seen trail (Some m) owed → AreDistinct trail next
+calls_none_from : (p : Program) (seen : Option Map) (trail : GroupForest) (next : ℕ) (m : Map) (owed : OwedObjects) → owed.all ≡ false → IsChecked (program_view p) → Owes p seen trail (Some m) owed → AreDistinct trail next
     → length (ran owed.objects trail (forest (functions_of p) (root_of p) m)) ≡ 0 → let k : LastFrame = record { seen = seen; trail = trail; next = next } in ops_of k (frame (functions_of p) k m) ≡ []
-calls_none_from p None trail next m owed all h distinct none = absurd (let e : true ≡ false = sym h.1 ∙ all in cc)
-calls_none_from p (Some seen) trail next m owed all h distinct none =
-    let same = same_below (length p.states.items) seen m owed.objects h.1 h.2 (asks trail) (kept_below p seen trail h.3.composed) in
+calls_none_from p None trail next m owed all checked h distinct none = absurd (let e : true ≡ false = sym h.1 ∙ all in cc)
+calls_none_from p (Some seen) trail next m owed all checked h distinct none =
+    let same = same_below (length p.states.items) seen m owed.objects h.1 h.2 (asks trail) (kept_below p seen trail checked h.3.composed) in
     calls_none_if_stays p seen m trail next owed.objects h.3 same distinct (still_if_quiet p seen m trail next owed.objects h.3 same (quiet_if_none_ran p seen m trail next owed.objects h.3 same none))
 
 pub calls_none : (c : Composition) (k : LastFrame) (m : Map) → IsAt c k (Some m) → c.owed.all ≡ false → length (ran c.owed.objects k.trail (forest (functions_of c.program.now) (root_of c.program.now) m)) ≡ 0
     → ops_of k (frame (functions_of c.program.now) k m) ≡ []
-calls_none c k m h all none = calls_none_from c.program.now k.seen k.trail k.next m c.owed all h.owes h.numbers none
+calls_none c k m h all none = calls_none_from c.program.now k.seen k.trail k.next m c.owed all h.checked h.owes h.numbers none
 
 -- A frame in which no call is owed changes nothing.
-quiet_from : (p : Checked) (seen : Option Map) (trail : GroupForest) (next : ℕ) (m : Map) (owed : OwedObjects) → is_none seen ≡ false → IsQuiet (differ seen m) trail → Owes p seen trail (Some m) owed → AreDistinct trail next
+quiet_from : (p : Program) (seen : Option Map) (trail : GroupForest) (next : ℕ) (m : Map) (owed : OwedObjects) → is_none seen ≡ false → IsQuiet (differ seen m) trail → IsChecked (program_view p) → Owes p seen trail (Some m) owed → AreDistinct trail next
     → ChangesNothing p (record { seen = seen; trail = trail; next = next }) m
-quiet_from p None trail next m owed some quiet h distinct = absurd (let e : true ≡ false = some in cc)
-quiet_from p (Some seen) trail next m owed some quiet h distinct =
+quiet_from p None trail next m owed some quiet checked h distinct = absurd (let e : true ≡ false = some in cc)
+quiet_from p (Some seen) trail next m owed some quiet checked h distinct =
     let changed = differ (Some seen) m in
-    let same = same_below (length p.states.items) seen m changed h.1 (λ x low. refl) (asks trail) (kept_below p seen trail h.3.composed) in
+    let same = same_below (length p.states.items) seen m changed h.1 (λ x low. refl) (asks trail) (kept_below p seen trail checked h.3.composed) in
     let still = still_if_quiet p seen m trail next changed h.3 same quiet in
     let k : LastFrame = record { seen = Some seen; trail = trail; next = next } in
     let new = forest (functions_of p) (root_of p) m in
@@ -151,10 +154,10 @@ quiet_from p (Some seen) trail next m owed some quiet h distinct =
     good left told = record { left = left; told = told }
 
 pub quiet_at : (c : Composition) (k : LastFrame) (m : Map) → IsAt c k (Some m) → OwesNoCall k m → ChangesNothing c.program.now k m
-quiet_at c k m h quiet = quiet_from c.program.now k.seen k.trail k.next m c.owed quiet.0 quiet.1 h.owes h.numbers
+quiet_at c k m h quiet = quiet_from c.program.now k.seen k.trail k.next m c.owed quiet.0 quiet.1 h.checked h.owes h.numbers
 
 -- What is so after a frame that changes nothing.
-module _ (p : Checked) (k : LastFrame) (m : Map) (nothing : ChangesNothing p k m) where
+module _ (p : Program) (k : LastFrame) (m : Map) (nothing : ChangesNothing p k m) where
   pub quiet_reads : (asked asked' : List ℕ) → asked' ≡ asked ++ frame_reads p k m → asked' ≡ asked
   quiet_reads asked asked' reads = reads ∙ ap (λ (l : List ℕ). asked ++ l) nothing.reads_none ∙ append-nil asked
 

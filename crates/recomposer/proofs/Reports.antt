@@ -6,7 +6,9 @@ use Rattle.rt_values.specs.Maps.{Map, differ, contains}
 use Rattle.rt_groups.specs.GroupForest.{GroupForest, End, GroupKind, asks, own_part, how_many, how_many_nodes}
 use Rattle.rt_groups.specs.Paths.{Path, Found, inside_of, at_path}
 use Rattle.rt_groups.specs.Frames.{CallAtPath, nobody, calls, cells, trace, meets, same_call, runs_after, call_runs, other_keys, is_calculated, ran, calculated_cells, reads, report}
-use Rattle.lang_checks.specs.declared.checks.Checked.{Checked}
+use Rattle.lang_ast.specs.declared.program.Program.{Program}
+use Rattle.lang_ast.specs.Programs.{program_view}
+use Rattle.lang_checks.specs.CheckedProgram.{IsChecked}
 use Rattle.composer.specs.OwedObjects.{OwedObjects}
 use Rattle.recomposer.specs.Compositions.{Owes}
 use Rattle.recomposer.proofs.StateReads.{AreBelow, own_below, path_below, kept_below}
@@ -53,13 +55,13 @@ module _ (n : ℕ) (o p : List ℕ) (same : (x : ℕ) → x < n → contains x o
   call_same old h c = runs_same (at_path c.path old) c.what (own_below n (inside_of (at_path c.path old)) (path_below n c.path old h))
 
 -- The calls that run are those that run if everything is owed that changed since the last good frame.
-pub owed_calls : (p : Checked) (seen : Option Map) (old : GroupForest) (m : Map) (owed : OwedObjects) → Owes p seen old (Some m) owed → (c : CallAtPath) → call_runs owed.objects old c ≡ call_runs (differ seen m) old c
-owed_calls p None old m owed h c =
+pub owed_calls : (p : Program) (seen : Option Map) (old : GroupForest) (m : Map) (owed : OwedObjects) → IsChecked (program_view p) → Owes p seen old (Some m) owed → (c : CallAtPath) → call_runs owed.objects old c ≡ call_runs (differ seen m) old c
+owed_calls p None old m owed checked h c =
     ap (λ t. call_runs owed.objects t c) h.0 ∙ (all_run owed.objects c ∙ sym (all_run (differ None m) c)) ∙ ap (λ t. call_runs (differ None m) t c) (sym h.0)
-owed_calls p (Some seen) old m owed h c = call_same (length p.states.items) owed.objects (differ (Some seen) m) h.2 old (kept_below p seen old h.3.composed) c
+owed_calls p (Some seen) old m owed checked h c = call_same (length p.states.items) owed.objects (differ (Some seen) m) h.2 old (kept_below p seen old checked h.3.composed) c
 
-pub owed_report : (p : Checked) (seen : Option Map) (old : GroupForest) (m : Map) (owed : OwedObjects) (new : GroupForest) → Owes p seen old (Some m) owed → report owed.objects old new ≡ report (differ seen m) old new
-owed_report p seen old m owed new h = report_same owed.objects (differ seen m) old (owed_calls p seen old m owed h) new
+pub owed_report : (p : Program) (seen : Option Map) (old : GroupForest) (m : Map) (owed : OwedObjects) (new : GroupForest) → IsChecked (program_view p) → Owes p seen old (Some m) owed → report owed.objects old new ≡ report (differ seen m) old new
+owed_report p seen old m owed new checked h = report_same owed.objects (differ seen m) old (owed_calls p seen old m owed checked h) new
 
-pub owed_reads : (p : Checked) (seen : Option Map) (old : GroupForest) (m : Map) (owed : OwedObjects) (new : GroupForest) → Owes p seen old (Some m) owed → reads owed.objects old new ≡ reads (differ seen m) old new
-owed_reads p seen old m owed new h = reads_same owed.objects (differ seen m) old (owed_calls p seen old m owed h) new
+pub owed_reads : (p : Program) (seen : Option Map) (old : GroupForest) (m : Map) (owed : OwedObjects) (new : GroupForest) → IsChecked (program_view p) → Owes p seen old (Some m) owed → reads owed.objects old new ≡ reads (differ seen m) old new
+owed_reads p seen old m owed new checked h = reads_same owed.objects (differ seen m) old (owed_calls p seen old m owed checked h) new

@@ -4,12 +4,13 @@ use Rattle.std.proofs.lemmas.List.Elements.{All-head, All-tail}
 use Rattle.rt_values.specs.Maps.{Map}
 use Rattle.rt_groups.specs.GroupForest.{GroupForest, End, Read, Group, Call, Node, Key, Cell, asks, own_part}
 use Rattle.rt_groups.specs.Paths.{Path, GroupKey, Found, sibling, same_sibling, nth, matching_sibling, inside_of, at_path}
-use Rattle.lang_ast.specs.SyntaxView.{functions_view}
-use Rattle.lang_checks.specs.declared.checks.Checked.{Checked}
+use Rattle.lang_ast.specs.declared.program.Program.{Program}
 use Rattle.compose_model.specs.Composing.{forest}
 use Rattle.recompose_laws.specs.Numbering.{without_numbers}
 use Rattle.recompose_laws.proofs.Renewals.{asks-without_numbers}
-use Rattle.composer.specs.FrameDrafts.{functions_of, root_of}
+use Rattle.composer.specs.FrameDrafts.{root_of}
+use Rattle.lang_ast.specs.Programs.{program_view, functions_of}
+use Rattle.lang_checks.specs.CheckedProgram.{IsChecked}
 use Rattle.checked_laws.proofs.StateReads.{reads_are_of_states}
 
 -- All numbers of a list are below `n`.
@@ -66,8 +67,8 @@ module _ (n : ℕ) where
   path_below (s ∷ (r ∷ path)) t h = path_below (r ∷ path) (inside_of (matching_sibling s.of s.occurrence t)) (found_below s.of s.occurrence t h)
 
 -- The reads of a forest that a checked program made are of its states.
-pub kept_below : (p : Checked) (m : Map) (t : GroupForest) → without_numbers t ≡ forest (functions_of p) (root_of p) m → AreBelow (length p.states.items) (asks t)
-kept_below p m t made =
+pub kept_below : (p : Program) (m : Map) (t : GroupForest) → IsChecked (program_view p) → without_numbers t ≡ forest (functions_of p) (root_of p) m → AreBelow (length p.states.items) (asks t)
+kept_below p m t checked made =
     subst (λ (xs : List ℕ). AreBelow (length p.states.items) xs) (sym (sym (asks-without_numbers t) ∙ ap asks made))
     (all_below (length p.states.items) (asks (forest (functions_of p) (root_of p) m))
-    (reads_are_of_states (record { header = p.header; states = p.states.items; functions = functions_view p.functions.items }) (root_of p) m p.fine))
+    (reads_are_of_states (program_view p) (root_of p) m checked.fine))

@@ -1,15 +1,15 @@
 -- Results of frames, by what stopped them.
 use Rattle.std.proofs.Common.{◌≡◌, ◌∙◌, ℕ, refl, ap, sym, subst, true, Option, Some, None, Result, Ok, Err, OnOk, OnErr, arith}
 use Rattle.rt_values.specs.Maps.{Map}
-use Rattle.rt_groups.specs.Frames.{LastFrame}
-use Rattle.lang_checks.specs.declared.checks.Checked.{Checked}
+use Rattle.rt_groups.specs.Frames.{LastFrame, is_detached}
+use Rattle.lang_ast.specs.declared.program.Program.{Program}
 use Rattle.compose_model.specs.Frame.{frame}
-use Rattle.composer.specs.FrameDrafts.{functions_of}
+use Rattle.lang_ast.specs.Programs.{functions_of}
 use Rattle.node_tree.specs.NodeTrees.{CursorTree}
 use Rattle.recomposer.specs.declared.composition.Composition.{Composition}
 use Rattle.recomposer.specs.declared.composition.FrameStop.{FrameStop}
 use Rattle.recomposer.specs.declared.composition.FrameStop.TheVariants.{TooManyGroups, ApplierFault, Spent, NoMemory}
-use Rattle.recomposer.specs.AppliedFrames.{is_detached, MayCall, UnlessFault, FaultHasCause, kept_after_fault}
+use Rattle.recomposer.specs.AppliedFrames.{MayCall, UnlessFault, FaultHasCause, kept_after_fault}
 use Rattle.recomposer.specs.Compositions.{IsAt, kept_after_stop}
 
 -- A fact holds after any result.
@@ -53,11 +53,11 @@ stopped_at c c' k m Spent r is same fault h = subst (λ (s : Composition). IsAt 
 stopped_at c c' k m NoMemory r is same fault h = subst (λ (s : Composition). IsAt s k (Some m)) (sym (unfaulted NoMemory r is (λ e. absurd cc) same)) h
 
 -- After a fault of the applier the composition is detached.
-pub stopped_detached : (p : Checked) (k : LastFrame) (m : Map) (stop : FrameStop) → stop ≡ ApplierFault → is_detached (kept_after_fault k (frame (functions_of p) k m)) ≡ true → is_detached (kept_after_stop p k (Some m) stop) ≡ true
+pub stopped_detached : (p : Program) (k : LastFrame) (m : Map) (stop : FrameStop) → stop ≡ ApplierFault → is_detached (kept_after_fault k (frame (functions_of p) k m)) ≡ true → is_detached (kept_after_stop p k (Some m) stop) ≡ true
 stopped_detached p k m stop e detached = ap (λ (s : FrameStop). is_detached (kept_after_stop p k (Some m) s)) e ∙ detached
 
 -- A frame that did not begin keeps everything.
-pub stopped_before : (p : Checked) (k : LastFrame) (l : Option Map) (stop : FrameStop) → (stop ≡ ApplierFault → ⊥) → kept_after_stop p k l stop ≡ k
+pub stopped_before : (p : Program) (k : LastFrame) (l : Option Map) (stop : FrameStop) → (stop ≡ ApplierFault → ⊥) → kept_after_stop p k l stop ≡ k
 stopped_before p k None stop none = refl
 stopped_before p k (Some m) ApplierFault none = absurd (none refl)
 stopped_before p k (Some m) TooManyGroups none = refl

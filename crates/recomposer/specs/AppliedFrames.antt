@@ -1,27 +1,17 @@
 -- Trusted: the calls of a frame on an applier, and what a frame leaves in the applier's tree.
-use Rattle.std.specs.Prelude.{◌≡◌, ◌≤◌, ℕ, List, [], ◌∷◌, ◌++◌, Bool, false, ◌&&◌, nat_lt, if◌then◌else◌, Option, Some, None, Result, Ok, Err}
-use Rattle.std.specs.Option.{option_map, is_none}
+use Rattle.std.specs.Prelude.{◌≡◌, ◌≤◌, ℕ, List, [], false, Option, Some, None, Result, Ok, Err}
+use Rattle.std.specs.Option.{option_map}
 use Rattle.rt_streams.specs.Streams.{Rose}
-use Rattle.rt_groups.specs.GroupForest.{GroupForest, End}
+use Rattle.rt_groups.specs.GroupForest.{End}
 use Rattle.rt_groups.specs.Nodes.{nodes}
-use Rattle.rt_groups.specs.Frames.{LastFrame}
+use Rattle.rt_groups.specs.Frames.{LastFrame, is_detached}
 use Rattle.compose_model.specs.Frame.{FrameResult}
 use Rattle.node_tree.specs.declared.ops.Op.{Op}
-use Rattle.node_tree.specs.declared.ops.Op.TheVariants as op
 use Rattle.node_tree.specs.NodeTrees.{CursorTree, tree_at_root}
-use Rattle.node_tree.specs.Placing.{ops}
+use Rattle.node_tree.specs.FrameOps.{frame_ops}
 use Rattle.recomposer.specs.declared.composition.Composition.{Composition}
 use Rattle.recomposer.specs.declared.composition.FrameStop.{FrameStop}
 use Rattle.recomposer.specs.declared.composition.FrameStop.TheVariants.{TooManyGroups, ApplierFault, Spent, NoMemory}
-
--- A composition is detached after an applier failed: it keeps nothing, but nodes had numbers.
-abbrev pub is_detached : LastFrame → Bool
-is_detached k = is_none k.seen && nat_lt 1 k.next
-
--- The calls on an applier of a frame that keeps this forest after the kept state `k`: those that turn the kept node tree
--- into the new one. If the composition is detached, `clear` comes first.
-abbrev pub frame_ops : LastFrame → GroupForest → List Op
-frame_ops k trail = (if is_detached k then op.Clear ∷ [] else []) ++ ops (nodes k.trail) (nodes trail)
 
 -- The calls of a good frame. A refused frame has none.
 abbrev pub ops_of : LastFrame → Option FrameResult → List Op

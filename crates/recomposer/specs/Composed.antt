@@ -4,7 +4,8 @@ use Rattle.rt_values.specs.Maps.{Map}
 use Rattle.rt_groups.specs.GroupForest.{how_many}
 use Rattle.rt_groups.specs.Frames.{LastFrame, most_groups}
 use Rattle.compose_model.specs.Composing.{forest}
-use Rattle.composer.specs.FrameDrafts.{DraftGroups, IsFrameDraft, functions_of, root_of}
+use Rattle.composer.specs.FrameDrafts.{DraftGroups, IsFrameDraft, root_of}
+use Rattle.lang_ast.specs.Programs.{functions_of}
 use Rattle.recomposer.specs.declared.composition.Composition.{Composition}
 
 -- What the frame of the composition in the map `m` composed after the kept state `k`: nothing if nothing is owed, else the

@@ -4,10 +4,10 @@ use Rattle.std.specs.Option.{option_map, is_none}
 use Rattle.rt_values.specs.Maps.{Map, differ, contains}
 use Rattle.rt_groups.specs.declared.report.Report.{Report}
 use Rattle.rt_groups.specs.GroupForest.{GroupForest, End, how_many, how_many_nodes}
-use Rattle.rt_groups.specs.Frames.{LastFrame, most_groups, reads}
+use Rattle.rt_groups.specs.Frames.{LastFrame, most_groups, reads, is_detached}
 use Rattle.compose_model.specs.Composing.{forest}
-use Rattle.compose_model.specs.Frame.{FrameResult, frame}
-use Rattle.lang_checks.specs.declared.checks.Checked.{Checked}
+use Rattle.compose_model.specs.Frame.{FrameResult, frame, kept_after}
+use Rattle.lang_ast.specs.declared.program.Program.{Program}
 use Rattle.recompose_laws.specs.Numbering.{without_numbers}
 use Rattle.recompose_laws.specs.Idle.{IsNumbered, IsQuiet, unchanged_report}
 use Rattle.recompose_laws.specs.Distinct.{AreDistinct, how_often}
@@ -23,21 +23,23 @@ use Rattle.snap_api.specs.declared.data.Reply.TheVariants as reply
 use Rattle.snap_api.specs.declared.data.Request.{Request}
 use Rattle.snap_api.specs.declared.data.Request.TheVariants.{TakeFor, Dispose}
 use Rattle.composer.specs.OwedObjects.{OwedObjects}
-use Rattle.composer.specs.FrameDrafts.{Holds, functions_of, root_of}
+use Rattle.composer.specs.FrameDrafts.{Holds, root_of}
+use Rattle.lang_ast.specs.Programs.{program_view, functions_of}
+use Rattle.lang_checks.specs.CheckedProgram.{IsChecked}
 use Rattle.recomposer.specs.declared.composition.Composition.{Composition}
 use Rattle.recomposer.specs.declared.composition.FrameStop.{FrameStop}
 use Rattle.recomposer.specs.declared.composition.FrameStop.TheVariants.{TooManyGroups, ApplierFault, Spent, NoMemory}
-use Rattle.recomposer.specs.AppliedFrames.{is_detached, kept_after_fault, ops_of}
+use Rattle.recomposer.specs.AppliedFrames.{kept_after_fault, ops_of}
 
 -- The kept forest is that of composing in the map `seen`, it has few enough groups, and only nodes have numbers.
-pub record IsKept (p : Checked) (seen : Map) (trail : GroupForest) : Type 0 where
+pub record IsKept (p : Program) (seen : Map) (trail : GroupForest) : Type 0 where
   pub composed : without_numbers trail ≡ forest (functions_of p) (root_of p) seen
   pub few : how_many (forest (functions_of p) (root_of p) seen) ≤ most_groups
   pub numbered : IsNumbered trail
 
 -- Before the first good frame no group is kept and everything is owed. After it the forest of its map is kept, and of the
 -- program's states those are owed whose stamps differ between that map and the watcher's last map `last`, which is later.
-abbrev pub Owes : Checked → Option Map → GroupForest → Option Map → OwedObjects → Type 0
+abbrev pub Owes : Program → Option Map → GroupForest → Option Map → OwedObjects → Type 0
 Owes p None trail last owed = (trail ≡ End) × (owed.all ≡ true)
 Owes p (Some seen) trail None owed = ⊥
 Owes p (Some seen) trail (Some last) owed =
@@ -49,9 +51,10 @@ Owes p (Some seen) trail (Some last) owed =
 abbrev pub CountsFromOne : LastFrame → Type 0
 CountsFromOne k = (1 ≤ k.next) × (how_often 0 k.trail ≡ 0)
 
--- The composition has kept the state `k` of the last good frame: its groups, whose nodes have distinct numbers from 1, the
--- next node number, and what is owed. `last` is the watcher's last map.
+-- The composition of a checked program has kept the state `k` of the last good frame: its groups, whose nodes have distinct
+-- numbers from 1, the next node number, and what is owed. `last` is the watcher's last map.
 pub record IsAt (c : Composition) (k : LastFrame) (last : Option Map) : Type 0 where
+  pub checked : IsChecked (program_view c.program.now)
   pub holds : Holds c.held k
   pub owes : Owes c.program.now k.seen k.trail last c.owed
   pub numbers : AreDistinct k.trail k.next
@@ -60,14 +63,9 @@ pub record IsAt (c : Composition) (k : LastFrame) (last : Option Map) : Type 0 w
   pub groups : c.groups ≡ how_many k.trail
   pub nodes : c.nodes ≡ how_many_nodes k.trail
 
--- What is kept after a frame. A refused frame changes nothing.
-abbrev pub kept_after : LastFrame → Option FrameResult → LastFrame
-kept_after k None = k
-kept_after k (Some good) = good.left
-
 -- What is kept after a frame that was refused, where `last` is the watcher's last map: the same, except after a fault of the
 -- applier.
-abbrev pub kept_after_stop : Checked → LastFrame → Option Map → FrameStop → LastFrame
+abbrev pub kept_after_stop : Program → LastFrame → Option Map → FrameStop → LastFrame
 kept_after_stop p k None stop = k
 kept_after_stop p k (Some m) ApplierFault = kept_after_fault k (frame (functions_of p) k m)
 kept_after_stop p k (Some m) TooManyGroups = k
@@ -91,7 +89,7 @@ refused_take TooManyGroups = reply.Refused refusal.NoMemory
 refused_take ApplierFault = reply.Refused refusal.NoMemory
 
 -- The reads of a frame: those of the calls that run.
-abbrev pub frame_reads : Checked → LastFrame → Map → List ℕ
+abbrev pub frame_reads : Program → LastFrame → Map → List ℕ
 frame_reads p k m = reads (differ k.seen m) k.trail (forest (functions_of p) (root_of p) m)
 
 -- There was a good frame, and no call of the kept groups has among its own reads an object that changed between the map of
@@ -105,7 +103,7 @@ seen_again k m = record { seen = Some m; trail = k.trail; next = k.next }
 
 -- The frame in the map `m` after the kept state `k` keeps all groups with their numbers. It runs, calculates and reads
 -- nothing, and makes no call on an applier.
-pub record ChangesNothing (p : Checked) (k : LastFrame) (m : Map) : Type 0 where
+pub record ChangesNothing (p : Program) (k : LastFrame) (m : Map) : Type 0 where
   pub is : frame (functions_of p) k m ≡ Some (record { left = seen_again k m; told = unchanged_report k.trail })
   pub reads_none : frame_reads p k m ≡ []
   pub calls_none : ops_of k (frame (functions_of p) k m) ≡ []
@@ -198,7 +196,7 @@ pub record PartOfFrame (old new : Option (List Entry)) (caller watcher : ℕ) (a
 
 -- What a frame that was not made adds to a log, `last` being the watcher's last map then: the refusal of its take, or the
 -- take, a first part of the reads that the frame owes in this map, and the dispose.
-abbrev pub LogsNoFrame : Checked → LastFrame → Option (List Entry) → Option (List Entry) → ℕ → ℕ → FrameStop
+abbrev pub LogsNoFrame : Program → LastFrame → Option (List Entry) → Option (List Entry) → ℕ → ℕ → FrameStop
     → Option Map → Type 0
 LogsNoFrame p k old new caller watcher stop last =
     Logs old new caller (TakeFor watcher) (refused_take stop)
@@ -207,7 +205,7 @@ LogsNoFrame p k old new caller watcher stop last =
 -- A frame was made in the map `map` after the kept state `k`: `at_frame` and `last` say what is kept and which map is the
 -- watcher's last one, `told` is the report, `does` says what the frame's reads did, and `applies` what the applier did. If no
 -- call is owed, the frame changes nothing.
-pub record MakesFrame (p : Checked) (k : LastFrame) (at_frame : LastFrame → Option Map → Type 0) (last : Option Map → Type 0)
+pub record MakesFrame (p : Program) (k : LastFrame) (at_frame : LastFrame → Option Map → Type 0) (last : Option Map → Type 0)
     (does : List ℕ → Type 0) (applies : Option FrameResult → Type 0) (told : Report) : Type 0 where
   pub map : Map
   pub is_at : at_frame (kept_after k (frame (functions_of p) k map)) (Some map)
@@ -220,7 +218,7 @@ pub record MakesFrame (p : Checked) (k : LastFrame) (at_frame : LastFrame → Op
 -- A frame was not made: the kept state stays, except after a fault of the applier, and what changed up to the watcher's last
 -- map is owed. `logs` says what the log is then. If there are too many groups, the frame of that map has no result. A frame
 -- with a fault of the applier has begun, and the composition is detached after it.
-pub record MakesNoFrame (p : Checked) (k : LastFrame) (at_frame : LastFrame → Option Map → Type 0) (last : Option Map → Type 0)
+pub record MakesNoFrame (p : Program) (k : LastFrame) (at_frame : LastFrame → Option Map → Type 0) (last : Option Map → Type 0)
     (logs : FrameStop → Option Map → Type 0) (stop : FrameStop) : Type 0 where
   pub map : Option Map
   pub is_at : at_frame (kept_after_stop p k map stop) map

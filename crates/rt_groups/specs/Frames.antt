@@ -1,7 +1,8 @@
 -- Trusted: what a frame counts as run, calculated and read, and the numbers of its nodes, from the forest of the last
 -- good frame and the new one.
-use Rattle.std.specs.Prelude.{ℕ, ◌+◌, ◌-◌, ◌^◌, min, List, [], ◌∷◌, ◌++◌, map, length, Bool, true, false, not, ◌&&◌, ◌||◌, ◌==◌, Option, Some, None, if◌then◌else◌}
+use Rattle.std.specs.Prelude.{ℕ, ◌+◌, ◌-◌, ◌^◌, min, List, [], ◌∷◌, ◌++◌, map, length, Bool, true, false, not, ◌&&◌, ◌||◌, ◌==◌, nat_lt, Option, Some, None, if◌then◌else◌}
 use Rattle.std.specs.List.{filter, list_any}
+use Rattle.std.specs.Option.{is_none}
 use Rattle.rt_values.specs.declared.value.Value.{Value}
 use Rattle.rt_groups.specs.declared.report.Report.{Report}
 use Rattle.rt_values.specs.Values.{same_values}
@@ -139,6 +140,10 @@ pub record LastFrame : Type 0 where
 
 abbrev pub no_last_frame : LastFrame
 no_last_frame = record { seen = None; trail = End; next = 1 }
+
+-- A composition is detached after an applier failed: it keeps nothing, but nodes had numbers.
+abbrev pub is_detached : LastFrame → Bool
+is_detached k = is_none k.seen && nat_lt 1 k.next
 
 -- The maximum number of groups of a composition.
 abbrev pub most_groups : ℕ

@@ -1,8 +1,8 @@
 -- Trusted: The lines that are printed of a history: one for each call, and the report, the calls on an applier and the
 -- tree after the dispose of a frame's snapshot.
-use Rattle.std.specs.Prelude.{ℕ, zero, suc, ◌+◌, ◌==◌, not, List, [], ◌∷◌, ◌++◌, map, Bool, true, false, ◌&&◌, nat_lt, codes, Option, Some, None, if◌then◌else◌, slice_get}
+use Rattle.std.specs.Prelude.{ℕ, zero, suc, ◌+◌, ◌==◌, not, List, [], ◌∷◌, ◌++◌, map, Bool, true, false, codes, Option, Some, None, if◌then◌else◌, slice_get}
 use Rattle.std.specs.List.{flat_map, filter}
-use Rattle.std.specs.Option.{option_map_or, is_none}
+use Rattle.std.specs.Option.{option_map_or}
 use Rattle.std.specs.Fmt.{decimal}
 use Rattle.rt_values.specs.declared.value.Ty.{Ty}
 use Rattle.rt_values.specs.declared.value.Ty.TheVariants as ty
@@ -17,11 +17,10 @@ use Rattle.rt_groups.specs.Frames.{LastFrame, no_last_frame}
 use Rattle.rt_groups.specs.declared.report.Report.{Report}
 use Rattle.lang_ast.specs.declared.program.State.{State}
 use Rattle.lang_ast.specs.Terms.{Func}
-use Rattle.lang_ast.specs.SyntaxView.{functions_view}
-use Rattle.lang_checks.specs.declared.checks.Checked.{Checked}
-use Rattle.compose_model.specs.Frame.{FrameResult, frame}
+use Rattle.lang_ast.specs.declared.program.Program.{Program}
+use Rattle.compose_model.specs.Frame.{FrameResult, frame, kept_after}
 use Rattle.node_tree.specs.Calls.{attribute_of}
-use Rattle.node_tree.specs.Placing.{ops}
+use Rattle.node_tree.specs.FrameOps.{frame_ops}
 use Rattle.node_tree.specs.declared.ops.NewNode.{NewNode}
 use Rattle.node_tree.specs.declared.ops.Op.{Op}
 use Rattle.node_tree.specs.declared.ops.Op.TheVariants as op
@@ -47,17 +46,13 @@ pub record Titles : Type 0 where
   pub actors : List (List ℕ)
 
 -- The names that the lines of a script on a program have.
-abbrev pub titles_of : Checked → Script → Titles
+abbrev pub titles_of : Program → Script → Titles
 titles_of program script = record { states = program.states.items; actors = script.actors.items }
 
 -- What the lines of a run depend on besides its history: the names in lines, and the flags.
 pub record LineStyle : Type 0 where
   pub titles : Titles
   pub flags : Flags
-
--- The functions of a checked program.
-abbrev pub functions_of : Checked → List Func
-functions_of program = functions_view program.functions.items
 
 -- The name of the actor with this number; empty if there is none.
 abbrev pub actor_name : List (List ℕ) → ℕ → List ℕ
@@ -189,18 +184,9 @@ op_text op.Clear = codes "clear"
 abbrev pub op_line : Op → List ℕ
 op_line call = line (codes "op: " ++ op_text call)
 
--- A composition is detached after an applier failed: it keeps nothing, but nodes had numbers.
-abbrev pub is_detached : LastFrame → Bool
-is_detached k = is_none k.seen && nat_lt 1 k.next
-
--- The calls on an applier of a frame that keeps this forest after the kept state `k`: those that turn the kept node tree
--- into the new one. If the composition is detached, `clear` comes first.
-abbrev pub frame_calls : LastFrame → GroupForest → List Op
-frame_calls k trail = (if is_detached k then op.Clear ∷ [] else []) ++ ops (nodes k.trail) (nodes trail)
-
 -- With `--ops` a line for each call on an applier of a frame that keeps this forest after the kept state.
 abbrev pub ops_lines : Flags → LastFrame → GroupForest → List (List ℕ)
-ops_lines flags k trail = if flags.ops then map op_line (frame_calls k trail) else []
+ops_lines flags k trail = if flags.ops then map op_line (frame_ops k trail) else []
 
 -- One line for each node, or with `--json` one line for the whole tree.
 abbrev pub shown_tree : Flags → Nodes → List (List ℕ)
@@ -218,11 +204,6 @@ pub record Standing : Type 0 where
   pub world : World BuiltIn
   pub kept : LastFrame
   pub frames : List ℕ
-
--- What is kept after a frame. A refused frame changes nothing.
-abbrev pub kept_after : LastFrame → Option FrameResult → LastFrame
-kept_after k None = k
-kept_after k (Some good) = good.left
 
 -- Whether a call ends a frame.
 abbrev pub ends_frame : List ℕ → Request → Bool

@@ -5,7 +5,7 @@ use Rattle.rt_values.specs.declared.value.Ty.{Ty}
 use Rattle.rt_groups.specs.Frames.{LastFrame}
 use Rattle.rt_groups.specs.declared.report.Report.{Report}
 use Rattle.compose_model.specs.Frame.{FrameResult}
-use Rattle.lang_checks.specs.declared.checks.Checked.{Checked}
+use Rattle.lang_ast.specs.declared.program.Program.{Program}
 use Rattle.recomposer.specs.declared.composition.Begun.{Begun}
 use Rattle.recomposer.specs.declared.composition.Composition.{Composition}
 use Rattle.recomposer.specs.declared.composition.FrameStop.{FrameStop}
@@ -59,7 +59,7 @@ module _ {W P : Type 0} (rules : Rules P) (stands : W → World P → Type 0) (s
   }
 
   -- A whole frame took its map at one place of the history.
-  pub frame_taken : {p : Checked} {k : LastFrame} {at_frame : LastFrame → Option Map → Type 0} {applies : Option FrameResult → Type 0} {told : Report} →
+  pub frame_taken : {p : Program} {k : LastFrame} {at_frame : LastFrame → Option Map → Type 0} {applies : Option FrameResult → Type 0} {told : Report} →
       MakesFrame p k at_frame (λ l. HasLast rules stands shared after watcher types l)
       (λ xs. (objects_read (mine_of after) ≡ objects_read (mine_of before) ++ xs) × LogsFrame (Some (mine_of before)) (Some (mine_of after)) (number_of before) watcher xs) applies told →
       MakesFrame p k at_frame (λ l. HasTaken rules stands shared before after watcher types l)
@@ -105,7 +105,7 @@ module _ {W P : Type 0} (rules : Rules P) (stands : W → World P → Type 0) (s
   abbrev Does : Seat W → List ℕ → Type 0
   Does s xs = (objects_read (mine_of s) ≡ objects_read (mine_of before) ++ xs) × LogsFrame (Some (mine_of before)) (Some (mine_of s)) (number_of before) watcher xs
 
-  frame_back : {p : Checked} {k : LastFrame} {at_frame : LastFrame → Option Map → Type 0} {applies : Option FrameResult → Type 0} {told : Report} →
+  frame_back : {p : Program} {k : LastFrame} {at_frame : LastFrame → Option Map → Type 0} {applies : Option FrameResult → Type 0} {told : Report} →
       MakesFrame p k at_frame (λ l. HasLast rules stands other after watcher types l) (Does after) applies told →
       MakesFrame p k at_frame (λ l. HasTaken rules stands shared before back watcher types l) (Does back) applies told
   frame_back {p} {k} {at_frame} {applies} {told} f =
@@ -118,7 +118,7 @@ module _ {W P : Type 0} (rules : Rules P) (stands : W → World P → Type 0) (s
       IfOk r (MakesFrame old.program.now k (IsAt c) (λ l. HasLast rules stands other after watcher types l) (Does after) applies) →
       IfOk r (MakesThrough rules stands shared c k before back types applies)
   frame_ok old c program same_watcher is k applies (Ok told) f =
-      let made = subst (λ (p : Checked). MakesFrame p k (IsAt c) (λ l. HasTaken rules stands shared before back watcher types l) (Does back) applies told) (ap (λ q. q.now) (sym program)) (frame_back f) in
+      let made = subst (λ (p : Program). MakesFrame p k (IsAt c) (λ l. HasTaken rules stands shared before back watcher types l) (Does back) applies told) (ap (λ q. q.now) (sym program)) (frame_back f) in
       with_watcher (c.watcher) (sym is ∙ sym same_watcher) made
     where
       with_watcher : (n : ℕ) → watcher ≡ n → MakesFrame c.program.now k (IsAt c) (λ l. HasTaken rules stands shared before back watcher types l) (Does back) applies told →
@@ -127,7 +127,7 @@ module _ {W P : Type 0} (rules : Rules P) (stands : W → World P → Type 0) (s
   frame_ok old c program same_watcher is k applies (Err e) f = tt
 
   -- A frame that was not made.
-  pub frame_err : (p : Checked) (k : LastFrame) (at_frame : LastFrame → Option Map → Type 0) (r : Result Report FrameStop) →
+  pub frame_err : (p : Program) (k : LastFrame) (at_frame : LastFrame → Option Map → Type 0) (r : Result Report FrameStop) →
       IfErr r (MakesNoFrame p k at_frame (λ l. HasLast rules stands other after watcher types l) (LogsNoFrame p k (Some (mine_of before)) (Some (mine_of after)) (number_of before) watcher)) →
       IfErr r (MakesNoFrame p k at_frame (λ l. HasLast rules stands shared back watcher types l) (LogsNoFrame p k (Some (mine_of before)) (Some (mine_of back)) (number_of before) watcher))
   frame_err p k at_frame r f =

@@ -115,7 +115,6 @@ fn is_in_turn(calls: &[Entry]) -> bool
 
 // Makes calls in the opening world of a job. Returns them with their replies.
 fn make_calls(alloc: Global, job: &Job, calls: &Vec<(Caller, Request)>) -> Result<Vec<Entry>, Fail>
-    requires few { length job.now.program.states.items ≤ 256 }
     ensures legal { IfOk result (λ made. IsLegal table (opening_world job.now.program.states.items) made.items) }
 {
     let plain = PlainWorld::<BuiltIn>::new(alloc)?;
@@ -142,7 +141,6 @@ fn run_with_calls(
     job: &Job,
     flags: Flags,
 ) -> Result<(Vec<(Caller, Request)>, Vec<u8>), Fail>
-    requires few { length job.now.program.states.items ≤ 256 }
 {
     let plain = PlainWorld::<BuiltIn>::new(alloc)?;
     let mut world = LogWorld::new(alloc, plain);

@@ -1,10 +1,10 @@
 // Frames through a seat, while another thread writes.
 ghost use Rattle.std.specs.Prelude.{◌≡◌, ◌<◌, ◌∷◌, [], IfOk};
-ghost use Rattle.lang_ast.specs.SyntaxView.{stmt_view};
+ghost use Rattle.lang_ast.specs.SyntaxView.{stmt_view, functions_view};
 ghost use Rattle.lang_ast.specs.Programs.{program_view};
-ghost use Rattle.lang_checks.specs.Numbers.{IsNumberedProgram, stmt_sites};
+ghost use Rattle.lang_checks.specs.Numbers.{IsNumberedProgram};
 ghost use Rattle.snap_shared.specs.Seats.{IsSeat};
-ghost use Rattle.tests_shared.specs.Calls.{CallsNothing};
+ghost use Rattle.tests_shared.specs.CounterProgram.{ident, counter_states, key_statement, counter_functions};
 
 use crate::fixture::{World, shared_counter};
 use lang_ast::{Expression, Function, Ident, Program, State, Statement};
@@ -30,14 +30,18 @@ const FRAMES: u64 = 200;
 
 const WRITES: i64 = 2000;
 
-fn ident(alloc: Global, name: &[u8]) -> Result<Ident, Fail> {
+// Returns the identifier with these letters.
+fn ident(alloc: Global, name: &[u8]) -> Result<Ident, Fail>
+    ensures { IfOk result (λ n. n ≡ ident name.now) }
+{
     let text = Word::of(alloc, name)?;
     Ok(Ident { at: 0, text })
 }
 
 // Returns the statement `(key (get total))`.
+#[tactic(auto, using(crate::proofs::Parts::parts))]
 fn key_statement(alloc: Global) -> Result<Statement, Fail>
-    ensures { IfOk result (λ s. (stmt_sites (stmt_view s) ≡ 1 ∷ []) × CallsNothing (stmt_view s)) }
+    ensures { IfOk result (λ s. stmt_view s ≡ key_statement) }
 {
     let name = ident(alloc, b"total")?;
     Ok(Statement::Key {
@@ -52,9 +56,9 @@ fn key_statement(alloc: Global) -> Result<Statement, Fail>
     })
 }
 
-// Returns the program `(compose 1) (state total Int Counter 0) (fun root () (key (get total)))`.
-fn counter_program(alloc: Global) -> Result<Program, Fail>
-    ensures { IfOk result (λ p. IsNumberedProgram (program_view p)) }
+// Returns the state `(state total Int Counter 0)`.
+fn counter_states(alloc: Global) -> Result<Vec<State>, Fail>
+    ensures { IfOk result (λ v. v.items ≡ counter_states) }
 {
     let total = State {
         at: 0,
@@ -63,16 +67,32 @@ fn counter_program(alloc: Global) -> Result<Program, Fail>
         policy: BuiltIn::Counter,
         initial: Value::Int(0),
     };
+    Ok(vec![in alloc; total]?)
+}
+
+// Returns the function `(fun root () (key (get total)))`.
+fn counter_functions(alloc: Global) -> Result<Vec<Function>, Fail>
+    ensures { IfOk result (λ v. functions_view v.items ≡ counter_functions) }
+{
     let root = Function {
         at: 0,
         name: ident(alloc, b"root")?,
         parameters: Vec::new(alloc),
         body: vec![in alloc; key_statement(alloc)?]?,
     };
+    Ok(vec![in alloc; root]?)
+}
+
+// Returns the program `(compose 1) (state total Int Counter 0) (fun root () (key (get total)))`.
+fn counter_program(alloc: Global) -> Result<Program, Fail>
+    ensures { IfOk result (λ p. IsNumberedProgram (program_view p)) }
+{
+    let states = counter_states(alloc)?;
+    let functions = counter_functions(alloc)?;
     Ok(Program {
         header: 0,
-        states: vec![in alloc; total]?,
-        functions: vec![in alloc; root]?,
+        states,
+        functions,
     })
 }
 

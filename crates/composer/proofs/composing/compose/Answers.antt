@@ -1,6 +1,7 @@
 use Rattle.std.proofs.Common.{rules, ◌≡◌, ◌∙◌, ℕ, [], Err, ap}
 use Rattle.composer.specs.declared.stop.ComposeStop.TheVariants.{NoMemory}
-use Rattle.composer.specs.FrameDrafts.{functions_of, root_of}
+use Rattle.composer.specs.FrameDrafts.{root_of}
+use Rattle.lang_ast.specs.Programs.{functions_of}
 use Rattle.composer.specs.WrittenGroups.{WrittenGroups}
 use Rattle.composer.proofs.WholeFrames.{frame_made, frame_stopped, frame_lost}
 use Rattle.composer.proofs.composing.compose.Goals as goal

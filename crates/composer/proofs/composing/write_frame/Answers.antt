@@ -3,7 +3,8 @@ use Rattle.rt_groups.specs.GroupForest.{End, Call}
 use Rattle.lang_ast.specs.Terms.{Func}
 use Rattle.lang_ast.specs.SyntaxView.{functions_view}
 use Rattle.compose_model.specs.Composing.{meaning_at, meanings}
-use Rattle.composer.specs.FrameDrafts.{functions_of, root_of}
+use Rattle.composer.specs.FrameDrafts.{root_of}
+use Rattle.lang_ast.specs.Programs.{functions_of}
 use Rattle.composer.specs.BesideContracts.{LastComposition, IsSince}
 use Rattle.composer.specs.ComposerState.{run_beside, skipped_groups}
 use Rattle.composer.specs.WrittenGroups.{state_of}
@@ -22,9 +23,10 @@ returns-then-is_all g c = record {
   counted = c.run_body.ensures.counted;
   ran = λ m h seen t own e owing.
       let fs = functions_of c.args.program.now in
-      let p = sound c.args.program.now in
+      let checked = c.functions.ensures.checked in
+      let p = sound c.args.program.now checked.numbered checked.fine in
       let l : LastComposition = record { map = m; functions = fs; calculation = p.calculation } in
-      let same : functions_view c.functions.result.now ≡ fs = ap functions_view c.functions.ensures in
+      let same : functions_view c.functions.result.now ≡ fs = ap functions_view c.functions.ensures.functions in
       let since = subst (λ (gs : List Func). IsSince l gs) (sym same) (since_map fs p m) in
       let s = state_of c.args.writer.now (g.V.View.asked c.args.view.now) own in
       let r = c.run_body.ensures.ran m h l None own since (part_end l c.args.owed.now.objects m) tt in
@@ -43,10 +45,11 @@ returns g c = record {
   counted = c.skip_all.ensures.counted;
   ran = λ m h seen t own e owing.
       let fs = functions_of c.args.program.now in
-      let p = sound c.args.program.now in
+      let checked = c.functions.ensures.checked in
+      let p = sound c.args.program.now checked.numbered checked.fine in
       let k = some_kept fs p (root_of c.args.program.now) seen t m c.args.owed.now owing (sym c.is_all.ensures ∙ c.if-is_all.false) in
       let l : LastComposition = record { map = k.seen; functions = fs; calculation = p.calculation } in
-      let same : functions_view c.functions.result.now ≡ fs = ap functions_view c.functions.ensures in
+      let same : functions_view c.functions.result.now ≡ fs = ap functions_view c.functions.ensures.functions in
       let since = subst (λ (gs : List Func). IsSince l gs) (sym same) (since_map fs p k.seen) in
       let s = state_of c.args.writer.now (g.V.View.asked c.args.view.now) own in
       let r = c.skip_all.ensures.ran m h l t own since k.part (begins_whole c.args.table.now.groups t e) in

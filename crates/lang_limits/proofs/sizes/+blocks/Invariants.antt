@@ -3,7 +3,7 @@ use denote.Param.Weighed.{most}
 use Rattle.lang_ast.specs.SyntaxView.{stmts_view}
 use Rattle.lang_ast.proofs.syntax.Statement.TheLaws.{the_size}
 use Rattle.lang_limits.specs.LeastOffset.{least_offset_from}
-use Rattle.lang_limits.specs.Sizes.{stmts_sizes}
+use Rattle.lang_ast.specs.Sizes.{stmts_sizes}
 use Rattle.lang_limits.proofs.sizes.+blocks.Given as goal
 
 abbrev pub invariant-statements-loop-s : goal.invariant-statements-loop-s

@@ -1,7 +1,7 @@
 use Rattle.std.proofs.Common.{◌≡◌, drop}
 use Rattle.lang_ast.specs.SyntaxView.{exprs_view}
 use Rattle.lang_limits.specs.LeastOffset.{least_offset_from}
-use Rattle.lang_limits.specs.Sizes.{exprs_sizes}
+use Rattle.lang_ast.specs.Sizes.{exprs_sizes}
 use Rattle.lang_limits.proofs.sizes.expressions.Given as goal
 
 abbrev pub invariant-loop-e : goal.invariant-loop-e

@@ -1,7 +1,7 @@
 use Rattle.std.proofs.Common.{◌≡◌, drop}
 use Rattle.lang_ast.specs.SyntaxView.{functions_view}
 use Rattle.lang_limits.specs.LeastOffset.{least_offset_from}
-use Rattle.lang_limits.specs.Sizes.{functions_sizes}
+use Rattle.lang_ast.specs.Sizes.{functions_sizes}
 use Rattle.lang_limits.proofs.sizes.functions.Given as goal
 
 abbrev pub invariant-loop-one : goal.invariant-loop-one

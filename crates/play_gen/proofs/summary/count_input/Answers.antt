@@ -1,7 +1,8 @@
-use Rattle.std.proofs.Common.{◌∙◌, ap, sym}
+use Rattle.std.proofs.Common.{◌≡◌, ◌∙◌, [], ap, sym, subst}
 use Rattle.lang_ast.specs.SyntaxView.{functions_view}
-use Rattle.lang_ast.specs.Programs.{Program}
-use Rattle.composer.specs.FrameDrafts.{functions_of}
+use Rattle.lang_ast.specs.Programs.{Program, program_view, functions_of}
+use Rattle.lang_ast.specs.declared.program.Program.{Program as declared}
+use Rattle.lang_checks.specs.ProgramFaults.{program_faults}
 use Rattle.script_lang.specs.Scripts.{actors_of}
 use Rattle.script_lang.specs.StepCalls.{script_parts}
 use Rattle.play_run.specs.RunOutput.{first_run}
@@ -20,8 +21,8 @@ returns g c =
     let script = generated_script c.args.number c.args.size in
     let parts = script_parts (actors_of script) script in
     let log = g.V.Versions.log c.args.world.now in
-    let fit = program-fits p.header states functions p.fine in
     let memory = c.in_ok-memory.ensures in
+    let fit = program-fits p.header states functions (subst (λ (q : declared). program_faults (program_view q) ≡ []) memory.program memory.composition.checked.fine) in
     let run = opened {functions = functions} {stands = g.V.Versions.stands} {log = g.V.Versions.log} {world = c.set_up_world.new.world} {memory = c.in_ok-memory.memory} 0 states log fit c.set_up_world.ensures.log c.in_ok-set_up_world.ensures.opened memory.composition (ap functions_of memory.program) memory.names in
     let counts = c.in_ok-count_steps.ensures functions (first_run states log) run.facts in
     counts.counted

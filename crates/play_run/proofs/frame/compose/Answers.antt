@@ -1,5 +1,5 @@
 use Rattle.std.proofs.Common.{OnOk, rules, subst, Some}
-use Rattle.composer.specs.FrameDrafts.{functions_of}
+use Rattle.lang_ast.specs.Programs.{functions_of}
 use Rattle.snap_api.specs.DeskReads.{LogsReadsIn}
 use Rattle.play_run.specs.RunState.{LogsFrameReads}
 use Rattle.play_run.proofs.RunLogs.{result_logged}

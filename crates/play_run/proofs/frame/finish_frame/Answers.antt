@@ -1,10 +1,9 @@
 use Rattle.std.proofs.Common.{sym, subst, ap, ◌∙◌, Option, Some}
 use Rattle.std.specs.Option.{option_map}
-use Rattle.compose_model.specs.Frame.{FrameResult}
+use Rattle.compose_model.specs.Frame.{FrameResult, kept_after}
 use Rattle.recomposer.specs.Compositions.{IsAt}
 use Rattle.rt_streams.proofs.Parts.{part-all, part-front}
 use Rattle.script_lang.specs.NamesInMemory.{Holds}
-use Rattle.script_lang.specs.Lines.{kept_after}
 use Rattle.script_lang.specs.StepCalls.{EndFrame, of_actor}
 use Rattle.play_run.specs.RunOutput.{part_after}
 use Rattle.play_run.specs.RunState.{MadeCalls, LogsFrameReads}

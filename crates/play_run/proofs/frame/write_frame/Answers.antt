@@ -1,5 +1,5 @@
 use Rattle.std.proofs.Common.{sym, ◌∙◌}
-use Rattle.script_lang.specs.Lines.{kept_after}
+use Rattle.compose_model.specs.Frame.{kept_after}
 use Rattle.play_run.proofs.Written.{says_same}
 use Rattle.play_run.proofs.Frames.{good_lines}
 use Rattle.play_run.proofs.frame.write_frame.Goals as goal

@@ -1,6 +1,6 @@
 use Rattle.std.proofs.Common.{subst, sym, drop, Some}
 use Rattle.compose_model.specs.Frame.{frame}
-use Rattle.composer.specs.FrameDrafts.{functions_of}
+use Rattle.lang_ast.specs.Programs.{functions_of}
 use Rattle.play_run.specs.RecordedReads.{AgreesWith}
 use Rattle.play_run.proofs.CallLines.{nothing_said}
 use Rattle.play_run.proofs.Written.{anyway}

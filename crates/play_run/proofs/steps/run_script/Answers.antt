@@ -1,5 +1,5 @@
 use Rattle.std.proofs.Common.{sym, ap, None}
-use Rattle.composer.specs.FrameDrafts.{functions_of}
+use Rattle.lang_ast.specs.Programs.{functions_of}
 use Rattle.lang_ast.specs.SyntaxView.{functions_view}
 use Rattle.script_lang.specs.StepCalls.{script_parts}
 use Rattle.play_run.specs.RunOutput.{first_run, parts_after}
@@ -15,7 +15,7 @@ pub returns-clause-says : goal.returns-clause-says
 returns-clause-says g c =
     let p = c.args.job.now.program in
     let parts = script_parts c.args.job.now.script.actors.items c.args.job.now.script.forms.items in
-    let fit = program-fits p.header p.states.items (functions_view p.functions.items) p.fine in
+    let fit = program-fits p.header p.states.items (functions_view p.functions.items) c.args.job.now.fine in
     says_same c.run_do_forms.result _ _ _ _ (sym (run_text_is (job_style c.args.job.now c.args.flags) (job_functions c.args.job.now) (g.V.Versions.log c.args.world.now) parts))
     (c.run_do_forms.ensures.runs (first_run p.states.items (g.V.Versions.log c.args.world.now)) (opened 0 p.states.items (g.V.Versions.log c.args.world.now) fit c.set_up_world.ensures.log c.in-Ok-set_up_world.ensures.opened c.in-Ok.ensures.composition (ap functions_of c.in-Ok.ensures.program) c.in-Ok.ensures.names)).says
 
@@ -24,6 +24,6 @@ returns-clause-log g c =
     let p = c.args.job.now.program in
     let parts = script_parts c.args.job.now.script.actors.items c.args.job.now.script.forms.items in
     let log = g.V.Versions.log c.args.world.now in
-    let fit = program-fits p.header p.states.items (functions_view p.functions.items) p.fine in
+    let fit = program-fits p.header p.states.items (functions_view p.functions.items) c.args.job.now.fine in
     let ran = (c.run_do_forms.ensures.runs (first_run p.states.items log) (opened 0 p.states.items log fit c.set_up_world.ensures.log c.in-Ok-set_up_world.ensures.opened c.in-Ok.ensures.composition (ap functions_of c.in-Ok.ensures.program) c.in-Ok.ensures.names)).left in
     logged_after (λ (h : IsRun (job_functions c.args.job.now) g.V.Versions.stands g.V.Versions.log c.run_do_forms.new.world c.run_do_forms.new.memory 0 None (parts_after (job_functions c.args.job.now) (first_run p.states.items log) parts)). run_logged (job_titles c.args.job.now) (job_functions c.args.job.now) parts log (g.V.Versions.log c.run_do_forms.new.world) h.logged) c.run_do_forms.result ran

@@ -6,7 +6,7 @@ use Rattle.play_threads.proofs.threads.write_calls.Goals as goal
 pub replay-requires-clause-turn : goal.replay-requires-clause-turn
 replay-requires-clause-turn g c =
     let program = c.args.job.now.program in
-    calls_in_turn c.args.job.now c.args.end (program-fits program.header program.states.items (functions_view program.functions.items) program.fine) c.requires.fine c.requires.calls
+    calls_in_turn c.args.job.now c.args.end (program-fits program.header program.states.items (functions_view program.functions.items) c.args.job.now.fine) c.requires.fine c.requires.calls
 
 pub returns-then-short-clause-says : goal.returns-then-short-clause-says
 returns-then-short-clause-says g c =

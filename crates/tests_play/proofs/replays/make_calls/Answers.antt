@@ -6,8 +6,8 @@ use Rattle.tests_play.proofs.NewWorlds.{only_global}
 use Rattle.tests_play.proofs.Histories.{made_legal}
 use Rattle.tests_play.proofs.replays.make_calls.Goals as goal
 
-pub set_up_world-requires-clause-start : goal.set_up_world-requires-clause-start
-set_up_world-requires-clause-start c = c.new-world.ensures.stands (start 0) c.in_ok-plain.ensures (shaped_start 0) only_global
+pub set_up_world-requires : goal.set_up_world-requires
+set_up_world-requires c = record { start = c.new-world.ensures.stands (start 0) c.in_ok-plain.ensures (shaped_start 0) only_global }
 
 pub returns : goal.returns
 returns c = record {

@@ -1,6 +1,7 @@
 use Rattle.std.proofs.Common.{◌∙◌, refl, sym, subst, Option, Some, None, List}
 use Rattle.compose_model.specs.Frame.{frame}
-use Rattle.composer.specs.FrameDrafts.{DraftGroups, functions_of}
+use Rattle.composer.specs.FrameDrafts.{DraftGroups}
+use Rattle.lang_ast.specs.Programs.{functions_of}
 use Rattle.node_tree.specs.declared.ops.Op.{Op}
 use Rattle.recomposer.specs.AppliedFrames.{Applies}
 use Rattle.recomposer.specs.Composed.{IsComposed}

@@ -1,7 +1,7 @@
 use Rattle.std.proofs.Common.{◌≡◌, ◌∙◌, subst, sym, IfOk, List, true, false}
 use Rattle.rt_groups.specs.Nodes.{nodes}
 use Rattle.node_tree.specs.declared.ops.Op.{Op}
-use Rattle.recomposer.specs.AppliedFrames.{is_detached}
+use Rattle.rt_groups.specs.Frames.{is_detached}
 use Rattle.recomposer.proofs.Frames.{new_trail, tree_follows, calls_anew, calls_usual}
 use Rattle.recomposer.proofs.composition.Composition.list_calls.Goals as goal
 

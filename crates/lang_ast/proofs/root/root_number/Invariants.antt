@@ -1,7 +1,7 @@
 use Rattle.std.proofs.Common.{◌≡◌, ◌+◌, length}
 use Rattle.lang_ast.specs.SyntaxView.{functions_view}
 use Rattle.lang_ast.specs.Programs.{root_number}
-use Rattle.lang_ast.proofs.program.root_number.Given as goal
+use Rattle.lang_ast.proofs.root.root_number.Given as goal
 
 abbrev pub invariant-loop-function : goal.invariant-loop-function
 invariant-loop-function l = (l.number + length l.rest ≡ length l.functions) × (l.number + root_number (functions_view l.rest) ≡ root_number (functions_view l.functions))
