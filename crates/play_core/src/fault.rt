@@ -1,5 +1,5 @@
 // Faults of an input, and the line of each.
-ghost use Rattle.std.specs.Prelude.{◌≡◌, ◌++◌, OnOk};
+ghost use Rattle.std.specs.Prelude.{◌≡◌, ◌++◌, [], OnOk, OnErr};
 ghost use Rattle.play_core.specs.Faults.{kind_word, fault_line};
 
 use itoa::Buffer;
@@ -63,8 +63,8 @@ impl FaultKind {
 }
 
 impl Fault {
-    /// Appends the one line that reports the fault.
-    pub fn put(self, text: &mut Vec<u8>) -> Result<(), NoMemory>
+    // Appends the line.
+    fn append(self, text: &mut Vec<u8>) -> Result<(), NoMemory>
         ensures { OnOk result (text.new.items ≡ text.old.items ++ fault_line self) }
     {
         let mut digits = Buffer::new();
@@ -74,5 +74,17 @@ impl Fault {
         text.extend_from_slice(digits.format(self.at).as_bytes())?;
         text.push(b'\n')?;
         Ok(())
+    }
+
+    /// Appends the one line that reports the fault. If the process is out of memory, `text` is empty afterwards.
+    pub fn put(self, text: &mut Vec<u8>) -> Result<(), NoMemory>
+        ensures ok { OnOk result (text.new.items ≡ text.old.items ++ fault_line self) }
+        ensures err { OnErr result (text.new.items ≡ []) }
+    {
+        let done = self.append(text);
+        if done.is_err() {
+            text.clear();
+        }
+        done
     }
 }

@@ -1,5 +1,5 @@
 // Lines of calls.
-ghost use Rattle.std.specs.Prelude.{◌≡◌, ◌++◌, ◌∷◌, [], List, ℕ, OnOk, codes};
+ghost use Rattle.std.specs.Prelude.{◌≡◌, ◌++◌, ◌∷◌, [], List, ℕ, OnOk, OnErr, codes};
 ghost use Rattle.std.specs.Fmt.{decimal};
 ghost use Rattle.rt_values.specs.Values.{value_text};
 ghost use Rattle.script_lang.specs.Lines.{Titles, titles_of, actor_name, state_name, state_names, snapshot, snapshot_number_text, kind_text, type_text, request_text, refusal_text, reply_text, call_text, entry_line, line};
@@ -19,6 +19,19 @@ pub fn add(text: &mut Vec<u8>, piece: &[u8]) -> Result<(), NoMemory>
 {
     text.extend_from_slice(piece)?;
     Ok(())
+}
+
+// Passes on whether a line was appended. If it was not, the line buffer `text` becomes empty.
+#[inline(always)]
+pub fn or_empty(text: &mut Vec<u8>, done: Result<(), NoMemory>) -> Result<(), NoMemory>
+    ensures same { result ≡ done }
+    ensures ok { OnOk result (text.new ≡ text.old) }
+    ensures err { OnErr result (text.new.items ≡ []) }
+{
+    if done.is_err() {
+        text.clear();
+    }
+    done
 }
 
 // Appends the decimal digits of `number`.
@@ -313,10 +326,9 @@ fn add_conflict(text: &mut Vec<u8>, states: &[State], object: ObjectNo) -> Resul
     add_state(text, states, object)
 }
 
-/// Appends the first part of the line of a call: the actor, the request and what precedes the reply. Returns `NoMemory`
-/// if the process is out of memory.
+// Appends the first part of the line of a call: the actor, the request and what precedes the reply.
 #[tactic(auto, using(crate::proofs::Texts::joins))]
-pub fn add_request_line(
+fn append_request(
     text: &mut Vec<u8>,
     program: &Checked,
     script: &Script,
@@ -331,24 +343,9 @@ pub fn add_request_line(
     add(text, b" = ")
 }
 
-/// Appends the rest of the line of a call: the reply, and LF. Returns `NoMemory` if the process is out of memory.
+// Appends the line of a call and its reply: the actor, the request and the reply, with LF at the end.
 #[tactic(auto, using(crate::proofs::Texts::joins))]
-pub fn add_reply_line(
-    text: &mut Vec<u8>,
-    program: &Checked,
-    script: &Script,
-    reply: &Reply,
-) -> Result<(), NoMemory>
-    ensures { OnOk result (text.new.items ≡ text.old.items ++
-        line (reply_text (titles_of program.now script.now) reply.now)) }
-{
-    add_reply(text, program.states(), script.actors.as_slice(), reply)
-}
-
-/// Appends the line of a call and its reply: the actor, the request and the reply, with LF at the end. Returns
-/// `NoMemory` if the process is out of memory.
-#[tactic(auto, using(crate::proofs::Texts::joins))]
-pub fn add_line(
+fn append_line(
     text: &mut Vec<u8>,
     program: &Checked,
     script: &Script,
@@ -356,6 +353,58 @@ pub fn add_line(
 ) -> Result<(), NoMemory>
     ensures { OnOk result (text.new.items ≡ text.old.items ++ entry_line (titles_of program.now script.now) entry.now) }
 {
-    add_request_line(text, program, script, entry.caller, &entry.request)?;
-    add_reply_line(text, program, script, &entry.reply)
+    append_request(text, program, script, entry.caller, &entry.request)?;
+    add_reply(
+        text,
+        program.states(),
+        script.actors.as_slice(),
+        &entry.reply,
+    )
+}
+
+/// Appends the first part of the line of a call: the actor, the request and what precedes the reply. If the process is out
+/// of memory, `text` is empty afterwards.
+pub fn add_request_line(
+    text: &mut Vec<u8>,
+    program: &Checked,
+    script: &Script,
+    caller: Caller,
+    request: &Request,
+) -> Result<(), NoMemory>
+    ensures ok { OnOk result (text.new.items ≡ text.old.items ++
+        call_text (titles_of program.now script.now) caller request.now) }
+    ensures err { OnErr result (text.new.items ≡ []) }
+{
+    let done = append_request(text, program, script, caller, request);
+    or_empty(text, done)
+}
+
+/// Appends the rest of the line of a call: the reply, and LF. If the process is out of memory, `text` is empty afterwards.
+pub fn add_reply_line(
+    text: &mut Vec<u8>,
+    program: &Checked,
+    script: &Script,
+    reply: &Reply,
+) -> Result<(), NoMemory>
+    ensures ok { OnOk result (text.new.items ≡ text.old.items ++
+        line (reply_text (titles_of program.now script.now) reply.now)) }
+    ensures err { OnErr result (text.new.items ≡ []) }
+{
+    let done = add_reply(text, program.states(), script.actors.as_slice(), reply);
+    or_empty(text, done)
+}
+
+/// Appends the line of a call and its reply: the actor, the request and the reply, with LF at the end. If the process is
+/// out of memory, `text` is empty afterwards.
+pub fn add_line(
+    text: &mut Vec<u8>,
+    program: &Checked,
+    script: &Script,
+    entry: &Entry,
+) -> Result<(), NoMemory>
+    ensures ok { OnOk result (text.new.items ≡ text.old.items ++ entry_line (titles_of program.now script.now) entry.now) }
+    ensures err { OnErr result (text.new.items ≡ []) }
+{
+    let done = append_line(text, program, script, entry);
+    or_empty(text, done)
 }

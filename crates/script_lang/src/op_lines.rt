@@ -1,10 +1,10 @@
 // Lines of calls on an applier.
-ghost use Rattle.std.specs.Prelude.{◌≡◌, ◌++◌, ◌∷◌, List, ℕ, OnOk, codes};
+ghost use Rattle.std.specs.Prelude.{◌≡◌, ◌++◌, ◌∷◌, [], List, ℕ, OnOk, OnErr, codes};
 ghost use Rattle.std.specs.Fmt.{decimal};
 ghost use Rattle.rt_values.specs.Values.{value_text};
 ghost use Rattle.script_lang.specs.Lines.{op_text, op_line, new_node_text};
 
-use crate::line::{add, add_number};
+use crate::line::{add, add_number, or_empty};
 use crate::tree::add_node_text;
 use node_tree::{NewNode, Op};
 use rt_values::{NoMemory, Value, Word};
@@ -85,13 +85,22 @@ fn add_op_text(text: &mut Vec<u8>, op: &Op) -> Result<(), NoMemory>
     }
 }
 
-/// Appends the line of a call on an applier. A rule of this project, with the names of the functions of Compose's
-/// `Applier`. If the process is out of memory, a first part of the line is appended.
+// Appends a line that begins with `op: `.
 #[tactic(auto, using(crate::proofs::Texts::joins))]
-pub fn add_op(text: &mut Vec<u8>, op: &Op) -> Result<(), NoMemory>
+fn append_op(text: &mut Vec<u8>, op: &Op) -> Result<(), NoMemory>
     ensures { OnOk result (text.new.items ≡ text.old.items ++ op_line op.now) }
 {
     add(text, b"op: ")?;
     add_op_text(text, op)?;
     add(text, b"\n")
+}
+
+/// Appends the line of a call on an applier. A rule of this project, with the names of the functions of Compose's
+/// `Applier`. If the process is out of memory, `text` is empty afterwards.
+pub fn add_op(text: &mut Vec<u8>, op: &Op) -> Result<(), NoMemory>
+    ensures ok { OnOk result (text.new.items ≡ text.old.items ++ op_line op.now) }
+    ensures err { OnErr result (text.new.items ≡ []) }
+{
+    let done = append_op(text, op);
+    or_empty(text, done)
 }

@@ -1,44 +1,54 @@
 // Lines of frames.
-ghost use Rattle.std.specs.Prelude.{◌≡◌, ◌++◌, ◌∷◌, [], List, ℕ, Bool, false, OnOk, codes, map, take};
+ghost use Rattle.std.specs.Prelude.{◌≡◌, ◌++◌, ◌∷◌, [], List, ℕ, Bool, false, OnOk, OnErr, codes, map, take};
 ghost use Rattle.std.specs.Fmt.{decimal};
 ghost use Rattle.script_lang.specs.Lines.{report_line, count_text, work_text, size_text, margin, node_text, node_line, attributes_text, line};
 ghost use Rattle.script_lang.specs.GroupLines.{plain_attribute, node_depth, line_of, is_node};
 
-use crate::line::{add, add_name, add_number, add_printed};
+use crate::line::{add, add_name, add_number, add_printed, or_empty};
 use rt_groups::{Attribute, Attributes, GroupKind, Report};
 use rt_values::{NoMemory, Word};
 use std::alloc::Global;
 use std::marker::Model;
 
-/// Appends a word and a number. A rule of this project. Fails only if the process is out of memory.
+// Appends a word and a number.
 #[inline(always)]
 #[tactic(auto, unfolding(crate::specs::Lines::count_text), using(crate::proofs::Texts::joins))]
-pub fn add_count(text: &mut Vec<u8>, word: &[u8], count: u64) -> Result<(), NoMemory>
+fn append_count(text: &mut Vec<u8>, word: &[u8], count: u64) -> Result<(), NoMemory>
     ensures { OnOk result (text.new.items ≡ text.old.items ++ count_text word.now count) }
 {
     add(text, word)?;
     add_number(text, count)
 }
 
+/// Appends a word and a number. If the process is out of memory, `text` is empty afterwards. A rule of this project.
+#[inline(always)]
+pub fn add_count(text: &mut Vec<u8>, word: &[u8], count: u64) -> Result<(), NoMemory>
+    ensures ok { OnOk result (text.new.items ≡ text.old.items ++ count_text word.now count) }
+    ensures err { OnErr result (text.new.items ≡ []) }
+{
+    let done = append_count(text, word, count);
+    or_empty(text, done)
+}
+
 fn add_work(text: &mut Vec<u8>, ran: u64, calculated: u64, reads: u64) -> Result<(), NoMemory>
     ensures { OnOk result (text.new.items ≡ text.old.items ++ work_text ran calculated reads) }
 {
-    add_count(text, b"report: ran ", ran)?;
-    add_count(text, b", calculated ", calculated)?;
-    add_count(text, b", reads ", reads)
+    append_count(text, b"report: ran ", ran)?;
+    append_count(text, b", calculated ", calculated)?;
+    append_count(text, b", reads ", reads)
 }
 
 #[tactic(auto, using(crate::proofs::Texts::joins))]
 fn add_size(text: &mut Vec<u8>, groups: u64, nodes: u64) -> Result<(), NoMemory>
     ensures { OnOk result (text.new.items ≡ text.old.items ++ size_text groups nodes) }
 {
-    add_count(text, b", groups ", groups)?;
-    add_count(text, b", nodes ", nodes)
+    append_count(text, b", groups ", groups)?;
+    append_count(text, b", nodes ", nodes)
 }
 
-/// Appends the line of a frame's report.
+// Appends the line of a frame's report.
 #[tactic(auto, using(crate::proofs::Texts::joins))]
-pub fn add_report(text: &mut Vec<u8>, report: &Report) -> Result<(), NoMemory>
+fn append_report(text: &mut Vec<u8>, report: &Report) -> Result<(), NoMemory>
     ensures { OnOk result (text.new.items ≡ text.old.items ++ report_line report.now) }
 {
     add_work(text, report.ran, report.calculated, report.reads)?;
@@ -46,13 +56,23 @@ pub fn add_report(text: &mut Vec<u8>, report: &Report) -> Result<(), NoMemory>
     add(text, b"\n")
 }
 
-/// Appends the line of a frame that was refused because it has too many groups.
-#[tactic(auto, using(crate::proofs::Texts::joins))]
-pub fn add_refused(text: &mut Vec<u8>) -> Result<(), NoMemory>
-    ensures { OnOk result (text.new.items ≡ text.old.items ++ line (codes "refused: too many groups")) }
+/// Appends the line of a frame's report. If the process is out of memory, `text` is empty afterwards.
+pub fn add_report(text: &mut Vec<u8>, report: &Report) -> Result<(), NoMemory>
+    ensures ok { OnOk result (text.new.items ≡ text.old.items ++ report_line report.now) }
+    ensures err { OnErr result (text.new.items ≡ []) }
 {
-    add(text, b"refused: too many groups")?;
-    add(text, b"\n")
+    let done = append_report(text, report);
+    or_empty(text, done)
+}
+
+/// Appends the line of a frame that was refused because it has too many groups. If the process is out of memory, `text` is
+/// empty afterwards.
+pub fn add_refused(text: &mut Vec<u8>) -> Result<(), NoMemory>
+    ensures ok { OnOk result (text.new.items ≡ text.old.items ++ line (codes "refused: too many groups")) }
+    ensures err { OnErr result (text.new.items ≡ []) }
+{
+    let done = add(text, b"refused: too many groups\n");
+    or_empty(text, done)
 }
 
 // Appends each attribute: a blank, the name, = and the value.
@@ -148,8 +168,25 @@ impl OpenGroups {
     }
 
     /// Appends the line of the next group in preorder if it is a node, and opens the group, which has this depth,
-    /// number and kind. If the process is out of memory, a first part of the line is appended.
+    /// number and kind. If the process is out of memory, `text` is empty afterwards.
     pub fn add_group(
+        &mut self,
+        text: &mut Vec<u8>,
+        depth: u32,
+        number: u64,
+        kind: &GroupKind,
+    ) -> Result<(), NoMemory>
+        ensures text { let this = line_of (node_depth (take depth self.old)) number kind.now in
+            OnOk result (text.new.items ≡ text.old.items ++ this) }
+        ensures err { OnErr result (text.new.items ≡ []) }
+        ensures opened { OnOk result (self.new ≡ take depth self.old ++ is_node kind.now ∷ []) }
+    {
+        let done = self.append_group(text, depth, number, kind);
+        or_empty(text, done)
+    }
+
+    // Appends the line of the next group in preorder if it is a node, and opens the group.
+    fn append_group(
         &mut self,
         text: &mut Vec<u8>,
         depth: u32,

@@ -1,5 +1,5 @@
 // The tree of a frame as JSON.
-ghost use Rattle.std.specs.Prelude.{◌≡◌, ◌≤◌, ◌<◌, ◌++◌, ◌∷◌, [], List, ℕ, Bool, true, false, OnOk, IfOk, IfSome, IsNone, codes, map, reverse, nat_le};
+ghost use Rattle.std.specs.Prelude.{◌≡◌, ◌≤◌, ◌<◌, ◌++◌, ◌∷◌, [], List, ℕ, Bool, true, false, OnOk, OnErr, IfOk, IfSome, IsNone, codes, map, reverse, nat_le};
 ghost use Rattle.std.specs.Char.{digit_char};
 ghost use Rattle.std.specs.Ordering.{nat_cmp};
 ghost use Rattle.std.specs.Cmp.Lexicographic.{slice_cmp};
@@ -11,7 +11,7 @@ ghost use Rattle.script_lang.specs.GroupLines.{plain_attribute};
 ghost use Rattle.script_lang.specs.GroupJson.{JsonState, json_state, node_start, node_end, ends_from, state_at, json_of, json_after, initial_json};
 ghost use Rattle.script_lang.specs.SortedAttributes.{sorted_members};
 
-use crate::line::{add, add_number};
+use crate::line::{add, add_number, or_empty};
 use rt_groups::{Attribute, GroupKind};
 use rt_values::{NoMemory, Value, Word};
 use std::alloc::Global;
@@ -261,12 +261,14 @@ impl<'g> Model for TreeWriter<'g> {
 }
 
 impl<'g> TreeWriter<'g> {
-    /// Begins the list of top nodes.
+    /// Begins the list of top nodes. If the process is out of memory, `text` is empty afterwards.
     pub fn begin(alloc: Global, text: &mut Vec<u8>) -> Result<Self, NoMemory>
         ensures text { OnOk result (text.new.items ≡ text.old.items ++ 91 ∷ []) }
+        ensures err { OnErr result (text.new.items ≡ []) }
         ensures state { IfOk result (λ w. w ≡ initial_json) }
     {
-        text.push(b'[')?;
+        let done = add(text, b"[");
+        or_empty(text, done)?;
         Ok(TreeWriter {
             open_nodes: Vec::new(alloc),
             later: false,
@@ -301,8 +303,27 @@ impl<'g> TreeWriter<'g> {
     }
 
     /// Appends the text of the next group in preorder, which has this depth, number and kind: the ends of the nodes before
-    /// it, and its own start if it is a node. If the process is out of memory, a first part is appended.
+    /// it, and its own start if it is a node. If the process is out of memory, `text` is empty afterwards.
     pub fn add_group(
+        &mut self,
+        text: &mut Vec<u8>,
+        depth: u32,
+        number: u64,
+        kind: &'g GroupKind,
+    ) -> Result<(), NoMemory>
+        ensures text { let around = state_at depth self.old.open_nodes self.old.later in
+            let this = ends_from depth self.old.open_nodes ++ json_of around.later kind.now in
+            OnOk result (text.new.items ≡ text.old.items ++ this) }
+        ensures err { OnErr result (text.new.items ≡ []) }
+        ensures state { let around = state_at depth self.old.open_nodes self.old.later in
+            OnOk result (self.new ≡ json_after depth number kind.now around) }
+    {
+        let done = self.append_group(text, depth, number, kind);
+        or_empty(text, done)
+    }
+
+    // Appends the ends of the nodes before the next group, and its own start if it is a node.
+    fn append_group(
         &mut self,
         text: &mut Vec<u8>,
         depth: u32,
@@ -334,19 +355,31 @@ impl<'g> TreeWriter<'g> {
         }
     }
 
-    /// Appends the text of the next group in preorder, which has this depth and is not a node.
+    /// Appends the text of the next group in preorder, which has this depth and is not a node. If the process is out of
+    /// memory, `text` is empty afterwards.
     pub fn add_other(&mut self, text: &mut Vec<u8>, depth: u32) -> Result<(), NoMemory>
         ensures text { OnOk result (text.new.items ≡ text.old.items ++ ends_from depth self.old.open_nodes) }
+        ensures err { OnErr result (text.new.items ≡ []) }
         ensures state { OnOk result (self.new ≡ state_at depth self.old.open_nodes self.old.later) }
     {
-        self.close_from(text, depth)
+        let done = self.close_from(text, depth);
+        or_empty(text, done)
     }
 
-    /// Ends the list of top nodes, and the line.
-    pub fn finish(mut self, text: &mut Vec<u8>) -> Result<(), NoMemory>
-        ensures { OnOk result (text.new.items ≡ text.old.items ++ (ends_from 0 self.entry.open_nodes ++ codes "]\n")) }
+    // Appends the ends of the list of top nodes and of the line.
+    fn append_end(&mut self, text: &mut Vec<u8>) -> Result<(), NoMemory>
+        ensures { OnOk result (text.new.items ≡ text.old.items ++ (ends_from 0 self.old.open_nodes ++ codes "]\n")) }
     {
         self.close_from(text, 0)?;
         add(text, b"]\n")
+    }
+
+    /// Ends the list of top nodes, and the line. If the process is out of memory, `text` is empty afterwards.
+    pub fn finish(mut self, text: &mut Vec<u8>) -> Result<(), NoMemory>
+        ensures ok { OnOk result (text.new.items ≡ text.old.items ++ (ends_from 0 self.entry.open_nodes ++ codes "]\n")) }
+        ensures err { OnErr result (text.new.items ≡ []) }
+    {
+        let done = self.append_end(text);
+        or_empty(text, done)
     }
 }
