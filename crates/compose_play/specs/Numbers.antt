@@ -1,4 +1,4 @@
--- Trusted: The exit status of the process.
+-- Trusted: the exit status of the process.
 use Rattle.std.specs.Prelude.{ℕ}
 use Rattle.play_core.specs.declared.top.Status.{Status}
 use Rattle.play_core.specs.declared.top.Status.TheVariants.{Done, Usage, BadInput, ReadFault, WriteFault, NoMemory, TooLong}

@@ -27,7 +27,7 @@ no_answer (f ∷ fs) h = let k = kept fs f in absurd (cc (k.1))
 before_self : (f : ProgramFault) → before f f ≡ false
 before_self f = grind (arith, nat_tests)
 
--- if x is before g and not before f, g is not before f
+-- If x is before g and not before f, g is not before f.
 before_down : (x g f : ProgramFault) → before x g ≡ true → before x f ≡ false → before g f ≡ false
 before_down x g f h k = grind (arith, nat_tests)
 
@@ -37,7 +37,7 @@ before_up x g f h k = grind (arith, nat_tests)
 inject : {A : Type 0} {a b : A} → Some a ≡ Some b → a ≡ b
 inject h = cc
 
--- no fault of the list is before f
+-- No fault of the list is before f.
 NoneBefore : ProgramFault → List ProgramFault → Type 0
 NoneBefore f fs = All (λ (g : ProgramFault). before g f ≡ false) fs
 
@@ -47,7 +47,7 @@ here g f fs is = (0, omega arith, is)
 there : (g f : ProgramFault) (fs : List ProgramFault) → Contains fs f → Contains (g ∷ fs) f
 there g f fs has = (suc has.0, omega (arith, has.1), has.2)
 
--- the fault that is reported is a first one or one of the list, and no fault is before it
+-- The fault that is reported is a first one or one of the list, and no fault is before it.
 Least : List ProgramFault → ProgramFault → ProgramFault → Type 0
 Least fs g f = ((g ≡ f) ⊎ Contains fs f) × (before g f ≡ false) × NoneBefore f fs
 
@@ -80,5 +80,5 @@ pub least_append : (o : Option ProgramFault) (xs ys : List ProgramFault) → lea
 least_append o [] ys = refl
 least_append o (x ∷ xs) ys = least_append (least_fault_with o x) xs ys
 
--- the first fault of one list after another
+-- The first fault of one list after another.
 pub ruleset answers = (least_append)

@@ -7,7 +7,7 @@ use Rattle.lang_ast.specs.declared.syntax.Statement.{Statement}
 use Rattle.lang_ast.specs.declared.syntax.Named.{Named}
 use Rattle.lang_ast.specs.declared.syntax.Function.{Function}
 
--- the item at an index, and those after it
+-- The item at an index, and those after it.
 pub drop_item : {A : Type 0} (xs : List A) (i : ℕ) (x : A) → i < length xs → x ≡ get_or xs i x → drop i xs ≡ x ∷ drop (i + 1) xs
 drop_item {A} xs i x h is = drop-cons xs i x h ∙ ap (λ (y : A). y ∷ drop (suc i) xs) (sym is) ∙ ap (λ (k : ℕ). x ∷ drop k xs) (sym (add-one i))
 

@@ -61,6 +61,6 @@ functions_step states all fs i f o h is =
     ap (λ (x : List Func). least_fault_from o (functions_faults states all i x)) (functions_drop fs i f h is)
     ∙ least_append o (function_faults states all i (function_view f)) (functions_faults states all (i + 1) (functions_view (drop (i + 1) fs)))
 
--- an item moves from those to come to those that were seen
+-- An item moves from those to come to those that were seen.
 pub one_more : {A : Type 0} (xs extended_chain behind less all : List A) (x : A) → extended_chain ≡ xs ++ x ∷ [] → behind ≡ x ∷ less → xs ++ behind ≡ all → extended_chain ++ less ≡ all
 one_more xs extended_chain behind less all x now is was = ap (λ ys. ys ++ less) now ∙ append_assoc xs (x ∷ []) less ∙ ap (λ ys. xs ++ ys) (sym is) ∙ was

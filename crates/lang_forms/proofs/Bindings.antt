@@ -11,7 +11,7 @@ with_value n e = Some ((n.0, e.0), e.1)
 abbrev with_pairs : Ident × List Seen → List Named × List Seen → Option ((Ident × List Named) × List Seen)
 with_pairs n ns = Some ((n.0, ns.0), ns.1)
 
--- a name and an expression, and what follows
+-- A name and an expression, and what follows.
 bound : {A : Type 0} (m : List (List ℕ)) (o : Option (Ident × List Seen)) (f : Ident → Expr × List Seen → Option A) →
     (o >>= λ n. expr_of m n.1 >>= λ e. f n.0 e) ≡ ((o >>= λ n. expr_of m n.1 >>= λ e. with_value n e) >>= λ x. f x.0.0 (x.0.1, x.1))
 bound m None f = refl
@@ -21,7 +21,7 @@ bound {A = A} m (Some n) f = by (expr_of m n.1)
     by None = refl
     by (Some e) = refl
 
--- a name and a list of pairs, and what follows
+-- A name and a list of pairs, and what follows.
 paired : {A : Type 0} (m : List (List ℕ)) (o : Option (Ident × List Seen)) (f : Ident → List Named × List Seen → Option A) →
     (o >>= λ n. pairs_of m n.1 >>= λ ns. f n.0 ns) ≡ ((o >>= λ n. pairs_of m n.1 >>= λ ns. with_pairs n ns) >>= λ x. f x.0.0 (x.0.1, x.1))
 paired m None f = refl

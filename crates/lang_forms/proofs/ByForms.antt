@@ -24,7 +24,7 @@ taken_as p = Ok p
 front_same : (p q : PartialSource) → taken_as p ≡ taken_as q → p ≡ q
 front_same p q h = cc
 
--- top forms after those that were parsed
+-- Top forms after those that were parsed.
 go_on : (xs ys : List Seen) (p q : PartialSource) → tops_of p xs ≡ Ok q → tops_of p (xs ++ ys) ≡ tops_of q ys
 unfolding tops_of
 go_on [] ys p q h = ap (λ (x : PartialSource). tops_of x ys) (front_same p q h)
@@ -48,7 +48,7 @@ text_on end (s ∷ xs) ys q h = by (is_header s) refl h
 abbrev stop_at : ℕ → Result PartialSource ℕ
 stop_at at = Err at
 
--- the first tree after the parsed ones stops the parser, if it is not taken with nothing after it
+-- The first tree after the parsed ones stops the parser, if it is not taken with nothing after it.
 next_stop : (end : ℕ) (w : Forest) (q : PartialSource) → ((r : PartialSource) → tops_of q (seen_trees (only w)) ≡ Ok r → ⊥) → tops_of q (seen_trees w) ≡ stop_at (first_place end w)
 unfolding tops_of
 next_stop end empty q never = absurd (never q refl)
@@ -60,7 +60,7 @@ next_stop end (list x i f) q never = by (source_with_tree q (listed x i)) refl
     by None e = ap (λ (o : Option PartialSource). source_with_rest x o (λ r. tops_of r (seen_trees f))) e
     by (Some r) e = absurd (never r (ap (λ (o : Option PartialSource). source_with_rest x o (λ r. tops_of r [])) e))
 
--- the first tree of all
+-- The first tree of all.
 first_stop : (end : ℕ) (w : Forest) → ((r : PartialSource) → text_of end (seen_trees (only w)) ≡ Ok r → ⊥) → text_of end (seen_trees w) ≡ stop_at (first_place end w)
 unfolding text_of tops_of
 first_stop end empty never = refl
@@ -79,7 +79,7 @@ front_read : (r : Result PartialSource ℕ) (t : Source) → source_or_offset r 
 front_read (Ok q) t h = (q, refl)
 front_read (Err x) t h = absurd (cc)
 
--- the parser stops where the forms stop
+-- The parser stops where the forms stop.
 pub wrong_read : (end at : ℕ) (f : Forest) → IsFirstWrong end f at → text_of end (seen_trees f) ≡ stop_at at
 wrong_read end at f h = elim h.before [
   | inl none ↦
@@ -96,7 +96,7 @@ wrong_read end at f h = elim h.before [
       ∙ ap stop_at (sym h.place)
 ]
 
--- the answer of the parser is one of the forms
+-- The answer of the parser is one of the forms.
 pub answer_is : (end : ℕ) (f : Forest) → IsAnswerFor end f (text_answer end f)
 answer_is end f = by (source_of end (seen_trees (within f))) refl
   where
@@ -111,7 +111,7 @@ answer_is end f = by (source_of end (seen_trees (within f))) refl
 abbrev answer : Result Source FormStop → Result Source FormStop
 answer a = a
 
--- and no other answer is
+-- No other answer is one of the forms.
 pub answer_one : (end : ℕ) (f : Forest) (a : Result Source FormStop) → IsAnswerFor end f a → a ≡ text_answer end f
 answer_one end f (Ok t) h = sym (ap (parsed_answer f) (text_read end (within f) t h.0) ∙ ap (λ (o : Option ℕ). unless_beyond o t) h.1)
 answer_one end f (Err (Form at)) h = sym (ap (parsed_answer f) (ap source_or_offset (wrong_read end at (within f) h)))

@@ -9,7 +9,7 @@ use Rattle.lang_forms.specs.FirstWrong.{only, first_place, IsFirstWrong}
 use Rattle.lang_forms.proofs.TextIsRead.{text_read}
 use Rattle.lang_forms.proofs.TextHasForms.{source_found}
 
--- the trees that the parser takes, and the first that it does not
+-- The trees that the parser takes, and the first that it does not.
 record Stopped (end : ℕ) (f : Forest) (p : PartialSource) (at : ℕ) : Type 0 where
   front : Forest
   wrong : Forest
@@ -28,7 +28,7 @@ err_is a b e = cc
 err_same : (p : PartialSource) (s : Seen) (at x : ℕ) (go : PartialSource → Result PartialSource ℕ) → source_with_tree p s ≡ None → source_with_rest x (source_with_tree p s) go ≡ Err at → at ≡ x
 err_same p s at x go none h = err_is at x (sym h ∙ ap (λ o. source_with_rest x o go) none)
 
--- a first tree that the parser does not take
+-- A first tree that the parser does not take.
 stuck_here : (end at x : ℕ) (f g : Forest) (s : Seen) (p : PartialSource) → seen_trees f ≡ s ∷ seen_trees g → seen_trees (only f) ≡ s ∷ seen_trees empty → first_place end f ≡ x → source_with_tree p s ≡ None → source_with_rest x (source_with_tree p s) (λ q. tops_of q (seen_trees g)) ≡ Err at
     → tops_of p (s ∷ seen_trees empty) ≡ source_with_rest x (source_with_tree p s) (λ q. tops_of q (seen_trees empty)) → Stopped end f p at
 unfolding tops_of
@@ -44,7 +44,7 @@ stuck_here end at x f g s p is alone place none h step =
       stuck = ap (tops_of p) alone ∙ step ∙ ap (λ o. source_with_rest x o (λ q. tops_of q (seen_trees empty))) none ∙ ap (λ (y : ℕ). Err y) (sym here);
     }
 
--- a list, with what it can be parsed as
+-- A list, with what it can be parsed as.
 abbrev pub listed : ℕ → Forest → Seen
 listed x i = form x (roles x (seen_trees i))
 
@@ -78,7 +78,7 @@ refused end at f t h has = apart (sym (ap source_or_offset h) ∙ text_read end 
     apart : refusal at ≡ Ok t → ⊥
     apart e = cc
 
--- a first tree that is no header
+-- A first tree that is no header.
 no_header : (end at : ℕ) (f : Forest) → text_of end (seen_trees f) ≡ Err at → at ≡ first_place end f → ((x : ℕ) × (text_of end (seen_trees (only f)) ≡ Err x)) → IsFirstWrong end f at
 no_header end at f h place alone = record {
   front = empty;

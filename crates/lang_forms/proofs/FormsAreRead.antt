@@ -24,7 +24,7 @@ use Rattle.lang_forms.specs.Forms.{numbers, literal, expr_forms, exprs_forms, pa
 use Rattle.lang_forms.specs.Readings.{Seen, seen_trees, form, roles, word_of, name_of, type_of, policy_of, kind_of, operator_of, truth_of, plain_of, string_of, number_of_first, ints_of, literal_form, literal_at, literal_of, leaf_of, expr_at, expr_of, exprs_of, get_form, apply_form, expr_form, pair_form, pairs_form, stmt_at, stmts_of, block_of, binding_of, named_pairs_of, node_form, call_form, key_form, if_form, for_form, let_form, remember_form, stmt_form}
 use Rattle.lang_forms.proofs.Ints.{int-decimal, letters_no_int, decimal_no_name}
 
--- a first tree that is parsed as a part, and the trees after it
+-- A first tree that is parsed as a part, and the trees after it.
 pub record First {A : Type 0} (f : Forest) (read : Seen → Option A) (a : A) (g : Sketch) : Type 0 where
   pub tree : Seen
   pub rest : Forest
@@ -32,17 +32,17 @@ pub record First {A : Type 0} (f : Forest) (read : Seen → Option A) (a : A) (g
   pub as_read : read tree ≡ Some a
   pub behind : Fits rest g
 
--- a first tree that is a list of these trees
+-- A first tree that is a list of these trees.
 pub one_list : {A : Type 0} (read : Seen → Option A) (at p : ℕ) (f i r : Forest) (a : A) (g : Sketch) → f ≡ list at i r → at ≡ p → read (form p (roles p (seen_trees i))) ≡ Some a → Fits r g → First f read a g
 one_list read at p f i r a g is told h rest =
     subst (λ (x : Forest). First x read a g) (sym is) (record { tree = form at (roles at (seen_trees i)); rest = r; is = refl; as_read = ap (λ (q : ℕ). read (form q (roles q (seen_trees i)))) told ∙ h; behind = rest })
 
--- a first tree that is an atom
+-- A first tree that is an atom.
 one_atom : {A : Type 0} (read : Seen → Option A) (at p : ℕ) (f r : Forest) (w : List ℕ) (a : A) (g : Sketch) → f ≡ atom at w r → at ≡ p → read (Seen.word p w) ≡ Some a → Fits r g → First f read a g
 one_atom read at p f r w a g is told h rest =
     subst (λ (x : Forest). First x read a g) (sym is) (record { tree = Seen.word at w; rest = r; is = refl; as_read = ap (λ (q : ℕ). read (Seen.word q w)) told ∙ h; behind = rest })
 
--- a first tree that is a string
+-- A first tree that is a string.
 one_string : {A : Type 0} (read : Seen → Option A) (at p : ℕ) (f r : Forest) (s : List ℕ) (a : A) (g : Sketch) → f ≡ text at s r → at ≡ p → read (Seen.chars p s) ≡ Some a → Fits r g → First f read a g
 one_string read at p f r s a g is told h rest =
     subst (λ (x : Forest). First x read a g) (sym is) (record { tree = Seen.chars at s; rest = r; is = refl; as_read = ap (λ (q : ℕ). read (Seen.chars q s)) told ∙ h; behind = rest })
@@ -121,7 +121,7 @@ int_read : (z : ℤ) → fits z ≡ true → plain_of (signed_decimal z) ≡ Som
 unfolding plain_of
 int_read z h = rw (int-decimal z h)
 
--- a first tree that is a number
+-- A first tree that is a number.
 pub number_there : (z : ℤ) (a : ℕ) (r : Forest) → fits z ≡ true → number_of_first (seen_trees (atom a (signed_decimal z) r)) ≡ Some (z, seen_trees r)
 number_there z a r h = rw (int-decimal z h)
 
@@ -145,7 +145,7 @@ list_read : (zs : List ℤ) (a : ℕ) (f : Forest) → is_list_long (length zs) 
 unfolding literal_form word_of
 list_read zs a f h r = rw (r, h)
 
--- a first tree that is a literal, at any offset
+-- A first tree that is a literal, at any offset.
 pub literal_read : (v : Value) (f : Forest) (g : Sketch) → literal_fits v ≡ true → Fits f (literal None v g) → First f literal_at v g
 literal_read (value.Int z) f g s h = one_atom literal_at h.0 h.0 f h.1 _ (value.Int z) g h.2 refl (int_read z s) h.4
 literal_read (value.Bool b) f g s h = one_atom literal_at h.0 h.0 f h.1 _ (value.Bool b) g h.2 refl (truth_read b) h.4
@@ -205,7 +205,7 @@ more_read m f e es one r = record {
   is = ap (more e) r.is;
 }
 
--- the keyword and the name at the beginning of a form
+-- The keyword and the name at the beginning of a form.
 pub list_with_word : (i j r : Forest) (a b : ℕ) (w : List ℕ) (n : Ident) → i ≡ atom a w j → j ≡ atom b n.text r → b ≡ n.at → i ≡ atom a w (atom n.at n.text r)
 list_with_word i j r a b w n e f g = e ∙ ap (atom a w) (f ∙ ap (λ (p : ℕ). atom p n.text r) g)
 
@@ -256,7 +256,7 @@ pub record ReadsBody (m : KnownNames) (k : ℕ) (f : Forest) (b : Stmts) : Type 
   pub read : stmts_of m k (seen_trees f) ≡ Some (found, site_after_all k b)
   pub is : stmts found ≡ b
 
--- a first tree that is a statement, and the number of the next
+-- A first tree that is a statement, and the number of the next.
 abbrev pub ReadsStmt : KnownNames → ℕ → Forest → Stmt → Sketch → Type 0
 ReadsStmt m k f t g = First f (stmt_at m k) (t, site_after k t) g
 
@@ -287,7 +287,7 @@ key_read : (m : KnownNames) (k at a : ℕ) (e : Expr) (b : Stmts) (f : Forest) (
 unfolding stmt_form key_form word_of
 key_read m k at a e b f g one r = rw (expr_there m.states f e g one, r.read, r.is)
 
--- the statements of a first tree that is a list
+-- The statements of a first tree that is a list.
 block_there : (m : KnownNames) (k p : ℕ) (f i r : Forest) (b : Stmts) → f ≡ list p i r → (all : ReadsBody m k i b) → block_of m k (seen_trees f) ≡ Some ((all.found, site_after_all k b), seen_trees r)
 block_there m k p f i r b is all = ap (λ (x : Forest). block_of m k (seen_trees x)) is ∙ rw all.read
 
@@ -314,7 +314,7 @@ remember_read : (m : KnownNames) (k at a p : ℕ) (n : Ident) (ks : List Named) 
 unfolding stmt_form remember_form named_pairs_of word_of
 remember_read m k at a p n ks e b i f g h read one r = rw (name_there n (list p i f) h, read, expr_there m.states f e g one, r.read, r.is)
 
--- a list that is parsed as a statement, with its number
+-- A list that is parsed as a statement, with its number.
 one_stmt : (m : KnownNames) (k site at p x : ℕ) (f i r : Forest) (t : ℕ → Stmt) (g : Sketch) → site ≡ k → f ≡ list at i r → at ≡ p → stmt_form m k p (seen_trees i) ≡ Some (t k, x) → Fits r g → First f (stmt_at m k) (t site, x) g
 one_stmt m k site at p x f i r t g same is told h rest =
     one_list (stmt_at m k) at p f i r (t site, x) g is told (h ∙ ap (λ (j : ℕ). Some (t j, x)) (sym same)) rest

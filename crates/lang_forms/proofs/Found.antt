@@ -47,7 +47,7 @@ choose_some (Some x) f other y h = inl (x, refl, h)
 bytes_same : (a b : List ℕ) → bytes_eq a b ≡ true → a ≡ b
 bytes_same a b h = (bytes_eq-Decides a b).0 h
 
--- a first tree that is a keyword, and the trees after it
+-- A first tree that is a keyword, and the trees after it.
 pub record Worded (i : Forest) (w : List ℕ) (ss : List Seen) : Type 0 where
   pub at : ℕ
   pub rest : Forest
@@ -63,11 +63,11 @@ word_found w (atom b v r) ss h =
 word_found w (text b v r) ss h = absurd (cc)
 word_found w (list b j r) ss h = absurd (cc)
 
--- the same for trees that are seen already
+-- A keyword among trees that are seen already.
 pub word_next : (w : List ℕ) (i : Forest) (rs ss : List Seen) → rs ≡ seen_trees i → word_of w rs ≡ Some ss → Worded i w ss
 word_next w i rs ss is h = word_found w i ss (ap (word_of w) (sym is) ∙ h)
 
--- a first tree that is a name, and the trees after it
+-- A first tree that is a name, and the trees after it.
 pub record NamedBy (i : Forest) (n : Ident × List Seen) : Type 0 where
   pub rest : Forest
   pub is : i ≡ atom n.0.at n.0.text rest
@@ -86,7 +86,7 @@ name_found (list b j r) n h = absurd (cc)
 pub name_next : (i : Forest) (rs : List Seen) (n : Ident × List Seen) → rs ≡ seen_trees i → name_of rs ≡ Some n → NamedBy i n
 name_next i rs n is h = name_found i n (ap name_of (sym is) ∙ h)
 
--- the keyword of one value, or of another
+-- The keyword of one value, or of another.
 named_some : {A : Type 0} (word : A → List ℕ) (a b : A) (w : List ℕ) (other : Option A) → (other ≡ Some b → w ≡ word b) → if_word (word a) a w other ≡ Some b → w ≡ word b
 named_some word a b w other rest h = by (bytes_eq w (word a)) refl h
   where
@@ -144,7 +144,7 @@ operator_word_found w o h = elim (option_or_some (number_operator w) _ o h) [
   ]
 ]
 
--- a first tree that is a type, and the trees after it
+-- A first tree that is a type, and the trees after it.
 pub record Typed (i : Forest) (t : Ty × List Seen) : Type 0 where
   pub at : ℕ
   pub rest : Forest
@@ -161,7 +161,7 @@ type_next (atom b v r) rs t is h =
 type_next (text b v r) rs t is h = absurd (cc (ap type_of (sym is) ∙ h))
 type_next (list b j r) rs t is h = absurd (cc (ap type_of (sym is) ∙ h))
 
--- a first tree that is a policy, and the trees after it
+-- A first tree that is a policy, and the trees after it.
 pub record Policied (i : Forest) (p : BuiltIn × List Seen) : Type 0 where
   pub at : ℕ
   pub rest : Forest
@@ -178,7 +178,7 @@ policy_next (atom b v r) rs p is h =
 policy_next (text b v r) rs p is h = absurd (cc (ap policy_of (sym is) ∙ h))
 policy_next (list b j r) rs p is h = absurd (cc (ap policy_of (sym is) ∙ h))
 
--- a first tree that is a kind of snapshots, and the trees after it
+-- A first tree that is a kind of snapshots, and the trees after it.
 pub record Kinded (i : Forest) (k : Kind × List Seen) : Type 0 where
   pub at : ℕ
   pub rest : Forest
@@ -195,7 +195,7 @@ kind_next (atom b v r) rs k is h =
 kind_next (text b v r) rs k is h = absurd (cc (ap kind_of (sym is) ∙ h))
 kind_next (list b j r) rs k is h = absurd (cc (ap kind_of (sym is) ∙ h))
 
--- a first tree that is an operator, and the trees after it
+-- A first tree that is an operator, and the trees after it.
 pub record Operated (i : Forest) (o : Operator × List Seen) : Type 0 where
   pub at : ℕ
   pub rest : Forest
@@ -223,7 +223,7 @@ end_next i rs is h = end_found i (ap is_end (sym is) ∙ h)
 
 -- Literals.
 
--- an atom that is a literal
+-- An atom that is a literal.
 pub record Plain (a : List ℕ) (v : Value) : Type 0 where
   pub fit : (p : Option ℕ) (at : ℕ) (r : Forest) (g : Sketch) → IsAtOffset p at → Fits r g → Fits (atom at a r) (literal p v g)
   pub plain : plain_fits v ≡ true
@@ -251,7 +251,7 @@ plain_found a v h = elim (choose_some (int_of a) (λ z. Some (value.Int z)) (tru
   | inr x ↦ truth_found a v x.1
 ]
 
--- a string that is a literal
+-- A string that is a literal.
 pub record Quoted (s : List ℕ) (v : Value) : Type 0 where
   pub is : value.Text s ≡ v
   pub good : is_string s ≡ true
@@ -260,7 +260,7 @@ pub string_found : (s : List ℕ) (v : Value) → string_of s ≡ Some v → Quo
 unfolding string_of
 string_found s v h = let c = cond_some (is_string s) (value.Text s) v h in record { is = c.1; good = c.0 }
 
--- a first tree that is a number, and the trees after it
+-- A first tree that is a number, and the trees after it.
 pub record Numbered (i : Forest) (z : ℤ × List Seen) : Type 0 where
   pub at : ℕ
   pub rest : Forest
@@ -292,7 +292,7 @@ ints_found (atom at a f) zs h =
 ints_found (text at s f) zs h = absurd (cc)
 ints_found (list at i f) zs h = absurd (cc)
 
--- a list that is a literal
+-- A list that is a literal.
 record Listed (i : Forest) (v : Value) : Type 0 where
   fit : (at : ℕ) (r : Forest) (g : Sketch) → Fits r g → Fits (list at i r) (literal None v g)
   whole : literal_fits v ≡ true
@@ -308,14 +308,14 @@ list_found i v h =
     subst (λ (x : Value). Listed i x) c.1
     (record { fit = λ at r g rest. (at, i, r, refl, tt, (word.at, word.rest, word.is, tt, all.0), rest); whole = and_from (is_list_long (length zs.0)) (all_fit zs.0) c.0 all.1 })
 
--- the trees after the first
+-- The trees after the first.
 abbrev pub tail : Forest → Forest
 tail empty = empty
 tail (atom at a f) = f
 tail (text at s f) = f
 tail (list at i f) = f
 
--- a first tree that is a literal, and the trees after it
+-- A first tree that is a literal, and the trees after it.
 pub record LiteralFirst (f : Forest) (v : Value × List Seen) : Type 0 where
   pub behind : v.1 ≡ seen_trees (tail f)
   pub fit : (g : Sketch) → Fits (tail f) g → Fits f (literal None v.0 g)

@@ -48,7 +48,7 @@ form_same x at h = cc
 limit_same : (x at : ℕ) → refusal (Limit x) ≡ refusal (Limit at) → x ≡ at
 limit_same x at h = cc
 
--- a text that is the answer was parsed, and its program exceeds no limit
+-- A text that is the answer was parsed, and its program exceeds no limit.
 text_told : (f : Forest) (r : Result Source ℕ) (t : Source) → parsed_answer f r ≡ answer t → (r ≡ read_as t) × (least (program_limits f t.program) ≡ None)
 text_told f (Ok u) t h = by (least (program_limits f u.program)) refl h
   where
@@ -57,7 +57,7 @@ text_told f (Ok u) t h = by (least (program_limits f u.program)) refl h
     by (Some at) e k = absurd (cc)
 text_told f (Err at) t h = absurd (cc)
 
--- a form that is the answer stopped the parser
+-- A form that is the answer stopped the parser.
 form_told : (f : Forest) (r : Result Source ℕ) (at : ℕ) → parsed_answer f r ≡ refusal (Form at) → r ≡ stopped_at at
 form_told f (Ok u) at h = absurd (no_form (least (program_limits f u.program)) h)
   where
@@ -66,7 +66,7 @@ form_told f (Ok u) at h = absurd (no_form (least (program_limits f u.program)) h
     no_form (Some x) k = absurd (cc)
 form_told f (Err x) at h = form_same x at h
 
--- a limit that is the answer is exceeded by a text
+-- A limit that is the answer is exceeded by a text.
 limit_told : (f : Forest) (r : Result Source ℕ) (at : ℕ) → parsed_answer f r ≡ refusal (Limit at) → (t : Source) × (r ≡ read_as t) × (least (program_limits f t.program) ≡ Some at)
 limit_told f (Ok u) at h = by (least (program_limits f u.program)) refl h
   where
@@ -83,7 +83,7 @@ pub small_answers : {X : Type 0} (view : X → Source) (end : ℕ) (f : Forest) 
 small_answers view end f (Ok r) h = no_least _ (text_told f (source_of end (seen_trees (within f))) (view r) h).1
 small_answers view end f (Err e) h = tt
 
--- the offset where the parser stops
+-- The offset where the parser stops.
 pub stop_read : (end at : ℕ) (f : Forest) → source_of end (seen_trees f) ≡ stopped_at at → IsFirstWrong end f at
 stop_read end at f h = by (text_of end (seen_trees f)) refl h
   where

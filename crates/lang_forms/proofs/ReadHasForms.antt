@@ -15,19 +15,19 @@ use Rattle.lang_forms.specs.Readings.{choose, Seen, seen_trees, is_end, word_of,
 use Rattle.lang_forms.proofs.Bindings.{node_is, for_is, let_is, remember_is}
 use Rattle.lang_forms.proofs.Found.{inject, bind_some, map_some, choose_some, Worded, word_found, name_next, operator_found, end_next, plain_found, string_found, tail}
 
--- the forms of statements that are parsed
+-- The forms of statements that are parsed.
 pub record BodyFits (m : KnownNames) (k : ℕ) (f : Forest) (b : List Stmt × ℕ) : Type 0 where
   pub fits : Fits f (stmts_forms (stmts b.0))
   pub spelled : SpelledStmts m k (stmts b.0)
   pub next : b.1 ≡ site_after_all k (stmts b.0)
 
--- the forms of all trees of a forest
+-- The forms of all trees of a forest.
 pub record Claims (f : Forest) : Type 0 where
   pub exprs_fit : (m : List (List ℕ)) (es : List Expr) → exprs_of m (seen_trees f) ≡ Some es → Fits f (exprs_forms (exprs es)) × AllSpelled m (exprs es)
   pub pairs_fit : (m : List (List ℕ)) (ks : List Named) → pairs_form m (seen_trees f) ≡ Some ks → Fits f (pairs_forms ks) × SpelledPairs m ks
   pub stmts_fit : (m : KnownNames) (k : ℕ) (b : List Stmt × ℕ) → stmts_of m k (seen_trees f) ≡ Some b → BodyFits m k f b
 
--- the forms of the trees after each tree and of those inside it
+-- The forms of the trees after each tree and of those inside it.
 abbrev pub Good : Forest → Type 0
 Good empty = Unit {0}
 Good (atom at a f) = Claims f × Good f
@@ -51,7 +51,7 @@ no_stmts m k b h = subst (λ (c : List Stmt × ℕ). BodyFits m k empty c) (inje
 nothing_claimed : Claims empty
 nothing_claimed = record { exprs_fit = no_exprs; pairs_fit = no_pairs; stmts_fit = no_stmts }
 
--- the forms of the trees after the first
+-- The forms of the trees after the first.
 tail_claims : (f : Forest) → Good f → Claims (tail f)
 tail_claims empty good = nothing_claimed
 tail_claims (atom at a f) good = good.0
@@ -64,7 +64,7 @@ tail_good (atom at a f) good = good.1
 tail_good (text at s f) good = good.1
 tail_good (list at i f) good = good.3
 
--- the forms of the trees after an atom
+-- The forms of the trees after an atom.
 pub behind_good : (i : Forest) (a : ℕ) (w : List ℕ) (r : Forest) → i ≡ atom a w r → Good i → Good r
 behind_good i a w r is good = let all : Good (atom a w r) = subst Good is good in all.1
 
@@ -73,13 +73,13 @@ behind_claims i a w r is good = let all : Good (atom a w r) = subst Good is good
 
 -- Expressions.
 
--- a first tree that is an expression, and the trees after it
+-- A first tree that is an expression, and the trees after it.
 record ExprFirst (m : List (List ℕ)) (f : Forest) (e : Expr × List Seen) : Type 0 where
   behind : e.1 ≡ seen_trees (tail f)
   fit : (g : Sketch) → Fits (tail f) g → Fits f (expr_forms e.0 g)
   spelled : Spelled m e.0
 
--- a list that is an expression
+-- A list that is an expression.
 record ListExpr (m : List (List ℕ)) (at : ℕ) (i : Forest) (e : Expr) : Type 0 where
   fit : (r : Forest) (g : Sketch) → Fits r g → Fits (list at i r) (expr_forms e g)
   spelled : Spelled m e
@@ -88,12 +88,12 @@ count_is : (es : List Expr) → operand_count (exprs es) ≡ length es
 count_is [] = refl
 count_is (e ∷ es) = ap suc (count_is es)
 
--- an atom that is an expression
+-- An atom that is an expression.
 record AtomExpr (m : List (List ℕ)) (at : ℕ) (a : List ℕ) (e : Expr) : Type 0 where
   fit : (r : Forest) (g : Sketch) → Fits r g → Fits (atom at a r) (expr_forms e g)
   spelled : Spelled m e
 
--- a value that fits in an expression
+-- A value that fits in an expression.
 literal_spelled : (m : List (List ℕ)) (at : ℕ) (v : Value) → plain_fits v ≡ true → Spelled m (Literal at v)
 literal_spelled m at v h = h
 
@@ -201,7 +201,7 @@ pairs_claim (list at i f) good m ks h =
     let one = pair_found m i k.0 good.1 k.1 in
     subst (λ (l : List Named). Fits (list at i f) (pairs_forms l) × SpelledPairs m l) rest.2 ((at, i, f, refl, tt, one.fits, all.0), (one.good, one.spelled, all.1))
 
--- a first tree that is a list of pairs
+-- A first tree that is a list of pairs.
 record PairsFirst (m : List (List ℕ)) (f : Forest) (k : List Named × List Seen) : Type 0 where
   at : ℕ
   inner : Forest
@@ -228,11 +228,11 @@ pairs_next m f rs k good is h = pairs_found m f k good (ap (pairs_of m) (sym is)
 
 -- Statements.
 
--- statements after the parsed trees
+-- Statements after the parsed trees.
 body_next : (m : KnownNames) (k : ℕ) (f : Forest) (rs : List Seen) (b : List Stmt × ℕ) → Claims f → rs ≡ seen_trees f → stmts_of m k rs ≡ Some b → BodyFits m k f b
 body_next m k f rs b claims is h = claims.stmts_fit m k b (ap (stmts_of m k) (sym is) ∙ h)
 
--- a list that is a statement
+-- A list that is a statement.
 record StmtFits (m : KnownNames) (k at : ℕ) (i : Forest) (t : Stmt × ℕ) : Type 0 where
   fit : (r : Forest) (g : Sketch) → Fits r g → Fits (list at i r) (stmt_forms t.0 g)
   spelled : SpelledStmt m k t.0
@@ -280,7 +280,7 @@ key_found m k at i t ss good w h =
       next = body.next;
     })
 
--- a first tree that is a list of statements
+-- A first tree that is a list of statements.
 record BlockFirst (m : KnownNames) (k : ℕ) (f : Forest) (b : (List Stmt × ℕ) × List Seen) : Type 0 where
   at : ℕ
   inner : Forest
@@ -374,7 +374,7 @@ remember_found m k at i t ss good w h =
       next = body.next;
     })
 
--- one of two readings
+-- One of two readings.
 pub either : {A B : Type 0} (C : Type 0) (o : Option A) (f : A → Option B) (other : Option B) (y : B) → choose o f other ≡ Some y → ((x : A) → o ≡ Some x → f x ≡ Some y → C) → (other ≡ Some y → C) → C
 either C None f other y h one two = two h
 either C (Some x) f other y h one two = one x refl h

@@ -17,7 +17,7 @@ seen-behind (list at i f) g = ap (λ l. form at (roles at (seen_trees i)) ∷ l)
 abbrev One : Tree → Type 0
 One t = seen_trees (tree_view t) ≡ seen_tree t ∷ []
 
--- trees, each with its proof
+-- Trees, each with its proof.
 rows : (ts : List ((t : Tree) × One t)) → seen_trees (forest_concat (map tree_view (map (λ e. e.0) ts))) ≡ map seen_tree (map (λ e. e.0) ts)
 rows [] = refl
 rows (e ∷ ts) = seen-behind (tree_view e.0) _ ∙ ap (λ l. l ++ seen_trees (forest_concat (map tree_view (map (λ e. e.0) ts)))) e.1 ∙ ap (λ l. seen_tree e.0 ∷ l) (rows ts)

@@ -26,7 +26,7 @@ use Rattle.lang_forms.specs.Readings.{when, Seen, seen_trees, word, chars, form,
 use Rattle.lang_forms.proofs.FormsAreRead.{First, name_there, kind_there, number_there, literal_read, literal_there, list_with_word}
 use Rattle.lang_forms.proofs.ReadHasForms.{either}
 
--- a first tree that is a list, with what its trees are parsed as
+-- A first tree that is a list, with what its trees are parsed as.
 record ListFirst {A : Type 0} (f : Forest) (read : ℕ → List Seen → Option A) (a : A) (g : Sketch) : Type 0 where
   at : ℕ
   inner : Forest
@@ -35,7 +35,7 @@ record ListFirst {A : Type 0} (f : Forest) (read : ℕ → List Seen → Option 
   as_read : read at (seen_trees inner) ≡ Some a
   behind : Fits rest g
 
--- trees that are equal to those of a form
+-- Trees that are equal to those of a form.
 one_form : {A : Type 0} (read : ℕ → List Seen → Option A) (at p : ℕ) (f i j r : Forest) (a : A) (g : Sketch) → f ≡ list at i r → at ≡ p → i ≡ j → read p (seen_trees j) ≡ Some a → Fits r g → ListFirst f read a g
 one_form read at p f i j r a g is told same h rest = record {
   at = at;
@@ -48,7 +48,7 @@ one_form read at p f i j r a g is told same h rest = record {
 
 -- Snapshots.
 
--- a first tree that is a snapshot
+-- A first tree that is a snapshot.
 record SnapshotFirst (f : Forest) (s : SnapshotRef) (g : Sketch) : Type 0 where
   rest : Forest
   read : snapshot_of (seen_trees f) ≡ Some (s, seen_trees rest)
@@ -74,7 +74,7 @@ snapshot_read Global f g s h = record { rest = h.1; read = ap (λ (x : Forest). 
 snapshot_read (NamedSnapshot n) f g s h =
     record { rest = h.1; read = ap (λ (x : Forest). snapshot_of (seen_trees x)) (h.2 ∙ ap (λ (p : ℕ). atom p n.text h.1) h.3) ∙ named_there n h.1 s; behind = h.4 }
 
--- a first tree that is a snapshot, and a name after it
+-- A first tree that is a snapshot, and a name after it.
 record StateFirst (f : Forest) (s : SnapshotRef) (n : Ident) (g : Sketch) : Type 0 where
   rest : Forest
   read : state_in_snapshot (seen_trees f) ≡ Some ((s, n), seen_trees rest)
@@ -177,7 +177,7 @@ other_word w v (word at a ∷ ss) r e h =
 other_word w v (chars at s ∷ ss) r e h = absurd (cc)
 other_word w v (form at x ∷ ss) r e h = absurd (cc)
 
--- a step without inner steps begins with no other word
+-- A step without inner steps begins with no other word.
 call_no_word : (m : List (List ℕ)) (at : ℕ) (v : List ℕ) (ss : List Seen) (c : CallForm) → bytes_eq (codes "take") v ≡ false → bytes_eq (codes "read") v ≡ false → bytes_eq (codes "write") v ≡ false
     → bytes_eq (codes "add") v ≡ false → bytes_eq (codes "apply") v ≡ false → bytes_eq (codes "dispose") v ≡ false → plain_step_form m at ss ≡ Some c → word_of v ss ≡ None
 unfolding plain_step_form

@@ -21,7 +21,7 @@ use Rattle.lang_forms.proofs.ReadHasForms.{either}
 
 -- Snapshots.
 
--- a first tree that is a snapshot, and the trees after it
+-- A first tree that is a snapshot, and the trees after it.
 record SnapshotFits (i : Forest) (s : SnapshotRef × List Seen) : Type 0 where
   rest : Forest
   behind : s.1 ≡ seen_trees rest
@@ -44,7 +44,7 @@ snapshot_found i s h = elim (choose_some (word_of (codes "global") (seen_trees i
 snapshot_next : (i : Forest) (rs : List Seen) (s : SnapshotRef × List Seen) → rs ≡ seen_trees i → snapshot_of rs ≡ Some s → SnapshotFits i s
 snapshot_next i rs s is h = snapshot_found i s (ap snapshot_of (sym is) ∙ h)
 
--- a first tree that is a snapshot, the name after it, and the trees after both
+-- A first tree that is a snapshot, the name after it, and the trees after both.
 record InSnapshot (i : Forest) (x : (SnapshotRef × Ident) × List Seen) : Type 0 where
   rest : Forest
   behind : x.1 ≡ seen_trees rest
@@ -129,7 +129,7 @@ add_found m at i c ss w h =
       spelled = (y.good, y.named, refl, z.good);
     })
 
--- a snapshot and nothing after it
+-- A snapshot and nothing after it.
 record OnlySnapshot (i : Forest) (s : SnapshotRef) : Type 0 where
   fits : Fits i (snapshot_forms s nothing)
   good : is_snapshot s ≡ true
@@ -185,7 +185,7 @@ record StepFits (m : List (List ℕ)) (at : ℕ) (i : Forest) (t : StepForm) : T
   fits : (f : Forest) (g : Sketch) → Fits f g → Fits (list at i f) (step_forms t g)
   spelled : SpelledStep m t
 
--- a first tree that is a list of steps during a frame, and the trees after it
+-- A first tree that is a list of steps during a frame, and the trees after it.
 record DuringFirst (m : List (List ℕ)) (f : Forest) (d : List CallForm × List Seen) : Type 0 where
   at : ℕ
   word : ℕ

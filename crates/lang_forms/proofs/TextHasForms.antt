@@ -51,7 +51,7 @@ parameters_found (list at i f) ps h =
     let one = parameter_found i p.0 p.1 in
     subst (λ (l : List Parameter). Fits (list at i f) (parameters_forms l) × SpelledParameters l) rest.2 (one.fits at f rest.0 all.0, (one.good, all.1))
 
--- a first tree that is a list of parameters
+-- A first tree that is a list of parameters.
 record ParametersFirst (f : Forest) (ps : List Parameter × List Seen) : Type 0 where
   at : ℕ
   inner : Forest
@@ -73,7 +73,7 @@ parameters_first (list at i f) ps h =
 
 -- Top forms.
 
--- the forms of a state, a function and a script, with the number of the next statement
+-- The forms of a state, a function and a script, with the number of the next statement.
 abbrev TopFits : KnownNames → ℕ → ℕ → Forest → Top → ℕ → Type 0
 TopFits m k at i (StateTop s) x = ((f : Forest) (g : Sketch) → Fits f g → Fits (list at i f) (state_forms s g)) × (is_name s.name.text ≡ true) × (literal_fits s.initial ≡ true) × (x ≡ k)
 TopFits m k at i (FunctionTop c) x =
@@ -136,7 +136,7 @@ top_found m k at i t h =
 
 -- The top forms after the parsed ones.
 
--- the forms of the trees that lead from p to q
+-- The forms of the trees that lead from p to q.
 record Leads (f : Forest) (p q : PartialSource) : Type 0 where
   states : List State
   functions : List Func
@@ -180,7 +180,7 @@ no_more b c x y h = true≢false (sym (and_true b c x y) ∙ h)
     and_true true c x y = y
     and_true false c x y = absurd (cc)
 
--- a state, and the trees after it
+-- A state, and the trees after it.
 state_leads : (at : ℕ) (i f : Forest) (p q r : PartialSource) (s : State) (k : ℕ) → TopFits (known p) p.site at i (StateTop s) k → source_with_form p (StateTop s) k ≡ Some r → Leads f r q → Leads (list at i f) p q
 state_leads at i f p q r s k top put more =
     let made : PartialSource = record { header = p.header; states = p.states ++ s ∷ []; functions = p.functions; script = p.script; site = k } in
@@ -203,7 +203,7 @@ state_leads at i f p q r s k top put more =
       no_functions = rest.no_functions;
     }
 
--- a function, and the trees after it
+-- A function, and the trees after it.
 function_leads : (at : ℕ) (i f : Forest) (p q r : PartialSource) (c : Func) (k : ℕ) → TopFits (known p) p.site at i (FunctionTop c) k → source_with_form p (FunctionTop c) k ≡ Some r → Leads f r q → Leads (list at i f) p q
 function_leads at i f p q r c k top put more =
     let made : PartialSource = record { header = p.header; states = p.states; functions = p.functions ++ c ∷ []; script = p.script; site = k } in
@@ -232,7 +232,7 @@ function_leads at i f p q r c k top put more =
       no_functions = λ h. absurd (true≢false (sym t.0 ∙ h));
     }
 
--- a script, and the trees after it
+-- A script, and the trees after it.
 do_leads : (at : ℕ) (i f : Forest) (p q r : PartialSource) (d : DoForm) (k : ℕ) → TopFits (known p) p.site at i (DoTop d) k → source_with_form p (DoTop d) k ≡ Some r → Leads f r q → Leads (list at i f) p q
 do_leads at i f p q r d k top put more =
     let made : PartialSource = record { header = p.header; states = p.states; functions = p.functions; script = p.script ++ d ∷ []; site = k } in
@@ -289,7 +289,7 @@ tops_found (list at i f) p q h =
     let t = bind_some (top_form (known p) p.site at (seen_trees i)) (λ x. source_with_form p x.0 x.1) r.0 r.1 in
     top_leads at i f p q r.0 t.0.0 t.0.1 (top_found (known p) p.site at i t.0 t.1) t.2 (tops_found f r.0 q r.2)
 
--- compose 1
+-- The header `compose 1`.
 record Headed (i : Forest) : Type 0 where
   at : ℕ
   rest : Forest

@@ -64,13 +64,13 @@ do_read m k a d f h r = rw (do_inside m.states d f h r)
 
 -- The top forms after the parsed ones.
 
--- the parser after some trees
+-- The parser after some trees.
 record GoesOn (f : Forest) (p q : PartialSource) (g : Sketch) : Type 0 where
   rest : Forest
   fits : Fits rest g
   same : tops_of p (seen_trees f) ≡ tops_of q (seen_trees rest)
 
--- a list that is a top form is taken
+-- A list that is a top form is taken.
 one_top : (f i r : Forest) (at x : ℕ) (p q : PartialSource) (t : Top) (k : ℕ) → f ≡ list at i r → at ≡ x → top_form (known p) p.site x (seen_trees i) ≡ Some (t, k) → source_with_form p t k ≡ Some q →
     tops_of p (seen_trees f) ≡ tops_of q (seen_trees r)
 unfolding tops_of
@@ -78,7 +78,7 @@ one_top f i r at x p q t k is told read put =
     let here : top_form (known p) p.site at (seen_trees i) ≡ Some (t, k) = ap (λ (y : ℕ). top_form (known p) p.site y (seen_trees i)) told ∙ read in
     ap (λ (y : Forest). tops_of p (seen_trees y)) is ∙ rw (here, put)
 
--- the parsed part
+-- The parsed part.
 abbrev so_far : ℕ → List State → List Func → List DoForm → ℕ → PartialSource
 so_far at ss cs ds k = record { header = at; states = ss; functions = cs; script = ds; site = k }
 
@@ -103,7 +103,7 @@ states_read at k front (t ∷ ss) f g s h =
           ∙ ap (λ (l : List State). tops_of (so_far at l [] [] k) (seen_trees more.rest)) (append_assoc front (t ∷ []) ss);
     }
 
--- the number of the statement after those of functions
+-- The number of the statement after those of functions.
 abbrev behind_all : ℕ → List Func → ℕ
 behind_all k [] = k
 behind_all k (c ∷ cs) = behind_all (site_after_all k c.body) cs

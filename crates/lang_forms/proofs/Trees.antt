@@ -14,8 +14,8 @@ seen-Text at codes = search (rules, the_lemmas)
 pub seen-List : (at : ℕ) (trees : Vec Tree Global) → seen_tree (TreeList at trees) ≡ form at (roles at (seen_all trees.items))
 seen-List at trees = search (rules, the_lemmas)
 
--- the view of each kind of tree
+-- The view of each kind of tree.
 pub ruleset trees = (seen-Atom, seen-Text, seen-List)
 
--- the view of each form in memory
+-- The view of each form in memory.
 pub ruleset syntax = (view-Literal, view-Variable, view-Get, view-Apply, view-Node, view-Call, view-Key, view-If, view-For, view-Let, view-Remember)

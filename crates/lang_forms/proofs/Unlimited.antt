@@ -54,7 +54,7 @@ count_within (atom at a f) = ap suc (count_within f)
 count_within (text at s f) = ap suc (count_within f)
 count_within (list at i f) = ap suc (count_within f)
 
--- what holds of the least number and of the greatest holds of the nearest
+-- What holds of the least number and of the greatest holds of the nearest.
 nearest_by : (P : List ℕ → Type 0) (a : List ℕ) → P (codes "-9223372036854775808") → P (codes "9223372036854775807") → P (nearest_int a)
 nearest_by P a low high = by (slice_index a 0 == 45)
   where
@@ -95,7 +95,7 @@ cut_within (atom at a f) =
 cut_within (text at s f) = refl
 cut_within (list at i f) = refl
 
--- a list is cut before or after its trees are clamped
+-- A list is cut before or after its trees are clamped.
 list_same : (j : Forest) → clamped_list (within j) ≡ within (clamped_list j)
 list_same j = ap (λ (b : Bool). if b then first_trees 3 (within j) else within j) (cut_within j) ∙ by (is_oversized_ints j)
   where
@@ -209,7 +209,7 @@ begins_first (atom at a f) h =
 begins_first (text at s f) h = absurd (cc)
 begins_first (list at i f) h = absurd (cc)
 
--- a list that has the trees of a plain group is not cut
+-- A list that has the trees of a plain group is not cut.
 whole : (j : Forest) (i : Sketch) → Fits j i → shows_ints i ≡ false → is_oversized_ints j ≡ false
 whole j i h plain = by (is_oversized_ints j) refl
   where
@@ -217,7 +217,7 @@ whole j i h plain = by (is_oversized_ints j) refl
     by true e = absurd (true≢false (sym (shown j i h (cut_begins j e)) ∙ plain))
     by false e = refl
 
--- nor is one that has them when it was cut
+-- A list that has the trees of a plain group when it is clamped is not cut.
 uncut : (j : Forest) (i : Sketch) → Fits (clamped_list j) i → shows_ints i ≡ false → is_oversized_ints j ≡ false
 uncut j i h plain = by (is_oversized_ints j) refl
   where
@@ -229,7 +229,7 @@ uncut j i h plain = by (is_oversized_ints j) refl
 
 -- Sketches whose words and names are none of the tokens that are clamped.
 
--- the numbers that oversized ones become
+-- The numbers that oversized ones become.
 abbrev is_nearest : List ℕ → Bool
 is_nearest a = bytes_eq a (codes "-9223372036854775808") || bytes_eq a (codes "9223372036854775807")
 
@@ -261,7 +261,7 @@ leaf_back b a tok h = by (is_oversized_int b) refl
 leaf_stays : (a : List ℕ) → is_token a ≡ true → clamped_atom a ≡ a
 leaf_stays a tok = let parts = and_parts (not (is_nearest a)) _ tok in ap (clamped a) (not_true (is_oversized_int a) parts.1)
 
--- clamped trees that have the forms of a sketch have them without the limits of literals
+-- Clamped trees that have the forms of a sketch have them without the limits of literals.
 unlimited : (g : Sketch) (f : Forest) → Clean g → Fits (within f) g → FitsUnlimited f g
 unlimited nothing f c h = from_empty f h
 unlimited (leaf p a g) f c h =
@@ -283,7 +283,7 @@ unlimited (sequence p i g) f c h =
     let inner : Fits (within (clamped_list w.0)) i = subst (λ (x : Forest). Fits x i) (sym w.3 ∙ list_same w.0) h.5 in
     (h.0, w.0, w.1, w.2, h.4, unlimited i (clamped_list w.0) c.0 inner, unlimited g w.1 c.1 (subst (λ (x : Forest). Fits x g) (sym w.4) h.6))
 
--- forests that have the forms of a sketch without the limits of literals have them when they are clamped
+-- Forests that have the forms of a sketch without the limits of literals have them when they are clamped.
 limited : (g : Sketch) (f : Forest) → Clean g → FitsUnlimited f g → Fits (within f) g
 limited nothing f c h = ap within h
 limited (leaf p a g) f c h = (h.0, within h.1, ap within h.2 ∙ ap (λ (x : List ℕ). atom h.0 x (within h.1)) (leaf_stays a c.0), h.3, limited g h.1 c.1 h.4)
@@ -299,7 +299,7 @@ limited (sequence p i g) f c h =
 
 -- The forms of a text are such a sketch.
 
--- what is written as a number does not begin with a letter
+-- What is written as a number does not begin with a letter.
 int_no_letter : (a : List ℕ) → is_int a ≡ true → is_letter (slice_index a 0) ≡ false
 int_no_letter [] h = absurd (cc)
 int_no_letter (b ∷ bs) h = by (b == 45) refl h
@@ -408,7 +408,7 @@ and_false : (b : Bool) → (b && false) ≡ false
 and_false true = refl
 and_false false = refl
 
--- a name and one tree are no list that is cut
+-- A name and one tree are no list that is cut.
 pair_whole : (a : List ℕ) (n : ℕ) → n ≡ 1 → (bytes_eq a (codes "ints") && nat_le 2 n) ≡ false
 pair_whole a n e = ap (λ (x : ℕ). bytes_eq a (codes "ints") && nat_le 2 x) e ∙ and_false (bytes_eq a (codes "ints"))
 

@@ -26,26 +26,26 @@ are_ints-behind (atom at a f) g = and_more (is_int a) _ _ _ (are_ints-behind f g
 are_ints-behind (text at s f) g = refl
 are_ints-behind (list at i f) g = refl
 
--- the first trees of a tree and those after it
+-- The first trees of a tree and those after it.
 one_and_first : (n : ℕ) (f g : Forest) → OneTree f → first_trees (suc n) (behind f g) ≡ behind f (first_trees n g)
 one_and_first n f g (one_atom at name) = refl
 one_and_first n f g (one_text at chars) = refl
 one_and_first n f g (one_list at inner) = refl
 
--- the first trees in memory
+-- The first trees in memory.
 pub first_view : (n : ℕ) (ts : List Tree) → forest_view (take n ts) ≡ first_trees n (forest_view ts)
 first_view zero ts = refl
 first_view (suc n) [] = refl
 first_view (suc n) (t ∷ ts) = ap (behind (tree_view t)) (first_view n ts) ∙ sym (one_and_first n (tree_view t) (forest_view ts) (one_tree t))
 
--- the first three trees in memory
+-- The first three trees in memory.
 pub three_view : (ts : List Tree) → forest_view (take 3 ts) ≡ first_trees 3 (forest_view ts)
 three_view ts = first_view 3 ts
 
--- what a walk that copies trees needs
+-- What a walk that copies trees needs.
 pub ruleset copies = (forest_view-push, behind_assoc, behind-empty, view-Atom, view-Text, view-List)
 
--- what a walk over numbers needs
+-- What a walk over numbers needs.
 pub ruleset numbers = (are_ints-behind, three_view)
 
 none_in : {A : Type 0} (xs ys : List A) → xs ++ ys ≡ [] → (xs ≡ []) × (ys ≡ [])
@@ -72,7 +72,7 @@ list_stays (atom at a f) h = rw h
 list_stays (text at s f) h = refl
 list_stays (list at i f) h = refl
 
--- a forest without oversized tokens stays as it is
+-- A forest without oversized tokens stays as it is.
 pub within_is : (f : Forest) → beyond f ≡ [] → within f ≡ f
 within_is empty h = refl
 within_is (atom at a f) h =
@@ -91,7 +91,7 @@ within_is (list at i f) h =
 both : {A : Type 0} (xs ys : List A) → xs ≡ [] → ys ≡ [] → xs ++ ys ≡ []
 both xs ys h k = rw (h, k)
 
--- no token is oversized if none is in the program and none in the script
+-- No token is oversized if none is in the program and none in the script.
 pub none_beyond : (f : Forest) → beyond (program_trees f) ≡ [] → beyond (script_trees f) ≡ [] → beyond f ≡ []
 none_beyond empty h k = refl
 none_beyond (atom at a f) h k =
@@ -112,7 +112,7 @@ none_beyond (list at i f) h k = by (is_do i) (none_beyond f) h k
 pub within_stays : WithinStays
 within_stays f h k = within_is f (none_beyond f h k)
 
--- the copy of one tree, and of those after it
+-- The copy of one tree, and of those after it.
 pub within_step : (ts : List Tree) (i : ℕ) (t : Tree) (out : Forest) → i < length ts → t ≡ get_or ts i t →
     behind out (within (forest_view (drop i ts))) ≡ behind (behind out (within (tree_view t))) (within (forest_view (drop (i + 1) ts)))
 within_step ts i t out lt e =

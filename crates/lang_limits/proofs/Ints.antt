@@ -27,7 +27,7 @@ digits (b ∷ bs) h =
     let range = digit_of b p.0 in
     (omega (arith, digit_value_digit b range, range.0, range.1), digits bs p.1)
 
--- digits that do not begin with 0 are digits
+-- Digits that do not begin with 0 are digits.
 counting : (bs : List ℕ) → is_counting bs ≡ true → IsNumeral 10 bs
 counting [] h = absurd (cc)
 counting (b ∷ bs) h =
@@ -48,7 +48,7 @@ counting_digits (b ∷ bs) h =
     let q = and_parts (is_ascii_digit b) (not (b == 48)) p.0 in
     rw (q.0, p.1) refl
 
--- a number after its sign, if it has one
+-- A number after its sign, if it has one.
 data Written : List ℕ → Type 0 where
   negative : (bs : List ℕ) → IsNumeral 10 bs → IsAscii bs → Written (45 ∷ bs)
   plain : (b : ℕ) (bs : List ℕ) → b ≢ 45 → b ≢ 43 → IsNumeral 10 (b ∷ bs) → IsAscii (b ∷ bs) → Written (b ∷ bs)
@@ -79,7 +79,7 @@ written_ascii a (negative bs n ascii) zero = omega arith
 written_ascii a (negative bs n ascii) (suc i) = ascii i
 written_ascii a (plain b bs m p n ascii) i = ascii i
 
--- a number's bytes are characters
+-- A number's bytes are characters.
 pub int_utf8 : (a : List ℕ) → is_int a ≡ true → IsUtf8 a
 int_utf8 a h = IsUtf8-from_ascii a (written_ascii a (written a h))
 
@@ -94,7 +94,7 @@ fits_from : (z : ℤ) → FitsSigned w64 z → fits z ≡ true
 fits_from (pos n) f = let lt : n < 2 ^ 63 = omega (arith, ints) in lt-ltb n (2 ^ 63) lt
 fits_from (negsuc n) f = let lt : n < 2 ^ 63 = omega (arith, ints) in lt-ltb n (2 ^ 63) lt
 
--- a number is parsed exactly if it fits
+-- A number is parsed exactly if it fits.
 pub parsed : {E : Type 0} (a : List ℕ) (r : Result ℤ E) → is_int a ≡ true → ParsesSigned w64 10 a r → is_ok r ≡ fits (signed_digits_value 10 a)
 parsed a (Ok z) h p = sym (fits_from _ p.0.1)
 parsed a (Err e) h p = sym (false_from_ne_true _ (λ t. p (written_numeral a (written a h), fits-true _ t)))

@@ -9,7 +9,7 @@ pub least_append : (o : Option ℕ) (xs ys : List ℕ) → least_offset_from o (
 least_append o [] ys = refl
 least_append o (x ∷ xs) ys = least_append (lesser_offset o x) xs ys
 
--- the least offset from a first one: at most that, one of all, and no offset before it
+-- The least offset from a first one: at most that, one of all, and no offset before it.
 Least : List ℕ → ℕ → ℕ → Type 0
 Least places kept at = ((kept ≡ at) ⊎ Contains places at) × (at ≤ kept) × All (λ other. nat_lt other at ≡ false) places
 
@@ -54,7 +54,7 @@ kept : (places : List ℕ) (at : ℕ) → (least : ℕ) × (least_offset_from (S
 kept [] at = (at, refl)
 kept (p ∷ ps) at = kept ps (min at p)
 
--- no least offset of no offsets
+-- No least offset of no offsets.
 pub no_least : NoLeastNoPlace
 no_least [] h = refl
 no_least (p ∷ ps) h = let k = kept ps p in absurd (cc (k.1))

@@ -16,10 +16,10 @@ use Rattle.lang_limits.specs.LeastOffset.{least_offset_from}
 use Rattle.lang_ast.specs.Sizes.{most_parts, nesting, deepest, name_sizes, expr_lengths, exprs_lengths, expr_sizes, exprs_sizes, named_sizes, stmt_sizes, stmts_sizes, parameters_sizes, function_sizes, functions_sizes, states_sizes, state_place, function_place, offset_if}
 use Rattle.lang_limits.proofs.Lesser.{least_append}
 
--- the view of each form in memory, and the least of one list after another
+-- The view of each form in memory, and the least of one list after another.
 pub ruleset parts = (view-Literal, view-Variable, view-Get, view-Apply, view-Node, view-Call, view-Key, view-If, view-For, view-Let, view-Remember, least_append, append-nil)
 
--- the item at an index, and those after it
+-- The item at an index, and those after it.
 drop_item : {A : Type 0} (xs : List A) (i : ℕ) (x : A) → i < length xs → x ≡ get_or xs i x → drop i xs ≡ x ∷ drop (i + 1) xs
 drop_item {A} xs i x h is = drop-cons xs i x h ∙ ap (λ (y : A). y ∷ drop (suc i) xs) (sym is) ∙ ap (λ (k : ℕ). x ∷ drop k xs) (sym (add-one i))
 
@@ -79,7 +79,7 @@ functions_step fs i f o h is =
 pub state_at : (ss : List State) (i : ℕ) → slice_get (map state_place ss) i ≡ option_map state_place (slice_get ss i)
 state_at ss i = slice_get-map state_place ss i
 
--- the offsets of functions in memory
+-- The offsets of functions in memory.
 pub function_places : (fs : List Function) → map function_place (functions_view fs) ≡ map (λ (f : Function). f.at) fs
 function_places [] = refl
 function_places (f ∷ fs) = ap (λ (rest : List ℕ). f.at ∷ rest) (function_places fs)
@@ -93,7 +93,7 @@ over_same d e at h k = rw (lt-ltb most_parts d h, lt-ltb most_parts e k) refl
 deeper : (d : ℕ) → most_parts < d → most_parts < d + 1
 deeper d h = omega arith
 
--- statements that are nested too deep have the same oversized parts at each depth
+-- Statements that are nested too deep have the same oversized parts at each depth.
 mutual
   stmt_same : (s : Stmt) (d e : ℕ) → most_parts < d → most_parts < e → stmt_sizes d s ≡ stmt_sizes e s
   stmt_same (Node at site n ns body) d e h k = rw (over_same d e at h k, stmts_same body (d + 1) (e + 1) (deeper d h) (deeper e k)) refl
@@ -109,7 +109,7 @@ mutual
   stmts_same done d e h k = refl
   stmts_same (next s ss) d e h k = rw (stmt_same s d e h k, stmts_same ss d e h k) refl
 
--- a depth counts only to the first that is too deep
+-- A depth counts only to the first that is too deep.
 pub too_deep : (d : ℕ) (ss : Stmts) → stmts_sizes (min d most_parts + 1) ss ≡ stmts_sizes (d + 1) ss
 too_deep d ss = by (leb d most_parts) refl
   where

@@ -19,10 +19,10 @@ pub tree_count-view : (ts : List Tree) → tree_count (forest_view ts) ≡ lengt
 tree_count-view [] = refl
 tree_count-view (t ∷ ts) = one_more (tree_view t) (forest_view ts) (one_tree t) ∙ ap suc (tree_count-view ts)
 
--- what a walk over trees needs
+-- What a walk over trees needs.
 pub ruleset walks = (view-Atom, view-Text, view-List, tree_count-view, least_append, append-nil)
 
--- the tree at an index, and those after it
+-- The tree at an index, and those after it.
 pub view_drop : (ts : List Tree) (i : ℕ) (t : Tree) → i < length ts → t ≡ get_or ts i t → forest_view (drop i ts) ≡ behind (tree_view t) (forest_view (drop (i + 1) ts))
 view_drop ts i t lt e =
     ap forest_view (drop-cons ts i t lt) ∙ ap (λ u. behind (tree_view u) (forest_view (drop (suc i) ts))) (sym e)
@@ -34,7 +34,7 @@ beyond-behind (atom at a f) g = ap (λ l. offset_if (is_oversized_atom a) at ++ 
 beyond-behind (text at s f) g = ap (λ l. offset_if (is_oversized_string s) at ++ l) (beyond-behind f g) ∙ sym (append_assoc (offset_if (is_oversized_string s) at) (beyond f) (beyond g))
 beyond-behind (list at i f) g = rw (beyond-behind f g) (simp append_assoc)
 
--- the oversized tokens of one tree, and of those after it
+-- The oversized tokens of one tree, and of those after it.
 pub beyond_step : (ts : List Tree) (i : ℕ) (t : Tree) (o : Option ℕ) → i < length ts → t ≡ get_or ts i t →
     least_offset_from o (beyond (forest_view (drop i ts))) ≡ least_offset_from (least_offset_from o (beyond (tree_view t))) (beyond (forest_view (drop (i + 1) ts)))
 beyond_step ts i t o lt e =
@@ -52,12 +52,12 @@ script_one f g (one_atom at name) = refl
 script_one f g (one_text at chars) = refl
 script_one f g (one_list at inner) = refl
 
--- the program and the script after one tree
+-- The program and the script after one tree.
 pub program_step : (t : Tree) (ts : List Tree) → program_trees (forest_view (t ∷ ts)) ≡ (if is_script (tree_view t) then empty else behind (tree_view t) (program_trees (forest_view ts)))
 program_step t ts = program_one (tree_view t) (forest_view ts) (one_tree t)
 
 pub script_step : (t : Tree) (ts : List Tree) → script_trees (forest_view (t ∷ ts)) ≡ (if is_script (tree_view t) then forest_view (t ∷ ts) else script_trees (forest_view ts))
 script_step t ts = script_one (tree_view t) (forest_view ts) (one_tree t)
 
--- what separates the program from the script
+-- What separates the program from the script.
 pub ruleset splits = (program_step, script_step, beyond-behind, least_append)

@@ -15,7 +15,7 @@ use Rattle.lang_forms.specs.Forms.{word, name, literal, expr_forms, exprs_forms,
 use Rattle.lang_forms.specs.Sources.{Source}
 use Rattle.lang_forms.specs.Words.{type_word, policy_word}
 
--- what a walk that adds trees needs
+-- What a walk that adds trees needs.
 pub ruleset written = (forest_view-push, behind_assoc, behind-empty, view-Atom, view-Text, view-List)
 
 pub exprs_step : (es : List Expression) (i : ℕ) (e : Expression) → i < length es → e ≡ get_or es i e →
@@ -35,7 +35,7 @@ stmts_step ss i s h is =
 past_none : {A : Type 0} (xs : List A) (i : ℕ) → length xs ≤ i → drop i xs ≡ []
 past_none xs i h = grind (arith, common_steps)
 
--- no tree is left to append
+-- No tree is left to append.
 pub all_there : {A : Type 0} (trees : List A → Forest) → trees [] ≡ empty → (f r : Forest) (xs : List A) (i : ℕ) → length xs ≤ i → behind f (trees (drop i xs)) ≡ r → f ≡ r
 all_there trees none f r xs i h was = sym (ap (behind f) (ap trees (past_none xs i h) ∙ none) ∙ behind-empty f) ∙ was
 
@@ -48,11 +48,11 @@ fits_unplaced f (string p s g) h = ap without_offsets h.2 ∙ ap (text 0 s) (fit
 fits_unplaced f (group p i g) h = ap without_offsets h.3 ∙ ap (λ (x : Forest). list 0 x (without_offsets h.2)) (fits_unplaced h.1 i h.5) ∙ ap (list 0 (unplaced_sketch i)) (fits_unplaced h.2 g h.6)
 fits_unplaced f (sequence p i g) h = ap without_offsets h.3 ∙ ap (λ (x : Forest). list 0 x (without_offsets h.2)) (fits_unplaced h.1 i h.5) ∙ ap (list 0 (unplaced_sketch i)) (fits_unplaced h.2 g h.6)
 
--- no item is left to append
+-- No item is left to append.
 pub none_left : {A : Type 0} (trees : List A → Forest) → trees [] ≡ empty → (f r : Forest) (xs : List A) → length xs ≡ 0 → behind f (trees xs) ≡ r → f ≡ r
 none_left trees none f r xs h was = all_there trees none f r xs 0 (omega (arith, h)) was
 
--- the list of an if
+-- The list of an if.
 pub if_put : (e : Expr) (a b : Stmts) (old new i0 i1 i2 : Forest) → i0 ≡ atom 0 (codes "if") empty → ((g : Sketch) → behind i1 (unplaced_sketch g) ≡ behind i0 (unplaced_sketch (expr_forms e g)))
     → i2 ≡ behind i1 (unplaced_sketch (group None (stmts_forms a) (group None (stmts_forms b) nothing))) → new ≡ behind old (list 0 i2 empty)
     → (at site : ℕ) (g : Sketch) → behind new (unplaced_sketch g) ≡ behind old (unplaced_sketch (stmt_forms (If at site e a b) g))

@@ -1,4 +1,4 @@
--- Internal: The command line as clap describes it: the commands are subcommands.
+-- Internal: the command line as clap describes it: the commands are subcommands.
 use Rattle.std.specs.Prelude.{codes, true}
 use Rattle.clap.specs.Words.{App, new_app, with_subcommand}
 use Rattle.clap.specs.Simple.{on_top}

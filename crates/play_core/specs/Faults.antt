@@ -1,4 +1,4 @@
--- Trusted: Why bytes are rejected, and the line that reports it.
+-- Trusted: why bytes are rejected, and the line that reports it.
 use Rattle.std.specs.Prelude.{◌≡◌, ◌≤◌, ℕ, List, ◌++◌, Bool, length, codes, Some, None, Result, Ok, Err}
 use Rattle.std.specs.Fmt.{decimal}
 use Rattle.std.specs.declared.option.Option.{Option}

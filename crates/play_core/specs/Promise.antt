@@ -1,4 +1,4 @@
--- Trusted: The promise of `play`: what each status means, and when it comes.
+-- Trusted: the promise of `play`: what each status means, and when it comes.
 use Rattle.std.specs.Prelude.{◌≡◌, ◌≢◌, ◌⊎◌, ◌<◌, ◌≤◌, ◌+◌, ℕ, List, length, true, false, Option, Some, None, IfSome}
 use Rattle.std.specs.Io.KnownBytes.{Appends, Keeps, IsAtEnd}
 use Rattle.rt_streams.specs.Streams.{Rose, AppendsPart, rise}

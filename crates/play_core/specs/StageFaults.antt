@@ -1,4 +1,4 @@
--- Trusted: How each stage that parses or checks an input reports its fault.
+-- Trusted: how each stage that parses or checks an input reports its fault.
 use Rattle.sexp_text.specs.declared.stop.TextStop.{TextStop}
 use Rattle.sexp_text.specs.declared.stop.TextStop.TheVariants as stop
 use Rattle.lang_forms.specs.declared.stop.FormStop.{FormStop}

@@ -1,4 +1,4 @@
--- Trusted: The values of cells, which follow from their sites and keys.
+-- Trusted: the values of cells, which follow from their sites and keys.
 use Rattle.std.specs.Prelude.{ℕ, List, [], ◌∷◌, ◌≡◌, map, false, Option, Some, None}
 use Rattle.rt_values.specs.declared.value.Value.{Value}
 use Rattle.rt_values.specs.Maps.{Map}

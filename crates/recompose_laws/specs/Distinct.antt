@@ -1,4 +1,4 @@
--- Trusted: Uniqueness of node numbers.
+-- Trusted: uniqueness of node numbers.
 use Rattle.std.specs.Prelude.{ℕ, ◌+◌, ◌≤◌, ◌==◌, ◌&&◌, ◌≡◌, List, [], ◌∷◌, Bool, true, false, if◌then◌else◌}
 use Rattle.rt_values.specs.Maps.{Map}
 use Rattle.rt_groups.specs.GroupForest.{GroupForest, End, Read, Group, GroupKind, is_node}

@@ -1,4 +1,4 @@
--- Trusted: A frame that owes nothing.
+-- Trusted: a frame that owes nothing.
 use Rattle.std.specs.Prelude.{ℕ, List, [], ◌≡◌, false}
 use Rattle.rt_groups.specs.declared.report.Report.{Report}
 use Rattle.rt_values.specs.Maps.{Map}

@@ -1,4 +1,4 @@
--- Trusted: The calls of a kept forest, each made by its function.
+-- Trusted: the calls of a kept forest, each made by its function.
 use Rattle.std.specs.Prelude.{ℕ, ◌+◌, ◌<◌, List, [], ◌∷◌, ◌≡◌, Option, Some, None}
 use Rattle.rt_values.specs.Maps.{Map}
 use Rattle.rt_groups.specs.GroupForest.{GroupForest, End, Read, Group, GroupKind, Call, Node, Key, Cell}

@@ -1,4 +1,4 @@
--- Trusted: Node numbers, from the groups of one frame to those of the next.
+-- Trusted: node numbers, from the groups of one frame to those of the next.
 use Rattle.std.specs.Prelude.{ℕ, List, [], ◌∷◌, ◌≡◌, length, Bool, take, if◌then◌else◌}
 use Rattle.rt_values.specs.Maps.{Map}
 use Rattle.rt_groups.specs.GroupForest.{GroupForest, End, Read, Group, GroupKind, Call, Node, Key, Cell, is_node, asks}

@@ -1,4 +1,4 @@
--- Trusted: The groups of a frame, made from those of the last frame in one walk.
+-- Trusted: the groups of a frame, made from those of the last frame in one walk.
 use Rattle.std.specs.Prelude.{ℕ, ◌<◌, ◌≤◌, List, [], ◌∷◌, ◌≡◌, length, Bool, false, Some, take, if◌then◌else◌}
 use Rattle.rt_values.specs.Maps.{Map, entry_at, value_at, contains, differ}
 use Rattle.rt_groups.specs.GroupForest.{GroupForest, End, Read, Group, GroupKind, Call, Node, Key, Cell, asks, own_part}

@@ -1,4 +1,4 @@
--- Trusted: The work that a frame owes, found by matching each new group with an old sibling.
+-- Trusted: the work that a frame owes, found by matching each new group with an old sibling.
 use Rattle.std.specs.Prelude.{ℕ, suc, ◌+◌, List, [], ◌∷◌, ◌++◌, ◌≡◌, length, Bool, true, false, ◌&&◌, Option}
 use Rattle.rt_groups.specs.GroupForest.{GroupForest, End, Read, Group, GroupKind, Call, Node, Key, Cell, joined_forest}
 use Rattle.rt_groups.specs.Paths.{GroupKey, sibling, occurrence, Found, matching_sibling, inside_of}

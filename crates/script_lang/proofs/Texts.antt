@@ -13,11 +13,11 @@ three_pieces (Ok x) t first second third a b c one two three =
     three ∙ ap (λ l. l ++ c) (two ∙ ap (λ l. l ++ b) one) ∙ append_assoc (t ++ a) b c ∙ append_assoc t a (b ++ c)
 three_pieces (Err e) t first second third a b c one two three = tt
 
--- a number below 10 is one digit
+-- A number below 10 is one digit.
 pub one_digit : (n : ℕ) → n < 10 → decimal n ≡ (48 + n) ∷ []
 one_digit n low = decimal_digit n low
 
--- a prefix that is one byte longer
+-- A prefix that is one byte longer.
 pub take_more : (xs : List ℕ) (i : ℕ) → i < length xs → take (i + 1) xs ≡ take i xs ++ get_or xs i 0 ∷ []
 take_more xs i low = ap (λ n. take n xs) (add-one i) ∙ take-suc xs i 0 low
 

@@ -1,4 +1,4 @@
--- Trusted: The JSON of a tree, group by group, from the groups of a composition in preorder.
+-- Trusted: the JSON of a tree, group by group, from the groups of a composition in preorder.
 use Rattle.std.specs.Prelude.{◌≡◌, ℕ, List, [], ◌∷◌, ◌++◌, map, Bool, true, false, nat_le, codes, if◌then◌else◌}
 use Rattle.std.specs.Fmt.{decimal}
 use Rattle.json.specs.Print.{quoted}

@@ -1,4 +1,4 @@
--- Trusted: The lines of a tree, group by group, from the groups of a composition in preorder.
+-- Trusted: the lines of a tree, group by group, from the groups of a composition in preorder.
 use Rattle.std.specs.Prelude.{◌≡◌, ℕ, zero, suc, List, [], ◌∷◌, ◌++◌, map, take, Bool, true, false}
 use Rattle.std.specs.List.{flat_map}
 use Rattle.rt_groups.specs.GroupForest.{GroupForest, Attribute}

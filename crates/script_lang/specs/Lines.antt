@@ -1,4 +1,4 @@
--- Trusted: The lines that are printed of a history: one for each call, and the report, the calls on an applier and the
+-- Trusted: the lines that are printed of a history: one for each call, and the report, the calls on an applier and the
 -- tree after the dispose of a frame's snapshot.
 use Rattle.std.specs.Prelude.{ℕ, zero, suc, ◌+◌, ◌==◌, not, List, [], ◌∷◌, ◌++◌, map, Bool, true, false, codes, Option, Some, None, if◌then◌else◌, slice_get}
 use Rattle.std.specs.List.{flat_map, filter}

@@ -1,4 +1,4 @@
--- Trusted: A node tree as JSON: the data, and its text without blanks. Members are in the byte order of their names.
+-- Trusted: a node tree as JSON: the data, and its text without blanks. Members are in the byte order of their names.
 use Rattle.std.specs.Prelude.{ℕ, ℤ, pos, negsuc, List, [], ◌∷◌, codes}
 use Rattle.rt_values.specs.declared.value.Value.{Value}
 use Rattle.rt_values.specs.declared.value.Value.TheVariants as value
