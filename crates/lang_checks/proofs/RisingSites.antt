@@ -1,4 +1,4 @@
--- Sites that are counted rise, and a site is in one part of a program at most.
+-- Sites that are counted rise. Each of two parts of a rising list rises, the second from the last number of the first.
 use Rattle.std.proofs.Common.{arith, ◌≡◌, ◌<◌, ◌≤◌, ◌+◌, ℕ, List, [], ◌∷◌, ◌++◌, refl}
 use Rattle.lang_checks.specs.Numbers.{Counts}
 
