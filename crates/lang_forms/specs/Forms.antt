@@ -181,7 +181,7 @@ literal_fits (value.Bool b) = true
 literal_fits (value.Text cs) = is_string cs
 literal_fits (value.Ints zs) = is_list_long (length zs) && all_fit zs
 
--- The same in an expression, where `(ints ..)` is an operator.
+-- A literal within its limits in an expression, where `(ints ..)` is an operator.
 abbrev pub plain_fits : Value → Bool
 plain_fits (value.Int z) = fits z
 plain_fits (value.Bool b) = true
@@ -325,7 +325,7 @@ pub record HasForms (f : Forest) (t : Source) : Type 0 where
   pub fits : Fits f (text_forms t)
   pub spelled : SpelledSource t
 
--- The same without the limits of literals.
+-- The forest has the trees of the text without the limits of literals, and its parts are what they may be.
 pub record HasUnlimitedForms (f : Forest) (t : Source) : Type 0 where
   pub fits : FitsUnlimited f (text_forms t)
   pub spelled : SpelledSource t

@@ -29,9 +29,9 @@ Fits f (string p s g) = (at : ℕ) × (r : Forest) × (f ≡ text at s r) × IsA
 Fits f (group p i g) = (at : ℕ) × (j : Forest) × (r : Forest) × (f ≡ list at j r) × IsAtOffset p at × Fits j i × Fits r g
 Fits f (sequence p i g) = (at : ℕ) × (j : Forest) × (r : Forest) × (f ≡ list at j r) × IsAtOffset p at × Fits j i × Fits r g
 
--- The same without the limits of literals: where a number or a literal is expected, a number beyond 64 bits counts as
--- the nearest one, a string that is too long as the empty one, and an `ints` list of too many numbers as that of the
--- first two. Everywhere else the trees are those of the sketch.
+-- The forest has the sketch's trees without the limits of literals: where a number or a literal is expected, a number
+-- beyond 64 bits counts as the nearest one, a string that is too long as the empty one, and an `ints` list of too many
+-- numbers as that of the first two. Everywhere else the trees are those of the sketch.
 abbrev pub FitsUnlimited : Forest → Sketch → Type 0
 FitsUnlimited f nothing = f ≡ empty
 FitsUnlimited f (leaf p a g) = (at : ℕ) × (r : Forest) × (f ≡ atom at a r) × IsAtOffset p at × FitsUnlimited r g

@@ -13,12 +13,12 @@ abbrev mutual
   is_flat_expr m (Get at name x) env = is_flat (value_at m x)
   is_flat_expr m (Apply at op es) env = is_flat (eval m (Apply at op es) env).value && are_flat m es env
 
-  -- Whether this holds for all of these expressions.
+  -- Whether each of these expressions, and each part of them, has a number or a truth value.
   pub are_flat : Map → Exprs → Bindings → Bool
   are_flat m none env = true
   are_flat m (more e es) env = is_flat_expr m e env && are_flat m es env
 
--- Whether it holds for the expression at index n, if there is one.
+-- Whether the expression at index `n`, if there is one, and each part of it have a number or a truth value.
 abbrev pub is_flat_nth : Map → Exprs → ℕ → Bindings → Bool
 is_flat_nth m none n env = true
 is_flat_nth m (more e es) zero env = is_flat_expr m e env

@@ -42,7 +42,7 @@ pub record IsApart (w : World BuiltIn) (names : List NamedNumber) (frame : ℕ) 
   pub below : frame < never_taken
   pub apart : (other : List ℕ) (n : ℕ) → latest names other ≡ Some n → n ≢ frame
 
--- This is true of the open frame, if there is one.
+-- `FrameIsApart w names frame`: the open frame's snapshot is apart (`IsApart`), if a frame is open.
 abbrev pub FrameIsApart : World BuiltIn → List NamedNumber → Option ℕ → Type 0
 FrameIsApart w names None = Unit {0}
 FrameIsApart w names (Some frame) = IsApart w names frame

@@ -38,7 +38,7 @@ pub record CountsAt {V : Type 0} (functions : List Func) (stands : V → World B
   pub facts : RunFacts functions stands world' counting'.memory.composition 0 frame' (parts_after functions r parts)
   pub counted : counting'.tally ≡ parts_counted functions tally r parts
 
--- The same for every state that is represented before, with the frame `frame` open.
+-- `CountsAt` holds for every state that `world` and `counting` represent before the parts, with the frame `frame` open.
 abbrev pub CountsParts : {V T : Type 0} → (V → World BuiltIn → Type 0) → List ActorPart → V → V → Counting → Counting
     → Option ℕ → Option ℕ → Result T NoMemory → Type 0
 CountsParts stands parts world world' counting counting' frame frame' result =

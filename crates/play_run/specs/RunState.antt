@@ -113,7 +113,8 @@ abbrev pub MadeCalls : Flags → LastFrame → Option FrameResult → List Op �
 MadeCalls flags k None calls = Unit {0}
 MadeCalls flags k (Some good) calls = flags.ops ≡ true → calls ≡ frame_ops k good.left.trail
 
--- The same with the table of names in memory, and with the log of the world.
+-- The world and the memory represent the state `r` of a run: `RunFacts` holds, the table of names in memory is that of
+-- the state, and the log of the world is that of the run.
 pub record IsRun {V : Type 0} (functions : List Func) (stands : V → World BuiltIn → Type 0) (log : V → Option (List Entry))
     (world : V) (memory : RunMemory) (actor : ℕ) (frame : Option ℕ) (r : Run) : Type 0 where
   pub facts : RunFacts functions stands world memory.composition actor frame r
@@ -141,7 +142,7 @@ pub record RunsAt {V T : Type 0} (style : LineStyle) (functions : List Func) (st
   pub says : WritesBytes written written' (flat (parts_lines style functions r parts)) result
   pub left : OnOk result (IsRun functions stands log world' memory' actor frame' (parts_after functions r parts))
 
--- The same for every state that is represented before.
+-- `RunsAt` holds for every state that `world` and `memory` represent before the parts.
 abbrev pub RunsParts : {V T : Type 0} (style : LineStyle) (functions : List Func) (stands : V → World BuiltIn → Type 0)
     (log : V → Option (List Entry)) (actor : ℕ) (parts : List ActorPart) (world world' : V) (memory memory' : RunMemory) (frame frame' : Option ℕ)
     (written written' : Option (List ℕ)) (result : Result T Stop) → Type 0

@@ -152,7 +152,7 @@ fn compose_again<K: Sink>(
     }
 }
 
-// Goes past a call while no frame is open: writes its line. Returns the frame that the call begins, if it begins one.
+// Handles a call while no frame is open: writes its line. Returns the frame that the call begins, if it begins one.
 fn replay_outside<K: Sink>(
     job: &Job,
     flags: Flags,
@@ -180,7 +180,7 @@ fn replay_outside<K: Sink>(
     }
 }
 
-// Goes past a printed call while a frame is open: writes its line, and composes the frame if the call ends it. Returns
+// Handles a printed call while a frame is open: writes its line, and composes the frame if the call ends it. Returns
 // the frame if it stays open.
 fn print_inside<K: Sink>(
     alloc: Global,
@@ -219,7 +219,7 @@ fn print_inside<K: Sink>(
     }
 }
 
-// Goes past a call while a frame is open: records the call if it is a read of the frame, or else prints it. Returns the
+// Handles a call while a frame is open: records the call if it is a read of the frame, or else prints it. Returns the
 // frame if it stays open.
 fn replay_inside<K: Sink>(
     alloc: Global,
@@ -245,7 +245,7 @@ fn replay_inside<K: Sink>(
     print_inside(alloc, job, flags, frame, &call, memory, sink)
 }
 
-// Goes past a call. Returns the frame that is open then.
+// Handles a call. Returns the frame that is open then.
 fn replay_call<K: Sink>(
     alloc: Global,
     job: &Job,
@@ -267,7 +267,7 @@ fn replay_call<K: Sink>(
     }
 }
 
-// Goes past all calls of a history, one after the other.
+// Handles all calls of a history, one after the other.
 fn replay_calls<K: Sink>(
     alloc: Global,
     job: &Job,

@@ -80,7 +80,7 @@ abbrev pub groups_json : JsonState → List Group → List ℕ
 groups_json s [] = ends_from 0 s.open_nodes
 groups_json s (g ∷ gs) = group_json s g ++ groups_json (json_after_group s g) gs
 
--- Before the first group.
+-- The state before the first group.
 abbrev pub initial_json : JsonState
 initial_json = json_state [] false
 

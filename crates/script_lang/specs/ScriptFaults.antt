@@ -96,7 +96,7 @@ pub record FirstUses : Type 0 where
   pub takers : List NamedNumber
   pub framer : Option ℕ
 
--- Before the first step.
+-- The uses before the first step.
 abbrev pub no_uses : FirstUses
 no_uses = record { takers = []; framer = None }
 

@@ -83,7 +83,7 @@ pub record Notes : Type 0 where
   pub value : Option Value
   pub frame : Option ℕ
 
--- Before the first step.
+-- The notes before the first step.
 abbrev pub no_notes : Notes
 no_notes = record { names = []; value = None; frame = None }
 

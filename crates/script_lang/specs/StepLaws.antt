@@ -26,7 +26,7 @@ abbrev pub SequentialIsSpelled : Type 0
 SequentialIsSpelled = (w : World BuiltIn) (n : Notes) (parts : List ActorPart) →
     IsLegal table w (sequential w n parts) × Spells n parts (sequential w n parts)
 
--- No other history does.
+-- No other history is made by the steps.
 abbrev pub SequentialIsTheOnly : Type 0
 SequentialIsTheOnly = (w : World BuiltIn) (n : Notes) (parts : List ActorPart) (h : History) →
     IsLegal table w h → Spells n parts h → h ≡ sequential w n parts

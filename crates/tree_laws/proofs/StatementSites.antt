@@ -1,4 +1,4 @@
--- Each site of a checked program tells the statement that is there: whether it makes a node, and of which shape.
+-- Each site of a checked program identifies a statement: whether the statement makes a node, and of which shape.
 use Rattle.std.proofs.Common.{arith, ◌≡◌, ◌<◌, ◌≤◌, ◌+◌, ◌==◌, ◌||◌, ℕ, List, [], ◌∷◌, ◌++◌, map, Bool, true, false, not, Option, Some, None, refl, sym, ap, ◌∙◌, subst, inl, inr, eqb-true, eq-eqb, if◌then◌else◌, append_assoc}
 use Rattle.std.specs.Option.{option_or}
 use Rattle.std.specs.List.{list_any}
@@ -26,7 +26,7 @@ pub record Shape : Type 0 where
 abbrev pub texts : List Named → List (List ℕ)
 texts ns = map (λ n. n.name.text) ns
 
--- What a site tells: nothing if no statement is there, else the shape of the nodes of the statement, if it makes nodes.
+-- The statement at a site: `None` if no statement is there, else the shape of its nodes, if it makes nodes.
 abbrev pub Told : Type 0
 Told = Option (Option Shape)
 
@@ -57,7 +57,7 @@ AreApart [] = Unit {0}
 AreApart (n ∷ ns) = (list_any (λ m. bytes_eq m n) ns ≡ false) × AreApart ns
 
 abbrev mutual
-  -- The sites of a statement tell what is there, and the attributes of a node have distinct names.
+  -- `look` returns the shape at each site of a statement, and the attributes of a node have distinct names.
   pub IsTold : (ℕ → Told) → Stmt → Type 0
   IsTold look (Node at site kind attributes body) = (look site ≡ Some (node_shape kind attributes)) × AreApart (texts attributes) × AreTold look body
   IsTold look (Call at site name function arguments) = look site ≡ Some None
@@ -126,7 +126,7 @@ functions_between x k (f ∷ fs) v h e =
     let both = rises_apart k (stmts_sites f.body) (functions_sites fs) h in
     in_either x k (stmts_sites f.body) (functions_sites fs) (stmts_told x f.body) (functions_told x fs) v h e (λ g. stmts_between x k f.body v both.0 g) (λ g. functions_between x (last_of k (stmts_sites f.body)) fs v both.1 g)
 
--- The whole program tells what a part tells.
+-- `look` returns for each site of a part what the part returns.
 abbrev Extends : (ℕ → Told) → (ℕ → Told) → Type 0
 Extends part look = (x : ℕ) (v : Option Shape) → part x ≡ Some v → look x ≡ Some v
 
@@ -204,7 +204,7 @@ same_texts (n ∷ ns) = ap (λ l. n.name.text ∷ l) (same_texts ns)
 names_apart : (ns : List Named) → duplicate_faults [] (names ns) ≡ [] → AreApart (texts ns)
 names_apart ns e = subst (λ (l : List (List ℕ)). AreApart l) (same_texts ns) (apart_after [] (names ns) e)
 
--- All statements are told.
+-- The sites of all statements are looked up.
 
 mutual
   stmt_is_told : (look : ℕ → Told) (p : StatementContext) (scope : List TypedName) (k : ℕ) (s : Stmt) → Rises k (stmt_sites s) → Extends (λ x. stmt_told x s) look → stmt_faults p scope s ≡ [] → IsTold look s
@@ -259,7 +259,7 @@ functions_told_from look states functions me k (f ∷ fs) h a e =
           (extends_second (λ x. stmts_told x f.body) (λ x. functions_told x fs) look k (stmts_sites f.body) (functions_sites fs) (λ x v g. stmts_between x k f.body v both.0 g) (λ x v g. functions_between x mid fs v both.1 g) a) e.1,
     )
 
--- What the program tells at a site. The site 0 of the root's call tells no node.
+-- The statement of the program at a site. The site 0 of the root's call has no statement.
 abbrev pub look_up : List Func → ℕ → Told
 look_up functions x = functions_told x functions
 

@@ -1,4 +1,4 @@
--- The nodes of a composed forest have the shape that their site tells.
+-- The nodes of a composed forest have the shape of the statement at their site.
 use Rattle.std.proofs.Common.{ℕ, zero, suc, ℤ, List, [], ◌∷◌, ◌++◌, ◌≡◌, inl, inr, map, Bool, true, false, ◌||◌, Some, None, refl, ap, sym, ◌∙◌, subst, if◌then◌else◌}
 use Rattle.std.specs.List.{list_any}
 use Rattle.std.specs.Str.{bytes_eq}
@@ -23,7 +23,7 @@ use Rattle.node_tree.specs.Premises.{HaveDistinctNames, names_of}
 use Rattle.tree_laws.specs.FollowingTrees.{WasComposed}
 use Rattle.tree_laws.proofs.StatementSites.{Shape, Told, texts, AreApart, IsTold, AreTold, FunctionsAreTold, look_up, functions_are_told, none_at_root}
 
--- Whether a site tells a node.
+-- Whether the statement at a site makes a node.
 abbrev pub tells_node : Told → Bool
 tells_node None = false
 tells_node (Some None) = false
@@ -54,7 +54,7 @@ functions_tell look (f ∷ fs) h = (sites_tell look f.body h.0, functions_tell l
 abbrev pub shape_of : List ℕ → List Attribute → Shape
 shape_of kind attributes = record { kind = kind; names = names_of attributes }
 
--- A node has the shape that its site tells, and its attributes have distinct names.
+-- A node has the shape of the statement at its site, and its attributes have distinct names.
 abbrev pub HasShape : (ℕ → Told) → ℕ → GroupKind → Type 0
 HasShape look site (trail.Call f vs) = Unit {0}
 HasShape look site (trail.Node kind attributes) = (look site ≡ Some (Some (shape_of kind attributes))) × HaveDistinctNames attributes
