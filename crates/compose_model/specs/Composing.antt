@@ -67,7 +67,8 @@ abbrev mutual
   -- body follow it as siblings.
   run m fs (Remember at site name keys e body) env =
       forest_after (eval_named m keys env) (λ ks. forest_after (eval m e ks) (λ v.
-      Group site 0 (trail.Cell (map (λ k. k.value) ks) v) End (run_all m fs body (env ++ new_binding name.text v ∷ []))))
+      Group site 0 (trail.Cell (map (λ k. k.value) ks) v) End
+      (run_all m fs body (env ++ new_binding name.text v ∷ []))))
 
   -- The forests of statements in sequence.
   pub run_all : Map → List Meaning → Stmts → Bindings → GroupForest

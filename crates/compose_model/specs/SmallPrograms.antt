@@ -61,7 +61,8 @@ abbrev rows : List Func
 rows = func []
     (For 0 1 (name (codes "i")) (state 0)
     (stmts (Key 0 2 (variable (codes "i"))
-    (stmts (Node 0 3 (name (codes "Row")) (named (codes "item") (variable (codes "i")) ∷ []) done ∷ [])) ∷ [])) ∷ []) ∷ []
+    (stmts (Node 0 3 (name (codes "Row"))
+    (named (codes "item") (variable (codes "i")) ∷ []) done ∷ [])) ∷ [])) ∷ []) ∷ []
 
 abbrev three : ℕ → ℕ → ℕ → GroupForest
 three i j k = forest rows 0 (values (value.Ints (pos i ∷ pos j ∷ pos k ∷ []) ∷ []))
@@ -124,7 +125,8 @@ remembered k z = forest cells 0 (values (value.Int (pos k) ∷ value.Int (pos z)
 abbrev pub cells_trail : ℕ → ℤ → ℕ → GroupForest
 cells_trail k v z = Group 0 0 (trail.Call 0 [])
     (Read 0 (Group 1 0 (trail.Cell (value.Int (pos k) ∷ []) (value.Int v)) End
-    (Read 1 (Group 2 0 (trail.Node (codes "Text") (shown (codes "v") v ∷ shown (codes "z") (pos z) ∷ [])) End End)))) End
+    (Read 1
+    (Group 2 0 (trail.Node (codes "Text") (shown (codes "v") v ∷ shown (codes "z") (pos z) ∷ [])) End End)))) End
 
 -- The square is calculated in the first frame and after a change of its key, and not after a change of the other
 -- state.
@@ -154,7 +156,8 @@ looped n m = forest loops 1 (values (value.Int (pos n) ∷ value.Int (pos m) ∷
 
 abbrev loops_trail : ℕ → ℕ → GroupForest
 loops_trail h d = Group 0 0 (trail.Call 1 [])
-    (Group 2 0 (trail.Call 0 []) (Read 1 (Group 1 h (trail.Node (codes "Head") (shown (codes "m") (pos 5) ∷ [])) End End))
+    (Group 2 0 (trail.Call 0 [])
+    (Read 1 (Group 1 h (trail.Node (codes "Head") (shown (codes "m") (pos 5) ∷ [])) End End))
     (Read 0 (Read 0 (Group 5 d (trail.Node (codes "Dot") []) End End)))) End
 
 -- The list of an inner loop is read again in each turn of the outer loop.

@@ -80,7 +80,8 @@ named_sizes (n ∷ ns) = name_sizes n.name ++ expr_sizes n.value ++ named_sizes 
 abbrev mutual
   pub stmt_sizes : ℕ → Stmt → List ℕ
   stmt_sizes d (Node at site n ns body) =
-      name_sizes n ++ offset_if (nat_lt most_parts d) at ++ offset_if (nat_lt most_parts (length ns)) at ++ named_sizes ns
+      name_sizes n ++ offset_if (nat_lt most_parts d) at ++ offset_if (nat_lt most_parts (length ns)) at
+      ++ named_sizes ns
       ++ stmts_sizes (d + 1) body
   stmt_sizes d (Call at site n function es) = name_sizes n ++ offset_if (nat_lt most_parts d) at ++ exprs_sizes es
   stmt_sizes d (Key at site e body) = offset_if (nat_lt most_parts d) at ++ expr_sizes e ++ stmts_sizes (d + 1) body
@@ -91,7 +92,8 @@ abbrev mutual
   stmt_sizes d (Let at site n e body) =
       name_sizes n ++ offset_if (nat_lt most_parts d) at ++ expr_sizes e ++ stmts_sizes (d + 1) body
   stmt_sizes d (Remember at site n ks e body) =
-      name_sizes n ++ offset_if (nat_lt most_parts d) at ++ offset_if (nat_lt most_parts (length ks)) at ++ named_sizes ks ++ expr_sizes e
+      name_sizes n ++ offset_if (nat_lt most_parts d) at ++ offset_if (nat_lt most_parts (length ks)) at
+      ++ named_sizes ks ++ expr_sizes e
       ++ stmts_sizes (d + 1) body
 
   pub stmts_sizes : ℕ → Stmts → List ℕ

@@ -50,7 +50,8 @@ variable_faults l name at =
 -- The faults of a `get`. A name of no state is unknown. A calculation may read no state.
 abbrev pub get_faults : ExpressionScope → List ℕ → ℕ → ℕ → List ProgramFault
 get_faults l name number at =
-    fault_unless (is_some (state_type l.states name number)) kind.Unknown at ++ fault_unless (not l.calculating) kind.Remember at
+    fault_unless (is_some (state_type l.states name number)) kind.Unknown at
+    ++ fault_unless (not l.calculating) kind.Remember at
 
 abbrev mutual
   -- The faults of an expression. Operands of the wrong types are a fault of the operator's list.

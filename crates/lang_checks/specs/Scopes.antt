@@ -32,7 +32,8 @@ is_among name ns = list_any (λ n. bytes_eq n.text name) ns
 -- The faults of duplicate names: each name that an earlier one equals, at its own offset.
 abbrev pub duplicate_faults : List Ident → List Ident → List ProgramFault
 duplicate_faults earlier [] = []
-duplicate_faults earlier (n ∷ ns) = fault_unless (not (is_among n.text earlier)) kind.Double n.at ++ duplicate_faults (earlier ++ n ∷ []) ns
+duplicate_faults earlier (n ∷ ns) =
+    fault_unless (not (is_among n.text earlier)) kind.Double n.at ++ duplicate_faults (earlier ++ n ∷ []) ns
 
 -- The type of a state, if it has the name.
 abbrev pub type_if_named : List ℕ → Option State → Option Ty

@@ -52,7 +52,8 @@ abbrev mutual
   pub stmt_faults : StatementContext → List TypedName → Stmt → List ProgramFault
   -- A node: attributes have unique names.
   stmt_faults p scope (Node at site name attributes body) =
-      duplicate_faults [] (names attributes) ++ (values_faults (plain p.states scope) attributes ++ stmts_faults p scope body)
+      duplicate_faults [] (names attributes)
+      ++ (values_faults (plain p.states scope) attributes ++ stmts_faults p scope body)
   stmt_faults p scope (Call at site name function arguments) =
       exprs_faults (plain p.states scope) arguments
       ++ call_faults p.me at (types_of (plain p.states scope) arguments)
@@ -70,7 +71,8 @@ abbrev mutual
       ++ binding_faults scope name (stmts_faults p (scope ++ typed_name name ty.Int ∷ []) body))
   stmt_faults p scope (Let at site name value body) =
       expr_faults (plain p.states scope) value
-      ++ binding_faults scope name (stmts_faults p (scope ++ typed_name name (type (plain p.states scope) value) ∷ []) body)
+      ++ binding_faults scope name
+      (stmts_faults p (scope ++ typed_name name (type (plain p.states scope) value) ∷ []) body)
   -- A remember: keys have unique names. Keys use what is around them, the calculation uses the keys, and the body
   -- uses the name.
   stmt_faults p scope (Remember at site name keys value body) =

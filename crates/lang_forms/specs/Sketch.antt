@@ -26,8 +26,10 @@ Fits f nothing = f ≡ empty
 Fits f (leaf p a g) = (at : ℕ) × (r : Forest) × (f ≡ atom at a r) × IsAtOffset p at × Fits r g
 Fits f (numeral p z g) = (at : ℕ) × (r : Forest) × (f ≡ atom at (signed_decimal z) r) × IsAtOffset p at × Fits r g
 Fits f (string p s g) = (at : ℕ) × (r : Forest) × (f ≡ text at s r) × IsAtOffset p at × Fits r g
-Fits f (group p i g) = (at : ℕ) × (j : Forest) × (r : Forest) × (f ≡ list at j r) × IsAtOffset p at × Fits j i × Fits r g
-Fits f (sequence p i g) = (at : ℕ) × (j : Forest) × (r : Forest) × (f ≡ list at j r) × IsAtOffset p at × Fits j i × Fits r g
+Fits f (group p i g) = (at : ℕ) × (j : Forest) × (r : Forest) × (f ≡ list at j r) × IsAtOffset p at
+    × Fits j i × Fits r g
+Fits f (sequence p i g) = (at : ℕ) × (j : Forest) × (r : Forest) × (f ≡ list at j r) × IsAtOffset p at
+    × Fits j i × Fits r g
 
 -- The forest has the sketch's trees without the limits of literals: where a number or a literal is expected, a number
 -- beyond 64 bits counts as the nearest one, a string that is too long as the empty one, and an `ints` list of too many

@@ -46,7 +46,8 @@ abbrev pub source_with_tree : PartialSource → Seen → Option PartialSource
 source_with_tree p s = top_at (known p) p.site s >>= λ t. source_with_form p t.0 t.1
 
 -- The part with a tree and those after it, or the offset x of the tree.
-abbrev pub source_with_rest : ℕ → Option PartialSource → (PartialSource → Result PartialSource ℕ) → Result PartialSource ℕ
+abbrev pub source_with_rest : ℕ → Option PartialSource → (PartialSource → Result PartialSource ℕ)
+    → Result PartialSource ℕ
 source_with_rest at None go = Err at
 source_with_rest at (Some q) go = go q
 

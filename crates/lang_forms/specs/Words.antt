@@ -98,7 +98,8 @@ kind_for_word w = if_word (codes "mutable") kind.Mutable w (if_word (codes "read
 -- The operators on numbers.
 unfoldable pub number_operator : List ℕ → Option Operator
 number_operator w =
-    if_word (codes "+") operator.Add w (if_word (codes "-") operator.Subtract w (if_word (codes "*") operator.Multiply w (
+    if_word (codes "+") operator.Add w (if_word (codes "-") operator.Subtract w (
+    if_word (codes "*") operator.Multiply w (
     if_word (codes "/") operator.Divide w (if_word (codes "%") operator.Remainder w None))))
 
 -- The operators that compare and choose.
@@ -111,7 +112,8 @@ truth_operator w =
 -- The operators on texts and lists.
 unfoldable pub list_operator : List ℕ → Option Operator
 list_operator w =
-    if_word (codes "join") operator.Join w (if_word (codes "text") operator.Text w (if_word (codes "ints") operator.Ints w (
+    if_word (codes "join") operator.Join w (if_word (codes "text") operator.Text w (
+    if_word (codes "ints") operator.Ints w (
     if_word (codes "range") operator.Range w
     (if_word (codes "push") operator.Push w (if_word (codes "concat") operator.Concat w (
     if_word (codes "len") operator.Length w (if_word (codes "at") operator.At w None)))))))

@@ -22,8 +22,8 @@ use Rattle.lang_meaning.specs.declared.composition.ScratchStop.TheVariants.{TooM
 -- The effect of composing a forest at a depth on the groups, on the list of reads that the view was asked for and on
 -- the reads of the innermost call. A good result appends everything that the forest contains. Else the view was asked
 -- for a first part of the reads, and there are too many groups if the result says so.
-pub record ComposesForest (depth : ℕ) (t : GroupForest) (groups groups' : List Group) (asked asked' reads reads' : List ℕ)
-    {U : Type 0} (result : Result U ScratchStop) : Type 0 where
+pub record ComposesForest (depth : ℕ) (t : GroupForest) (groups groups' : List Group)
+    (asked asked' reads reads' : List ℕ) {U : Type 0} (result : Result U ScratchStop) : Type 0 where
   pub made : OnOk result (groups' ≡ groups ++ preorder depth t)
   pub came : OnOk result (asked' ≡ asked ++ asks t)
   pub charged : OnOk result (reads' ≡ reads ++ asks (own_part t))
@@ -31,8 +31,8 @@ pub record ComposesForest (depth : ℕ) (t : GroupForest) (groups groups' : List
   pub many : result ≡ Err TooManyGroups → most_groups < length (groups ++ preorder depth t)
 
 -- The state of a loop that composes the forest t, where `rest` is the part that remains.
-pub record LoopProgress (depth : ℕ) (rest t : GroupForest) (groups groups' : List Group) (asked asked' reads reads' : List ℕ)
-    : Type 0 where
+pub record LoopProgress (depth : ℕ) (rest t : GroupForest) (groups groups' : List Group)
+    (asked asked' reads reads' : List ℕ) : Type 0 where
   pub made : groups' ++ preorder depth rest ≡ groups ++ preorder depth t
   pub came : asked' ++ asks rest ≡ asked ++ asks t
   pub charged : reads' ++ asks (own_part rest) ≡ reads ++ asks (own_part t)

@@ -28,18 +28,21 @@ recomposed_forest fs (Group site n what inside rest) =
 
 -- If the objects that an expression reads agree, it reads the same objects and has the same value.
 abbrev pub EvaluationAgrees : Type 0
-EvaluationAgrees = (m m' : Map) (e : Expr) (env : Bindings) → Agree m m' (eval m e env).reads → eval m e env ≡ eval m' e env
+EvaluationAgrees = (m m' : Map) (e : Expr) (env : Bindings) →
+    Agree m m' (eval m e env).reads → eval m e env ≡ eval m' e env
 
 -- The own part of a call depends only on the values of its variables and on the values of its own reads.
 abbrev pub OwnPartsAgree : Type 0
 OwnPartsAgree = (m m' : Map) (fs fs' : List Meaning) (body : Stmts) (env : Bindings) →
-    Agree m m' (asks (own_part (run_all m fs body env))) → own_part (run_all m fs body env) ≡ own_part (run_all m' fs' body env)
+    Agree m m' (asks (own_part (run_all m fs body env))) →
+    own_part (run_all m fs body env) ≡ own_part (run_all m' fs' body env)
 
 -- If the own reads of a call agree, composing it again gives its old own part, in which the inner calls are composed
 -- again.
 abbrev pub SkippingIsRight : Type 0
 SkippingIsRight = (m m' : Map) (fs fs' : List Meaning) (body : Stmts) (env : Bindings) →
-    Agree m m' (asks (own_part (run_all m fs body env))) → run_all m' fs' body env ≡ recomposed_forest fs' (own_part (run_all m fs body env))
+    Agree m m' (asks (own_part (run_all m fs body env))) →
+    run_all m' fs' body env ≡ recomposed_forest fs' (own_part (run_all m fs body env))
 
 -- A call makes the forest of the body of its function, which sees only the earlier functions. A call of a missing
 -- function makes nothing.

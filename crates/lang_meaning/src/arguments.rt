@@ -89,7 +89,8 @@ pub fn evaluate_attributes<V: View>(
     ensures keeps { V.keeps view.old view.new }
     ensures same { (m : Map) → V.shows view.old m → V.shows view.new m }
     ensures value { (m : Map) → V.shows view.old m →
-        IfOk result (λ a. a ≡ map flat_attribute (map attribute (eval_named m (nameds_view attributes.now) scope.now).value)) }
+        IfOk result (λ a. a ≡
+        map flat_attribute (map attribute (eval_named m (nameds_view attributes.now) scope.now).value)) }
     ensures asks { (m : Map) → V.shows view.old m →
         OnOk result (V.asked view.new ≡
         V.asked view.old ++ (eval_named m (nameds_view attributes.now) scope.now).reads) }

@@ -9,7 +9,8 @@ command_app =
     with_subcommand
     (with_subcommand
     (with_subcommand
-    (with_subcommand (on_top (λ s. record s { no_binary_name = true }) (new_app (codes "compose_play"))) (new_app (codes "run")).top)
+    (with_subcommand (on_top (λ s. record s { no_binary_name = true }) (new_app (codes "compose_play")))
+    (new_app (codes "run")).top)
     (new_app (codes "threads")).top)
     (new_app (codes "check")).top)
     (new_app (codes "gen")).top

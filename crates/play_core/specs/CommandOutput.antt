@@ -17,7 +17,8 @@ use Rattle.play_core.specs.declared.top.Status.TheVariants as status
 
 -- An output of the command on the source text was written, or a first part of it.
 abbrev pub SaysOutput : {T E : Type 0} → Option (List ℕ) → Option (List ℕ) → Command → Source → Result T E → Type 0
-SaysOutput before now command t result = (out : List ℕ) × IsOutput command (Some t) out × WritesBytes before now out result
+SaysOutput before now command t result =
+    (out : List ℕ) × IsOutput command (Some t) out × WritesBytes before now out result
 
 -- The status of a command on a source text.
 abbrev pub run_status : {T : Type 0} → Result T Stop → Status

@@ -51,7 +51,8 @@ HasFailed before after result =
 -- The command wrote its output for the source text `bytes`.
 abbrev pub WritesOutput : Command → Streams → Streams → List ℕ → Type 0
 WritesOutput c before after bytes =
-    (t : Source) × IsText (has_threads c) bytes t × ((out : List ℕ) × IsOutput c (Some t) out × Appends before.written after.written out)
+    (t : Source) × IsText (has_threads c) bytes t
+    × ((out : List ℕ) × IsOutput c (Some t) out × Appends before.written after.written out)
 
 -- The bytes are not a source text, and the line of their fault was written.
 abbrev pub WritesFault : Command → Streams → Streams → List ℕ → Type 0
@@ -66,7 +67,8 @@ pub record CommandMeets (c : Command) (before after : Streams) (result : Status)
   pub not_usage : result ≢ status.Usage
   -- Done: the whole input was read and is a source text, and the command's output was written.
   pub done : result ≡ status.Done →
-      IfSome before.left (λ bytes. IsAtEnd after.left × (length bytes ≤ input_limit) × WritesOutput c before after bytes)
+      IfSome before.left (λ bytes.
+      IsAtEnd after.left × (length bytes ≤ input_limit) × WritesOutput c before after bytes)
   -- BadInput: the whole input was read and is not a source text, and the line of its fault was written.
   pub bad_input : result ≡ status.BadInput →
       IfSome before.left (λ bytes. IsAtEnd after.left × (length bytes ≤ input_limit) × WritesFault c before after bytes)
@@ -92,13 +94,15 @@ pub record CommandMeets (c : Command) (before after : Streams) (result : Status)
       IsText (has_threads c) bytes t →
       (result ≡ status.Done) ⊎ HasFailed before after result
   -- Other bytes within the limit are rejected, unless the call failed.
-  pub refused : (bytes : List ℕ) → before.left ≡ Some bytes → length bytes ≤ input_limit → IsNoText (has_threads c) bytes →
+  pub refused : (bytes : List ℕ) → before.left ≡ Some bytes → length bytes ≤ input_limit →
+      IsNoText (has_threads c) bytes →
       (result ≡ status.BadInput) ⊎ HasFailed before after result
   -- Bytes within the limit that have a fault are rejected with exactly the line of that fault, unless the call
   -- failed.
   pub faulty : (bytes : List ℕ) (fault : Fault) → before.left ≡ Some bytes → length bytes ≤ input_limit →
       IsFault (has_threads c) bytes fault →
-      ((result ≡ status.BadInput) × Appends before.written after.written (fault_line fault)) ⊎ HasFailed before after result
+      ((result ≡ status.BadInput) × Appends before.written after.written (fault_line fault))
+      ⊎ HasFailed before after result
   -- At most one byte more than the limit is taken from the source.
   pub at_most : rise before.taken after.taken ≤ input_limit + 1
 
@@ -130,7 +134,8 @@ pub record PlayMeets (words : List (List ℕ)) (before after : Streams) (result 
   -- If the arguments ask for a command with an input, the result is that of the command.
   pub command : (c : Command) → command_of_args words ≡ Some c → has_input c ≡ true → CommandMeets c before after result
   -- If the arguments ask for `gen`, the result is that of `gen`.
-  pub generated : (number size : ℕ) → command_of_args words ≡ Some (Gen number size) → GenMeets number size before after result
+  pub generated : (number size : ℕ) → command_of_args words ≡ Some (Gen number size) →
+      GenMeets number size before after result
   -- No read failed, unless the result is ReadFault.
   pub reads : result ≢ status.ReadFault → after.read_faults ≡ before.read_faults
   -- No write failed, unless the result is WriteFault.
@@ -162,4 +167,5 @@ abbrev pub LeavesWorld : Option Command → Status → Type 0
 LeavesWorld o result =
     (o ≡ None)
     ⊎ (((c : Command) × (o ≡ Some c) × KeepsWorld c)
-    ⊎ ((result ≡ status.Usage) ⊎ ((result ≡ status.BadInput) ⊎ ((result ≡ status.TooLong) ⊎ (result ≡ status.ReadFault)))))
+    ⊎ ((result ≡ status.Usage) ⊎ ((result ≡ status.BadInput)
+    ⊎ ((result ≡ status.TooLong) ⊎ (result ≡ status.ReadFault)))))

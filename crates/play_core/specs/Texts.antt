@@ -90,8 +90,8 @@ abbrev pub long_line : List ℕ
 long_line = line (codes "too long")
 
 -- The states, functions, actors and `do` forms in memory are those of the source text.
-pub record IsRead (threads : Bool) (bytes : List ℕ) (states : List State) (functions : List Func) (actors : List (List ℕ))
-    (forms : List DoForm) : Type 0 where
+pub record IsRead (threads : Bool) (bytes : List ℕ) (states : List State) (functions : List Func)
+    (actors : List (List ℕ)) (forms : List DoForm) : Type 0 where
   pub source : Source
   pub text : IsText threads bytes source
   pub states_are : states ≡ source.program.states
@@ -103,8 +103,8 @@ pub record IsRead (threads : Bool) (bytes : List ℕ) (states : List State) (fun
 -- text.
 pub record IsInput (threads : Bool) (bytes : List ℕ) (input : Input) : Type 0 where
   pub spelled : Spells bytes (forest_view input.trees.items)
-  pub read : IsRead threads bytes input.job.program.states.items (functions_of input.job.program) input.job.script.actors.items
-      input.job.script.forms.items
+  pub read : IsRead threads bytes input.job.program.states.items (functions_of input.job.program)
+      input.job.script.actors.items input.job.script.forms.items
 
 -- The bytes are not a source text.
 abbrev pub IsNoText : Bool → List ℕ → Type 0

@@ -84,7 +84,8 @@ all_rows = For 0 3 (ident (codes "i")) (state_value (codes "items") 0) (stmts (k
 abbrev pub total_node : Stmt
 total_node =
     Node 0 7 (ident (codes "Total"))
-    (named_value (codes "value") (state_value (codes "total") 1) ∷ named_value (codes "best") (state_value (codes "best") 2) ∷ [])
+    (named_value (codes "value") (state_value (codes "total") 1)
+    ∷ named_value (codes "best") (state_value (codes "best") 2) ∷ [])
     (stmts [])
 
 -- `(node Page () TOTAL_NODE (call list))`

@@ -58,7 +58,8 @@ fn count_call<V: Versions<P = BuiltIn>>(
 ) -> Result<Reply, NoMemory>
     ensures counts { (functions : List Func) (r : Run) (p : Part) → IsPlain p → request_of r.notes p ≡ Some request →
         RunFacts functions V.stands world.old counting.old.memory.composition 0 None r →
-        OnOk result (CountsAt functions V.stands (parts_of 0 (p ∷ [])) world.new counting.new None counting.old.tally r) }
+        OnOk result
+        (CountsAt functions V.stands (parts_of 0 (p ∷ [])) world.new counting.new None counting.old.tally r) }
     ensures reply { (w : World built_in) → V.stands world.old w →
         IfOk result (λ r. r ≡ (call table w 0 request).1) }
 {
@@ -116,7 +117,8 @@ pub fn count_raise<V: Versions<P = BuiltIn>>(
     counting: &mut Counting,
     world: &mut V,
 ) -> Result<(), NoMemory>
-    ensures { let parts = Take (codes "g") kind_data.Mutable snapshot_ref.Global ∷ Write named_g object value ∷ Apply named_g ∷ [] in
+    ensures { let parts =
+        Take (codes "g") kind_data.Mutable snapshot_ref.Global ∷ Write named_g object value ∷ Apply named_g ∷ [] in
         CountsParts V.stands (parts_of 0 parts) world.old world.new counting.old counting.new None None result }
 {
     let take = Request::Take {

@@ -113,7 +113,8 @@ fn node(
     attributes: Vec<Named>,
     body: Vec<Statement>,
 ) -> Result<Statement, NoMemory>
-    ensures { IfOk result (λ s. stmt_view s ≡ Node 0 site (ident kind.now) (nameds_view attributes.items) (stmts_view body.items)) }
+    ensures { IfOk result (λ s. stmt_view s ≡
+        Node 0 site (ident kind.now) (nameds_view attributes.items) (stmts_view body.items)) }
 {
     let kind = ident(alloc, kind)?;
     Ok(Statement::Node {

@@ -134,7 +134,8 @@ fn add_rotation(
 ) -> Result<(), NoMemory>
     requires { turn ≤ length items.old }
     ensures items { OnOk result (items.new ≡ rotated_list turn items.old) }
-    ensures steps { let write = write_step snapshot_ref.Global (codes "items") 0 (value_data.Ints (rotated_list turn items.old)) in
+    ensures steps { let write =
+        write_step snapshot_ref.Global (codes "items") 0 (value_data.Ints (rotated_list turn items.old)) in
         OnOk result (steps.new ≡ steps.old ++ write ∷ []) }
 {
     *items = rotate(alloc, items, turn as usize)?;

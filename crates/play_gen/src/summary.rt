@@ -32,7 +32,8 @@ fn count_rotation<V: Versions<P = BuiltIn>>(
 ) -> Result<(), NoMemory>
     requires { turn ≤ length items.old }
     ensures items { OnOk result (items.new ≡ rotated_list turn items.old) }
-    ensures counts { let write = write_step snapshot_ref.Global (codes "items") 0 (value_data.Ints (rotated_list turn items.old)) in
+    ensures counts { let write =
+        write_step snapshot_ref.Global (codes "items") 0 (value_data.Ints (rotated_list turn items.old)) in
         CountsParts V.stands (forms_parts (write ∷ [])) world.old world.new counting.old counting.new None None result }
 {
     *items = rotate(alloc, items, turn as usize)?;
@@ -54,8 +55,8 @@ fn count_change<V: Versions<P = BuiltIn>>(
     requires rows { size ≡ length items.old }
     ensures draws { draws.new ≡ next_state draws.old }
     ensures items { OnOk result (items.new ≡ items_after size change draws.old items.old) }
-    ensures counts { CountsParts V.stands (forms_parts (change_steps size change draws.old items.old)) world.old world.new
-        counting.old counting.new None None result }
+    ensures counts { CountsParts V.stands (forms_parts (change_steps size change draws.old items.old))
+        world.old world.new counting.old counting.new None None result }
 {
     match change {
         Change::AddToTotal => count_add(alloc, 1, draws.draw(10) as i64, counting, world),
@@ -105,7 +106,8 @@ fn count_steps<V: Versions<P = BuiltIn>>(
 ) -> Result<(), NoMemory>
     requires some { 1 ≤ size }
     requires few { size ≤ 1000 }
-    ensures { CountsParts V.stands (script_parts (actors_of (generated_script number size)) (generated_script number size))
+    ensures { CountsParts V.stands
+        (script_parts (actors_of (generated_script number size)) (generated_script number size))
         world.old world.new counting.old counting.new None None result }
 {
     count_frame(alloc, counting, world)?;

@@ -53,7 +53,8 @@ pub record IsRecorded (frame : Option OpenFrame) (last : Option Map) (reads : Re
 
 -- The composition and the recorded reads represent this state of the walk, in which no frame is open or this one. The
 -- world has one watcher.
-pub record IsReplay (functions : List Func) (memory : ReplayMemory) (frame : Option OpenFrame) (s : Standing) : Type 0 where
+pub record IsReplay (functions : List Func) (memory : ReplayMemory) (frame : Option OpenFrame)
+    (s : Standing) : Type 0 where
   pub facts : RunFacts functions no_world tt memory.composition (caller_of frame) (name_of frame)
       (run_from s (name_of frame))
   pub recorded : IsRecorded frame (last_of s.world watcher_number) memory.reads

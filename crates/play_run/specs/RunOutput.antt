@@ -27,7 +27,13 @@ pub record Run : Type 0 where
 -- The state before the first part, with the world's log.
 abbrev pub first_run : List State → Option (List Entry) → Run
 first_run states log =
-    record { standing = initial_standing states; notes = no_notes; made = []; first = initial_standing states; log = log }
+    record {
+      standing = initial_standing states;
+      notes = no_notes;
+      made = [];
+      first = initial_standing states;
+      log = log;
+    }
 
 module _ (style : LineStyle) (functions : List Func) where
   -- The lines of the call that an actor makes, if it makes one.

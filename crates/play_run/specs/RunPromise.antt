@@ -28,7 +28,8 @@ abbrev pub job_functions : Job → List Func
 job_functions job = functions_of job.program
 
 -- Ok means that all bytes were written, and an error means that a first part of them was.
-pub record WritesBytes {T E : Type 0} (before now : Option (List ℕ)) (bytes : List ℕ) (result : Result T E) : Type 0 where
+pub record WritesBytes {T E : Type 0} (before now : Option (List ℕ)) (bytes : List ℕ)
+    (result : Result T E) : Type 0 where
   pub all : OnOk result (Appends before now bytes)
   pub part : OnErr result (AppendsPart before now bytes)
 

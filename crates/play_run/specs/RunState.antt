@@ -54,8 +54,8 @@ IsAtFrame actor (Some name) r = InFrame actor name r
 
 -- The world represents the plain world of the state, which is valid. The composition of these functions has kept the last
 -- good frame, and owes what changed from then to the watcher's last map.
-pub record RunFacts {V : Type 0} (functions : List Func) (stands : V → World BuiltIn → Type 0) (world : V) (kept : Composition)
-    (actor : ℕ) (frame : Option ℕ) (r : Run) : Type 0 where
+pub record RunFacts {V : Type 0} (functions : List Func) (stands : V → World BuiltIn → Type 0) (world : V)
+    (kept : Composition) (actor : ℕ) (frame : Option ℕ) (r : Run) : Type 0 where
   pub world_stands : stands world r.standing.world
   pub valid : IsValid table r.standing.world
   pub few : length r.standing.world.snapshots ≤ r.standing.world.clock + 1
@@ -72,7 +72,8 @@ pub record LogSoFar (functions : List Func) (r : Run) (old : List Entry) (now : 
   pub more : History
   pub log_is : now ≡ Some (old ++ more)
   pub legal : (es : History) → IsLegal table r.standing.world es → IsLegal table r.first.world (more ++ es)
-  pub printed_is : (es : History) → printed_calls r.first.frames (more ++ es) ≡ r.made ++ printed_calls r.standing.frames es
+  pub printed_is : (es : History)
+      → printed_calls r.first.frames (more ++ es) ≡ r.made ++ printed_calls r.standing.frames es
   pub frames_read : (es : History) → All (ReadsOwed functions) (frames_in functions r.standing [] es)
       → All (ReadsOwed functions) (frames_in functions r.first [] (more ++ es))
 
@@ -92,8 +93,8 @@ HasAsked asked asked' reads None = Grew asked asked' reads
 
 -- A log grew by the reads of a frame after the kept state `k` in the map `m`. Their replies are those of each represented
 -- plain world, which they do not change, and the frame read what it owes.
-pub record FrameReadsLogged (functions : List Func) (stands : World BuiltIn → Type 0) (caller name : ℕ) (k : LastFrame) (m : Map)
-    (old : List Entry) (new : Option (List Entry)) : Type 0 where
+pub record FrameReadsLogged (functions : List Func) (stands : World BuiltIn → Type 0) (caller name : ℕ)
+    (k : LastFrame) (m : Map) (old : List Entry) (new : Option (List Entry)) : Type 0 where
   pub more : History
   pub log_is : new ≡ Some (old ++ more)
   pub xs : List ℕ
@@ -115,8 +116,9 @@ MadeCalls flags k (Some good) calls = flags.ops ≡ true → calls ≡ frame_ops
 
 -- The world and the memory represent the state `r` of a run: `RunFacts` holds, the table of names in memory is that of
 -- the state, and the log of the world is that of the run.
-pub record IsRun {V : Type 0} (functions : List Func) (stands : V → World BuiltIn → Type 0) (log : V → Option (List Entry))
-    (world : V) (memory : RunMemory) (actor : ℕ) (frame : Option ℕ) (r : Run) : Type 0 where
+pub record IsRun {V : Type 0} (functions : List Func) (stands : V → World BuiltIn → Type 0)
+    (log : V → Option (List Entry)) (world : V) (memory : RunMemory) (actor : ℕ) (frame : Option ℕ) (r : Run)
+    : Type 0 where
   pub facts : RunFacts functions stands world memory.composition actor frame r
   pub named : Holds memory.names r.notes.names
   pub logged : IsLogged functions r r.log (log world)
@@ -137,15 +139,16 @@ KeepsNames _ = Unit {0}
 -- The lines of the parts after the state `r` were written, and the state after them is represented. `frame` is the open
 -- frame before the parts, and `frame'` the one after them.
 pub record RunsAt {V T : Type 0} (style : LineStyle) (functions : List Func) (stands : V → World BuiltIn → Type 0)
-    (log : V → Option (List Entry)) (actor : ℕ) (parts : List ActorPart) (world' : V) (memory' : RunMemory) (frame' : Option ℕ)
-    (written written' : Option (List ℕ)) (r : Run) (result : Result T Stop) : Type 0 where
+    (log : V → Option (List Entry)) (actor : ℕ) (parts : List ActorPart) (world' : V) (memory' : RunMemory)
+    (frame' : Option ℕ) (written written' : Option (List ℕ)) (r : Run) (result : Result T Stop) : Type 0 where
   pub says : WritesBytes written written' (flat (parts_lines style functions r parts)) result
   pub left : OnOk result (IsRun functions stands log world' memory' actor frame' (parts_after functions r parts))
 
 -- `RunsAt` holds for every state that `world` and `memory` represent before the parts.
 abbrev pub RunsParts : {V T : Type 0} (style : LineStyle) (functions : List Func) (stands : V → World BuiltIn → Type 0)
-    (log : V → Option (List Entry)) (actor : ℕ) (parts : List ActorPart) (world world' : V) (memory memory' : RunMemory) (frame frame' : Option ℕ)
-    (written written' : Option (List ℕ)) (result : Result T Stop) → Type 0
+    (log : V → Option (List Entry)) (actor : ℕ) (parts : List ActorPart) (world world' : V)
+    (memory memory' : RunMemory) (frame frame' : Option ℕ) (written written' : Option (List ℕ))
+    (result : Result T Stop) → Type 0
 RunsParts style functions stands log actor parts world world' memory memory' frame frame' written written' result =
     (r : Run) → IsRun functions stands log world memory actor frame r →
     RunsAt style functions stands log actor parts world' memory' frame' written written' r result

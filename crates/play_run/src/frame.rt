@@ -145,7 +145,8 @@ pub fn compose<V: Versions<P = BuiltIn>, L: Ledger>(
     ensures log { (k : LastFrame) (m : Map) → ShownMap table (V.stands world.old) caller (Some name) m →
         IsAt memory.old.composition k (Some m) →
         let functions = functions_of memory.old.composition.program.now in
-        OnOk result (LogsFrameReads functions (V.stands world.old) caller name k m (V.log world.old) (V.log world.new)) }
+        OnOk result
+        (LogsFrameReads functions (V.stands world.old) caller name k m (V.log world.old) (V.log world.new)) }
     ensures program { memory.new.composition.program ≡ memory.old.composition.program }
     ensures names { memory.new.names ≡ memory.old.names }
     ensures fault { result ≢ Err Stop.WriteFault }
@@ -433,7 +434,8 @@ fn begin_frame<V: Versions<P = BuiltIn>, K: Sink>(
         (parts_of actor.entry.number (BeginFrame ∷ [])))) result }
     ensures left { (r : Run) → IsRun (job_functions actor.entry.job.now) V.stands V.log world.old memory.old
         actor.entry.number None r →
-        IfOk result (λ o. IsRun (job_functions actor.entry.job.now) V.stands V.log world.new memory.new actor.entry.number o
+        IfOk result (λ o. IsRun (job_functions actor.entry.job.now) V.stands V.log world.new memory.new
+        actor.entry.number o
         (parts_after (job_functions actor.entry.job.now) r (parts_of actor.entry.number (BeginFrame ∷ [])))) }
     ensures faults { FaultsAfter (K.faults sink.old) (K.faults sink.new) result }
 {

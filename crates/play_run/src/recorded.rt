@@ -68,7 +68,8 @@ impl View for RecordedReads {
 
     ghost asked = { λ s. take s.given (objects_read s.reads.items) };
 
-    ghost keeps = { λ s t. Extends (take s.given (objects_read s.reads.items)) (take t.given (objects_read t.reads.items)) };
+    ghost keeps = { λ s t. Extends (take s.given (objects_read s.reads.items))
+        (take t.given (objects_read t.reads.items)) };
 
     ghost reads_free = { λ s. ⊥ };
 

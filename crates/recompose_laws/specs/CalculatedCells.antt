@@ -47,10 +47,12 @@ abbrev mutual
   StmtCalculates calc (terms.Node at site kind attributes body) = StmtsCalculate calc body
   StmtCalculates calc (terms.Call at site name function arguments) = Unit {0}
   StmtCalculates calc (terms.Key at site key body) = StmtsCalculate calc body
-  StmtCalculates calc (terms.If at site condition then_branch else_branch) = StmtsCalculate calc then_branch × StmtsCalculate calc else_branch
+  StmtCalculates calc (terms.If at site condition then_branch else_branch) =
+      StmtsCalculate calc then_branch × StmtsCalculate calc else_branch
   StmtCalculates calc (terms.For at site name list body) = StmtsCalculate calc body
   StmtCalculates calc (terms.Let at site name e body) = StmtsCalculate calc body
-  StmtCalculates calc (terms.Remember at site name keys e body) = CalculatesAtSite calc site keys e × StmtsCalculate calc body
+  StmtCalculates calc (terms.Remember at site name keys e body) =
+      CalculatesAtSite calc site keys e × StmtsCalculate calc body
 
   pub StmtsCalculate : Calculation → Stmts → Type 0
   StmtsCalculate calc done = Unit {0}
@@ -64,8 +66,8 @@ FunctionsCalculate calc (f ∷ fs) = StmtsCalculate calc f.body × FunctionsCalc
 -- Law: if `calc` gives the values of all calculations of a program, it gives the values of the cells in each forest that
 -- a frame keeps.
 abbrev pub KeptCellsAreCalculated : Type 0
-KeptCellsAreCalculated = (calc : Calculation) (m : Map) (functions : List Func) (root : ℕ) (old : GroupForest) → FunctionsCalculate calc functions →
-    without_numbers old ≡ forest functions root m → CellsAreCalculated calc old
+KeptCellsAreCalculated = (calc : Calculation) (m : Map) (functions : List Func) (root : ℕ) (old : GroupForest) →
+    FunctionsCalculate calc functions → without_numbers old ≡ forest functions root m → CellsAreCalculated calc old
 
 -- Each name with a value, up to the end of the shorter list.
 abbrev pub named_with : List terms.Named → List Value → Bindings
@@ -79,5 +81,6 @@ calculated_from keys e vs = (eval [] e (named_with keys vs)).value
 
 -- Law: the value of a calculation without a `get` follows from its site, if no other calculation has that site.
 abbrev pub PureCalculationsAreBySite : Type 0
-PureCalculationsAreBySite = (calc : Calculation) (site : ℕ) (keys : List terms.Named) (e : terms.Expr) → has_get e ≡ false →
-    ((vs : List Value) → calc site vs ≡ calculated_from keys e vs) → CalculatesAtSite calc site keys e
+PureCalculationsAreBySite = (calc : Calculation) (site : ℕ) (keys : List terms.Named) (e : terms.Expr) →
+    has_get e ≡ false → ((vs : List Value) → calc site vs ≡ calculated_from keys e vs) →
+    CalculatesAtSite calc site keys e

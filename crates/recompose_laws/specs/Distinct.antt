@@ -24,7 +24,8 @@ AreDistinct t k = (x : ℕ) → (how_often x t ≤ 1) × (k ≤ x → how_often 
 abbrev pub NodesAt : (ℕ → Bool) → GroupForest → Type 0
 NodesAt at_site End = Unit {0}
 NodesAt at_site (Read x rest) = NodesAt at_site rest
-NodesAt at_site (Group site n what inside rest) = (is_node what ≡ at_site site) × NodesAt at_site inside × NodesAt at_site rest
+NodesAt at_site (Group site n what inside rest) =
+    (is_node what ≡ at_site site) × NodesAt at_site inside × NodesAt at_site rest
 
 abbrev mutual
   -- `at_site` is true for the site of a statement exactly if the statement makes a node.
@@ -32,7 +33,8 @@ abbrev mutual
   SiteTells at_site (Node at site kind attributes body) = (true ≡ at_site site) × SitesTell at_site body
   SiteTells at_site (Call at site name function arguments) = false ≡ at_site site
   SiteTells at_site (Key at site key body) = (false ≡ at_site site) × SitesTell at_site body
-  SiteTells at_site (If at site condition then_branch else_branch) = SitesTell at_site then_branch × SitesTell at_site else_branch
+  SiteTells at_site (If at site condition then_branch else_branch) =
+      SitesTell at_site then_branch × SitesTell at_site else_branch
   SiteTells at_site (For at site name list body) = SitesTell at_site body
   SiteTells at_site (Let at site name e body) = SitesTell at_site body
   SiteTells at_site (Remember at site name keys e body) = (false ≡ at_site site) × SitesTell at_site body
@@ -48,9 +50,12 @@ FunctionsTell at_site (f ∷ fs) = SitesTell at_site f.body × FunctionsTell at_
 
 -- Law: a program's nodes are at the sites of its node statements, and the call of the root is at site 0.
 abbrev pub NodesAreAtNodeSites : Type 0
-NodesAreAtNodeSites = (at_site : ℕ → Bool) (functions : List Func) (root : ℕ) (m : Map) → false ≡ at_site 0 → FunctionsTell at_site functions → NodesAt at_site (forest functions root m)
+NodesAreAtNodeSites = (at_site : ℕ → Bool) (functions : List Func) (root : ℕ) (m : Map) →
+    false ≡ at_site 0 → FunctionsTell at_site functions → NodesAt at_site (forest functions root m)
 
 -- Law: if node numbers were unique before a frame, they are unique after it, and nodes are still at node sites.
 abbrev pub NumbersStayDistinct : Type 0
-NumbersStayDistinct = (at_site : ℕ → Bool) (old new : GroupForest) (k : ℕ) → NodesAt at_site old → NodesAt at_site new → AreDistinct old k →
-    AreDistinct (numbered_forest old [] [] k new).0 (numbered_forest old [] [] k new).1 × NodesAt at_site (numbered_forest old [] [] k new).0
+NumbersStayDistinct = (at_site : ℕ → Bool) (old new : GroupForest) (k : ℕ) →
+    NodesAt at_site old → NodesAt at_site new → AreDistinct old k →
+    AreDistinct (numbered_forest old [] [] k new).0 (numbered_forest old [] [] k new).1
+    × NodesAt at_site (numbered_forest old [] [] k new).0

@@ -40,7 +40,8 @@ IsQuiet owed (Group site n what inside rest) = IsNotOwed owed what inside × IsQ
 
 -- Law: a part of the kept forest in which no call is owed is kept with its numbers, and causes no work.
 abbrev pub QuietPartIsKept : Type 0
-QuietPartIsKept = (m : Map) (owed : List ℕ) (t : GroupForest) (functions : List Func) (next : ℕ) → IsQuiet owed t → IsNumbered t →
+QuietPartIsKept = (m : Map) (owed : List ℕ) (t : GroupForest) (functions : List Func) (next : ℕ) →
+    IsQuiet owed t → IsNumbered t →
     (renewed_groups m owed t functions next ≡ (t, next)) × (walk_work m owed t functions ≡ no_work)
 
 -- Law: if nothing is owed, a frame keeps the whole forest with its numbers, and runs, calculates and reads nothing.

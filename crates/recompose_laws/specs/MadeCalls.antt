@@ -20,7 +20,8 @@ IsMadeInside m functions (Cell ks v) inside = Unit {0}
 abbrev pub IsMade : Map → List Func → GroupForest → Type 0
 IsMade m functions End = Unit {0}
 IsMade m functions (Read x rest) = IsMade m functions rest
-IsMade m functions (Group site n what inside rest) = IsMadeInside m functions what inside × IsMade m functions inside × IsMade m functions rest
+IsMade m functions (Group site n what inside rest) =
+    IsMadeInside m functions what inside × IsMade m functions inside × IsMade m functions rest
 
 -- A group that a lookup found contains what its function makes, and so does each call inside.
 abbrev pub IsFoundMade : Map → List Func → Option Found → Type 0

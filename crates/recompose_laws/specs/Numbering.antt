@@ -34,8 +34,11 @@ kept_number what n = if is_node what then n else 0
 
 -- The groups inside one group, with numbers: an owed call is composed again, and its nodes are matched with its old
 -- groups; any other call is walked.
-abbrev pub renewed_inside : Map → List Func → GroupKind → Bool → GroupForest → ℕ → (List Func → ℕ → GroupForest × ℕ) → GroupForest × ℕ
-renewed_inside m functions (Call f vs) anew inside next go = if anew then numbered_by_siblings inside [] next (meaning_at (meanings m functions) f vs) else go (take f functions) next
+abbrev pub renewed_inside : Map → List Func → GroupKind → Bool → GroupForest → ℕ → (List Func → ℕ → GroupForest × ℕ)
+    → GroupForest × ℕ
+renewed_inside m functions (Call f vs) anew inside next go =
+    if anew then numbered_by_siblings inside [] next (meaning_at (meanings m functions) f vs)
+    else go (take f functions) next
 renewed_inside m functions (Node kind attributes) anew inside next go = go functions next
 renewed_inside m functions (Key v) anew inside next go = go functions next
 renewed_inside m functions (Cell ks v) anew inside next go = go functions next
@@ -53,7 +56,8 @@ renewed_groups m owed (Group site n what inside rest) functions next =
 
 -- Law: node numbers by paths are node numbers by siblings.
 abbrev pub PathNumbersAreSiblingNumbers : Type 0
-PathNumbersAreSiblingNumbers = (old new : GroupForest) (next : ℕ) → numbered_forest old [] [] next new ≡ numbered_by_siblings old [] next new
+PathNumbersAreSiblingNumbers = (old new : GroupForest) (next : ℕ) →
+    numbered_forest old [] [] next new ≡ numbered_by_siblings old [] next new
 
 -- Law: the forest that a frame keeps is that of composing from scratch, except for node numbers.
 abbrev pub KeptTrailIsTheForest : Type 0
@@ -63,8 +67,14 @@ KeptTrailIsTheForest = (old : GroupForest) (next : ℕ) (functions : List Func) 
 -- Law: if every object that the kept forest read and that changed is owed, one walk over it gives the forest that the
 -- frame of the other map keeps, and does exactly the frame's work.
 abbrev pub ComposingAgainIsTheFrame : Type 0
-ComposingAgainIsTheFrame = (m m' : Map) (owed : List ℕ) (functions : List Func) (root : ℕ) (old : GroupForest) (next : ℕ) →
+ComposingAgainIsTheFrame =
+    (m m' : Map) (owed : List ℕ) (functions : List Func) (root : ℕ) (old : GroupForest) (next : ℕ) →
     without_numbers old ≡ forest functions root m → SameReads owed (asks old) m m' →
     let new = forest functions root m' in
     (renewed_groups m' owed old functions next ≡ numbered_forest old [] [] next new)
-    × (walk_work m' owed old functions ≡ record { ran = length (ran owed old new); calculated = length (calculated_cells owed old new); reads = reads owed old new })
+    × (walk_work m' owed old functions
+    ≡ record {
+      ran = length (ran owed old new);
+      calculated = length (calculated_cells owed old new);
+      reads = reads owed old new;
+    })

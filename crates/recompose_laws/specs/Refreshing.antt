@@ -13,7 +13,8 @@ is_owed owed inside = meets (asks (own_part inside)) owed
 -- The groups inside one group: composed again if the group is an owed call; else the walk goes on inside. Inside a
 -- call, only earlier functions are called.
 abbrev pub refreshed_inside : Map → List Func → GroupKind → Bool → (List Func → GroupForest) → GroupForest
-refreshed_inside m functions (Call f vs) anew go = if anew then meaning_at (meanings m functions) f vs else go (take f functions)
+refreshed_inside m functions (Call f vs) anew go =
+    if anew then meaning_at (meanings m functions) f vs else go (take f functions)
 refreshed_inside m functions (Node kind attributes) anew go = go functions
 refreshed_inside m functions (Key v) anew go = go functions
 refreshed_inside m functions (Cell ks v) anew go = go functions
@@ -23,7 +24,8 @@ abbrev pub refreshed_groups : Map → List ℕ → GroupForest → List Func →
 refreshed_groups m owed End functions = End
 refreshed_groups m owed (Read x rest) functions = Read x (refreshed_groups m owed rest functions)
 refreshed_groups m owed (Group site n what inside rest) functions =
-    Group site n what (refreshed_inside m functions what (is_owed owed inside) (refreshed_groups m owed inside)) (refreshed_groups m owed rest functions)
+    Group site n what (refreshed_inside m functions what (is_owed owed inside) (refreshed_groups m owed inside))
+    (refreshed_groups m owed rest functions)
 
 -- `SameBut owed m m'`: the objects outside `owed` have equal values in `m` and `m'`.
 abbrev pub SameBut : List ℕ → Map → Map → Type 0
@@ -45,5 +47,6 @@ OwedIsWhatChanged = (m m' : Map) → length m ≤ length m' → StampsTell m m' 
 -- Law: if every object that the forest read and that changed is owed, the walk over the forest of one map gives the
 -- forest of the other.
 abbrev pub RefreshingIsScratch : Type 0
-RefreshingIsScratch = (m m' : Map) (owed : List ℕ) (functions : List Func) (root : ℕ) → SameReads owed (asks (forest functions root m)) m m' →
+RefreshingIsScratch = (m m' : Map) (owed : List ℕ) (functions : List Func) (root : ℕ) →
+    SameReads owed (asks (forest functions root m)) m m' →
     refreshed_groups m' owed (forest functions root m) functions ≡ forest functions root m'

@@ -54,12 +54,20 @@ work owed old seen running End = no_work
 work owed old seen running (Read x rest) = with_read running x (work owed old seen running rest)
 work owed old seen running (Group site n what inside rest) =
     let found = matching_sibling (sibling site what) (occurrence (sibling site what) seen) old in
-    work_sum (work_at_group (runs_in owed running found what) found what (work owed (inside_of found) [] (runs_in owed running found what) inside)) (work owed old (sibling site what ∷ seen) running rest)
+    work_sum
+    (work_at_group (runs_in owed running found what) found what
+    (work owed (inside_of found) [] (runs_in owed running found what) inside))
+    (work owed old (sibling site what ∷ seen) running rest)
 
 -- Law: the work of a frame by paths is the work by siblings.
 abbrev pub PathWorkIsSiblingWork : Type 0
 PathWorkIsSiblingWork = (owed : List ℕ) (old new : GroupForest) →
-    record { ran = length (ran owed old new); calculated = length (calculated_cells owed old new); reads = reads owed old new } ≡ work owed old [] true new
+    record {
+      ran = length (ran owed old new);
+      calculated = length (calculated_cells owed old new);
+      reads = reads owed old new;
+    }
+    ≡ work owed old [] true new
 
 -- The siblings at the top of a forest, last first, followed by `seen`.
 abbrev pub siblings : GroupForest → List GroupKey → List GroupKey
@@ -71,5 +79,6 @@ siblings (Group site n what inside rest) seen = siblings rest (sibling site what
 -- siblings.
 abbrev pub WorkGoesInOrder : Type 0
 WorkGoesInOrder = (owed : List ℕ) (old : GroupForest) (seen : List GroupKey) (running : Bool) (t u : GroupForest) →
-    (work owed old seen running (joined_forest t u) ≡ work_sum (work owed old seen running t) (work owed old (siblings t seen) running u))
+    (work owed old seen running (joined_forest t u)
+    ≡ work_sum (work owed old seen running t) (work owed old (siblings t seen) running u))
     × (siblings (joined_forest t u) seen ≡ siblings u (siblings t seen))

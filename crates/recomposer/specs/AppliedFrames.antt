@@ -48,7 +48,8 @@ tree_after_frame tree (Some good) = option_map (λ t. tree_at_root (nodes good.l
 
 -- A frame with this result after the kept state `k` made the calls that turn the kept tree into the new one. If the tree that
 -- the applier knew was the kept one, it is the new one now.
-pub record Applies (before now : Option CursorTree) (made : List Op) (k : LastFrame) (good : Option FrameResult) : Type 0 where
+pub record Applies (before now : Option CursorTree) (made : List Op) (k : LastFrame)
+    (good : Option FrameResult) : Type 0 where
   pub calls : made ≡ ops_of k good
   pub tree : Mirrors before k → now ≡ tree_after_frame before good
 

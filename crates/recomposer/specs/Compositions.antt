@@ -110,8 +110,8 @@ pub record ChangesNothing (p : Program) (k : LastFrame) (m : Map) : Type 0 where
 
 -- A frame begins well: a map is shown, which is the watcher's last map from now on, and `changed` lists what changed since
 -- the watcher's last map before.
-pub record BeginsFrame (at_map : Option Map → Type 0) (shows : Map → Type 0) (last : Option Map → Type 0) (l : Option Map)
-    (name : ℕ) (changed : List ℕ) : Type 0 where
+pub record BeginsFrame (at_map : Option Map → Type 0) (shows : Map → Type 0) (last : Option Map → Type 0)
+    (l : Option Map) (name : ℕ) (changed : List ℕ) : Type 0 where
   pub map : Map
   pub at_now : at_map (Some map)
   pub shown : shows map
@@ -122,7 +122,8 @@ pub record BeginsFrame (at_map : Option Map → Type 0) (shows : Map → Type 0)
 -- A log grew by reads of these objects and the dispose.
 pub record Ended (old : List Entry) (new : Option (List Entry)) (caller name : ℕ) (xs : List ℕ) : Type 0 where
   pub more : List Entry
-  pub log_is : new ≡ Some (old ++ more ++ record { caller = caller; request = Dispose name; reply = reply.Disposed } ∷ [])
+  pub log_is : new
+      ≡ Some (old ++ more ++ record { caller = caller; request = Dispose name; reply = reply.Disposed } ∷ [])
   pub reads : map call_of more ≡ reads_of caller name xs
 
 abbrev pub EndsFrame : Option (List Entry) → Option (List Entry) → ℕ → ℕ → List ℕ → Type 0
@@ -174,7 +175,8 @@ GrowsFor n (Some old) new = GrownFor n old new
 pub record WholeFrame (old : List Entry) (new : Option (List Entry)) (caller watcher : ℕ) (xs : List ℕ) : Type 0 where
   pub name : ℕ
   pub changed : List ℕ
-  pub rest : Ended (old ++ record { caller = caller; request = TakeFor watcher; reply = reply.TakenFor name changed } ∷ [])
+  pub rest : Ended
+      (old ++ record { caller = caller; request = TakeFor watcher; reply = reply.TakenFor name changed } ∷ [])
       new caller name xs
 
 abbrev pub LogsFrame : Option (List Entry) → Option (List Entry) → ℕ → ℕ → List ℕ → Type 0
@@ -205,8 +207,9 @@ LogsNoFrame p k old new caller watcher stop last =
 -- A frame was made in the map `map` after the kept state `k`: `at_frame` and `last` say what is kept and which map is the
 -- watcher's last one, `told` is the report, `does` says what the frame's reads did, and `applies` what the applier did. If no
 -- call is owed, the frame changes nothing.
-pub record MakesFrame (p : Program) (k : LastFrame) (at_frame : LastFrame → Option Map → Type 0) (last : Option Map → Type 0)
-    (does : List ℕ → Type 0) (applies : Option FrameResult → Type 0) (told : Report) : Type 0 where
+pub record MakesFrame (p : Program) (k : LastFrame) (at_frame : LastFrame → Option Map → Type 0)
+    (last : Option Map → Type 0) (does : List ℕ → Type 0) (applies : Option FrameResult → Type 0)
+    (told : Report) : Type 0 where
   pub map : Map
   pub is_at : at_frame (kept_after k (frame (functions_of p) k map)) (Some map)
   pub is_last : last (Some map)
@@ -218,8 +221,8 @@ pub record MakesFrame (p : Program) (k : LastFrame) (at_frame : LastFrame → Op
 -- A frame was not made: the kept state stays, except after a fault of the applier, and what changed up to the watcher's last
 -- map is owed. `logs` says what the log is then. If there are too many groups, the frame of that map has no result. A frame
 -- with a fault of the applier has begun, and the composition is detached after it.
-pub record MakesNoFrame (p : Program) (k : LastFrame) (at_frame : LastFrame → Option Map → Type 0) (last : Option Map → Type 0)
-    (logs : FrameStop → Option Map → Type 0) (stop : FrameStop) : Type 0 where
+pub record MakesNoFrame (p : Program) (k : LastFrame) (at_frame : LastFrame → Option Map → Type 0)
+    (last : Option Map → Type 0) (logs : FrameStop → Option Map → Type 0) (stop : FrameStop) : Type 0 where
   pub map : Option Map
   pub is_at : at_frame (kept_after_stop p k map stop) map
   pub is_last : last map

@@ -186,7 +186,8 @@ impl<'p> Composition<'p> {
 
     // Returns the report of a frame that owes nothing: it keeps all groups and runs nothing.
     fn idle_report(&self) -> Report
-        ensures { result ≡ record { ran = 0; calculated = 0; reads = 0; groups = self.now.groups; nodes = self.now.nodes } }
+        ensures { result ≡
+            record { ran = 0; calculated = 0; reads = 0; groups = self.now.groups; nodes = self.now.nodes } }
     {
         Report {
             ran: 0,
@@ -578,7 +579,8 @@ impl<'p> Composition<'p> {
         ensures err { (k : LastFrame) (types : List Ty) (l : Option Map) → IsAt self.old k l →
             D.last desk.old self.old.watcher types l → D.alone desk.new self.old.watcher →
             IfErr result (MakesNoFrame self.old.program.now k (IsAt self.new) (D.last desk.new self.old.watcher types)
-            (LogsNoFrame self.old.program.now k (D.log desk.old) (D.log desk.new) (D.caller desk.old) self.old.watcher)) }
+            (LogsNoFrame self.old.program.now k (D.log desk.old) (D.log desk.new) (D.caller desk.old)
+            self.old.watcher)) }
         ensures uncalled { OnOk result (self.new.ops ≡ [] → applier.new ≡ applier.old) }
         ensures spent { (k : ℕ) → D.clock desk.old k → StopsAtEnd (D.clock desk.new) k result }
         ensures still { UnlessFault (A.tree applier.new ≡ A.tree applier.old) result }

@@ -92,7 +92,8 @@ abbrev pub request_text : List State → Request → List ℕ
 request_text states (request.Take parent kind) = codes "take " ++ kind_text kind ++ 32 ∷ snapshot parent
 request_text states (request.TakeFor watcher) = codes "frame"
 request_text states (request.Read name x) = codes "read " ++ snapshot name ++ 32 ∷ state_name states x
-request_text states (request.Write name x v) = codes "write " ++ snapshot name ++ 32 ∷ state_name states x ++ 32 ∷ value_text v
+request_text states (request.Write name x v) =
+    codes "write " ++ snapshot name ++ 32 ∷ state_name states x ++ 32 ∷ value_text v
 request_text states (request.Apply name) = codes "apply " ++ snapshot name
 request_text states (request.Dispose name) = codes "dispose " ++ snapshot name
 
@@ -134,7 +135,9 @@ count_text word count = word ++ decimal count
 
 -- The counts of what ran.
 abbrev pub work_text : ℕ → ℕ → ℕ → List ℕ
-work_text ran calculated reads = count_text (codes "report: ran ") ran ++ (count_text (codes ", calculated ") calculated ++ count_text (codes ", reads ") reads)
+work_text ran calculated reads =
+    count_text (codes "report: ran ") ran
+    ++ (count_text (codes ", calculated ") calculated ++ count_text (codes ", reads ") reads)
 
 -- The counts of the groups and the nodes.
 abbrev pub size_text : ℕ → ℕ → List ℕ
@@ -234,7 +237,11 @@ abbrev pub next : List Func → Standing → Entry → Standing
 next functions s e =
     let world = (call table s.world e.caller e.request).0 in
     if ends_frame s.frames e.request
-    then record { world = world; kept = kept_after s.kept (frame_at functions s e); frames = filter (λ n. not (n == name_in e.request)) s.frames }
+    then record {
+      world = world;
+      kept = kept_after s.kept (frame_at functions s e);
+      frames = filter (λ n. not (n == name_in e.request)) s.frames;
+    }
     else record { world = world; kept = s.kept; frames = s.frames ++ frame_taken e.request e.reply }
 
 -- The lines of a history, from a state of the walk.

@@ -212,4 +212,5 @@ first_of_faults o (f ∷ fs) = first_of_faults (first_fault o f) fs
 
 -- Why a script is rejected: its fault that goes first.
 abbrev pub script_refusal : Bool → List State → Option ℕ → List DoForm → Option ScriptStop
-script_refusal threads states first_oversized forms = first_of_faults None (script_faults threads states first_oversized forms)
+script_refusal threads states first_oversized forms =
+    first_of_faults None (script_faults threads states first_oversized forms)

@@ -189,7 +189,8 @@ fn add_write(
     object: ObjectNo,
     value: &Value,
 ) -> Result<(), NoMemory>
-    ensures { let words = codes ": write " ++ snapshot name ++ 32 ∷ state_name states.now object ++ 32 ∷ value_text value.now in
+    ensures { let words =
+        codes ": write " ++ snapshot name ++ 32 ∷ state_name states.now object ++ 32 ∷ value_text value.now in
         OnOk result (text.new.items ≡ text.old.items ++ words) }
 {
     add_named(text, b": write @", name)?;
@@ -402,7 +403,8 @@ pub fn add_line(
     script: &Script,
     entry: &Entry,
 ) -> Result<(), NoMemory>
-    ensures ok { OnOk result (text.new.items ≡ text.old.items ++ entry_line (titles_of program.now script.now) entry.now) }
+    ensures ok { OnOk result (text.new.items ≡
+        text.old.items ++ entry_line (titles_of program.now script.now) entry.now) }
     ensures err { OnErr result (text.new.items ≡ []) }
 {
     let done = append_line(text, program, script, entry);

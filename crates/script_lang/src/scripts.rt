@@ -58,9 +58,11 @@ pub fn script_of(
 ) -> Result<Script, ScriptStop>
     ensures actors { IfOk result (λ s. s.actors.items ≡ actors_of rest.forms.items) }
     ensures forms { IfOk result (λ s. s.forms.items ≡ rest.forms.items) }
-    ensures fine { let refusal = script_refusal threads program.now.states.items rest.first_oversized rest.forms.items in
+    ensures fine { let refusal =
+        script_refusal threads program.now.states.items rest.first_oversized rest.forms.items in
         OnOk result (refusal ≡ None) }
-    ensures refused { let refusal = script_refusal threads program.now.states.items rest.first_oversized rest.forms.items in
+    ensures refused { let refusal =
+        script_refusal threads program.now.states.items rest.first_oversized rest.forms.items in
         IfErr result (λ stop. stop ≢ no_memory → refusal ≡ Some stop) }
 {
     let actors = first_actors(alloc, &rest.forms)?;

@@ -376,7 +376,8 @@ impl<'g> TreeWriter<'g> {
 
     /// Ends the list of top nodes, and the line. If the process is out of memory, `text` is empty afterwards.
     pub fn finish(mut self, text: &mut Vec<u8>) -> Result<(), NoMemory>
-        ensures ok { OnOk result (text.new.items ≡ text.old.items ++ (ends_from 0 self.entry.open_nodes ++ codes "]\n")) }
+        ensures ok { OnOk result (text.new.items ≡
+            text.old.items ++ (ends_from 0 self.entry.open_nodes ++ codes "]\n")) }
         ensures err { OnErr result (text.new.items ≡ []) }
     {
         let done = self.append_end(text);

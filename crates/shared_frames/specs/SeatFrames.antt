@@ -36,7 +36,8 @@ pub record IsMapAtTake {P : Type 0} (rules : Rules P) (opens : World P → Type 
 module _ {W P : Type 0} (rules : Rules P) (stands : W → World P → Type 0) (shared : Shared W P) where
   -- The watcher's last map after what the seat has seen, with the types of the objects.
   abbrev pub HasLast : Seat W → ℕ → List Ty → Option Map → Type 0
-  HasLast seat watcher types l = Lasts rules (IsPossibleWorld rules (stands (opening_of shared)) (seen_by seat)) watcher types l
+  HasLast seat watcher types l =
+      Lasts rules (IsPossibleWorld rules (stands (opening_of shared)) (seen_by seat)) watcher types l
 
   -- The clock is at least `n` after what the seat has seen.
   abbrev pub HasClock : Seat W → ℕ → Type 0
@@ -70,7 +71,9 @@ module _ {W P : Type 0} (rules : Rules P) (stands : W → World P → Type 0) (s
 
   -- A frame is made between the two states of the seat: its map is the one at its take, the objects that the caller has read
   -- grow by the frame's reads, and the caller's own calls by the frame's calls. `applies` says what the applier did.
-  abbrev pub MakesThrough : Composition → LastFrame → Seat W → Seat W → List Ty → (Option FrameResult → Type 0) → Report → Type 0
-  MakesThrough c k before after types applies = MakesFrame c.program.now k (IsAt c) (HasTaken before after c.watcher types)
+  abbrev pub MakesThrough : Composition → LastFrame → Seat W → Seat W → List Ty
+      → (Option FrameResult → Type 0) → Report → Type 0
+  MakesThrough c k before after types applies =
+      MakesFrame c.program.now k (IsAt c) (HasTaken before after c.watcher types)
       (λ xs. (objects_read (mine_of after) ≡ objects_read (mine_of before) ++ xs)
       × LogsFrame (Some (mine_of before)) (Some (mine_of after)) (number_of before) c.watcher xs) applies

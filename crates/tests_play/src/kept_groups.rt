@@ -77,10 +77,18 @@ fn same_kind(a: &GroupKind, b: &GroupKind) -> bool {
             function,
             arguments,
         } => {
-            matches!(b, GroupKind::Call { function: other, arguments: more } if *function == *other && same_values(arguments, more))
+            matches!(
+                b,
+                GroupKind::Call { function: other, arguments: more }
+                    if *function == *other && same_values(arguments, more)
+            )
         }
         GroupKind::Node { kind, attributes } => {
-            matches!(b, GroupKind::Node { kind: other, attributes: more } if kind.bytes() == other.bytes() && same_attributes(attributes, more))
+            matches!(
+                b,
+                GroupKind::Node { kind: other, attributes: more }
+                    if kind.bytes() == other.bytes() && same_attributes(attributes, more)
+            )
         }
         GroupKind::Key(value) => matches!(b, GroupKind::Key(other) if value.same(other)),
         GroupKind::Cell { keys, value } => {

@@ -140,8 +140,7 @@ fn run_with_calls(
     alloc: Global,
     job: &Job,
     flags: Flags,
-) -> Result<(Vec<(Caller, Request)>, Vec<u8>), Fail>
-{
+) -> Result<(Vec<(Caller, Request)>, Vec<u8>), Fail> {
     let plain = PlainWorld::<BuiltIn>::new(alloc)?;
     let mut world = LogWorld::new(alloc, plain);
     let mut sink = MemSink::new(alloc, 4096, 4096, Vec::new(alloc))?;

@@ -14,7 +14,8 @@ abbrev mutual
   stmt_has_node x (Node at site kind attributes body) = (site == x) || stmts_have_node x body
   stmt_has_node x (Call at site name function arguments) = false
   stmt_has_node x (Key at site key body) = stmts_have_node x body
-  stmt_has_node x (If at site condition then_branch else_branch) = stmts_have_node x then_branch || stmts_have_node x else_branch
+  stmt_has_node x (If at site condition then_branch else_branch) =
+      stmts_have_node x then_branch || stmts_have_node x else_branch
   stmt_has_node x (For at site name list body) = stmts_have_node x body
   stmt_has_node x (Let at site name value body) = stmts_have_node x body
   stmt_has_node x (Remember at site name keys value body) = stmts_have_node x body
