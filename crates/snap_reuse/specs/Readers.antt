@@ -1,5 +1,5 @@
 -- Trusted: which records of a chain are read, and which may be reused.
-use Rattle.std.specs.Prelude.{◌≡◌, ◌≢◌, ℕ, ◌<◌, ◌≤◌, ◌==◌, nat_le, Bool, true, false, not, ◌||◌, ◌⊎◌, List, length, slice_get, Option, Some, None, IfSome, if◌then◌else◌}
+use Rattle.std.specs.Prelude.{◌≡◌, ◌≢◌, ℕ, ◌<◌, ◌≤◌, ◌==◌, nat_le, Bool, true, false, not, ◌||◌, ◌⊎◌, List, length, slice_get, Option, Some, None, if◌then◌else◌}
 use Rattle.std.specs.List.{list_any}
 use Rattle.rt_values.specs.Maps.{contains}
 use Rattle.snap_ids.specs.IdLists.{is_valid}
@@ -51,8 +51,9 @@ AreUsed c x = (k q : ℕ) → slice_get (keys_at c x) k ≡ Some q → (record_a
 -- The record that a write may overwrite: one with id 0, or, if there is no such record, the one with the lowest id that no
 -- reader reads. None if no record has id 0 and each is read.
 abbrev pub IsReusable : Chains → ℕ → List RecordReader → Option RecordNo → Type 0
-IsReusable c x readers r =
-    IfSome r (λ b. Found c x 0 b.0) ⊎ (AreUsed c x × IsLowestUnread c x readers (length (keys_at c x)) r)
+IsReusable c x readers None = AreUsed c x × IsLowestUnread c x readers (length (keys_at c x)) None
+IsReusable c x readers (Some b) =
+    Found c x 0 b.0 ⊎ (AreUsed c x × IsLowestUnread c x readers (length (keys_at c x)) (Some b))
 
 -- The readable record by these valid ids, if there is one, has an id of the list.
 abbrev pub IsReadWithin : (ℕ → Bool) → List Rec → List ℕ → Type 0
