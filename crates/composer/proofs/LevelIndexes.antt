@@ -170,10 +170,11 @@ pub queued_left : (groups : List Group) (b : Bool) (was now : List ℕ) → now 
 queued_left groups true was now e = ap (λ l. infos_at groups l) e ∙ later_infos groups was
 queued_left groups false was now e = ap (λ l. infos_at groups l) e
 
-pub queue_taken : (groups : List Group) (q b : Bool) (was now level : List ℕ) → q ≡ true → now ≡ (if b then drop 1 was else was)
-    → infos_at groups (if q then now else level) ≡ (if b then drop 1 (infos_at groups (if q then was else level)) else infos_at groups (if q then was else level))
-queue_taken groups true b was now level queued e = queued_left groups b was now e
-queue_taken groups false b was now level queued e = absurd (true≢false (sym queued))
+pub queue_taken : (groups : List Group) (q r b : Bool) (was now level : List ℕ) → q ≡ true → r ≡ true → now ≡ (if b then drop 1 was else was)
+    → infos_at groups (if r then now else level) ≡ (if b then drop 1 (infos_at groups (if q then was else level)) else infos_at groups (if q then was else level))
+queue_taken groups true true b was now level queued still e = queued_left groups b was now e
+queue_taken groups true false b was now level queued still e = absurd (true≢false (sym still))
+queue_taken groups false r b was now level queued still e = absurd (true≢false (sym queued))
 
 -- The siblings after the next one was taken.
 pub ordered_left : (groups : List Group) (b : Bool) (i : ℕ) (was now : List ℕ) → was ≡ (if b then i ∷ now else now) → infos_at groups now ≡ (if b then drop 1 (infos_at groups was) else infos_at groups was)

@@ -19,7 +19,7 @@ use Rattle.composer.specs.OldGroups.{Alike, Fits}
 use Rattle.composer.specs.ComposerState.{one_if, opened_group}
 use Rattle.composer.specs.BesideContracts.{OldSiblings, IsOldPart, IsOldFound}
 use Rattle.composer.specs.Recomposes.{IsBeside, is_container}
-use Rattle.composer.specs.WrittenGroups.{WrittenGroups, state_of, number_of, enter_group, with_call, written_kept, kept_in, kept_of}
+use Rattle.composer.specs.WrittenGroups.{WrittenGroups, state_of, number_of, enter_group, with_call, running_call, written_kept, kept_in, kept_of}
 use Rattle.composer.proofs.OldMatches.{fits_found, fits_next}
 use Rattle.composer.proofs.OldParts.{inside_old, part_found, part_matched}
 use Rattle.composer.proofs.Comparisons.{number_of_kept, other_keys_kept}
@@ -78,6 +78,11 @@ pub call_longer : (d site : ℕ) (code : ListedKind) (runs : Bool) (written writ
 call_longer d site code runs written written' e =
     let long = ap (λ (q : WrittenGroups). length q.groups) e in
     omega (arith, long, length-append written.groups (flat_group d site 0 code [] ∷ []))
+
+pub running_longer : (d site : ℕ) (code : ListedKind) (reads : List ℕ) (written written' : WrittenGroups) → written' ≡ running_call d site code reads written → length written.groups ≤ length written'.groups
+running_longer d site code reads written written' e =
+    let long = ap (λ (q : WrittenGroups). length q.groups) e in
+    omega (arith, long, length-append written.groups (flat_group d site 0 code reads ∷ []))
 
 pub kept_longer : (d site n : ℕ) (code : ListedKind) (reads : List ℕ) (written written' : WrittenGroups) → written' ≡ written_kept d site n code reads written → length written.groups ≤ length written'.groups
 kept_longer d site n code reads written written' e =

@@ -21,7 +21,7 @@ use Rattle.composer.specs.OldSiblings.{KeyInfo, old_group}
 use Rattle.composer.specs.OldGroups.{Alike, Begins}
 use Rattle.composer.specs.ComposerState.{ComposerState, put_group, opened_group, closed_group, composed_beside, run_beside, skipped_inside, skipped_groups}
 use Rattle.composer.specs.BesideContracts.{IsPrefix, Reaches}
-use Rattle.composer.specs.WrittenGroups.{WrittenGroups, state_of, with_call, written_kept, number_kept}
+use Rattle.composer.specs.WrittenGroups.{WrittenGroups, state_of, with_call, running_call, written_kept, number_kept}
 use Rattle.composer.specs.Recomposes.{is_call_kept}
 use Rattle.composer.proofs.Machine.{same_state, composed_is, part_of, longer, state_after_work, state_after_walk, skipped_is, skip_group}
 
@@ -40,29 +40,29 @@ longer_ran owed was d site f vs new s =
     let e = longer owed was (d + 1) true [] new (opened_group d true None site (Call f vs) new s) in
     omega (arith, e, length-append s.groups (flat_group d site 0 (flat_kind (Call f vs)) (asks (own_part new)) ∷ []))
 
--- The state after a body, after the group of its call without reads.
-inner_is : (owed : List ℕ) (was : GroupForest) (d site f : ℕ) (vs : List Value) (new : GroupForest) (written written1 : WrittenGroups) (asked none : List ℕ) → none ≡ [] → written1 ≡ with_call d site (listed.Call f vs) true written →
-    composed_beside owed was (d + 1) true [] new (state_of written1 asked none) ≡ state_after_work (d + 1) (numbered_by_siblings was [] written.next new) (work owed was [] true new) (asks (own_part new)) (state_of (with_call d site (listed.Call f vs) true written) asked [])
-inner_is owed was d site f vs new written written1 asked none e1 e2 =
+-- The state after a body, after the group of its call with the reads `first`.
+inner_is : (owed : List ℕ) (was : GroupForest) (d site f : ℕ) (vs : List Value) (new : GroupForest) (written written1 : WrittenGroups) (asked none first : List ℕ) → none ≡ [] → written1 ≡ running_call d site (listed.Call f vs) first written →
+    composed_beside owed was (d + 1) true [] new (state_of written1 asked none) ≡ state_after_work (d + 1) (numbered_by_siblings was [] written.next new) (work owed was [] true new) (asks (own_part new)) (state_of (running_call d site (listed.Call f vs) first written) asked [])
+inner_is owed was d site f vs new written written1 asked none first e1 e2 =
     ap (λ (q : WrittenGroups). composed_beside owed was (d + 1) true [] new (state_of q asked none)) e2
-    ∙ ap (λ (l : List ℕ). composed_beside owed was (d + 1) true [] new (state_of (with_call d site (listed.Call f vs) true written) asked l)) e1
-    ∙ composed_is owed was (d + 1) true [] new (state_of (with_call d site (listed.Call f vs) true written) asked [])
+    ∙ ap (λ (l : List ℕ). composed_beside owed was (d + 1) true [] new (state_of (running_call d site (listed.Call f vs) first written) asked l)) e1
+    ∙ composed_is owed was (d + 1) true [] new (state_of (running_call d site (listed.Call f vs) first written) asked [])
 
 outer_is : (owed : List ℕ) (was : GroupForest) (d site f : ℕ) (vs : List Value) (new : GroupForest) (s : ComposerState) →
     run_beside owed was d site (Call f vs) new s ≡ closed_group (Call f vs) s (state_after_work (d + 1) (numbered_by_siblings was [] s.next new) (work owed was [] true new) (asks (own_part new)) (opened_group d true None site (Call f vs) new s))
 outer_is owed was d site f vs new s = ap (λ (q : ComposerState). closed_group (Call f vs) s q) (composed_is owed was (d + 1) true [] new (opened_group d true None site (Call f vs) new s))
 
-pub body_done : (owed : List ℕ) (was : GroupForest) (d site f : ℕ) (vs : List Value) (new : GroupForest) (written written1 written2 written3 : WrittenGroups) (asked asked' mine theirs none : List ℕ) → none ≡ [] → written1 ≡ with_call d site (listed.Call f vs) true written →
+pub body_done : (owed : List ℕ) (was : GroupForest) (d site f : ℕ) (vs : List Value) (new : GroupForest) (written written1 written2 written3 : WrittenGroups) (asked asked' mine theirs none first : List ℕ) → none ≡ [] → written1 ≡ running_call d site (listed.Call f vs) first written →
     Reaches (composed_beside owed was (d + 1) true [] new (state_of written1 asked none)) (state_of written2 asked' theirs) {U = Unit {0}} (Ok tt) →
-    ((before behind : List Listed) (g : Listed) → length before ≡ length written.groups → written2.groups ≡ before ++ (g ∷ behind) → written3.groups ≡ before ++ (flat_group g.depth g.site g.number g.what theirs ∷ behind)) →
+    ((before behind : List Listed) (g : Listed) → length before ≡ length written.groups → written2.groups ≡ before ++ (g ∷ behind) → g.reads ≡ first → written3.groups ≡ before ++ (flat_group g.depth g.site g.number g.what theirs ∷ behind)) →
     (written3.next ≡ written2.next) × (written3.ran ≡ written2.ran) × (written3.calculated ≡ written2.calculated) →
     Reaches (run_beside owed was d site (Call f vs) new (state_of written asked mine)) (state_of written3 asked' mine) {U = Unit {0}} (Ok tt)
-body_done owed was d site f vs new written written1 written2 written3 asked asked' mine theirs none e1 e2 h set rest =
-    let is = h.all ∙ inner_is owed was d site f vs new written written1 asked none e1 e2 in
+body_done owed was d site f vs new written written1 written2 written3 asked asked' mine theirs none first e1 e2 h set rest =
+    let is = h.all ∙ inner_is owed was d site f vs new written written1 asked none first e1 e2 in
     let tail = preorder (d + 1) (numbered_by_siblings was [] written.next new).0 in
-    let there : written2.groups ≡ written.groups ++ (flat_group d site 0 (flat_kind (Call f vs)) [] ∷ tail) =
-    ap (λ (q : ComposerState). q.groups) is ∙ append_assoc written.groups (flat_group d site 0 (flat_kind (Call f vs)) [] ∷ []) tail in
-    let groups = set written.groups tail (flat_group d site 0 (flat_kind (Call f vs)) []) refl there
+    let there : written2.groups ≡ written.groups ++ (flat_group d site 0 (flat_kind (Call f vs)) first ∷ tail) =
+    ap (λ (q : ComposerState). q.groups) is ∙ append_assoc written.groups (flat_group d site 0 (flat_kind (Call f vs)) first ∷ []) tail in
+    let groups = set written.groups tail (flat_group d site 0 (flat_kind (Call f vs)) first) refl there refl
     ∙ ap (λ r. written.groups ++ (flat_group d site 0 (flat_kind (Call f vs)) r ∷ tail)) (ap (λ (q : ComposerState). q.own) is)
     ∙ sym (append_assoc written.groups (flat_group d site 0 (flat_kind (Call f vs)) (asks (own_part new)) ∷ []) tail) in record {
       all = same_state groups (rest.0 ∙ ap (λ (q : ComposerState). q.next) is) (rest.1 ∙ ap (λ (q : ComposerState). q.ran) is) (rest.2 ∙ ap (λ (q : ComposerState). q.calculated) is) (ap (λ (q : ComposerState). q.asked) is) refl
@@ -71,12 +71,12 @@ body_done owed was d site f vs new written written1 written2 written3 asked aske
       many = λ y. cc;
     }
 
-pub body_stop : {U V : Type 0} {s' : ComposerState} (owed : List ℕ) (was : GroupForest) (d site f : ℕ) (vs : List Value) (new : GroupForest) (written written1 written2 : WrittenGroups) (asked asked' mine theirs none : List ℕ) (x : ComposeStop) (result : Result U ComposeStop) → none ≡ [] →
-    written1 ≡ with_call d site (listed.Call f vs) true written → Reaches (composed_beside owed was (d + 1) true [] new (state_of written1 asked none)) (state_of written2 asked' theirs) {U = V} (Err x) → result ≡ Err x → s'.asked ≡ asked' →
+pub body_stop : {U V : Type 0} {s' : ComposerState} (owed : List ℕ) (was : GroupForest) (d site f : ℕ) (vs : List Value) (new : GroupForest) (written written1 written2 : WrittenGroups) (asked asked' mine theirs none first : List ℕ) (x : ComposeStop) (result : Result U ComposeStop) → none ≡ [] →
+    written1 ≡ running_call d site (listed.Call f vs) first written → Reaches (composed_beside owed was (d + 1) true [] new (state_of written1 asked none)) (state_of written2 asked' theirs) {U = V} (Err x) → result ≡ Err x → s'.asked ≡ asked' →
     Reaches (run_beside owed was d site (Call f vs) new (state_of written asked mine)) s' result
-body_stop owed was d site f vs new written written1 written2 asked asked' mine theirs none x (Ok u) e1 e2 h is same = cc
-body_stop {s' = s'} owed was d site f vs new written written1 written2 asked asked' mine theirs none x (Err z) e1 e2 h is same =
-    let inner = inner_is owed was d site f vs new written written1 asked none e1 e2 in
+body_stop owed was d site f vs new written written1 written2 asked asked' mine theirs none first x (Ok u) e1 e2 h is same = cc
+body_stop {s' = s'} owed was d site f vs new written written1 written2 asked asked' mine theirs none first x (Err z) e1 e2 h is same =
+    let inner = inner_is owed was d site f vs new written written1 asked none first e1 e2 in
     let outer = outer_is owed was d site f vs new (state_of written asked mine) in
     let tail = preorder (d + 1) (numbered_by_siblings was [] written.next new).0 in record {
       all = tt;
@@ -93,9 +93,9 @@ body_stop {s' = s'} owed was d site f vs new written written1 written2 asked ask
             big,
             one,
             two,
-            length-append (written.groups ++ flat_group d site 0 (flat_kind (Call f vs)) [] ∷ []) tail,
+            length-append (written.groups ++ flat_group d site 0 (flat_kind (Call f vs)) first ∷ []) tail,
             length-append (written.groups ++ flat_group d site 0 (flat_kind (Call f vs)) (asks (own_part new)) ∷ []) tail,
-            length-append written.groups (flat_group d site 0 (flat_kind (Call f vs)) [] ∷ []),
+            length-append written.groups (flat_group d site 0 (flat_kind (Call f vs)) first ∷ []),
             length-append written.groups (flat_group d site 0 (flat_kind (Call f vs)) (asks (own_part new)) ∷ []),
           );
     }
@@ -178,10 +178,10 @@ no_call d k f like plain = by f.what (sym (ap is_call_kept like.kind) ∙ plain)
     by (Cell ks v) h = refl
 
 -- The reads of a body that was composed are those of its call.
-pub body_part : (owed : List ℕ) (was : GroupForest) (d site f : ℕ) (vs : List Value) (new : GroupForest) (written written1 written2 : WrittenGroups) (asked asked' mine theirs none : List ℕ) → none ≡ [] → written1 ≡ with_call d site (listed.Call f vs) true written →
+pub body_part : (owed : List ℕ) (was : GroupForest) (d site f : ℕ) (vs : List Value) (new : GroupForest) (written written1 written2 : WrittenGroups) (asked asked' mine theirs none first : List ℕ) → none ≡ [] → written1 ≡ running_call d site (listed.Call f vs) first written →
     Reaches (composed_beside owed was (d + 1) true [] new (state_of written1 asked none)) (state_of written2 asked' theirs) {U = Unit {0}} (Ok tt) → IsPrefix asked' (run_beside owed was d site (Call f vs) new (state_of written asked mine)).asked
-body_part owed was d site f vs new written written1 written2 asked asked' mine theirs none e1 e2 h =
-    let inner = h.all ∙ inner_is owed was d site f vs new written written1 asked none e1 e2 in
+body_part owed was d site f vs new written written1 written2 asked asked' mine theirs none first e1 e2 h =
+    let inner = h.all ∙ inner_is owed was d site f vs new written written1 asked none first e1 e2 in
     let outer = outer_is owed was d site f vs new (state_of written asked mine) in
     record { rest = []; is = append-nil asked' ∙ ap (λ (q : ComposerState). q.asked) inner ∙ sym (ap (λ (q : ComposerState). q.asked) outer) }
 

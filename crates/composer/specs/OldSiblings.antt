@@ -1,9 +1,11 @@
 -- Internal: the groups of the last frame that new groups are matched with.
-use Rattle.std.specs.Prelude.{ℕ, ◌+◌, ◌==◌, ◌&&◌, ◌<◌, nat_lt, List, [], ◌∷◌, drop, length, map, Bool, Option, Some, None, if◌then◌else◌}
+use Rattle.std.specs.Prelude.{ℕ, ◌+◌, ◌==◌, ◌&&◌, ◌<◌, nat_lt, List, [], ◌∷◌, drop, length, map, Bool, Box, Option, Some, None, if◌then◌else◌}
 use Rattle.rt_groups.specs.declared.groups.Group.{Group}
 use Rattle.rt_groups.specs.Paths.{GroupKey, same_sibling}
 use Rattle.slot_table.specs.TableGroups.{group_at}
 use Rattle.slot_table.specs.ReaderStates.{group_key}
+use Rattle.group_keys.specs.Queues.{queue_of}
+use Rattle.group_keys.specs.declared.queues.SiblingQueues.{SiblingQueues}
 
 -- A group of the last frame: all groups of that frame in preorder, and its index among them.
 pub record KeyInfo : Type 0 where
@@ -51,6 +53,12 @@ inner_siblings k s = infos_at k.groups (level_indexes s ((old_group k).depth + 1
 abbrev pub found_siblings : Option KeyInfo → GroupKey → List KeyInfo
 found_siblings None s = []
 found_siblings (Some k) s = inner_siblings k s
+
+-- The queued indexes of the old siblings with this site and key. There are no queues while new groups come in the order of
+-- the old ones.
+abbrev pub indexes_in : {Z : Type 0} → Option (Box SiblingQueues Z) → GroupKey → List ℕ
+indexes_in None s = []
+indexes_in (Some queues) s = queue_of queues.value s
 
 -- Whether each number is the index of a group.
 abbrev pub AreInside : List Group → List ℕ → Type 0

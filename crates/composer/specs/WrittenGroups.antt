@@ -9,6 +9,8 @@ use Rattle.rt_groups.specs.PreorderGroups.{flat_group}
 use Rattle.slot_table.specs.TableGroups.{is_node_kind}
 use Rattle.composer.specs.declared.writer.NewKind.{NewKind}
 use Rattle.composer.specs.declared.writer.NewKind.TheVariants as new
+use Rattle.composer.specs.declared.writer.CallArguments.{CallArguments}
+use Rattle.composer.specs.declared.writer.CallArguments.TheVariants as arguments
 use Rattle.composer.specs.OldSiblings.{KeyInfo, old_group}
 use Rattle.composer.specs.FrameDrafts.{DraftGroups}
 use Rattle.composer.specs.Comparisons.{other_keys}
@@ -31,6 +33,23 @@ state_of w asked own = record { groups = w.groups; next = w.next; ran = w.ran; c
 abbrev pub group_kind : NewKind → GroupKind
 group_kind (new.Node kind attributes) = what.Node kind.now attributes
 group_kind (new.Key v) = what.Key v
+
+-- The arguments of a call that runs.
+abbrev pub arguments_of : CallArguments → List Value
+arguments_of (arguments.New vs) = vs
+arguments_of (arguments.Old vs) = vs.now
+
+-- Old arguments are those of the old group, which is a call of this function.
+abbrev pub AreArguments : ℕ → CallArguments → Option KeyInfo → Type 0
+AreArguments f (arguments.New vs) found = Unit {0}
+AreArguments f (arguments.Old vs) None = ⊥
+AreArguments f (arguments.Old vs) (Some k) = (old_group k).what ≡ what.Call f vs.now
+
+-- The reads of the group of a call until the call ends.
+abbrev pub first_reads : CallArguments → Option KeyInfo → List ℕ
+first_reads (arguments.New vs) found = []
+first_reads (arguments.Old vs) None = []
+first_reads (arguments.Old vs) (Some k) = (old_group k).reads
 
 -- The number of a node and the next unused number: the number of the old group, or the next one.
 abbrev pub number_for : Option KeyInfo → ℕ → ℕ × ℕ
@@ -66,6 +85,16 @@ with_call depth site w runs d = record {
   groups = d.groups ++ flat_group depth site 0 w [] ∷ [];
   next = d.next;
   ran = d.ran + one_if runs;
+  calculated = d.calculated;
+  reads = d.reads;
+}
+
+-- The group of a call that runs, with the reads that it has until the call ends.
+abbrev pub running_call : ℕ → ℕ → GroupKind → List ℕ → WrittenGroups → WrittenGroups
+running_call depth site w reads d = record {
+  groups = d.groups ++ flat_group depth site 0 w reads ∷ [];
+  next = d.next;
+  ran = d.ran + 1;
   calculated = d.calculated;
   reads = d.reads;
 }

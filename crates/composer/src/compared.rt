@@ -166,6 +166,13 @@ pub fn kept_value(
     }
 }
 
+/// Returns whether both lists have the same objects in the same order.
+pub fn same_reads(reads: &[ObjectNo], others: &[ObjectNo]) -> bool
+    ensures { result ≡ true → reads.now ≡ others.now }
+{
+    reads == others
+}
+
 /// Returns whether a call with these reads reads an owed object.
 pub fn meet(reads: &[ObjectNo], owed: &Owed) -> bool
     ensures { result ≡ meets reads.now owed.now.objects }

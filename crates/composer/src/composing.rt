@@ -11,21 +11,20 @@ ghost use Rattle.lang_ast.specs.SyntaxView.{expr_view, exprs_view, nameds_view, 
 ghost use Rattle.lang_ast.specs.Evaluation.{new_binding, eval, eval_all};
 ghost use Rattle.compose_model.specs.Composing.{forest_after};
 ghost use Rattle.recompose_laws.specs.CalculatedCells.{Calculation, CalculatesAtSite, StmtCalculates, StmtsCalculate};
-ghost use Rattle.composer.specs.WrittenGroups.{number_kept, kept_of, written_kept, group_kind};
+ghost use Rattle.composer.specs.WrittenGroups.{number_kept, kept_of, written_kept, group_kind, arguments_of, AreArguments};
 ghost use Rattle.composer.specs.FrameDrafts.{Holds, IsOwing, ComposesFrame, root_of};
 ghost use Rattle.lang_ast.specs.Programs.{functions_of};
 ghost use Rattle.composer.specs.OldSiblings.{old_group};
 ghost use Rattle.composer.specs.Recomposes.{Recomposes, Continues, RanBeside, Writes, HasRoom, HasRoomToWrite, group_at_level, statement_at, body_at, call_at, loop_at, BodyRan, GroupSkipped, GroupsSkipped, FrameWritten, any_calculation, is_container, is_call_kept};
 
 use crate::compared::{call_is_run, kept_value, meet};
-use crate::copies::copy_values;
 use crate::draft::{Draft, Held};
 use crate::old_groups::OldGroup;
 use crate::owed::Owed;
 use crate::pending::Pending;
 use crate::runs::{is_end, quiet_end};
 use crate::stop::ComposeStop;
-use crate::writer::{NewKind, Writer};
+use crate::writer::{CallArguments, NewKind, Writer};
 use group_keys::SiblingKey;
 use lang_ast::{Expression, Function, Ident, Named, Statement};
 use lang_checks::Checked;
@@ -196,7 +195,7 @@ fn run_group<'a, V: View, L: Ledger>(
         owed: level.owed,
         depth: level.depth + 1,
     };
-    let within = Pending::inside_found(level.alloc, level.table, &found);
+    let within = Pending::inside_found(level.table, &found);
     let around = mem::replace(&mut made.pending, within);
     run_all(&inside, body, made, view, steps)?;
     made.pending = around;
@@ -487,7 +486,7 @@ fn run_call<'a, V: View, L: Ledger>(
             level,
             site,
             function,
-            arguments,
+            CallArguments::New(arguments),
             &found,
             &mut made.writer,
             view,
@@ -516,33 +515,27 @@ fn run_body<'a, V: View, L: Ledger>(
     level: &Level<'a>,
     site: u32,
     function: usize,
-    arguments: Values,
+    arguments: CallArguments,
     found: &Option<OldGroup<'a>>,
     writer: &mut Writer,
     view: &mut V,
     steps: &mut Steps<L>,
 ) -> Result<(), ComposeStop>
-    requires { HasRoomToWrite level.now writer.old }
+    requires room { HasRoomToWrite level.now writer.old }
+    requires arguments { AreArguments function arguments found.now }
     ensures { Writes V.shows V.asked V.keeps view.old view.new writer.old writer.new result
-        (λ m. BodyRan level.now m site function arguments found.now (V.asked view.old) (V.asked view.new) writer.old writer.new result) }
+        (λ m. BodyRan level.now m site function (arguments_of arguments.entry) found.now (V.asked view.old) (V.asked view.new) writer.old writer.new result) }
 {
     if function >= level.functions.len() {
-        let call = GroupKind::Call {
-            function,
-            arguments,
-        };
-        writer.enter_call(level.alloc, level.depth, site, call, true)?;
+        writer.enter_empty(level.alloc, level.depth, site, function, arguments, found)?;
         return Ok(());
     }
     let callee = &level.functions[function];
-    let scope = bind(level.alloc, &callee.parameters, &arguments)?;
-    let pending = Pending::inside_found(level.alloc, level.table, found);
+    let scope = bind(level.alloc, &callee.parameters, arguments.values())?;
+    let pending = Pending::inside_found(level.table, found);
     let place = writer.len();
-    let call = GroupKind::Call {
-        function,
-        arguments,
-    };
-    writer.enter_call(level.alloc, level.depth, site, call, true)?;
+    let first = arguments.first_reads(found);
+    writer.enter_running(level.alloc, level.depth, site, function, arguments, found)?;
     let taken = mem::replace(writer, Writer::new(level.alloc, 0));
     let reads = Deps::new(level.alloc);
     let mut inner = Progress {
@@ -562,7 +555,7 @@ fn run_body<'a, V: View, L: Ledger>(
     run_all(&inside, &callee.body, &mut inner, view, steps)?;
     let own = inner.reads;
     let mut written = inner.writer;
-    written.end_call(level.alloc, place, own)?;
+    written.end_call(level.alloc, place, first, own)?;
     *writer = written;
     Ok(())
 }
@@ -601,7 +594,7 @@ fn skip_group<'a, V: View, L: Ledger>(
         } => {
             if meet(old.reads(), level.owed) {
                 let found = Some(old.copy());
-                let arguments = copy_values(level.alloc, arguments.items())?;
+                let arguments = CallArguments::Old(arguments);
                 return run_body(
                     level, site, *function, arguments, &found, writer, view, steps,
                 );
@@ -744,7 +737,7 @@ fn write_frame<V: View, L: Ledger>(
             &level,
             0,
             root,
-            Values::new(alloc),
+            CallArguments::New(Values::new(alloc)),
             &None,
             writer,
             view,

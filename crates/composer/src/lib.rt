@@ -10,7 +10,6 @@
 
 mod compared;
 mod composing;
-mod copies;
 mod draft;
 mod old_groups;
 mod owed;

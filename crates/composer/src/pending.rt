@@ -1,9 +1,10 @@
 // The old siblings that no new group is matched with.
 ghost use Rattle.std.specs.Prelude.{◌≡◌, ◌<◌, ℕ, [], Some, true, false, length, drop, slice_get, if◌then◌else◌, IfOk, OnOk};
+ghost use Rattle.std.specs.Option.{is_some};
 ghost use Rattle.rt_groups.specs.Paths.{GroupKey, same_sibling};
 ghost use Rattle.slot_table.specs.TableGroups.{group_at};
 ghost use Rattle.group_keys.specs.Queues.{queue_of};
-ghost use Rattle.composer.specs.OldSiblings.{sibling_key, level_indexes, is_level as is_group_at, inner_siblings, found_siblings};
+ghost use Rattle.composer.specs.OldSiblings.{sibling_key, level_indexes, is_level as is_group_at, inner_siblings, found_siblings, indexes_in};
 
 use crate::compared::key_of;
 use crate::old_groups::OldGroup;
@@ -20,60 +21,55 @@ pub struct Pending<'a> {
     depth: usize,
     // The index of the next sibling, while new groups come in the order of the old ones.
     next: usize,
-    // Whether a new group came in another order. Then `queues` has the unmatched siblings.
-    is_queued: bool,
-    queues: SiblingQueues<'a>,
+    // The queues of the unmatched siblings, after a new group came in another order. Few groups need queues, so these are
+    // on the heap.
+    queues: Option<Box<SiblingQueues<'a>>>,
     // Each queued index is that of a group.
-    ghost inside: { (s : GroupKey) (k i : ℕ) → slice_get (queue_of queues s) k ≡ Some i → i < length table.now.groups },
+    ghost inside: { (s : GroupKey) (k i : ℕ) → slice_get (indexes_in queues s) k ≡ Some i → i < length table.now.groups },
 }
 
 impl<'a> Pending<'a> {
     ghost use Rattle.composer.specs.Waiting.{waiting};
 
     // Returns the siblings at `depth` from the index `next` on.
-    fn at(alloc: Global, table: &'a Table, depth: usize, next: usize) -> Pending<'a>
+    fn at(table: &'a Table, depth: usize, next: usize) -> Pending<'a>
         ensures groups { result.table.now.groups ≡ table.now.groups }
         ensures depth { result.depth ≡ depth }
         ensures next { result.next ≡ next }
-        ensures ordered { result.is_queued ≡ false }
+        ensures ordered { is_some result.queues ≡ false }
     {
         Pending {
             table,
             depth,
             next,
-            is_queued: false,
-            queues: SiblingQueues::new(alloc),
+            queues: None,
         }
     }
 
     /// Returns no siblings, for the inside of a new group.
-    pub fn none(alloc: Global, table: &'a Table) -> Pending<'a>
+    pub fn none(table: &'a Table) -> Pending<'a>
         ensures { (s : GroupKey) → waiting result s ≡ [] }
     {
-        Pending::at(alloc, table, 0, table.len())
+        Pending::at(table, 0, table.len())
     }
 
     /// Returns the groups directly inside `old`.
-    pub fn inside(alloc: Global, old: &OldGroup<'a>) -> Pending<'a>
+    pub fn inside(old: &OldGroup<'a>) -> Pending<'a>
         ensures { (s : GroupKey) → waiting result s ≡ inner_siblings old.now s }
     {
         let depth = old.depth() as usize;
         let _length = old.table().len();
-        Pending::at(alloc, old.table(), depth + 1, old.index() + 1)
+        Pending::at(old.table(), depth + 1, old.index() + 1)
     }
 
     /// Returns the groups directly inside `found`, which a new group is matched with, or no siblings if there is no such
     /// group.
-    pub fn inside_found(
-        alloc: Global,
-        table: &'a Table,
-        found: &Option<OldGroup<'a>>,
-    ) -> Pending<'a>
+    pub fn inside_found(table: &'a Table, found: &Option<OldGroup<'a>>) -> Pending<'a>
         ensures { (s : GroupKey) → waiting result s ≡ found_siblings found.now s }
     {
         match found {
-            None => Pending::none(alloc, table),
-            Some(old) => Pending::inside(alloc, old),
+            None => Pending::none(table),
+            Some(old) => Pending::inside(old),
         }
     }
 
@@ -89,7 +85,7 @@ impl<'a> Pending<'a> {
         ensures left { OnOk result ((s : GroupKey) → waiting self.new s
             ≡ (if same_sibling key.now s then drop 1 (waiting self.old s) else waiting self.old s)) }
     {
-        if !self.is_queued {
+        if self.queues.is_none() {
             if !is_level(self.table, self.depth, self.next) {
                 return Ok(None);
             }
@@ -103,7 +99,7 @@ impl<'a> Pending<'a> {
 
     // Removes and returns the next sibling.
     fn take_next(&mut self) -> OldGroup<'a>
-        requires ordered { self.old.is_queued ≡ false }
+        requires ordered { is_some self.old.queues ≡ false }
         requires level { is_group_at self.old.table.now.groups self.old.depth self.old.next ≡ true }
         ensures group { result ≡ record { groups = self.old.table.now.groups; index = self.old.next } }
         ensures found { (s : GroupKey) → same_sibling (sibling_key (group_at self.old.table.now.groups self.old.next)) s ≡ true →
@@ -119,26 +115,40 @@ impl<'a> Pending<'a> {
 
     // Puts the siblings from the next one on into queues.
     fn queue_siblings(&mut self, alloc: Global) -> Result<(), NoMemory>
-        requires { self.old.is_queued ≡ false }
-        ensures queued { OnOk result (self.new.is_queued ≡ true) }
+        requires { is_some self.old.queues ≡ false }
+        ensures queued { OnOk result (is_some self.new.queues ≡ true) }
         ensures same { OnOk result ((s : GroupKey) → waiting self.new s ≡ waiting self.old s) }
     {
-        self.queues = queue_from(alloc, self.table, self.depth, self.next)?;
-        self.is_queued = true;
+        let queues = queue_from(alloc, self.table, self.depth, self.next)?;
+        self.queues = Some(Box::new(alloc, queues)?);
         Ok(())
     }
 
     // Removes and returns the first queued sibling with the site and the key of `key`.
     fn take_queued(&mut self, key: &SiblingKey) -> Option<OldGroup<'a>>
-        requires { self.old.is_queued ≡ true }
+        requires { is_some self.old.queues ≡ true }
         ensures found { result ≡ slice_get (waiting self.old key.now) 0 }
         ensures left { (s : GroupKey) → waiting self.new s
             ≡ (if same_sibling key.now s then drop 1 (waiting self.old s) else waiting self.old s) }
     {
-        match self.queues.take(key) {
+        match take_index(&mut self.queues, key) {
             Some(index) => Some(OldGroup::new(self.table, index)),
             None => None,
         }
+    }
+}
+
+// Removes and returns the index of the first queued sibling with the site and the key of `key`.
+fn take_index(queues: &mut Option<Box<SiblingQueues>>, key: &SiblingKey) -> Option<usize>
+    requires { is_some queues.old ≡ true }
+    ensures same { is_some queues.new ≡ true }
+    ensures found { result ≡ slice_get (indexes_in queues.old key.now) 0 }
+    ensures left { (s : GroupKey) → indexes_in queues.new s
+        ≡ (if same_sibling key.now s then drop 1 (indexes_in queues.old s) else indexes_in queues.old s) }
+{
+    match queues {
+        Some(queues) => queues.take(key),
+        None => unreachable!(),
     }
 }
 

@@ -9,15 +9,15 @@ ghost use Rattle.slot_table.specs.ReaderStates.{group_key};
 ghost use Rattle.composer.specs.ComposerState.{one_if};
 ghost use Rattle.composer.specs.OldSiblings.{old_group};
 ghost use Rattle.composer.specs.QuietRuns.{group_run};
-ghost use Rattle.composer.specs.WrittenGroups.{group_kind, number_for, enter_group, with_call, written_kept, written_run, draft_of, is_node as node, nodes_in, IsCellOf};
+ghost use Rattle.composer.specs.WrittenGroups.{group_kind, arguments_of, AreArguments, first_reads, number_for, enter_group, with_call, running_call, written_kept, written_run, draft_of, is_node as node, nodes_in, IsCellOf};
 
-use crate::compared::{has_other_keys, is_same_key, is_same_node};
+use crate::compared::{has_other_keys, is_same_key, is_same_node, same_reads};
 use crate::draft::Draft;
 use crate::old_groups::OldGroup;
 use crate::stop::ComposeStop;
 use lang_meaning::Env;
-use rt_groups::{Attribute, Attributes, Deps, Group, GroupKind, Report};
-use rt_values::{NoMemory, Value, Word};
+use rt_groups::{Attribute, Attributes, Deps, Group, GroupKind, Report, Values};
+use rt_values::{NoMemory, ObjectNo, Value, Word};
 use slot_table::{SharedGroup, Table, TableBuilder};
 use std::alloc::Global;
 use std::marker::Model;
@@ -45,6 +45,40 @@ impl<'a> NewKind<'a> {
         match self {
             NewKind::Key(value) => Some(value),
             NewKind::Node { .. } => None,
+        }
+    }
+}
+
+/// The arguments of a call that runs.
+#[derive(Drop)]
+pub enum CallArguments<'a> {
+    /// New arguments.
+    New(Values),
+    /// The arguments of the old call that the new call is matched with.
+    Old(&'a Values),
+}
+
+impl<'a> CallArguments<'a> {
+    /// Returns the arguments.
+    pub fn values(&self) -> &Values
+        ensures { result.now ≡ arguments_of self.now }
+    {
+        match self {
+            CallArguments::New(values) => values,
+            CallArguments::Old(values) => values,
+        }
+    }
+
+    /// Returns the reads that the group of the call has until the call ends: those of `found` if the group shares its slots.
+    pub fn first_reads<'b>(&self, found: &Option<OldGroup<'b>>) -> &'b [ObjectNo]
+        ensures { result.now ≡ first_reads self.now found.now }
+    {
+        match self {
+            CallArguments::New(_) => &[],
+            CallArguments::Old(_) => match found {
+                Some(old) => old.reads(),
+                None => &[],
+            },
         }
     }
 }
@@ -229,6 +263,76 @@ impl Writer {
         Ok(())
     }
 
+    /// Appends the group of a call that runs and is matched with `found`. The group shares the slots of `found`, with the
+    /// reads of the last frame, if the arguments are those of `found`. Else it has no reads. `end_call` sets its reads.
+    pub fn enter_running(
+        &mut self,
+        alloc: Global,
+        depth: u32,
+        site: u32,
+        function: usize,
+        arguments: CallArguments,
+        found: &Option<OldGroup>,
+    ) -> Result<(), ComposeStop>
+        requires room { length self.old.groups ≤ most_groups }
+        requires arguments { AreArguments function arguments found.now }
+        ensures added { OnOk result (self.new ≡ running_call depth site (kinds.Call function (arguments_of arguments.entry)) (first_reads arguments.entry found.now) self.old) }
+        ensures fits { OnOk result (length self.new.groups ≤ most_groups) }
+        ensures full { result ≡ Err ComposeStop.TooManyGroups → length self.old.groups ≡ most_groups }
+    {
+        match arguments {
+            CallArguments::New(arguments) => {
+                let call = GroupKind::Call {
+                    function,
+                    arguments,
+                };
+                self.enter_call(alloc, depth, site, call, true)
+            }
+            CallArguments::Old(_) => match found {
+                Some(old) => self.enter_again(depth, site, old),
+                None => unreachable!(),
+            },
+        }
+    }
+
+    /// Appends the group of a call that runs and has no body, without reads. It is matched with `found`.
+    #[tactic(auto, using(rt_groups::proofs::ReplacedItems::set_seam, rt_groups::proofs::ReplacedItems::got_seam))]
+    pub fn enter_empty(
+        &mut self,
+        alloc: Global,
+        depth: u32,
+        site: u32,
+        function: usize,
+        arguments: CallArguments,
+        found: &Option<OldGroup>,
+    ) -> Result<(), ComposeStop>
+        requires room { length self.old.groups ≤ most_groups }
+        requires arguments { AreArguments function arguments found.now }
+        ensures added { OnOk result (self.new ≡ with_call depth site (kinds.Call function (arguments_of arguments.entry)) true self.old) }
+        ensures fits { OnOk result (length self.new.groups ≤ most_groups) }
+        ensures full { result ≡ Err ComposeStop.TooManyGroups → length self.old.groups ≡ most_groups }
+    {
+        let place = self.groups.len();
+        self.enter_running(alloc, depth, site, function, arguments, found)?;
+        self.groups.set_reads(alloc, place, Deps::new(alloc))?;
+        Ok(())
+    }
+
+    // Appends the group of an old call that runs again. It shares the slots of `old`.
+    fn enter_again(&mut self, depth: u32, site: u32, old: &OldGroup) -> Result<(), ComposeStop>
+        requires { length self.old.groups ≤ most_groups }
+        ensures added { OnOk result (self.new ≡ running_call depth site (old_group old.now).what (old_group old.now).reads self.old) }
+        ensures fits { OnOk result (length self.new.groups ≤ most_groups) }
+        ensures full { result ≡ Err ComposeStop.TooManyGroups → length self.old.groups ≡ most_groups }
+    {
+        let Some(ran) = self.ran.checked_add(1) else {
+            return Err(ComposeStop::NoMemory); // There are fewer calls than groups.
+        };
+        self.push(old.share()?.placed(depth, site, 0))?;
+        self.ran = ran;
+        Ok(())
+    }
+
     /// Appends an old group that is kept, with its number and its reads.
     pub fn keep(&mut self, group: SharedGroup) -> Result<(), ComposeStop>
         requires { length self.old.groups ≤ most_groups }
@@ -260,13 +364,20 @@ impl Writer {
         Ok(table.share_run(from, to, &mut self.groups)?)
     }
 
-    /// Gives the call at index `place`, which ran, its own reads, and counts them.
+    /// Gives the call at index `place`, which ran, its own reads, and counts them. `first` has the reads of its group so
+    /// far, which stay if they are equal: other tables share them.
     #[tactic(auto, using(rt_groups::proofs::ReplacedItems::set_seam, rt_groups::proofs::ReplacedItems::got_seam))]
-    pub fn end_call(&mut self, alloc: Global, place: usize, own: Deps) -> Result<(), NoMemory>
+    pub fn end_call(
+        &mut self,
+        alloc: Global,
+        place: usize,
+        first: &[ObjectNo],
+        own: Deps,
+    ) -> Result<(), NoMemory>
         requires { place < length self.old.groups }
         ensures len { OnOk result (length self.new.groups ≡ length self.old.groups) }
         ensures groups { (before after : List group_data) (g : group_data) →
-            length before ≡ place → self.old.groups ≡ before ++ (g ∷ after) →
+            length before ≡ place → self.old.groups ≡ before ++ (g ∷ after) → g.reads ≡ first.now →
             OnOk result (self.new.groups ≡ before ++ (flat_group g.depth g.site g.number g.what own ∷ after)) }
         ensures next { OnOk result (self.new.next ≡ self.old.next) }
         ensures ran { OnOk result (self.new.ran ≡ self.old.ran) }
@@ -276,7 +387,9 @@ impl Writer {
         let Some(reads) = self.reads.checked_add(own.numbers().len() as u64) else {
             return Err(NoMemory); // No memory holds so many reads.
         };
-        self.groups.set_reads(alloc, place, own)?;
+        if !same_reads(first, own.numbers()) {
+            self.groups.set_reads(alloc, place, own)?;
+        }
         self.reads = reads;
         Ok(())
     }

@@ -16,7 +16,7 @@ use Rattle.lang_ast.specs.ResultsWithReads.{Reading}
 use Rattle.lang_ast.specs.Terms.{Func}
 use Rattle.lang_ast.specs.Evaluation.{new_binding, eval, eval_named}
 use Rattle.lang_ast.specs.SyntaxView.{expr_view, nameds_view, stmt_view, stmts_view, functions_view}
-use Rattle.compose_model.specs.Composing.{attribute, meaning_at, meanings}
+use Rattle.compose_model.specs.Composing.{attribute, bind, meaning_at, meanings}
 use Rattle.lang_meaning.specs.ComposesForest.{statement_forest, body_forest, call_forest, loop_forest}
 use Rattle.lang_meaning.proofs.Sizes.{size_at, falls_at}
 use Rattle.lang_meaning.proofs.StatementCases.{all_at, all_end}
@@ -27,9 +27,9 @@ use Rattle.composer.specs.Comparisons.{call_runs}
 use Rattle.composer.specs.OldSiblings.{KeyInfo, old_group}
 use Rattle.composer.specs.OldGroups.{Alike, SameGroup, Fits}
 use Rattle.composer.specs.declared.pending.Pending.{Pending}
-use Rattle.composer.specs.ComposerState.{composed_beside, skipped_groups, skipped_inside, run_beside}
-use Rattle.composer.specs.BesideContracts.{Reaches, IsOldPart}
-use Rattle.composer.specs.WrittenGroups.{WrittenGroups, state_of, kept_of, group_kind}
+use Rattle.composer.specs.ComposerState.{composed_beside, skipped_groups, skipped_inside}
+use Rattle.composer.specs.BesideContracts.{IsOldPart}
+use Rattle.composer.specs.WrittenGroups.{WrittenGroups, state_of, kept_of, group_kind, arguments_of, first_reads}
 use Rattle.composer.specs.Recomposes.{ComposesBeside, is_call_kept}
 use Rattle.composer.proofs.BesideCases.{node_beside, call_beside, key_beside, choice_beside, loop_beside, binding_beside, remember_beside, node_calculates, key_calculates, then_calculates, else_calculates, loop_calculates, binding_calculates, cell_calculates, remember_calculates}
 use Rattle.composer.proofs.Machine.{same_state}
@@ -37,7 +37,7 @@ use Rattle.composer.proofs.Reaching.{reached_stop, reached_full, reached_at}
 use Rattle.composer.proofs.BesideSteps.{beside_stop_here, beside_stop_after, beside_after, beside_full, beside_group, beside_alone, beside_cell, beside_run, going_first, going_more, going_done, going_stop, beside_err, beside_first, beside_second}
 use Rattle.composer.proofs.OldParts.{inside_old}
 use Rattle.composer.proofs.OldMatches.{fits_inside}
-use Rattle.composer.proofs.Matching.{matched, key_is, matched_state, container_is_no_call, kept_is_calculated, entered_longer, call_longer, kept_longer, at_now, beside_now, beside_inside}
+use Rattle.composer.proofs.Matching.{matched, key_is, matched_state, container_is_no_call, kept_is_calculated, entered_longer, call_longer, running_longer, kept_longer, at_now, beside_now, beside_inside}
 use Rattle.composer.proofs.Comparisons.{call_runs_kept}
 use Rattle.composer.proofs.CalledFunctions.{how_many_functions, slice_is, since_slice, statement_calculates, body_calculates, body_is, body_none}
 use Rattle.composer.proofs.SkippedCalls.{skips, skips_as}
@@ -813,42 +813,42 @@ pub run_body-returns-then-function-level : goal.run_body-returns-then-function-l
 run_body-returns-then-function-level g t c = record {
   keeps = search (rules, g.met.V.View.keeps_on, g.met.V.View.keeps_itself);
   same = search rules;
-  longer = call_longer _ _ _ true _ _ c.in_ok-enter_call.ensures.added;
-  fits = c.in_ok-enter_call.ensures.fits;
-  counted = λ m h. let e = ap (λ (q : WrittenGroups). q.reads) c.in_ok-enter_call.ensures.added in omega (arith, e);
+  longer = call_longer _ _ _ true _ _ c.in_ok-enter_empty.ensures.added;
+  fits = c.in_ok-enter_empty.ensures.fits;
+  counted = λ m h. let e = ap (λ (q : WrittenGroups). q.reads) c.in_ok-enter_empty.ensures.added in omega (arith, e);
   ran = λ m h l there mine since part like.
-      let none = body_none m c.args.level.now.functions.now c.args.function c.args.arguments (omega arith) in
+      let none = body_none m c.args.level.now.functions.now c.args.function (arguments_of c.args.arguments) (omega arith) in
       record {
-        all = call_alone c.args.level.now.owed.now.objects (inside_of there) None c.args.level.now.depth c.args.site c.args.function c.args.arguments true (meaning_at (meanings m (functions_view c.args.level.now.functions.now)) c.args.function c.args.arguments) c.args.writer.now c.enter_call.new.self (g.V.View.asked c.args.view.now) mine none c.in_ok-enter_call.ensures.added;
+        all = call_alone c.args.level.now.owed.now.objects (inside_of there) None c.args.level.now.depth c.args.site c.args.function (arguments_of c.args.arguments) true (meaning_at (meanings m (functions_view c.args.level.now.functions.now)) c.args.function (arguments_of c.args.arguments)) c.args.writer.now c.enter_empty.new.self (g.V.View.asked c.args.view.now) mine none c.in_ok-enter_empty.ensures.added;
         part = tt;
         many = λ y. cc;
       };
 }
 
-pub run_body-returns-in_err-enter_call : goal.run_body-returns-in_err-enter_call
-run_body-returns-in_err-enter_call g t c = record {
+pub run_body-returns-in_err-enter_empty : goal.run_body-returns-in_err-enter_empty
+run_body-returns-in_err-enter_empty g t c = record {
   keeps = search (rules, g.met.V.View.keeps_on, g.met.V.View.keeps_itself);
   same = search rules;
   longer = search rules;
   fits = search rules;
   counted = λ m h. search rules;
   ran = λ m h l there mine since part like.
-      let one = longer_ran c.args.level.now.owed.now.objects (inside_of there) c.args.level.now.depth c.args.site c.args.function c.args.arguments (meaning_at (meanings m (functions_view c.args.level.now.functions.now)) c.args.function c.args.arguments) (state_of c.args.writer.now (g.V.View.asked c.args.view.now) mine) in
+      let one = longer_ran c.args.level.now.owed.now.objects (inside_of there) c.args.level.now.depth c.args.site c.args.function (arguments_of c.args.arguments) (meaning_at (meanings m (functions_view c.args.level.now.functions.now)) c.args.function (arguments_of c.args.arguments)) (state_of c.args.writer.now (g.V.View.asked c.args.view.now) mine) in
       reached_full _ (search rules) (λ e. let full : length c.args.writer.now.groups ≡ most_groups = search rules in omega (arith, one, full))
-      (part_ran c.args.level.now.owed.now.objects (inside_of there) c.args.level.now.depth c.args.site c.args.function c.args.arguments (meaning_at (meanings m (functions_view c.args.level.now.functions.now)) c.args.function c.args.arguments) (state_of c.args.writer.now (g.V.View.asked c.args.view.now) mine));
+      (part_ran c.args.level.now.owed.now.objects (inside_of there) c.args.level.now.depth c.args.site c.args.function (arguments_of c.args.arguments) (meaning_at (meanings m (functions_view c.args.level.now.functions.now)) c.args.function (arguments_of c.args.arguments)) (state_of c.args.writer.now (g.V.View.asked c.args.view.now) mine));
 }
 
-pub run_body-returns-in_err-enter_call-2 : goal.run_body-returns-in_err-enter_call-2
-run_body-returns-in_err-enter_call-2 g t c = record {
+pub run_body-returns-in_err-enter_running : goal.run_body-returns-in_err-enter_running
+run_body-returns-in_err-enter_running g t c = record {
   keeps = search (rules, g.met.V.View.keeps_on, g.met.V.View.keeps_itself);
   same = search rules;
   longer = search rules;
   fits = search rules;
   counted = λ m h. search rules;
   ran = λ m h l there mine since part like.
-      let one = longer_ran c.args.level.now.owed.now.objects (inside_of there) c.args.level.now.depth c.args.site c.args.function c.args.arguments (meaning_at (meanings m (functions_view c.args.level.now.functions.now)) c.args.function c.args.arguments) (state_of c.args.writer.now (g.V.View.asked c.args.view.now) mine) in
+      let one = longer_ran c.args.level.now.owed.now.objects (inside_of there) c.args.level.now.depth c.args.site c.args.function (arguments_of c.args.arguments) (meaning_at (meanings m (functions_view c.args.level.now.functions.now)) c.args.function (arguments_of c.args.arguments)) (state_of c.args.writer.now (g.V.View.asked c.args.view.now) mine) in
       reached_full _ (search rules) (λ e. let full : length c.args.writer.now.groups ≡ most_groups = search rules in omega (arith, one, full))
-      (part_ran c.args.level.now.owed.now.objects (inside_of there) c.args.level.now.depth c.args.site c.args.function c.args.arguments (meaning_at (meanings m (functions_view c.args.level.now.functions.now)) c.args.function c.args.arguments) (state_of c.args.writer.now (g.V.View.asked c.args.view.now) mine));
+      (part_ran c.args.level.now.owed.now.objects (inside_of there) c.args.level.now.depth c.args.site c.args.function (arguments_of c.args.arguments) (meaning_at (meanings m (functions_view c.args.level.now.functions.now)) c.args.function (arguments_of c.args.arguments)) (state_of c.args.writer.now (g.V.View.asked c.args.view.now) mine));
 }
 
 pub run_body-returns-in_err-scope : goal.run_body-returns-in_err-scope
@@ -860,14 +860,14 @@ run_body-returns-in_err-scope g t c = record {
   counted = λ m h. search rules;
   ran = λ m h l there mine since part like.
       let e : c.from_residual-in_err-scope.result ≡ Err NoMemory = search rules in
-      reached_stop _ e (part_ran c.args.level.now.owed.now.objects (inside_of there) c.args.level.now.depth c.args.site c.args.function c.args.arguments (meaning_at (meanings m (functions_view c.args.level.now.functions.now)) c.args.function c.args.arguments) (state_of c.args.writer.now (g.V.View.asked c.args.view.now) mine));
+      reached_stop _ e (part_ran c.args.level.now.owed.now.objects (inside_of there) c.args.level.now.depth c.args.site c.args.function (arguments_of c.args.arguments) (meaning_at (meanings m (functions_view c.args.level.now.functions.now)) c.args.function (arguments_of c.args.arguments)) (state_of c.args.writer.now (g.V.View.asked c.args.view.now) mine));
 }
 
 pub run_body-run_all-requires : goal.run_body-run_all-requires
 run_body-run_all-requires g t c κs w =
     let body : c.deref-2.result.now ≡ c.index-level-function.result.body.items = c.deref-2.ensures.value ∙ sym (ap (λ (q : Function). q.body.items) c.index-level-function.is) in
     let h = falls_at c.args.level.now.functions.now c.args.function c.index-level-function.result c.deref-2.result.now (omega arith) c.index-level-function.is body in
-    let long = ap (λ (q : WrittenGroups). length q.groups) c.in_ok-enter_call-2.ensures.added ∙ length-append c.args.writer.now.groups _ in
+    let long = ap (λ (q : WrittenGroups). length q.groups) c.in_ok-enter_running.ensures.added ∙ length-append c.args.writer.now.groups _ in
     search rules
 
 pub run_body-returns-in_err-run_all : goal.run_body-returns-in_err-run_all
@@ -881,16 +881,16 @@ run_body-returns-in_err-run_all g t c = record {
       let below : c.args.function < length c.args.level.now.functions.now = omega arith in
       let slice : c.deref-2.result.now ≡ c.index-level-function.result.body.items = c.deref-2.ensures.value ∙ sym (ap (λ (q : Function). q.body.items) c.index-level-function.is) in
       let names : c.deref.result.now ≡ c.index-level-function.result.parameters.items = c.deref.ensures.value ∙ sym (ap (λ (q : Function). q.parameters.items) c.index-level-function.is) in
-      let body = body_is m c.args.level.now.functions.now c.args.function c.args.arguments c.index-level-function.result c.deref-2.result.now c.deref.result.now c.in_ok-scope.scope
-      below c.index-level-function.is slice names c.in_ok-scope.ensures in
+      let body = body_is m c.args.level.now.functions.now c.args.function (arguments_of c.args.arguments) c.index-level-function.result c.deref-2.result.now c.deref.result.now c.in_ok-scope.scope
+      below c.index-level-function.is slice names (c.in_ok-scope.ensures ∙ ap (λ (vs : List Value). bind c.deref.result.now vs) c.values.ensures) in
       let calc = body_calculates c.args.level.now.functions.now c.args.function c.index-level-function.result c.deref-2.result.now since below c.index-level-function.is slice in
       let fits = fits_inside c.args.level.now.depth c.inside_found-pending.result c.args.found.now there c.inside_found-pending.ensures like in
       let r = c.in_err-run_all.ensures.ran m (record { last = l; old = inside_of there; seen = [] }) h (record { since = since_slice c.args.level.now.functions.now _ c.args.function refl since; part = part; fits = fits }) calc in
-      let start : c.replace-taken.result ≡ c.enter_call-2.new.self = search rules in
+      let start : c.replace-taken.result ≡ c.enter_running.new.self = search rules in
       let at = reached_at (ap (λ (tr : GroupForest). composed_beside c.args.level.now.owed.now.objects (inside_of there) (c.args.level.now.depth + 1) true [] tr (state_of c.replace-taken.result (g.V.View.asked c.args.view.now) c.new-reads.result)) (sym body)) r.reached in
-      let entered_is = start ∙ c.in_ok-enter_call-2.ensures.added in
+      let entered_is = start ∙ c.in_ok-enter_running.ensures.added in
       let e : c.from_residual-in_err-run_all.result ≡ Err c.in_err-run_all.field-0.0 = search rules in
-      body_stop c.args.level.now.owed.now.objects (inside_of there) c.args.level.now.depth c.args.site c.args.function c.args.arguments (meaning_at (meanings m (functions_view c.args.level.now.functions.now)) c.args.function c.args.arguments) c.args.writer.now c.replace-taken.result c.run_all.new.made.writer (g.V.View.asked c.args.view.now) (g.V.View.asked c.run_all.new.view) mine c.run_all.new.made.reads c.new-reads.result _ _
+      body_stop c.args.level.now.owed.now.objects (inside_of there) c.args.level.now.depth c.args.site c.args.function (arguments_of c.args.arguments) (meaning_at (meanings m (functions_view c.args.level.now.functions.now)) c.args.function (arguments_of c.args.arguments)) c.args.writer.now c.replace-taken.result c.run_all.new.made.writer (g.V.View.asked c.args.view.now) (g.V.View.asked c.run_all.new.view) mine c.run_all.new.made.reads c.new-reads.result (first_reads c.args.arguments c.args.found.now) _ _
       c.new-reads.ensures entered_is at e refl;
 }
 
@@ -905,55 +905,43 @@ run_body-returns-in_err-end_call g t c = record {
       let below : c.args.function < length c.args.level.now.functions.now = omega arith in
       let slice : c.deref-2.result.now ≡ c.index-level-function.result.body.items = c.deref-2.ensures.value ∙ sym (ap (λ (q : Function). q.body.items) c.index-level-function.is) in
       let names : c.deref.result.now ≡ c.index-level-function.result.parameters.items = c.deref.ensures.value ∙ sym (ap (λ (q : Function). q.parameters.items) c.index-level-function.is) in
-      let body = body_is m c.args.level.now.functions.now c.args.function c.args.arguments c.index-level-function.result c.deref-2.result.now c.deref.result.now c.in_ok-scope.scope
-      below c.index-level-function.is slice names c.in_ok-scope.ensures in
+      let body = body_is m c.args.level.now.functions.now c.args.function (arguments_of c.args.arguments) c.index-level-function.result c.deref-2.result.now c.deref.result.now c.in_ok-scope.scope
+      below c.index-level-function.is slice names (c.in_ok-scope.ensures ∙ ap (λ (vs : List Value). bind c.deref.result.now vs) c.values.ensures) in
       let calc = body_calculates c.args.level.now.functions.now c.args.function c.index-level-function.result c.deref-2.result.now since below c.index-level-function.is slice in
       let fits = fits_inside c.args.level.now.depth c.inside_found-pending.result c.args.found.now there c.inside_found-pending.ensures like in
       let r = c.in_ok-run_all.ensures.ran m (record { last = l; old = inside_of there; seen = [] }) h (record { since = since_slice c.args.level.now.functions.now _ c.args.function refl since; part = part; fits = fits }) calc in
-      let start : c.replace-taken.result ≡ c.enter_call-2.new.self = search rules in
+      let start : c.replace-taken.result ≡ c.enter_running.new.self = search rules in
       let at = reached_at (ap (λ (tr : GroupForest). composed_beside c.args.level.now.owed.now.objects (inside_of there) (c.args.level.now.depth + 1) true [] tr (state_of c.replace-taken.result (g.V.View.asked c.args.view.now) c.new-reads.result)) (sym body)) r.reached in
-      let entered_is = start ∙ c.in_ok-enter_call-2.ensures.added in
+      let entered_is = start ∙ c.in_ok-enter_running.ensures.added in
       let e : c.from_residual-in_err-end_call.result ≡ Err NoMemory = search rules in
-      reached_stop _ e (body_part c.args.level.now.owed.now.objects (inside_of there) c.args.level.now.depth c.args.site c.args.function c.args.arguments (meaning_at (meanings m (functions_view c.args.level.now.functions.now)) c.args.function c.args.arguments) c.args.writer.now c.replace-taken.result c.run_all.new.made.writer (g.V.View.asked c.args.view.now) (g.V.View.asked c.run_all.new.view) mine c.run_all.new.made.reads c.new-reads.result c.new-reads.ensures entered_is at);
+      reached_stop _ e (body_part c.args.level.now.owed.now.objects (inside_of there) c.args.level.now.depth c.args.site c.args.function (arguments_of c.args.arguments) (meaning_at (meanings m (functions_view c.args.level.now.functions.now)) c.args.function (arguments_of c.args.arguments)) c.args.writer.now c.replace-taken.result c.run_all.new.made.writer (g.V.View.asked c.args.view.now) (g.V.View.asked c.run_all.new.view) mine c.run_all.new.made.reads c.new-reads.result (first_reads c.args.arguments c.args.found.now) c.new-reads.ensures entered_is at);
 }
 
 pub run_body-returns : goal.run_body-returns
 run_body-returns g t c = record {
   keeps = c.in_ok-run_all.ensures.keeps;
   same = c.in_ok-run_all.ensures.same;
-  longer = let start : c.replace-taken.result ≡ c.enter_call-2.new.self = search rules in let a = ap (λ (q : WrittenGroups). length q.groups) start in let e = call_longer _ _ _ true _ _ c.in_ok-enter_call-2.ensures.added in omega (arith, a, e, c.in_ok-run_all.ensures.longer, c.in_ok-end_call.ensures.len);
+  longer = let start : c.replace-taken.result ≡ c.enter_running.new.self = search rules in let a = ap (λ (q : WrittenGroups). length q.groups) start in let e = running_longer _ _ _ _ _ _ c.in_ok-enter_running.ensures.added in omega (arith, a, e, c.in_ok-run_all.ensures.longer, c.in_ok-end_call.ensures.len);
   fits = let e = c.in_ok-end_call.ensures.len in omega (arith, e, c.in_ok-run_all.ensures.fits);
-  counted = λ m h. let start : c.replace-taken.result ≡ c.enter_call-2.new.self = search rules in let a = ap (λ (q : WrittenGroups). q.reads) (start ∙ c.in_ok-enter_call-2.ensures.added) in let n = ap (λ (l : List ℕ). length l) c.new-reads.ensures in let f = c.in_ok-run_all.ensures.counted m h in let e = c.in_ok-end_call.ensures.reads in omega (arith, a, n, e, f);
+  counted = λ m h. let start : c.replace-taken.result ≡ c.enter_running.new.self = search rules in let a = ap (λ (q : WrittenGroups). q.reads) (start ∙ c.in_ok-enter_running.ensures.added) in let n = ap (λ (l : List ℕ). length l) c.new-reads.ensures in let f = c.in_ok-run_all.ensures.counted m h in let e = c.in_ok-end_call.ensures.reads in omega (arith, a, n, e, f);
   ran = λ m h l there mine since part like.
       let below : c.args.function < length c.args.level.now.functions.now = omega arith in
       let slice : c.deref-2.result.now ≡ c.index-level-function.result.body.items = c.deref-2.ensures.value ∙ sym (ap (λ (q : Function). q.body.items) c.index-level-function.is) in
       let names : c.deref.result.now ≡ c.index-level-function.result.parameters.items = c.deref.ensures.value ∙ sym (ap (λ (q : Function). q.parameters.items) c.index-level-function.is) in
-      let body = body_is m c.args.level.now.functions.now c.args.function c.args.arguments c.index-level-function.result c.deref-2.result.now c.deref.result.now c.in_ok-scope.scope
-      below c.index-level-function.is slice names c.in_ok-scope.ensures in
+      let body = body_is m c.args.level.now.functions.now c.args.function (arguments_of c.args.arguments) c.index-level-function.result c.deref-2.result.now c.deref.result.now c.in_ok-scope.scope
+      below c.index-level-function.is slice names (c.in_ok-scope.ensures ∙ ap (λ (vs : List Value). bind c.deref.result.now vs) c.values.ensures) in
       let calc = body_calculates c.args.level.now.functions.now c.args.function c.index-level-function.result c.deref-2.result.now since below c.index-level-function.is slice in
       let fits = fits_inside c.args.level.now.depth c.inside_found-pending.result c.args.found.now there c.inside_found-pending.ensures like in
       let r = c.in_ok-run_all.ensures.ran m (record { last = l; old = inside_of there; seen = [] }) h (record { since = since_slice c.args.level.now.functions.now _ c.args.function refl since; part = part; fits = fits }) calc in
-      let start : c.replace-taken.result ≡ c.enter_call-2.new.self = search rules in
+      let start : c.replace-taken.result ≡ c.enter_running.new.self = search rules in
       let at = reached_at (ap (λ (tr : GroupForest). composed_beside c.args.level.now.owed.now.objects (inside_of there) (c.args.level.now.depth + 1) true [] tr (state_of c.replace-taken.result (g.V.View.asked c.args.view.now) c.new-reads.result)) (sym body)) r.reached in
-      let entered_is = start ∙ c.in_ok-enter_call-2.ensures.added in
-      body_done c.args.level.now.owed.now.objects (inside_of there) c.args.level.now.depth c.args.site c.args.function c.args.arguments (meaning_at (meanings m (functions_view c.args.level.now.functions.now)) c.args.function c.args.arguments) c.args.writer.now c.replace-taken.result c.run_all.new.made.writer c.end_call.new.self (g.V.View.asked c.args.view.now) (g.V.View.asked c.run_all.new.view) mine c.run_all.new.made.reads c.new-reads.result
+      let entered_is = start ∙ c.in_ok-enter_running.ensures.added in
+      body_done c.args.level.now.owed.now.objects (inside_of there) c.args.level.now.depth c.args.site c.args.function (arguments_of c.args.arguments) (meaning_at (meanings m (functions_view c.args.level.now.functions.now)) c.args.function (arguments_of c.args.arguments)) c.args.writer.now c.replace-taken.result c.run_all.new.made.writer c.end_call.new.self (g.V.View.asked c.args.view.now) (g.V.View.asked c.run_all.new.view) mine c.run_all.new.made.reads c.new-reads.result (first_reads c.args.arguments c.args.found.now)
       c.new-reads.ensures entered_is at
-      (λ before behind y e is. c.in_ok-end_call.ensures.groups before behind y (e ∙ sym c.len-place.ensures) is) (c.in_ok-end_call.ensures.next, c.in_ok-end_call.ensures.ran, c.in_ok-end_call.ensures.calculated);
+      (λ before behind y e is reads. c.in_ok-end_call.ensures.groups before behind y (e ∙ sym c.len-place.ensures) is (reads ∙ sym c.first_reads-first.ensures)) (c.in_ok-end_call.ensures.next, c.in_ok-end_call.ensures.ran, c.in_ok-end_call.ensures.calculated);
 }
 
 -- Old groups that are skipped.
-
-pub skip_group-returns-in_err-arguments-in-Call : goal.skip_group-returns-in_err-arguments-in-Call
-skip_group-returns-in_err-arguments-in-Call g t c = record {
-  keeps = search (rules, g.met.V.View.keeps_on, g.met.V.View.keeps_itself);
-  same = search rules;
-  longer = search rules;
-  fits = search rules;
-  counted = λ m h. search rules;
-  ran = λ m h l f mine since part like.
-      let e : c.from_residual.result ≡ Err NoMemory = search rules in
-      reached_stop _ e (part_one m c.args.level.now.owed.now.objects (functions_view c.args.level.now.functions.now) c.args.level.now.depth c.args.site f (state_of c.args.writer.now (g.V.View.asked c.args.view.now) mine));
-}
 
 pub skip_group-returns-in-Node : goal.skip_group-returns-in-Node
 skip_group-returns-in-Node g t c = record {
@@ -996,9 +984,7 @@ skip_group-returns-then-meet g t c = record {
       let what_is = call_what f.what c.in-Call.function c.in-Call.arguments (sym (sym c.kind.ensures ∙ c.in-Call.is) ∙ like.kind) in
       let anew : is_owed c.args.level.now.owed.now.objects f.inside ≡ true = sym (owed_is c.args.level.now.depth c.args.old.now f c.in-Call.function c.in-Call.arguments c.args.level.now.owed.now.objects like what_is) ∙ sym (ap (λ l. meets l c.args.level.now.owed.now.objects) c.reads.ensures) ∙ sym c.meet.ensures ∙ c.if-meet.true in
       let r = c.run_body.ensures.ran m h l (Some f) mine since part (search rules) in
-      let same = c.in_ok-arguments-in-Call.ensures ∙ c.items.ensures in
-      let P : List Value → Type 0 = λ vs. Reaches (run_beside c.args.level.now.owed.now.objects f.inside c.args.level.now.depth c.args.site (Call c.in-Call.function vs) (meaning_at (meanings m (functions_view c.args.level.now.functions.now)) c.in-Call.function vs) (state_of c.args.writer.now (g.V.View.asked c.args.view.now) mine)) (state_of c.run_body.new.writer (g.V.View.asked c.run_body.new.view) mine) c.run_body.result in
-      reached_at (owed_call m c.args.level.now.owed.now.objects (functions_view c.args.level.now.functions.now) c.args.level.now.depth c.args.site f c.in-Call.function c.in-Call.arguments (state_of c.args.writer.now (g.V.View.asked c.args.view.now) mine) what_is anew) (subst P same r);
+      reached_at (owed_call m c.args.level.now.owed.now.objects (functions_view c.args.level.now.functions.now) c.args.level.now.depth c.args.site f c.in-Call.function c.in-Call.arguments (state_of c.args.writer.now (g.V.View.asked c.args.view.now) mine) what_is anew) r;
 }
 
 pub skip_group-returns-in_err-keep_group-in-Call : goal.skip_group-returns-in_err-keep_group-in-Call
