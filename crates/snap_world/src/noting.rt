@@ -115,7 +115,8 @@ pub fn set_noted(wrote: &mut Vec<Objects>, name: Name, more: Option<Objects>)
 
 /// Removes the objects that a snapshot wrote.
 pub fn clear_noted_objects(alloc: Global, wrote: &mut Vec<Objects>, name: Name)
-    ensures { (n : ℕ) → n ≢ name → slice_index_or wrote.new.items n [] ≡ slice_index_or wrote.old.items n [] }
+    ensures here { slice_index_or wrote.new.items name [] ≡ [] }
+    ensures others { (n : ℕ) → n ≢ name → slice_index_or wrote.new.items n [] ≡ slice_index_or wrote.old.items n [] }
 {
     if (name as usize) < wrote.len() {
         wrote[name as usize] = Objects::new(alloc);

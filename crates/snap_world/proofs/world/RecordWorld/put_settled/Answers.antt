@@ -94,7 +94,7 @@ invariant_of-self-2 g c =
       blank = λ n past.
           let other : n ≢ c.args.into = λ same. omega (arith, same, past, many, live_member ms c.args.into c.requires.above) in
           let outer : n ≢ c.args.name = λ same. omega (arith, same, past, many, live_member ms c.args.name c.requires.live) in
-          c.clear_noted_objects.ensures n outer ∙ c.set_noted.ensures.others n other ∙ c.fill.ensures.same n ∙ old.blank n (omega (arith, past, many));
+          c.clear_noted_objects.ensures.others n outer ∙ c.set_noted.ensures.others n other ∙ c.fill.ensures.same n ∙ old.blank n (omega (arith, past, many));
     }
 
 pub returns-clause-ok : goal.returns-clause-ok
@@ -140,9 +140,9 @@ returns-clause-ok g c =
       head = λ x noted. c.in-Ok-pad_all.ensures.head (λ y. entry_of_choice (choices y)) are x (omega (arith, within x noted, old.many)) (listed x noted);
       put = λ x noted. c.raise_noted.ensures.put x (omega (arith, within x noted, c.len.ensures, old.objects.ok.0)) (ap (λ (l : List ℕ). contains x l) wrote ∙ noted) ∙ ap (λ (i : ℕ). with_head_id i (chain_of c.pad_all.new.chains x)) id;
       left = λ x none. c.raise_noted.ensures.left x (ap (λ (l : List ℕ). contains x l) wrote ∙ none);
-      noted_into = λ x. ap (λ (l : List ℕ). contains x l) (c.clear_noted_objects.ensures into unlike ∙ c.set_noted.ensures.here ∙ ap (λ (l : List ℕ). unwrap_or c.in-Ok.more l) (c.fill.ensures.same into) ∙ more)
+      noted_into = λ x. ap (λ (l : List ℕ). contains x l) (c.clear_noted_objects.ensures.others into unlike ∙ c.set_noted.ensures.here ∙ ap (λ (l : List ℕ). unwrap_or c.in-Ok.more l) (c.fill.ensures.same into) ∙ more)
           ∙ merged (nat_lt 0 into) x settled before (h.noted name x) (is_changed (choices x)) (taken_is (λ y. is_changed (choices y)) settled kinds x ∙ ap (λ (l : List ℕ). contains x l && is_changed (choices x)) r.objects);
-      noted_others = λ n x one two. ap (λ (l : List ℕ). contains x l) (c.clear_noted_objects.ensures n one ∙ c.set_noted.ensures.others n two ∙ c.fill.ensures.same n);
+      noted_others = λ n x one two. ap (λ (l : List ℕ). contains x l) (c.clear_noted_objects.ensures.others n one ∙ c.set_noted.ensures.others n two ∙ c.fill.ensures.same n);
       stamps_count = c.stamp_settled.ensures.many;
       stamps_put = λ x root noted. c.stamp_settled.ensures.put root (λ y. entry_of_choice (choices y)) are x (omega (arith, within x noted, old.stamped)) (listed x noted);
       stamps_left = λ x out. elim out [
