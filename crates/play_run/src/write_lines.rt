@@ -1,5 +1,5 @@
 // Output of lines, each as one piece.
-ghost use Rattle.std.specs.Prelude.{◌≡◌, ◌≤◌, List, ℕ, Err};
+ghost use Rattle.std.specs.Prelude.{◌≡◌, ◌≢◌, ◌≤◌, List, ℕ, Err};
 ghost use Rattle.play_run.specs.RunPromise.{WritesBytes, FaultsAfter};
 
 use rt_streams::{Sink, write_all};
@@ -17,6 +17,7 @@ pub enum Stop {
 pub fn write_piece<K: Sink>(sink: &mut K, line: &[u8]) -> Result<(), Stop>
     ensures says { WritesBytes (K.written sink.old) (K.written sink.new) line.now result }
     ensures faults { FaultsAfter (K.faults sink.old) (K.faults sink.new) result }
+    ensures cause { result ≢ Err Stop.NoMemory }
 {
     match write_all(sink, line) {
         Ok(()) => Ok(()),

@@ -403,6 +403,8 @@ impl<'p> Composition<'p> {
             IfOk result (λ r. Some r ≡ option_map (λ g. g.told) (frame_of (functions_of self.old.program.now) k m)) }
         ensures many { (k : LastFrame) (m : Map) → IsAt self.old k (Some m) → V.shows view.old m →
             result ≡ Err FrameStop.TooManyGroups → frame_of (functions_of self.old.program.now) k m ≡ None }
+        ensures not_spent { result ≡ Err FrameStop.Spent → ⊥ }
+        ensures no_fault { result ≡ Err FrameStop.ApplierFault → ⊥ }
         ensures err { OnErr result (self.new ≡ self.old) }
         ensures quiet { (k : LastFrame) (m : Map) → IsAt self.old k (Some m) → V.shows view.old m → OwesNoCall k m →
             OnOk result ((V.asked view.new ≡ V.asked view.old) × IsAt self.new (seen_again k m) (Some m)) }
@@ -447,6 +449,7 @@ impl<'p> Composition<'p> {
             IfOk result (λ r. Some r ≡ option_map (λ g. g.told) (frame_of (functions_of self.old.program.now) k m)) }
         ensures many { (k : LastFrame) (m : Map) → IsAt self.old k (Some m) → V.shows view.old m →
             result ≡ Err FrameStop.TooManyGroups → frame_of (functions_of self.old.program.now) k m ≡ None }
+        ensures not_spent { result ≡ Err FrameStop.Spent → ⊥ }
         ensures applied { (k : LastFrame) (m : Map) → IsAt self.old k (Some m) → V.shows view.old m →
             OnOk result (Applies (A.tree applier.old) (A.tree applier.new) self.new.ops k
             (frame_of (functions_of self.old.program.now) k m)) }

@@ -49,6 +49,7 @@ pub fn begin_among<W: Versions + Drop, R: Wait, G: Gate>(
     ensures few { result.2 ≡ Err FrameStop.TooManyGroups → ⊥ }
     ensures no_fault { result.2 ≡ Err FrameStop.ApplierFault → ⊥ }
     ensures err { OnErr result.2 (composition.new ≡ composition.old) }
+    ensures ops { composition.new.ops ≡ composition.old.ops }
     ensures program { composition.new.program ≡ composition.old.program }
     ensures watcher { composition.new.watcher ≡ composition.old.watcher }
 {
@@ -113,6 +114,8 @@ pub fn finish_among<W: Versions + Drop, R: Wait, G: Gate, A: Applier, L: Ledger>
     ensures err { UnlessFault (composition.new ≡ composition.old) result.2 }
     ensures still { UnlessFault (A.tree applier.new ≡ A.tree applier.old) result.2 }
     ensures cause { FaultHasCause (A.faults applier.old) (A.faults applier.new) result.2 }
+    ensures not_spent { result.2 ≡ Err FrameStop.Spent → ⊥ }
+    ensures lent { OnErr result.2 (composition.new.ops ≡ composition.old.ops) }
     ensures program { composition.new.program ≡ composition.old.program }
     ensures watcher { composition.new.watcher ≡ composition.old.watcher }
 {
@@ -148,6 +151,10 @@ pub fn frame_among<W: Versions + Drop, R: Wait, G: Gate, A: Applier, L: Ledger>(
         (LogsNoFrame composition.old.program.now k (Some (mine_of view.entry.seat)) (Some (mine_of result.0))
         (number_of view.entry.seat) composition.old.watcher)) }
     ensures cause { FaultHasCause (A.faults applier.old) (A.faults applier.new) result.2 }
+    ensures spent { (n : ℕ) → HasClock W.P.rules W.stands view.entry.shared.now view.entry.seat n →
+        StopsAtEnd (HasClock W.P.rules W.stands view.entry.shared.now result.0) n result.2 }
+    ensures still { UnlessFault (A.tree applier.new ≡ A.tree applier.old) result.2 }
+    ensures lent { OnErr result.2 (composition.new.ops ≡ composition.old.ops) }
     ensures program { composition.new.program ≡ composition.old.program }
     ensures watcher { composition.new.watcher ≡ composition.old.watcher }
 {
