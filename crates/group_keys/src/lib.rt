@@ -26,7 +26,7 @@ use rt_values::Value;
 use std::hash::{Hash, Hasher};
 use std::marker::Model;
 
-/// What identifies a group among its siblings, except for repeats: its site, and the value of a key group (`KeyInfo`).
+/// The identity of a group among its siblings, except for repeats: its site, and the value of a key group (`KeyInfo`).
 #[derive(Drop)]
 pub struct SiblingKey<'a> {
     site: u32,

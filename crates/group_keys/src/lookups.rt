@@ -12,7 +12,7 @@ use indexmap::Equivalent;
 use rt_values::Value;
 use std::hash::{Hash, Hasher};
 
-// What a map with `SiblingKey`s is searched for.
+// A key to search for in a map with `SiblingKey`s.
 #[derive(Drop, Clone, Copy)]
 pub struct Lookup<'k> {
     site: u32,

@@ -34,7 +34,8 @@ count-join k zero b =
 count-join k (suc a) b =
     let first : suc a + b ≡ suc (a + b) = omega arith in
     let e : (k + 1) + a ≡ k + suc a = omega arith in
-    ap (λ n. count_from k n) first ∙ ap (λ l. k ∷ l) (count-join (k + 1) a b ∙ ap (λ n. count_from (k + 1) a ++ count_from n b) e)
+    ap (λ n. count_from k n) first
+        ∙ ap (λ l. k ∷ l) (count-join (k + 1) a b ∙ ap (λ n. count_from (k + 1) a ++ count_from n b) e)
 
 next_index : (k : ℕ) (t : GroupForest) → (indexed_forest k t).1 ≡ k + how_many t
 next_index k End = omega arith
@@ -61,9 +62,11 @@ indexed_paths k seen End = refl
 indexed_paths k seen (Read x rest) = indexed_paths k seen rest
 indexed_paths k seen (Group site n what inside rest) =
     let here : PathStep = step site what seen in
-    let later : List Path = paths (sibling site what ∷ seen) (indexed_forest (indexed_forest (k + 1) inside).1 rest).0 in
+    let later : List Path = paths (sibling site what ∷ seen)
+        (indexed_forest (indexed_forest (k + 1) inside).1 rest).0 in
     ap (λ l. (here ∷ []) ∷ (map (λ p. here ∷ p) l ++ later)) (indexed_paths (k + 1) [] inside)
-    ∙ ap (λ l. (here ∷ []) ∷ (map (λ p. here ∷ p) (paths [] inside) ++ l)) (indexed_paths (indexed_forest (k + 1) inside).1 (sibling site what ∷ seen) rest)
+    ∙ ap (λ l. (here ∷ []) ∷ (map (λ p. here ∷ p) (paths [] inside) ++ l))
+        (indexed_paths (indexed_forest (k + 1) inside).1 (sibling site what ∷ seen) rest)
 
 -- An item of a list of counted numbers is its index from `k` on.
 counted : (k n i m : ℕ) → slice_get (count_from k n) i ≡ Some m → m ≡ k + i
@@ -73,21 +76,24 @@ counted k (suc n) (suc i) m e = let later = counted (k + 1) n i m e in omega (ar
 
 -- Each index of a group is its number in the indexed forest.
 pub index_is : (t : GroupForest) (i m : ℕ) → slice_get (numbers (indexed_forest 0 t).0) i ≡ Some m → m ≡ i
-index_is t i m e = let same = counted 0 (how_many t) i m (ap (λ l. slice_get l i) (sym (indexed_numbers 0 t)) ∙ e) in omega (arith, same)
+index_is t i m e = let same = counted 0 (how_many t) i m (ap (λ l. slice_get l i) (sym (indexed_numbers 0 t)) ∙ e) in
+    omega (arith, same)
 
 pub get-map : {X Y : Type 0} (f : X → Y) (xs : List X) (i : ℕ) → slice_get (map f xs) i ≡ option_map f (slice_get xs i)
 get-map f [] i = refl
 get-map f (x ∷ xs) zero = refl
 get-map f (x ∷ xs) (suc i) = get-map f xs i
 
-pub get-first : {X : Type 0} (xs ys : List X) (x : X) (i : ℕ) → slice_get xs i ≡ Some x → slice_get (xs ++ ys) i ≡ Some x
+pub get-first : {X : Type 0} (xs ys : List X) (x : X) (i : ℕ) → slice_get xs i ≡ Some x
+    → slice_get (xs ++ ys) i ≡ Some x
 get-first [] ys x i e = absurd (no_item e)
 get-first (y ∷ xs) ys x zero e = e
 get-first (y ∷ xs) ys x (suc i) e = get-first xs ys x i e
 
 pub get-second : {X : Type 0} (xs ys : List X) (i : ℕ) → slice_get (xs ++ ys) (length xs + i) ≡ slice_get ys i
 get-second [] ys i = let e : 0 + i ≡ i = omega arith in ap (λ n. slice_get ys n) e
-get-second (x ∷ xs) ys i = let e : suc (length xs) + i ≡ suc (length xs + i) = omega arith in ap (λ n. slice_get (x ∷ (xs ++ ys)) n) e ∙ get-second xs ys i
+get-second (x ∷ xs) ys i = let e : suc (length xs) + i ≡ suc (length xs + i) = omega arith in
+    ap (λ n. slice_get (x ∷ (xs ++ ys)) n) e ∙ get-second xs ys i
 
 pub map-append : {X Y : Type 0} (f : X → Y) (xs ys : List X) → map f (xs ++ ys) ≡ map f xs ++ map f ys
 map-append f [] ys = refl

@@ -85,4 +85,5 @@ IndexesAreOfFoundGroups = (t : GroupForest) (p : Path) → is_some (index_at t p
 
 -- Matching each new group among the old siblings finds the old group with its path.
 abbrev pub MatchingFindsTheOldPath : Type 0
-MatchingFindsTheOldPath = (old new : GroupForest) → old_indexes old new ≡ matched_numbers (indexed_forest 0 old).0 [] new
+MatchingFindsTheOldPath = (old new : GroupForest)
+    → old_indexes old new ≡ matched_numbers (indexed_forest 0 old).0 [] new

@@ -1,6 +1,6 @@
 -- The answer for a forest is that of its forms.
 use Rattle.std.proofs.Common.{◌≡◌, inl, inr, ℕ, List, [], ◌∷◌, ◌++◌, Option, Some, None, Result, Ok, Err, Bool, true, false, cond, refl, sym, ap, ◌∙◌}
-use Rattle.sexp_text.specs.Forest.{Forest, empty, atom, text, list, behind}
+use Rattle.sexp_text.specs.Forest.{Forest, empty, atom, text, list, joined_trees}
 use Rattle.lang_limits.specs.LeastOffset.{least}
 use Rattle.lang_limits.specs.Sizes.{program_limits}
 use Rattle.lang_limits.specs.Clamped.{within}
@@ -83,16 +83,16 @@ front_read (Err x) t h = absurd (cc)
 pub wrong_read : (end at : ℕ) (f : Forest) → IsFirstWrong end f at → text_of end (seen_trees f) ≡ stop_at at
 wrong_read end at f h = elim h.before [
   | inl none ↦
-      let here : f ≡ h.wrong = h.is ∙ ap (λ (x : Forest). behind x h.wrong) none in
-      let alone : behind h.front (only h.wrong) ≡ only h.wrong = ap (λ (x : Forest). behind x (only h.wrong)) none in
+      let here : f ≡ h.wrong = h.is ∙ ap (λ (x : Forest). joined_trees x h.wrong) none in
+      let alone : joined_trees h.front (only h.wrong) ≡ only h.wrong = ap (λ (x : Forest). joined_trees x (only h.wrong)) none in
       ap (λ (x : Forest). text_of end (seen_trees x)) here
-      ∙ first_stop end h.wrong (λ r k. h.none (source r) (source_found end (behind h.front (only h.wrong)) (source r) (ap (λ (x : Forest). source_of end (seen_trees x)) alone ∙ ap source_or_offset k)))
+      ∙ first_stop end h.wrong (λ r k. h.none (source r) (source_found end (joined_trees h.front (only h.wrong)) (source r) (ap (λ (x : Forest). source_of end (seen_trees x)) alone ∙ ap source_or_offset k)))
       ∙ ap stop_at (sym h.place)
   | inr some ↦
       let q = front_read (text_of end (seen_trees h.front)) some.0 (text_read end h.front some.0 some.1) in
       let site_after = λ (w : Forest). ap (text_of end) (seen-behind h.front w) ∙ text_on end (seen_trees h.front) (seen_trees w) q.0 q.1 in
       ap (λ (x : Forest). text_of end (seen_trees x)) h.is ∙ site_after h.wrong
-      ∙ next_stop end h.wrong q.0 (λ r k. h.none (source r) (source_found end (behind h.front (only h.wrong)) (source r) (ap source_or_offset (site_after (only h.wrong) ∙ k))))
+      ∙ next_stop end h.wrong q.0 (λ r k. h.none (source r) (source_found end (joined_trees h.front (only h.wrong)) (source r) (ap source_or_offset (site_after (only h.wrong) ∙ k))))
       ∙ ap stop_at (sym h.place)
 ]
 

@@ -1,6 +1,6 @@
 -- A text's forms stop where the parser stops.
 use Rattle.std.proofs.Common.{◌≡◌, inl, inr, ℕ, ◌∷◌, Option, Some, None, Result, Ok, Err, Bool, true, false, cond, refl, sym, ap, ◌∙◌}
-use Rattle.sexp_text.specs.Forest.{Forest, empty, atom, text, list, behind}
+use Rattle.sexp_text.specs.Forest.{Forest, empty, atom, text, list, joined_trees}
 use Rattle.lang_forms.specs.Sources.{Source}
 use Rattle.lang_forms.specs.Forms.{HasForms}
 use Rattle.lang_forms.specs.Readings.{Seen, seen_trees, form, roles, is_there, header_form}
@@ -13,11 +13,11 @@ use Rattle.lang_forms.proofs.TextHasForms.{source_found}
 record Stopped (end : ℕ) (f : Forest) (p : PartialSource) (at : ℕ) : Type 0 where
   front : Forest
   wrong : Forest
-  is : f ≡ behind front wrong
+  is : f ≡ joined_trees front wrong
   place : at ≡ first_place end wrong
   last : PartialSource
   before : tops_of p (seen_trees front) ≡ Ok last
-  stuck : tops_of p (seen_trees (behind front (only wrong))) ≡ Err at
+  stuck : tops_of p (seen_trees (joined_trees front (only wrong))) ≡ Err at
 
 abbrev wrong_at : ℕ → Result PartialSource ℕ
 wrong_at y = Err y
@@ -66,7 +66,7 @@ stopped end at (list x i f) p h = by (λ q. stopped end at f q) (source_with_tre
           place = more.place;
           last = more.last;
           before = ap (λ o. source_with_rest x o (λ r. tops_of r (seen_trees more.front))) e ∙ more.before;
-          stuck = ap (λ o. source_with_rest x o (λ r. tops_of r (seen_trees (behind more.front (only more.wrong))))) e ∙ more.stuck;
+          stuck = ap (λ o. source_with_rest x o (λ r. tops_of r (seen_trees (joined_trees more.front (only more.wrong))))) e ∙ more.stuck;
         }
 
 abbrev refusal : ℕ → Result Source ℕ
@@ -102,13 +102,13 @@ first_wrong end at (list x i f) h = by (is_there (header_form (seen_trees i))) r
     by true e k =
         let s = stopped end at f (start x) k in
         let front : text_of end (seen_trees (list x i s.front)) ≡ Ok s.last = ap (λ (b : Bool). cond b (tops_of (start x) (seen_trees s.front)) (Err x)) e ∙ s.before in
-        let stuck : text_of end (seen_trees (list x i (behind s.front (only s.wrong)))) ≡ Err at = ap (λ (b : Bool). cond b (tops_of (start x) (seen_trees (behind s.front (only s.wrong)))) (Err x)) e ∙ s.stuck in
+        let stuck : text_of end (seen_trees (list x i (joined_trees s.front (only s.wrong)))) ≡ Err at = ap (λ (b : Bool). cond b (tops_of (start x) (seen_trees (joined_trees s.front (only s.wrong)))) (Err x)) e ∙ s.stuck in
         record {
           front = list x i s.front;
           wrong = s.wrong;
           is = ap (list x i) s.is;
           place = s.place;
           before = inr (source s.last, source_found end (list x i s.front) (source s.last) (ap source_or_offset front));
-          none = λ t. refused end at (list x i (behind s.front (only s.wrong))) t stuck;
+          none = λ t. refused end at (list x i (joined_trees s.front (only s.wrong))) t stuck;
           nor_all = λ t. refused end at (list x i f) t h;
         }

@@ -1,6 +1,6 @@
 -- The views of trees in memory, through their forest.
 use Rattle.std.proofs.Common.{◌≡◌, List, [], ◌∷◌, ◌++◌, map, refl, sym, subst, ap, ◌∙◌}
-use Rattle.sexp_text.specs.Forest.{Forest, empty, atom, text, list, behind}
+use Rattle.sexp_text.specs.Forest.{Forest, empty, atom, text, list, joined_trees}
 use Rattle.sexp_text.specs.View.{forest_concat, tree_view, view_step, forest_view}
 use Rattle.sexp_text.specs.declared.tree.Tree.{Tree}
 use Rattle.sexp_text.specs.declared.tree.Tree.TheOpen.{Tree-F}
@@ -8,7 +8,7 @@ use Rattle.sexp_text.specs.declared.tree.Tree.TheFolds.{fold-roll-Tree, map-Tree
 use Rattle.lang_forms.specs.Readings.{Seen, seen_trees, word, chars, form, roles}
 use Rattle.lang_forms.specs.Views.{seen_tree, seen_step, seen_all}
 
-pub seen-behind : (f g : Forest) → seen_trees (behind f g) ≡ seen_trees f ++ seen_trees g
+pub seen-behind : (f g : Forest) → seen_trees (joined_trees f g) ≡ seen_trees f ++ seen_trees g
 seen-behind empty g = refl
 seen-behind (atom at a f) g = ap (λ l. word at a ∷ l) (seen-behind f g)
 seen-behind (text at s f) g = ap (λ l. chars at s ∷ l) (seen-behind f g)

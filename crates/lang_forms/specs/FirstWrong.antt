@@ -1,6 +1,6 @@
 -- Trusted: where trees stop being those of a text.
 use Rattle.std.specs.Prelude.{◌≡◌, ◌⊎◌, ℕ, Some, None, Result, Ok, Err}
-use Rattle.sexp_text.specs.Forest.{Forest, empty, atom, text, list, behind}
+use Rattle.sexp_text.specs.Forest.{Forest, empty, atom, text, list, joined_trees}
 use Rattle.lang_limits.specs.LeastOffset.{least}
 use Rattle.lang_limits.specs.Sizes.{program_limits}
 use Rattle.lang_limits.specs.Clamped.{within}
@@ -28,10 +28,10 @@ first_place end (list at i f) = at
 pub record IsFirstWrong (end : ℕ) (f : Forest) (at : ℕ) : Type 0 where
   pub front : Forest
   pub wrong : Forest
-  pub is : f ≡ behind front wrong
+  pub is : f ≡ joined_trees front wrong
   pub place : at ≡ first_place end wrong
   pub before : (front ≡ empty) ⊎ ((t : Source) × HasForms front t)
-  pub none : (t : Source) → ¬ HasForms (behind front (only wrong)) t
+  pub none : (t : Source) → ¬ HasForms (joined_trees front (only wrong)) t
   pub nor_all : (t : Source) → ¬ HasForms f t
 
 -- The answer for a forest in an input of length `end`, by the forms of its clamped trees: a text whose program

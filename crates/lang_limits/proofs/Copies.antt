@@ -1,16 +1,16 @@
 -- Clamped copies of forests.
 use Rattle.std.proofs.Common.{◌≡◌, ◌∙◌, ◌<◌, ◌+◌, ◌&&◌, ◌||◌, ℕ, zero, suc, length, get_or, drop, take, List, [], ◌∷◌, ◌++◌, Bool, true, false, refl, sym, ap, if◌then◌else◌}
-use Rattle.sexp_text.specs.Forest.{Forest, empty, atom, text, list, behind}
+use Rattle.sexp_text.specs.Forest.{Forest, empty, atom, text, list, joined_trees}
 use Rattle.sexp_text.specs.View.{tree_view, forest_view}
 use Rattle.sexp_text.specs.declared.tree.Tree.{Tree}
-use Rattle.sexp_text.proofs.Trees.{behind-empty, behind_assoc, forest_view-push, OneTree, one_atom, one_text, one_list, one_tree, view-Atom, view-Text, view-List}
+use Rattle.sexp_text.proofs.Trees.{joined_trees-empty, joined_trees_assoc, forest_view-push, OneTree, one_atom, one_text, one_list, one_tree, view-Atom, view-Text, view-List}
 use Rattle.lang_limits.specs.Laws.{WithinStays}
 use Rattle.lang_ast.specs.Sizes.{offset_if}
 use Rattle.lang_limits.specs.Tokens.{is_int, is_oversized_int, is_oversized_atom, is_oversized_string, is_oversized_list, beyond, is_do, program_trees, script_trees}
 use Rattle.lang_limits.specs.Clamped.{clamped_atom, clamped_string, are_ints, first_trees, clamped_list, within}
 use Rattle.lang_limits.proofs.Walks.{view_drop}
 
-pub within-behind : (f g : Forest) → within (behind f g) ≡ behind (within f) (within g)
+pub within-behind : (f g : Forest) → within (joined_trees f g) ≡ joined_trees (within f) (within g)
 within-behind empty g = refl
 within-behind (atom at a f) g = ap (atom at (clamped_atom a)) (within-behind f g)
 within-behind (text at s f) g = ap (text at (clamped_string s)) (within-behind f g)
@@ -20,14 +20,14 @@ and_more : (b x y z : Bool) → x ≡ (y && z) → (b && x) ≡ ((b && y) && z)
 and_more true x y z h = h
 and_more false x y z h = refl
 
-pub are_ints-behind : (f g : Forest) → are_ints (behind f g) ≡ (are_ints f && are_ints g)
+pub are_ints-behind : (f g : Forest) → are_ints (joined_trees f g) ≡ (are_ints f && are_ints g)
 are_ints-behind empty g = refl
 are_ints-behind (atom at a f) g = and_more (is_int a) _ _ _ (are_ints-behind f g)
 are_ints-behind (text at s f) g = refl
 are_ints-behind (list at i f) g = refl
 
 -- The first trees of a tree and those after it.
-one_and_first : (n : ℕ) (f g : Forest) → OneTree f → first_trees (suc n) (behind f g) ≡ behind f (first_trees n g)
+one_and_first : (n : ℕ) (f g : Forest) → OneTree f → first_trees (suc n) (joined_trees f g) ≡ joined_trees f (first_trees n g)
 one_and_first n f g (one_atom at name) = refl
 one_and_first n f g (one_text at chars) = refl
 one_and_first n f g (one_list at inner) = refl
@@ -36,14 +36,14 @@ one_and_first n f g (one_list at inner) = refl
 pub first_view : (n : ℕ) (ts : List Tree) → forest_view (take n ts) ≡ first_trees n (forest_view ts)
 first_view zero ts = refl
 first_view (suc n) [] = refl
-first_view (suc n) (t ∷ ts) = ap (behind (tree_view t)) (first_view n ts) ∙ sym (one_and_first n (tree_view t) (forest_view ts) (one_tree t))
+first_view (suc n) (t ∷ ts) = ap (joined_trees (tree_view t)) (first_view n ts) ∙ sym (one_and_first n (tree_view t) (forest_view ts) (one_tree t))
 
 -- The first three trees in memory.
 pub three_view : (ts : List Tree) → forest_view (take 3 ts) ≡ first_trees 3 (forest_view ts)
 three_view ts = first_view 3 ts
 
 -- What a walk that copies trees needs.
-pub ruleset copies = (forest_view-push, behind_assoc, behind-empty, view-Atom, view-Text, view-List)
+pub ruleset copies = (forest_view-push, joined_trees_assoc, joined_trees-empty, view-Atom, view-Text, view-List)
 
 -- What a walk over numbers needs.
 pub ruleset numbers = (are_ints-behind, three_view)
@@ -114,8 +114,8 @@ within_stays f h k = within_is f (none_beyond f h k)
 
 -- The copy of one tree, and of those after it.
 pub within_step : (ts : List Tree) (i : ℕ) (t : Tree) (out : Forest) → i < length ts → t ≡ get_or ts i t →
-    behind out (within (forest_view (drop i ts))) ≡ behind (behind out (within (tree_view t))) (within (forest_view (drop (i + 1) ts)))
+    joined_trees out (within (forest_view (drop i ts))) ≡ joined_trees (joined_trees out (within (tree_view t))) (within (forest_view (drop (i + 1) ts)))
 within_step ts i t out lt e =
-    ap (λ (f : Forest). behind out (within f)) (view_drop ts i t lt e)
-    ∙ ap (behind out) (within-behind (tree_view t) (forest_view (drop (i + 1) ts)))
-    ∙ sym (behind_assoc out (within (tree_view t)) (within (forest_view (drop (i + 1) ts))))
+    ap (λ (f : Forest). joined_trees out (within f)) (view_drop ts i t lt e)
+    ∙ ap (joined_trees out) (within-behind (tree_view t) (forest_view (drop (i + 1) ts)))
+    ∙ sym (joined_trees_assoc out (within (tree_view t)) (within (forest_view (drop (i + 1) ts))))

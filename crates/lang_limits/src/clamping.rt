@@ -1,6 +1,6 @@
 // Trees clamped to the limits.
 ghost use Rattle.std.specs.Prelude.{◌≡◌, IfOk, OnOk};
-ghost use Rattle.sexp_text.specs.Forest.{behind};
+ghost use Rattle.sexp_text.specs.Forest.{joined_trees};
 ghost use Rattle.sexp_text.specs.View.{tree_view, forest_view};
 ghost use Rattle.lang_limits.specs.Clamped.{nearest_int, clamped_atom, clamped_string, are_ints, is_oversized_ints, clamped_list, within};
 
@@ -97,7 +97,7 @@ fn clamped_list(mut trees: Vec<Tree>) -> Vec<Tree>
 #[cycle(copies)]
 fn put_tree(alloc: Global, tree: &Tree, out: &mut Vec<Tree>) -> Result<(), NoMemory>
     ensures { OnOk result (forest_view out.new.items
-        ≡ behind (forest_view out.old.items) (within (tree_view tree.now))) }
+        ≡ joined_trees (forest_view out.old.items) (within (tree_view tree.now))) }
 {
     let kept = match tree {
         Tree::Atom(at, atom) => Tree::Atom(*at, clamped_atom(alloc, atom)?),

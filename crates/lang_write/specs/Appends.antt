@@ -1,6 +1,6 @@
 -- Internal: what the functions that write forms promise one another.
 use Rattle.std.specs.Prelude.{◌≡◌, ℕ, ℤ, List, codes, None}
-use Rattle.sexp_text.specs.Forest.{behind}
+use Rattle.sexp_text.specs.Forest.{joined_trees}
 use Rattle.sexp_text.specs.View.{forest_view}
 use Rattle.sexp_text.specs.declared.tree.Tree.{Tree}
 use Rattle.lang_ast.specs.Terms.{Expr, Exprs, Named, Stmts}
@@ -17,7 +17,7 @@ use Rattle.lang_forms.specs.Forms.{word, name, literal, expr_forms, exprs_forms,
 -- The trees grew by those of a form, whatever comes after it.
 abbrev pub AppendsForms : List Tree → List Tree → (Sketch → Sketch) → Type 0
 AppendsForms old new form = (g : Sketch) →
-    behind (forest_view new) (unplaced_sketch g) ≡ behind (forest_view old) (unplaced_sketch (form g))
+    joined_trees (forest_view new) (unplaced_sketch g) ≡ joined_trees (forest_view old) (unplaced_sketch (form g))
 
 abbrev pub node_sketch : Ident → List Named → Stmts → Sketch → Sketch
 node_sketch n ns body g = group None (word (codes "node") (name n (group None (pairs_forms ns) (stmts_forms body)))) g

@@ -1,6 +1,6 @@
 // Laws of the written forms, each the contract of a function that does nothing.
 ghost use Rattle.std.specs.Prelude.{◌≡◌, []};
-ghost use Rattle.sexp_text.specs.Forest.{Forest, behind, without_offsets};
+ghost use Rattle.sexp_text.specs.Forest.{Forest, joined_trees, without_offsets};
 ghost use Rattle.lang_forms.specs.Sources.{Source};
 ghost use Rattle.lang_forms.specs.Forms.{HasForms, scripts_forms, text_forms};
 ghost use Rattle.lang_forms.specs.Sketch.{unplaced_sketch};
@@ -20,6 +20,6 @@ pub fn forms_are_those_read()
 /// A rule of this project. The function does nothing: its contract is the law.
 pub fn script_follows_program()
     ensures { (t : Source) → unplaced_sketch (text_forms t)
-        ≡ behind (unplaced_sketch (text_forms (record { program = t.program; script = [] })))
+        ≡ joined_trees (unplaced_sketch (text_forms (record { program = t.program; script = [] })))
         (unplaced_sketch (scripts_forms t.script)) }
 {}

@@ -1,7 +1,7 @@
 // Writes atoms, lists, literals and expressions as trees, all at offset 0.
 ghost use Rattle.std.specs.Prelude.{◌≡◌, ℕ, ℤ, List, Option, None, IfOk, OnOk};
 ghost use Rattle.std.specs.Fmt.{signed_decimal};
-ghost use Rattle.sexp_text.specs.Forest.{Forest, empty, atom, text, list, behind};
+ghost use Rattle.sexp_text.specs.Forest.{Forest, empty, atom, text, list, joined_trees};
 ghost use Rattle.sexp_text.specs.View.{tree_view, forest_view};
 ghost use Rattle.lang_ast.specs.SyntaxView.{expr_view, exprs_view, nameds_view};
 ghost use Rattle.lang_forms.specs.Words.{type_word, policy_word, operator_word};
@@ -18,7 +18,7 @@ use std::alloc::Global;
 #[tactic(auto, using(crate::proofs::Written::written))]
 fn put(tree: Tree, out: &mut Vec<Tree>) -> Result<(), NoMemory>
     ensures { OnOk result (forest_view out.new.items
-        ≡ behind (forest_view out.old.items) (tree_view tree)) }
+        ≡ joined_trees (forest_view out.old.items) (tree_view tree)) }
 {
     out.push(tree)?;
     Ok(())
@@ -28,7 +28,7 @@ fn put(tree: Tree, out: &mut Vec<Tree>) -> Result<(), NoMemory>
 #[tactic(auto, using(crate::proofs::Written::written))]
 pub fn put_word(alloc: Global, word: &[u8], out: &mut Vec<Tree>) -> Result<(), NoMemory>
     ensures { OnOk result (forest_view out.new.items
-        ≡ behind (forest_view out.old.items) (atom 0 word.now empty)) }
+        ≡ joined_trees (forest_view out.old.items) (atom 0 word.now empty)) }
 {
     put(Tree::Atom(0, Word::of(alloc, word)?), out)
 }
@@ -36,7 +36,7 @@ pub fn put_word(alloc: Global, word: &[u8], out: &mut Vec<Tree>) -> Result<(), N
 // Appends a number in its decimals.
 pub fn put_number(alloc: Global, number: i64, out: &mut Vec<Tree>) -> Result<(), NoMemory>
     ensures { OnOk result (forest_view out.new.items
-        ≡ behind (forest_view out.old.items) (atom 0 (signed_decimal number) empty)) }
+        ≡ joined_trees (forest_view out.old.items) (atom 0 (signed_decimal number) empty)) }
 {
     let decimals = number.to_string(alloc)?;
     put_word(alloc, decimals.as_bytes(), out)
@@ -46,7 +46,7 @@ pub fn put_number(alloc: Global, number: i64, out: &mut Vec<Tree>) -> Result<(),
 #[tactic(auto, using(crate::proofs::Written::written))]
 fn put_string(alloc: Global, chars: &[u8], out: &mut Vec<Tree>) -> Result<(), NoMemory>
     ensures { OnOk result (forest_view out.new.items
-        ≡ behind (forest_view out.old.items) (text 0 chars.now empty)) }
+        ≡ joined_trees (forest_view out.old.items) (text 0 chars.now empty)) }
 {
     let bytes = chars.to_vec(alloc)?;
     put(Tree::Text(0, bytes), out)
@@ -56,7 +56,7 @@ fn put_string(alloc: Global, chars: &[u8], out: &mut Vec<Tree>) -> Result<(), No
 #[tactic(auto, using(crate::proofs::Written::written))]
 pub fn put_list(inner: Vec<Tree>, out: &mut Vec<Tree>) -> Result<(), NoMemory>
     ensures { OnOk result (forest_view out.new.items
-        ≡ behind (forest_view out.old.items) (list 0 (forest_view inner.items) empty)) }
+        ≡ joined_trees (forest_view out.old.items) (list 0 (forest_view inner.items) empty)) }
 {
     put(Tree::List(0, inner), out)
 }
@@ -126,7 +126,7 @@ fn word_of_operator(operator: Operator) -> &'static [u8]
 #[tactic(auto, using(crate::proofs::Written::written))]
 fn put_numbers(alloc: Global, items: &[i64], out: &mut Vec<Tree>) -> Result<(), NoMemory>
     ensures { OnOk result (forest_view out.new.items
-        ≡ behind (forest_view out.old.items) (unplaced_sketch (numbers items.now))) }
+        ≡ joined_trees (forest_view out.old.items) (unplaced_sketch (numbers items.now))) }
 {
     let mut rest = items;
     while let Some((item, more)) = rest.split_first() {
@@ -140,8 +140,8 @@ fn put_numbers(alloc: Global, items: &[i64], out: &mut Vec<Tree>) -> Result<(), 
 #[tactic(auto, using(crate::proofs::Written::written))]
 pub fn put_literal(alloc: Global, value: &Value, out: &mut Vec<Tree>) -> Result<(), NoMemory>
     ensures { OnOk result ((p : Option ℕ) → (g : Sketch) →
-        behind (forest_view out.new.items) (unplaced_sketch g)
-        ≡ behind (forest_view out.old.items) (unplaced_sketch (literal p value.now g))) }
+        joined_trees (forest_view out.new.items) (unplaced_sketch g)
+        ≡ joined_trees (forest_view out.old.items) (unplaced_sketch (literal p value.now g))) }
 {
     match value {
         Value::Int(number) => Ok(put_number(alloc, *number, out)?),
@@ -166,8 +166,8 @@ pub fn put_literal(alloc: Global, value: &Value, out: &mut Vec<Tree>) -> Result<
 #[cycle(expressions)]
 pub fn put_expr(alloc: Global, expr: &Expression, out: &mut Vec<Tree>) -> Result<(), NoMemory>
     ensures { OnOk result ((g : Sketch) →
-        behind (forest_view out.new.items) (unplaced_sketch g)
-        ≡ behind (forest_view out.old.items) (unplaced_sketch (expr_forms (expr_view expr.now) g))) }
+        joined_trees (forest_view out.new.items) (unplaced_sketch g)
+        ≡ joined_trees (forest_view out.old.items) (unplaced_sketch (expr_forms (expr_view expr.now) g))) }
 {
     match expr {
         Expression::Literal { value, .. } => Ok(put_literal(alloc, value, out)?),
@@ -194,7 +194,7 @@ pub fn put_expr(alloc: Global, expr: &Expression, out: &mut Vec<Tree>) -> Result
 #[cycle(expressions)]
 pub fn put_exprs(alloc: Global, exprs: &[Expression], out: &mut Vec<Tree>) -> Result<(), NoMemory>
     ensures { OnOk result (forest_view out.new.items
-        ≡ behind (forest_view out.old.items)
+        ≡ joined_trees (forest_view out.old.items)
         (unplaced_sketch (exprs_forms (exprs_view exprs.now)))) }
 {
     for expr in exprs {
@@ -212,8 +212,8 @@ pub fn put_binding(
     out: &mut Vec<Tree>,
 ) -> Result<(), NoMemory>
     ensures { OnOk result ((g : Sketch) →
-        behind (forest_view out.new.items) (unplaced_sketch g)
-        ≡ behind (forest_view out.old.items)
+        joined_trees (forest_view out.new.items) (unplaced_sketch g)
+        ≡ joined_trees (forest_view out.old.items)
         (unplaced_sketch (name bound.now (expr_forms (expr_view value.now) g)))) }
 {
     put_word(alloc, bound.text.bytes(), out)?;
@@ -224,7 +224,7 @@ pub fn put_binding(
 #[tactic(auto, using(crate::proofs::Written::written))]
 fn put_pairs(alloc: Global, pairs: &[Named], out: &mut Vec<Tree>) -> Result<(), NoMemory>
     ensures { OnOk result (forest_view out.new.items
-        ≡ behind (forest_view out.old.items)
+        ≡ joined_trees (forest_view out.old.items)
         (unplaced_sketch (pairs_forms (nameds_view pairs.now)))) }
 {
     let mut rest = pairs;
@@ -246,8 +246,8 @@ pub fn put_named(
     out: &mut Vec<Tree>,
 ) -> Result<(), NoMemory>
     ensures { OnOk result ((g : Sketch) →
-        behind (forest_view out.new.items) (unplaced_sketch g)
-        ≡ behind (forest_view out.old.items)
+        joined_trees (forest_view out.new.items) (unplaced_sketch g)
+        ≡ joined_trees (forest_view out.old.items)
         (unplaced_sketch (name bound.now (group None (pairs_forms (nameds_view pairs.now)) g)))) }
 {
     put_word(alloc, bound.text.bytes(), out)?;

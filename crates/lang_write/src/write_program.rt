@@ -1,6 +1,6 @@
 // Writes a program as trees.
 ghost use Rattle.std.specs.Prelude.{◌≡◌, [], codes, IfOk, OnOk, None};
-ghost use Rattle.sexp_text.specs.Forest.{Forest, atom, list, empty, behind};
+ghost use Rattle.sexp_text.specs.Forest.{Forest, atom, list, empty, joined_trees};
 ghost use Rattle.sexp_text.specs.View.{forest_view};
 ghost use Rattle.lang_ast.specs.SyntaxView.{expr_view, exprs_view, nameds_view, stmt_view, stmts_view, function_view, functions_view};
 ghost use Rattle.lang_ast.specs.Programs.{program_view};
@@ -171,8 +171,8 @@ fn put_if(
     out: &mut Vec<Tree>,
 ) -> Result<(), NoMemory>
     ensures { OnOk result ((g : Sketch) →
-        behind (forest_view out.new.items) (unplaced_sketch g)
-        ≡ behind (forest_view out.old.items)
+        joined_trees (forest_view out.new.items) (unplaced_sketch g)
+        ≡ joined_trees (forest_view out.old.items)
         (list 0 (atom 0 (codes "if")
         (unplaced_sketch (expr_forms (expr_view condition.now)
         (group None (stmts_forms (stmts_view first.now))
@@ -194,7 +194,7 @@ fn put_branches(
     out: &mut Vec<Tree>,
 ) -> Result<(), NoMemory>
     ensures { OnOk result (forest_view out.new.items
-        ≡ behind (forest_view out.old.items)
+        ≡ joined_trees (forest_view out.old.items)
         (unplaced_sketch (group None (stmts_forms (stmts_view first.now))
         (group None (stmts_forms (stmts_view second.now)) nothing)))) }
 {
@@ -207,7 +207,7 @@ fn put_branches(
 #[cycle(statements)]
 fn put_block(alloc: Global, statements: &[Statement], out: &mut Vec<Tree>) -> Result<(), NoMemory>
     ensures { OnOk result (forest_view out.new.items
-        ≡ behind (forest_view out.old.items)
+        ≡ joined_trees (forest_view out.old.items)
         (list 0 (unplaced_sketch (stmts_forms (stmts_view statements.now))) empty)) }
 {
     let mut inner = Vec::new(alloc);
@@ -220,7 +220,7 @@ fn put_block(alloc: Global, statements: &[Statement], out: &mut Vec<Tree>) -> Re
 #[cycle(statements)]
 fn put_stmts(alloc: Global, statements: &[Statement], out: &mut Vec<Tree>) -> Result<(), NoMemory>
     ensures { OnOk result (forest_view out.new.items
-        ≡ behind (forest_view out.old.items)
+        ≡ joined_trees (forest_view out.old.items)
         (unplaced_sketch (stmts_forms (stmts_view statements.now)))) }
 {
     for statement in statements {
@@ -237,7 +237,7 @@ fn put_parameters(
     out: &mut Vec<Tree>,
 ) -> Result<(), NoMemory>
     ensures { OnOk result (forest_view out.new.items
-        ≡ behind (forest_view out.old.items) (unplaced_sketch (parameters_forms parameters.now))) }
+        ≡ joined_trees (forest_view out.old.items) (unplaced_sketch (parameters_forms parameters.now))) }
 {
     let mut rest = parameters;
     while let Some((parameter, more)) = rest.split_first() {
@@ -254,8 +254,8 @@ fn put_parameters(
 #[tactic(auto, using(crate::proofs::Written::written))]
 fn put_state(alloc: Global, state: &State, out: &mut Vec<Tree>) -> Result<(), NoMemory>
     ensures { OnOk result ((g : Sketch) →
-        behind (forest_view out.new.items) (unplaced_sketch g)
-        ≡ behind (forest_view out.old.items) (unplaced_sketch (state_forms state.now g))) }
+        joined_trees (forest_view out.new.items) (unplaced_sketch g)
+        ≡ joined_trees (forest_view out.old.items) (unplaced_sketch (state_forms state.now g))) }
 {
     let mut inner = list_with_word(alloc, b"state")?;
     put_word(alloc, state.name.text.bytes(), &mut inner)?;
@@ -268,8 +268,8 @@ fn put_state(alloc: Global, state: &State, out: &mut Vec<Tree>) -> Result<(), No
 // Appends the forms of states.
 fn put_states(alloc: Global, states: &[State], out: &mut Vec<Tree>) -> Result<(), NoMemory>
     ensures { OnOk result ((g : Sketch) →
-        behind (forest_view out.new.items) (unplaced_sketch g)
-        ≡ behind (forest_view out.old.items) (unplaced_sketch (states_forms states.now g))) }
+        joined_trees (forest_view out.new.items) (unplaced_sketch g)
+        ≡ joined_trees (forest_view out.old.items) (unplaced_sketch (states_forms states.now g))) }
 {
     let mut rest = states;
     while let Some((state, more)) = rest.split_first() {
@@ -283,8 +283,8 @@ fn put_states(alloc: Global, states: &[State], out: &mut Vec<Tree>) -> Result<()
 #[tactic(auto, using(crate::proofs::Written::written))]
 fn put_function(alloc: Global, function: &Function, out: &mut Vec<Tree>) -> Result<(), NoMemory>
     ensures { OnOk result ((g : Sketch) →
-        behind (forest_view out.new.items) (unplaced_sketch g)
-        ≡ behind (forest_view out.old.items)
+        joined_trees (forest_view out.new.items) (unplaced_sketch g)
+        ≡ joined_trees (forest_view out.old.items)
         (unplaced_sketch (function_forms (function_view function.now) g))) }
 {
     let mut inner = list_with_word(alloc, b"fun")?;
@@ -299,8 +299,8 @@ fn put_function(alloc: Global, function: &Function, out: &mut Vec<Tree>) -> Resu
 // Appends the forms of functions.
 fn put_functions(alloc: Global, functions: &[Function], out: &mut Vec<Tree>) -> Result<(), NoMemory>
     ensures { OnOk result ((g : Sketch) →
-        behind (forest_view out.new.items) (unplaced_sketch g)
-        ≡ behind (forest_view out.old.items)
+        joined_trees (forest_view out.new.items) (unplaced_sketch g)
+        ≡ joined_trees (forest_view out.old.items)
         (unplaced_sketch (functions_forms (functions_view functions.now) g))) }
 {
     let mut rest = functions;

@@ -1,6 +1,6 @@
 // Writes a script as trees.
 ghost use Rattle.std.specs.Prelude.{◌≡◌, ℕ, codes, IfOk, OnOk, None, Some};
-ghost use Rattle.sexp_text.specs.Forest.{Forest, atom, list, empty, behind};
+ghost use Rattle.sexp_text.specs.Forest.{Forest, atom, list, empty, joined_trees};
 ghost use Rattle.sexp_text.specs.View.{forest_view};
 ghost use Rattle.lang_forms.specs.Sketch.{Sketch, group, unplaced_sketch};
 ghost use Rattle.lang_forms.specs.Words.{kind_word};
@@ -178,7 +178,7 @@ fn put_call(alloc: Global, call: &CallForm, out: &mut Vec<Tree>) -> Result<(), N
 #[tactic(auto, using(crate::proofs::Written::written))]
 fn put_calls(alloc: Global, calls: &[CallForm], out: &mut Vec<Tree>) -> Result<(), NoMemory>
     ensures { OnOk result (forest_view out.new.items
-        ≡ behind (forest_view out.old.items) (unplaced_sketch (calls_forms calls.now))) }
+        ≡ joined_trees (forest_view out.old.items) (unplaced_sketch (calls_forms calls.now))) }
 {
     let mut rest = calls;
     while let Some((call, more)) = rest.split_first() {
@@ -220,7 +220,7 @@ fn put_step(alloc: Global, step: &StepForm, out: &mut Vec<Tree>) -> Result<(), N
 #[tactic(auto, using(crate::proofs::Written::written))]
 fn put_steps(alloc: Global, steps: &[StepForm], out: &mut Vec<Tree>) -> Result<(), NoMemory>
     ensures { OnOk result (forest_view out.new.items
-        ≡ behind (forest_view out.old.items) (unplaced_sketch (steps_forms steps.now))) }
+        ≡ joined_trees (forest_view out.old.items) (unplaced_sketch (steps_forms steps.now))) }
 {
     let mut rest = steps;
     while let Some((step, more)) = rest.split_first() {
@@ -265,7 +265,7 @@ fn put_actor_step(alloc: Global, step: &ScriptForm, out: &mut Vec<Tree>) -> Resu
 #[tactic(auto, using(crate::proofs::Written::written))]
 fn put_actor_steps(alloc: Global, steps: &[ScriptForm], out: &mut Vec<Tree>) -> Result<(), NoMemory>
     ensures { OnOk result (forest_view out.new.items
-        ≡ behind (forest_view out.old.items) (unplaced_sketch (actor_forms steps.now))) }
+        ≡ joined_trees (forest_view out.old.items) (unplaced_sketch (actor_forms steps.now))) }
 {
     let mut rest = steps;
     while let Some((step, more)) = rest.split_first() {

@@ -16,10 +16,11 @@ pub copied_node : (n : FlatNode) (inner number : ℕ) (kind copied : List ℕ) (
     → record { number = number; kind = copied; attributes = all } ≡ flat_new n
 copied_node n inner number kind copied attributes all view e f =
     ap (λ (k : List ℕ). record { number = number; kind = k; attributes = all }) e
-    ∙ ap (λ (l : List AttributeData). record { number = number; kind = kind; attributes = l }) (f ∙ sym (data_back attributes))
+    ∙ ap (λ (l : List AttributeData). record { number = number; kind = kind; attributes = l })
+        (f ∙ sym (data_back attributes))
     ∙ ap (λ (m : FlatNode). flat_new m) view
 
--- What a look-up by index gives.
+-- A look-up by index returns `None` after the end of the list.
 pub got_none : {X : Type 0} (xs : List X) (i : ℕ) → length xs ≤ i → slice_get xs i ≡ None
 got_none [] i h = refl
 got_none (x ∷ xs) zero h = absurd (omega arith)

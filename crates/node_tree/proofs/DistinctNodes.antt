@@ -23,13 +23,16 @@ pub found_distinct : (q : ℕ) (ts : List TreeNode) → EachIsDistinct ts → Ch
 found_distinct q [] d = tt
 found_distinct q (t ∷ ts) d = by (t.number == q) (found_distinct q ts d.1)
   where
-    by : (b : Bool) → ChildrenAreDistinct (numbered_node q ts) → ChildrenAreDistinct (if b then Some t else numbered_node q ts)
+    by : (b : Bool) → ChildrenAreDistinct (numbered_node q ts)
+        → ChildrenAreDistinct (if b then Some t else numbered_node q ts)
     by true go = d.0
     by false go = go
 
-pub since_distinct : (q : ℕ) (ts : List TreeNode) → EachIsDistinct ts → HaveDistinctNumbers (children_since (numbered_node q ts)) × EachIsDistinct (children_since (numbered_node q ts))
+pub since_distinct : (q : ℕ) (ts : List TreeNode) → EachIsDistinct ts
+    → HaveDistinctNumbers (children_since (numbered_node q ts)) × EachIsDistinct (children_since (numbered_node q ts))
 since_distinct q ts d = by (numbered_node q ts) (found_distinct q ts d)
   where
-    by : (o : Option TreeNode) → ChildrenAreDistinct o → HaveDistinctNumbers (children_since o) × EachIsDistinct (children_since o)
+    by : (o : Option TreeNode) → ChildrenAreDistinct o
+        → HaveDistinctNumbers (children_since o) × EachIsDistinct (children_since o)
     by None d = (tt, tt)
     by (Some t) d = (distinct_list t.children d, each_distinct t.children d)

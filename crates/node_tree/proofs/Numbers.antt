@@ -10,7 +10,8 @@ pub has_is_some : (k : ℕ) (ns : List TreeNode) → has_number k ns ≡ is_some
 has_is_some k [] = refl
 has_is_some k (n ∷ ns) = by (n.number == k) (has_is_some k ns)
   where
-    by : (b : Bool) → has_number k ns ≡ is_some (numbered_node k ns) → (b || has_number k ns) ≡ is_some (if b then Some n else numbered_node k ns)
+    by : (b : Bool) → has_number k ns ≡ is_some (numbered_node k ns)
+        → (b || has_number k ns) ≡ is_some (if b then Some n else numbered_node k ns)
     by true e = refl
     by false e = e
 
@@ -28,7 +29,8 @@ pub split_at_number : (k : ℕ) (ns : List TreeNode) → has_number k ns ≡ tru
 split_at_number k [] e = absurd (false≢true e)
 split_at_number k (n ∷ ns) e = by (n.number == k) refl e (split_at_number k ns)
   where
-    by : (b : Bool) → (n.number == k) ≡ b → (b || has_number k ns) ≡ true → (has_number k ns ≡ true → SplitAt k ns) → SplitAt k (n ∷ ns)
+    by : (b : Bool) → (n.number == k) ≡ b → (b || has_number k ns) ≡ true → (has_number k ns ≡ true → SplitAt k ns)
+        → SplitAt k (n ∷ ns)
     by true is h go = record {
       before = [];
       node = n;
@@ -45,13 +47,15 @@ split_at_number k (n ∷ ns) e = by (n.number == k) refl e (split_at_number k ns
           node = s.node;
           after = s.after;
           whole = ap (λ l. n ∷ l) s.whole;
-          index = (let h : length (n ∷ s.before) ≡ 1 + index_of k ns = omega (arith, s.index) in h) ∙ sym (ap (λ (c : Bool). if c then 0 else 1 + index_of k ns) is);
+          index = (let h : length (n ∷ s.before) ≡ 1 + index_of k ns = omega (arith, s.index) in h)
+              ∙ sym (ap (λ (c : Bool). if c then 0 else 1 + index_of k ns) is);
           left = ap (λ (c : Bool). if c then ns else n ∷ nodes_without k ns) is ∙ ap (λ l. n ∷ l) s.left;
           found = ap (λ (c : Bool). if c then Some n else numbered_node k ns) is ∙ s.found;
         }
 
--- What a list without a number has of other numbers.
-pub other_numbered : (k j : ℕ) (ns : List TreeNode) → (k ≡ j → ⊥) → numbered_node j (nodes_without k ns) ≡ numbered_node j ns
+-- Removing a number from a list keeps the nodes with other numbers.
+pub other_numbered : (k j : ℕ) (ns : List TreeNode) → (k ≡ j → ⊥)
+    → numbered_node j (nodes_without k ns) ≡ numbered_node j ns
 other_numbered k j [] ne = refl
 other_numbered k j (n ∷ ns) ne = by (n.number == k) refl (other_numbered k j ns ne)
   where
@@ -71,7 +75,8 @@ still_has k j (n ∷ ns) h = by (n.number == k) h (still_has k j ns)
     right true c e = refl
     right false c e = e
 
-    by : (b : Bool) → has_number j (if b then ns else n ∷ nodes_without k ns) ≡ true → (has_number j (nodes_without k ns) ≡ true → has_number j ns ≡ true)
+    by : (b : Bool) → has_number j (if b then ns else n ∷ nodes_without k ns) ≡ true
+        → (has_number j (nodes_without k ns) ≡ true → has_number j ns ≡ true)
         → has_number j (n ∷ ns) ≡ true
     by true h go = right (n.number == j) (has_number j ns) h
     by false h go = both (n.number == j) h
@@ -90,7 +95,8 @@ pub distinct_without : (k : ℕ) (ns : List TreeNode) → HaveDistinctNumbers ns
 distinct_without k [] d = tt
 distinct_without k (n ∷ ns) d = by (n.number == k) (distinct_without k ns d.1)
   where
-    by : (b : Bool) → HaveDistinctNumbers (nodes_without k ns) → HaveDistinctNumbers (if b then ns else n ∷ nodes_without k ns)
+    by : (b : Bool) → HaveDistinctNumbers (nodes_without k ns)
+        → HaveDistinctNumbers (if b then ns else n ∷ nodes_without k ns)
     by true go = d.1
     by false go = (has_not k n.number ns d.0, go)
 
@@ -98,12 +104,14 @@ pub gone_without : (k : ℕ) (ns : List TreeNode) → HaveDistinctNumbers ns →
 gone_without k [] d = refl
 gone_without k (n ∷ ns) d = by (n.number == k) refl (gone_without k ns d.1)
   where
-    by : (b : Bool) → (n.number == k) ≡ b → has_number k (nodes_without k ns) ≡ false → has_number k (if b then ns else n ∷ nodes_without k ns) ≡ false
+    by : (b : Bool) → (n.number == k) ≡ b → has_number k (nodes_without k ns) ≡ false
+        → has_number k (if b then ns else n ∷ nodes_without k ns) ≡ false
     by true is go = subst (λ (j : ℕ). has_number j ns ≡ false) (eqb-true n.number k is) d.0
     by false is go = ap (λ (c : Bool). c || has_number k (nodes_without k ns)) is ∙ go
 
 -- The old nodes that stay: all of them are in the new list, and the new numbers are found as before.
-pub stays : (j : ℕ) (new old : List TreeNode) → has_number j new ≡ true → numbered_node j (staying_nodes new old) ≡ numbered_node j old
+pub stays : (j : ℕ) (new old : List TreeNode) → has_number j new ≡ true
+    → numbered_node j (staying_nodes new old) ≡ numbered_node j old
 stays j new [] h = refl
 stays j new (o ∷ old) h = by (has_number o.number new) refl (stays j new old h)
   where
@@ -111,23 +119,28 @@ stays j new (o ∷ old) h = by (has_number o.number new) refl (stays j new old h
         → numbered_node j (cond b (o ∷ staying_nodes new old) (staying_nodes new old)) ≡ numbered_node j (o ∷ old)
     by true is go = ap (λ (r : Option TreeNode). if o.number == j then Some o else r) go
     by false is go =
-        let lacks : (o.number == j) ≡ false = ne_eqb o.number j (λ e. true≢false (sym (ap (λ (i : ℕ). has_number i new) e ∙ h) ∙ is)) in
+        let lacks : (o.number == j) ≡ false =
+            ne_eqb o.number j (λ e. true≢false (sym (ap (λ (i : ℕ). has_number i new) e ∙ h) ∙ is)) in
         go ∙ sym (ap (λ (c : Bool). if c then Some o else numbered_node j old) lacks)
 
-pub staying_is_new : (j : ℕ) (new old : List TreeNode) → has_number j (staying_nodes new old) ≡ true → has_number j new ≡ true
+pub staying_is_new : (j : ℕ) (new old : List TreeNode) → has_number j (staying_nodes new old) ≡ true
+    → has_number j new ≡ true
 staying_is_new j new [] h = absurd (false≢true h)
 staying_is_new j new (o ∷ old) h = by (has_number o.number new) refl h (staying_is_new j new old)
   where
-    by : (b : Bool) → has_number o.number new ≡ b → has_number j (cond b (o ∷ staying_nodes new old) (staying_nodes new old)) ≡ true
+    by : (b : Bool) → has_number o.number new ≡ b
+        → has_number j (cond b (o ∷ staying_nodes new old) (staying_nodes new old)) ≡ true
         → (has_number j (staying_nodes new old) ≡ true → has_number j new ≡ true) → has_number j new ≡ true
     by true is h go = at (o.number == j) refl h
       where
-        at : (c : Bool) → (o.number == j) ≡ c → (c || has_number j (staying_nodes new old)) ≡ true → has_number j new ≡ true
+        at : (c : Bool) → (o.number == j) ≡ c → (c || has_number j (staying_nodes new old)) ≡ true
+            → has_number j new ≡ true
         at true same h = sym (ap (λ (i : ℕ). has_number i new) (eqb-true o.number j same)) ∙ is
         at false same h = go h
     by false is h go = go h
 
-staying_is_old : (j : ℕ) (new old : List TreeNode) → has_number j old ≡ false → has_number j (staying_nodes new old) ≡ false
+staying_is_old : (j : ℕ) (new old : List TreeNode) → has_number j old ≡ false
+    → has_number j (staying_nodes new old) ≡ false
 staying_is_old j new [] h = refl
 staying_is_old j new (o ∷ old) h = by (has_number o.number new) (staying_is_old j new old)
   where
@@ -135,7 +148,8 @@ staying_is_old j new (o ∷ old) h = by (has_number o.number new) (staying_is_ol
     parts true c e = absurd (true≢false e)
     parts false c e = (refl, e)
 
-    by : (b : Bool) → (has_number j old ≡ false → has_number j (staying_nodes new old) ≡ false) → has_number j (cond b (o ∷ staying_nodes new old) (staying_nodes new old)) ≡ false
+    by : (b : Bool) → (has_number j old ≡ false → has_number j (staying_nodes new old) ≡ false)
+        → has_number j (cond b (o ∷ staying_nodes new old) (staying_nodes new old)) ≡ false
     by true go =
         let p = parts (o.number == j) (has_number j old) h in
         ap (λ (c : Bool). c || has_number j (staying_nodes new old)) p.0 ∙ go p.1
@@ -145,6 +159,7 @@ pub distinct_staying : (new old : List TreeNode) → HaveDistinctNumbers old →
 distinct_staying new [] d = tt
 distinct_staying new (o ∷ old) d = by (has_number o.number new) (distinct_staying new old d.1)
   where
-    by : (b : Bool) → HaveDistinctNumbers (staying_nodes new old) → HaveDistinctNumbers (cond b (o ∷ staying_nodes new old) (staying_nodes new old))
+    by : (b : Bool) → HaveDistinctNumbers (staying_nodes new old)
+        → HaveDistinctNumbers (cond b (o ∷ staying_nodes new old) (staying_nodes new old))
     by true go = (staying_is_old o.number new old d.0, go)
     by false go = go

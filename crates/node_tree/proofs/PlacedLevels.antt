@@ -16,14 +16,18 @@ use Rattle.node_tree.proofs.SiblingNodes.{siblings_are, sibling_at, part_found}
 use Rattle.node_tree.proofs.SiblingCalls.{sibling_calls_are}
 
 -- The siblings that are listed are those of the tree.
-pub listed : (n : Nodes) (list : List FlatNode) (siblings items : List Sibling) → list ≡ flat_nodes n → siblings ≡ items → items ≡ sibling_list 0 0 list → siblings ≡ siblings_of 0 n
+pub listed : (n : Nodes) (list : List FlatNode) (siblings items : List Sibling) → list ≡ flat_nodes n → siblings ≡ items
+    → items ≡ sibling_list 0 0 list → siblings ≡ siblings_of 0 n
 listed n list siblings items e f g = f ∙ g ∙ ap (λ l. sibling_list 0 0 l) e ∙ siblings_are n
 
-pub level_begins : (o n : Nodes) (so sn : List Sibling) (new : List FlatNode) (before now : List Op) → so ≡ siblings_of 0 o → sn ≡ siblings_of 0 n → new ≡ flat_nodes n → AreDistinct o → AreDistinct n
-    → now ≡ before ++ sibling_calls so sn new → now ++ inner_calls 0 (node_list o) n ≡ before ++ ops_between (node_list o) n
+pub level_begins : (o n : Nodes) (so sn : List Sibling) (new : List FlatNode) (before now : List Op)
+    → so ≡ siblings_of 0 o → sn ≡ siblings_of 0 n → new ≡ flat_nodes n → AreDistinct o → AreDistinct n
+    → now ≡ before ++ sibling_calls so sn new
+    → now ++ inner_calls 0 (node_list o) n ≡ before ++ ops_between (node_list o) n
 level_begins o n so sn new before now e f g d h is =
     ap (λ l. l ++ inner_calls 0 (node_list o) n) (
-    is ∙ ap (λ s. before ++ sibling_calls s sn new) e ∙ ap (λ s. before ++ sibling_calls (siblings_of 0 o) s new) f ∙ ap (λ l. before ++ sibling_calls (siblings_of 0 o) (siblings_of 0 n) l) g
+    is ∙ ap (λ s. before ++ sibling_calls s sn new) e ∙ ap (λ s. before ++ sibling_calls (siblings_of 0 o) s new) f
+        ∙ ap (λ l. before ++ sibling_calls (siblings_of 0 o) (siblings_of 0 n) l) g
     ∙ ap (λ l. before ++ l) (sibling_calls_are o n (distinct_list o d) (distinct_list n h)))
     ∙ append_assoc before _ (inner_calls 0 (node_list o) n)
 
@@ -36,48 +40,62 @@ nodes_past : (n : Nodes) (at i : ℕ) → length (siblings_of at n) ≤ i → no
 nodes_past nodes.None at zero h = refl
 nodes_past nodes.None at (suc i) h = refl
 nodes_past (Branch number kind attributes children rest) at zero h = absurd (omega arith)
-nodes_past (Branch number kind attributes children rest) at (suc i) h = nodes_past rest (at + 1 + length (flat_nodes children)) i (omega arith)
+nodes_past (Branch number kind attributes children rest) at (suc i) h =
+    nodes_past rest (at + 1 + length (flat_nodes children)) i (omega arith)
 
-pub level_ends : (o n : Nodes) (sn : List Sibling) (i : ℕ) (now whole : List Op) → sn ≡ siblings_of 0 n → length sn ≤ i → now ++ inner_calls i (node_list o) (nodes_from i n) ≡ whole → now ≡ whole
+pub level_ends : (o n : Nodes) (sn : List Sibling) (i : ℕ) (now whole : List Op) → sn ≡ siblings_of 0 n → length sn ≤ i
+    → now ++ inner_calls i (node_list o) (nodes_from i n) ≡ whole → now ≡ whole
 level_ends o n sn i now whole e past so =
     let none : nodes_from i n ≡ nodes.None = nodes_past n 0 i (subst (λ (s : List Sibling). length s ≤ i) e past) in
     sym (append-nil now) ∙ ap (λ (r : Nodes). now ++ inner_calls i (node_list o) r) (sym none) ∙ so
 
--- What the calls inside a node need and give.
+-- The requirements and results of the calls inside a node.
 abbrev pub Inner : ℕ → List FlatNode → List FlatNode → List Op → List Op → Type 0
 Inner index old new was now =
-    (before : Option TreeNode) (node : FlatNode) (children : Nodes) → old ≡ flat_before before → new ≡ node ∷ flat_nodes children → ChildrenAreDistinct before → AreDistinct children
-    → now ≡ was ++ calls_inside index (sets_since before node.attributes ++ ops_between (children_since before) children)
+    (before : Option TreeNode) (node : FlatNode) (children : Nodes) → old ≡ flat_before before
+        → new ≡ node ∷ flat_nodes children → ChildrenAreDistinct before → AreDistinct children
+    → now ≡ was ++ calls_inside index
+        (sets_since before node.attributes ++ ops_between (children_since before) children)
 
-pub level_goes_on : (o n : Nodes) (so sn : List Sibling) (d : Sibling) (find : Option ℕ) (old new before after : List FlatNode) (i : ℕ) (was now whole : List Op)
-    → so ≡ siblings_of 0 o → sn ≡ siblings_of 0 n → old ≡ flat_nodes o → new ≡ flat_nodes n → AreDistinct o → AreDistinct n → i < length sn
-    → find ≡ index_in (get_or sn i d).number so → before ≡ part_of so old find → after ≡ part (get_or sn i d).start (get_or sn i d).end new
+pub level_goes_on : (o n : Nodes) (so sn : List Sibling) (d : Sibling) (find : Option ℕ)
+    (old new before after : List FlatNode) (i : ℕ) (was now whole : List Op)
+    → so ≡ siblings_of 0 o → sn ≡ siblings_of 0 n → old ≡ flat_nodes o → new ≡ flat_nodes n → AreDistinct o
+    → AreDistinct n → i < length sn
+    → find ≡ index_in (get_or sn i d).number so → before ≡ part_of so old find
+    → after ≡ part (get_or sn i d).start (get_or sn i d).end new
     → Inner i before after was now → was ++ inner_calls i (node_list o) (nodes_from i n) ≡ whole
     → now ++ inner_calls (i + 1) (node_list o) (nodes_from (i + 1) n) ≡ whole
 level_goes_on o n so sn d find old new before after i was now whole e f g h distinct_old distinct_new below found is_before is_after inner so_far =
     let s = sibling_at n i (subst (λ (l : List Sibling). i < length l) f below) in
-    let sibling : get_or sn i d ≡ record { number = s.number; start = s.start; end = s.end } = ap (λ (l : List Sibling). get_or l i d) f ∙ s.sibling d in
+    let sibling : get_or sn i d ≡ record { number = s.number; start = s.start; end = s.end } =
+        ap (λ (l : List Sibling). get_or l i d) f ∙ s.sibling d in
     let t : Option TreeNode = numbered_node s.number (node_list o) in
     let first : before ≡ flat_before t =
     is_before ∙ ap (λ (k : Option ℕ). part_of so old k) (found ∙ ap (λ (x : Sibling). index_in x.number so) sibling)
-    ∙ ap (λ (l : List Sibling). part_of l old (index_in s.number l)) e ∙ ap (λ (l : List FlatNode). part_of (siblings_of 0 o) l (index_in s.number (siblings_of 0 o))) g
+    ∙ ap (λ (l : List Sibling). part_of l old (index_in s.number l)) e
+    ∙ ap (λ (l : List FlatNode). part_of (siblings_of 0 o) l (index_in s.number (siblings_of 0 o))) g
     ∙ part_found o s.number (distinct_list o distinct_old) in
-    let second : after ≡ flat_node (length (flat_nodes s.children)) s.number s.kind s.attributes ∷ flat_nodes s.children =
-    is_after ∙ ap (λ (x : Sibling). part x.start x.end new) sibling ∙ ap (λ (l : List FlatNode). part s.start s.end l) h ∙ s.part in
-    let children : AreDistinct s.children = (subst (λ (r : Nodes). AreDistinct r) s.here (distinct_from i n distinct_new)).1 in
-    let one = inner t (flat_node (length (flat_nodes s.children)) s.number s.kind s.attributes) s.children first second (found_distinct s.number (node_list o) (each_distinct o distinct_old)) children in
+    let second : after ≡ flat_node (length (flat_nodes s.children)) s.number s.kind s.attributes
+        ∷ flat_nodes s.children =
+    is_after ∙ ap (λ (x : Sibling). part x.start x.end new) sibling
+        ∙ ap (λ (l : List FlatNode). part s.start s.end l) h ∙ s.part in
+    let children : AreDistinct s.children =
+        (subst (λ (r : Nodes). AreDistinct r) s.here (distinct_from i n distinct_new)).1 in
+    let one = inner t (flat_node (length (flat_nodes s.children)) s.number s.kind s.attributes) s.children first second
+        (found_distinct s.number (node_list o) (each_distinct o distinct_old)) children in
     let rest : List Op = inner_calls (i + 1) (node_list o) (nodes_from (i + 1) n) in
     ap (λ l. l ++ rest) one
     ∙ append_assoc was (calls_inside i (sets_since t s.attributes ++ ops_between (children_since t) s.children)) rest
     ∙ ap (λ (r : Nodes). was ++ inner_calls i (node_list o) r) (sym s.here)
     ∙ so_far
 
--- The children of what a node was.
+-- The children of the old node, or no nodes if the node is new.
 abbrev pub old_children : Option TreeNode → Nodes
 old_children None = nodes.None
 old_children (Some t) = t.children
 
-pub inside_before : (before : Option TreeNode) (old after : List FlatNode) → old ≡ flat_before before → after ≡ drop 1 old → after ≡ flat_nodes (old_children before)
+pub inside_before : (before : Option TreeNode) (old after : List FlatNode) → old ≡ flat_before before
+    → after ≡ drop 1 old → after ≡ flat_nodes (old_children before)
 inside_before None old after e f = f ∙ ap (λ (l : List FlatNode). drop 1 l) e
 inside_before (Some t) old after e f = f ∙ ap (λ (l : List FlatNode). drop 1 l) e
 
@@ -89,17 +107,21 @@ since_before : (before : Option TreeNode) → node_list (old_children before) �
 since_before None = refl
 since_before (Some t) = refl
 
-pub same_first : (new inside : List FlatNode) (node first : FlatNode) (children : Nodes) → new ≡ node ∷ flat_nodes children → new ≡ first ∷ inside → (first ≡ node) × (inside ≡ flat_nodes children)
+pub same_first : (new inside : List FlatNode) (node first : FlatNode) (children : Nodes)
+    → new ≡ node ∷ flat_nodes children → new ≡ first ∷ inside → (first ≡ node) × (inside ≡ flat_nodes children)
 same_first new inside node first children e f = (cc, cc)
 
 -- The calls inside a node, one after another.
-pub inside_all : (before : Option TreeNode) (node first : FlatNode) (children : Nodes) (index : ℕ) (was pushed set now : List Op) → first ≡ node
-    → pushed ≡ was ++ op.Down index ∷ [] → set ≡ pushed ++ sets_since before first.attributes → now ≡ set ++ ops_between (node_list (old_children before)) children
+pub inside_all : (before : Option TreeNode) (node first : FlatNode) (children : Nodes) (index : ℕ)
+    (was pushed set now : List Op) → first ≡ node
+    → pushed ≡ was ++ op.Down index ∷ [] → set ≡ pushed ++ sets_since before first.attributes
+    → now ≡ set ++ ops_between (node_list (old_children before)) children
     → now ≡ was ++ (op.Down index ∷ (sets_since before node.attributes ++ ops_between (children_since before) children))
 inside_all before node first children index was pushed set now e p s l =
     let sets : List Op = sets_since before node.attributes in
     let level : List Op = ops_between (children_since before) children in
     l ∙ ap (λ (c : List TreeNode). set ++ ops_between c children) (since_before before)
-    ∙ ap (λ x. x ++ level) (s ∙ ap (λ (x : FlatNode). pushed ++ sets_since before x.attributes) e ∙ ap (λ x. x ++ sets) p)
+    ∙ ap (λ x. x ++ level) (s ∙ ap (λ (x : FlatNode). pushed ++ sets_since before x.attributes) e
+        ∙ ap (λ x. x ++ sets) p)
     ∙ append_assoc (was ++ op.Down index ∷ []) sets level
     ∙ append_assoc was (op.Down index ∷ []) (sets ++ level)

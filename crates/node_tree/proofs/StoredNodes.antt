@@ -27,8 +27,11 @@ weight_split n xs = sym (weight_append (take n xs) (drop n xs)) ∙ ap list_weig
 -- The nodes of stored nodes, as lists.
 pub nodes_listed : (ks : KeptNodes) → node_list (nodes_kept ks) ≡ map node_kept (kept_list ks)
 nodes_listed NoNode = refl
-nodes_listed (Kept n k a c b f r) = ap (λ l. node_kept (record { number = n; kind = k; attributes = a; children = c; before = b; after = f }) ∷ l) (nodes_listed r)
+nodes_listed (Kept n k a c b f r) =
+    ap (λ l. node_kept (record { number = n; kind = k; attributes = a; children = c; before = b; after = f }) ∷ l)
+    (nodes_listed r)
 
 pub nodes_joined : (ks : List KeptValue) → nodes_kept (kept_of ks) ≡ nodes_of (map node_kept ks)
 nodes_joined [] = refl
-nodes_joined (k ∷ ks) = ap (λ l. Branch k.number k.kind (node_kept k).attributes (nodes_kept k.children) l) (nodes_joined ks)
+nodes_joined (k ∷ ks) = ap (λ l. Branch k.number k.kind (node_kept k).attributes (nodes_kept k.children) l)
+    (nodes_joined ks)

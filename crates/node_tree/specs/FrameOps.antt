@@ -7,7 +7,7 @@ use Rattle.node_tree.specs.declared.ops.Op.{Op}
 use Rattle.node_tree.specs.declared.ops.Op.TheVariants as op
 use Rattle.node_tree.specs.Placing.{ops}
 
--- The calls on an applier of a frame that keeps this forest after the kept state `k`: those that turn the kept node tree
--- into the new one. If the composition is detached, `clear` comes first.
+-- The calls on an applier of a frame that keeps this forest after the kept state `k`: the calls that turn the kept
+-- node tree into the new tree. If the composition is detached, `clear` comes first.
 abbrev pub frame_ops : LastFrame → GroupForest → List Op
 frame_ops k trail = (if is_detached k then op.Clear ∷ [] else []) ++ ops (nodes k.trail) (nodes trail)

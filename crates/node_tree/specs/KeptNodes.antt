@@ -15,7 +15,7 @@ pub data KeptNodes : Type 0 where
   Kept : (number : ℕ) → (kind : List ℕ) → (attributes : List AttributeData) →
       (children before after rest : KeptNodes) → KeptNodes
 
--- One stored node.
+-- A stored node.
 pub record KeptValue : Type 0 where
   pub number : ℕ
   pub kind : List ℕ
@@ -26,7 +26,8 @@ pub record KeptValue : Type 0 where
 
 abbrev pub kept_value : ℕ → List ℕ → List AttributeData → KeptNodes → KeptNodes → KeptNodes → KeptValue
 kept_value number kind attributes children before after =
-    record { number = number; kind = kind; attributes = attributes; children = children; before = before; after = after }
+    record { number = number; kind = kind; attributes = attributes; children = children; before = before;
+        after = after }
 
 abbrev pub kept_of : List KeptValue → KeptNodes
 kept_of [] = NoNode

@@ -30,7 +30,8 @@ abbrev pub nodes_without : ℕ → List TreeNode → List TreeNode
 nodes_without number [] = []
 nodes_without number (n ∷ ns) = if n.number == number then ns else n ∷ nodes_without number ns
 
--- The removals from the last node to the first, where `old` begins at the index: each node whose number is not in `new`.
+-- The removals from the last node to the first, where `old` begins at the index: each node whose number is not in
+-- `new`.
 abbrev pub removals : ℕ → List TreeNode → List TreeNode → List Op
 removals index new [] = []
 removals index new (o ∷ old) =

@@ -113,7 +113,8 @@ nodes_from (suc i) (Branch number kind attributes children rest) = nodes_from i 
 abbrev pub BeginAlike : Nodes → Nodes → Type 0
 BeginAlike nodes.None n = ⊥
 BeginAlike (Branch number kind attributes children rest) nodes.None = ⊥
-BeginAlike (Branch number kind attributes children rest) (Branch number' kind' attributes' children' rest') = number ≡ number'
+BeginAlike (Branch number kind attributes children rest) (Branch number' kind' attributes' children' rest') =
+    number ≡ number'
 
 -- The siblings of two trees have the same numbers in order.
 abbrev pub HaveSameNumbers : Nodes → Nodes → Type 0

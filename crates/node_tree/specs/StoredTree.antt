@@ -8,8 +8,8 @@ use Rattle.node_tree.specs.declared.ops.NewNode.{NewNode}
 use Rattle.node_tree.specs.NodeTrees.{CursorTree}
 use Rattle.node_tree.specs.KeptNodes.{KeptValue, kept_value_code, kept_of, kept_list, NoNode, list_weight, node_kept, open_kept}
 
--- The children of the current node, the open nodes from the current one up, and the number of nodes that can be inserted
--- without memory.
+-- The children of the current node, the open nodes from the current one up, and the number of nodes that can be
+-- inserted without memory.
 pub record StoredTree : Type 0 where
   pub children : List KeptValue
   pub open_nodes : List KeptValue

@@ -109,8 +109,8 @@ fn list_among<'t>(alloc: Global, table: &'t Table) -> Result<Vec<NodeRef<'t>>, N
     Ok(nodes)
 }
 
-/// Returns the nodes of a composition in preorder, without its calls, keys and cells. Takes time linear in the number of
-/// groups, and copies no values.
+/// Returns the nodes of a composition in preorder, without its calls, keys and cells. Takes time linear in the number
+/// of groups, and copies no values.
 pub fn list_nodes<'t>(alloc: Global, table: &'t Table) -> Result<Vec<NodeRef<'t>>, NoMemory>
     ensures { (t : GroupForest) → table.now.groups ≡ preorder 0 t → IfOk result (λ v. v.items ≡ flat_nodes (nodes t)) }
 {

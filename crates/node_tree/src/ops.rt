@@ -38,7 +38,7 @@ pub struct NewNode {
     pub attributes: NodeAttributes,
 }
 
-/// One call on an `Applier`. Indexes are those of the children of the current node.
+/// A call on an `Applier`. Indexes are those of the children of the current node.
 #[derive(Drop)]
 pub enum Op {
     /// `down`: makes the child at `index` the current node.

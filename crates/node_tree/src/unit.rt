@@ -7,8 +7,8 @@ use rt_streams::Failed;
 use rt_values::{NoMemory, Value, Word};
 use std::alloc::Global;
 
-/// An applier without a tree: it keeps no nodes, and its calls never fail (`UnitApplier`). For a composition whose nodes
-/// nobody sees.
+/// An applier without a tree: it keeps no nodes, and its calls never fail (`UnitApplier`). For a composition whose
+/// nodes nobody sees.
 #[derive(Drop)]
 pub struct UnitApplier;
 

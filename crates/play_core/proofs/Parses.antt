@@ -2,7 +2,7 @@
 use Rattle.std.proofs.Common.{arith, subst, ◌≡◌, ◌≢◌, ◌⊎◌, inl, inr, ◌≤◌, ◌<◌, ◌+◌, ◌==◌, nat_le, ℕ, zero, suc, List, [], ◌∷◌, Option, Some, None, refl, ◌∙◌, length, get_or}
 use Rattle.std.specs.Prelude.{IfSome}
 use Rattle.std.proofs.lemmas.Bool.Decides.{eqb_tells}
-use Rattle.sexp_text.specs.Forest.{Forest, empty, atom, behind, nesting}
+use Rattle.sexp_text.specs.Forest.{Forest, empty, atom, joined_trees, nesting}
 use Rattle.sexp_text.specs.Grammar.{is_blank, is_atom_byte}
 use Rattle.sexp_text.specs.Machine.{Mode, gap, in_comment, in_word, in_text, in_escape, OpenLists, State, close_list, start, step, next, forest_at_end, first_state, state_at, whole, IsShallow, Refuses}
 use Rattle.sexp_text.specs.declared.stop.TextStop.{TextStop}
@@ -37,7 +37,7 @@ unfolding Opens
 step-opens gap os f at b = start-opens at b os f
 step-opens in_comment os f at b = same-opens b os
 step-opens (in_word from name) os f at b =
-    tested (λ (o : Option State). IfSome o (Opens b os)) (is_atom_byte b) _ _ (λ _. same-opens b os) (λ _. start-opens at b os (behind f (atom from name empty)))
+    tested (λ (o : Option State). IfSome o (Opens b os)) (is_atom_byte b) _ _ (λ _. same-opens b os) (λ _. start-opens at b os (joined_trees f (atom from name empty)))
 step-opens (in_text from chars) os f at b =
     let P = (λ (o : Option State). IfSome o (Opens b os)) in
     tested P (b == 34) _ _ (λ _. same-opens b os)

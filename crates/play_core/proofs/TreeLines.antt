@@ -1,26 +1,26 @@
 -- Lines of trees: one after another, and independent of offsets.
 use Rattle.std.proofs.Common.{◌≡◌, ℕ, Bool, true, false, List, [], ◌∷◌, ◌++◌, refl, sym, ap, ◌∙◌, append_assoc}
-use Rattle.sexp_text.specs.Forest.{Forest, empty, atom, text, list, behind, without_offsets}
+use Rattle.sexp_text.specs.Forest.{Forest, empty, atom, text, list, joined_trees, without_offsets}
 use Rattle.sexp_text.specs.Grammar.{escaped_string, Spells}
 use Rattle.sexp_text.specs.Layout.{separator, inline_form, lines}
 use Rattle.sexp_text.specs.View.{tree_view, forest_view}
 use Rattle.sexp_text.specs.declared.tree.Tree.{Tree}
-use Rattle.sexp_text.proofs.Trees.{behind_assoc}
+use Rattle.sexp_text.proofs.Trees.{joined_trees_assoc}
 use Rattle.lang_forms.specs.Sources.{Source}
 use Rattle.lang_forms.specs.Forms.{text_forms}
 use Rattle.lang_write.proofs.Written.{fits_unplaced}
 use Rattle.play_core.specs.Texts.{IsText, check_output}
 use Rattle.play_core.proofs.Uniques.{text-forms}
 
-lines-behind : (f g : Forest) → lines (behind f g) ≡ lines f ++ lines g
+lines-behind : (f g : Forest) → lines (joined_trees f g) ≡ lines f ++ lines g
 lines-behind empty g = refl
 lines-behind (atom at a f) g = ap (λ l. a ++ 10 ∷ l) (lines-behind f g) ∙ sym (append_assoc a (10 ∷ lines f) (lines g))
 lines-behind (text at s f) g = ap (λ l. 34 ∷ escaped_string s ++ 34 ∷ 10 ∷ l) (lines-behind f g) ∙ sym (append_assoc (34 ∷ escaped_string s) (34 ∷ 10 ∷ lines f) (lines g))
 lines-behind (list at i f) g = ap (λ l. 40 ∷ inline_form false i ++ 41 ∷ 10 ∷ l) (lines-behind f g) ∙ sym (append_assoc (40 ∷ inline_form false i) (41 ∷ 10 ∷ lines f) (lines g))
 
-forest_view-append : (xs ys : List Tree) → forest_view (xs ++ ys) ≡ behind (forest_view xs) (forest_view ys)
+forest_view-append : (xs ys : List Tree) → forest_view (xs ++ ys) ≡ joined_trees (forest_view xs) (forest_view ys)
 forest_view-append [] ys = refl
-forest_view-append (x ∷ xs) ys = ap (behind (tree_view x)) (forest_view-append xs ys) ∙ sym (behind_assoc (tree_view x) (forest_view xs) (forest_view ys))
+forest_view-append (x ∷ xs) ys = ap (joined_trees (tree_view x)) (forest_view-append xs ys) ∙ sym (joined_trees_assoc (tree_view x) (forest_view xs) (forest_view ys))
 
 -- The lines of the first trees, then those of the others.
 pub lines-next : (first more all : List Tree) → all ≡ first ++ more → lines (forest_view all) ≡ lines (forest_view first) ++ lines (forest_view more)

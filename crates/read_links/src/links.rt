@@ -76,9 +76,10 @@ fn put_first(
     requires { get nat_eq objects.old object ≡ None }
     ensures links { OnOk result (entry_links (λ v. v.items) objects.new.entries
         ≡ links_with scope object (entry_links (λ v. v.items) objects.old.entries)) }
-    ensures free { 0 < links_spare (λ v. vec_capacity v - vec_len v) (spare objects.old) objects.old.entries pool.old.items →
-        OnErr result ⊥ }
-    ensures spare { OnOk result (links_spare (λ v. vec_capacity v - vec_len v) (spare objects.old) objects.old.entries pool.old.items
+    ensures free { 0 < links_spare (λ v. vec_capacity v - vec_len v) (spare objects.old) objects.old.entries
+        pool.old.items → OnErr result ⊥ }
+    ensures spare { OnOk result (links_spare (λ v. vec_capacity v - vec_len v) (spare objects.old) objects.old.entries
+        pool.old.items
         ≤ links_spare (λ v. vec_capacity v - vec_len v) (spare objects.new) objects.new.entries pool.new.items + 1) }
 {
     let mut scopes = take_list(alloc, pool);

@@ -49,8 +49,8 @@ pub fn remove_scope(scopes: &mut Vec<Scope>, scope: Scope)
 // Returns an empty list, one of `pool` if it has any.
 pub fn take_list(alloc: Global, pool: &mut Vec<Vec<Scope>>) -> Vec<Scope>
     ensures empty { result.items ≡ [] }
-    ensures room { (n : ℕ) → AllHaveSpare (λ v. vec_capacity v - vec_len v) n pool.old.items → 0 < length pool.old.items →
-        n ≤ vec_capacity result - vec_len result }
+    ensures room { (n : ℕ) → AllHaveSpare (λ v. vec_capacity v - vec_len v) n pool.old.items
+        → 0 < length pool.old.items → n ≤ vec_capacity result - vec_len result }
     ensures rest { (n : ℕ) → AllHaveSpare (λ v. vec_capacity v - vec_len v) n pool.old.items →
         AllHaveSpare (λ v. vec_capacity v - vec_len v) n pool.new.items }
     ensures len { length pool.old.items ≤ length pool.new.items + 1 }

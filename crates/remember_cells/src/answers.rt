@@ -9,11 +9,11 @@ pub struct Cell<'a> {
     pub value: &'a Value,
 }
 
-/// What composing does at a `remember`.
+/// The action of composing at a `remember`.
 #[derive(Clone, Copy, Debug, PartialEq, Eq)]
 pub enum CellAnswer {
-    /// It keeps the value of the old cell.
+    /// Keeps the value of the old cell.
     Kept,
-    /// It calculates the value.
+    /// Calculates the value.
     Calculate,
 }

@@ -5,7 +5,8 @@ use Rattle.rt_groups.specs.GroupForest.{GroupForest, End, Read, Group, joined_fo
 pub asks-joined_forest : (s t : GroupForest) → asks (joined_forest s t) ≡ asks s ++ asks t
 asks-joined_forest End t = refl
 asks-joined_forest (Read x rest) t = ap (λ l. x ∷ l) (asks-joined_forest rest t)
-asks-joined_forest (Group site n what inside rest) t = ap (λ l. asks inside ++ l) (asks-joined_forest rest t) ∙ sym (append_assoc (asks inside) (asks rest) (asks t))
+asks-joined_forest (Group site n what inside rest) t = ap (λ l. asks inside ++ l) (asks-joined_forest rest t)
+    ∙ sym (append_assoc (asks inside) (asks rest) (asks t))
 
 pub asks-reads_then : (xs : List ℕ) (t : GroupForest) → asks (reads_then xs t) ≡ xs ++ asks t
 asks-reads_then [] t = refl

@@ -23,7 +23,7 @@ pub data GroupForest : Type 0 where
   Read : (object : ℕ) → (rest : GroupForest) → GroupForest
   Group : (site number : ℕ) → (what : GroupKind) → (inside rest : GroupForest) → GroupForest
 
--- One forest, then another.
+-- The first forest, then the second.
 abbrev pub joined_forest : GroupForest → GroupForest → GroupForest
 joined_forest End t = t
 joined_forest (Read x rest) t = Read x (joined_forest rest t)
@@ -76,4 +76,5 @@ inside_own (Cell ks v) own = own
 abbrev pub own_part : GroupForest → GroupForest
 own_part End = End
 own_part (Read x rest) = Read x (own_part rest)
-own_part (Group site number what inside rest) = Group site number what (inside_own what (own_part inside)) (own_part rest)
+own_part (Group site number what inside rest) =
+    Group site number what (inside_own what (own_part inside)) (own_part rest)

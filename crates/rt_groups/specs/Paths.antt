@@ -13,7 +13,7 @@ key_of (Node k as_) = None
 key_of (Key v) = Some v
 key_of (Cell ks v) = None
 
--- What identifies a group among its siblings, except for repeats: its site and its key (`KeyInfo`).
+-- The identity of a group among its siblings, except for repeats: its site and its key (`KeyInfo`).
 pub record GroupKey : Type 0 where
   pub site : ℕ
   pub key : Option Value
@@ -29,7 +29,7 @@ abbrev pub occurrence : GroupKey → List GroupKey → ℕ
 occurrence s [] = 0
 occurrence s (x ∷ seen) = (if same_sibling x s then 1 else 0) + occurrence s seen
 
--- One step of a path.
+-- A step of a path.
 pub record PathStep : Type 0 where
   pub of : GroupKey
   pub occurrence : ℕ

@@ -27,11 +27,13 @@ flat_reads (trail.Cell keys value) inside = []
 
 -- The group with these parts.
 abbrev pub flat_group : ℕ → ℕ → ℕ → GroupKind → List ℕ → Group
-flat_group depth site number what reads = record { depth = depth; site = site; number = number; what = what; reads = reads }
+flat_group depth site number what reads =
+    record { depth = depth; site = site; number = number; what = what; reads = reads }
 
 -- The groups of a forest in preorder, each with its depth and its reads.
 abbrev pub preorder : ℕ → GroupForest → List Group
 preorder depth End = []
 preorder depth (Read x rest) = preorder depth rest
 preorder depth (trail.Group site number what inside rest) =
-    flat_group depth site number (flat_kind what) (flat_reads what inside) ∷ (preorder (depth + 1) inside ++ preorder depth rest)
+    flat_group depth site number (flat_kind what) (flat_reads what inside)
+        ∷ (preorder (depth + 1) inside ++ preorder depth rest)

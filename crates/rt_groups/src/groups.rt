@@ -7,7 +7,7 @@ use rt_values::{Items, NoMemory, ObjectNo, Objects, Value, Word};
 use std::alloc::Global;
 use std::marker::Model;
 
-/// What a call depends on: the number of a state object. A rule of this project; other kinds of values that a call
+/// The number of a state object that a call depends on. A rule of this project; other kinds of values that a call
 /// can read may join later.
 pub type Dep = ObjectNo;
 
@@ -51,7 +51,7 @@ pub struct Group {
     /// The number of a node, or 0 if the group has no number yet.
     pub number: u64,
     pub what: GroupKind,
-    /// What a call read itself, in order, repeats included (what its `RecomposeScope` observes). The list is empty
+    /// The reads of the call itself, in order and with repeats (observed by its `RecomposeScope`). The list is empty
     /// for the other kinds.
     pub reads: Deps,
 }

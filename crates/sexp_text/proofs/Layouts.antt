@@ -4,45 +4,55 @@ use Rattle.std.proofs.Math.Seq.{take-suc, drop-cons}
 use Rattle.std.proofs.lemmas.List.{append-nil}
 use Rattle.sexp_text.specs.View.{tree_view, forest_view}
 use Rattle.sexp_text.specs.declared.tree.Tree.{Tree}
-use Rattle.sexp_text.specs.Forest.{Forest, behind}
+use Rattle.sexp_text.specs.Forest.{Forest, joined_trees}
 use Rattle.sexp_text.specs.Grammar.{escape, escaped_string}
 use Rattle.sexp_text.specs.Layout.{separator, inline_form}
 use Rattle.sexp_text.proofs.Trees.{OneTree, one_atom, one_text, one_list, one_tree}
 
 pub escaped_string-append : (xs ys : List ℕ) → escaped_string (xs ++ ys) ≡ escaped_string xs ++ escaped_string ys
 escaped_string-append [] ys = refl
-escaped_string-append (x ∷ xs) ys = ap (λ l. escape x ++ l) (escaped_string-append xs ys) ∙ sym (append_assoc (escape x) (escaped_string xs) (escaped_string ys))
+escaped_string-append (x ∷ xs) ys = ap (λ l. escape x ++ l) (escaped_string-append xs ys)
+    ∙ sym (append_assoc (escape x) (escaped_string xs) (escaped_string ys))
 
--- a string with a further byte
-pub escaped_string-more : (xs : List ℕ) (i : ℕ) → i < length xs → escaped_string (take (i + 1) xs) ≡ escaped_string (take i xs) ++ escape (get_or xs i 0)
+-- The spelling of a prefix of a string grows by the spelling of the next byte.
+pub escaped_string-more : (xs : List ℕ) (i : ℕ) → i < length xs
+    → escaped_string (take (i + 1) xs) ≡ escaped_string (take i xs) ++ escape (get_or xs i 0)
 escaped_string-more xs i lt =
-    ap (λ n. escaped_string (take n xs)) (add-one i) ∙ ap escaped_string (take-suc xs i 0 lt) ∙ escaped_string-append (take i xs) (get_or xs i 0 ∷ [])
+    ap (λ n. escaped_string (take n xs)) (add-one i) ∙ ap escaped_string (take-suc xs i 0 lt)
+        ∙ escaped_string-append (take i xs) (get_or xs i 0 ∷ [])
     ∙ ap (λ l. escaped_string (take i xs) ++ l) (append-nil (escape (get_or xs i 0)))
 
--- a string in its quotes
+-- The rules for printing a string in quotes.
 pub ruleset quotes = (escaped_string-more, append_assoc)
 
--- a tree before a row
-row_one : (f g : Forest) (due : Bool) → OneTree f → inline_form due (behind f g) ≡ separator due ++ inline_form false f ++ inline_form true g
+-- A row prints its first tree and then the remaining trees.
+row_one : (f g : Forest) (due : Bool) → OneTree f
+    → inline_form due (joined_trees f g) ≡ separator due ++ inline_form false f ++ inline_form true g
 row_one f g due (one_atom at name) = ap (λ l. separator due ++ l ++ inline_form true g) (sym (append-nil name))
 row_one f g due (one_text at chars) = simp append_assoc
 row_one f g due (one_list at inner) = simp append_assoc
 
-first_of_view : (ts : List Tree) (i : ℕ) (t : Tree) → i < length ts → t ≡ get_or ts i t → forest_view (drop i ts) ≡ behind (tree_view t) (forest_view (drop (i + 1) ts))
+first_of_view : (ts : List Tree) (i : ℕ) (t : Tree) → i < length ts → t ≡ get_or ts i t
+    → forest_view (drop i ts) ≡ joined_trees (tree_view t) (forest_view (drop (i + 1) ts))
 first_of_view ts i t lt e =
-    ap forest_view (drop-cons ts i t lt) ∙ ap (λ u. behind (tree_view u) (forest_view (drop (suc i) ts))) (sym e)
-    ∙ ap (λ n. behind (tree_view t) (forest_view (drop n ts))) (sym (add-one i))
+    ap forest_view (drop-cons ts i t lt) ∙ ap (λ u. joined_trees (tree_view u) (forest_view (drop (suc i) ts))) (sym e)
+    ∙ ap (λ n. joined_trees (tree_view t) (forest_view (drop n ts))) (sym (add-one i))
 
--- the next tree of a row
+-- The trees from an index print as the tree at that index and then the trees after it.
 row_next : (due : Bool) (ts : List Tree) (i : ℕ) (t : Tree) → i < length ts → t ≡ get_or ts i t
-    → inline_form due (forest_view (drop i ts)) ≡ separator due ++ inline_form false (tree_view t) ++ inline_form true (forest_view (drop (i + 1) ts))
-row_next due ts i t lt e = ap (inline_form due) (first_of_view ts i t lt e) ∙ row_one (tree_view t) (forest_view (drop (i + 1) ts)) due (one_tree t)
+    → inline_form due (forest_view (drop i ts)) ≡ separator due ++ inline_form false (tree_view t) ++ inline_form true
+        (forest_view (drop (i + 1) ts))
+row_next due ts i t lt e = ap (inline_form due) (first_of_view ts i t lt e)
+    ∙ row_one (tree_view t) (forest_view (drop (i + 1) ts)) due (one_tree t)
 
--- a row that goes on
-pub row_on : (out after : List ℕ) (due : Bool) (ts : List Tree) (i : ℕ) (t : Tree) → i < length ts → t ≡ get_or ts i t → after ≡ (out ++ separator due) ++ inline_form false (tree_view t)
+-- After the next tree is printed, the remaining trees complete the row.
+pub row_on : (out after : List ℕ) (due : Bool) (ts : List Tree) (i : ℕ) (t : Tree) → i < length ts → t ≡ get_or ts i t
+    → after ≡ (out ++ separator due) ++ inline_form false (tree_view t)
     → after ++ inline_form true (forest_view (drop (i + 1) ts)) ≡ out ++ inline_form due (forest_view (drop i ts))
 row_on out after due ts i t lt e h =
     ap (λ l. l ++ inline_form true (forest_view (drop (i + 1) ts))) h
-    ∙ ap (λ l. l ++ inline_form true (forest_view (drop (i + 1) ts))) (append_assoc out (separator due) (inline_form false (tree_view t)))
-    ∙ append_assoc out (separator due ++ inline_form false (tree_view t)) (inline_form true (forest_view (drop (i + 1) ts)))
+    ∙ ap (λ l. l ++ inline_form true (forest_view (drop (i + 1) ts)))
+        (append_assoc out (separator due) (inline_form false (tree_view t)))
+    ∙ append_assoc out (separator due ++ inline_form false (tree_view t))
+        (inline_form true (forest_view (drop (i + 1) ts)))
     ∙ ap (λ l. out ++ l) (sym (row_next due ts i t lt e))

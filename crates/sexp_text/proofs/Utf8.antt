@@ -12,7 +12,7 @@ use Rattle.sexp_text.proofs.Complete.{both}
 use Rattle.sexp_text.proofs.Fronts.{ascii_one, atom_ascii}
 use Rattle.sexp_text.proofs.Layouts.{escaped_string-append}
 
--- the bytes of an atom are characters
+-- The bytes of an atom are UTF-8.
 pub name_utf8 : (bs : List ℕ) → list_all is_atom_byte bs ≡ true → IsUtf8 bs
 name_utf8 [] h = IsUtf8-nil
 name_utf8 (b ∷ bs) h =
@@ -22,30 +22,33 @@ name_utf8 (b ∷ bs) h =
 small_or_large : (b : ℕ) → (b < 128) ⊎ (128 ≤ b)
 small_or_large b = grind arith
 
--- bytes beyond ASCII
+-- Bytes of which none is ASCII.
 abbrev pub AllLarge : List ℕ → Type 0
 AllLarge [] = Unit {0}
 AllLarge (b ∷ bs) = (128 ≤ b) × AllLarge bs
 
 plain : (b : ℕ) → 128 ≤ b → escape b ≡ b ∷ []
 plain b le =
-    let other : (k : ℕ) → k < 128 → b == k ≡ false = λ k lt. false_from_ne_true (b == k) (λ e. let same : b ≡ k = eqb-true b k e in omega arith) in
+    let other : (k : ℕ) → k < 128 → b == k ≡ false =
+        λ k lt. false_from_ne_true (b == k) (λ e. let same : b ≡ k = eqb-true b k e in omega arith) in
     rw (other 34 (omega arith), other 92 (omega arith), other 10 (omega arith)) refl
 
--- bytes beyond ASCII need no escape
+-- Bytes that are not ASCII need no escape.
 escaped_string-large : (bs : List ℕ) → AllLarge bs → escaped_string bs ≡ bs
 escaped_string-large [] h = refl
-escaped_string-large (b ∷ bs) h = ap (λ l. l ++ escaped_string bs) (plain b h.0) ∙ ap (λ l. b ∷ l) (escaped_string-large bs h.1)
+escaped_string-large (b ∷ bs) h = ap (λ l. l ++ escaped_string bs) (plain b h.0)
+    ∙ ap (λ l. b ∷ l) (escaped_string-large bs h.1)
 
 large : (bs : List ℕ) → ((k : ℕ) → k < length bs → 128 ≤ get_or bs k 0) → AllLarge bs
 large [] h = tt
 large (b ∷ bs) h = (h 0 (omega arith), large bs (λ k lt. h (suc k) (omega arith)))
 
--- the bytes of a character beyond ASCII are beyond ASCII
+-- The UTF-8 bytes of a character that is not ASCII are not ASCII.
 encode_large : (c : ℕ) → 128 ≤ c → AllLarge (encode_utf8 c)
 encode_large c le =
     large (encode_utf8 c) (λ k lt. elim (small_or_large (get_or (encode_utf8 c) k 0)) [
-      | inl small ↦ let same = inside_one c [] (encode_utf8 c) k (sym (append-nil (encode_utf8 c))) lt small in absurd (omega (arith, same))
+      | inl small ↦ let same = inside_one c [] (encode_utf8 c) k (sym (append-nil (encode_utf8 c))) lt small in
+          absurd (omega (arith, same))
       | inr h ↦ h
     ])
 
@@ -62,22 +65,24 @@ escape_utf8 c lt = by (c == 34) (c == 92) (c == 10) refl refl refl where
 
 escaped_char : (c : ℕ) → IsScalar c → IsUtf8 (escaped_string (encode_utf8 c))
 escaped_char c h = elim (small_or_large c) [
-  | inl lt ↦ subst (λ (l : List ℕ). IsUtf8 (escaped_string l)) (sym (encode_ascii c lt)) (subst IsUtf8 (sym (append-nil (escape c))) (escape_utf8 c lt))
+  | inl lt ↦ subst (λ (l : List ℕ). IsUtf8 (escaped_string l)) (sym (encode_ascii c lt))
+      (subst IsUtf8 (sym (append-nil (escape c))) (escape_utf8 c lt))
   | inr le ↦ subst IsUtf8 (sym (escaped_string-large (encode_utf8 c) (encode_large c le))) (IsUtf8-encode c h)
 ]
 
--- a string that is UTF-8 is written in UTF-8
+-- The spelling of a UTF-8 string is UTF-8.
 escaped_chars : (cs : List ℕ) → all_scalars cs ≡ true → IsUtf8 (escaped_string (encode_utf8_all cs))
 escaped_chars [] h = IsUtf8-nil
 escaped_chars (c ∷ cs) h =
     let p = both _ (all_scalars cs) h in
     subst IsUtf8 (sym (escaped_string-append (encode_utf8 c) (encode_utf8_all cs)))
-    (IsUtf8-append (escaped_string (encode_utf8 c)) (escaped_string (encode_utf8_all cs)) (escaped_char c p.0) (escaped_chars cs p.1))
+    (IsUtf8-append (escaped_string (encode_utf8 c)) (escaped_string (encode_utf8_all cs)) (escaped_char c p.0)
+        (escaped_chars cs p.1))
 
 pub escaped_utf8 : (s : List ℕ) → IsUtf8 s → IsUtf8 (escaped_string s)
 escaped_utf8 s u = subst (λ (l : List ℕ). IsUtf8 (escaped_string l)) u.1.1 (escaped_chars u.0 u.1.0)
 
--- bytes around an ASCII byte
+-- The bytes before and after an ASCII byte of UTF-8 are UTF-8.
 pub split_utf8 : (xs : List ℕ) (b : ℕ) (ys : List ℕ) → b < 128 → IsUtf8 (xs ++ b ∷ ys) → IsUtf8 xs × IsUtf8 ys
 split_utf8 xs b ys lt u =
     let text = xs ++ b ∷ ys in
@@ -86,10 +91,11 @@ split_utf8 xs b ys lt u =
     let byte : get_or text at 0 ≡ b = get_or-append_seam xs b ys 0 in
     let front : IsCharBoundary text at = (omega arith, λ _ large. absurd (omega (arith, large))) in (
       subst IsUtf8 (take-append_seam xs (b ∷ ys)) (IsUtf8-take text at u front),
-      subst IsUtf8 (drop-append-add xs (b ∷ ys) 1) (IsUtf8-drop text (at + 1) u (IsCharBoundary-after_ascii text at u (omega arith) (omega arith))),
+      subst IsUtf8 (drop-append-add xs (b ∷ ys) 1)
+          (IsUtf8-drop text (at + 1) u (IsCharBoundary-after_ascii text at u (omega arith) (omega arith))),
     )
 
--- the spelling of a byte: itself, or an escape
+-- The spelling of a byte: that byte itself, or an escape.
 record Escaped (b : ℕ) : Type 0 where
   letter : ℕ
   is : escape b ≡ 92 ∷ letter ∷ []
@@ -99,12 +105,15 @@ record Escaped (b : ℕ) : Type 0 where
 escape_shape : (b : ℕ) → (escape b ≡ b ∷ []) ⊎ Escaped b
 escape_shape b = by (b == 34) (b == 92) (b == 10) refl refl refl where
   by : (u v w : Bool) → b == 34 ≡ u → b == 92 ≡ v → b == 10 ≡ w → (escape b ≡ b ∷ []) ⊎ Escaped b
-  by true v w e1 e2 e3 = let k : b ≡ 34 = eqb-true b 34 e1 in inr (record { letter = 34; is = rw e1 refl; letter_small = omega arith; small = omega arith })
-  by false true w e1 e2 e3 = let k : b ≡ 92 = eqb-true b 92 e2 in inr (record { letter = 92; is = rw (e1, e2) refl; letter_small = omega arith; small = omega arith })
-  by false false true e1 e2 e3 = let k : b ≡ 10 = eqb-true b 10 e3 in inr (record { letter = 110; is = rw (e1, e2, e3) refl; letter_small = omega arith; small = omega arith })
+  by true v w e1 e2 e3 = let k : b ≡ 34 = eqb-true b 34 e1 in
+      inr (record { letter = 34; is = rw e1 refl; letter_small = omega arith; small = omega arith })
+  by false true w e1 e2 e3 = let k : b ≡ 92 = eqb-true b 92 e2 in
+      inr (record { letter = 92; is = rw (e1, e2) refl; letter_small = omega arith; small = omega arith })
+  by false false true e1 e2 e3 = let k : b ≡ 10 = eqb-true b 10 e3 in
+      inr (record { letter = 110; is = rw (e1, e2, e3) refl; letter_small = omega arith; small = omega arith })
   by false false false e1 e2 e3 = inl (rw (e1, e2, e3) refl)
 
--- a string beyond ASCII is its own spelling
+-- A string whose spelling begins with bytes that are not ASCII begins with these bytes.
 record Unescaped (front rest s : List ℕ) : Type 0 where
   more : List ℕ
   is : s ≡ front ++ more
@@ -125,8 +134,9 @@ unescaped_large (x ∷ front) rest (b ∷ s) h e = elim (escape_shape b) [
       absurd (omega (arith, h.0))
 ]
 
--- a string whose escapes begin with an ASCII character
-small_char : (c : ℕ) (rest s : List ℕ) → c < 128 → ((t : List ℕ) → rest ≡ escaped_string t → IsUtf8 t) → ((x : ℕ) (t : List ℕ) → x < 128 → rest ≡ x ∷ escaped_string t → IsUtf8 t)
+-- A string whose spelling begins with an ASCII character is UTF-8 if the rest is.
+small_char : (c : ℕ) (rest s : List ℕ) → c < 128 → ((t : List ℕ) → rest ≡ escaped_string t → IsUtf8 t)
+    → ((x : ℕ) (t : List ℕ) → x < 128 → rest ≡ x ∷ escaped_string t → IsUtf8 t)
     → c ∷ rest ≡ escaped_string s → IsUtf8 s
 small_char c rest [] lt one two e = cc
 small_char c rest (b ∷ s) lt one two e = elim (escape_shape b) [
@@ -139,8 +149,9 @@ small_char c rest (b ∷ s) lt one two e = elim (escape_shape b) [
       IsUtf8-append (b ∷ []) s (ascii_one b p.small) (two p.letter s p.letter_small cc)
 ]
 
--- a string whose escapes begin with a character
-any_char : (c : ℕ) (rest s : List ℕ) → IsScalar c → ((t : List ℕ) → rest ≡ escaped_string t → IsUtf8 t) → ((x : ℕ) (t : List ℕ) → x < 128 → rest ≡ x ∷ escaped_string t → IsUtf8 t)
+-- A string whose spelling begins with a character is UTF-8 if the rest is.
+any_char : (c : ℕ) (rest s : List ℕ) → IsScalar c → ((t : List ℕ) → rest ≡ escaped_string t → IsUtf8 t)
+    → ((x : ℕ) (t : List ℕ) → x < 128 → rest ≡ x ∷ escaped_string t → IsUtf8 t)
     → encode_utf8 c ++ rest ≡ escaped_string s → IsUtf8 s
 any_char c rest s scalar one two e = elim (small_or_large c) [
   | inl lt ↦ small_char c rest s lt one two (ap (λ l. l ++ rest) (sym (encode_ascii c lt)) ∙ e)
@@ -170,6 +181,6 @@ unescaped_chars (c ∷ d ∷ cs) s h e =
     any_char c (encode_utf8_all (d ∷ cs)) s p.0 (λ t k. unescaped_chars (d ∷ cs) t p.1 k)
     (λ x t lt k. unescaped_chars cs t q.1 (past_letter d x (encode_utf8_all cs) (escaped_string t) lt k)) e
 
--- a string that is written in UTF-8 is UTF-8
+-- A string whose spelling is UTF-8 is UTF-8.
 pub unescaped_utf8 : (s : List ℕ) → IsUtf8 (escaped_string s) → IsUtf8 s
 unescaped_utf8 s u = unescaped_chars u.0 s u.1.0 u.1.1

@@ -7,27 +7,31 @@ use Rattle.std.specs.Option.{option_and_then, IfSome, IsSomeAnd}
 use Rattle.std.proofs.lemmas.Option.{same_Some}
 use Rattle.sexp_text.specs.declared.stop.TextStop.{TextStop}
 use Rattle.sexp_text.specs.declared.stop.TextStop.TheVariants as stops
-use Rattle.sexp_text.specs.Forest.{Forest, empty, atom, text, list, behind, nesting}
+use Rattle.sexp_text.specs.Forest.{Forest, empty, atom, text, list, joined_trees, nesting}
 use Rattle.sexp_text.specs.Grammar.{is_blank, is_atom_byte}
 use Rattle.sexp_text.specs.Machine.{finish, forest_at_end, all_closed, IsShallow, Stops, Refuses, Fails, GoesDeep, Mode, gap, in_comment, in_word, in_text, in_escape, OpenLists, State, close_list, start, step, next, run, first_state, state_at, depth_reached, whole}
 
--- one step and the steps after it, in two ways
-onward : (o : Option State) (f g h : State → Option State) → ((t : State) → f t ≡ option_and_then g (h t)) → option_and_then f o ≡ option_and_then g (option_and_then h o)
+-- A step and the steps after it can be grouped in two ways.
+onward : (o : Option State) (f g h : State → Option State) → ((t : State) → f t ≡ option_and_then g (h t))
+    → option_and_then f o ≡ option_and_then g (option_and_then h o)
 onward None f g h e = refl
 onward (Some t) f g h e = e t
 
--- bytes before bytes
-pub run-append : (xs ys : List ℕ) (s : State) (at : ℕ) → run s at (xs ++ ys) ≡ option_and_then (λ t. run t (at + length xs) ys) (run s at xs)
+-- A run over two pieces of bytes is a run over each piece in turn.
+pub run-append : (xs ys : List ℕ) (s : State) (at : ℕ)
+    → run s at (xs ++ ys) ≡ option_and_then (λ t. run t (at + length xs) ys) (run s at xs)
 run-append [] ys s at = ap (λ k. run s k ys) (omega arith)
 run-append (x ∷ xs) ys s at =
-    onward (next s at x) (λ t. run t (at + 1) (xs ++ ys)) (λ t. run t (at + suc (length xs)) ys) (λ t. run t (at + 1) xs)
+    onward (next s at x) (λ t. run t (at + 1) (xs ++ ys)) (λ t. run t (at + suc (length xs)) ys)
+        (λ t. run t (at + 1) xs)
     (λ t. run-append xs ys t (at + 1) ∙ ap (λ k. option_and_then (λ u. run u k ys) (run t (at + 1) xs)) (omega arith))
 
--- bytes after those that lead to a state
-pub run_on : (xs ys : List ℕ) (s t : State) (at : ℕ) → run s at xs ≡ Some t → run s at (xs ++ ys) ≡ run t (at + length xs) ys
+-- A run over two pieces continues from the state after the first.
+pub run_on : (xs ys : List ℕ) (s t : State) (at : ℕ) → run s at xs ≡ Some t
+    → run s at (xs ++ ys) ≡ run t (at + length xs) ys
 run_on xs ys s t at e = run-append xs ys s at ∙ ap (option_and_then (λ t. run t (at + length xs) ys)) e
 
--- bytes after those that lead to none
+-- A run over two pieces has no state if the first leads to none.
 pub run_none : (xs ys : List ℕ) (s : State) (at : ℕ) → run s at xs ≡ None → run s at (xs ++ ys) ≡ None
 run_none xs ys s at e = run-append xs ys s at ∙ ap (option_and_then (λ t. run t (at + length xs) ys)) e
 
@@ -35,8 +39,9 @@ and_then-Some : (o : Option State) → option_and_then (λ t. Some t) o ≡ o
 and_then-Some None = refl
 and_then-Some (Some t) = refl
 
--- one byte after the others
-pub walk_on : (bytes : List ℕ) (i : ℕ) (s : State) (o : Option State) → i < length bytes → state_at bytes i ≡ Some s → next s i (get_or bytes i 0) ≡ o
+-- The state after the byte at an offset.
+pub walk_on : (bytes : List ℕ) (i : ℕ) (s : State) (o : Option State) → i < length bytes → state_at bytes i ≡ Some s
+    → next s i (get_or bytes i 0) ≡ o
     → state_at bytes (suc i) ≡ o
 walk_on bytes i s o lt here e =
     let l : 0 + length (take i bytes) ≡ i = omega (arith, length-take i bytes) in
@@ -46,38 +51,41 @@ walk_on bytes i s o lt here e =
     ∙ ap (λ k. next s k (get_or bytes i 0)) l
     ∙ e
 
--- a test, with each of its answers
-pub tested : (P : Option State → Type 0) (w : Bool) (x y : Option State) → (w ≡ true → P x) → (w ≡ false → P y) → P (cond w x y)
+-- A case split on the outcome of a test.
+pub tested : (P : Option State → Type 0) (w : Bool) (x y : Option State) → (w ≡ true → P x) → (w ≡ false → P y)
+    → P (cond w x y)
 tested P true x y t f = t refl
 tested P false x y t f = f refl
 
-pub nesting-behind : (f g : Forest) → nesting (behind f g) ≡ max (nesting f) (nesting g)
-nesting-behind empty g = omega arith
-nesting-behind (atom at a f) g = nesting-behind f g
-nesting-behind (text at s f) g = nesting-behind f g
-nesting-behind (list at i f) g = omega (arith, nesting-behind f g)
+pub nesting-joined_trees : (f g : Forest) → nesting (joined_trees f g) ≡ max (nesting f) (nesting g)
+nesting-joined_trees empty g = omega arith
+nesting-joined_trees (atom at a f) g = nesting-joined_trees f g
+nesting-joined_trees (text at s f) g = nesting-joined_trees f g
+nesting-joined_trees (list at i f) g = omega (arith, nesting-joined_trees f g)
 
-pub depth_reached-behind : (os : OpenLists) (f g : Forest) → depth_reached os (behind f g) ≡ max (depth_reached os f) (length os + nesting g)
-depth_reached-behind [] f g = omega (arith, nesting-behind f g)
-depth_reached-behind (o ∷ os) f g = omega (arith, nesting-behind f g)
+pub depth_reached-joined_trees : (os : OpenLists) (f g : Forest)
+    → depth_reached os (joined_trees f g) ≡ max (depth_reached os f) (length os + nesting g)
+depth_reached-joined_trees [] f g = omega (arith, nesting-joined_trees f g)
+depth_reached-joined_trees (o ∷ os) f g = omega (arith, nesting-joined_trees f g)
 
 pub length_le-depth_reached : (os : OpenLists) (f : Forest) → length os ≤ depth_reached os f
 length_le-depth_reached [] f = omega arith
 length_le-depth_reached (o ∷ os) f = omega arith
 
--- a state deepens only by the list that it opens
+-- The depth of a state grows only by the list that it opens.
 abbrev Deepens : OpenLists → Forest → State → Type 0
 Deepens os f t = depth_reached t.1 t.2 ≡ max (depth_reached os f) (length t.1)
 
 kept : (m : Mode) (os : OpenLists) (f : Forest) → Deepens os f (m, os, f)
 kept m os f = omega (arith, length_le-depth_reached os f)
 
-grown : (os : OpenLists) (f g : Forest) → nesting g ≡ 0 → Deepens os f (gap, os, behind f g)
-grown os f g e = omega (arith, depth_reached-behind os f g, length_le-depth_reached os f)
+grown : (os : OpenLists) (f g : Forest) → nesting g ≡ 0 → Deepens os f (gap, os, joined_trees f g)
+grown os f g e = omega (arith, depth_reached-joined_trees os f g, length_le-depth_reached os f)
 
 closed_deepens : (os : OpenLists) (f : Forest) → IfSome (close_list os f) (Deepens os f)
 closed_deepens [] f = tt
-closed_deepens (o ∷ os) f = omega (arith, depth_reached-behind os o.1 (list o.0 f empty), length_le-depth_reached os o.1)
+closed_deepens (o ∷ os) f = omega (arith, depth_reached-joined_trees os o.1 (list o.0 f empty),
+    length_le-depth_reached os o.1)
 
 start_deepens : (at b : ℕ) (os : OpenLists) (f : Forest) → IfSome (start at b os f) (Deepens os f)
 start_deepens at b os f =
@@ -89,20 +97,24 @@ start_deepens at b os f =
     (λ _. tested P (b == 34) _ _ (λ _. kept (in_text at []) os f)
     (λ _. tested P (is_atom_byte b) _ _ (λ _. kept (in_word at (b ∷ [])) os f) (λ _. tt))))))
 
--- an atom or a string deepens nothing
-pub reached_same : (os : OpenLists) (f g : Forest) → nesting g ≡ 0 → depth_reached os (behind f g) ≡ depth_reached os f
-reached_same os f g e = omega (arith, depth_reached-behind os f g, length_le-depth_reached os f)
+-- An appended atom or string does not change the depth.
+pub reached_same : (os : OpenLists) (f g : Forest) → nesting g ≡ 0
+    → depth_reached os (joined_trees f g) ≡ depth_reached os f
+reached_same os f g e = omega (arith, depth_reached-joined_trees os f g, length_le-depth_reached os f)
 
-start_deepens_behind : (at b : ℕ) (os : OpenLists) (f g : Forest) → nesting g ≡ 0 → IfSome (start at b os (behind f g)) (Deepens os f)
-start_deepens_behind at b os f g e =
-    subst (λ (k : ℕ). IfSome (start at b os (behind f g)) (λ t. depth_reached t.1 t.2 ≡ max k (length t.1))) (reached_same os f g e) (start_deepens at b os (behind f g))
+start_deepens_joined : (at b : ℕ) (os : OpenLists) (f g : Forest) → nesting g ≡ 0
+    → IfSome (start at b os (joined_trees f g)) (Deepens os f)
+start_deepens_joined at b os f g e =
+    subst (λ (k : ℕ). IfSome (start at b os (joined_trees f g)) (λ t. depth_reached t.1 t.2 ≡ max k (length t.1)))
+        (reached_same os f g e) (start_deepens at b os (joined_trees f g))
 
 step_deepens : (m : Mode) (os : OpenLists) (f : Forest) (at b : ℕ) → IfSome (step m os f at b) (Deepens os f)
 step_deepens gap os f at b = start_deepens at b os f
 step_deepens in_comment os f at b = omega (arith, length_le-depth_reached os f)
 step_deepens (in_word from name) os f at b =
-    tested (λ (o : Option State). IfSome o (Deepens os f)) (is_atom_byte b) _ _ (λ _. kept (in_word from (name ++ b ∷ [])) os f)
-    (λ _. start_deepens_behind at b os f (atom from name empty) refl)
+    tested (λ (o : Option State). IfSome o (Deepens os f)) (is_atom_byte b) _ _
+        (λ _. kept (in_word from (name ++ b ∷ [])) os f)
+    (λ _. start_deepens_joined at b os f (atom from name empty) refl)
 step_deepens (in_text from chars) os f at b =
     let P = (λ (o : Option State). IfSome o (Deepens os f)) in
     tested P (b == 34) _ _ (λ _. grown os f (text from chars empty) refl)
@@ -114,30 +126,35 @@ step_deepens (in_escape from chars) os f at b =
     (λ _. tested P (b == 92) _ _ (λ _. kept (in_text from (chars ++ 92 ∷ [])) os f)
     (λ _. tested P (b == 110) _ _ (λ _. kept (in_text from (chars ++ 10 ∷ [])) os f) (λ _. tt)))
 
--- how deep the next state is
-pub next_deepens : (s t : State) (at b : ℕ) → next s at b ≡ Some t → depth_reached t.1 t.2 ≡ max (depth_reached s.1 s.2) (length t.1)
+-- The depth of the next state.
+pub next_deepens : (s t : State) (at b : ℕ) → next s at b ≡ Some t
+    → depth_reached t.1 t.2 ≡ max (depth_reached s.1 s.2) (length t.1)
 next_deepens s t at b e = subst (λ (o : Option State). IfSome o (Deepens s.1 s.2)) e (step_deepens s.0 s.1 s.2 at b)
 
 all_closed_reaches : (os : OpenLists) (f g : Forest) → all_closed os f ≡ Some g → depth_reached os f ≡ nesting g
 all_closed_reaches [] f g e = ap nesting (same_Some f g e)
 all_closed_reaches (o ∷ os) f g e = cc
 
--- how deep the whole forest is
-pub finish_reaches : (m : Mode) (os : OpenLists) (f g : Forest) → finish m os f ≡ Some g → depth_reached os f ≡ nesting g
+-- The depth at the end of the input is the nesting of the forest.
+pub finish_reaches : (m : Mode) (os : OpenLists) (f g : Forest) → finish m os f ≡ Some g
+    → depth_reached os f ≡ nesting g
 finish_reaches gap os f g e = all_closed_reaches os f g e
 finish_reaches in_comment os f g e = all_closed_reaches os f g e
 finish_reaches (in_word from name) os f g e =
-    sym (reached_same os f (atom from name empty) refl) ∙ all_closed_reaches os (behind f (atom from name empty)) g e
+    sym (reached_same os f (atom from name empty) refl)
+        ∙ all_closed_reaches os (joined_trees f (atom from name empty)) g e
 finish_reaches (in_text from chars) os f g e = cc
 finish_reaches (in_escape from chars) os f g e = cc
 
--- the state at the end of the input is that of the whole input
-pub whole_is : (bytes : List ℕ) (i : ℕ) (s : State) → length bytes ≤ i → state_at bytes i ≡ Some s → whole bytes ≡ forest_at_end s
+-- The state at the end of the input gives the forest of the whole input.
+pub whole_is : (bytes : List ℕ) (i : ℕ) (s : State) → length bytes ≤ i → state_at bytes i ≡ Some s
+    → whole bytes ≡ forest_at_end s
 whole_is bytes i s le e =
     ap (option_and_then forest_at_end) (ap (run first_state 0) (sym (take_all i bytes le)) ∙ e)
 
--- a byte behind which lists are open too deep
-goes_deep : (bytes : List ℕ) (i : ℕ) (s : State) (o : Option State) → i < length bytes → state_at bytes i ≡ Some s → IsShallow s
+-- A parenthesis that opens a list inside 100 others goes too deep.
+goes_deep : (bytes : List ℕ) (i : ℕ) (s : State) (o : Option State) → i < length bytes
+    → state_at bytes i ≡ Some s → IsShallow s
     → next s i (get_or bytes i 0) ≡ o → get_or bytes i 0 ≡ 40 → IsSomeAnd o (λ t. 100 < length t.1) → GoesDeep bytes i
 goes_deep bytes i s None lt here shallow e k h = absurd h
 goes_deep bytes i s (Some t) lt here shallow e k h = record {
@@ -147,8 +164,9 @@ goes_deep bytes i s (Some t) lt here shallow e k h = record {
   deep = rw (walk_on bytes i s (Some t) lt here e) (omega (arith, length_le-depth_reached t.1 t.2));
 }
 
--- a byte that is not taken
-pub stops_refuses : (bytes : List ℕ) (i : ℕ) (s : State) (e : TextStop) → i < length bytes → state_at bytes i ≡ Some s → IsShallow s
+-- The machine refuses the bytes if it rejects the next byte.
+pub stops_refuses : (bytes : List ℕ) (i : ℕ) (s : State) (e : TextStop) → i < length bytes
+    → state_at bytes i ≡ Some s → IsShallow s
     → Stops (next s i (get_or bytes i 0)) i (get_or bytes i 0) e → Refuses bytes e
 stops_refuses bytes i s stops.NoMemory lt here shallow h = tt
 stops_refuses bytes i s (stops.NotUtf8 p) lt here shallow h = h

@@ -8,12 +8,12 @@ pub data Forest : Type 0 where
   text : (at : ℕ) → (chars : List ℕ) → (rest : Forest) → Forest
   list : (at : ℕ) → (inner rest : Forest) → Forest
 
--- The trees of one forest and then those of another.
-abbrev pub behind : Forest → Forest → Forest
-behind empty g = g
-behind (atom at a f) g = atom at a (behind f g)
-behind (text at s f) g = text at s (behind f g)
-behind (list at i f) g = list at i (behind f g)
+-- The trees of the first forest, then those of the second.
+abbrev pub joined_trees : Forest → Forest → Forest
+joined_trees empty g = g
+joined_trees (atom at a f) g = atom at a (joined_trees f g)
+joined_trees (text at s f) g = text at s (joined_trees f g)
+joined_trees (list at i f) g = list at i (joined_trees f g)
 
 -- The depth of nesting: a list is one deeper than the deepest list in it.
 abbrev pub nesting : Forest → ℕ
@@ -22,7 +22,7 @@ nesting (atom at a f) = nesting f
 nesting (text at s f) = nesting f
 nesting (list at i f) = max (suc (nesting i)) (nesting f)
 
--- The same forest with all offsets 0.
+-- The forest with all offsets set to 0.
 abbrev pub without_offsets : Forest → Forest
 without_offsets empty = empty
 without_offsets (atom at a f) = atom 0 a (without_offsets f)

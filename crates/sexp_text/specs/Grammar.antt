@@ -80,9 +80,10 @@ forest_at at (blank b s) = forest_at (at + 1) s
 forest_at at (comment cs s) = forest_at (at + length cs + 2) s
 forest_at at (word name s) = atom at name (forest_at (at + length name) s)
 forest_at at (quoted chars s) = text at chars (forest_at (at + length (escaped_string chars) + 2) s)
-forest_at at (parens inner s) = list at (forest_at (at + 1) inner) (forest_at (at + length (spelling_bytes inner) + 2) s)
+forest_at at (parens inner s) =
+    list at (forest_at (at + 1) inner) (forest_at (at + length (spelling_bytes inner) + 2) s)
 
--- Nothing, or a comment that the end of the input ends.
+-- Whether the bytes are empty, or a comment that the end of the input ends.
 abbrev pub is_tail : List ℕ → Bool
 is_tail [] = true
 is_tail (b ∷ bs) = b == 59 && is_comment bs

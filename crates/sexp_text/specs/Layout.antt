@@ -5,7 +5,7 @@ use Rattle.std.specs.Str.{IsUtf8}
 use Rattle.sexp_text.specs.Forest.{Forest, empty, atom, text, list, nesting, without_offsets}
 use Rattle.sexp_text.specs.Grammar.{is_name, is_char, escaped_string, Spells}
 
--- One blank, if it is due.
+-- A blank if it is due, else no bytes.
 abbrev pub separator : Bool → List ℕ
 separator true = 32 ∷ []
 separator false = []
@@ -17,7 +17,7 @@ inline_form due (atom at a f) = separator due ++ a ++ inline_form true f
 inline_form due (text at s f) = separator due ++ 34 ∷ escaped_string s ++ 34 ∷ inline_form true f
 inline_form due (list at i f) = separator due ++ 40 ∷ inline_form false i ++ 41 ∷ inline_form true f
 
--- Each tree on a line of its own.
+-- The printed forest, with each tree on its own line.
 abbrev pub lines : Forest → List ℕ
 lines empty = []
 lines (atom at a f) = a ++ 10 ∷ lines f

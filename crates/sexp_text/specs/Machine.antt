@@ -2,7 +2,7 @@
 use Rattle.std.specs.Prelude.{slice_index, ◌≡◌, ◌<◌, ◌≤◌, take, ℕ, ◌+◌, ◌==◌, ◌&&◌, Bool, not, nat_le, max, suc, List, [], ◌∷◌, ◌++◌, map, reverse, length, Option, Some, None, if◌then◌else◌, Vec}
 use Rattle.std.specs.Option.{option_and_then, IsSomeAnd}
 use Rattle.std.specs.declared.alloc.Global.{Global}
-use Rattle.sexp_text.specs.Forest.{Forest, empty, atom, text, list, behind, nesting}
+use Rattle.sexp_text.specs.Forest.{Forest, empty, atom, text, list, joined_trees, nesting}
 use Rattle.sexp_text.specs.Grammar.{is_blank, is_atom_byte}
 use Rattle.sexp_text.specs.View.{forest_view}
 use Rattle.sexp_text.specs.declared.tree.Tree.{Tree}
@@ -29,7 +29,7 @@ State = Mode × OpenLists × Forest
 -- The state after a parenthesis that closes the innermost list. None if no list is open.
 abbrev pub close_list : OpenLists → Forest → Option State
 close_list [] f = None
-close_list (o ∷ os) f = Some (gap, os, behind o.1 (list o.0 f empty))
+close_list (o ∷ os) f = Some (gap, os, joined_trees o.1 (list o.0 f empty))
 
 -- The state after a byte between tokens.
 abbrev pub start : ℕ → ℕ → OpenLists → Forest → Option State
@@ -48,9 +48,9 @@ step gap os f at b = start at b os f
 step in_comment os f at b = Some (if b == 10 then gap else in_comment, os, f)
 step (in_word from name) os f at b =
     if is_atom_byte b then Some (in_word from (name ++ b ∷ []), os, f)
-    else start at b os (behind f (atom from name empty))
+    else start at b os (joined_trees f (atom from name empty))
 step (in_text from chars) os f at b =
-    if b == 34 then Some (gap, os, behind f (text from chars empty))
+    if b == 34 then Some (gap, os, joined_trees f (text from chars empty))
     else if b == 92 then Some (in_escape from chars, os, f)
     else if nat_le 32 b then Some (in_text from (chars ++ b ∷ []), os, f)
     else None
@@ -60,7 +60,7 @@ step (in_escape from chars) os f at b =
     else if b == 110 then Some (in_text from (chars ++ 10 ∷ []), os, f)
     else None
 
--- The same for a whole state.
+-- The state after the byte `b` at the offset `at`, from the state `s`.
 abbrev pub next : State → ℕ → ℕ → Option State
 next s at b = step s.0 s.1 s.2 at b
 
@@ -82,7 +82,7 @@ all_closed (o ∷ os) f = None
 abbrev pub finish : Mode → OpenLists → Forest → Option Forest
 finish gap os f = all_closed os f
 finish in_comment os f = all_closed os f
-finish (in_word from name) os f = all_closed os (behind f (atom from name empty))
+finish (in_word from name) os f = all_closed os (joined_trees f (atom from name empty))
 finish (in_text from chars) os f = None
 finish (in_escape from chars) os f = None
 
@@ -156,20 +156,22 @@ is_plain c = nat_le 32 c && not (c == 34) && not (c == 92)
 
 -- From the one mode at the one offset the machine comes to the other mode at the other offset, whatever lists are open.
 abbrev pub Leads : List ℕ → ℕ → Mode → ℕ → Mode → Type 0
-Leads bytes i m j n = (os : OpenLists) → (f : Forest) → state_at bytes i ≡ Some (m, os, f) → state_at bytes j ≡ Some (n, os, f)
+Leads bytes i m j n = (os : OpenLists) → (f : Forest) → state_at bytes i ≡ Some (m, os, f)
+    → state_at bytes j ≡ Some (n, os, f)
 
 -- The string that begins at the one offset has these bytes and ends before the other.
 abbrev pub EndsText : List ℕ → ℕ → List ℕ → ℕ → Type 0
-EndsText bytes from chars end = (os : OpenLists) → (f : Forest) → state_at bytes (suc from) ≡ Some (in_text from [], os, f)
-    → state_at bytes end ≡ Some (gap, os, behind f (text from chars empty))
+EndsText bytes from chars end = (os : OpenLists) → (f : Forest)
+    → state_at bytes (suc from) ≡ Some (in_text from [], os, f)
+    → state_at bytes end ≡ Some (gap, os, joined_trees f (text from chars empty))
 
 -- The machine refuses the bytes if it is in the mode at the offset.
 abbrev pub RefusesAfter : List ℕ → ℕ → Mode → TextStop → Type 0
 RefusesAfter bytes i m stop = (os : OpenLists) → (f : Forest) → depth_reached os f ≤ 100
     → state_at bytes i ≡ Some (m, os, f) → Refuses bytes stop
 
--- The machine is between tokens at the offset, with these open lists and trees. It goes on as from a gap, also after the
--- last byte of an atom, and after the last byte of a comment before its LF.
+-- The machine is between tokens at the offset, with these open lists and trees. The machine continues as from a gap,
+-- also after the last byte of an atom, and after the last byte of a comment before its LF.
 pub record Rests (bytes : List ℕ) (at : ℕ) (os : OpenLists) (f : Forest) : Type 0 where
   pub state : State
   pub here : state_at bytes at ≡ Some state

@@ -1,13 +1,13 @@
 -- Trusted: the forest that trees in memory represent.
 use Rattle.std.specs.Prelude.{List, [], ◌∷◌, map}
-use Rattle.sexp_text.specs.Forest.{Forest, empty, atom, text, list, behind}
+use Rattle.sexp_text.specs.Forest.{Forest, empty, atom, text, list, joined_trees}
 use Rattle.sexp_text.specs.declared.tree.Tree.{Tree, fold-Tree}
 use Rattle.sexp_text.specs.declared.tree.Tree.TheOpen.{Tree-F}
 
 -- The trees of several forests in order.
 abbrev pub forest_concat : List Forest → Forest
 forest_concat [] = empty
-forest_concat (f ∷ fs) = behind f (forest_concat fs)
+forest_concat (f ∷ fs) = joined_trees f (forest_concat fs)
 
 -- The forest of one tree whose inner trees are forests already.
 abbrev pub view_step : Tree-F Forest → Forest

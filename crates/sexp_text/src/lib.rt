@@ -4,7 +4,7 @@
 //! parse programs and scripts from trees and report faults at their offsets. The notation belongs
 //! to this project: Compose has none, since its programs are written in Kotlin. `read` returns the
 //! one forest that the bytes spell by the grammar (`specs/Grammar.antt`) if its lists nest at most
-//! 100 deep. It refuses all other bytes at the offset where they go wrong (`specs/Places.antt`).
+//! 100 deep. It refuses all other bytes at the offset where they go wrong (`specs/TextFaults.antt`).
 //! `print` writes trees (`specs/Layout.antt`) so that reading returns them, except for their
 //! offsets.
 #![tactic(auto)]

@@ -1,7 +1,7 @@
 // Parsing of source text in one pass over its tokens.
 ghost use Rattle.std.specs.Prelude.{◌⊎◌, ◌≡◌, ◌≢◌, ◌∷◌, ◌≤◌, ◌<◌, [], Some, None, Err, length, true, slice_index, IfOk, IfErr, OnOk};
 ghost use Rattle.std.specs.Str.{IsUtf8};
-ghost use Rattle.sexp_text.specs.Forest.{Forest, empty, atom, behind, nesting};
+ghost use Rattle.sexp_text.specs.Forest.{Forest, empty, atom, joined_trees, nesting};
 ghost use Rattle.sexp_text.specs.View.{tree_view, forest_view};
 ghost use Rattle.sexp_text.specs.Grammar.{is_atom_byte, Spells};
 ghost use Rattle.sexp_text.specs.TextFaults.{Cause};
@@ -67,7 +67,7 @@ impl Reader {
     // Appends `tree` to the innermost list.
     #[tactic(auto, using(crate::proofs::Trees::pushes))]
     fn put(&mut self, tree: Tree) -> Result<(), TextStop>
-        ensures trees { OnOk result (trees self.new ≡ behind (trees self.old) (tree_view tree)) }
+        ensures trees { OnOk result (trees self.new ≡ joined_trees (trees self.old) (tree_view tree)) }
         ensures lists { OnOk result (lists self.new ≡ lists self.old) }
         ensures err { IfErr result (λ e. e ≡ TextStop.NoMemory) }
     {

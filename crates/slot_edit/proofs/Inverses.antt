@@ -9,7 +9,9 @@ beyond [] i d le = refl
 beyond (x ∷ xs) zero d le = absurd (omega (arith, le))
 beyond (x ∷ xs) (suc i) d le = beyond xs i d (omega (arith, le))
 
-pub inverse_is : (olds news : List (Option ℕ)) (count : ℕ) → length news ≡ count → ((i : ℕ) → i < count → get_or news i None ≡ first_from 0 i olds) → ((i : ℕ) → count ≤ i → first_from 0 i olds ≡ None) → AreInverse olds news
+pub inverse_is : (olds news : List (Option ℕ)) (count : ℕ) → length news ≡ count
+    → ((i : ℕ) → i < count → get_or news i None ≡ first_from 0 i olds)
+    → ((i : ℕ) → count ≤ i → first_from 0 i olds ≡ None) → AreInverse olds news
 inverse_is olds news count long below above i = by (cases_lt i count)
   where
     by : (i < count) ⊎ (count ≤ i) → get_or news i None ≡ first_from 0 i olds

@@ -8,5 +8,6 @@ use Rattle.slot_table.specs.ReaderStates.{after_deep, begins_at}
 -- Skipping a group leaves its later siblings and what follows them: the groups inside it are the only ones that are
 -- skipped.
 abbrev pub SkippingLeavesTheSiblings : Type 0
-SkippingLeavesTheSiblings = (depth : ℕ) (inside rest : GroupForest) (more : List TableGroup) → begins_at (depth + 1) more ≡ false →
+SkippingLeavesTheSiblings = (depth : ℕ) (inside rest : GroupForest) (more : List TableGroup) →
+    begins_at (depth + 1) more ≡ false →
     after_deep (depth + 1) (preorder (depth + 1) inside ++ (preorder depth rest ++ more)) ≡ preorder depth rest ++ more

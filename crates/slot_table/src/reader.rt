@@ -72,7 +72,8 @@ impl<'a> Reader<'a> {
     /// `NoMemory` the reader is unchanged.
     pub fn open_group<L: Ledger>(&mut self, steps: &mut Steps<L>) -> Result<(), NoMemory>
         requires { IsTrue (has_more self.old) }
-        ensures opened { (g : group_data) (rest : List group_data) → self.old.left ≡ g ∷ rest → OnOk result (self.new ≡ record {
+        ensures opened { (g : group_data) (rest : List group_data) → self.old.left ≡ g ∷ rest
+            → OnOk result (self.new ≡ record {
           left = rest;
           open_groups = record { group = g; after = after_deep (g.depth + 1) rest } ∷ self.old.open_groups;
         }) }

@@ -34,36 +34,48 @@ same_roots s = record { parent = refl; base = refl }
 roots_through : (a b c : Snapshot) → SameRoots a b → SameRoots b c → SameRoots a c
 roots_through a b c one two = record { parent = two.parent ∙ one.parent; base = two.base ∙ one.base }
 
-roots_set : {P : Type 0} (w : World P) (n : ℕ) (s : Snapshot) → n < length w.snapshots → SameRoots (snapshot_of w n) s → (k : ℕ) → SameRoots (snapshot_of w k) (snapshot_of (with_snapshot w n s) k)
-roots_set w n s there same = each_shot-set w.snapshots n s (λ k t. SameRoots (snapshot_of w k) t) there same (λ k other. same_roots (snapshot_of w k))
+roots_set : {P : Type 0} (w : World P) (n : ℕ) (s : Snapshot) → n < length w.snapshots → SameRoots (snapshot_of w n) s
+    → (k : ℕ) → SameRoots (snapshot_of w k) (snapshot_of (with_snapshot w n s) k)
+roots_set w n s there same = each_shot-set w.snapshots n s (λ k t. SameRoots (snapshot_of w k) t) there same
+    (λ k other. same_roots (snapshot_of w k))
 
 module _ {P : Type 0} (rules : Rules P) where
-  roots_by : (w : World P) (caller : ℕ) (q : Request) (out : World P × Reply) → Did rules w caller q out → (name : ℕ) → name < length w.snapshots → SameRoots (snapshot_of w name) (snapshot_of out.0 name)
+  roots_by : (w : World P) (caller : ℕ) (q : Request) (out : World P × Reply) → Did rules w caller q out → (name : ℕ)
+      → name < length w.snapshots → SameRoots (snapshot_of w name) (snapshot_of out.0 name)
   roots_by w caller q out (refused request r) name there = same_roots (snapshot_of w name)
-  roots_by w caller q out (took parent kind live) name there = subst (SameRoots (snapshot_of w name)) (sym (pushed rules w name _ there)) (same_roots (snapshot_of w name))
-  roots_by w caller q out (took_for watcher) name there = subst (SameRoots (snapshot_of w name)) (sym (pushed rules w name _ there)) (same_roots (snapshot_of w name))
+  roots_by w caller q out (took parent kind live) name there =
+      subst (SameRoots (snapshot_of w name)) (sym (pushed rules w name _ there)) (same_roots (snapshot_of w name))
+  roots_by w caller q out (took_for watcher) name there =
+      subst (SameRoots (snapshot_of w name)) (sym (pushed rules w name _ there)) (same_roots (snapshot_of w name))
   roots_by w caller q out (got n x) name there = same_roots (snapshot_of w name)
   roots_by w caller q out (left n x value) name there = same_roots (snapshot_of w name)
   roots_by w caller q out (wrote n x value live) name there =
-      roots_set w n (with_entry (snapshot_of w n) x (record { value = value; stamp = w.clock + 1 })) (open_within w n live) (record { parent = refl; base = refl }) name
+      roots_set w n (with_entry (snapshot_of w n) x (record { value = value; stamp = w.clock + 1 }))
+          (open_within w n live) (record { parent = refl; base = refl }) name
   roots_by w caller q out (joined n m changed is live parent_live) name there =
       let parent = (snapshot_of w n).parent in
       let into = with_snapshot w parent (with_settled (snapshot_of w parent) m changed) in
       let still : n < length into.snapshots = omega (arith, open_within w n live, length-set {A = Snapshot}) in
-      roots_through (snapshot_of w name) (snapshot_of into name) _ (roots_set w parent (with_settled (snapshot_of w parent) m changed) (open_within w parent parent_live) (record { parent = refl; base = refl }) name)
+      roots_through (snapshot_of w name) (snapshot_of into name) _
+          (roots_set w parent (with_settled (snapshot_of w parent) m changed) (open_within w parent parent_live)
+          (record { parent = refl; base = refl }) name)
       (roots_set into n (with_status (snapshot_of into n) Applied) still (record { parent = refl; base = refl }) name)
   roots_by w caller q out (gone n) name there = same_roots (snapshot_of w name)
-  roots_by w caller q out (closed n live) name there = roots_set w n (with_status (snapshot_of w n) _) (open_within w n live) (record { parent = refl; base = refl }) name
+  roots_by w caller q out (closed n live) name there = roots_set w n (with_status (snapshot_of w n) _)
+      (open_within w n live) (record { parent = refl; base = refl }) name
 
-  pub roots_after : (w : World P) (h : History) (name : ℕ) → name < length w.snapshots → SameRoots (snapshot_of w name) (snapshot_of (world_after rules w h) name)
+  pub roots_after : (w : World P) (h : History) (name : ℕ) → name < length w.snapshots
+      → SameRoots (snapshot_of w name) (snapshot_of (world_after rules w h) name)
   roots_after w [] name there = same_roots (snapshot_of w name)
   roots_after w (e ∷ es) name there =
       let step = did rules w e.caller e.request in
       let next = (call rules w e.caller e.request).0 in
       let still : name < length next.snapshots = omega (arith, there, grows_by rules w e.caller e.request _ step) in
-      roots_through (snapshot_of w name) (snapshot_of next name) _ (roots_by w e.caller e.request _ step name there) (roots_after next es name still)
+      roots_through (snapshot_of w name) (snapshot_of next name) _ (roots_by w e.caller e.request _ step name there)
+          (roots_after next es name still)
 
-  objects_by : (w : World P) (caller : ℕ) (q : Request) (out : World P × Reply) → Did rules w caller q out → out.0.objects ≡ w.objects
+  objects_by : (w : World P) (caller : ℕ) (q : Request) (out : World P × Reply) → Did rules w caller q out
+      → out.0.objects ≡ w.objects
   objects_by w caller q out (refused request r) = refl
   objects_by w caller q out (took parent kind live) = refl
   objects_by w caller q out (took_for watcher) = refl
@@ -81,20 +93,24 @@ module _ {P : Type 0} (rules : Rules P) where
   objects_after w [] = refl
   objects_after w (e ∷ es) = objects_after (call rules w e.caller e.request).0 es ∙ objects_call w e.caller e.request
 
-  pub valid_after : KeepsTypes rules → (w : World P) (h : History) → IsValid rules w → IsValid rules (world_after rules w h)
+  pub valid_after : KeepsTypes rules → (w : World P) (h : History) → IsValid rules w
+      → IsValid rules (world_after rules w h)
   valid_after keeps_types w [] v = v
-  valid_after keeps_types w (e ∷ es) v = valid_after keeps_types (call rules w e.caller e.request).0 es (valid_call v keeps_types e.caller e.request)
+  valid_after keeps_types w (e ∷ es) v =
+      valid_after keeps_types (call rules w e.caller e.request).0 es (valid_call v keeps_types e.caller e.request)
 
   -- After an apply the parent shows the settled map.
   pub record Joined (w : World P) (name : ℕ) (after : World P) : Type 0 where
     pub m : Map
     pub changed : List ℕ
-    pub right : Right rules (w.clock + 1) (snapshot_of w name).wrote 0 w.objects (snapshot_of w name).base (snapshot_of w (snapshot_of w name).parent).view (snapshot_of w name).view m changed
+    pub right : Right rules (w.clock + 1) (snapshot_of w name).wrote 0 w.objects (snapshot_of w name).base
+        (snapshot_of w (snapshot_of w name).parent).view (snapshot_of w name).view m changed
     pub shown : (snapshot_of after (snapshot_of w name).parent).view ≡ m
     pub there : name < length w.snapshots
     pub above : (snapshot_of w name).parent < length w.snapshots
 
-  pub joined_by : (w : World P) → IsShaped w → (caller : ℕ) (q : Request) (out : World P × Reply) → Did rules w caller q out → (name : ℕ) → q ≡ request.Apply name → out.1 ≡ reply.Applied → Joined w name out.0
+  pub joined_by : (w : World P) → IsShaped w → (caller : ℕ) (q : Request) (out : World P × Reply)
+      → Did rules w caller q out → (name : ℕ) → q ≡ request.Apply name → out.1 ≡ reply.Applied → Joined w name out.0
   joined_by w v caller q out (refused request r) name asked e = absurd cc
   joined_by w v caller q out (took parent kind live) name asked e = absurd cc
   joined_by w v caller q out (took_for watcher) name asked e = absurd cc
@@ -106,18 +122,27 @@ module _ {P : Type 0} (rules : Rules P) where
       let s = snapshot_of w n in
       let there = open_within w n live in
       let above = open_within w s.parent parent_live in
-      let settles = right_settle rules (w.clock + 1) s.wrote 0 w.objects s.base (snapshot_of w s.parent).view s.view (v.full n there).0 (v.full s.parent above).1 (v.full n there).1 in
-      let right : Right rules (w.clock + 1) s.wrote 0 w.objects s.base (snapshot_of w s.parent).view s.view m changed = subst (IsRight rules (w.clock + 1) s.wrote 0 w.objects s.base (snapshot_of w s.parent).view s.view) is settles in
+      let settles = right_settle rules (w.clock + 1) s.wrote 0 w.objects s.base (snapshot_of w s.parent).view s.view
+          (v.full n there).0 (v.full s.parent above).1 (v.full n there).1 in
+      let right : Right rules (w.clock + 1) s.wrote 0 w.objects s.base (snapshot_of w s.parent).view s.view m changed =
+          subst (IsRight rules (w.clock + 1) s.wrote 0 w.objects s.base (snapshot_of w s.parent).view s.view) is
+          settles in
       let parent_shows : (snapshot_of (world_after_apply w n m changed) s.parent).view ≡ m =
-      view-applied w n m changed there above s.parent ∙ ap (λ t. cond t m (snapshot_of w s.parent).view) ((Decides-eqb s.parent s.parent).1 refl) in
-      subst (λ (k : ℕ). Joined w k (world_after_apply w n m changed)) same (record { m = m; changed = changed; right = right; shown = parent_shows; there = there; above = above })
+      view-applied w n m changed there above s.parent
+          ∙ ap (λ t. cond t m (snapshot_of w s.parent).view) ((Decides-eqb s.parent s.parent).1 refl) in
+      subst (λ (k : ℕ). Joined w k (world_after_apply w n m changed)) same
+          (record { m = m; changed = changed; right = right; shown = parent_shows; there = there; above = above })
   joined_by w v caller q out (gone n) name asked e = absurd cc
   joined_by w v caller q out (closed n live) name asked e = absurd cc
 
-  pub joined_call : (w : World P) → IsShaped w → (caller name : ℕ) → (call rules w caller (request.Apply name)).1 ≡ reply.Applied → Joined w name (call rules w caller (request.Apply name)).0
-  joined_call w v caller name e = joined_by w v caller (request.Apply name) _ (did rules w caller (request.Apply name)) name refl e
+  pub joined_call : (w : World P) → IsShaped w → (caller name : ℕ)
+      → (call rules w caller (request.Apply name)).1 ≡ reply.Applied
+      → Joined w name (call rules w caller (request.Apply name)).0
+  joined_call w v caller name e =
+      joined_by w v caller (request.Apply name) _ (did rules w caller (request.Apply name)) name refl e
 
-  module _ {w after : World P} {name : ℕ} (j : Joined w name after) (x : ℕ) (o : Object P) (known : slice_get w.objects x ≡ Some o) where
+  module _ {w after : World P} {name : ℕ} (j : Joined w name after) (x : ℕ) (o : Object P)
+      (known : slice_get w.objects x ≡ Some o) where
     abbrev own : Snapshot
     own = snapshot_of w name
 
@@ -127,9 +152,15 @@ module _ {P : Type 0} (rules : Rules P) where
     abbrev left_there : Map
     left_there = (snapshot_of after own.parent).view
 
-    pub told_there : IsVerdict (contains x own.wrote) (settle rules o.policy (entry_at own.base x) (entry_at current x) (entry_at own.view x) (w.clock + 1)) (entry_at current x) (entry_at left_there x) (contains x j.changed)
-    told_there = subst (λ (k : Map). IsVerdict (contains x own.wrote) (settle rules o.policy (entry_at own.base x) (entry_at current x) (entry_at own.view x) (w.clock + 1)) (entry_at current x) (entry_at k x) (contains x j.changed)) (sym j.shown)
+    pub told_there : IsVerdict (contains x own.wrote)
+        (settle rules o.policy (entry_at own.base x) (entry_at current x) (entry_at own.view x) (w.clock + 1))
+        (entry_at current x) (entry_at left_there x) (contains x j.changed)
+    told_there = subst (λ (k : Map). IsVerdict (contains x own.wrote)
+        (settle rules o.policy (entry_at own.base x) (entry_at current x) (entry_at own.view x) (w.clock + 1))
+        (entry_at current x) (entry_at k x) (contains x j.changed)) (sym j.shown)
         (j.right.each x x o (omega arith) known)
 
-    pub outcome_there : Outcome rules o.policy (entry_at own.base x) (entry_at current x) (entry_at own.view x) (entry_at left_there x) (w.clock + 1) (contains x own.wrote) (contains x j.changed)
-    outcome_there = outcome rules o.policy _ _ _ _ (w.clock + 1) (contains x j.changed) (contains x own.wrote) told_there
+    pub outcome_there : Outcome rules o.policy (entry_at own.base x) (entry_at current x) (entry_at own.view x)
+        (entry_at left_there x) (w.clock + 1) (contains x own.wrote) (contains x j.changed)
+    outcome_there = outcome rules o.policy _ _ _ _ (w.clock + 1) (contains x j.changed)
+        (contains x own.wrote) told_there

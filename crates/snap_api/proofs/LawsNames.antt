@@ -14,29 +14,38 @@ use Rattle.snap_api.specs.declared.data.Snapshot.{Snapshot}
 module _ {P : Type 0} (rules : Rules P) where
   -- A closed snapshot is not an open one.
   apart : (w : World P) (name other : ℕ) → is_closed w name ≡ true → is_closed w other ≡ false → name ≢ other
-  apart w name other shut live same = let shut_too : is_closed w other ≡ true = ap (λ (n : ℕ). is_closed w n) (sym same) ∙ shut in absurd cc
+  apart w name other shut live same = let shut_too : is_closed w other ≡ true = ap (λ (n : ℕ). is_closed w n) (sym same)
+      ∙ shut in absurd cc
 
-  pub pushed : (w : World P) (name : ℕ) (s : Snapshot) → name < length w.snapshots → slice_index_or (w.snapshots ++ s ∷ []) name no_snapshot ≡ snapshot_of w name
+  pub pushed : (w : World P) (name : ℕ) (s : Snapshot) → name < length w.snapshots
+      → slice_index_or (w.snapshots ++ s ∷ []) name no_snapshot ≡ snapshot_of w name
   pushed w name s there = get_or-append w.snapshots (s ∷ []) no_snapshot name there
 
-  stays_after : (w : World P) (caller : ℕ) (q : Request) (out : World P × Reply) → Did rules w caller q out → (name : ℕ) → name < length w.snapshots → is_closed w name ≡ true → snapshot_of out.0 name ≡ snapshot_of w name
+  stays_after : (w : World P) (caller : ℕ) (q : Request) (out : World P × Reply) → Did rules w caller q out → (name : ℕ)
+      → name < length w.snapshots → is_closed w name ≡ true → snapshot_of out.0 name ≡ snapshot_of w name
   stays_after w caller q out (refused request r) name there shut = refl
   stays_after w caller q out (took parent kind live) name there shut = pushed w name _ there
   stays_after w caller q out (took_for watcher) name there shut = pushed w name _ there
   stays_after w caller q out (got n x) name there shut = refl
   stays_after w caller q out (left n x value) name there shut = refl
-  stays_after w caller q out (wrote n x value live) name there shut = get_or-set_other w.snapshots n name _ no_snapshot (apart w name n shut live)
+  stays_after w caller q out (wrote n x value live) name there shut =
+      get_or-set_other w.snapshots n name _ no_snapshot (apart w name n shut live)
   stays_after w caller q out (joined n m changed is live parent_live) name there shut =
       let parent = (snapshot_of w n).parent in
       let into = with_snapshot w parent (with_settled (snapshot_of w parent) m changed) in
-      get_or-set_other into.snapshots n name _ no_snapshot (apart w name n shut live) ∙ get_or-set_other w.snapshots parent name _ no_snapshot (apart w name parent shut parent_live)
+      get_or-set_other into.snapshots n name _ no_snapshot (apart w name n shut live)
+          ∙ get_or-set_other w.snapshots parent name _ no_snapshot (apart w name parent shut parent_live)
   stays_after w caller q out (gone n) name there shut = refl
-  stays_after w caller q out (closed n live) name there shut = get_or-set_other w.snapshots n name _ no_snapshot (apart w name n shut live)
+  stays_after w caller q out (closed n live) name there shut =
+      get_or-set_other w.snapshots n name _ no_snapshot (apart w name n shut live)
 
-  pub grows_by : (w : World P) (caller : ℕ) (q : Request) (out : World P × Reply) → Did rules w caller q out → length w.snapshots ≤ length out.0.snapshots
+  pub grows_by : (w : World P) (caller : ℕ) (q : Request) (out : World P × Reply) → Did rules w caller q out
+      → length w.snapshots ≤ length out.0.snapshots
   grows_by w caller q out (refused request r) = omega arith
-  grows_by w caller q out (took parent kind live) = omega (arith, length-append w.snapshots (child_of caller parent kind (snapshot_of w parent) ∷ []))
-  grows_by w caller q out (took_for watcher) = omega (arith, length-append w.snapshots (child_of caller 0 Readonly (snapshot_of w 0) ∷ []))
+  grows_by w caller q out (took parent kind live) =
+      omega (arith, length-append w.snapshots (child_of caller parent kind (snapshot_of w parent) ∷ []))
+  grows_by w caller q out (took_for watcher) =
+      omega (arith, length-append w.snapshots (child_of caller 0 Readonly (snapshot_of w 0) ∷ []))
   grows_by w caller q out (got n x) = omega arith
   grows_by w caller q out (left n x value) = omega arith
   grows_by w caller q out (wrote n x value live) = omega (arith, length-set {A = Snapshot})
@@ -44,12 +53,16 @@ module _ {P : Type 0} (rules : Rules P) where
   grows_by w caller q out (gone n) = omega arith
   grows_by w caller q out (closed n live) = omega (arith, length-set {A = Snapshot})
 
-  pub named_by : (w : World P) (caller : ℕ) (q : Request) (out : World P × Reply) → Did rules w caller q out → (name : ℕ) → name_handed_out out.1 ≡ Some name → (name ≡ length w.snapshots) × (name < length out.0.snapshots)
+  pub named_by : (w : World P) (caller : ℕ) (q : Request) (out : World P × Reply) → Did rules w caller q out
+      → (name : ℕ) → name_handed_out out.1 ≡ Some name → (name ≡ length w.snapshots) × (name < length out.0.snapshots)
   named_by w caller q out (refused request r) name e = absurd cc
   named_by w caller q out (took parent kind live) name e =
-      let is : length w.snapshots ≡ name = cc in (sym is, omega (arith, is, length-append w.snapshots (child_of caller parent kind (snapshot_of w parent) ∷ [])))
+      let is : length w.snapshots ≡ name = cc in
+          (sym is, omega (arith, is, length-append w.snapshots
+          (child_of caller parent kind (snapshot_of w parent) ∷ [])))
   named_by w caller q out (took_for watcher) name e =
-      let is : length w.snapshots ≡ name = cc in (sym is, omega (arith, is, length-append w.snapshots (child_of caller 0 Readonly (snapshot_of w 0) ∷ [])))
+      let is : length w.snapshots ≡ name = cc in
+          (sym is, omega (arith, is, length-append w.snapshots (child_of caller 0 Readonly (snapshot_of w 0) ∷ [])))
   named_by w caller q out (got n x) name e = absurd cc
   named_by w caller q out (left n x value) name e = absurd cc
   named_by w caller q out (wrote n x value live) name e = absurd cc
@@ -59,7 +72,8 @@ module _ {P : Type 0} (rules : Rules P) where
 
   pub count_grows : (w : World P) (h : History) → length w.snapshots ≤ length (world_after rules w h).snapshots
   count_grows w [] = omega arith
-  count_grows w (e ∷ es) = omega (arith, grows_by w e.caller e.request _ (did rules w e.caller e.request), count_grows (call rules w e.caller e.request).0 es)
+  count_grows w (e ∷ es) = omega (arith, grows_by w e.caller e.request _ (did rules w e.caller e.request),
+      count_grows (call rules w e.caller e.request).0 es)
 
   pub closed_stays_closed : ClosedStaysClosed rules
   closed_stays_closed w [] name there shut = refl
@@ -78,5 +92,6 @@ module _ {P : Type 0} (rules : Rules P) where
         first.0,
         λ h other asked later f.
             let after = world_after rules next h in
-            omega (arith, first.1, count_grows next h, (named_by after other asked _ (did rules after other asked) later f).0),
+            omega (arith, first.1, count_grows next h,
+                (named_by after other asked _ (did rules after other asked) later f).0),
       )

@@ -60,7 +60,8 @@ module _ {P : Type 0} (rules : Rules P) where
   -- No stamp in a view falls by a make, a new watcher or a call.
   abbrev pub ViewsRise : Type 0
   ViewsRise = (w : World P) → IsValid rules w →
-      ((ty : Ty) (policy : P) (value : Value) → Rises w (world_after_make w ty policy value)) × Rises w (world_after_watch w)
+      ((ty : Ty) (policy : P) (value : Value) → Rises w (world_after_make w ty policy value))
+          × Rises w (world_after_watch w)
       × ((caller : ℕ) (request : Request) → Rises w (call rules w caller request).0)
 
   -- A refused call does not change the world.
@@ -111,7 +112,8 @@ module _ {P : Type 0} (rules : Rules P) where
       (calls : History) (reader x : ℕ) (value : Value)
       → (call rules (world_after rules (call rules w caller take).0 calls) reader (request.Read name x)).1
       ≡ reply.Got value →
-      value ≡ value_at (view_after_calls (call rules w caller take).0 name (snapshot_of w (parent_taken take)).view calls) x
+      value ≡ value_at (view_after_calls (call rules w caller take).0 name
+          (snapshot_of w (parent_taken take)).view calls) x
 
   -- After the apply of `first` changed object x in the parent, `second`, taken from the same parent before, is not
   -- applied with a change of x that clashes, as long as the parent keeps that stamped value.
@@ -120,7 +122,8 @@ module _ {P : Type 0} (rules : Rules P) where
       let parent = (snapshot_of w first).parent in
       let after = (call rules w caller (request.Apply first)).0 in
       let now = world_after rules after calls in
-      IsValid rules w → second < length w.snapshots → (snapshot_of w second).parent ≡ parent → slice_get w.objects x ≡ Some o →
+      IsValid rules w → second < length w.snapshots → (snapshot_of w second).parent ≡ parent
+          → slice_get w.objects x ≡ Some o →
       (call rules w caller (request.Apply first)).1 ≡ reply.Applied
       → entry_at (snapshot_of after parent).view x ≢ entry_at (snapshot_of w parent).view x →
       entry_at (snapshot_of now parent).view x ≡ entry_at (snapshot_of after parent).view x

@@ -37,7 +37,8 @@ module _ {P : Type 0} (rules : Rules P) where
       (call rules w caller (request.Apply name)).1 ≡ reply.Applied
       → meets o.policy x (snapshot_of w name) (snapshot_of w parent) ≡ false →
       int_wrap w64 (number (value_at (snapshot_of after parent).view x))
-      ≡ int_wrap w64 (number (value_at (snapshot_of w parent).view x) +ℤ change_in_snapshot number (snapshot_of w name) x)
+      ≡ int_wrap w64 (number (value_at (snapshot_of w parent).view x) +ℤ change_in_snapshot number
+          (snapshot_of w name) x)
 
   -- If they meet, the parent keeps its stamped value.
   abbrev pub MeetingsStand : Type 0
@@ -78,7 +79,8 @@ module _ {P : Type 0} (rules : Rules P) where
   -- After quiet calls the parent's value is its value before plus the sum of the changes.
   abbrev pub AppliesAddUp : Type 0
   AppliesAddUp = (w : World P) (parent x : ℕ) (o : Object P) (number : Value → ℤ) (calls : History) →
-      IsValid rules w → parent < length w.snapshots → slice_get w.objects x ≡ Some o → MergesByAdding rules o.policy number
+      IsValid rules w → parent < length w.snapshots → slice_get w.objects x ≡ Some o →
+          MergesByAdding rules o.policy number
       → IsQuiet w parent x o.policy calls →
       int_wrap w64 (number (value_at (snapshot_of (world_after rules w calls) parent).view x))
       ≡ int_wrap w64 (number (value_at (snapshot_of w parent).view x) +ℤ sum_of_changes number w parent x calls)

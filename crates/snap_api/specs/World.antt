@@ -155,7 +155,8 @@ module _ {P : Type 0} (rules : Rules P) (w : World P) (caller : ℕ) where
   abbrev pub take_for : ℕ → World P × Reply
   take_for watcher = refusal_or_effect w
       ((is_spent w, refusal.Spent) ∷ (not (nat_lt watcher (length w.lasts)), refusal.UnknownWatcher) ∷ [])
-      (world_after_take_for w caller watcher, reply.TakenFor (length w.snapshots) (differ (last_of w watcher) (snapshot_of w 0).view))
+      (world_after_take_for w caller watcher,
+          reply.TakenFor (length w.snapshots) (differ (last_of w watcher) (snapshot_of w 0).view))
 
   -- A read of the view.
   abbrev pub read : ℕ → ℕ → World P × Reply

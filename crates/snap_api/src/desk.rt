@@ -53,7 +53,8 @@ pub trait Desk: View {
         ensures log { Logs (log self.old) (log self.new) (caller self.old) (Request.TakeFor watcher)
             (taken_for_reply result) }
         ensures took { (types : List Ty) (l : Option Map) → last self.old watcher types l
-            → alone self.new watcher → TakesForWatcher (Self.shows self.new) (last self.new watcher types) types l result }
+            → alone self.new watcher
+            → TakesForWatcher (Self.shows self.new) (last self.new watcher types) types l result }
         ensures shown { (types : List Ty) (l : Option Map) → last self.old watcher types l
             → OnOk result (ShowsTyped (Self.shows self.new) types) }
         ensures spent { (k : ℕ) → clock self.old k → SpentAtEnd (clock self.new) k result }

@@ -14,7 +14,8 @@ abbrev type_or : Ty → Option Value → Ty
 type_or t None = t
 type_or t (Some v) = type_of v
 
-counters_type : (t : Ty) (previous current applied : Value) → type_of current ≡ t → type_or t (merge_counters previous current applied) ≡ t
+counters_type : (t : Ty) (previous current applied : Value) → type_of current ≡ t
+    → type_or t (merge_counters previous current applied) ≡ t
 counters_type t (value.Int p) (value.Int c) (value.Int a) is = is
 counters_type t (value.Int p) (value.Int c) (value.Bool a) is = refl
 counters_type t (value.Int p) (value.Int c) (value.Text a) is = refl
@@ -39,7 +40,8 @@ list_type : (t : Ty) (b : Bool) (l : List ℤ) → ty.Ints ≡ t → type_or t (
 list_type t true l is = is
 list_type t false l is = refl
 
-lists_type : (t : Ty) (previous current applied : Value) → type_of current ≡ t → type_or t (merge_lists previous current applied) ≡ t
+lists_type : (t : Ty) (previous current applied : Value) → type_of current ≡ t
+    → type_or t (merge_lists previous current applied) ≡ t
 lists_type t (value.Ints p) (value.Ints c) (value.Ints a) is = list_type t (can_append p c a) (appended_list p c a) is
 lists_type t (value.Ints p) (value.Ints c) (value.Int a) is = refl
 lists_type t (value.Ints p) (value.Ints c) (value.Bool a) is = refl
@@ -51,7 +53,8 @@ lists_type t (value.Int p) c a is = refl
 lists_type t (value.Bool p) c a is = refl
 lists_type t (value.Text p) c a is = refl
 
-merged_type : (p : BuiltIn) (t : Ty) (previous current applied : Value) → type_of current ≡ t → type_or t (table_merge p previous current applied) ≡ t
+merged_type : (p : BuiltIn) (t : Ty) (previous current applied : Value) → type_of current ≡ t
+    → type_or t (table_merge p previous current applied) ≡ t
 merged_type Structural t previous current applied is = refl
 merged_type Never t previous current applied is = refl
 merged_type Counter t previous current applied is = counters_type t previous current applied is
@@ -60,6 +63,7 @@ merged_type Append t previous current applied is = lists_type t previous current
 
 -- A merged value has the type of the three values.
 pub table_merge_keeps_type : (p : BuiltIn) (t : Ty) (previous current applied merged : Value) → table_fits p t ≡ true
-    → type_of previous ≡ t → type_of current ≡ t → type_of applied ≡ t → table_merge p previous current applied ≡ Some merged → type_of merged ≡ t
+    → type_of previous ≡ t → type_of current ≡ t → type_of applied ≡ t
+    → table_merge p previous current applied ≡ Some merged → type_of merged ≡ t
 table_merge_keeps_type p t previous current applied merged fits at_previous at_current at_applied given =
     sym (ap (type_or t) given) ∙ merged_type p t previous current applied at_current

@@ -1,15 +1,15 @@
 use Rattle.std.proofs.Common.{◌∙◌, List, sym, ap}
 use Rattle.std.proofs.lemmas.List.{drop_all}
-use Rattle.sexp_text.specs.Forest.{behind}
+use Rattle.sexp_text.specs.Forest.{joined_trees}
 use Rattle.sexp_text.specs.View.{forest_view}
 use Rattle.sexp_text.specs.declared.tree.Tree.{Tree}
-use Rattle.sexp_text.proofs.Trees.{behind-empty}
+use Rattle.sexp_text.proofs.Trees.{joined_trees-empty}
 use Rattle.lang_limits.specs.Clamped.{within}
 use Rattle.lang_limits.proofs.clamping.+copies.Goals as goal
 
 pub within-returns : goal.within-returns
 within-returns t c =
     let out = forest_view c.loop-tree.out.items in
-    sym (behind-empty out)
-    ∙ ap (λ (ts : List Tree). behind out (within (forest_view ts))) (sym (drop_all c.loop-tree.tree-index c.args.trees.now c.loop-tree-test.false))
+    sym (joined_trees-empty out)
+    ∙ ap (λ (ts : List Tree). joined_trees out (within (forest_view ts))) (sym (drop_all c.loop-tree.tree-index c.args.trees.now c.loop-tree-test.false))
     ∙ c.loop-tree.invariant

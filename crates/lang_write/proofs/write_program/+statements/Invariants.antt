@@ -1,5 +1,5 @@
 use Rattle.std.proofs.Common.{◌≡◌, ◌+◌, ◌*◌, max, drop}
-use Rattle.sexp_text.specs.Forest.{behind}
+use Rattle.sexp_text.specs.Forest.{joined_trees}
 use Rattle.sexp_text.specs.View.{forest_view}
 use Rattle.lang_ast.specs.SyntaxView.{stmts_view}
 use Rattle.lang_ast.specs.declared.syntax.Statement.{size-Statement}
@@ -9,7 +9,7 @@ use denote.Param.Weighed.{most}
 use Rattle.lang_write.proofs.write_program.+statements.Given as goal
 
 abbrev pub invariant-put_stmts-loop-statement : goal.invariant-put_stmts-loop-statement
-invariant-put_stmts-loop-statement l = behind (forest_view l.out.items) (unplaced_sketch (stmts_forms (stmts_view (drop l.statement-index l.statements)))) ≡ behind (forest_view l.initial.out.items) (unplaced_sketch (stmts_forms (stmts_view l.statements)))
+invariant-put_stmts-loop-statement l = joined_trees (forest_view l.out.items) (unplaced_sketch (stmts_forms (stmts_view (drop l.statement-index l.statements)))) ≡ joined_trees (forest_view l.initial.out.items) (unplaced_sketch (stmts_forms (stmts_view l.statements)))
 
 abbrev pub decreases-put_stmt : goal.decreases-put_stmt
 decreases-put_stmt l = 5 * size-Statement l.statement.now

@@ -6,7 +6,8 @@ use Rattle.node_tree.proofs.carrying.carry.Given as goal
 
 abbrev pub invariant-loop-op : goal.invariant-loop-op
 invariant-loop-op g l = record {
-  tree : option_map (λ t. calls.tree_after_calls t (reverse l.rest.items)) (g.A.Applier.tree l.applier) ≡ option_map (λ t. calls.tree_after_calls t l.fn.ops) (g.A.Applier.tree l.fn.applier);
+  tree : option_map (λ t. calls.tree_after_calls t (reverse l.rest.items)) (g.A.Applier.tree l.applier) ≡ option_map
+      (λ t. calls.tree_after_calls t l.fn.ops) (g.A.Applier.tree l.fn.applier);
   may : AllAllowed (g.A.Applier.tree l.applier) (reverse l.rest.items);
   room : insert_count (reverse l.rest.items) ≤ g.A.Applier.spare l.applier;
   faults : g.A.Applier.faults l.fn.applier ≤ g.A.Applier.faults l.applier;

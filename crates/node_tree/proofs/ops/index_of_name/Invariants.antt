@@ -4,4 +4,6 @@ use Rattle.node_tree.specs.StoredTree.{data_after_set}
 use Rattle.node_tree.proofs.ops.index_of_name.Given as goal
 
 abbrev pub invariant-loop-index : goal.invariant-loop-index
-invariant-loop-index l = (value : value_data) → data_after_set l.name value l.attributes ≡ take l.index l.attributes ++ data_after_set l.name value (drop l.index l.attributes)
+invariant-loop-index l = (value : value_data)
+    → data_after_set l.name value l.attributes ≡ take l.index l.attributes ++ data_after_set l.name value
+    (drop l.index l.attributes)

@@ -21,7 +21,8 @@ abbrev pub decreases-push_inner : goal.decreases-push_inner
 decreases-push_inner l = 3 * length l.new.now
 
 abbrev pub invariant-push_other_level-loop-index : goal.invariant-push_other_level-loop-index
-invariant-push_other_level-loop-index l = (o n : Nodes) → l.old ≡ flat_nodes o → l.new ≡ flat_nodes n → AreDistinct o → AreDistinct n
+invariant-push_other_level-loop-index l = (o n : Nodes) → l.old ≡ flat_nodes o → l.new ≡ flat_nodes n → AreDistinct o
+    → AreDistinct n
     → l.ops ++ inner_calls l.index (node_list o) (nodes_from l.index n) ≡ l.fn.ops ++ ops_between (node_list o) n
 
 abbrev pub invariant-push_same_level-loop-before : goal.invariant-push_same_level-loop-before

@@ -5,4 +5,5 @@ use Rattle.node_tree.specs.SiblingLists.{last_index, index_in}
 use Rattle.node_tree.proofs.siblings.index_siblings.Given as goal
 
 abbrev pub invariant-loop-index : goal.invariant-loop-index
-invariant-loop-index l = (number : ℕ) → last_index number l.index (get nat_cmp l.indexes number) (drop l.index l.siblings) ≡ index_in number l.siblings
+invariant-loop-index l = (number : ℕ)
+    → last_index number l.index (get nat_cmp l.indexes number) (drop l.index l.siblings) ≡ index_in number l.siblings

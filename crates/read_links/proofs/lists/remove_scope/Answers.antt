@@ -13,8 +13,11 @@ loop-at-preserved-then-index-scope c =
     let capacity = c.remove.ensures.capacity in
     let before = c.loop-at.invariant in
     let items = c.remove.ensures.items in (
-      ap (scopes_without c.args.scope) items ∙ removed_scope c.args.scope c.loop-at.scopes.items c.loop-at.at c.index.result.now inside (is_scope c.args.scope c.index.result.now _ c.index.ensures c.if-index-scope.true) ∙ before.0,
-      subst (λ l. FirstAreOthers c.args.scope c.loop-at.at l) (sym items) (others_stay c.args.scope c.loop-at.scopes.items c.loop-at.at inside before.1),
+      ap (scopes_without c.args.scope) items
+          ∙ removed_scope c.args.scope c.loop-at.scopes.items c.loop-at.at c.index.result.now inside
+          (is_scope c.args.scope c.index.result.now _ c.index.ensures c.if-index-scope.true) ∙ before.0,
+      subst (λ l. FirstAreOthers c.args.scope c.loop-at.at l) (sym items)
+          (others_stay c.args.scope c.loop-at.scopes.items c.loop-at.at inside before.1),
       capacity ∙ before.2,
       let less = before.3 in omega (arith, shorter, less),
     )
@@ -26,7 +29,9 @@ loop-at-preserved c =
     let whole = c.loop-at.scopes.ok.0 in
     let inside : c.loop-at.at < length c.loop-at.scopes.items = omega (arith, len, test, whole) in
     let before = c.loop-at.invariant in
-    (before.0, next_is_other c.args.scope c.loop-at.scopes.items c.loop-at.at c.index.result.now inside (is_other c.args.scope c.index.result.now _ c.index.ensures c.if-index-scope.false) before.1, before.2, before.3)
+    (before.0, next_is_other c.args.scope c.loop-at.scopes.items c.loop-at.at c.index.result.now inside
+        (is_other c.args.scope c.index.result.now _ c.index.ensures c.if-index-scope.false) before.1,
+        before.2, before.3)
 
 pub returns-clause-items : goal.returns-clause-items
 returns-clause-items c =

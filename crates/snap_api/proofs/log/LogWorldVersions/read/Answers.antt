@@ -5,13 +5,21 @@ use Rattle.snap_api.specs.declared.data.Request.TheVariants.{Read}
 
 pub returns-in-Ok-copy-clause-call : goal.returns-in-Ok-copy-clause-call
 returns-in-Ok-copy-clause-call g c w h =
-    recorded_call g.V.P.Policy.rules (g.V.Versions.stands c.args.self.now.world) (g.V.Versions.stands c.read.new.self) c.args.caller c.args.self.now.undisposed.items c.args.self.now.undisposed.items (Read c.args.name c.args.object) (Got c.in-Ok.value) w
+    recorded_call g.V.P.Policy.rules (g.V.Versions.stands c.args.self.now.world)
+        (g.V.Versions.stands c.read.new.self) c.args.caller c.args.self.now.undisposed.items
+        c.args.self.now.undisposed.items (Read c.args.name c.args.object) (Got c.in-Ok.value) w
     (λ n live is. is) (λ n no. absurd no) (c.in-Ok.ensures.call w h.stands_for) h
 
 pub returns-in_default-clause-call : goal.returns-in_default-clause-call
 returns-in_default-clause-call g c w h =
-    recorded_same g.V.P.Policy.rules (g.V.Versions.stands c.args.self.now.world) (g.V.Versions.stands c.read.new.self) c.args.caller c.args.self.now.undisposed.items w (read_stands g.V.P.Policy.rules (g.V.Versions.stands c.args.self.now.world) (g.V.Versions.stands c.read.new.self) c.args.caller c.args.self.now.undisposed.items c.args.name c.args.object c.in-Ok.value c.in-Ok.ensures.call w h.stands_for) h
+    recorded_same g.V.P.Policy.rules (g.V.Versions.stands c.args.self.now.world)
+        (g.V.Versions.stands c.read.new.self) c.args.caller c.args.self.now.undisposed.items w
+        (read_stands g.V.P.Policy.rules (g.V.Versions.stands c.args.self.now.world)
+        (g.V.Versions.stands c.read.new.self) c.args.caller c.args.self.now.undisposed.items c.args.name c.args.object
+        c.in-Ok.value c.in-Ok.ensures.call w h.stands_for) h
 
 pub returns-in-Err-clause-call : goal.returns-in-Err-clause-call
 returns-in-Err-clause-call g c =
-    calls_refused g.V.P.Policy.rules (g.V.Versions.stands c.args.self.now.world) (g.V.Versions.stands c.read.new.self) c.args.caller c.args.self.now.undisposed.items (Read c.args.name c.args.object) c.in-Err.refusal c.in-Err.ensures.call
+    calls_refused g.V.P.Policy.rules (g.V.Versions.stands c.args.self.now.world)
+        (g.V.Versions.stands c.read.new.self) c.args.caller c.args.self.now.undisposed.items
+        (Read c.args.name c.args.object) c.in-Err.refusal c.in-Err.ensures.call

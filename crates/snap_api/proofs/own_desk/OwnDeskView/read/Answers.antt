@@ -12,12 +12,16 @@ returns-in_default-clause-part g c = record { rest = c.args.x ∷ []; is = refl 
 pub returns-then-is_no_memory : goal.returns-then-is_no_memory
 returns-then-is_no_memory g c =
     let is : is_no_memory (Refused c.in-Err.refusal) ≡ true = sym c.is_no_memory.ensures ∙ c.if-is_no_memory.true in
-    let stands = does_no_memory (g.V.Versions.stands c.args.self.now.world.now) (g.V.Versions.stands c.read.new.self) _ c.in-Err.refusal is c.in-Err.ensures.call in
-    let tells = tells_no_memory (g.V.Versions.log c.args.self.now.world.now) (g.V.Versions.log c.read.new.self) c.args.self.now.caller c.in-Some.name c.args.x c.in-Err.refusal is c.in-Err.ensures.log in
+    let stands = does_no_memory (g.V.Versions.stands c.args.self.now.world.now)
+        (g.V.Versions.stands c.read.new.self) _ c.in-Err.refusal is c.in-Err.ensures.call in
+    let tells = tells_no_memory (g.V.Versions.log c.args.self.now.world.now)
+        (g.V.Versions.log c.read.new.self) c.args.self.now.caller c.in-Some.name c.args.x c.in-Err.refusal is
+        c.in-Err.ensures.log in
     let popped = c.pop.ensures.last c.args.self.now.asked.now c.args.x c.in-Ok.ensures.ok in
     record {
       value = λ m h. tt;
-      same = λ m h. record { world = h.world; stands_for = stands h.world h.stands_for; valid = h.valid; opens = h.opens; shows = h.shows; full = h.full };
+      same = λ m h. record { world = h.world; stands_for = stands h.world h.stands_for; valid = h.valid;
+          opens = h.opens; shows = h.shows; full = h.full };
       asks = tt;
       part = record { rest = c.args.x ∷ []; is = ap (λ l. l ++ c.args.x ∷ []) popped };
       free = λ m h never flat. never;
@@ -29,19 +33,28 @@ returns-then-is_no_memory g c =
         same_name = refl;
         more = [];
         asks = popped ∙ sym (append-nil _);
-        tells = subst (λ (o : Option ℕ). LogsReadsIn (g.V.Versions.log c.args.self.now.world.now) (g.V.Versions.log c.read.new.self) c.args.self.now.caller o []) (sym c.in-Some.is) tells;
-        legal = legal_no_memory g.V.P.Policy.rules (g.V.Versions.stands c.args.self.now.world.now) (g.V.Versions.log c.args.self.now.world.now) (g.V.Versions.log c.read.new.self) c.args.self.now.caller c.in-Some.name c.args.x c.in-Err.refusal is c.in-Err.ensures.log;
+        tells = subst (λ (o : Option ℕ). LogsReadsIn (g.V.Versions.log c.args.self.now.world.now)
+            (g.V.Versions.log c.read.new.self) c.args.self.now.caller o []) (sym c.in-Some.is) tells;
+        legal = legal_no_memory g.V.P.Policy.rules (g.V.Versions.stands c.args.self.now.world.now)
+            (g.V.Versions.log c.args.self.now.world.now) (g.V.Versions.log c.read.new.self) c.args.self.now.caller
+            c.in-Some.name c.args.x c.in-Err.refusal is c.in-Err.ensures.log;
       };
     }
 
 pub returns-else-is_no_memory : goal.returns-else-is_no_memory
 returns-else-is_no_memory g c =
-    let other : is_no_memory (Refused c.in-Err.refusal) ≡ false = sym c.is_no_memory.ensures ∙ c.if-is_no_memory.false in
-    let stands = stands_refused g.V.P.Policy.rules (g.V.Versions.stands c.args.self.now.world.now) (g.V.Versions.stands c.read.new.self) c.args.self.now.caller c.in-Some.name c.args.x c.in-Err.refusal other c.in-Err.ensures.call in
-    let tells = tells_refused (g.V.Versions.log c.args.self.now.world.now) (g.V.Versions.log c.read.new.self) c.args.self.now.caller c.in-Some.name c.args.x c.in-Err.refusal other c.in-Err.ensures.log in
+    let other : is_no_memory (Refused c.in-Err.refusal) ≡ false = sym c.is_no_memory.ensures
+        ∙ c.if-is_no_memory.false in
+    let stands = stands_refused g.V.P.Policy.rules (g.V.Versions.stands c.args.self.now.world.now)
+        (g.V.Versions.stands c.read.new.self) c.args.self.now.caller c.in-Some.name c.args.x c.in-Err.refusal other
+        c.in-Err.ensures.call in
+    let tells = tells_refused (g.V.Versions.log c.args.self.now.world.now)
+        (g.V.Versions.log c.read.new.self) c.args.self.now.caller c.in-Some.name c.args.x c.in-Err.refusal other
+        c.in-Err.ensures.log in
     record {
       value = λ m h. tt;
-      same = λ m h. record { world = h.world; stands_for = stands h.world h.stands_for; valid = h.valid; opens = h.opens; shows = h.shows; full = h.full };
+      same = λ m h. record { world = h.world; stands_for = stands h.world h.stands_for; valid = h.valid;
+          opens = h.opens; shows = h.shows; full = h.full };
       asks = tt;
       part = record { rest = []; is = append-nil _ ∙ c.in-Ok.ensures.ok };
       free = λ m h never flat. never;
@@ -53,8 +66,12 @@ returns-else-is_no_memory g c =
         same_name = refl;
         more = c.args.x ∷ [];
         asks = c.in-Ok.ensures.ok;
-        tells = subst (λ (o : Option ℕ). LogsReadsIn (g.V.Versions.log c.args.self.now.world.now) (g.V.Versions.log c.read.new.self) c.args.self.now.caller o (c.args.x ∷ [])) (sym c.in-Some.is) tells;
-        legal = legal_read g.V.P.Policy.rules (g.V.Versions.stands c.args.self.now.world.now) (g.V.Versions.stands c.read.new.self) (g.V.Versions.log c.args.self.now.world.now) (g.V.Versions.log c.read.new.self) c.args.self.now.caller c.in-Some.name c.args.x (Refused c.in-Err.refusal) other c.in-Err.ensures.call c.in-Err.ensures.log;
+        tells = subst (λ (o : Option ℕ). LogsReadsIn (g.V.Versions.log c.args.self.now.world.now)
+            (g.V.Versions.log c.read.new.self) c.args.self.now.caller o (c.args.x ∷ [])) (sym c.in-Some.is) tells;
+        legal = legal_read g.V.P.Policy.rules (g.V.Versions.stands c.args.self.now.world.now)
+            (g.V.Versions.stands c.read.new.self) (g.V.Versions.log c.args.self.now.world.now)
+            (g.V.Versions.log c.read.new.self) c.args.self.now.caller c.in-Some.name c.args.x
+            (Refused c.in-Err.refusal) other c.in-Err.ensures.call c.in-Err.ensures.log;
       };
     }
 
