@@ -1,5 +1,5 @@
 -- Laws of lists that grow at their end.
-use Rattle.std.proofs.Common.{◌≡◌, ℕ, List, [], ◌++◌, ap, ◌∙◌, sym, append_assoc, append-nil}
+use Rattle.std.proofs.Common.{ℕ, List, [], ◌++◌, ap, ◌∙◌, sym, append_assoc, append-nil}
 use Rattle.rt_values.specs.Views.{Extends}
 
 pub extends_itself : (xs : List ℕ) → Extends xs xs

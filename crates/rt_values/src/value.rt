@@ -84,16 +84,22 @@ impl Value {
         }
     }
 
-    /// Appends the printed form to the output buffer `text`: the literal that a program writes for the value.
+    /// Appends the printed form to the output buffer `text`: the literal that a program writes for the value. After
+    /// `NoMemory` the buffer is empty.
     pub fn put(&self, text: &mut Vec<u8>) -> Result<(), NoMemory>
-        ensures { OnOk result (text.new.items ≡ text.old.items ++ value_text self.now) }
+        ensures ok { OnOk result (text.new.items ≡ text.old.items ++ value_text self.now) }
+        ensures err { OnErr result (text.new.items ≡ []) }
     {
-        match self {
+        let done = match self {
             Value::Int(number) => append_number(text, *number),
             Value::Bool(truth) => append_truth(text, *truth),
             Value::Text(chars) => append_string(text, chars),
             Value::Ints(list) => append_list(text, list),
+        };
+        if done.is_err() {
+            text.clear();
         }
+        done
     }
 }
 
