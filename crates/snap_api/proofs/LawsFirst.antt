@@ -41,13 +41,20 @@ module _ {P : Type 0} (rules : Rules P) (keeps_types : KeepsTypes rules) where
       slice_get w.objects x ≡ Some o →
       let parent = (snapshot_of w name).parent in
       entry_at (snapshot_of after parent).view x ≢ entry_at (snapshot_of w parent).view x →
-          (entry_at (snapshot_of w parent).view x).stamp < (entry_at (snapshot_of after parent).view x).stamp
+      (entry_at (snapshot_of w parent).view x).stamp < (entry_at (snapshot_of after parent).view x).stamp
   later_stamp w after name x o v j known another = elim (outcome_there rules j x o known) [
     | stays is unlisted ↦ absurd (another is)
-    | comes is same world_after_write listed ↦ omega (arith, ap (λ (e : StampedValue). e.stamp) is, same,
-        (v.wrote name).changed x world_after_write)
-    | merges value is_merged is listed ↦ omega (arith, ap (λ (e : StampedValue). e.stamp) is,
-        stamp_in_time v (View (snapshot_of w name).parent) x)
+    | comes is same world_after_write listed ↦ omega (
+      arith,
+      ap (λ (e : StampedValue). e.stamp) is,
+      same,
+      (v.wrote name).changed x world_after_write,
+    )
+    | merges value is_merged is listed ↦ omega (
+      arith,
+      ap (λ (e : StampedValue). e.stamp) is,
+      stamp_in_time v (View (snapshot_of w name).parent) x,
+    )
   ]
 
   pub first_committer_wins : FirstCommitterWins rules
@@ -57,42 +64,42 @@ module _ {P : Type 0} (rules : Rules P) (keeps_types : KeepsTypes rules) where
       let now = world_after rules after calls in
       let one : Entry = record { caller = caller; request = request.Apply first; reply = reply.Applied } in
       let roots : SameRoots (snapshot_of w second) (snapshot_of now second) =
-          roots_after rules w (one ∷ calls) second exists in
+      roots_after rules w (one ∷ calls) second exists in
       let valid_now : IsValid rules now = valid_after rules keeps_types w (one ∷ calls) v in
       let known_now : slice_get now.objects x ≡ Some o =
-          ap (λ (os : List (Object P)). slice_get os x) (objects_after rules w (one ∷ calls)) ∙ known in
+      ap (λ (os : List (Object P)). slice_get os x) (objects_after rules w (one ∷ calls)) ∙ known in
       let j : Joined rules now second (call rules now later (request.Apply second)).0 =
-          joined_call rules now valid_now.shaped later second answered_too in
+      joined_call rules now valid_now.shaped later second answered_too in
       let same_parent : (snapshot_of now second).parent ≡ parent = roots.parent ∙ siblings in
       let inside : x < length (snapshot_of w second).base =
-          omega (arith, slice_get_within w.objects x o known, (v.shaped.full second exists).0) in
+      omega (arith, slice_get_within w.objects x o known, (v.shaped.full second exists).0) in
       let base : (entry_at (snapshot_of now second).base x).stamp ≡ (entry_at (snapshot_of w second).base x).stamp =
-          ap (λ (m : Map). (entry_at m x).stamp) roots.base in
+      ap (λ (m : Map). (entry_at m x).stamp) roots.base in
       let below : (entry_at (snapshot_of w second).base x).stamp ≤ (entry_at (snapshot_of w parent).view x).stamp =
       subst (λ (n : ℕ). (entry_at (snapshot_of w second).base x).stamp ≤ (entry_at (snapshot_of w n).view x).stamp)
-          siblings ((v.above second).stamps x inside) in
+      siblings ((v.above second).stamps x inside) in
       let rose = later_stamp w after first x o v (joined_call rules w v.shaped caller first answered) known another in
       let still : (entry_at (snapshot_of now parent).view x).stamp
-          ≡ (entry_at (snapshot_of after parent).view x).stamp = ap (λ (e : StampedValue). e.stamp) unchanged in
+      ≡ (entry_at (snapshot_of after parent).view x).stamp = ap (λ (e : StampedValue). e.stamp) unchanged in
       let s = snapshot_of now second in
       let moved : Snapshot = snapshot_of now s.parent in
       let is_parent : moved ≡ snapshot_of now parent = ap (λ (n : ℕ). snapshot_of now n) same_parent in
       let stamps : (entry_at s.base x).stamp < (entry_at moved.view x).stamp =
-          omega (arith, base, below, rose, still, ap (λ (t : Snapshot). (entry_at t.view x).stamp) is_parent) in
+      omega (arith, base, below, rose, still, ap (λ (t : Snapshot). (entry_at t.view x).stamp) is_parent) in
       let unlike : rules.equiv o.policy (entry_at moved.view x).value (entry_at s.view x).value ≡ false =
-          ap (λ (t : Snapshot). rules.equiv o.policy (entry_at t.view x).value (entry_at s.view x).value) is_parent
-          ∙ clash.unlike in
+      ap (λ (t : Snapshot). rules.equiv o.policy (entry_at t.view x).value (entry_at s.view x).value) is_parent
+      ∙ clash.unlike in
       let unmerged : rules.merge o.policy (entry_at s.base x).value (entry_at moved.view x).value
-          (entry_at s.view x).value ≡ None =
+      (entry_at s.view x).value ≡ None =
       ap (λ (t : Snapshot). rules.merge o.policy (entry_at s.base x).value (entry_at t.view x).value
-          (entry_at s.view x).value) is_parent ∙ clash.unmerged in
+      (entry_at s.view x).value) is_parent ∙ clash.unmerged in
       let left : StampedValue = entry_at
-          (snapshot_of (call rules now later (request.Apply second)).0 s.parent).view x in
+      (snapshot_of (call rules now later (request.Apply second)).0 s.parent).view x in
       let world_after_write : IsVerdict true
-          (settle rules o.policy (entry_at s.base x) (entry_at moved.view x) (entry_at s.view x) (now.clock + 1))
-          (entry_at moved.view x) left (contains x j.changed) =
+      (settle rules o.policy (entry_at s.base x) (entry_at moved.view x) (entry_at s.view x) (now.clock + 1))
+      (entry_at moved.view x) left (contains x j.changed) =
       subst (λ t. IsVerdict t (settle rules o.policy (entry_at s.base x) (entry_at moved.view x) (entry_at s.view x)
-          (now.clock + 1)) (entry_at moved.view x) left (contains x j.changed)) clash.changed
-          (told_there rules j x o known_now) in
+      (now.clock + 1)) (entry_at moved.view x) left (contains x j.changed)) clash.changed
+      (told_there rules j x o known_now) in
       untold rules o.policy (entry_at s.base x) (entry_at moved.view x) (entry_at s.view x) left (now.clock + 1)
-          (contains x j.changed) stamps unlike unmerged world_after_write
+      (contains x j.changed) stamps unlike unmerged world_after_write

@@ -68,15 +68,15 @@ module _ {P : Type 0} (w : World P) (n : ℕ) where
   opens-push after s r more takes h = elim (cases_lt n (length w.snapshots)) [
     | inl within ↦
         let same : snapshot_of after n ≡ snapshot_of w n =
-            ap (λ (l : List Snapshot). slice_index_or l n no_snapshot) more
-            ∙ get_or-append w.snapshots (s ∷ []) no_snapshot n within in
+        ap (λ (l : List Snapshot). slice_index_or l n no_snapshot) more
+        ∙ get_or-append w.snapshots (s ∷ []) no_snapshot n within in
         inl (sym (ap (λ (t : Snapshot). not (is_live t.status)) same) ∙ h)
     | inr past ↦ elim (eqb_tells n (length w.snapshots)) [
       | inl e ↦ inr (takes e.1)
       | inr e ↦
           let gone : snapshot_of after n ≡ no_snapshot = ap (λ (l : List Snapshot). slice_index_or l n no_snapshot) more
-              ∙ get_or_past (w.snapshots ++ s ∷ []) n no_snapshot
-              (omega (arith, past, e.1, length-append w.snapshots (s ∷ []))) in
+          ∙ get_or_past (w.snapshots ++ s ∷ []) n no_snapshot
+          (omega (arith, past, e.1, length-append w.snapshots (s ∷ []))) in
           let closed : is_closed after n ≡ true = ap (λ (t : Snapshot). not (is_live t.status)) gone in
           absurd cc
     ]
@@ -89,16 +89,16 @@ module _ {P : Type 0} (w : World P) (n : ℕ) where
     | inl e ↦ elim (cases_lt name (length w.snapshots)) [
       | inl within ↦
           let same : snapshot_of (with_snapshot w name s) n ≡ s =
-              ap (λ i. slice_index_or (slice_set w.snapshots name s) i no_snapshot) e.1
-              ∙ get_or-set_same w.snapshots name s no_snapshot within in
+          ap (λ i. slice_index_or (slice_set w.snapshots name s) i no_snapshot) e.1
+          ∙ get_or-set_same w.snapshots name s no_snapshot within in
           let live : not (is_live s.status) ≡ false = sym (ap (λ (t : Snapshot). not (is_live t.status)) same) ∙ h in
           ap (λ i. is_closed w i) e.1 ∙ was (live_of (is_live s.status) live)
       | inr past ↦
           let gone : snapshot_of (with_snapshot w name s) n ≡ no_snapshot =
-              get_or_past (slice_set w.snapshots name s) n no_snapshot
-              (omega (arith, past, e.1, length-set {A = Snapshot})) in
+          get_or_past (slice_set w.snapshots name s) n no_snapshot
+          (omega (arith, past, e.1, length-set {A = Snapshot})) in
           let closed : is_closed (with_snapshot w name s) n ≡ true =
-              ap (λ (t : Snapshot). not (is_live t.status)) gone in
+          ap (λ (t : Snapshot). not (is_live t.status)) gone in
           absurd cc
     ]
     | inr e ↦ sym (ap (λ (t : Snapshot). not (is_live t.status))
@@ -113,10 +113,12 @@ module _ {P : Type 0} (rules : Rules P) (w : World P) (caller n : ℕ) where
       step-test w n (not (is_mutable (snapshot_of w name).kind)) refusal.ReadOnly _ (
       step-test w n (not (same_type (type_of value) o.ty)) (refusal.WrongType o.ty) _ (
       step-choice w n (rules.equiv o.policy (value_at (snapshot_of w name).view x) value) _ _
-          (step-same w n (reply.Wrote false))
-      (record { opens = λ h. inl (closed-shot w n name
-          (with_entry (snapshot_of w name) x (record { value = value; stamp = w.clock + 1 })) (λ live. ap not live) h);
-          leaves = λ e h. absurd cc })))
+      (step-same w n (reply.Wrote false))
+      (record {
+        opens = λ h. inl (closed-shot w n name
+            (with_entry (snapshot_of w name) x (record { value = value; stamp = w.clock + 1 })) (λ live. ap not live) h);
+        leaves = λ e h. absurd cc;
+      })))
 
   step-apply : (name : ℕ) (s : Settled) → IsStep w n (apply_to rules w caller name s)
   step-apply name (settled m changed) =
@@ -134,26 +136,30 @@ module _ {P : Type 0} (rules : Rules P) (w : World P) (caller n : ℕ) where
       step-test w n (is_spent w) refusal.Spent _ (
       step-test w n (is_closed w parent) (refusal.Closed parent) _ (
       step-test w n (not (is_mutable (snapshot_of w parent).kind) && is_mutable kind) refusal.ReadOnly _
-      (record { opens = opens-push w n (world_after_take w caller parent kind)
-          (child_of caller parent kind (snapshot_of w parent)) (reply.Taken (length w.snapshots)) refl (λ e. e);
-          leaves = λ e h. absurd cc })))
+      (record {
+        opens = opens-push w n (world_after_take w caller parent kind)
+            (child_of caller parent kind (snapshot_of w parent)) (reply.Taken (length w.snapshots)) refl (λ e. e);
+        leaves = λ e h. absurd cc;
+      })))
   step_call (request.TakeFor watcher) =
       step-test w n (is_spent w) refusal.Spent _ (
       step-test w n (not (nat_lt watcher (length w.lasts))) refusal.UnknownWatcher _
-      (record { opens = opens-push w n (world_after_take_for w caller watcher)
-          (child_of caller 0 Readonly (snapshot_of w 0))
-          (reply.TakenFor (length w.snapshots) (differ (last_of w watcher) (snapshot_of w 0).view)) refl (λ e. e);
-          leaves = λ e h. absurd cc }))
+      (record {
+        opens = opens-push w n (world_after_take_for w caller watcher)
+            (child_of caller 0 Readonly (snapshot_of w 0))
+            (reply.TakenFor (length w.snapshots) (differ (last_of w watcher) (snapshot_of w 0).view)) refl (λ e. e);
+        leaves = λ e h. absurd cc;
+      }))
   step_call (request.Read name x) =
       step-test w n (is_closed w name) (refusal.Closed name) _ (
       step-test w n (is_foreign w caller name) (refusal.NotYours (snapshot_of w name).owner) _ (
       step-test w n (not (nat_lt x (length w.objects))) refusal.UnknownObject _
-          (step-same w n (reply.Got (value_at (snapshot_of w name).view x)))))
+      (step-same w n (reply.Got (value_at (snapshot_of w name).view x)))))
   step_call (request.Write name x value) =
       step-test w n (is_spent w) refusal.Spent _ (
       step-test w n (is_closed w name) (refusal.Closed name) _ (
       step-test w n (is_foreign w caller name) (refusal.NotYours (snapshot_of w name).owner) _
-          (step-write name x value (slice_get w.objects x))))
+      (step-write name x value (slice_get w.objects x))))
   step_call (request.Apply name) =
       step-test w n (is_spent w) refusal.Spent _ (
       step-test w n (is_closed w name) (refusal.Closed name) _ (
@@ -161,15 +167,18 @@ module _ {P : Type 0} (rules : Rules P) (w : World P) (caller n : ℕ) where
       step-test w n (is_foreign w caller name) (refusal.NotYours (snapshot_of w name).owner) _ (
       step-test w n (not (is_mutable (snapshot_of w name).kind)) refusal.ReadOnly _ (
       step-test w n (is_closed w (snapshot_of w name).parent) refusal.ParentClosed _
-          (step-apply name (settled_of rules w caller name)))))))
+      (step-apply name (settled_of rules w caller name)))))))
   step_call (request.Dispose name) =
       step-test w n (not (nat_lt name (length w.snapshots))) (refusal.Closed name) _ (
       step-test w n (name == 0) refusal.Global _ (
       step-test w n (not (is_closed w name) && is_foreign w caller name)
-          (refusal.NotYours (snapshot_of w name).owner) _ (
+      (refusal.NotYours (snapshot_of w name).owner) _ (
       step-choice w n (is_closed w name) _ _ (step-same w n reply.Disposed)
-      (record { opens = λ h. inl (closed-shot w n name (with_status (snapshot_of w name) Disposed)
-          (λ live. absurd cc) h); leaves = λ e h. absurd cc }))))
+      (record {
+        opens = λ h. inl (closed-shot w n name (with_status (snapshot_of w name) Disposed)
+            (λ live. absurd cc) h);
+        leaves = λ e h. absurd cc;
+      }))))
 
 -- A disposed snapshot is not live.
 module _ {P : Type 0} (w : World P) (name : ℕ) where
@@ -203,7 +212,7 @@ call-closes rules w caller name =
     closed-test w name (not (nat_lt name (length w.snapshots))) (refusal.Closed name) _ (
     closed-test w name (name == 0) refusal.Global _ (
     closed-test w name (not (is_closed w name) && is_foreign w caller name)
-        (refusal.NotYours (snapshot_of w name).owner) _
+    (refusal.NotYours (snapshot_of w name).owner) _
     (λ e. closed-choice w name (is_closed w name) refl)))
 
 -- A list contains its members after a number is appended or another is removed.
@@ -231,8 +240,8 @@ differ_from-short before x [] = omega arith
 differ_from-short before x (e ∷ now) =
     let later = differ_from-short before (x + 1) now in
     elim (differs (slice_get before x) e) as
-        (λ b. length (cond b (x ∷ differ_from before (x + 1) now) (differ_from before (x + 1) now)) ≤ suc
-        (length now)) [ true ↦ omega arith | false ↦ omega arith ]
+    (λ b. length (cond b (x ∷ differ_from before (x + 1) now) (differ_from before (x + 1) now)) ≤ suc
+    (length now)) [ true ↦ omega arith | false ↦ omega arith ]
 
 closed_live : {P : Type 0} (rules : Rules P) (w : World P) (caller name n : ℕ) → n ≡ name →
     reply.Disposed ≡ (call rules w caller (request.Dispose name)).1 →
@@ -251,9 +260,9 @@ closed-world_after_make w n e live = elim (cases_lt n (length w.snapshots)) [
       (get_or-map (with_object e) w.snapshots n no_snapshot no_snapshot within)) ∙ live
   | inr past ↦
       let gone = get_or_past (map (with_object e) w.snapshots) n no_snapshot
-          (omega (arith, past, length-map {A = Snapshot} {B = Snapshot})) in
+      (omega (arith, past, length-map {A = Snapshot} {B = Snapshot})) in
       let closed : not (is_live (slice_index_or (map (with_object e) w.snapshots) n no_snapshot).status) ≡ true =
-          ap (λ (t : Snapshot). not (is_live t.status)) gone in
+      ap (λ (t : Snapshot). not (is_live t.status)) gone in
       absurd cc
 ]
 
@@ -266,7 +275,7 @@ module _ {P : Type 0} (rules : Rules P) (before after : World P → Type 0) (cal
       ((n : ℕ) → is_closed (call rules w caller q).0 n ≡ false → contains n undisposed ≡ true →
       contains n later ≡ true) → ((n : ℕ) → Takes n r → contains n later ≡ true) →
       (r ≡ (call rules w caller q).1) × after (call rules w caller q).0 → TracksLive before undisposed w →
-          (r ≡ (call rules w caller q).1) × TracksLive after later (call rules w caller q).0
+      (r ≡ (call rules w caller q).1) × TracksLive after later (call rules w caller q).0
   recorded_call later q r w stay new told h = (
     told.0,
     record {
@@ -304,11 +313,11 @@ module _ {P : Type 0} (rules : Rules P) (before after : World P → Type 0) (cal
   pub recorded_taken : (later : List ℕ) (name : ℕ) (q : Request) (r : Reply) (w : World P) →
       later ≡ undisposed ++ name ∷ [] → ((n : ℕ) → Takes n r → n ≡ name) →
       (r ≡ (call rules w caller q).1) × after (call rules w caller q).0 → TracksLive before undisposed w →
-          (r ≡ (call rules w caller q).1) × TracksLive after later (call rules w caller q).0
+      (r ≡ (call rules w caller q).1) × TracksLive after later (call rules w caller q).0
   recorded_taken later name q r w more named told h = recorded_call later q r w
       (λ n live is. ap (contains n) more ∙ contains-push n name undisposed is)
       (λ n took. ap (contains n) more ∙ ap (λ i. contains n (undisposed ++ i ∷ [])) (sym (named n took))
-          ∙ contains-pushed n undisposed) told h
+      ∙ contains-pushed n undisposed) told h
 
   -- A read represents the same worlds as before.
   pub read_stands : (name x : ℕ) (v : Value) → Calls rules before after caller (request.Read name x) (reply.Got v) →
@@ -323,20 +332,20 @@ module _ {P : Type 0} (rules : Rules P) (before after : World P → Type 0) (cal
       let took = call-TakeFor rules w caller watcher name changed told in
       let short = differ_from-short (unwrap_or (last_of w watcher) []) 0 (snapshot_of w 0).view in
       let listed : length changed ≡ length (differ (last_of w watcher) (snapshot_of w 0).view) =
-          ap (λ (l : List ℕ). length l) took.listed in
+      ap (λ (l : List ℕ). length l) took.listed in
       omega (arith, short, listed, is, less, (shaped.full 0 shaped.some).1)
 
   -- A disposed snapshot need not be in the list.
   pub recorded_disposed : (later : List ℕ) (name place : ℕ) (w : World P) → later ≡ remove undisposed place →
       slice_index_or undisposed place 0 ≡ name →
       (reply.Disposed ≡ (call rules w caller (request.Dispose name)).1)
-          × after (call rules w caller (request.Dispose name)).0 → TracksLive before undisposed w →
+      × after (call rules w caller (request.Dispose name)).0 → TracksLive before undisposed w →
       (reply.Disposed ≡ (call rules w caller (request.Dispose name)).1)
-          × TracksLive after later (call rules w caller (request.Dispose name)).0
+      × TracksLive after later (call rules w caller (request.Dispose name)).0
   recorded_disposed later name place w less is told h = recorded_call later (request.Dispose name) reply.Disposed w
       (λ n live among. ap (contains n) less
-          ∙ contains-remove n undisposed place
-          (λ same. closed_live rules w caller name n (sym same ∙ is) told.0 live) among)
+      ∙ contains-remove n undisposed place
+      (λ same. closed_live rules w caller name n (sym same ∙ is) told.0 live) among)
       (λ n no. absurd no) told h
 
 module _ {P : Type 0} (before after : World P → Type 0) (undisposed : List ℕ) where

@@ -51,7 +51,7 @@ module _ {P : Type 0} (rules : Rules P) (now : ℕ) (wrote : List ℕ) (x : ℕ)
       Right rules now wrote (x + 1) os bs cs as' m listed →
       IsVerdict (contains x wrote) verdict c e (contains x listed') →
       ((k : ℕ) → k ≢ x → contains k listed' ≡ contains k listed) →
-          Right rules now wrote x (o ∷ os) (b ∷ bs) (c ∷ cs) (a ∷ as') (e ∷ m) listed'
+      Right rules now wrote x (o ∷ os) (b ∷ bs) (c ∷ cs) (a ∷ as') (e ∷ m) listed'
   right_cons e m listed listed' later told others = record {
     full = ap (λ n. suc n) later.full;
     each = each;
@@ -63,20 +63,20 @@ module _ {P : Type 0} (rules : Rules P) (now : ℕ) (wrote : List ℕ) (x : ℕ)
   } where
     each : (i k : ℕ) (p : Object P) → k ≡ x + i → slice_get (o ∷ os) i ≡ Some p →
         IsVerdict (contains k wrote) (settle rules p.policy (entry_at (b ∷ bs) i) (entry_at (c ∷ cs) i)
-            (entry_at (a ∷ as') i) now) (entry_at (c ∷ cs) i) (entry_at (e ∷ m) i) (contains k listed')
+        (entry_at (a ∷ as') i) now) (entry_at (c ∷ cs) i) (entry_at (e ∷ m) i) (contains k listed')
     each zero k p at there =
         let same : o ≡ p = cc in
         let here : x ≡ k = omega (arith, at) in
         let one = subst (λ (q : Object P). IsVerdict (contains x wrote) (settle rules q.policy b c a now) c e
-            (contains x listed')) same told in
+        (contains x listed')) same told in
         subst (λ (n : ℕ). IsVerdict (contains n wrote) (settle rules p.policy b c a now) c e (contains n listed')) here
-            one
+        one
     each (suc i) k p at there =
         let behind : k ≡ (x + 1) + i = omega (arith, at) in
         let other : k ≢ x = omega (arith, at) in
         subst (λ t. IsVerdict (contains k wrote)
-            (settle rules p.policy (entry_at bs i) (entry_at cs i) (entry_at as' i) now) (entry_at cs i)
-            (entry_at m i) t) (sym (others k other)) (later.each i k p behind there)
+        (settle rules p.policy (entry_at bs i) (entry_at cs i) (entry_at as' i) now) (entry_at cs i)
+        (entry_at m i) t) (sym (others k other)) (later.each i k p behind there)
 
   -- The lists of the later objects do not contain `x`.
   unlisted : (m : Map) (listed : List ℕ) → Right rules now wrote (x + 1) os bs cs as' m listed →
@@ -87,8 +87,8 @@ module _ {P : Type 0} (rules : Rules P) (now : ℕ) (wrote : List ℕ) (x : ℕ)
       IsRight rules now wrote x (o ∷ os) (b ∷ bs) (c ∷ cs) (a ∷ as') (put_kept c rest)
   right_kept (settled m listed) skipped later =
       right_cons c m listed listed later
-          (subst (λ t. IsVerdict t verdict c c (contains x listed)) (sym skipped) (refl, unlisted m listed later))
-          (λ k other. refl)
+      (subst (λ t. IsVerdict t verdict c c (contains x listed)) (sym skipped) (refl, unlisted m listed later))
+      (λ k other. refl)
   right_kept (conflict y) skipped later = tt
 
   right_verdict : (one : Verdict) (rest : Settled) → verdict ≡ one → contains x wrote ≡ true →
@@ -98,14 +98,14 @@ module _ {P : Type 0} (rules : Rules P) (now : ℕ) (wrote : List ℕ) (x : ℕ)
       let told : IsVerdict true (takes e) c e (contains x (x ∷ listed)) = (refl, contains-cons_same x listed) in
       let moved = subst (λ (w : Verdict). IsVerdict true w c e (contains x (x ∷ listed))) (sym is) told in
       right_cons e m listed (x ∷ listed) later
-          (subst (λ t. IsVerdict t verdict c e (contains x (x ∷ listed))) (sym world_after_write) moved)
-          (λ k other. contains-cons_other k x listed other)
+      (subst (λ t. IsVerdict t verdict c e (contains x (x ∷ listed))) (sym world_after_write) moved)
+      (λ k other. contains-cons_other k x listed other)
   right_verdict (takes e) (conflict y) is world_after_write later = tt
   right_verdict keeps (settled m listed) is world_after_write later =
       let told : IsVerdict true keeps c c (contains x listed) = (refl, unlisted m listed later) in
       let moved = subst (λ (w : Verdict). IsVerdict true w c c (contains x listed)) (sym is) told in
       right_cons c m listed listed later
-          (subst (λ t. IsVerdict t verdict c c (contains x listed)) (sym world_after_write) moved) (λ k other. refl)
+      (subst (λ t. IsVerdict t verdict c c (contains x listed)) (sym world_after_write) moved) (λ k other. refl)
   right_verdict keeps (conflict y) is world_after_write later = tt
   right_verdict clashes rest is world_after_write later = tt
 
@@ -119,7 +119,7 @@ module _ {P : Type 0} (rules : Rules P) (now : ℕ) (wrote : List ℕ) (x : ℕ)
 pub right_settle : {P : Type 0} (rules : Rules P) (now : ℕ) (wrote : List ℕ) (x : ℕ) (os : List (Object P))
     (base current own : Map) →
     length base ≡ length os → length current ≡ length os → length own ≡ length os →
-        IsRight rules now wrote x os base current own (settle_from rules now wrote x os base current own)
+    IsRight rules now wrote x os base current own (settle_from rules now wrote x os base current own)
 right_settle rules now wrote x [] [] [] [] hb hc ho =
     record { full = refl; each = λ i k o at there. absurd cc; listed = λ k member. absurd cc }
 right_settle rules now wrote x [] (b ∷ bs) current own hb hc ho = absurd (omega arith)
@@ -131,7 +131,7 @@ right_settle rules now wrote x (o ∷ os) (b ∷ bs) (c ∷ cs) [] hb hc ho = ab
 right_settle rules now wrote x (o ∷ os) (b ∷ bs) (c ∷ cs) (a ∷ rest) hb hc ho =
     let behind = settle_from rules now wrote (x + 1) os bs cs rest in
     let later : IsRight rules now wrote (x + 1) os bs cs rest behind =
-        right_settle rules now wrote (x + 1) os bs cs rest (omega arith) (omega arith) (omega arith) in
+    right_settle rules now wrote (x + 1) os bs cs rest (omega arith) (omega arith) (omega arith) in
     right_of rules now wrote x o b c a os bs cs rest (contains x wrote) behind refl later
 
 -- An object that is not listed keeps the parent's stamped value. A listed object was written, and has the own stamped
@@ -146,7 +146,7 @@ module _ {P : Type 0} (rules : Rules P) (p : P) (b c a e : StampedValue) (now : 
   outcome_of : (wrote equal like : Bool) (m : Option Value) → (equal ≡ true → b.stamp ≡ c.stamp) →
       rules.merge p b.value c.value a.value ≡ m →
       IsVerdict wrote (cond equal (takes a) (cond like keeps (merge_verdict m now))) c e changed →
-          Outcome rules p b c a e now wrote changed
+      Outcome rules p b c a e now wrote changed
   outcome_of false equal like m same is told = stays told.0 told.1
   outcome_of true true like m same is told = comes told.0 (same refl) refl told.1
   outcome_of true false true m same is told = stays told.0 told.1

@@ -154,9 +154,10 @@ module _ {P : Type 0} (rules : Rules P) (w : World P) (caller : ℕ) where
   -- A take of a readonly child of global, with the objects that changed since the watcher's last map.
   abbrev pub take_for : ℕ → World P × Reply
   take_for watcher = refusal_or_effect w
-      ((is_spent w, refusal.Spent) ∷ (not (nat_lt watcher (length w.lasts)), refusal.UnknownWatcher) ∷ [])
-      (world_after_take_for w caller watcher,
-          reply.TakenFor (length w.snapshots) (differ (last_of w watcher) (snapshot_of w 0).view))
+      ((is_spent w, refusal.Spent) ∷ (not (nat_lt watcher (length w.lasts)), refusal.UnknownWatcher) ∷ []) (
+        world_after_take_for w caller watcher,
+        reply.TakenFor (length w.snapshots) (differ (last_of w watcher) (snapshot_of w 0).view),
+      )
 
   -- A read of the view.
   abbrev pub read : ℕ → ℕ → World P × Reply
