@@ -21,13 +21,16 @@ same_call_kept (Key w) b = refl
 same_call_kept (Cell ks w) b = refl
 
 -- If the old group was no call, its reads do not matter.
-runs_kept : (owed : List ℕ) (a b : GroupKind) (inside : GroupForest) → (not (frames.same_call a b) || meets (flat_reads a inside) owed) ≡ (not (frames.same_call a b) || meets (asks (own_part inside)) owed)
+runs_kept : (owed : List ℕ) (a b : GroupKind) (inside : GroupForest)
+    → (not (frames.same_call a b) || meets (flat_reads a inside) owed)
+    ≡ (not (frames.same_call a b) || meets (asks (own_part inside)) owed)
 runs_kept owed (Call f vs) b inside = refl
 runs_kept owed (Node kind attributes) b inside = refl
 runs_kept owed (Key w) b inside = refl
 runs_kept owed (Cell ks w) b inside = refl
 
-pub call_runs_kept : (owed : List ℕ) (d : ℕ) (k : Option KeyInfo) (f : Option Found) (what : GroupKind) → Alike d k f → call_runs owed k (flat_kind what) ≡ runs_after owed f what
+pub call_runs_kept : (owed : List ℕ) (d : ℕ) (k : Option KeyInfo) (f : Option Found) (what : GroupKind) → Alike d k f
+    → call_runs owed k (flat_kind what) ≡ runs_after owed f what
 call_runs_kept owed d None None what a = refl
 call_runs_kept owed d None (Some f) what a = absurd a
 call_runs_kept owed d (Some k) None what a = absurd a
@@ -43,19 +46,22 @@ has_keys_kept ks (Node kind attributes) = refl
 has_keys_kept ks (Key v) = refl
 has_keys_kept ks (Cell js v) = refl
 
-pub other_keys_kept : (d : ℕ) (k : Option KeyInfo) (f : Option Found) (ks : List Value) → Alike d k f → other_keys k ks ≡ frames.other_keys f ks
+pub other_keys_kept : (d : ℕ) (k : Option KeyInfo) (f : Option Found) (ks : List Value) → Alike d k f
+    → other_keys k ks ≡ frames.other_keys f ks
 other_keys_kept d None None ks a = refl
 other_keys_kept d None (Some f) ks a = absurd a
 other_keys_kept d (Some k) None ks a = absurd a
 other_keys_kept d (Some k) (Some f) ks a = ap (λ w. not (has_keys ks w)) a.kind ∙ ap not (has_keys_kept ks f.what)
 
-given_kept : (d : ℕ) (k : Option KeyInfo) (f : Option Found) (next : ℕ) → Alike d k f → number_for k next ≡ frames.number_for f next
+given_kept : (d : ℕ) (k : Option KeyInfo) (f : Option Found) (next : ℕ) → Alike d k f
+    → number_for k next ≡ frames.number_for f next
 given_kept d None None next a = refl
 given_kept d None (Some f) next a = absurd a
 given_kept d (Some k) None next a = absurd a
 given_kept d (Some k) (Some f) next a = ap (λ n. (n, next)) a.number
 
-pub number_of_kept : (d : ℕ) (k : Option KeyInfo) (f : Option Found) (what : GroupKind) (next : ℕ) → Alike d k f → number_of (flat_kind what) k next ≡ frames.number_of what f next
+pub number_of_kept : (d : ℕ) (k : Option KeyInfo) (f : Option Found) (what : GroupKind) (next : ℕ) → Alike d k f
+    → number_of (flat_kind what) k next ≡ frames.number_of what f next
 number_of_kept d k f (Call g vs) next a = refl
 number_of_kept d k f (Node kind attributes) next a = given_kept d k f next a
 number_of_kept d k f (Key v) next a = refl

@@ -26,8 +26,10 @@ same_attribute_decides a b =
     let name = bytes_eq-Decides a.name b.name in (
       λ e.
           let both = both_true (same_value a.value b.value) (bytes_eq a.name b.name) e in
-          ap (λ n. record { name = n; value = a.value }) (name.0 both.1) ∙ ap (λ v. record { name = b.name; value = v }) (value.0 both.0),
-      λ e. true_both (same_value a.value b.value) (bytes_eq a.name b.name) (value.1 (ap (λ (x : Attribute). x.value) e)) (name.1 (ap (λ (x : Attribute). x.name) e)),
+          ap (λ n. record { name = n; value = a.value }) (name.0 both.1)
+          ∙ ap (λ v. record { name = b.name; value = v }) (value.0 both.0),
+      λ e. true_both (same_value a.value b.value) (bytes_eq a.name b.name) (value.1 (ap (λ (x : Attribute). x.value) e))
+          (name.1 (ap (λ (x : Attribute). x.name) e)),
     )
 
 equal_values : (vs ws : List Value) → same_values vs ws ≡ true → vs ≡ ws
@@ -37,11 +39,14 @@ equal_attributes : (xs ys : List Attribute) → same_attributes xs ys ≡ true �
 equal_attributes xs ys e = (slice_eq-Decides same_attribute_decides xs ys (same_attributes xs ys) refl).0 e
 
 -- A node with an equal kind and equal attributes.
-pub equal_nodes : (w : GroupKind) (k l : List ℕ) (xs ys : List Attribute) → w ≡ what.Node l ys → bytes_eq l k ≡ true → same_attributes ys xs ≡ true → w ≡ what.Node k xs
-equal_nodes w k l xs ys is kinds attributes = is ∙ ap (λ n. what.Node n ys) ((bytes_eq-Decides l k).0 kinds) ∙ ap (λ z. what.Node k z) (equal_attributes ys xs attributes)
+pub equal_nodes : (w : GroupKind) (k l : List ℕ) (xs ys : List Attribute) → w ≡ what.Node l ys → bytes_eq l k ≡ true
+    → same_attributes ys xs ≡ true → w ≡ what.Node k xs
+equal_nodes w k l xs ys is kinds attributes = is ∙ ap (λ n. what.Node n ys) ((bytes_eq-Decides l k).0 kinds)
+    ∙ ap (λ z. what.Node k z) (equal_attributes ys xs attributes)
 
 -- A cell with equal keys and an equal value.
-pub equal_cells : (w : GroupKind) (js ks : List Value) (u v : Value) → w ≡ what.Cell js u → same_values js ks ≡ true → same_value u v ≡ true → (w ≡ what.Cell ks v) × (same_values ks ks ≡ true)
+pub equal_cells : (w : GroupKind) (js ks : List Value) (u v : Value) → w ≡ what.Cell js u → same_values js ks ≡ true
+    → same_value u v ≡ true → (w ≡ what.Cell ks v) × (same_values ks ks ≡ true)
 equal_cells w js ks u v is keys value =
     let same = equal_values js ks keys in (
       is ∙ ap (λ l. what.Cell l u) same ∙ ap (λ x. what.Cell ks x) ((same_value_decides u v).0 value),

@@ -16,7 +16,8 @@ below : (x i : ℕ) (bs : List Bool) → x < i → contains x (marked_numbers i 
 below x i [] lt = refl
 below x i (b ∷ bs) lt = by b (below x (i + 1) bs (omega (arith, lt))) (i == x) refl
   where
-    by : (c : Bool) → contains x (marked_numbers (i + 1) bs) ≡ false → (e : Bool) → (i == x) ≡ e → contains x (if c then i ∷ marked_numbers (i + 1) bs else marked_numbers (i + 1) bs) ≡ false
+    by : (c : Bool) → contains x (marked_numbers (i + 1) bs) ≡ false → (e : Bool) → (i == x) ≡ e
+        → contains x (if c then i ∷ marked_numbers (i + 1) bs else marked_numbers (i + 1) bs) ≡ false
     by false later e f = later
     by true later true f = absurd (let same = eqb-true i x f in omega (arith, same, lt))
     by true later false f = ap (λ c. c || contains x (marked_numbers (i + 1) bs)) f ∙ later
@@ -28,7 +29,8 @@ mark_from zero x i (true ∷ bs) e = ap (λ c. c || contains x (marked_numbers (
 mark_from zero x i (false ∷ bs) e = below x (i + 1) bs (omega (arith, e))
 mark_from (suc k) x i (b ∷ bs) e = by b (mark_from k x (i + 1) bs (omega (arith, e))) (i == x) refl
   where
-    by : (c : Bool) → contains x (marked_numbers (i + 1) bs) ≡ get_or bs k false → (f : Bool) → (i == x) ≡ f → contains x (if c then i ∷ marked_numbers (i + 1) bs else marked_numbers (i + 1) bs) ≡ get_or bs k false
+    by : (c : Bool) → contains x (marked_numbers (i + 1) bs) ≡ get_or bs k false → (f : Bool) → (i == x) ≡ f
+        → contains x (if c then i ∷ marked_numbers (i + 1) bs else marked_numbers (i + 1) bs) ≡ get_or bs k false
     by false later f g = later
     by true later true g = absurd (let same = eqb-true i x g in omega (arith, same, e))
     by true later false g = ap (λ c. c || contains x (marked_numbers (i + 1) bs)) g ∙ later
@@ -78,14 +80,16 @@ mark_set : (bs : List Bool) (x y : ℕ) → x < length bs → get_or (set bs y t
 mark_set bs x y lt = by (y == x) refl
   where
     by : (c : Bool) → (y == x) ≡ c → get_or (set bs y true) x false ≡ (get_or bs x false || c)
-    by true e = ap (λ z. get_or (set bs z true) x false) (eqb-true y x e) ∙ set_same bs x lt ∙ sym (or_all (get_or bs x false))
+    by true e =
+        ap (λ z. get_or (set bs z true) x false) (eqb-true y x e) ∙ set_same bs x lt ∙ sym (or_all (get_or bs x false))
     by false e = set_other bs x y (eqb-false y x e) ∙ or_none (get_or bs x false)
 
 or_assoc : (a b c : Bool) → ((a || b) || c) ≡ (a || (b || c))
 or_assoc true b c = refl
 or_assoc false b c = refl
 
-marks_after_is : (bs : List Bool) (xs : List ℕ) (x : ℕ) → x < length bs → get_or (marks_after bs xs) x false ≡ (get_or bs x false || contains x xs)
+marks_after_is : (bs : List Bool) (xs : List ℕ) (x : ℕ) → x < length bs
+    → get_or (marks_after bs xs) x false ≡ (get_or bs x false || contains x xs)
 marks_after_is bs [] x lt = or_none (get_or bs x false)
 marks_after_is bs (y ∷ ys) x lt =
     let long = length-set bs y true in
@@ -93,8 +97,10 @@ marks_after_is bs (y ∷ ys) x lt =
     ∙ ap (λ c. c || contains x ys) (mark_set bs x y lt)
     ∙ or_assoc (get_or bs x false) (y == x) (contains x ys)
 
-pub marked_after : (bs : List Bool) (xs : List ℕ) (x : ℕ) → x < length bs → contains x (marked_numbers 0 (marks_after bs xs)) ≡ (contains x (marked_numbers 0 bs) || contains x xs)
-marked_after bs xs x lt = mark_of x (marks_after bs xs) ∙ marks_after_is bs xs x lt ∙ ap (λ c. c || contains x xs) (sym (mark_of x bs))
+pub marked_after : (bs : List Bool) (xs : List ℕ) (x : ℕ) → x < length bs
+    → contains x (marked_numbers 0 (marks_after bs xs)) ≡ (contains x (marked_numbers 0 bs) || contains x xs)
+marked_after bs xs x lt =
+    mark_of x (marks_after bs xs) ∙ marks_after_is bs xs x lt ∙ ap (λ c. c || contains x xs) (sym (mark_of x bs))
 
 -- An object without a mark cannot be marked.
 pub set_past : (bs : List Bool) (x : ℕ) → length bs ≤ x → set bs x true ≡ bs

@@ -17,17 +17,21 @@ past_end d (g ∷ gs) e = by (nat_le d g.depth) refl
     by false f = refl
     by true f = absurd (let le = leb-true d g.depth f in omega (arith, le, e))
 
-past_preorder : (d e : ℕ) (t : GroupForest) (more : List TableGroup) → d ≤ e → after_deep d (preorder e t ++ more) ≡ after_deep d more
+past_preorder : (d e : ℕ) (t : GroupForest) (more : List TableGroup) → d ≤ e
+    → after_deep d (preorder e t ++ more) ≡ after_deep d more
 past_preorder d e End more le = refl
 past_preorder d e (Read x rest) more le = past_preorder d e rest more le
 past_preorder d e (Group site n what inside rest) more le =
-    ap (λ b. if b then after_deep d ((preorder (e + 1) inside ++ preorder e rest) ++ more) else flat_group e site n (flat_kind what) (flat_reads what inside) ∷ ((preorder (e + 1) inside ++ preorder e rest) ++ more)) (le-leb d e le)
+    ap (λ b. if b then after_deep d ((preorder (e + 1) inside ++ preorder e rest) ++ more)
+    else flat_group e site n (flat_kind what)
+    (flat_reads what inside) ∷ ((preorder (e + 1) inside ++ preorder e rest) ++ more)) (le-leb d e le)
     ∙ ap (λ l. after_deep d l) (append_assoc (preorder (e + 1) inside) (preorder e rest) more)
     ∙ past_preorder d (e + 1) inside (preorder e rest ++ more) (omega (arith, le))
     ∙ past_preorder d e rest more le
 
 -- The groups after a group and those inside it are its later siblings and what follows them.
-pub past_inside : (d : ℕ) (inside rest : GroupForest) (more : List TableGroup) → Ends d more → after_deep (d + 1) ((preorder (d + 1) inside ++ preorder d rest) ++ more) ≡ preorder d rest ++ more
+pub past_inside : (d : ℕ) (inside rest : GroupForest) (more : List TableGroup) → Ends d more
+    → after_deep (d + 1) ((preorder (d + 1) inside ++ preorder d rest) ++ more) ≡ preorder d rest ++ more
 past_inside d inside rest more e =
     ap (λ l. after_deep (d + 1) l) (append_assoc (preorder (d + 1) inside) (preorder d rest) more)
     ∙ past_preorder (d + 1) (d + 1) inside (preorder d rest ++ more) (omega arith)
@@ -35,11 +39,14 @@ past_inside d inside rest more e =
 
 pub no_group : (d : ℕ) (g : TableGroup) (gs more : List TableGroup) → g ∷ gs ≡ more → Ends d more → d ≤ g.depth → ⊥
 no_group d g gs [] e ends deep = absurd cc
-no_group d g gs (h ∷ hs) e ends deep = let same : g.depth ≡ h.depth = ap (λ (k : TableGroup). k.depth) (let k : g ≡ h = cc in k) in omega (arith, same, deep, ends)
+no_group d g gs (h ∷ hs) e ends deep = let same : g.depth ≡ h.depth =
+    ap (λ (k : TableGroup). k.depth) (let k : g ≡ h = cc in k) in omega (arith, same, deep, ends)
 
 -- The first of some old groups, and those after it and the groups inside it.
-pub first_of_all : (groups : List TableGroup) (d i j : ℕ) (t : GroupForest) → Begins d (drop i groups) t → i < length groups → d ≤ (group_at groups i).depth
-    → ((g : TableGroup) (rest : List TableGroup) → drop i groups ≡ g ∷ rest → drop j groups ≡ after_deep (g.depth + 1) rest) → FirstGroup d groups i j t
+pub first_of_all : (groups : List TableGroup) (d i j : ℕ) (t : GroupForest) → Begins d (drop i groups) t
+    → i < length groups → d ≤ (group_at groups i).depth
+    → ((g : TableGroup) (rest : List TableGroup) → drop i groups ≡ g ∷ rest
+    → drop j groups ≡ after_deep (g.depth + 1) rest) → FirstGroup d groups i j t
 first_of_all groups d i j End b inside deep after =
     let first : drop i groups ≡ group_at groups i ∷ drop (suc i) groups = drop-cons groups i (group_at [] i) inside in
     absurd (no_group d (group_at groups i) (drop (suc i) groups) b.more (sym first ∙ b.is) b.ends deep)
@@ -78,7 +85,8 @@ none_left d (g ∷ gs) (Group site n what inside rest) b e =
     absurd (omega (arith, same, e))
 
 -- The groups from an index on end where no group is as deep.
-pub ends_at : (groups : List TableGroup) (d i : ℕ) → ((g : TableGroup) (rest : List TableGroup) → drop i groups ≡ g ∷ rest → g.depth < d) → Ends d (drop i groups)
+pub ends_at : (groups : List TableGroup) (d i : ℕ)
+    → ((g : TableGroup) (rest : List TableGroup) → drop i groups ≡ g ∷ rest → g.depth < d) → Ends d (drop i groups)
 ends_at groups d i shallow = by (drop i groups) refl
   where
     by : (gs : List TableGroup) → drop i groups ≡ gs → Ends d gs

@@ -27,7 +27,8 @@ none_of_both : (a b : Bool) → (a || b) ≡ false → (a ≡ false) × (b ≡ f
 none_of_both true b e = absurd cc
 none_of_both false b e = (refl, e)
 
-owed_parts : (owed : List ℕ) (xs ys : List TableGroup) → has_owed owed (xs ++ ys) ≡ false → (has_owed owed xs ≡ false) × (has_owed owed ys ≡ false)
+owed_parts : (owed : List ℕ) (xs ys : List TableGroup) → has_owed owed (xs ++ ys) ≡ false
+    → (has_owed owed xs ≡ false) × (has_owed owed ys ≡ false)
 owed_parts owed [] ys e = (refl, e)
 owed_parts owed (x ∷ xs) ys e =
     let first = none_of_both (meets x.reads owed) (has_owed owed (xs ++ ys)) e in
@@ -44,22 +45,28 @@ run_none s = same_state (append-nil s.groups) refl refl refl refl refl
 run_both : (xs ys : List TableGroup) (s : ComposerState) → with_run ys (with_run xs s) ≡ with_run (xs ++ ys) s
 run_both xs ys s = same_state (append_assoc s.groups xs ys) refl refl refl refl refl
 
-run_put : (g : TableGroup) (gs : List TableGroup) (s : ComposerState) → with_run gs (put_group g s.next s) ≡ with_run (g ∷ gs) s
+run_put : (g : TableGroup) (gs : List TableGroup) (s : ComposerState)
+    → with_run gs (put_group g s.next s) ≡ with_run (g ∷ gs) s
 run_put g gs s = same_state (append_assoc s.groups (g ∷ []) gs) refl refl refl refl refl
 
 -- Skipping the groups of a forest in which no call is owed keeps them.
 
 abbrev KeepsInside : Map → List ℕ → GroupForest → ℕ → Type 0
-KeepsInside m owed inside d = (fs : List Func) (s : ComposerState) → skipped_groups m owed inside fs d s ≡ with_run (preorder d inside) s
+KeepsInside m owed inside d =
+    (fs : List Func) (s : ComposerState) → skipped_groups m owed inside fs d s ≡ with_run (preorder d inside) s
 
-quiet_inside : (m : Map) (owed : List ℕ) (what : GroupKind) (d site n : ℕ) (inside : GroupForest) (fs : List Func) (s : ComposerState) → n ≡ kept_number what n → meets (flat_reads what inside) owed ≡ false → KeepsInside m owed inside (d + 1) →
-    skipped_inside m owed fs d site n what (is_owed owed inside) inside (skipped_groups m owed inside) s ≡ with_run (flat_group d site n (flat_kind what) (flat_reads what inside) ∷ preorder (d + 1) inside) s
+quiet_inside : (m : Map) (owed : List ℕ) (what : GroupKind) (d site n : ℕ) (inside : GroupForest) (fs : List Func)
+    (s : ComposerState) → n ≡ kept_number what n → meets (flat_reads what inside) owed ≡ false
+    → KeepsInside m owed inside (d + 1) →
+    skipped_inside m owed fs d site n what (is_owed owed inside) inside (skipped_groups m owed inside) s
+    ≡ with_run (flat_group d site n (flat_kind what) (flat_reads what inside) ∷ preorder (d + 1) inside) s
 quiet_inside m owed (Call f vs) d site n inside fs s number quiet keeps =
     let g : TableGroup = flat_group d site 0 (flat_kind (Call f vs)) (flat_reads (Call f vs) inside) in
     ap (λ b. skipped_inside m owed fs d site n (Call f vs) b inside (skipped_groups m owed inside) s) quiet
     ∙ keeps _ (put_group g s.next s)
     ∙ run_put g (preorder (d + 1) inside) s
-    ∙ ap (λ k. with_run (flat_group d site k (flat_kind (Call f vs)) (flat_reads (Call f vs) inside) ∷ preorder (d + 1) inside) s) (sym number)
+    ∙ ap (λ k. with_run (flat_group d site k (flat_kind (Call f vs)) (flat_reads (Call f vs) inside) ∷ preorder (d + 1)
+    inside) s) (sym number)
 quiet_inside m owed (Node kind attributes) d site n inside fs s number quiet keeps =
     let g : TableGroup = flat_group d site n (flat_kind (Node kind attributes)) [] in
     keeps _ (put_group g s.next s) ∙ run_put g (preorder (d + 1) inside) s
@@ -74,14 +81,18 @@ quiet_inside m owed (Cell ks v) d site n inside fs s number quiet keeps =
     ∙ run_put g (preorder (d + 1) inside) s
     ∙ ap (λ k. with_run (flat_group d site k (flat_kind (Cell ks v)) [] ∷ preorder (d + 1) inside) s) (sym number)
 
-quiet_kept : (m : Map) (owed : List ℕ) (t : GroupForest) (d : ℕ) → IsNumbered t → has_owed owed (preorder d t) ≡ false → KeepsInside m owed t d
+quiet_kept : (m : Map) (owed : List ℕ) (t : GroupForest) (d : ℕ) → IsNumbered t → has_owed owed (preorder d t) ≡ false
+    → KeepsInside m owed t d
 quiet_kept m owed End d numbered quiet fs s = sym (run_none s)
 quiet_kept m owed (Read x rest) d numbered quiet fs s = quiet_kept m owed rest d numbered quiet fs s
 quiet_kept m owed (Group site n what inside rest) d numbered quiet fs s =
     let g : TableGroup = flat_group d site n (flat_kind what) (flat_reads what inside) in
-    let first = none_of_both (meets (flat_reads what inside) owed) (has_owed owed (preorder (d + 1) inside ++ preorder d rest)) quiet in
+    let first = none_of_both (meets (flat_reads what inside) owed)
+    (has_owed owed (preorder (d + 1) inside ++ preorder d rest)) quiet in
     let both = owed_parts owed (preorder (d + 1) inside) (preorder d rest) first.1 in
-    ap (λ q. skipped_groups m owed rest fs d q) (quiet_inside m owed what d site n inside fs s numbered.0 first.0 (quiet_kept m owed inside (d + 1) numbered.1 both.0))
+    ap (λ q. skipped_groups m owed rest fs d q)
+    (quiet_inside m owed what d site n inside fs s numbered.0 first.0
+    (quiet_kept m owed inside (d + 1) numbered.1 both.0))
     ∙ quiet_kept m owed rest d numbered.2 both.1 fs (with_run (g ∷ preorder (d + 1) inside) s)
     ∙ run_both (g ∷ preorder (d + 1) inside) (preorder d rest) s
 
@@ -94,7 +105,8 @@ front_taken [] ys (suc n) e = absurd cc
 front_taken (x ∷ xs) ys zero e = absurd cc
 front_taken (x ∷ xs) ys (suc n) e = ap (λ l. x ∷ l) (front_taken xs ys n (omega (arith, e)))
 
-run_length : (groups : List TableGroup) (i j : ℕ) (xs ys : List TableGroup) → i ≤ j → j ≤ length groups → drop i groups ≡ xs ++ ys → drop j groups ≡ ys → j - i ≡ length xs
+run_length : (groups : List TableGroup) (i j : ℕ) (xs ys : List TableGroup) → i ≤ j → j ≤ length groups
+    → drop i groups ≡ xs ++ ys → drop j groups ≡ ys → j - i ≡ length xs
 run_length groups i j xs ys low inside all later =
     let a = length-drop i groups in
     let b = length-drop j groups in
@@ -104,7 +116,8 @@ run_length groups i j xs ys low inside all later =
     omega (arith, low, inside, a, b, c, d, e)
 
 -- A list that begins with some groups, up to the index after them.
-run_is : (groups : List TableGroup) (i j : ℕ) (xs ys : List TableGroup) → i ≤ j → j ≤ length groups → drop i groups ≡ xs ++ ys → drop j groups ≡ ys → group_run groups i j ≡ xs
+run_is : (groups : List TableGroup) (i j : ℕ) (xs ys : List TableGroup) → i ≤ j → j ≤ length groups
+    → drop i groups ≡ xs ++ ys → drop j groups ≡ ys → group_run groups i j ≡ xs
 run_is groups i j xs ys low inside all later =
     ap (λ l. take (j - i) l) all ∙ front_taken xs ys (j - i) (run_length groups i j xs ys low inside all later)
 
@@ -119,22 +132,26 @@ take_sum (g ∷ gs) (suc a) b =
     let sum : suc a + b ≡ suc (a + b) = omega arith in
     ap (λ n. take n (g ∷ gs)) sum ∙ ap (λ l. g ∷ l) (take_sum gs a b)
 
-runs_joined : (groups : List TableGroup) (i j k : ℕ) → i ≤ j → j ≤ k → group_run groups i k ≡ group_run groups i j ++ group_run groups j k
+runs_joined : (groups : List TableGroup) (i j k : ℕ) → i ≤ j → j ≤ k
+    → group_run groups i k ≡ group_run groups i j ++ group_run groups j k
 runs_joined groups i j k low high =
     let sum : k - i ≡ (j - i) + (k - j) = omega (arith, low, high) in
     let whole : i + (j - i) ≡ j = omega (arith, low) in
     ap (λ n. take n (drop i groups)) sum
     ∙ take_sum (drop i groups) (j - i) (k - j)
-    ∙ ap (λ l. take (j - i) (drop i groups) ++ take (k - j) l) (drop-drop (j - i) i groups ∙ ap (λ n. drop n groups) whole)
+    ∙ ap (λ l. take (j - i) (drop i groups) ++ take (k - j) l)
+    (drop-drop (j - i) i groups ∙ ap (λ n. drop n groups) whole)
 
 -- One more group of a run.
 
-one_longer : (gs : List TableGroup) (k : ℕ) (d : TableGroup) → k < length gs → take (suc k) gs ≡ take k gs ++ get_or gs k d ∷ []
+one_longer : (gs : List TableGroup) (k : ℕ) (d : TableGroup) → k < length gs
+    → take (suc k) gs ≡ take k gs ++ get_or gs k d ∷ []
 one_longer [] k d inside = absurd (omega (arith, inside))
 one_longer (g ∷ gs) zero d inside = refl
 one_longer (g ∷ gs) (suc k) d inside = ap (λ l. g ∷ l) (one_longer gs k d (omega (arith, inside)))
 
-run_grows : (groups : List TableGroup) (from i : ℕ) → from ≤ i → i < length groups → group_run groups from (i + 1) ≡ group_run groups from i ++ group_at groups i ∷ []
+run_grows : (groups : List TableGroup) (from i : ℕ) → from ≤ i → i < length groups
+    → group_run groups from (i + 1) ≡ group_run groups from i ++ group_at groups i ∷ []
 run_grows groups from i low inside =
     let k : ℕ = i - from in
     let whole : from + k ≡ i = omega (arith, low) in
@@ -143,21 +160,26 @@ run_grows groups from i low inside =
     let within : k < length (drop from groups) = omega (arith, rest, inside, low) in
     ap (λ n. take n (drop from groups)) next
     ∙ one_longer (drop from groups) k (group_at [] i) within
-    ∙ ap (λ g. take k (drop from groups) ++ g ∷ []) (get_or-drop from groups k (group_at [] i) ∙ ap (λ n. get_or groups n (group_at [] i)) whole)
+    ∙ ap (λ g. take k (drop from groups) ++ g ∷ [])
+    (get_or-drop from groups k (group_at [] i) ∙ ap (λ n. get_or groups n (group_at [] i)) whole)
 
-owed_both : (owed : List ℕ) (xs ys : List TableGroup) → has_owed owed xs ≡ false → has_owed owed ys ≡ false → has_owed owed (xs ++ ys) ≡ false
+owed_both : (owed : List ℕ) (xs ys : List TableGroup) → has_owed owed xs ≡ false → has_owed owed ys ≡ false
+    → has_owed owed (xs ++ ys) ≡ false
 owed_both owed [] ys e f = f
 owed_both owed (x ∷ xs) ys e f =
     let both = none_of_both (meets x.reads owed) (has_owed owed xs) e in
     ap (λ b. b || has_owed owed (xs ++ ys)) both.0 ∙ owed_both owed xs ys both.1 f
 
-pub quiet_more : (owed : List ℕ) (groups : List TableGroup) (from i : ℕ) → from ≤ i → i < length groups → meets (group_at groups i).reads owed ≡ false → has_owed owed (group_run groups from i) ≡ false → has_owed owed (group_run groups from (i + 1)) ≡ false
+pub quiet_more : (owed : List ℕ) (groups : List TableGroup) (from i : ℕ) → from ≤ i → i < length groups
+    → meets (group_at groups i).reads owed ≡ false → has_owed owed (group_run groups from i) ≡ false
+    → has_owed owed (group_run groups from (i + 1)) ≡ false
 quiet_more owed groups from i low inside own quiet =
     ap (λ l. has_owed owed l) (run_grows groups from i low inside)
     ∙ owed_both owed (group_run groups from i) (group_at groups i ∷ []) quiet (ap (λ b. b || false) own)
 
 -- No group yet.
-pub quiet_none : (owed : List ℕ) (groups : List TableGroup) (d i : ℕ) (t : GroupForest) → Begins d (drop i groups) t → QuietRun owed d groups i i t
+pub quiet_none : (owed : List ℕ) (groups : List TableGroup) (d i : ℕ) (t : GroupForest) → Begins d (drop i groups) t
+    → QuietRun owed d groups i i t
 quiet_none owed groups d i t begins =
     let none : i - i ≡ 0 = omega arith in
     record {
@@ -165,17 +187,22 @@ quiet_none owed groups d i t begins =
       begins = begins;
       part = λ l m p. p;
       numbered = λ h. h;
-      kept = λ h m fs s. ap (λ n. skipped_groups m owed t fs d (with_run (take n (drop i groups)) s)) none ∙ ap (λ q. skipped_groups m owed t fs d q) (run_none s);
+      kept = λ h m fs s. ap (λ n. skipped_groups m owed t fs d (with_run (take n (drop i groups)) s)) none
+          ∙ ap (λ q. skipped_groups m owed t fs d q) (run_none s);
     }
 
 -- One group with the groups inside it.
-quiet_one : (owed : List ℕ) (groups : List TableGroup) (d i j : ℕ) (t : GroupForest) → Begins d (drop i groups) t → i < length groups → j ≤ length groups → d ≤ (group_at groups i).depth
-    → ((g : TableGroup) (rest : List TableGroup) → drop i groups ≡ g ∷ rest → drop j groups ≡ after_deep (g.depth + 1) rest) → i ≤ j → has_owed owed (group_run groups i j) ≡ false → QuietRun owed d groups i j t
+quiet_one : (owed : List ℕ) (groups : List TableGroup) (d i j : ℕ) (t : GroupForest) → Begins d (drop i groups) t
+    → i < length groups → j ≤ length groups → d ≤ (group_at groups i).depth
+    → ((g : TableGroup) (rest : List TableGroup) → drop i groups ≡ g ∷ rest
+    → drop j groups ≡ after_deep (g.depth + 1) rest) → i ≤ j → has_owed owed (group_run groups i j) ≡ false
+    → QuietRun owed d groups i j t
 quiet_one owed groups d i j End b inside most deep after low quiet =
     let first : drop i groups ≡ group_at groups i ∷ drop (suc i) groups = drop-cons groups i (group_at [] i) inside in
     absurd (no_group d (group_at groups i) (drop (suc i) groups) b.more (sym first ∙ b.is) b.ends deep)
 quiet_one owed groups d i j (Read x rest) b inside most deep after low quiet =
-    let q = quiet_one owed groups d i j rest (record { more = b.more; is = b.is; ends = b.ends }) inside most deep after low quiet in
+    let q = quiet_one owed groups d i j rest (record { more = b.more; is = b.is; ends = b.ends }) inside most deep after
+    low quiet in
     record {
       rest = q.rest;
       begins = q.begins;
@@ -187,9 +214,12 @@ quiet_one owed groups d i j (Group site n what within rest) b inside most deep a
     let g : TableGroup = flat_group d site n (flat_kind what) (flat_reads what within) in
     let gs : List TableGroup = (preorder (d + 1) within ++ preorder d rest) ++ b.more in
     let later : drop j groups ≡ preorder d rest ++ b.more = after g gs b.is ∙ past_inside d within rest b.more b.ends in
-    let all : drop i groups ≡ (g ∷ preorder (d + 1) within) ++ (preorder d rest ++ b.more) = b.is ∙ ap (λ l. g ∷ l) (append_assoc (preorder (d + 1) within) (preorder d rest) b.more) in
-    let run : group_run groups i j ≡ g ∷ preorder (d + 1) within = run_is groups i j (g ∷ preorder (d + 1) within) (preorder d rest ++ b.more) low most all later in
-    let parts = none_of_both (meets (flat_reads what within) owed) (has_owed owed (preorder (d + 1) within)) (sym (ap (λ l. has_owed owed l) run) ∙ quiet) in
+    let all : drop i groups ≡ (g ∷ preorder (d + 1) within) ++ (preorder d rest ++ b.more) = b.is
+    ∙ ap (λ l. g ∷ l) (append_assoc (preorder (d + 1) within) (preorder d rest) b.more) in
+    let run : group_run groups i j ≡ g ∷ preorder (d + 1) within =
+    run_is groups i j (g ∷ preorder (d + 1) within) (preorder d rest ++ b.more) low most all later in
+    let parts = none_of_both (meets (flat_reads what within) owed) (has_owed owed (preorder (d + 1) within))
+    (sym (ap (λ l. has_owed owed l) run) ∙ quiet) in
     record {
       rest = rest;
       begins = record { more = b.more; is = later; ends = b.ends };
@@ -197,12 +227,17 @@ quiet_one owed groups d i j (Group site n what within rest) b inside most deep a
       numbered = λ h. h.2;
       kept = λ h m fs s.
           ap (λ l. skipped_groups m owed rest fs d (with_run l s)) run
-          ∙ ap (λ q. skipped_groups m owed rest fs d q) (sym (quiet_inside m owed what d site n within fs s h.0 parts.0 (quiet_kept m owed within (d + 1) h.1 parts.1)));
+          ∙ ap (λ q. skipped_groups m owed rest fs d q)
+          (sym (quiet_inside m owed what d site n within fs s h.0 parts.0
+          (quiet_kept m owed within (d + 1) h.1 parts.1)));
     }
 
 -- One run after another.
-pub quiet_on : (owed : List ℕ) (groups : List TableGroup) (d i j k : ℕ) (t : GroupForest) (q : QuietRun owed d groups i j t) → i ≤ j → j < length groups → k ≤ length groups → d ≤ (group_at groups j).depth
-    → ((g : TableGroup) (rest : List TableGroup) → drop j groups ≡ g ∷ rest → drop k groups ≡ after_deep (g.depth + 1) rest) → j ≤ k → has_owed owed (group_run groups j k) ≡ false → QuietRun owed d groups i k t
+pub quiet_on : (owed : List ℕ) (groups : List TableGroup) (d i j k : ℕ) (t : GroupForest)
+    (q : QuietRun owed d groups i j t) → i ≤ j → j < length groups → k ≤ length groups → d ≤ (group_at groups j).depth
+    → ((g : TableGroup) (rest : List TableGroup) → drop j groups ≡ g ∷ rest
+    → drop k groups ≡ after_deep (g.depth + 1) rest) → j ≤ k → has_owed owed (group_run groups j k) ≡ false
+    → QuietRun owed d groups i k t
 quiet_on owed groups d i j k t q low inside most deep after high quiet =
     let one = quiet_one owed groups d j k q.rest q.begins inside most deep after high quiet in
     record {
@@ -212,7 +247,8 @@ quiet_on owed groups d i j k t q low inside most deep after high quiet =
       numbered = λ h. one.numbered (q.numbered h);
       kept = λ h m fs s.
           ap (λ l. skipped_groups m owed one.rest fs d (with_run l s)) (runs_joined groups i j k low high)
-          ∙ ap (λ x. skipped_groups m owed one.rest fs d x) (sym (run_both (group_run groups i j) (group_run groups j k) s))
+          ∙ ap (λ x. skipped_groups m owed one.rest fs d x)
+          (sym (run_both (group_run groups i j) (group_run groups j k) s))
           ∙ one.kept (q.numbered h) m fs (with_run (group_run groups i j) s)
           ∙ q.kept h m fs s;
     }

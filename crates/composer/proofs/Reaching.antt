@@ -19,63 +19,95 @@ on_ok (Ok u) x = x
 on_ok (Err e) x = tt
 
 -- The composition ran out of memory.
-pub reached_stop : {U : Type 0} {target s : ComposerState} (result : Result U ComposeStop) → result ≡ Err NoMemory → IsPrefix s.asked target.asked → Reaches target s result
+pub reached_stop : {U : Type 0} {target s : ComposerState} (result : Result U ComposeStop) → result ≡ Err NoMemory
+    → IsPrefix s.asked target.asked → Reaches target s result
 reached_stop (Ok u) e p = cc
 reached_stop (Err x) e p = record { all = tt; part = p; many = λ f. cc }
 
 -- No group could be added.
-pub reached_full : {U : Type 0} {target s : ComposerState} (result : Result U ComposeStop) → IsErr result → (result ≡ Err TooManyGroups → most_groups < length target.groups) → IsPrefix s.asked target.asked → Reaches target s result
+pub reached_full : {U : Type 0} {target s : ComposerState} (result : Result U ComposeStop) → IsErr result
+    → (result ≡ Err TooManyGroups → most_groups < length target.groups) → IsPrefix s.asked target.asked
+    → Reaches target s result
 reached_full (Ok u) i h p = cc
 reached_full (Err x) i h p = record { all = tt; part = p; many = h }
 
 -- The composition passes an error on.
-pub reached_as : {U V : Type 0} {target s : ComposerState} (x : ComposeStop) (result : Result U ComposeStop) → result ≡ Err x → Reaches target s {U = V} (Err x) → Reaches target s result
+pub reached_as : {U V : Type 0} {target s : ComposerState} (x : ComposeStop) (result : Result U ComposeStop)
+    → result ≡ Err x → Reaches target s {U = V} (Err x) → Reaches target s result
 reached_as x (Ok u) e h = cc
-reached_as x (Err z) e h = record { all = tt; part = h.part; many = λ y. let y0 : z ≡ x = cc in let y1 : z ≡ TooManyGroups = cc in h.many (ap (λ (w : ComposeStop). Err w) (sym y0 ∙ y1)) }
+reached_as x (Err z) e h = record {
+  all = tt;
+  part = h.part;
+  many = λ y. let y0 : z ≡ x = cc in
+      let y1 : z ≡ TooManyGroups = cc in h.many (ap (λ (w : ComposeStop). Err w) (sym y0 ∙ y1));
+}
 
-pub reached_at : {U : Type 0} {target target' s : ComposerState} {result : Result U ComposeStop} → target ≡ target' → Reaches target s result → Reaches target' s result
+pub reached_at : {U : Type 0} {target target' s : ComposerState} {result : Result U ComposeStop} → target ≡ target'
+    → Reaches target s result → Reaches target' s result
 reached_at {s = s} {result = result} e h = subst (λ (q : ComposerState). Reaches q s result) e h
 
 -- Reads, then the forest that depends on the result.
-pub reached_after : {U A : Type 0} {s' : ComposerState} {result : Result U ComposeStop} (owed : List ℕ) (old : GroupForest) (d : ℕ) (seen : List GroupKey) (s : ComposerState) (r : Reading A) (go : A → GroupForest) (mid : ComposerState) →
-    mid ≡ read_all r.reads s → Reaches (composed_beside owed old d true seen (go r.value) mid) s' result → Reaches (composed_beside owed old d true seen (forest_after r go) s) s' result
+pub reached_after : {U A : Type 0} {s' : ComposerState} {result : Result U ComposeStop} (owed : List ℕ)
+    (old : GroupForest) (d : ℕ) (seen : List GroupKey) (s : ComposerState) (r : Reading A) (go : A → GroupForest)
+    (mid : ComposerState) →
+    mid ≡ read_all r.reads s → Reaches (composed_beside owed old d true seen (go r.value) mid) s' result
+    → Reaches (composed_beside owed old d true seen (forest_after r go) s) s' result
 unfolding forest_after
 reached_after owed old d seen s r go mid e h =
-    reached_at (ap (λ (q : ComposerState). composed_beside owed old d true seen (go r.value) q) e ∙ sym (composed-reads_then owed old d seen r.reads (go r.value) s)) h
+    reached_at (ap (λ (q : ComposerState). composed_beside owed old d true seen (go r.value) q) e
+    ∙ sym (composed-reads_then owed old d seen r.reads (go r.value) s)) h
 
 -- Some of the reads of a result were made before the composition ran out of memory.
-pub part_after : {A : Type 0} (owed : List ℕ) (old : GroupForest) (d : ℕ) (seen : List GroupKey) (s : ComposerState) (asked : List ℕ) (r : Reading A) (go : A → GroupForest) (rest : List ℕ) → asked ++ rest ≡ s.asked ++ r.reads →
+pub part_after : {A : Type 0} (owed : List ℕ) (old : GroupForest) (d : ℕ) (seen : List GroupKey) (s : ComposerState)
+    (asked : List ℕ) (r : Reading A) (go : A → GroupForest) (rest : List ℕ) → asked ++ rest ≡ s.asked ++ r.reads →
     IsPrefix asked (composed_beside owed old d true seen (forest_after r go) s).asked
 unfolding forest_after
 part_after owed old d seen s asked r go rest p =
-    subst (λ (q : ComposerState). IsPrefix asked q.asked) (sym (composed-reads_then owed old d seen r.reads (go r.value) s))
+    subst (λ (q : ComposerState). IsPrefix asked q.asked)
+    (sym (composed-reads_then owed old d seen r.reads (go r.value) s))
     (part_on (record { rest = rest; is = p }) (part_of owed old d true seen (go r.value) (read_all r.reads s)))
 
 -- Nothing was read before the composition stopped.
-pub part_here : (owed : List ℕ) (old : GroupForest) (d : ℕ) (seen : List GroupKey) (t : GroupForest) (s : ComposerState) (asked : List ℕ) → asked ≡ s.asked → IsPrefix asked (composed_beside owed old d true seen t s).asked
-part_here owed old d seen t s asked h = subst (λ (l : List ℕ). IsPrefix l (composed_beside owed old d true seen t s).asked) (sym h) (part_of owed old d true seen t s)
+pub part_here : (owed : List ℕ) (old : GroupForest) (d : ℕ) (seen : List GroupKey) (t : GroupForest) (s : ComposerState)
+    (asked : List ℕ) → asked ≡ s.asked → IsPrefix asked (composed_beside owed old d true seen t s).asked
+part_here owed old d seen t s asked h = subst (λ (l : List ℕ). IsPrefix l
+    (composed_beside owed old d true seen t s).asked) (sym h) (part_of owed old d true seen t s)
 
 -- A forest that begins with a group has at least one group.
-pub longer_one : (owed : List ℕ) (old : GroupForest) (d : ℕ) (running : Bool) (seen : List GroupKey) (site n : ℕ) (what : GroupKind) (inside rest : GroupForest) (s : ComposerState) →
+pub longer_one : (owed : List ℕ) (old : GroupForest) (d : ℕ) (running : Bool) (seen : List GroupKey) (site n : ℕ)
+    (what : GroupKind) (inside rest : GroupForest) (s : ComposerState) →
     length s.groups < length (composed_beside owed old d running seen (Group site n what inside rest) s).groups
 longer_one owed old d running seen site n what inside rest s =
-    let e = ap (λ (q : ComposerState). length q.groups) (composed_is owed old d running seen (Group site n what inside rest) s) in
-    omega (arith, e, length-append s.groups (preorder d (numbered_by_siblings old seen s.next (Group site n what inside rest)).0))
+    let e = ap (λ (q : ComposerState). length q.groups)
+    (composed_is owed old d running seen (Group site n what inside rest) s) in
+    omega (
+      arith,
+      e,
+      length-append s.groups
+          (preorder d (numbered_by_siblings old seen s.next (Group site n what inside rest)).0),
+    )
 
 -- A group did not fit.
-pub group_full : {U : Type 0} (owed : List ℕ) (old : GroupForest) (d : ℕ) (seen : List GroupKey) (site n : ℕ) (what : GroupKind) (inside rest : GroupForest) (s s' : ComposerState) (result : Result U ComposeStop) → IsErr result →
-    (result ≡ Err TooManyGroups → length s.groups ≡ most_groups) → s'.asked ≡ s.asked → Reaches (composed_beside owed old d true seen (Group site n what inside rest) s) s' result
+pub group_full : {U : Type 0} (owed : List ℕ) (old : GroupForest) (d : ℕ) (seen : List GroupKey) (site n : ℕ)
+    (what : GroupKind) (inside rest : GroupForest) (s s' : ComposerState) (result : Result U ComposeStop)
+    → IsErr result →
+    (result ≡ Err TooManyGroups → length s.groups ≡ most_groups) → s'.asked ≡ s.asked
+    → Reaches (composed_beside owed old d true seen (Group site n what inside rest) s) s' result
 group_full owed old d seen site n what inside rest s s' result i h e =
-    reached_full result i (λ f. let one = longer_one owed old d true seen site n what inside rest s in let all = h f in omega (arith, one, all)) (part_here owed old d seen (Group site n what inside rest) s s'.asked e)
+    reached_full result i (λ f. let one = longer_one owed old d true seen site n what inside rest s in let all = h f in
+    omega (arith, one, all)) (part_here owed old d seen (Group site n what inside rest) s s'.asked e)
 
 -- The first of two forests stopped, so both did.
-pub reached_first : {U V : Type 0} {x : ComposeStop} (owed : List ℕ) (old : GroupForest) (d : ℕ) (seen : List GroupKey) (t more : GroupForest) (s s' : ComposerState) (result : Result U ComposeStop) → result ≡ Err x →
-    Reaches (composed_beside owed old d true seen t s) s' {U = V} (Err x) → Reaches (composed_beside owed old d true seen (joined_forest t more) s) s' result
+pub reached_first : {U V : Type 0} {x : ComposeStop} (owed : List ℕ) (old : GroupForest) (d : ℕ) (seen : List GroupKey)
+    (t more : GroupForest) (s s' : ComposerState) (result : Result U ComposeStop) → result ≡ Err x →
+    Reaches (composed_beside owed old d true seen t s) s' {U = V} (Err x)
+    → Reaches (composed_beside owed old d true seen (joined_forest t more) s) s' result
 reached_first owed old d seen t more s s' (Ok u) is h = cc
 reached_first {x = x} owed old d seen t more s s' (Err z) is h =
     let same = sym (composed-joined owed old d true seen t more s) in record {
       all = tt;
-      part = subst (λ (q : ComposerState). IsPrefix s'.asked q.asked) same (part_on h.part (part_of owed old d true (siblings t seen) more (composed_beside owed old d true seen t s)));
+      part = subst (λ (q : ComposerState). IsPrefix s'.asked q.asked) same
+          (part_on h.part (part_of owed old d true (siblings t seen) more (composed_beside owed old d true seen t s)));
       many = λ y.
           let y0 : z ≡ x = cc in
           let y1 : z ≡ TooManyGroups = cc in

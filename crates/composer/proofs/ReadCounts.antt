@@ -2,7 +2,8 @@
 use Rattle.std.proofs.Common.{ℕ, ◌+◌, ◌++◌, ◌≤◌, ◌≡◌, List, length, length-append, ap, Result, Ok, Err, OnOk, arith}
 
 -- Reads that the view was asked for and that the innermost call made.
-pub counted_after : {U E : Type 0} (result : Result U E) (w now : ℕ) (own own1 own2 a a1 a2 xs : List ℕ) → a1 ≡ a ++ xs → own1 ≡ own ++ xs → OnOk result (now + length own2 + length a1 ≡ w + length own1 + length a2) →
+pub counted_after : {U E : Type 0} (result : Result U E) (w now : ℕ) (own own1 own2 a a1 a2 xs : List ℕ) → a1 ≡ a ++ xs
+    → own1 ≡ own ++ xs → OnOk result (now + length own2 + length a1 ≡ w + length own1 + length a2) →
     OnOk result (now + length own2 + length a ≡ w + length own + length a2)
 counted_after (Ok u) w now own own1 own2 a a1 a2 xs e1 e2 h =
     let f1 = ap (λ (l : List ℕ). length l) e1 in
@@ -15,9 +16,11 @@ pub longer_on : {U E : Type 0} (result : Result U E) (a b c : ℕ) → a ≤ b �
 longer_on (Ok u) a b c h k = omega (arith, h, k)
 longer_on (Err x) a b c h k = tt
 
--- The same for a cell, whose keys read `xs` and whose calculation reads on. The writer has `was` reads after the cell.
-pub counted_cell : {U E : Type 0} (result : Result U E) (w was now : ℕ) (own own1 own2 own3 a a1 a2 a3 xs : List ℕ) → a1 ≡ a ++ xs → own1 ≡ own ++ xs → length own2 + length a1 ≡ length own1 + length a2 → was ≡ w →
-    OnOk result (now + length own3 + length a2 ≡ was + length own2 + length a3) → OnOk result (now + length own3 + length a ≡ w + length own + length a3)
+-- The number of reads after a cell. The keys of the cell read `xs`. The writer has `was` reads after the cell.
+pub counted_cell : {U E : Type 0} (result : Result U E) (w was now : ℕ) (own own1 own2 own3 a a1 a2 a3 xs : List ℕ)
+    → a1 ≡ a ++ xs → own1 ≡ own ++ xs → length own2 + length a1 ≡ length own1 + length a2 → was ≡ w →
+    OnOk result (now + length own3 + length a2 ≡ was + length own2 + length a3)
+    → OnOk result (now + length own3 + length a ≡ w + length own + length a3)
 counted_cell (Ok u) w was now own own1 own2 own3 a a1 a2 a3 xs e1 e2 e3 e4 h =
     let f1 = ap (λ (l : List ℕ). length l) e1 in
     let f2 = ap (λ (l : List ℕ). length l) e2 in

@@ -9,7 +9,8 @@ use Rattle.checked_laws.proofs.Ordered.{program_is_ordered}
 use Rattle.checked_laws.proofs.BySite.{calculations_are_by_site}
 use Rattle.composer.specs.FrameStates.{IsSound}
 
-pub sound : (p : Program) → IsNumberedProgram (program_view p) → program_faults (program_view p) ≡ [] → IsSound (functions_of p)
+pub sound : (p : Program) → IsNumberedProgram (program_view p) → program_faults (program_view p) ≡ []
+    → IsSound (functions_of p)
 sound p numbered fine = record {
   ordered = program_is_ordered (program_view p) numbered fine;
   calculation = calculation_of (functions_of p);

@@ -19,8 +19,8 @@ pub record IsPrefix (some all : List ℕ) : Type 0 where
   pub rest : List ℕ
   pub is : some ++ rest ≡ all
 
--- The target was reached. After an error the view was asked for a first part of the reads, and there are too many groups if
--- the error says so.
+-- The target was reached. After an error the view was asked for a first part of the reads, and there are too many
+-- groups if the error says so.
 pub record Reaches (target s : ComposerState) {U : Type 0} (result : Result U ComposeStop) : Type 0 where
   pub all : OnOk result (s ≡ target)
   pub part : OnErr result (IsPrefix s.asked target.asked)
@@ -32,7 +32,7 @@ pub record LastComposition : Type 0 where
   pub functions : List Func
   pub calculation : Calculation
 
--- These functions are the first ones of the program.
+-- The given functions are the first functions of the program.
 pub record IsSince (l : LastComposition) (functions : List Func) : Type 0 where
   pub more : List Func
   pub front : l.functions ≡ functions ++ more
@@ -57,7 +57,8 @@ abbrev pub IsFoundNumbered : Option Found → Type 0
 IsFoundNumbered None = Unit {0}
 IsFoundNumbered (Some g) = (g.number ≡ kept_number g.what g.number) × IsNumbered g.inside
 
--- The same facts of the group that a lookup found at a site in a part of the forest of the last frame.
+-- The group that a lookup found at a site of the last frame, if any: its calls are made and its cells calculated by the
+-- program, every object that it read and that changed up to the map `m` is owed, and only nodes have numbers.
 pub record IsOldFound (l : LastComposition) (owed : List ℕ) (m : Map) (site : ℕ) (found : Option Found) : Type 0 where
   pub made : IsFoundMade l.map l.functions found
   pub cells : IsFoundCalculated l.calculation site found

@@ -37,23 +37,29 @@ pub record DraftGroups : Type 0 where
 abbrev pub Holds : HeldGroups → LastFrame → Type 0
 Holds h k = (h.groups ≡ preorder 0 k.trail) × (h.next ≡ k.next)
 
--- Before the first good frame nothing is kept and everything is owed. After it the kept forest is that of composing in the
--- map of that frame, only its nodes have numbers, and every object that it read and that changed up to the map `m` is owed.
+-- Before the first good frame nothing is kept and everything is owed. After it the kept forest is that of composing in
+-- the map of that frame, only its nodes have numbers, and every object that it read and that changed up to the map `m`
+-- is owed.
 abbrev pub IsOwing : List Func → ℕ → Option Map → GroupForest → Map → OwedObjects → Type 0
 IsOwing functions root None old m owed = (old ≡ End) × (owed.all ≡ true)
 IsOwing functions root (Some seen) old m owed =
-    (without_numbers old ≡ forest functions root seen) × (owed.all ≡ false) × IsNumbered old × SameReads owed.objects (asks old) seen m
+    (without_numbers old ≡ forest functions root seen) × (owed.all ≡ false) × IsNumbered old
+    × SameReads owed.objects (asks old) seen m
 
--- The draft has the groups that the frame in the map `m` keeps after the kept frame, with their numbers, and its report.
-pub record IsFrameDraft (functions : List Func) (root : ℕ) (owed : OwedObjects) (k : LastFrame) (m : Map) (d : DraftGroups) : Type 0 where
+-- The draft has the groups that the frame in the map `m` keeps after the kept frame, with their numbers, and its
+-- report.
+pub record IsFrameDraft (functions : List Func) (root : ℕ) (owed : OwedObjects) (k : LastFrame) (m : Map)
+    (d : DraftGroups) : Type 0 where
   pub groups : d.groups ≡ preorder 0 (numbered_forest k.trail [] [] k.next (forest functions root m)).0
   pub next : d.next ≡ (numbered_forest k.trail [] [] k.next (forest functions root m)).1
   pub report : d.report ≡ report owed.objects k.trail (forest functions root m)
 
--- The result of composing a frame in the map `m` after the kept frame, with the reads that the view was asked for before and
--- after. A draft is that of the frame, which has few enough groups, and the reads are those of the calls that run. Else the
--- view was asked for a first part of these reads, and there are too many groups if the result says so.
-pub record ComposesFrame (functions : List Func) (root : ℕ) (owed : OwedObjects) (k : LastFrame) (m : Map) (asked asked' : List ℕ)
+-- The result of composing a frame in the map `m` after the kept frame, with the reads that the view was asked for
+-- before and after. A draft is that of the frame, which has few enough groups, and the reads are those of the calls
+-- that run. Else the view was asked for a first part of these reads, and there are too many groups if the result says
+-- so.
+pub record ComposesFrame (functions : List Func) (root : ℕ) (owed : OwedObjects) (k : LastFrame) (m : Map)
+    (asked asked' : List ℕ)
     (result : Result DraftGroups ComposeStop) : Type 0 where
   pub made : IfOk result (λ d. IsFrameDraft functions root owed k m d)
   pub fits : OnOk result (how_many (forest functions root m) ≤ most_groups)

@@ -10,15 +10,15 @@ use Rattle.recompose_laws.specs.MadeCalls.{AreOrdered}
 use Rattle.recompose_laws.specs.CalculatedCells.{Calculation, FunctionsCalculate}
 use Rattle.composer.specs.ComposerState.{ComposerState}
 
--- What is known of a program: each function calls only earlier functions, and the values of the calculations follow from
--- their sites.
+-- What is known of a program: each function calls only earlier functions, and the values of the calculations follow
+-- from their sites.
 pub record IsSound (functions : List Func) : Type 0 where
   pub ordered : AreOrdered 0 functions
   pub calculation : Calculation
   pub calculates : FunctionsCalculate calculation functions
 
--- The state after a frame that begins in the state `s`: the new groups with their numbers, and the counts and the reads of
--- the frame.
+-- The state after a frame that begins in the state `s`: the new groups with their numbers, and the counts and the reads
+-- of the frame.
 abbrev pub frame_state : List Func → ℕ → List ℕ → GroupForest → ℕ → Map → ComposerState → ComposerState
 frame_state functions root owed old next m s =
     let new = forest functions root m in

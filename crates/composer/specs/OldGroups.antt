@@ -37,7 +37,8 @@ Alike depth (Some k) (Some f) = SameGroup depth k f
 -- The unmatched old siblings are those of the forest `old` that follow the ones with which the new siblings `seen` were
 -- matched.
 abbrev pub Fits : ℕ → Pending → GroupForest → List GroupKey → Type 0
-Fits depth pending old seen = (s : GroupKey) (n : ℕ) → Alike depth (slice_get (waiting pending s) n) (matching_sibling s (occurrence s seen + n) old)
+Fits depth pending old seen = (s : GroupKey) (n : ℕ)
+    → Alike depth (slice_get (waiting pending s) n) (matching_sibling s (occurrence s seen + n) old)
 
 -- The forest from its first group on.
 abbrev pub from_first_group : GroupForest → GroupForest

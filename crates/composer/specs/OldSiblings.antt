@@ -12,11 +12,11 @@ pub record KeyInfo : Type 0 where
   pub groups : List Group
   pub index : ℕ
 
--- The group itself.
+-- The group of the last frame at the index.
 abbrev pub old_group : KeyInfo → Group
 old_group k = group_at k.groups k.index
 
--- The groups after it in preorder, those inside it first.
+-- The groups of the last frame after a group, in preorder. The groups inside the group come first.
 abbrev pub groups_after : KeyInfo → List Group
 groups_after k = drop (k.index + 1) k.groups
 
@@ -24,15 +24,17 @@ groups_after k = drop (k.index + 1) k.groups
 abbrev pub sibling_key : Group → GroupKey
 sibling_key g = record { site = g.site; key = group_key g.what }
 
--- The indexes, from i, of the groups at a depth with the site and the key of s, up to the first group that is less deep.
+-- The indexes, from i, of the groups at a depth with the site and the key of s, up to the first group that is less
+-- deep.
 abbrev pub sibling_indexes : GroupKey → ℕ → ℕ → List Group → List ℕ
 sibling_indexes s depth i [] = []
 sibling_indexes s depth i (g ∷ gs) =
     if g.depth == depth
-    then (if same_sibling (sibling_key g) s then i ∷ sibling_indexes s depth (i + 1) gs else sibling_indexes s depth (i + 1) gs)
+    then (if same_sibling (sibling_key g) s then i ∷ sibling_indexes s depth (i + 1) gs
+    else sibling_indexes s depth (i + 1) gs)
     else (if nat_lt depth g.depth then sibling_indexes s depth (i + 1) gs else [])
 
--- These indexes if the first group has this depth, else no index.
+-- The indexes of the siblings if the first group has this depth, else no index.
 abbrev pub level_indexes : GroupKey → ℕ → ℕ → List Group → List ℕ
 level_indexes s depth i [] = []
 level_indexes s depth i (g ∷ gs) = if g.depth == depth then sibling_indexes s depth i (g ∷ gs) else []
@@ -54,8 +56,8 @@ abbrev pub found_siblings : Option KeyInfo → GroupKey → List KeyInfo
 found_siblings None s = []
 found_siblings (Some k) s = inner_siblings k s
 
--- The queued indexes of the old siblings with this site and key. There are no queues while new groups come in the order of
--- the old ones.
+-- The queued indexes of the old siblings with this site and key. There are no queues while new groups come in the order
+-- of the old ones.
 abbrev pub indexes_in : {Z : Type 0} → Option (Box SiblingQueues Z) → GroupKey → List ℕ
 indexes_in None s = []
 indexes_in (Some queues) s = queue_of queues.value s

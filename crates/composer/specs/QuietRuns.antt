@@ -23,11 +23,13 @@ group_run groups i j = take (j - i) (drop i groups)
 abbrev pub with_run : List TableGroup → ComposerState → ComposerState
 with_run gs s = record s { groups = s.groups ++ gs }
 
--- The groups from index i to before index j are the first ones of the forest t, and skipping them keeps them as they are.
+-- The groups from index i to before index j are the first ones of the forest t, and skipping them keeps them as they
+-- are.
 pub record QuietRun (owed : List ℕ) (depth : ℕ) (groups : List TableGroup) (i j : ℕ) (t : GroupForest) : Type 0 where
   pub rest : GroupForest
   pub begins : Begins depth (drop j groups) rest
   pub part : (l : LastComposition) (m : Map) → IsOldPart l owed m t → IsOldPart l owed m rest
   pub numbered : IsNumbered t → IsNumbered rest
   pub kept : IsNumbered t → (m : Map) (functions : List Func) (s : ComposerState) →
-      skipped_groups m owed rest functions depth (with_run (group_run groups i j) s) ≡ skipped_groups m owed t functions depth s
+      skipped_groups m owed rest functions depth (with_run (group_run groups i j) s)
+      ≡ skipped_groups m owed t functions depth s

@@ -38,8 +38,8 @@ pub record ComposesBeside (owed : List ℕ) (old : GroupForest) (depth : ℕ) (s
   pub reached : Reaches (composed_beside owed old depth true seen t s) s' result
   pub fits : OnOk result (Fits depth left old (siblings t seen))
 
--- The state of a loop that composes the forest `t`, where `rest` is the part that remains. `now` has the new siblings so
--- far.
+-- The state of a loop that composes the forest `t`, where `rest` is the part that remains. `now` has the new siblings
+-- so far.
 pub record BesideProgress (owed : List ℕ) (old : GroupForest) (depth : ℕ) (seen : List GroupKey) (rest t : GroupForest)
     (s s' : ComposerState) (left : Pending) : Type 0 where
   pub now : List GroupKey
@@ -96,9 +96,10 @@ HasRoomToWrite level written = (level.depth ≤ length written.groups) × (lengt
 abbrev pub HasRoom : Level → Progress → Type 0
 HasRoom level made = HasRoomToWrite level made.writer
 
--- What composing a part of a program leaves, whatever the part is. The view changes only by reads, and it shows the same
--- maps. The variables in scope are the same. The reads are counted when the call that makes them ends.
-pub record Continues {W : Type 0} (shown : W → Map → Type 0) (asked : W → List ℕ) (kept : W → W → Type 0) (view view' : W)
+-- What composing a part of a program leaves, whatever the part is. The view changes only by reads, and it shows the
+-- same maps. The variables in scope are the same. The reads are counted when the call that makes them ends.
+pub record Continues {W : Type 0} (shown : W → Map → Type 0) (asked : W → List ℕ) (kept : W → W → Type 0)
+    (view view' : W)
     (made made' : Progress) {U : Type 0} (result : Result U ComposeStop) : Type 0 where
   pub keeps : kept view view'
   pub same : (m : Map) → shown view m → shown view' m
@@ -108,18 +109,20 @@ pub record Continues {W : Type 0} (shown : W → Map → Type 0) (asked : W → 
   pub counted : (m : Map) → shown view m → OnOk result (made'.writer.reads + length made'.reads + length (asked view)
       ≡ made.writer.reads + length made.reads + length (asked view'))
 
--- A part was composed next to the old siblings: `t m` is its forest in the map `m`, and `calculates` says that a calculation
--- gives the values of its cells.
-abbrev pub RanBeside : Level → (Map → GroupForest) → (Calculation → Type 0) → Map → List ℕ → List ℕ → Progress → Progress → {U : Type 0} → Result U ComposeStop → Type 0
+-- A part was composed next to the old siblings: `t m` is its forest in the map `m`, and `calculates` says that a
+-- calculation gives the values of its cells.
+abbrev pub RanBeside : Level → (Map → GroupForest) → (Calculation → Type 0) → Map → List ℕ → List ℕ → Progress
+    → Progress → {U : Type 0} → Result U ComposeStop → Type 0
 RanBeside level t calculates m asked asked' made made' result =
-    (o : OldSiblings) → IsBeside o level.owed.now.objects m (functions_view level.functions.now) level.depth made.pending →
+    (o : OldSiblings) → IsBeside o level.owed.now.objects m (functions_view level.functions.now) level.depth
+    made.pending →
     calculates o.last.calculation →
     ComposesBeside level.owed.now.objects o.old level.depth o.seen (t m) (state_of made.writer asked made.reads)
     (state_of made'.writer asked' made'.reads) made'.pending result
 
--- The contract of composing a part of a program: `t m` is the forest of the part in the map `m`, and `calculates` says that
--- a calculation gives the values of its cells. The view changes only by reads, and it shows the same maps. The variables
--- in scope are the same. The reads are counted when the call that makes them ends.
+-- The contract of composing a part of a program: `t m` is the forest of the part in the map `m`, and `calculates` says
+-- that a calculation gives the values of its cells. The view changes only by reads, and it shows the same maps. The
+-- variables in scope are the same. The reads are counted when the call that makes them ends.
 pub record Recomposes {W : Type 0} (shown : W → Map → Type 0) (asked : W → List ℕ) (kept : W → W → Type 0)
     (level : Level) (t : Map → GroupForest) (calculates : Calculation → Type 0) (view view' : W) (made made' : Progress)
     {U : Type 0} (result : Result U ComposeStop) : Type 0 where
@@ -133,23 +136,27 @@ pub record Recomposes {W : Type 0} (shown : W → Map → Type 0) (asked : W →
   pub ran : (m : Map) (o : OldSiblings) → shown view m →
       IsBeside o level.owed.now.objects m (functions_view level.functions.now) level.depth made.pending →
       calculates o.last.calculation →
-      ComposesBeside level.owed.now.objects o.old level.depth o.seen (t m) (state_of made.writer (asked view) made.reads)
+      ComposesBeside level.owed.now.objects o.old level.depth o.seen (t m)
+      (state_of made.writer (asked view) made.reads)
       (state_of made'.writer (asked view') made'.reads) made'.pending result
 
--- The contract of writing the groups of a call that runs, or of groups that are skipped: `reaches m` is what was reached in
--- the map `m`.
+-- The contract of writing the groups of a call that runs, or of groups that are skipped: `reaches m` is what was
+-- reached in the map `m`.
 pub record Writes {W : Type 0} (shown : W → Map → Type 0) (asked : W → List ℕ) (kept : W → W → Type 0) (view view' : W)
-    (written written' : WrittenGroups) {U : Type 0} (result : Result U ComposeStop) (reaches : Map → Type 0) : Type 0 where
+    (written written' : WrittenGroups) {U : Type 0} (result : Result U ComposeStop)
+    (reaches : Map → Type 0) : Type 0 where
   pub keeps : kept view view'
   pub same : (m : Map) → shown view m → shown view' m
   pub longer : OnOk result (length written.groups ≤ length written'.groups)
   pub fits : OnOk result (length written'.groups ≤ most_groups)
-  pub counted : (m : Map) → shown view m → OnOk result (written'.reads + length (asked view) ≡ written.reads + length (asked view'))
+  pub counted : (m : Map) → shown view m
+      → OnOk result (written'.reads + length (asked view) ≡ written.reads + length (asked view'))
   pub ran : (m : Map) → shown view m → reaches m
 
 -- A call ran next to the old groups inside the group `there`, which is `found` in the table. `own` has the reads of the
 -- call around it.
-abbrev pub BodyRan : Level → Map → ℕ → ℕ → List Value → Option KeyInfo → List ℕ → List ℕ → WrittenGroups → WrittenGroups → {U : Type 0} → Result U ComposeStop → Type 0
+abbrev pub BodyRan : Level → Map → ℕ → ℕ → List Value → Option KeyInfo → List ℕ → List ℕ → WrittenGroups → WrittenGroups
+    → {U : Type 0} → Result U ComposeStop → Type 0
 BodyRan level m site function arguments found asked asked' written written' result =
     (l : LastComposition) (there : Option Found) (own : List ℕ) → IsSince l (functions_view level.functions.now) →
     IsOldPart l level.owed.now.objects m (inside_of there) → Alike level.depth found there →
@@ -158,24 +165,30 @@ BodyRan level m site function arguments found asked asked' written written' resu
     (state_of written' asked' own) result
 
 -- An old group was skipped.
-abbrev pub GroupSkipped : Level → Map → ℕ → KeyInfo → List ℕ → List ℕ → WrittenGroups → WrittenGroups → {U : Type 0} → Result U ComposeStop → Type 0
+abbrev pub GroupSkipped : Level → Map → ℕ → KeyInfo → List ℕ → List ℕ → WrittenGroups → WrittenGroups → {U : Type 0}
+    → Result U ComposeStop → Type 0
 GroupSkipped level m site old asked asked' written written' result =
     (l : LastComposition) (f : Found) (own : List ℕ) → IsSince l (functions_view level.functions.now) →
     IsOldPart l level.owed.now.objects m f.inside → Alike level.depth (Some old) (Some f) →
-    Reaches (skipped_inside m level.owed.now.objects (functions_view level.functions.now) level.depth site f.number f.what
-    (is_owed level.owed.now.objects f.inside) f.inside (skipped_groups m level.owed.now.objects f.inside) (state_of written asked own))
+    Reaches (skipped_inside m level.owed.now.objects (functions_view level.functions.now) level.depth site f.number
+    f.what
+    (is_owed level.owed.now.objects f.inside) f.inside (skipped_groups m level.owed.now.objects f.inside)
+    (state_of written asked own))
     (state_of written' asked' own) result
 
 -- The old groups of a forest were skipped.
-abbrev pub GroupsSkipped : Level → Map → List Listed → List ℕ → List ℕ → WrittenGroups → WrittenGroups → {U : Type 0} → Result U ComposeStop → Type 0
+abbrev pub GroupsSkipped : Level → Map → List Listed → List ℕ → List ℕ → WrittenGroups → WrittenGroups → {U : Type 0}
+    → Result U ComposeStop → Type 0
 GroupsSkipped level m groups asked asked' written written' result =
     (l : LastComposition) (t : GroupForest) (own : List ℕ) → IsSince l (functions_view level.functions.now) →
     IsOldPart l level.owed.now.objects m t → Begins level.depth groups t →
-    Reaches (skipped_groups m level.owed.now.objects t (functions_view level.functions.now) level.depth (state_of written asked own))
+    Reaches (skipped_groups m level.owed.now.objects t (functions_view level.functions.now) level.depth
+    (state_of written asked own))
     (state_of written' asked' own) result
 
 -- The groups of a frame were written after those of `written`.
-abbrev pub FrameWritten : Program → List Listed → OwedObjects → Map → List ℕ → List ℕ → WrittenGroups → WrittenGroups → {U : Type 0} → Result U ComposeStop → Type 0
+abbrev pub FrameWritten : Program → List Listed → OwedObjects → Map → List ℕ → List ℕ → WrittenGroups → WrittenGroups
+    → {U : Type 0} → Result U ComposeStop → Type 0
 FrameWritten p groups owed m asked asked' written written' result =
     (seen : Option Map) (t : GroupForest) (own : List ℕ) → groups ≡ preorder 0 t →
     IsOwing (functions_of p) (root_of p) seen t m owed →

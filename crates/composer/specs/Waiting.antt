@@ -7,7 +7,8 @@ use Rattle.composer.specs.OldSiblings.{KeyInfo, level_indexes, indexes_in, infos
 
 -- The indexes of the unmatched old siblings with this site and key, in order.
 abbrev pub waiting_indexes : Pending → GroupKey → List ℕ
-waiting_indexes p s = if is_some p.queues then indexes_in p.queues s else level_indexes s p.depth p.next (drop p.next p.table.now.groups)
+waiting_indexes p s =
+    if is_some p.queues then indexes_in p.queues s else level_indexes s p.depth p.next (drop p.next p.table.now.groups)
 
 -- The unmatched old siblings with this site and key, in order.
 abbrev pub waiting : Pending → GroupKey → List KeyInfo

@@ -25,9 +25,11 @@ pub record WrittenGroups : Type 0 where
   pub calculated : ℕ
   pub reads : ℕ
 
--- The same as a state of the composer, with the reads that the view was asked for and those of the innermost call.
+-- The composer's state for the groups so far, with the reads that the view was asked for and those of the innermost
+-- call.
 abbrev pub state_of : WrittenGroups → List ℕ → List ℕ → ComposerState
-state_of w asked own = record { groups = w.groups; next = w.next; ran = w.ran; calculated = w.calculated; asked = asked; own = own }
+state_of w asked own =
+    record { groups = w.groups; next = w.next; ran = w.ran; calculated = w.calculated; asked = asked; own = own }
 
 -- The kind of a new group.
 abbrev pub group_kind : NewKind → GroupKind
@@ -151,7 +153,13 @@ abbrev pub draft_of : WrittenGroups → DraftGroups
 draft_of w = record {
   groups = w.groups;
   next = w.next;
-  report = record { ran = w.ran; calculated = w.calculated; reads = w.reads; groups = length w.groups; nodes = nodes_in w.groups };
+  report = record {
+    ran = w.ran;
+    calculated = w.calculated;
+    reads = w.reads;
+    groups = length w.groups;
+    nodes = nodes_in w.groups;
+  };
 }
 
 -- A group is a cell that remembers v for the keys ks, and has no reads.

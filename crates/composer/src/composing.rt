@@ -97,7 +97,8 @@ fn run_one<'a, V: View, L: Ledger>(
 ) -> Result<(), ComposeStop>
     requires { HasRoom level.now made.old }
     ensures { Recomposes V.shows V.asked V.keeps level.now
-        (statement_at level.now (stmt_view statement.now) made.old.scope) (λ calc. StmtCalculates calc (stmt_view statement.now))
+        (statement_at level.now (stmt_view statement.now) made.old.scope)
+        (λ calc. StmtCalculates calc (stmt_view statement.now))
         view.old view.new made.old made.new result }
 {
     match statement {
@@ -177,9 +178,11 @@ fn run_group<'a, V: View, L: Ledger>(
 ) -> Result<(), ComposeStop>
     requires { HasRoom level.now made.old }
     ensures part { Continues V.shows V.asked V.keeps view.old view.new made.old made.new result }
-    ensures ran { (w : kind_data) → group_kind what.entry ≡ flat_kind w → is_container w ≡ true → (m : Map) → V.shows view.old m →
+    ensures ran { (w : kind_data) → group_kind what.entry ≡ flat_kind w → is_container w ≡ true → (m : Map)
+        → V.shows view.old m →
         RanBeside level.now (group_at_level level.now site w (stmts_view body.now) made.old.scope)
-        (λ calc. StmtsCalculate calc (stmts_view body.now)) m (V.asked view.old) (V.asked view.new) made.old made.new result }
+        (λ calc. StmtsCalculate calc (stmts_view body.now)) m (V.asked view.old) (V.asked view.new) made.old made.new
+        result }
 {
     let found = made
         .pending
@@ -216,7 +219,8 @@ fn run_node<'a, V: View, L: Ledger>(
 ) -> Result<(), ComposeStop>
     requires { HasRoom level.now made.old }
     ensures { Recomposes V.shows V.asked V.keeps level.now
-        (statement_at level.now (Node 0 site kind.now (nameds_view attributes.now) (stmts_view body.now)) made.old.scope)
+        (statement_at level.now (Node 0 site kind.now (nameds_view attributes.now) (stmts_view body.now))
+        made.old.scope)
         (λ calc. StmtsCalculate calc (stmts_view body.now))
         view.old view.new made.old made.new result }
 {
@@ -426,8 +430,10 @@ fn run_remember<'a, V: View, L: Ledger>(
 ) -> Result<(), ComposeStop>
     requires { HasRoom level.now made.old }
     ensures { Recomposes V.shows V.asked V.keeps level.now
-        (statement_at level.now (Remember 0 cell.entry.site name.now (nameds_view cell.entry.keys.now) (expr_view cell.entry.value.now) (stmts_view body.now)) made.old.scope)
-        (λ calc. CalculatesAtSite calc cell.entry.site (nameds_view cell.entry.keys.now) (expr_view cell.entry.value.now) × StmtsCalculate calc (stmts_view body.now))
+        (statement_at level.now (Remember 0 cell.entry.site name.now (nameds_view cell.entry.keys.now)
+        (expr_view cell.entry.value.now) (stmts_view body.now)) made.old.scope)
+        (λ calc. CalculatesAtSite calc cell.entry.site (nameds_view cell.entry.keys.now)
+        (expr_view cell.entry.value.now) × StmtsCalculate calc (stmts_view body.now))
         view.old view.new made.old made.new result }
 {
     let env = evaluate_keys(level.alloc, cell.keys, &made.scope, view, &mut made.reads)?;
@@ -524,7 +530,8 @@ fn run_body<'a, V: View, L: Ledger>(
     requires room { HasRoomToWrite level.now writer.old }
     requires arguments { AreArguments function arguments found.now }
     ensures { Writes V.shows V.asked V.keeps view.old view.new writer.old writer.new result
-        (λ m. BodyRan level.now m site function (arguments_of arguments.entry) found.now (V.asked view.old) (V.asked view.new) writer.old writer.new result) }
+        (λ m. BodyRan level.now m site function (arguments_of arguments.entry) found.now (V.asked view.old)
+        (V.asked view.new) writer.old writer.new result) }
 {
     if function >= level.functions.len() {
         writer.enter_empty(level.alloc, level.depth, site, function, arguments, found)?;
@@ -584,7 +591,8 @@ fn skip_group<'a, V: View, L: Ledger>(
 ) -> Result<(), ComposeStop>
     requires { HasRoomToWrite level.now writer.old }
     ensures { Writes V.shows V.asked V.keeps view.old view.new writer.old writer.new result
-        (λ m. GroupSkipped level.now m site old.now (V.asked view.old) (V.asked view.new) writer.old writer.new result) }
+        (λ m. GroupSkipped level.now m site old.now (V.asked view.old) (V.asked view.new) writer.old writer.new
+        result) }
 {
     steps.tick();
     match old.kind() {
@@ -633,8 +641,10 @@ fn skip_inside<'a, V: View, L: Ledger>(
     steps: &mut Steps<L>,
 ) -> Result<(), ComposeStop>
     requires { HasRoomToWrite level.now writer.old }
-    ensures { is_call_kept (old_group old.now).what ≡ false → Writes V.shows V.asked V.keeps view.old view.new writer.old writer.new result
-        (λ m. GroupSkipped level.now m site old.now (V.asked view.old) (V.asked view.new) writer.old writer.new result) }
+    ensures { is_call_kept (old_group old.now).what ≡ false
+        → Writes V.shows V.asked V.keeps view.old view.new writer.old writer.new result
+        (λ m. GroupSkipped level.now m site old.now (V.asked view.old) (V.asked view.new) writer.old writer.new
+        result) }
 {
     keep_group(level, site, old, writer)?;
     let inside = Level {
@@ -663,7 +673,8 @@ fn keep_group(
 ) -> Result<(), ComposeStop>
     requires { length writer.old.groups ≤ most_groups }
     ensures added { OnOk result (writer.new ≡ written_kept level.now.depth site
-        (number_kept (old_group old.now).what (old_group old.now).number) (old_group old.now).what (old_group old.now).reads writer.old) }
+        (number_kept (old_group old.now).what (old_group old.now).number)
+        (old_group old.now).what (old_group old.now).reads writer.old) }
     ensures fits { OnOk result (length writer.new.groups ≤ most_groups) }
     ensures full { result ≡ Err ComposeStop.TooManyGroups → length writer.old.groups ≡ most_groups }
 {
@@ -681,8 +692,8 @@ fn kept_number(what: &GroupKind, number: u64) -> u64
     }
 }
 
-// Skips the old groups from index `first` on, up to the first that is less deep. Siblings in which no call is owed are kept
-// all at once.
+// Skips the old groups from index `first` on, up to the first that is less deep. Siblings in which no call is owed are
+// kept all at once.
 #[cycle(again)]
 fn skip_all<'a, V: View, L: Ledger>(
     level: &Level<'a>,
@@ -694,7 +705,8 @@ fn skip_all<'a, V: View, L: Ledger>(
 ) -> Result<(), ComposeStop>
     requires { HasRoomToWrite level.now writer.old }
     ensures { Writes V.shows V.asked V.keeps view.old view.new writer.old writer.new result
-        (λ m. GroupsSkipped level.now m (drop first table.now.groups) (V.asked view.old) (V.asked view.new) writer.old writer.new result) }
+        (λ m. GroupsSkipped level.now m (drop first table.now.groups) (V.asked view.old) (V.asked view.new) writer.old
+        writer.new result) }
 {
     let mut at = first;
     while at < table.len() {
@@ -722,7 +734,8 @@ fn write_frame<V: View, L: Ledger>(
 ) -> Result<(), ComposeStop>
     requires { length writer.old.groups ≤ most_groups }
     ensures { Writes V.shows V.asked V.keeps view.old view.new writer.old writer.new result
-        (λ m. FrameWritten program.now table.now.groups owed.now m (V.asked view.old) (V.asked view.new) writer.old writer.new result) }
+        (λ m. FrameWritten program.now table.now.groups owed.now m (V.asked view.old) (V.asked view.new) writer.old
+        writer.new result) }
 {
     let level = Level {
         alloc,
@@ -750,10 +763,10 @@ fn write_frame<V: View, L: Ledger>(
 /// Composes a frame next to the groups of the last good frame (`recompose`), or everything before the first one
 /// (`composeContent`).
 ///
-/// A call runs if its path is new, its arguments differ, or its own reads include an owed object. In a call that runs, a
-/// cell is calculated if its path is new or its keys differ. Everything else is kept with its node numbers. What is held
-/// stays as it is: `Held::apply` takes the draft. Fails if there are more than 1,000,000 groups, or out of memory. The view
-/// was then asked for a first part of the reads.
+/// A call runs if its path is new, its arguments differ, or its own reads include an owed object. In a call that runs,
+/// a cell is calculated if its path is new or its keys differ. Everything else is kept with its node numbers. What is
+/// held stays as it is: `Held::apply` takes the draft. Fails if there are more than 1,000,000 groups, or out of memory.
+/// The view was then asked for a first part of the reads.
 pub fn compose<V: View, L: Ledger>(
     alloc: Global,
     program: &Checked,
@@ -766,7 +779,8 @@ pub fn compose<V: View, L: Ledger>(
     ensures same { (m : Map) → V.shows view.old m → V.shows view.new m }
     ensures frame { (k : LastFrame) (m : Map) → V.shows view.old m → Holds held.now k →
         IsOwing (functions_of program.now) (root_of program.now) k.seen k.trail m owed.now →
-        ComposesFrame (functions_of program.now) (root_of program.now) owed.now k m (V.asked view.old) (V.asked view.new) result }
+        ComposesFrame (functions_of program.now) (root_of program.now) owed.now k m (V.asked view.old)
+        (V.asked view.new) result }
 {
     let table = held.table();
     let mut writer = Writer::with_room(alloc, held.next(), table.len()); // Most frames keep most groups.

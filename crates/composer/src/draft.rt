@@ -57,8 +57,8 @@ impl Held {
         self.next = draft.next;
     }
 
-    /// Keeps no groups after a frame whose applier failed. Node numbers go on after those of that frame. Takes no memory.
-    /// A rule of this project.
+    /// Keeps no groups after a frame whose applier failed. Node numbers go on after those of that frame. Takes no
+    /// memory. A rule of this project.
     pub fn detach(&mut self, alloc: Global, draft: Draft)
         ensures groups { self.new.groups ≡ [] }
         ensures next { self.new.next ≡ draft.next }

@@ -21,11 +21,12 @@ pub struct Pending<'a> {
     depth: usize,
     // The index of the next sibling, while new groups come in the order of the old ones.
     next: usize,
-    // The queues of the unmatched siblings, after a new group came in another order. Few groups need queues, so these are
-    // on the heap.
+    // The queues of the unmatched siblings, after a new group came in another order. Few groups need queues, so these
+    // are on the heap.
     queues: Option<Box<SiblingQueues<'a>>>,
     // Each queued index is that of a group.
-    ghost inside: { (s : GroupKey) (k i : ℕ) → slice_get (indexes_in queues s) k ≡ Some i → i < length table.now.groups },
+    ghost inside: { (s : GroupKey) (k i : ℕ) → slice_get (indexes_in queues s) k ≡ Some i
+        → i < length table.now.groups },
 }
 
 impl<'a> Pending<'a> {
@@ -62,8 +63,8 @@ impl<'a> Pending<'a> {
         Pending::at(old.table(), depth + 1, old.index() + 1)
     }
 
-    /// Returns the groups directly inside `found`, which a new group is matched with, or no siblings if there is no such
-    /// group.
+    /// Returns the groups directly inside `found`, which a new group is matched with, or no siblings if there is no
+    /// such group.
     pub fn inside_found(table: &'a Table, found: &Option<OldGroup<'a>>) -> Pending<'a>
         ensures { (s : GroupKey) → waiting result s ≡ found_siblings found.now s }
     {
@@ -102,7 +103,8 @@ impl<'a> Pending<'a> {
         requires ordered { is_some self.old.queues ≡ false }
         requires level { is_group_at self.old.table.now.groups self.old.depth self.old.next ≡ true }
         ensures group { result ≡ record { groups = self.old.table.now.groups; index = self.old.next } }
-        ensures found { (s : GroupKey) → same_sibling (sibling_key (group_at self.old.table.now.groups self.old.next)) s ≡ true →
+        ensures found { (s : GroupKey)
+            → same_sibling (sibling_key (group_at self.old.table.now.groups self.old.next)) s ≡ true →
             Some result ≡ slice_get (waiting self.old s) 0 }
         ensures left { (s : GroupKey) → waiting self.new s
             ≡ (if same_sibling (sibling_key (group_at self.old.table.now.groups self.old.next)) s

@@ -23,8 +23,8 @@ fn is_quiet(table: &Table, owed: &Owed, from: usize, to: usize) -> bool
     true
 }
 
-/// Returns the index after the siblings at `depth` from index `first` on, up to the first sibling that is an owed call or
-/// contains one.
+/// Returns the index after the siblings at `depth` from index `first` on, up to the first sibling that is an owed call
+/// or contains one.
 pub fn quiet_end(table: &Table, owed: &Owed, depth: u32, first: usize) -> usize
     requires { first ≤ length table.now.groups }
     ensures order { first ≤ result }

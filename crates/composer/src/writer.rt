@@ -69,7 +69,8 @@ impl<'a> CallArguments<'a> {
         }
     }
 
-    /// Returns the reads that the group of the call has until the call ends: those of `found` if the group shares its slots.
+    /// Returns the reads that the group of the call has until the call ends: those of `found` if the group shares its
+    /// slots.
     pub fn first_reads<'b>(&self, found: &Option<OldGroup<'b>>) -> &'b [ObjectNo]
         ensures { result.now ≡ first_reads self.now found.now }
     {
@@ -83,8 +84,8 @@ impl<'a> CallArguments<'a> {
     }
 }
 
-/// Writes the groups of a new frame in preorder (`SlotWriter`). It keeps the number of the next new node, and counts the
-/// calls that ran, the cells that were calculated, and the reads of the calls that ran and ended.
+/// Writes the groups of a new frame in preorder (`SlotWriter`). It keeps the number of the next new node, and counts
+/// the calls that ran, the cells that were calculated, and the reads of the calls that ran and ended.
 #[derive(Drop)]
 pub struct Writer {
     groups: TableBuilder,
@@ -122,8 +123,8 @@ impl Writer {
         }
     }
 
-    /// Returns a writer without groups, with capacity for `count` groups as far as memory allows. `next` is the number of
-    /// the next new node.
+    /// Returns a writer without groups, with capacity for `count` groups as far as memory allows. `next` is the number
+    /// of the next new node.
     pub fn with_room(alloc: Global, next: u64, count: usize) -> Self
         ensures { result ≡ record { groups = []; next = next; ran = 0; calculated = 0; reads = 0 } }
     {
@@ -176,8 +177,8 @@ impl Writer {
         Ok(self.groups.push(group)?)
     }
 
-    /// Appends a node or a key that is matched with `found`. A node gets the number of `found`, or the next number. Keeps the
-    /// list of the attributes in `room` if the group does not need it.
+    /// Appends a node or a key that is matched with `found`. A node gets the number of `found`, or the next number.
+    /// Keeps the list of the attributes in `room` if the group does not need it.
     pub fn enter(
         &mut self,
         alloc: Global,
@@ -219,7 +220,8 @@ impl Writer {
         found: &Option<OldGroup>,
     ) -> Result<(), ComposeStop>
         requires { length self.old.groups ≤ most_groups }
-        ensures entered { OnOk result (self.new ≡ enter_group depth site (kinds.Cell (map (λ b. b.value) keys) value.now) found.now self.old) }
+        ensures entered { OnOk result
+            (self.new ≡ enter_group depth site (kinds.Cell (map (λ b. b.value) keys) value.now) found.now self.old) }
         ensures fits { OnOk result (length self.new.groups ≤ most_groups) }
         ensures full { result ≡ Err ComposeStop.TooManyGroups → length self.old.groups ≡ most_groups }
     {
@@ -263,8 +265,9 @@ impl Writer {
         Ok(())
     }
 
-    /// Appends the group of a call that runs and is matched with `found`. The group shares the slots of `found`, with the
-    /// reads of the last frame, if the arguments are those of `found`. Else it has no reads. `end_call` sets its reads.
+    /// Appends the group of a call that runs and is matched with `found`. The group shares the slots of `found`, with
+    /// the reads of the last frame, if the arguments are those of `found`. Else it has no reads. `end_call` sets its
+    /// reads.
     pub fn enter_running(
         &mut self,
         alloc: Global,
@@ -276,7 +279,9 @@ impl Writer {
     ) -> Result<(), ComposeStop>
         requires room { length self.old.groups ≤ most_groups }
         requires arguments { AreArguments function arguments found.now }
-        ensures added { OnOk result (self.new ≡ running_call depth site (kinds.Call function (arguments_of arguments.entry)) (first_reads arguments.entry found.now) self.old) }
+        ensures added { OnOk result (self.new
+            ≡ running_call depth site (kinds.Call function (arguments_of arguments.entry))
+            (first_reads arguments.entry found.now) self.old) }
         ensures fits { OnOk result (length self.new.groups ≤ most_groups) }
         ensures full { result ≡ Err ComposeStop.TooManyGroups → length self.old.groups ≡ most_groups }
     {
@@ -308,7 +313,8 @@ impl Writer {
     ) -> Result<(), ComposeStop>
         requires room { length self.old.groups ≤ most_groups }
         requires arguments { AreArguments function arguments found.now }
-        ensures added { OnOk result (self.new ≡ with_call depth site (kinds.Call function (arguments_of arguments.entry)) true self.old) }
+        ensures added { OnOk result (self.new
+            ≡ with_call depth site (kinds.Call function (arguments_of arguments.entry)) true self.old) }
         ensures fits { OnOk result (length self.new.groups ≤ most_groups) }
         ensures full { result ≡ Err ComposeStop.TooManyGroups → length self.old.groups ≡ most_groups }
     {
@@ -321,7 +327,8 @@ impl Writer {
     // Appends the group of an old call that runs again. It shares the slots of `old`.
     fn enter_again(&mut self, depth: u32, site: u32, old: &OldGroup) -> Result<(), ComposeStop>
         requires { length self.old.groups ≤ most_groups }
-        ensures added { OnOk result (self.new ≡ running_call depth site (old_group old.now).what (old_group old.now).reads self.old) }
+        ensures added { OnOk result (self.new
+            ≡ running_call depth site (old_group old.now).what (old_group old.now).reads self.old) }
         ensures fits { OnOk result (length self.new.groups ≤ most_groups) }
         ensures full { result ≡ Err ComposeStop.TooManyGroups → length self.old.groups ≡ most_groups }
     {
@@ -336,7 +343,8 @@ impl Writer {
     /// Appends an old group that is kept, with its number and its reads.
     pub fn keep(&mut self, group: SharedGroup) -> Result<(), ComposeStop>
         requires { length self.old.groups ≤ most_groups }
-        ensures added { OnOk result (self.new ≡ written_kept group.depth group.site group.number group.what group.reads self.old) }
+        ensures added { OnOk result (self.new
+            ≡ written_kept group.depth group.site group.number group.what group.reads self.old) }
         ensures fits { OnOk result (length self.new.groups ≤ most_groups) }
         ensures full { result ≡ Err ComposeStop.TooManyGroups → length self.old.groups ≡ most_groups }
     {
@@ -364,8 +372,8 @@ impl Writer {
         Ok(table.share_run(from, to, &mut self.groups)?)
     }
 
-    /// Gives the call at index `place`, which ran, its own reads, and counts them. `first` has the reads of its group so
-    /// far, which stay if they are equal: other tables share them.
+    /// Gives the call at index `place`, which ran, its own reads, and counts them. `first` has the reads of its group
+    /// so far, which stay if they are equal: other tables share them.
     #[tactic(auto, using(rt_groups::proofs::ReplacedItems::set_seam, rt_groups::proofs::ReplacedItems::got_seam))]
     pub fn end_call(
         &mut self,
@@ -410,8 +418,8 @@ fn new_group(alloc: Global, what: GroupKind) -> Result<SharedGroup, NoMemory>
     SharedGroup::new(alloc, group)
 }
 
-// Returns a node without reads. It shares the slots of `found` if they are equal, and then keeps the list of the attributes
-// in `room`.
+// Returns a node without reads. It shares the slots of `found` if they are equal, and then keeps the list of the
+// attributes in `room`.
 fn matched_node(
     alloc: Global,
     kind: &Word,
@@ -451,7 +459,8 @@ fn matched_key(
 
 // Returns whether the old group is a node with this kind and equal attributes, and has no reads.
 fn is_node_of(old: &OldGroup, kind: &Word, attributes: &[Attribute]) -> bool
-    ensures { result ≡ true → ((old_group old.now).what ≡ kinds.Node kind.now attributes.now) × ((old_group old.now).reads ≡ []) }
+    ensures { result ≡ true → ((old_group old.now).what ≡ kinds.Node kind.now attributes.now)
+        × ((old_group old.now).reads ≡ []) }
 {
     if !is_same_node(old.kind(), kind, attributes) {
         return false;

@@ -12,7 +12,7 @@ exchange_is xs before both turned after f m t low high first middle turning last
     let front = first ∙ take-take f t xs (omega (arith, low, high)) in
     let one = ap (λ l. drop (m - f) l) middle ∙ drop-drop (m - f) f (take t xs) ∙ ap (λ n. drop n (take t xs)) whole in
     let other = ap (λ l. take (m - f) l) middle ∙ sym (drop-take f (m - f) (take t xs))
-        ∙ ap (λ n. drop f (take n (take t xs))) whole ∙ ap (λ l. drop f l) (take-take m t xs high) in
+    ∙ ap (λ n. drop f (take n (take t xs))) whole ∙ ap (λ l. drop f l) (take-take m t xs high) in
     let both_turned = turning ∙ ap (λ l. l ++ take (m - f) both) one ∙ ap (λ l. drop m (take t xs) ++ l) other in
     append_assoc before turned after
     ∙ ap (λ l. l ++ (turned ++ after)) front

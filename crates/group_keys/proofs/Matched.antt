@@ -12,7 +12,7 @@ pub queue_grows : (olds : List GroupKey) (t s : GroupKey) (k : ℕ) (was now : L
     → now ++ indexes_of (k + 1) (drop (k + 1) olds) s ≡ indexes_of 0 olds s
 queue_grows olds t s k was now inside is added so_far =
     let first : drop k olds ≡ t ∷ drop (k + 1) olds =
-        drop_more olds k t inside ∙ ap (λ x. x ∷ drop (k + 1) olds) (sym is) in
+    drop_more olds k t inside ∙ ap (λ x. x ∷ drop (k + 1) olds) (sym is) in
     by (same_sibling t s) added (sym (ap (λ l. was ++ indexes_of k l s) first) ∙ so_far)
   where
     by : (b : Bool) → now ≡ (if b then was ++ k ∷ [] else was)
@@ -47,9 +47,9 @@ pub match_next : (olds news : List GroupKey) (queues later : GroupKey → List �
     → MatchesSoFar olds news queues all k → MatchesSoFar olds news later more (k + 1)
 match_next olds news queues later all more k t r inside is found left pushed g =
     let first : drop k news ≡ t ∷ drop (k + 1) news =
-        drop_more news k t inside ∙ ap (λ x. x ∷ drop (k + 1) news) (sym is) in
+    drop_more news k t inside ∙ ap (λ x. x ∷ drop (k + 1) news) (sym is) in
     let here : r ≡ slice_get (indexes_of 0 olds t) (occurrence t g.seen) = found ∙ ap (λ l. slice_get l 0) (g.waits t)
-        ∙ got_first (indexes_of 0 olds t) (occurrence t g.seen) in
+    ∙ got_first (indexes_of 0 olds t) (occurrence t g.seen) in
     record {
       seen = t ∷ g.seen;
       waits = λ s. by s (same_sibling t s) (left s);
@@ -64,7 +64,7 @@ match_next olds news queues later all more k t r inside is found left pushed g =
     by s true e =
         let sum : occurrence s g.seen + 1 ≡ 1 + occurrence s g.seen = omega arith in
         e ∙ ap (λ l. drop 1 l) (g.waits s) ∙ drop-drop 1 (occurrence s g.seen) (indexes_of 0 olds s)
-            ∙ ap (λ n. drop n (indexes_of 0 olds s)) sum
+        ∙ ap (λ n. drop n (indexes_of 0 olds s)) sum
     by s false e =
         let sum : occurrence s g.seen ≡ 0 + occurrence s g.seen = omega arith in
         e ∙ g.waits s ∙ ap (λ n. drop n (indexes_of 0 olds s)) sum

@@ -9,7 +9,7 @@ pub queue_after : {V : Type 0} (items : V → List ℕ) (find : GroupKey → Opt
     (now : Option V) (f : List ℕ → List ℕ) → items w ≡ f (option_map_or items (find t) [])
     → now ≡ cond (same_sibling t s) (Some w) (find s)
     → option_map_or items now [] ≡ (if same_sibling t s then f (option_map_or items (find s) [])
-        else option_map_or items (find s) [])
+    else option_map_or items (find s) [])
 queue_after items find t s w now f changed is = by (same_sibling t s) (λ e. ap find (same_is t s e)) is
   where
     by : (b : Bool) → (b ≡ true → find t ≡ find s) → now ≡ cond b (Some w) (find s)
@@ -22,7 +22,7 @@ queue_after items find t s w now f changed is = by (same_sibling t s) (λ e. ap 
 -- Taking from a missing queue changes no queue.
 pub none_after : {V : Type 0} (items : V → List ℕ) (find : GroupKey → Option V) (t s : GroupKey) → find t ≡ None
     → option_map_or items (find s) [] ≡ (if same_sibling t s then drop 1 (option_map_or items (find s) [])
-        else option_map_or items (find s) [])
+    else option_map_or items (find s) [])
 none_after items find t s none = by (same_sibling t s) (λ e. ap find (sym (same_is t s e)) ∙ none)
   where
     by : (b : Bool) → (b ≡ true → find s ≡ None)

@@ -30,7 +30,7 @@ is_later : (here : PathStep) (p : Path) (m k : ℕ) (ps later : List Path) (ns m
 is_later here p m k ps later ns more long is =
     let mapped : List Path = map (λ q. here ∷ q) ps in
     let same : length ns + is.at ≡ length mapped + is.at =
-        ap (λ n. n + is.at) (sym long ∙ sym (length-map ps (λ q. here ∷ q))) in
+    ap (λ n. n + is.at) (sym long ∙ sym (length-map ps (λ q. here ∷ q))) in
     record {
       at = suc (length ns + is.at);
       path = ap (λ j. slice_get (mapped ++ later) j) same ∙ get-second mapped later is.at ∙ is.path;
@@ -82,13 +82,13 @@ found_path (Group site k what inside rest) s n q seen f e = by (same_sibling (si
 
     later : (n m : ℕ) → occurrence s (sibling site what ∷ seen) + m ≡ occurrence s seen + n
         → IsAt (record { of = s; occurrence = occurrence s (sibling site what ∷ seen) + m } ∷ q) f.number
-            (paths (sibling site what ∷ seen) rest) (numbers rest) → Goal n
+        (paths (sibling site what ∷ seen) rest) (numbers rest) → Goal n
     later n m e is =
         moved_on s (occurrence s (sibling site what ∷ seen) + m) (occurrence s seen + n) q
-            (paths seen (Group site k what inside rest)) (numbers (Group site k what inside rest)) f.number e
+        (paths seen (Group site k what inside rest)) (numbers (Group site k what inside rest)) f.number e
         (is_later here (record { of = s; occurrence = occurrence s (sibling site what ∷ seen) + m } ∷ q) f.number k
-            (paths [] inside) (paths (sibling site what ∷ seen) rest) (numbers inside) (numbers rest)
-            (path_count [] inside) is)
+        (paths [] inside) (paths (sibling site what ∷ seen) rest) (numbers inside) (numbers rest)
+        (path_count [] inside) is)
 
     same_step : sibling site what ≡ s → here ≡ record { of = s; occurrence = occurrence s seen + 0 }
     same_step e = let sum : occurrence s seen ≡ occurrence s seen + 0 = omega arith in
@@ -96,7 +96,7 @@ found_path (Group site k what inside rest) s n q seen f e = by (same_sibling (si
 
     first : (p : Path) → q ≡ p → sibling site what ≡ s → lookup p (Some group) ≡ Some f
         → ((r : PathStep) (p : Path) (f : Found) → lookup p (matching_sibling r.of r.occurrence inside) ≡ Some f
-            → IsAt (r ∷ p) f.number (paths [] inside) (numbers inside)) → Goal 0
+        → IsAt (r ∷ p) f.number (paths [] inside) (numbers inside)) → Goal 0
     first [] eq same e deeper = record {
       at = 0;
       path = ap (λ h. Some (h ∷ [])) (same_step same)
@@ -105,7 +105,7 @@ found_path (Group site k what inside rest) s n q seen f e = by (same_sibling (si
     }
     first (r ∷ p) eq same e deeper =
         let is = is_inside here (r ∷ p) f.number k (paths [] inside) (paths (sibling site what ∷ seen) rest)
-            (numbers inside) (numbers rest) (deeper r p f (sym (first_step r p inside) ∙ e)) in
+        (numbers inside) (numbers rest) (deeper r p f (sym (first_step r p inside) ∙ e)) in
         record {
           at = is.at;
           path = is.path ∙ ap (λ h. Some (h ∷ (r ∷ p))) (same_step same)
@@ -122,18 +122,18 @@ found_path (Group site k what inside rest) s n q seen f e = by (same_sibling (si
     by : (b : Bool) → b ≡ same_sibling (sibling site what) s → (n : ℕ)
         → lookup q (if b then nth n group (λ j. matching_sibling s j rest) else matching_sibling s n rest) ≡ Some f
         → ((m : ℕ) (p : Path) (seen : List GroupKey) (f : Found) → lookup p (matching_sibling s m rest) ≡ Some f
-            → IsAt (record { of = s; occurrence = occurrence s seen + m } ∷ p) f.number (paths seen rest)
-            (numbers rest))
+        → IsAt (record { of = s; occurrence = occurrence s seen + m } ∷ p) f.number (paths seen rest)
+        (numbers rest))
         → ((r : PathStep) (p : Path) (f : Found) → lookup p (matching_sibling r.of r.occurrence inside) ≡ Some f
-            → IsAt (r ∷ p) f.number (paths [] inside) (numbers inside)) → Goal n
+        → IsAt (r ∷ p) f.number (paths [] inside) (numbers inside)) → Goal n
     by true b zero e after deeper = first q refl (same_is (sibling site what) s (sym b)) e deeper
     by true b (suc n) e after deeper =
         let counts : occurrence s (sibling site what ∷ seen) ≡ 1 + occurrence s seen =
-            ap (λ c. (if c then 1 else 0) + occurrence s seen) (sym b) in
+        ap (λ c. (if c then 1 else 0) + occurrence s seen) (sym b) in
         later (suc n) n (omega (arith, counts)) (after n q (sibling site what ∷ seen) f e)
     by false b n e after deeper =
         let counts : occurrence s (sibling site what ∷ seen) ≡ 0 + occurrence s seen =
-            ap (λ c. (if c then 1 else 0) + occurrence s seen) (sym b) in
+        ap (λ c. (if c then 1 else 0) + occurrence s seen) (sym b) in
         later n n (omega (arith, counts)) (after n q (sibling site what ∷ seen) f e)
 
 has_path : (t : GroupForest) (p : Path) (i : ℕ) (o : Option Found) → at_path p (indexed_forest 0 t).0 ≡ o
@@ -146,7 +146,7 @@ has_path t (s ∷ p) i (Some f) e found =
     let same : i ≡ is.at = sym (same_item found) ∙ index_is t is.at f.number is.number in
     ap (λ j. slice_get (paths [] t) j) same ∙ ap (λ l. slice_get l is.at) (sym (indexed_paths 0 [] t)) ∙ is.path
     ∙ ap (λ n. Some (record { of = s.of; occurrence = n } ∷ p))
-        (let e : 0 + s.occurrence ≡ s.occurrence = omega arith in e)
+    (let e : 0 + s.occurrence ≡ s.occurrence = omega arith in e)
 
 pub each_found_group_has_the_path : EachFoundGroupHasThePath
 each_found_group_has_the_path t i p found = has_path t p i (at_path p (indexed_forest 0 t).0) refl found
@@ -170,8 +170,14 @@ pub groups_follow_their_paths : GroupsFollowTheirPaths
 groups_follow_their_paths old new i p at =
     let is : new_index old new i ≡ index_at new p = follows new p (path_at old i) at in
     record {
-      kept = λ j. (λ e. each_found_group_has_the_path new j p (sym is ∙ e), λ e. is
-          ∙ each_path_finds_its_group new j p e);
-      removed = (λ e j here. no_item (sym e ∙ is ∙ each_path_finds_its_group new j p here), λ none. is
-          ∙ removed_without new p none);
+      kept = λ j. (
+        λ e. each_found_group_has_the_path new j p (sym is ∙ e),
+        λ e. is
+            ∙ each_path_finds_its_group new j p e,
+      );
+      removed = (
+        λ e j here. no_item (sym e ∙ is ∙ each_path_finds_its_group new j p here),
+        λ none. is
+            ∙ removed_without new p none,
+      );
     }

@@ -28,10 +28,10 @@ matched_alike s n k (Group site number what inside rest) =
         → AreAlike (matching_sibling s m (indexed_forest (indexed_forest (k + 1) inside).1 rest).0)
         (matching_sibling s m rest))
         → AreAlike (if b then nth n (record { number = k; what = what; inside = (indexed_forest (k + 1) inside).0 })
-            (λ j. matching_sibling s j (indexed_forest (indexed_forest (k + 1) inside).1 rest).0)
-            else matching_sibling s n (indexed_forest (indexed_forest (k + 1) inside).1 rest).0)
+        (λ j. matching_sibling s j (indexed_forest (indexed_forest (k + 1) inside).1 rest).0)
+        else matching_sibling s n (indexed_forest (indexed_forest (k + 1) inside).1 rest).0)
         (if b then nth n (record { number = number; what = what; inside = inside }) (λ j. matching_sibling s j rest)
-            else matching_sibling s n rest)
+        else matching_sibling s n rest)
     by true zero later = record { from = k + 1; is = refl }
     by true (suc n) later = later n
     by false n later = later n
@@ -53,7 +53,7 @@ looked_up : (p : Path) (t u : GroupForest) → HasIndexes t u
 looked_up [] t u h = refl
 looked_up (s ∷ []) t u h =
     ap (λ f. is_some (number_found (matching_sibling s.of s.occurrence f))) h.is
-        ∙ found_alike _ _ (matched_alike s.of s.occurrence h.from u)
+    ∙ found_alike _ _ (matched_alike s.of s.occurrence h.from u)
 looked_up (s ∷ (r ∷ p)) t u h =
     ap (λ f. is_some (number_found (at_path (r ∷ p) (inside_of (matching_sibling s.of s.occurrence f))))) h.is
     ∙ looked_up (r ∷ p) _ _ (inside_alike _ _ (matched_alike s.of s.occurrence h.from u))

@@ -35,7 +35,7 @@ count-join k (suc a) b =
     let first : suc a + b ≡ suc (a + b) = omega arith in
     let e : (k + 1) + a ≡ k + suc a = omega arith in
     ap (λ n. count_from k n) first
-        ∙ ap (λ l. k ∷ l) (count-join (k + 1) a b ∙ ap (λ n. count_from (k + 1) a ++ count_from n b) e)
+    ∙ ap (λ l. k ∷ l) (count-join (k + 1) a b ∙ ap (λ n. count_from (k + 1) a ++ count_from n b) e)
 
 next_index : (k : ℕ) (t : GroupForest) → (indexed_forest k t).1 ≡ k + how_many t
 next_index k End = omega arith
@@ -63,10 +63,10 @@ indexed_paths k seen (Read x rest) = indexed_paths k seen rest
 indexed_paths k seen (Group site n what inside rest) =
     let here : PathStep = step site what seen in
     let later : List Path = paths (sibling site what ∷ seen)
-        (indexed_forest (indexed_forest (k + 1) inside).1 rest).0 in
+    (indexed_forest (indexed_forest (k + 1) inside).1 rest).0 in
     ap (λ l. (here ∷ []) ∷ (map (λ p. here ∷ p) l ++ later)) (indexed_paths (k + 1) [] inside)
     ∙ ap (λ l. (here ∷ []) ∷ (map (λ p. here ∷ p) (paths [] inside) ++ l))
-        (indexed_paths (indexed_forest (k + 1) inside).1 (sibling site what ∷ seen) rest)
+    (indexed_paths (indexed_forest (k + 1) inside).1 (sibling site what ∷ seen) rest)
 
 -- An item of a list of counted numbers is its index from `k` on.
 counted : (k n i m : ℕ) → slice_get (count_from k n) i ≡ Some m → m ≡ k + i

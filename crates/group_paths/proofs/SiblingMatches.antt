@@ -29,8 +29,8 @@ map-paths f g e seen (Group site n what inside rest) =
     ∙ ap (λ l. g (here ∷ []) ∷ l) (
     map-append f ps later
     ∙ ap (λ l. l ++ map f later) (map-map f (λ p. here ∷ p) (paths [] inside)
-        ∙ map-same (λ p. f (here ∷ p)) (λ p. g (here ∷ p)) (e here) (paths [] inside)
-        ∙ sym (map-map g (λ p. here ∷ p) (paths [] inside)))
+    ∙ map-same (λ p. f (here ∷ p)) (λ p. g (here ∷ p)) (e here) (paths [] inside)
+    ∙ sym (map-map g (λ p. here ∷ p) (paths [] inside)))
     ∙ ap (λ l. map g ps ++ l) (map-paths f g e (sibling site what ∷ seen) rest)
     ∙ sym (map-append g ps later)
     )
@@ -47,7 +47,7 @@ matched_by_path old seen (Group site n what inside rest) =
     let deeper : map (λ p. number_found (at_path p old)) ps ≡ matched_numbers (inside_of found) [] inside =
     map-map (λ p. number_found (at_path p old)) (λ p. here ∷ p) (paths [] inside)
     ∙ map-paths (λ p. number_found (at_path (here ∷ p) old)) (λ p. number_found (at_path p (inside_of found)))
-        (λ s p. refl) [] inside
+    (λ s p. refl) [] inside
     ∙ matched_by_path (inside_of found) [] inside in
     ap (λ l. number_found found ∷ l) (
     map-append (λ p. number_found (at_path p old)) ps later
@@ -89,12 +89,12 @@ each_is_matched whole seen (Group site k what inside rest) h =
     let none_more : occurrence s seen ≡ occurrence s seen + 0 = omega arith in
     let found : matching_sibling s (occurrence s seen) whole ≡ Some group =
     ap (λ m. matching_sibling s m whole) none_more ∙ h s 0
-        ∙ ap (λ b. if b then Some group else matching_sibling s 0 rest) (itself s) in
+    ∙ ap (λ b. if b then Some group else matching_sibling s 0 rest) (itself s) in
     ap (λ f. number_found f ∷ (matched_numbers (inside_of f) [] inside ++ matched_numbers whole (s ∷ seen) rest)) found
     ∙ ap (λ l. Some k ∷ (l ++ matched_numbers whole (s ∷ seen) rest))
-        (each_is_matched inside [] inside (all_follow inside))
+    (each_is_matched inside [] inside (all_follow inside))
     ∙ ap (λ l. Some k ∷ (map Some (numbers inside) ++ l))
-        (each_is_matched whole (s ∷ seen) rest (next_follows whole inside rest seen site k what h))
+    (each_is_matched whole (s ∷ seen) rest (next_follows whole inside rest seen site k what h))
     ∙ ap (λ l. Some k ∷ l) (sym (map-append Some (numbers inside) (numbers rest)))
 
 found_at : (t : GroupForest) (i : ℕ) (found : Option (Option ℕ)) (ns : Option ℕ) (a : Option ℕ) → found ≡ Some a
@@ -107,7 +107,7 @@ each_path_finds_its_group t i p at =
     let indexed : GroupForest = (indexed_forest 0 t).0 in
     let whole : map (index_at t) (paths [] t) ≡ map Some (numbers indexed) =
     ap (λ l. map (index_at t) l) (sym (indexed_paths 0 [] t)) ∙ matched_by_path indexed [] indexed
-        ∙ each_is_matched indexed [] indexed (all_follow indexed) in
+    ∙ each_is_matched indexed [] indexed (all_follow indexed) in
     found_at t i (slice_get (map (index_at t) (paths [] t)) i) (slice_get (numbers indexed) i) (index_at t p)
     (get-map (index_at t) (paths [] t) i ∙ ap (λ o. option_map (index_at t) o) at)
     (ap (λ l. slice_get l i) whole ∙ get-map Some (numbers indexed) i)

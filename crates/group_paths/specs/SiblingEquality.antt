@@ -28,7 +28,7 @@ same_is s t e =
     let both = both_true (s.site == t.site) (option_eq same_value s.key t.key) e in
     let site : s.site ≡ t.site = eqb-true s.site t.site both.0 in
     ap (λ n. record { site = n; key = s.key }) site
-        ∙ ap (λ k. record { site = t.site; key = k }) (same_key s.key t.key both.1)
+    ∙ ap (λ k. record { site = t.site; key = k }) (same_key s.key t.key both.1)
 
 pub itself : (s : GroupKey) → same_sibling s s ≡ true
 itself s = ap (λ b. b && option_eq same_value s.key s.key) (eq-eqb s.site s.site refl) ∙ key_itself s.key

@@ -11,7 +11,8 @@ or_false : (a b : Bool) → (a || b) ≡ false → (a ≡ false) × (b ≡ false
 or_false true b e = (e, absurd cc)
 or_false false b e = (refl, e)
 
-with_none : {A B : Type 0} (r : Reading A) (go : A → Reading B) → r.reads ≡ [] → ((a : A) → (go a).reads ≡ []) → (with r go).reads ≡ []
+with_none : {A B : Type 0} (r : Reading A) (go : A → Reading B) → r.reads ≡ [] → ((a : A) → (go a).reads ≡ [])
+    → (with r go).reads ≡ []
 with_none r go e f = ap (λ l. l ++ (go r.value).reads) e ∙ f r.value
 
 choice_none : {A : Type 0} (c : Bool) (x y : Reading A) → x.reads ≡ [] → y.reads ≡ [] → (if c then x else y).reads ≡ []
@@ -24,15 +25,20 @@ mutual
   reads_none m (Variable name) env h = refl
   reads_none m (Get at name number) env h = absurd cc
   reads_none m (Apply at op es) env h =
-      choice_none (is_pick op) (with (eval_nth m es 0 env) (λ c. eval_nth m es (operand_taken c) env)) (mapped_reading (apply op) (eval_all m es env))
-      (with_none (eval_nth m es 0 env) (λ c. eval_nth m es (operand_taken c) env) (nth_reads_none m es 0 env h) (λ c. nth_reads_none m es (operand_taken c) env h)) (all_reads_none m es env h)
+      choice_none (is_pick op) (with (eval_nth m es 0 env) (λ c. eval_nth m es (operand_taken c) env))
+      (mapped_reading (apply op) (eval_all m es env))
+      (with_none (eval_nth m es 0 env) (λ c. eval_nth m es (operand_taken c) env) (nth_reads_none m es 0 env h)
+      (λ c. nth_reads_none m es (operand_taken c) env h)) (all_reads_none m es env h)
 
   all_reads_none : (m : Map) (es : Exprs) (env : Bindings) → have_get es ≡ false → (eval_all m es env).reads ≡ []
   all_reads_none m none env h = refl
   all_reads_none m (more e es) env h =
-      with_none (eval m e env) (λ v. mapped_reading (λ vs. v ∷ vs) (eval_all m es env)) (reads_none m e env (or_false (has_get e) (have_get es) h).0) (λ v. all_reads_none m es env (or_false (has_get e) (have_get es) h).1)
+      with_none (eval m e env) (λ v. mapped_reading (λ vs. v ∷ vs) (eval_all m es env))
+      (reads_none m e env (or_false (has_get e) (have_get es) h).0)
+      (λ v. all_reads_none m es env (or_false (has_get e) (have_get es) h).1)
 
-  nth_reads_none : (m : Map) (es : Exprs) (n : ℕ) (env : Bindings) → have_get es ≡ false → (eval_nth m es n env).reads ≡ []
+  nth_reads_none : (m : Map) (es : Exprs) (n : ℕ) (env : Bindings) → have_get es ≡ false
+      → (eval_nth m es n env).reads ≡ []
   nth_reads_none m none n env h = refl
   nth_reads_none m (more e es) zero env h = reads_none m e env (or_false (has_get e) (have_get es) h).0
   nth_reads_none m (more e es) (suc n) env h = nth_reads_none m es n env (or_false (has_get e) (have_get es) h).1

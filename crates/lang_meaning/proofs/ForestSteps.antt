@@ -23,7 +23,9 @@ preorder-joined_forest : (d : ℕ) (t u : GroupForest) → preorder d (joined_fo
 preorder-joined_forest d End u = refl
 preorder-joined_forest d (Read x rest) u = preorder-joined_forest d rest u
 preorder-joined_forest d (Group site n what inside rest) u =
-    ap (λ l. flat_group d site n (flat_kind what) (flat_reads what inside) ∷ l) (ap (λ l. preorder (d + 1) inside ++ l) (preorder-joined_forest d rest u) ∙ sym (append_assoc (preorder (d + 1) inside) (preorder d rest) (preorder d u)))
+    ap (λ l. flat_group d site n (flat_kind what) (flat_reads what inside) ∷ l)
+    (ap (λ l. preorder (d + 1) inside ++ l) (preorder-joined_forest d rest u)
+    ∙ sym (append_assoc (preorder (d + 1) inside) (preorder d rest) (preorder d u)))
 
 preorder-reads_then : (d : ℕ) (xs : List ℕ) (t : GroupForest) → preorder d (reads_then xs t) ≡ preorder d t
 preorder-reads_then d [] t = refl
@@ -33,7 +35,8 @@ own-joined_forest : (t u : GroupForest) → asks (own_part (joined_forest t u)) 
 own-joined_forest End u = refl
 own-joined_forest (Read x rest) u = ap (λ l. x ∷ l) (own-joined_forest rest u)
 own-joined_forest (Group site n what inside rest) u =
-    ap (λ l. asks (inside_own what (own_part inside)) ++ l) (own-joined_forest rest u) ∙ sym (append_assoc (asks (inside_own what (own_part inside))) (asks (own_part rest)) (asks (own_part u)))
+    ap (λ l. asks (inside_own what (own_part inside)) ++ l) (own-joined_forest rest u)
+    ∙ sym (append_assoc (asks (inside_own what (own_part inside))) (asks (own_part rest)) (asks (own_part u)))
 
 own-reads_then : (xs : List ℕ) (t : GroupForest) → asks (own_part (reads_then xs t)) ≡ xs ++ asks (own_part t)
 own-reads_then [] t = refl
@@ -44,33 +47,51 @@ pub how_many-preorder : (d : ℕ) (t : GroupForest) → length (preorder d t) �
 how_many-preorder d End = refl
 how_many-preorder d (Read x rest) = how_many-preorder d rest
 how_many-preorder d (Group site n what inside rest) =
-    let a = how_many-preorder (d + 1) inside in let b = how_many-preorder d rest in omega (arith, a, b, length-append (preorder (d + 1) inside) (preorder d rest))
+    let a = how_many-preorder (d + 1) inside in let b = how_many-preorder d rest in
+    omega (arith, a, b, length-append (preorder (d + 1) inside) (preorder d rest))
 
 -- The empty forest.
-pub ran_end : {U : Type 0} (u : U) (d : ℕ) (out : List Listed) (asked mine : List ℕ) → ComposesForest d End out out asked asked mine mine {U = U} (Ok u)
-ran_end u d out asked mine = record { made = sym (append-nil out); came = sym (append-nil asked); charged = sym (append-nil mine); part = tt; many = λ e. cc }
+pub ran_end : {U : Type 0} (u : U) (d : ℕ) (out : List Listed) (asked mine : List ℕ)
+    → ComposesForest d End out out asked asked mine mine {U = U} (Ok u)
+ran_end u d out asked mine = record {
+  made = sym (append-nil out);
+  came = sym (append-nil asked);
+  charged = sym (append-nil mine);
+  part = tt;
+  many = λ e. cc;
+}
 
 -- Out of memory after a part of the reads.
-pub ran_stop : {U : Type 0} (d : ℕ) (t : GroupForest) (out out' : List Listed) (asked asked' mine mine' : List ℕ) (result : Result U ScratchStop) → result ≡ Err NoMemory →
+pub ran_stop : {U : Type 0} (d : ℕ) (t : GroupForest) (out out' : List Listed) (asked asked' mine mine' : List ℕ)
+    (result : Result U ScratchStop) → result ≡ Err NoMemory →
     Grew asked asked' (asks t) → ComposesForest d t out out' asked asked' mine mine' result
 ran_stop d t out out' asked asked' mine mine' (Ok u) e g = cc
-ran_stop d t out out' asked asked' mine mine' (Err x) e g = record { made = tt; came = tt; charged = tt; part = g; many = λ f. cc }
+ran_stop d t out out' asked asked' mine mine' (Err x) e g =
+    record { made = tt; came = tt; charged = tt; part = g; many = λ f. cc }
 
 -- Out of memory during the reads before a forest.
-pub ran_stop_after : {U A : Type 0} (d : ℕ) (r : Reading A) (go : A → GroupForest) (out out' : List Listed) (asked asked' mine mine' : List ℕ) (result : Result U ScratchStop) → result ≡ Err NoMemory →
+pub ran_stop_after : {U A : Type 0} (d : ℕ) (r : Reading A) (go : A → GroupForest) (out out' : List Listed)
+    (asked asked' mine mine' : List ℕ) (result : Result U ScratchStop) → result ≡ Err NoMemory →
     Grew asked asked' r.reads → ComposesForest d (forest_after r go) out out' asked asked' mine mine' result
 unfolding forest_after
 ran_stop_after d r go out out' asked asked' mine mine' result e g =
-    ran_stop d (forest_after r go) out out' asked asked' mine mine' result e (rw (asks-reads_then r.reads (go r.value)) (grew_front asked asked' r.reads (asks (go r.value)) g))
+    ran_stop d (forest_after r go) out out' asked asked' mine mine' result e
+    (rw (asks-reads_then r.reads (go r.value)) (grew_front asked asked' r.reads (asks (go r.value)) g))
 
 -- Reads, and then the forest that depends on their result.
-pub ran_after : {U A : Type 0} (d : ℕ) (r : Reading A) (go : A → GroupForest) (out out' : List Listed) (asked mid asked' mine between mine' : List ℕ) (result : Result U ScratchStop) →
-    mid ≡ asked ++ r.reads → between ≡ mine ++ r.reads → ComposesForest d (go r.value) out out' mid asked' between mine' result → ComposesForest d (forest_after r go) out out' asked asked' mine mine' result
+pub ran_after : {U A : Type 0} (d : ℕ) (r : Reading A) (go : A → GroupForest) (out out' : List Listed)
+    (asked mid asked' mine between mine' : List ℕ) (result : Result U ScratchStop) →
+    mid ≡ asked ++ r.reads → between ≡ mine ++ r.reads
+    → ComposesForest d (go r.value) out out' mid asked' between mine' result
+    → ComposesForest d (forest_after r go) out out' asked asked' mine mine' result
 unfolding forest_after
 ran_after d r go out out' asked mid asked' mine between mine' (Ok u) e f h = record {
   made = h.made ∙ ap (λ l. out ++ l) (sym (preorder-reads_then d r.reads (go r.value)));
-  came = h.came ∙ ap (λ l. l ++ asks (go r.value)) e ∙ append_assoc asked r.reads (asks (go r.value)) ∙ ap (λ l. asked ++ l) (sym (asks-reads_then r.reads (go r.value)));
-  charged = h.charged ∙ ap (λ l. l ++ asks (own_part (go r.value))) f ∙ append_assoc mine r.reads (asks (own_part (go r.value))) ∙ ap (λ l. mine ++ l) (sym (own-reads_then r.reads (go r.value)));
+  came = h.came ∙ ap (λ l. l ++ asks (go r.value)) e ∙ append_assoc asked r.reads (asks (go r.value))
+      ∙ ap (λ l. asked ++ l) (sym (asks-reads_then r.reads (go r.value)));
+  charged = h.charged ∙ ap (λ l. l ++ asks (own_part (go r.value))) f
+      ∙ append_assoc mine r.reads (asks (own_part (go r.value)))
+      ∙ ap (λ l. mine ++ l) (sym (own-reads_then r.reads (go r.value)));
   part = tt;
   many = λ x. cc;
 }
@@ -83,8 +104,10 @@ ran_after d r go out out' asked mid asked' mine between mine' (Err x) e f h = re
 }
 
 -- The group could not be appended.
-pub ran_full : {U : Type 0} (d site : ℕ) (what : GroupKind) (inside rest : GroupForest) (out out' : List Listed) (asked mine mine' : List ℕ) (result : Result U ScratchStop) → IsErr result →
-    (result ≡ Err TooManyGroups → length out ≡ most_groups) → ComposesForest d (Group site 0 what inside rest) out out' asked asked mine mine' result
+pub ran_full : {U : Type 0} (d site : ℕ) (what : GroupKind) (inside rest : GroupForest) (out out' : List Listed)
+    (asked mine mine' : List ℕ) (result : Result U ScratchStop) → IsErr result →
+    (result ≡ Err TooManyGroups → length out ≡ most_groups)
+    → ComposesForest d (Group site 0 what inside rest) out out' asked asked mine mine' result
 ran_full d site what inside rest out out' asked mine mine' (Ok u) i h = cc
 ran_full d site what inside rest out out' asked mine mine' (Err x) i h = record {
   made = tt;
@@ -95,15 +118,20 @@ ran_full d site what inside rest out out' asked mine mine' (Err x) i h = record 
 }
 
 -- A group without reads, and the forest inside it.
-pub ran_group : {U : Type 0} (d site : ℕ) (what : GroupKind) (inside : GroupForest) (out out1 out' : List Listed) (asked asked' mine mine' : List ℕ) (result : Result U ScratchStop) →
-    flat_reads what inside ≡ [] → inside_own what (own_part inside) ≡ own_part inside → out1 ≡ out ++ flat_group d site 0 (flat_kind what) [] ∷ [] →
-    ComposesForest (d + 1) inside out1 out' asked asked' mine mine' result → ComposesForest d (Group site 0 what inside End) out out' asked asked' mine mine' result
+pub ran_group : {U : Type 0} (d site : ℕ) (what : GroupKind) (inside : GroupForest) (out out1 out' : List Listed)
+    (asked asked' mine mine' : List ℕ) (result : Result U ScratchStop) →
+    flat_reads what inside ≡ [] → inside_own what (own_part inside) ≡ own_part inside
+    → out1 ≡ out ++ flat_group d site 0 (flat_kind what) [] ∷ [] →
+    ComposesForest (d + 1) inside out1 out' asked asked' mine mine' result
+    → ComposesForest d (Group site 0 what inside End) out out' asked asked' mine mine' result
 ran_group d site what inside out out1 out' asked asked' mine mine' (Ok u) none same e h = record {
-  made = h.made ∙ ap (λ l. l ++ preorder (d + 1) inside) e ∙ append_assoc out (flat_group d site 0 (flat_kind what) [] ∷ []) (preorder (d + 1) inside)
+  made = h.made ∙ ap (λ l. l ++ preorder (d + 1) inside) e
+      ∙ append_assoc out (flat_group d site 0 (flat_kind what) [] ∷ []) (preorder (d + 1) inside)
       ∙ ap (λ l. out ++ flat_group d site 0 (flat_kind what) [] ∷ l) (sym (append-nil (preorder (d + 1) inside)))
       ∙ ap (λ r. out ++ flat_group d site 0 (flat_kind what) r ∷ (preorder (d + 1) inside ++ [])) (sym none);
   came = h.came ∙ ap (λ l. asked ++ l) (sym (append-nil (asks inside)));
-  charged = h.charged ∙ ap (λ t. mine ++ asks t) (sym same) ∙ ap (λ l. mine ++ l) (sym (append-nil (asks (inside_own what (own_part inside)))));
+  charged = h.charged ∙ ap (λ t. mine ++ asks t) (sym same)
+      ∙ ap (λ l. mine ++ l) (sym (append-nil (asks (inside_own what (own_part inside)))));
   part = tt;
   many = λ x. cc;
 }
@@ -124,17 +152,26 @@ ran_group d site what inside out out1 out' asked asked' mine mine' (Err x) none 
 }
 
 -- The group of a call gets the own reads of the forest inside it. The outer call gets none of these reads.
-pub ran_call : (d site function : ℕ) (arguments : List Value) (inside : GroupForest) (out out1 out2 out' : List Listed) (asked asked' mine theirs none : List ℕ) → none ≡ [] →
-    out1 ≡ out ++ flat_group d site 0 (flat_kind (trail.Call function arguments)) [] ∷ [] → ComposesForest (d + 1) inside out1 out2 asked asked' none theirs {U = Unit {0}} (Ok tt) →
-    ((before behind : List Listed) (g : Listed) → length before ≡ length out → out2 ≡ before ++ (g ∷ behind) → out' ≡ before ++ (flat_group g.depth g.site g.number g.what theirs ∷ behind)) →
-    ComposesForest d (Group site 0 (trail.Call function arguments) inside End) out out' asked asked' mine mine {U = Unit {0}} (Ok tt)
+pub ran_call : (d site function : ℕ) (arguments : List Value) (inside : GroupForest) (out out1 out2 out' : List Listed)
+    (asked asked' mine theirs none : List ℕ) → none ≡ [] →
+    out1 ≡ out ++ flat_group d site 0 (flat_kind (trail.Call function arguments)) [] ∷ []
+    → ComposesForest (d + 1) inside out1 out2 asked asked' none theirs {U = Unit {0}} (Ok tt) →
+    ((before behind : List Listed) (g : Listed) → length before ≡ length out → out2 ≡ before ++ (g ∷ behind)
+    → out' ≡ before ++ (flat_group g.depth g.site g.number g.what theirs ∷ behind)) →
+    ComposesForest d (Group site 0 (trail.Call function arguments) inside End) out out' asked asked' mine mine
+    {U = Unit {0}} (Ok tt)
 ran_call d site function arguments inside out out1 out2 out' asked asked' mine theirs none first e h set =
     let there : out2 ≡ out ++ (flat_group d site 0 (flat_kind (trail.Call function arguments)) [] ∷ preorder (d + 1) inside) =
-    h.made ∙ ap (λ l. l ++ preorder (d + 1) inside) e ∙ append_assoc out (flat_group d site 0 (flat_kind (trail.Call function arguments)) [] ∷ []) (preorder (d + 1) inside) in
+    h.made ∙ ap (λ l. l ++ preorder (d + 1) inside) e
+    ∙ append_assoc out (flat_group d site 0 (flat_kind (trail.Call function arguments)) [] ∷ [])
+    (preorder (d + 1) inside) in
     record {
-      made = set out (preorder (d + 1) inside) (flat_group d site 0 (flat_kind (trail.Call function arguments)) []) refl there
-          ∙ ap (λ r. out ++ (flat_group d site 0 (flat_kind (trail.Call function arguments)) r ∷ preorder (d + 1) inside)) (h.charged ∙ ap (λ l. l ++ asks (own_part inside)) first)
-          ∙ ap (λ l. out ++ (flat_group d site 0 (flat_kind (trail.Call function arguments)) (asks (own_part inside)) ∷ l)) (sym (append-nil (preorder (d + 1) inside)));
+      made = set out (preorder (d + 1) inside) (flat_group d site 0 (flat_kind (trail.Call function arguments)) []) refl
+          there
+          ∙ ap (λ r. out ++ (flat_group d site 0 (flat_kind (trail.Call function arguments)) r ∷ preorder (d + 1)
+          inside)) (h.charged ∙ ap (λ l. l ++ asks (own_part inside)) first)
+          ∙ ap (λ l. out ++ (flat_group d site 0 (flat_kind (trail.Call function arguments))
+          (asks (own_part inside)) ∷ l)) (sym (append-nil (preorder (d + 1) inside)));
       came = h.came ∙ ap (λ l. asked ++ l) (sym (append-nil (asks inside)));
       charged = sym (append-nil mine);
       part = tt;
@@ -142,36 +179,43 @@ ran_call d site function arguments inside out out1 out2 out' asked asked' mine t
     }
 
 -- Composing the forest inside a call failed.
-pub ran_call_stop : {U V : Type 0} (d site function : ℕ) (arguments : List Value) (inside : GroupForest) (out out1 out2 out' : List Listed) (asked asked' mine theirs none : List ℕ) (x : ScratchStop) (result : Result U ScratchStop) →
-    out1 ≡ out ++ flat_group d site 0 (flat_kind (trail.Call function arguments)) [] ∷ [] → ComposesForest (d + 1) inside out1 out2 asked asked' none theirs {U = V} (Err x) → result ≡ Err x →
+pub ran_call_stop : {U V : Type 0} (d site function : ℕ) (arguments : List Value) (inside : GroupForest)
+    (out out1 out2 out' : List Listed) (asked asked' mine theirs none : List ℕ) (x : ScratchStop)
+    (result : Result U ScratchStop) →
+    out1 ≡ out ++ flat_group d site 0 (flat_kind (trail.Call function arguments)) [] ∷ []
+    → ComposesForest (d + 1) inside out1 out2 asked asked' none theirs {U = V} (Err x) → result ≡ Err x →
     ComposesForest d (Group site 0 (trail.Call function arguments) inside End) out out' asked asked' mine mine result
 ran_call_stop d site function arguments inside out out1 out2 out' asked asked' mine theirs none x (Ok u) e h is = cc
-ran_call_stop d site function arguments inside out out1 out2 out' asked asked' mine theirs none x (Err z) e h is = record {
-  made = tt;
-  came = tt;
-  charged = tt;
-  part = rw (append-nil (asks inside)) h.part;
-  many = λ y.
-      let y0 : z ≡ x = cc in
-      let y1 : z ≡ TooManyGroups = cc in
-      let big = h.many (ap (λ (w : ScratchStop). Err w) (sym y0 ∙ y1)) in
-      omega (
-        arith,
-        big,
-        ap length e,
-        length-append out1 (preorder (d + 1) inside),
-        length-append out (flat_group d site 0 (flat_kind (trail.Call function arguments)) [] ∷ []),
-        length-append out (preorder d (Group site 0 (trail.Call function arguments) inside End)),
-        length-append (preorder (d + 1) inside) (preorder d End),
-      );
-}
+ran_call_stop d site function arguments inside out out1 out2 out' asked asked' mine theirs none x (Err z) e h is =
+    record {
+      made = tt;
+      came = tt;
+      charged = tt;
+      part = rw (append-nil (asks inside)) h.part;
+      many = λ y.
+          let y0 : z ≡ x = cc in
+          let y1 : z ≡ TooManyGroups = cc in
+          let big = h.many (ap (λ (w : ScratchStop). Err w) (sym y0 ∙ y1)) in
+          omega (
+            arith,
+            big,
+            ap length e,
+            length-append out1 (preorder (d + 1) inside),
+            length-append out (flat_group d site 0 (flat_kind (trail.Call function arguments)) [] ∷ []),
+            length-append out (preorder d (Group site 0 (trail.Call function arguments) inside End)),
+            length-append (preorder (d + 1) inside) (preorder d End),
+          );
+    }
 
 -- A cell, which is empty, and then the forest after it.
-pub ran_cell : {U : Type 0} (d site : ℕ) (what : GroupKind) (rest : GroupForest) (out out1 out' : List Listed) (asked asked' mine mine' : List ℕ) (result : Result U ScratchStop) →
+pub ran_cell : {U : Type 0} (d site : ℕ) (what : GroupKind) (rest : GroupForest) (out out1 out' : List Listed)
+    (asked asked' mine mine' : List ℕ) (result : Result U ScratchStop) →
     flat_reads what End ≡ [] → inside_own what End ≡ End → out1 ≡ out ++ flat_group d site 0 (flat_kind what) [] ∷ [] →
-    ComposesForest d rest out1 out' asked asked' mine mine' result → ComposesForest d (Group site 0 what End rest) out out' asked asked' mine mine' result
+    ComposesForest d rest out1 out' asked asked' mine mine' result
+    → ComposesForest d (Group site 0 what End rest) out out' asked asked' mine mine' result
 ran_cell d site what rest out out1 out' asked asked' mine mine' (Ok u) none same e h = record {
-  made = h.made ∙ ap (λ l. l ++ preorder d rest) e ∙ append_assoc out (flat_group d site 0 (flat_kind what) [] ∷ []) (preorder d rest)
+  made = h.made ∙ ap (λ l. l ++ preorder d rest) e
+      ∙ append_assoc out (flat_group d site 0 (flat_kind what) [] ∷ []) (preorder d rest)
       ∙ ap (λ r. out ++ flat_group d site 0 (flat_kind what) r ∷ preorder d rest) (sym none);
   came = h.came;
   charged = h.charged ∙ ap (λ t. mine ++ (asks t ++ asks (own_part rest))) (sym same);
@@ -195,28 +239,42 @@ ran_cell d site what rest out out1 out' asked asked' mine mine' (Err x) none sam
 
 -- One of two forests.
 
-pub ran_first : {U : Type 0} (d : ℕ) (b : Bool) (s t : GroupForest) (out out' : List Listed) (asked asked' mine mine' : List ℕ) (result : Result U ScratchStop) → b ≡ true →
-    ComposesForest d s out out' asked asked' mine mine' result → ComposesForest d (if b then s else t) out out' asked asked' mine mine' result
+pub ran_first : {U : Type 0} (d : ℕ) (b : Bool) (s t : GroupForest) (out out' : List Listed)
+    (asked asked' mine mine' : List ℕ) (result : Result U ScratchStop) → b ≡ true →
+    ComposesForest d s out out' asked asked' mine mine' result
+    → ComposesForest d (if b then s else t) out out' asked asked' mine mine' result
 ran_first d true s t out out' asked asked' mine mine' result e h = h
 ran_first d false s t out out' asked asked' mine mine' result e h = cc
 
-pub ran_second : {U : Type 0} (d : ℕ) (b : Bool) (s t : GroupForest) (out out' : List Listed) (asked asked' mine mine' : List ℕ) (result : Result U ScratchStop) → b ≡ false →
-    ComposesForest d t out out' asked asked' mine mine' result → ComposesForest d (if b then s else t) out out' asked asked' mine mine' result
+pub ran_second : {U : Type 0} (d : ℕ) (b : Bool) (s t : GroupForest) (out out' : List Listed)
+    (asked asked' mine mine' : List ℕ) (result : Result U ScratchStop) → b ≡ false →
+    ComposesForest d t out out' asked asked' mine mine' result
+    → ComposesForest d (if b then s else t) out out' asked asked' mine mine' result
 ran_second d true s t out out' asked asked' mine mine' result e h = cc
 ran_second d false s t out out' asked asked' mine mine' result e h = h
 
 -- Forests in sequence.
 
-pub going_more : {U : Type 0} (d : ℕ) (rest s more t : GroupForest) (out0 out1 out2 : List Listed) (asked0 asked1 asked2 mine0 mine1 mine2 : List ℕ) (u : U) → rest ≡ joined_forest s more →
-    LoopProgress d rest t out0 out1 asked0 asked1 mine0 mine1 → ComposesForest d s out1 out2 asked1 asked2 mine1 mine2 {U = U} (Ok u) → LoopProgress d more t out0 out2 asked0 asked2 mine0 mine2
+pub going_more : {U : Type 0} (d : ℕ) (rest s more t : GroupForest) (out0 out1 out2 : List Listed)
+    (asked0 asked1 asked2 mine0 mine1 mine2 : List ℕ) (u : U) → rest ≡ joined_forest s more →
+    LoopProgress d rest t out0 out1 asked0 asked1 mine0 mine1
+    → ComposesForest d s out1 out2 asked1 asked2 mine1 mine2 {U = U} (Ok u)
+    → LoopProgress d more t out0 out2 asked0 asked2 mine0 mine2
 going_more d rest s more t out0 out1 out2 asked0 asked1 asked2 mine0 mine1 mine2 u e g h = record {
-  made = ap (λ l. l ++ preorder d more) h.made ∙ append_assoc out1 (preorder d s) (preorder d more) ∙ ap (λ l. out1 ++ l) (sym (preorder-joined_forest d s more)) ∙ ap (λ r. out1 ++ preorder d r) (sym e) ∙ g.made;
-  came = ap (λ l. l ++ asks more) h.came ∙ append_assoc asked1 (asks s) (asks more) ∙ ap (λ l. asked1 ++ l) (sym (asks-joined_forest s more)) ∙ ap (λ r. asked1 ++ asks r) (sym e) ∙ g.came;
-  charged = ap (λ l. l ++ asks (own_part more)) h.charged ∙ append_assoc mine1 (asks (own_part s)) (asks (own_part more)) ∙ ap (λ l. mine1 ++ l) (sym (own-joined_forest s more)) ∙ ap (λ r. mine1 ++ asks (own_part r)) (sym e) ∙ g.charged;
+  made = ap (λ l. l ++ preorder d more) h.made ∙ append_assoc out1 (preorder d s) (preorder d more)
+      ∙ ap (λ l. out1 ++ l) (sym (preorder-joined_forest d s more)) ∙ ap (λ r. out1 ++ preorder d r) (sym e) ∙ g.made;
+  came = ap (λ l. l ++ asks more) h.came ∙ append_assoc asked1 (asks s) (asks more)
+      ∙ ap (λ l. asked1 ++ l) (sym (asks-joined_forest s more)) ∙ ap (λ r. asked1 ++ asks r) (sym e) ∙ g.came;
+  charged = ap (λ l. l ++ asks (own_part more)) h.charged
+      ∙ append_assoc mine1 (asks (own_part s)) (asks (own_part more))
+      ∙ ap (λ l. mine1 ++ l) (sym (own-joined_forest s more)) ∙ ap (λ r. mine1 ++ asks (own_part r)) (sym e)
+      ∙ g.charged;
 }
 
-pub going_done : (d : ℕ) (rest t : GroupForest) (out0 out1 : List Listed) (asked0 asked1 mine0 mine1 : List ℕ) → rest ≡ End →
-    LoopProgress d rest t out0 out1 asked0 asked1 mine0 mine1 → ComposesForest d t out0 out1 asked0 asked1 mine0 mine1 {U = Unit {0}} (Ok tt)
+pub going_done : (d : ℕ) (rest t : GroupForest) (out0 out1 : List Listed) (asked0 asked1 mine0 mine1 : List ℕ)
+    → rest ≡ End →
+    LoopProgress d rest t out0 out1 asked0 asked1 mine0 mine1
+    → ComposesForest d t out0 out1 asked0 asked1 mine0 mine1 {U = Unit {0}} (Ok tt)
 going_done d rest t out0 out1 asked0 asked1 mine0 mine1 e g = record {
   made = sym (append-nil out1) ∙ ap (λ r. out1 ++ preorder d r) (sym e) ∙ g.made;
   came = sym (append-nil asked1) ∙ ap (λ r. asked1 ++ asks r) (sym e) ∙ g.came;
@@ -225,36 +283,56 @@ going_done d rest t out0 out1 asked0 asked1 mine0 mine1 e g = record {
   many = λ y. cc;
 }
 
-pub going_stop : {U V : Type 0} (d : ℕ) (rest s more t : GroupForest) (out0 out1 out2 : List Listed) (asked0 asked1 asked2 mine0 mine1 mine2 : List ℕ) (x : ScratchStop) (result : Result U ScratchStop) → rest ≡ joined_forest s more →
-    LoopProgress d rest t out0 out1 asked0 asked1 mine0 mine1 → ComposesForest d s out1 out2 asked1 asked2 mine1 mine2 {U = V} (Err x) → result ≡ Err x → ComposesForest d t out0 out2 asked0 asked2 mine0 mine2 result
+pub going_stop : {U V : Type 0} (d : ℕ) (rest s more t : GroupForest) (out0 out1 out2 : List Listed)
+    (asked0 asked1 asked2 mine0 mine1 mine2 : List ℕ) (x : ScratchStop) (result : Result U ScratchStop)
+    → rest ≡ joined_forest s more →
+    LoopProgress d rest t out0 out1 asked0 asked1 mine0 mine1
+    → ComposesForest d s out1 out2 asked1 asked2 mine1 mine2 {U = V} (Err x) → result ≡ Err x
+    → ComposesForest d t out0 out2 asked0 asked2 mine0 mine2 result
 going_stop d rest s more t out0 out1 out2 asked0 asked1 asked2 mine0 mine1 mine2 x (Ok u) e g h is = cc
 going_stop d rest s more t out0 out1 out2 asked0 asked1 asked2 mine0 mine1 mine2 x (Err z) e g h is = record {
   made = tt;
   came = tt;
   charged = tt;
-  part = grew_left asked0 asked1 asked2 _ _ (ap (λ l. asked1 ++ l) (sym (asks-joined_forest s more)) ∙ ap (λ r. asked1 ++ asks r) (sym e) ∙ g.came) (grew_front asked1 asked2 (asks s) (asks more) h.part);
+  part = grew_left asked0 asked1 asked2 _ _
+      (ap (λ l. asked1 ++ l) (sym (asks-joined_forest s more)) ∙ ap (λ r. asked1 ++ asks r) (sym e) ∙ g.came)
+      (grew_front asked1 asked2 (asks s) (asks more) h.part);
   many = λ y.
       let y0 : z ≡ x = cc in
       let y1 : z ≡ TooManyGroups = cc in
       let big = h.many (ap (λ (w : ScratchStop). Err w) (sym y0 ∙ y1)) in
       let split = ap (λ r. length (preorder d r)) e ∙ ap length (preorder-joined_forest d s more) in
-      omega (arith, big, split, ap length g.made, length-append out1 (preorder d s), length-append out1 (preorder d rest), length-append out0 (preorder d t), length-append (preorder d s) (preorder d more));
+      omega (
+        arith,
+        big,
+        split,
+        ap length g.made,
+        length-append out1 (preorder d s),
+        length-append out1 (preorder d rest),
+        length-append out0 (preorder d t),
+        length-append (preorder d s) (preorder d more),
+      );
 }
 
 -- The turns from index i on are the one at i and the later ones.
-pub turns_at : (go : ℤ → GroupForest) (is : List ℤ) (i : ℕ) → i < length is → turns go (drop i is) ≡ joined_forest (go (get_or is i (pos 0))) (turns go (drop (i + 1) is))
+pub turns_at : (go : ℤ → GroupForest) (is : List ℤ) (i : ℕ) → i < length is
+    → turns go (drop i is) ≡ joined_forest (go (get_or is i (pos 0))) (turns go (drop (i + 1) is))
 unfolding turns
-turns_at go is i below = ap (λ (l : List ℤ). turns go l) (drop-cons is i (pos 0) below) ∙ ap (λ (n : ℕ). joined_forest (go (get_or is i (pos 0))) (turns go (drop n is))) (let e : suc i ≡ i + 1 = omega arith in e)
+turns_at go is i below = ap (λ (l : List ℤ). turns go l) (drop-cons is i (pos 0) below)
+    ∙ ap (λ (n : ℕ). joined_forest (go (get_or is i (pos 0))) (turns go (drop n is)))
+    (let e : suc i ≡ i + 1 = omega arith in e)
 
 pub turns_end : (go : ℤ → GroupForest) (is : List ℤ) (i : ℕ) → length is ≤ i → turns go (drop i is) ≡ End
 unfolding turns
 turns_end go is i past = ap (λ (l : List ℤ). turns go l) (drop_all i is past)
 
 -- A list with a group appended, after rewriting the group and the list before.
-pub added_to : {X : Type 0} {later before known : List X} {x y : X} → later ≡ before ++ x ∷ [] → x ≡ y → before ≡ known → later ≡ known ++ y ∷ []
+pub added_to : {X : Type 0} {later before known : List X} {x y : X} → later ≡ before ++ x ∷ [] → x ≡ y → before ≡ known
+    → later ≡ known ++ y ∷ []
 added_to is same start = rw (is, same, start) refl
 
 -- The list of groups does not shrink if a group and then more groups are appended.
-pub longer_added : {U : Type 0} (before mid later : List Listed) (x : Listed) (result : Result U ScratchStop) → mid ≡ before ++ x ∷ [] → OnOk result (length mid ≤ length later) → OnOk result (length before ≤ length later)
+pub longer_added : {U : Type 0} (before mid later : List Listed) (x : Listed) (result : Result U ScratchStop)
+    → mid ≡ before ++ x ∷ [] → OnOk result (length mid ≤ length later) → OnOk result (length before ≤ length later)
 longer_added before mid later x (Ok u) e h = omega (arith, ap length e, length-append before (x ∷ []), h)
 longer_added before mid later x (Err y) e h = tt

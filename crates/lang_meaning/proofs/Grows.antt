@@ -7,12 +7,17 @@ pub grew_none : (old all : List ℕ) → Grew old old all
 grew_none old all = record { rest = all; is = refl }
 
 -- By a list, and then by a part of another.
-pub grew_behind : (old mid new front back : List ℕ) → mid ≡ old ++ front → Grew mid new back → Grew old new (front ++ back)
-grew_behind old mid new front back e g = record { rest = g.rest; is = g.is ∙ ap (λ l. l ++ back) e ∙ append_assoc old front back }
+pub grew_behind : (old mid new front back : List ℕ) → mid ≡ old ++ front → Grew mid new back
+    → Grew old new (front ++ back)
+grew_behind old mid new front back e g =
+    record { rest = g.rest; is = g.is ∙ ap (λ l. l ++ back) e ∙ append_assoc old front back }
 
 -- By a part of the first of two lists.
 pub grew_front : (old new front back : List ℕ) → Grew old new front → Grew old new (front ++ back)
-grew_front old new front back g = record { rest = g.rest ++ back; is = sym (append_assoc new g.rest back) ∙ ap (λ l. l ++ back) g.is ∙ append_assoc old front back }
+grew_front old new front back g = record {
+  rest = g.rest ++ back;
+  is = sym (append_assoc new g.rest back) ∙ ap (λ l. l ++ back) g.is ∙ append_assoc old front back;
+}
 
 -- By a part of the remaining list, where the list was all that came and the remaining list.
 pub grew_left : (old mid new left all : List ℕ) → mid ++ left ≡ old ++ all → Grew mid new left → Grew old new all

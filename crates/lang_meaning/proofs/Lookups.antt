@@ -8,12 +8,14 @@ use Rattle.compose_model.specs.Composing.{bind}
 use Rattle.lang_ast.specs.declared.syntax.Parameter.{Parameter}
 use Rattle.lang_ast.specs.declared.binding.Binding.{Binding}
 
-last_of : (v : Value) (env : Bindings) (b : Binding) (name : List ℕ) → lookup_or v (env ++ b ∷ []) name ≡ (if bytes_eq b.name name then b.value else lookup_or v env name)
+last_of : (v : Value) (env : Bindings) (b : Binding) (name : List ℕ)
+    → lookup_or v (env ++ b ∷ []) name ≡ (if bytes_eq b.name name then b.value else lookup_or v env name)
 last_of v [] b name = refl
 last_of v (a ∷ env) b name = last_of (if bytes_eq a.name name then a.value else v) env b name
 
 -- The last binding decides if it has the name.
-pub lookup_last : (env before : Bindings) (b : Binding) (name : List ℕ) → env ≡ before ++ b ∷ [] → lookup env name ≡ (if bytes_eq b.name name then b.value else lookup before name)
+pub lookup_last : (env before : Bindings) (b : Binding) (name : List ℕ) → env ≡ before ++ b ∷ []
+    → lookup env name ≡ (if bytes_eq b.name name then b.value else lookup before name)
 lookup_last env before b name is = ap (λ e. lookup e name) is ∙ last_of no_value before b name
 
 -- Without arguments no parameter is bound.

@@ -26,28 +26,38 @@ use Rattle.lang_meaning.proofs.Grows.{grew_front, grew_behind, grew_left, grew_a
 
 -- One operand.
 
-pub nth_found : (m : Map) (es : List Expression) (n : ℕ) (e : Expression) (env : Bindings) → n < length es → e ≡ get_or es n e → eval_nth m (exprs_view es) n env ≡ eval m (expr_view e) env
+pub nth_found : (m : Map) (es : List Expression) (n : ℕ) (e : Expression) (env : Bindings) → n < length es
+    → e ≡ get_or es n e → eval_nth m (exprs_view es) n env ≡ eval m (expr_view e) env
 nth_found m [] n e env below is = absurd (omega arith)
 nth_found m (x ∷ es) zero e env below is = ap (λ (y : Expression). eval m (expr_view y) env) (sym is)
 nth_found m (x ∷ es) (suc n) e env below is = nth_found m es n e env (omega arith) is
 
-pub nth_none : (m : Map) (es : List Expression) (n : ℕ) (env : Bindings) → length es ≤ n → eval_nth m (exprs_view es) n env ≡ pure_reading no_value
+pub nth_none : (m : Map) (es : List Expression) (n : ℕ) (env : Bindings) → length es ≤ n
+    → eval_nth m (exprs_view es) n env ≡ pure_reading no_value
 nth_none m [] n env past = refl
 nth_none m (x ∷ es) zero env past = absurd (omega arith)
 nth_none m (x ∷ es) (suc n) env past = nth_none m es n env (omega arith)
 
 -- The reads of a pick: those of its condition and those of the operand that it takes.
 
-pub pick_reads : (m : Map) (e : Expression) (at : ℕ) (op : Operator) (operands : Vec Expression Global) (slice : List Expression) (env : Bindings) (n : ℕ) (c : Value) (old mid new : List ℕ) → e ≡ ApplyOf at op operands → slice ≡ operands.items → is_pick op ≡ true →
-    mid ≡ old ++ (eval_nth m (exprs_view slice) 0 env).reads → c ≡ (eval_nth m (exprs_view slice) 0 env).value → n ≡ operand_taken c → new ≡ mid ++ (eval_nth m (exprs_view slice) n env).reads → new ≡ old ++ (eval m (expr_view e) env).reads
+pub pick_reads : (m : Map) (e : Expression) (at : ℕ) (op : Operator) (operands : Vec Expression Global)
+    (slice : List Expression) (env : Bindings) (n : ℕ) (c : Value) (old mid new : List ℕ) → e ≡ ApplyOf at op operands
+    → slice ≡ operands.items → is_pick op ≡ true →
+    mid ≡ old ++ (eval_nth m (exprs_view slice) 0 env).reads → c ≡ (eval_nth m (exprs_view slice) 0 env).value
+    → n ≡ operand_taken c → new ≡ mid ++ (eval_nth m (exprs_view slice) n env).reads
+    → new ≡ old ++ (eval m (expr_view e) env).reads
 pick_reads m e at op operands slice env n c old mid new is items pick first value choice second =
     let es = exprs_view operands.items in
     let whole : (eval m (expr_view e) env).reads ≡ (eval_nth m es 0 env).reads ++ (eval_nth m es (operand_taken (eval_nth m es 0 env).value) env).reads =
-    ap (λ (x : Expression). (eval m (expr_view x) env).reads) is ∙ ap (λ (x : Expr). (eval m x env).reads) (view-Apply at op operands) ∙ rw pick refl in
+    ap (λ (x : Expression). (eval m (expr_view x) env).reads) is
+    ∙ ap (λ (x : Expr). (eval m x env).reads) (view-Apply at op operands) ∙ rw pick refl in
     let which : (eval_nth m es n env).reads ≡ (eval_nth m es (operand_taken (eval_nth m es 0 env).value) env).reads =
-    ap (λ (k : ℕ). (eval_nth m es k env).reads) (choice ∙ ap operand_taken value ∙ ap (λ (l : List Expression). operand_taken (eval_nth m (exprs_view l) 0 env).value) items) in
+    ap (λ (k : ℕ). (eval_nth m es k env).reads)
+    (choice ∙ ap operand_taken value
+    ∙ ap (λ (l : List Expression). operand_taken (eval_nth m (exprs_view l) 0 env).value) items) in
     second ∙ ap (λ l. l ++ (eval_nth m (exprs_view slice) n env).reads) first ∙ append_assoc old _ _
-    ∙ ap (λ (l : List Expression). old ++ ((eval_nth m (exprs_view l) 0 env).reads ++ (eval_nth m (exprs_view l) n env).reads)) items
+    ∙ ap (λ (l : List Expression). old
+    ++ ((eval_nth m (exprs_view l) 0 env).reads ++ (eval_nth m (exprs_view l) n env).reads)) items
     ∙ ap (λ l. old ++ ((eval_nth m es 0 env).reads ++ l)) which ∙ ap (λ l. old ++ l) (sym whole)
 
 -- A part of the reads.
@@ -55,19 +65,28 @@ pick_reads m e at op operands slice env n c old mid new is items pick first valu
 pub grew_done : (old mid front back : List ℕ) → mid ≡ old ++ front → Grew old mid (front ++ back)
 grew_done old mid front back e = record { rest = back; is = ap (λ l. l ++ back) e ∙ append_assoc old front back }
 
-pub all_part : (m : Map) (es : List Expression) (i : ℕ) (e : Expression) (env : Bindings) (old mid new : List ℕ) → i < length es → e ≡ get_or es i e →
-    mid ++ (eval_all m (exprs_view (drop i es)) env).reads ≡ old ++ (eval_all m (exprs_view es) env).reads → Grew mid new (eval m (expr_view e) env).reads → Grew old new (eval_all m (exprs_view es) env).reads
+pub all_part : (m : Map) (es : List Expression) (i : ℕ) (e : Expression) (env : Bindings) (old mid new : List ℕ)
+    → i < length es → e ≡ get_or es i e →
+    mid ++ (eval_all m (exprs_view (drop i es)) env).reads ≡ old ++ (eval_all m (exprs_view es) env).reads
+    → Grew mid new (eval m (expr_view e) env).reads → Grew old new (eval_all m (exprs_view es) env).reads
 all_part m es i e env old mid new below is so_far part =
     let here = ap (λ (l : List Expression). mid ++ (eval_all m (exprs_view l) env).reads) (drop-cons es i e below)
-    ∙ ap (λ (x : Expression). mid ++ ((eval m (expr_view x) env).reads ++ (eval_all m (exprs_view (drop (suc i) es)) env).reads)) (sym is) in
-    grew_left old mid new _ _ (sym here ∙ so_far) (grew_front mid new (eval m (expr_view e) env).reads (eval_all m (exprs_view (drop (suc i) es)) env).reads part)
+    ∙ ap (λ (x : Expression). mid
+    ++ ((eval m (expr_view x) env).reads ++ (eval_all m (exprs_view (drop (suc i) es)) env).reads)) (sym is) in
+    grew_left old mid new _ _ (sym here ∙ so_far)
+    (grew_front mid new (eval m (expr_view e) env).reads (eval_all m (exprs_view (drop (suc i) es)) env).reads part)
 
-pub named_part : (m : Map) (ns : List Named) (i : ℕ) (n : Named) (env : Bindings) (old mid new : List ℕ) → i < length ns → n ≡ get_or ns i n →
-    mid ++ (eval_named m (nameds_view (drop i ns)) env).reads ≡ old ++ (eval_named m (nameds_view ns) env).reads → Grew mid new (eval m (expr_view n.value) env).reads → Grew old new (eval_named m (nameds_view ns) env).reads
+pub named_part : (m : Map) (ns : List Named) (i : ℕ) (n : Named) (env : Bindings) (old mid new : List ℕ) → i < length ns
+    → n ≡ get_or ns i n →
+    mid ++ (eval_named m (nameds_view (drop i ns)) env).reads ≡ old ++ (eval_named m (nameds_view ns) env).reads
+    → Grew mid new (eval m (expr_view n.value) env).reads → Grew old new (eval_named m (nameds_view ns) env).reads
 named_part m ns i n env old mid new below is so_far part =
     let here = ap (λ (l : List Named). mid ++ (eval_named m (nameds_view l) env).reads) (drop-cons ns i n below)
-    ∙ ap (λ (x : Named). mid ++ ((eval m (expr_view x.value) env).reads ++ (eval_named m (nameds_view (drop (suc i) ns)) env).reads)) (sym is) in
-    grew_left old mid new _ _ (sym here ∙ so_far) (grew_front mid new (eval m (expr_view n.value) env).reads (eval_named m (nameds_view (drop (suc i) ns)) env).reads part)
+    ∙ ap (λ (x : Named). mid ++ ((eval m (expr_view x.value) env).reads
+    ++ (eval_named m (nameds_view (drop (suc i) ns)) env).reads)) (sym is) in
+    grew_left old mid new _ _ (sym here ∙ so_far)
+    (grew_front mid new (eval m (expr_view n.value) env).reads (eval_named m (nameds_view (drop (suc i) ns))
+    env).reads part)
 
 -- The first two values.
 
@@ -80,8 +99,10 @@ filled_whole [] = refl
 filled_whole (v ∷ []) = refl
 filled_whole (v ∷ (w ∷ vs)) = pair_stays (pair v w) 0 vs
 
-pub filled_end : (m : Map) (es : List Expression) (i : ℕ) (env : Bindings) (p : Pair) → length es ≤ i → pair_from p i (eval_all m (exprs_view (drop i es)) env).value ≡ p
-filled_end m es i env p past = ap (λ (l : List Expression). pair_from p i (eval_all m (exprs_view l) env).value) (drop_all i es past)
+pub filled_end : (m : Map) (es : List Expression) (i : ℕ) (env : Bindings) (p : Pair) → length es ≤ i
+    → pair_from p i (eval_all m (exprs_view (drop i es)) env).value ≡ p
+filled_end m es i env p past =
+    ap (λ (l : List Expression). pair_from p i (eval_all m (exprs_view l) env).value) (drop_all i es past)
 
 -- An operator other than `Ints` depends only on the first two values.
 pub apply_two : (o : Operator) (vs : List Value) → is_list o ≡ false → apply o vs ≡ apply o (first vs ∷ second vs ∷ [])
@@ -110,13 +131,16 @@ apply_two operator.At vs h = refl
 room_ends : (n : ℕ) → nat_lt n most_items ≡ false → most_items ≤ n
 room_ends n full = elim (leb_tells most_items n) [ inl p ↦ p.1 | inr p ↦ let room = lt-ltb n most_items p.1 in cc ]
 
-stays : (l zs : List ℤ) → nat_lt (length l) most_items ≡ false → length l ≤ most_items → take most_items (l ++ zs) ≡ take most_items l
+stays : (l zs : List ℤ) → nat_lt (length l) most_items ≡ false → length l ≤ most_items
+    → take most_items (l ++ zs) ≡ take most_items l
 stays l zs full few = take-append-le most_items l zs (room_ends (length l) full)
 
 more_of : (b : Bool) (l : List ℤ) (z : ℤ) (zs : List ℤ) → nat_lt (length l) most_items ≡ b → length l ≤ most_items →
-    ((k : List ℤ) → length k ≤ most_items → list_with_all k zs ≡ take most_items (k ++ zs)) → list_with_all (list_with_item l z) zs ≡ take most_items (l ++ z ∷ zs)
+    ((k : List ℤ) → length k ≤ most_items → list_with_all k zs ≡ take most_items (k ++ zs))
+    → list_with_all (list_with_item l z) zs ≡ take most_items (l ++ z ∷ zs)
 more_of true l z zs room few rest =
-    rw room (rest (l ++ z ∷ []) (let less = ltb-true (length l) most_items room in omega (arith, less, length-append l (z ∷ []))) ∙ ap (λ k. take most_items k) (append_assoc l (z ∷ []) zs))
+    rw room (rest (l ++ z ∷ []) (let less = ltb-true (length l) most_items room in
+    omega (arith, less, length-append l (z ∷ []))) ∙ ap (λ k. take most_items k) (append_assoc l (z ∷ []) zs))
 more_of false l z zs full few rest = rw full (rest l few ∙ stays l zs full few ∙ sym (stays l (z ∷ zs) full few))
 
 gathered_is : (l zs : List ℤ) → length l ≤ most_items → list_with_all l zs ≡ take most_items (l ++ zs)
@@ -126,11 +150,25 @@ gathered_is l (z ∷ zs) few = more_of (nat_lt (length l) most_items) l z zs ref
 pub gathered_whole : (zs : List ℤ) → list_with_all [] zs ≡ take most_items zs
 gathered_whole zs = gathered_is [] zs (omega arith)
 
-pub gathered_end : (m : Map) (es : List Expression) (i : ℕ) (env : Bindings) (l : List ℤ) → length es ≤ i → list_with_all l (map number_of (eval_all m (exprs_view (drop i es)) env).value) ≡ l
-gathered_end m es i env l past = ap (λ (k : List Expression). list_with_all l (map number_of (eval_all m (exprs_view k) env).value)) (drop_all i es past)
+pub gathered_end : (m : Map) (es : List Expression) (i : ℕ) (env : Bindings) (l : List ℤ) → length es ≤ i
+    → list_with_all l (map number_of (eval_all m (exprs_view (drop i es)) env).value) ≡ l
+gathered_end m es i env l past = ap (λ (k : List Expression). list_with_all l
+    (map number_of (eval_all m (exprs_view k) env).value)) (drop_all i es past)
 
 -- Lemmas on one operand of a list.
 pub ruleset one_operand = (nth_found, nth_none, nth_flat, append-nil)
 
 -- Lemmas on the evaluation of an expression.
-pub ruleset evaluation = (view-Literal, view-Variable, view-Get, view-Apply, grew_front, grew_behind, grew_done, grew_all, apply_two, flat_nth, pick_reads)
+pub ruleset evaluation = (
+  view-Literal,
+  view-Variable,
+  view-Get,
+  view-Apply,
+  grew_front,
+  grew_behind,
+  grew_done,
+  grew_all,
+  apply_two,
+  flat_nth,
+  pick_reads,
+)

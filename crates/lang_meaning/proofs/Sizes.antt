@@ -28,15 +28,18 @@ abbrev pub weight : List Function → ℕ
 weight fs = sum_by (λ f. body_size f.body.items + 1) fs
 
 -- A statement is at most as large as its list.
-pub size_at : (body : List Statement) (i : ℕ) (s : Statement) → i < length body → s ≡ get_or body i s → stmt_size (stmt_view s) ≤ body_size body
+pub size_at : (body : List Statement) (i : ℕ) (s : Statement) → i < length body → s ≡ get_or body i s
+    → stmt_size (stmt_view s) ≤ body_size body
 size_at [] i s below is = absurd (omega arith)
 size_at (x ∷ body) zero s below is = let e = ap (λ (y : Statement). stmt_size (stmt_view y)) is in omega (arith, e)
 size_at (x ∷ body) (suc i) s below is = let h = size_at body i s (omega arith) is in omega (arith, h)
 
 -- The functions before a function are smaller than all of them with it.
-pub falls_at : (fs : List Function) (i : ℕ) (f : Function) (slice : List Statement) → i < length fs → f ≡ get_or fs i f → slice ≡ f.body.items →
+pub falls_at : (fs : List Function) (i : ℕ) (f : Function) (slice : List Statement) → i < length fs → f ≡ get_or fs i f
+    → slice ≡ f.body.items →
     8 * weight (take i fs) + 8 * body_size slice + 4 < 8 * weight fs + 2
 falls_at fs i f slice below is items =
     let h = sum_by_more_le (λ (f : Function). body_size f.body.items + 1) fs i f below in
-    let e : body_size slice ≡ body_size (get_or fs i f).body.items = ap body_size items ∙ ap (λ (x : Function). body_size x.body.items) is in
+    let e : body_size slice ≡ body_size (get_or fs i f).body.items = ap body_size items
+    ∙ ap (λ (x : Function). body_size x.body.items) is in
     omega (arith, h, e)

@@ -23,68 +23,129 @@ use Rattle.lang_meaning.proofs.ForestSteps.{how_many-preorder}
 use Rattle.lang_meaning.proofs.Meanings.{meaning_found, meaning_none}
 
 -- The statements from index i on are the one at i and the later ones.
-pub all_at : (m : Map) (fs : List Function) (body : List Statement) (i : ℕ) (s : Statement) (env : Bindings) → i < length body → s ≡ get_or body i s →
-    body_forest m fs (stmts_view (drop i body)) env ≡ joined_forest (statement_forest m fs (stmt_view s) env) (body_forest m fs (stmts_view (drop (i + 1) body)) env)
+pub all_at : (m : Map) (fs : List Function) (body : List Statement) (i : ℕ) (s : Statement) (env : Bindings)
+    → i < length body → s ≡ get_or body i s →
+    body_forest m fs (stmts_view (drop i body)) env
+    ≡ joined_forest (statement_forest m fs (stmt_view s) env)
+    (body_forest m fs (stmts_view (drop (i + 1) body)) env)
 all_at m fs body i s env below is =
     ap (λ (l : List Statement). body_forest m fs (stmts_view l) env) (drop-cons body i s below)
-    ∙ ap (λ (x : Statement). joined_forest (statement_forest m fs (stmt_view x) env) (body_forest m fs (stmts_view (drop (suc i) body)) env)) (sym is)
-    ∙ ap (λ (n : ℕ). joined_forest (statement_forest m fs (stmt_view s) env) (body_forest m fs (stmts_view (drop n body)) env)) (let e : suc i ≡ i + 1 = omega arith in e)
+    ∙ ap (λ (x : Statement). joined_forest (statement_forest m fs (stmt_view x) env)
+    (body_forest m fs (stmts_view (drop (suc i) body)) env)) (sym is)
+    ∙ ap (λ (n : ℕ). joined_forest (statement_forest m fs (stmt_view s) env)
+    (body_forest m fs (stmts_view (drop n body)) env)) (let e : suc i ≡ i + 1 = omega arith in e)
 
-pub all_end : (m : Map) (fs : List Function) (body : List Statement) (i : ℕ) (env : Bindings) → length body ≤ i → body_forest m fs (stmts_view (drop i body)) env ≡ End
+pub all_end : (m : Map) (fs : List Function) (body : List Statement) (i : ℕ) (env : Bindings) → length body ≤ i
+    → body_forest m fs (stmts_view (drop i body)) env ≡ End
 all_end m fs body i env past = ap (λ (l : List Statement). body_forest m fs (stmts_view l) env) (drop_all i body past)
 
-pub node_ran : {U : Type 0} (m : Map) (fs : List Function) (s : Statement) (env : Bindings) (at site : ℕ) (kind : Ident) (attributes : Vec Named Global) (body : Vec Statement Global) (names : List Named) (slice : List Statement)
-    (d : ℕ) (out out' : List Listed) (asked asked' mine mine' : List ℕ) (result : Result U ScratchStop) → s ≡ NodeOf at site kind attributes body → names ≡ attributes.items → slice ≡ body.items →
-    ComposesForest d (statement_forest m fs (Node 0 site kind (nameds_view names) (stmts_view slice)) env) out out' asked asked' mine mine' result → ComposesForest d (statement_forest m fs (stmt_view s) env) out out' asked asked' mine mine' result
+pub node_ran : {U : Type 0} (m : Map) (fs : List Function) (s : Statement) (env : Bindings) (at site : ℕ) (kind : Ident)
+    (attributes : Vec Named Global) (body : Vec Statement Global) (names : List Named) (slice : List Statement)
+    (d : ℕ) (out out' : List Listed) (asked asked' mine mine' : List ℕ) (result : Result U ScratchStop)
+    → s ≡ NodeOf at site kind attributes body → names ≡ attributes.items → slice ≡ body.items →
+    ComposesForest d (statement_forest m fs (Node 0 site kind (nameds_view names) (stmts_view slice)) env) out out'
+    asked asked' mine mine' result
+    → ComposesForest d (statement_forest m fs (stmt_view s) env) out out' asked asked' mine mine' result
 node_ran m fs s env at site kind attributes body names slice d out out' asked asked' mine mine' result is e1 e2 h =
-    subst (λ (t : GroupForest). ComposesForest d t out out' asked asked' mine mine' result) (sym (ap (λ (x : Statement). statement_forest m fs (stmt_view x) env) is ∙ ap (λ (t : Stmt). statement_forest m fs t env) (view-Node at site kind attributes body)
-    ∙ ap (λ (l : List Named). statement_forest m fs (Node 0 site kind (nameds_view l) (stmts_view body.items)) env) (sym e1) ∙ ap (λ (l : List Statement). statement_forest m fs (Node 0 site kind (nameds_view names) (stmts_view l)) env) (sym e2))) h
+    subst (λ (t : GroupForest). ComposesForest d t out out' asked asked' mine mine' result)
+    (sym (ap (λ (x : Statement). statement_forest m fs (stmt_view x) env) is
+    ∙ ap (λ (t : Stmt). statement_forest m fs t env) (view-Node at site kind attributes body)
+    ∙ ap (λ (l : List Named). statement_forest m fs (Node 0 site kind (nameds_view l) (stmts_view body.items)) env)
+    (sym e1) ∙ ap (λ (l : List Statement). statement_forest m fs
+    (Node 0 site kind (nameds_view names) (stmts_view l)) env) (sym e2))) h
 
-pub call_ran : {U : Type 0} (m : Map) (fs : List Function) (s : Statement) (env : Bindings) (at site : ℕ) (name : Ident) (function : ℕ) (arguments : Vec Expression Global) (slice : List Expression)
-    (d : ℕ) (out out' : List Listed) (asked asked' mine mine' : List ℕ) (result : Result U ScratchStop) → s ≡ CallOf at site name function arguments → slice ≡ arguments.items →
-    ComposesForest d (forest_after (eval_all m (exprs_view slice) env) (λ vs. call_forest m fs site function vs)) out out' asked asked' mine mine' result → ComposesForest d (statement_forest m fs (stmt_view s) env) out out' asked asked' mine mine' result
+pub call_ran : {U : Type 0} (m : Map) (fs : List Function) (s : Statement) (env : Bindings) (at site : ℕ) (name : Ident)
+    (function : ℕ) (arguments : Vec Expression Global) (slice : List Expression)
+    (d : ℕ) (out out' : List Listed) (asked asked' mine mine' : List ℕ) (result : Result U ScratchStop)
+    → s ≡ CallOf at site name function arguments → slice ≡ arguments.items →
+    ComposesForest d (forest_after (eval_all m (exprs_view slice) env) (λ vs. call_forest m fs site function vs)) out
+    out' asked asked' mine mine' result
+    → ComposesForest d (statement_forest m fs (stmt_view s) env) out out' asked asked' mine mine' result
 call_ran m fs s env at site name function arguments slice d out out' asked asked' mine mine' result is e1 h =
-    subst (λ (t : GroupForest). ComposesForest d t out out' asked asked' mine mine' result) (sym (ap (λ (x : Statement). statement_forest m fs (stmt_view x) env) is ∙ ap (λ (t : Stmt). statement_forest m fs t env) (view-Call at site name function arguments)
-    ∙ ap (λ (l : List Expression). forest_after (eval_all m (exprs_view l) env) (λ vs. call_forest m fs site function vs)) (sym e1))) h
+    subst (λ (t : GroupForest). ComposesForest d t out out' asked asked' mine mine' result)
+    (sym (ap (λ (x : Statement). statement_forest m fs (stmt_view x) env) is
+    ∙ ap (λ (t : Stmt). statement_forest m fs t env) (view-Call at site name function arguments)
+    ∙ ap (λ (l : List Expression). forest_after (eval_all m (exprs_view l) env)
+    (λ vs. call_forest m fs site function vs)) (sym e1))) h
 
-pub key_ran : {U : Type 0} (m : Map) (fs : List Function) (s : Statement) (env : Bindings) (at site : ℕ) (key : Expression) (body : Vec Statement Global) (slice : List Statement)
-    (d : ℕ) (out out' : List Listed) (asked asked' mine mine' : List ℕ) (result : Result U ScratchStop) → s ≡ KeyOf at site key body → slice ≡ body.items →
-    ComposesForest d (statement_forest m fs (Key 0 site (expr_view key) (stmts_view slice)) env) out out' asked asked' mine mine' result → ComposesForest d (statement_forest m fs (stmt_view s) env) out out' asked asked' mine mine' result
+pub key_ran : {U : Type 0} (m : Map) (fs : List Function) (s : Statement) (env : Bindings) (at site : ℕ)
+    (key : Expression) (body : Vec Statement Global) (slice : List Statement)
+    (d : ℕ) (out out' : List Listed) (asked asked' mine mine' : List ℕ) (result : Result U ScratchStop)
+    → s ≡ KeyOf at site key body → slice ≡ body.items →
+    ComposesForest d (statement_forest m fs (Key 0 site (expr_view key) (stmts_view slice)) env) out out' asked asked'
+    mine mine' result → ComposesForest d (statement_forest m fs (stmt_view s) env) out out' asked asked' mine mine'
+    result
 key_ran m fs s env at site key body slice d out out' asked asked' mine mine' result is e1 h =
-    subst (λ (t : GroupForest). ComposesForest d t out out' asked asked' mine mine' result) (sym (ap (λ (x : Statement). statement_forest m fs (stmt_view x) env) is ∙ ap (λ (t : Stmt). statement_forest m fs t env) (view-Key at site key body)
+    subst (λ (t : GroupForest). ComposesForest d t out out' asked asked' mine mine' result)
+    (sym (ap (λ (x : Statement). statement_forest m fs (stmt_view x) env) is
+    ∙ ap (λ (t : Stmt). statement_forest m fs t env) (view-Key at site key body)
     ∙ ap (λ (l : List Statement). statement_forest m fs (Key 0 site (expr_view key) (stmts_view l)) env) (sym e1))) h
 
-pub choice_ran : {U : Type 0} (m : Map) (fs : List Function) (s : Statement) (env : Bindings) (at site : ℕ) (condition : Expression) (one two : Vec Statement Global) (front back : List Statement)
-    (d : ℕ) (out out' : List Listed) (asked asked' mine mine' : List ℕ) (result : Result U ScratchStop) → s ≡ IfOf at site condition one two → front ≡ one.items → back ≡ two.items →
-    ComposesForest d (statement_forest m fs (If 0 0 (expr_view condition) (stmts_view front) (stmts_view back)) env) out out' asked asked' mine mine' result → ComposesForest d (statement_forest m fs (stmt_view s) env) out out' asked asked' mine mine' result
+pub choice_ran : {U : Type 0} (m : Map) (fs : List Function) (s : Statement) (env : Bindings) (at site : ℕ)
+    (condition : Expression) (one two : Vec Statement Global) (front back : List Statement)
+    (d : ℕ) (out out' : List Listed) (asked asked' mine mine' : List ℕ) (result : Result U ScratchStop)
+    → s ≡ IfOf at site condition one two → front ≡ one.items → back ≡ two.items →
+    ComposesForest d (statement_forest m fs (If 0 0 (expr_view condition) (stmts_view front) (stmts_view back)) env) out
+    out' asked asked' mine mine' result
+    → ComposesForest d (statement_forest m fs (stmt_view s) env) out out' asked asked' mine mine' result
 choice_ran m fs s env at site condition one two front back d out out' asked asked' mine mine' result is e1 e2 h =
-    subst (λ (t : GroupForest). ComposesForest d t out out' asked asked' mine mine' result) (sym (ap (λ (x : Statement). statement_forest m fs (stmt_view x) env) is ∙ ap (λ (t : Stmt). statement_forest m fs t env) (view-If at site condition one two)
-    ∙ ap (λ (l : List Statement). statement_forest m fs (If 0 0 (expr_view condition) (stmts_view l) (stmts_view two.items)) env) (sym e1) ∙ ap (λ (l : List Statement). statement_forest m fs (If 0 0 (expr_view condition) (stmts_view front) (stmts_view l)) env) (sym e2))) h
+    subst (λ (t : GroupForest). ComposesForest d t out out' asked asked' mine mine' result)
+    (sym (ap (λ (x : Statement). statement_forest m fs (stmt_view x) env) is
+    ∙ ap (λ (t : Stmt). statement_forest m fs t env) (view-If at site condition one two)
+    ∙ ap (λ (l : List Statement). statement_forest m fs
+    (If 0 0 (expr_view condition) (stmts_view l) (stmts_view two.items)) env) (sym e1)
+    ∙ ap (λ (l : List Statement). statement_forest m fs
+    (If 0 0 (expr_view condition) (stmts_view front) (stmts_view l)) env) (sym e2))) h
 
-pub loop_ran : {U : Type 0} (m : Map) (fs : List Function) (s : Statement) (env : Bindings) (at site : ℕ) (name : Ident) (list : Expression) (body : Vec Statement Global) (slice : List Statement)
-    (d : ℕ) (out out' : List Listed) (asked asked' mine mine' : List ℕ) (result : Result U ScratchStop) → s ≡ ForOf at site name list body → slice ≡ body.items →
-    ComposesForest d (statement_forest m fs (For 0 0 name (expr_view list) (stmts_view slice)) env) out out' asked asked' mine mine' result → ComposesForest d (statement_forest m fs (stmt_view s) env) out out' asked asked' mine mine' result
+pub loop_ran : {U : Type 0} (m : Map) (fs : List Function) (s : Statement) (env : Bindings) (at site : ℕ) (name : Ident)
+    (list : Expression) (body : Vec Statement Global) (slice : List Statement)
+    (d : ℕ) (out out' : List Listed) (asked asked' mine mine' : List ℕ) (result : Result U ScratchStop)
+    → s ≡ ForOf at site name list body → slice ≡ body.items →
+    ComposesForest d (statement_forest m fs (For 0 0 name (expr_view list) (stmts_view slice)) env) out out' asked
+    asked' mine mine' result → ComposesForest d (statement_forest m fs (stmt_view s) env) out out' asked asked' mine
+    mine' result
 loop_ran m fs s env at site name list body slice d out out' asked asked' mine mine' result is e1 h =
-    subst (λ (t : GroupForest). ComposesForest d t out out' asked asked' mine mine' result) (sym (ap (λ (x : Statement). statement_forest m fs (stmt_view x) env) is ∙ ap (λ (t : Stmt). statement_forest m fs t env) (view-For at site name list body)
+    subst (λ (t : GroupForest). ComposesForest d t out out' asked asked' mine mine' result)
+    (sym (ap (λ (x : Statement). statement_forest m fs (stmt_view x) env) is
+    ∙ ap (λ (t : Stmt). statement_forest m fs t env) (view-For at site name list body)
     ∙ ap (λ (l : List Statement). statement_forest m fs (For 0 0 name (expr_view list) (stmts_view l)) env) (sym e1))) h
 
-pub binding_ran : {U : Type 0} (m : Map) (fs : List Function) (s : Statement) (env : Bindings) (at site : ℕ) (name : Ident) (value : Expression) (body : Vec Statement Global) (slice : List Statement)
-    (d : ℕ) (out out' : List Listed) (asked asked' mine mine' : List ℕ) (result : Result U ScratchStop) → s ≡ LetOf at site name value body → slice ≡ body.items →
-    ComposesForest d (statement_forest m fs (Let 0 0 name (expr_view value) (stmts_view slice)) env) out out' asked asked' mine mine' result → ComposesForest d (statement_forest m fs (stmt_view s) env) out out' asked asked' mine mine' result
+pub binding_ran : {U : Type 0} (m : Map) (fs : List Function) (s : Statement) (env : Bindings) (at site : ℕ)
+    (name : Ident) (value : Expression) (body : Vec Statement Global) (slice : List Statement)
+    (d : ℕ) (out out' : List Listed) (asked asked' mine mine' : List ℕ) (result : Result U ScratchStop)
+    → s ≡ LetOf at site name value body → slice ≡ body.items →
+    ComposesForest d (statement_forest m fs (Let 0 0 name (expr_view value) (stmts_view slice)) env) out out' asked
+    asked' mine mine' result → ComposesForest d (statement_forest m fs (stmt_view s) env) out out' asked asked' mine
+    mine' result
 binding_ran m fs s env at site name value body slice d out out' asked asked' mine mine' result is e1 h =
-    subst (λ (t : GroupForest). ComposesForest d t out out' asked asked' mine mine' result) (sym (ap (λ (x : Statement). statement_forest m fs (stmt_view x) env) is ∙ ap (λ (t : Stmt). statement_forest m fs t env) (view-Let at site name value body)
-    ∙ ap (λ (l : List Statement). statement_forest m fs (Let 0 0 name (expr_view value) (stmts_view l)) env) (sym e1))) h
+    subst (λ (t : GroupForest). ComposesForest d t out out' asked asked' mine mine' result)
+    (sym (ap (λ (x : Statement). statement_forest m fs (stmt_view x) env) is
+    ∙ ap (λ (t : Stmt). statement_forest m fs t env) (view-Let at site name value body)
+    ∙ ap (λ (l : List Statement). statement_forest m fs (Let 0 0 name (expr_view value) (stmts_view l)) env) (sym e1)))
+    h
 
-pub remember_ran : {U : Type 0} (m : Map) (fs : List Function) (s : Statement) (env : Bindings) (at site : ℕ) (name : Ident) (keys : Vec Named Global) (value : Expression) (body : Vec Statement Global) (names : List Named) (slice : List Statement)
-    (d : ℕ) (out out' : List Listed) (asked asked' mine mine' : List ℕ) (result : Result U ScratchStop) → s ≡ RememberOf at site name keys value body → names ≡ keys.items → slice ≡ body.items →
-    ComposesForest d (statement_forest m fs (Remember 0 site name (nameds_view names) (expr_view value) (stmts_view slice)) env) out out' asked asked' mine mine' result → ComposesForest d (statement_forest m fs (stmt_view s) env) out out' asked asked' mine mine' result
+pub remember_ran : {U : Type 0} (m : Map) (fs : List Function) (s : Statement) (env : Bindings) (at site : ℕ)
+    (name : Ident) (keys : Vec Named Global) (value : Expression) (body : Vec Statement Global) (names : List Named)
+    (slice : List Statement)
+    (d : ℕ) (out out' : List Listed) (asked asked' mine mine' : List ℕ) (result : Result U ScratchStop)
+    → s ≡ RememberOf at site name keys value body → names ≡ keys.items → slice ≡ body.items →
+    ComposesForest d (statement_forest m fs
+    (Remember 0 site name (nameds_view names) (expr_view value) (stmts_view slice)) env) out out' asked asked' mine
+    mine' result → ComposesForest d (statement_forest m fs (stmt_view s) env) out out' asked asked' mine mine'
+    result
 remember_ran m fs s env at site name keys value body names slice d out out' asked asked' mine mine' result is e1 e2 h =
-    subst (λ (t : GroupForest). ComposesForest d t out out' asked asked' mine mine' result) (sym (ap (λ (x : Statement). statement_forest m fs (stmt_view x) env) is ∙ ap (λ (t : Stmt). statement_forest m fs t env) (view-Remember at site name keys value body)
-    ∙ ap (λ (l : List Named). statement_forest m fs (Remember 0 site name (nameds_view l) (expr_view value) (stmts_view body.items)) env) (sym e1) ∙ ap (λ (l : List Statement). statement_forest m fs (Remember 0 site name (nameds_view names) (expr_view value) (stmts_view l)) env) (sym e2))) h
+    subst (λ (t : GroupForest). ComposesForest d t out out' asked asked' mine mine' result)
+    (sym (ap (λ (x : Statement). statement_forest m fs (stmt_view x) env) is
+    ∙ ap (λ (t : Stmt). statement_forest m fs t env) (view-Remember at site name keys value body)
+    ∙ ap (λ (l : List Named). statement_forest m fs
+    (Remember 0 site name (nameds_view l) (expr_view value) (stmts_view body.items)) env) (sym e1)
+    ∙ ap (λ (l : List Statement). statement_forest m fs
+    (Remember 0 site name (nameds_view names) (expr_view value) (stmts_view l)) env) (sym e2))) h
 
 -- A call makes the forest of the body of its function, which sees only the earlier functions.
 
-functions_at : (fs : List Function) (j : ℕ) (f : Function) → j < length fs → get_or (functions_view fs) j (function_view f) ≡ function_view (get_or fs j f)
+functions_at : (fs : List Function) (j : ℕ) (f : Function) → j < length fs
+    → get_or (functions_view fs) j (function_view f) ≡ function_view (get_or fs j f)
 functions_at [] j f below = absurd (omega arith)
 functions_at (g ∷ fs) zero f below = refl
 functions_at (g ∷ fs) (suc j) f below = functions_at fs j f (omega arith)
@@ -102,27 +163,43 @@ how_many_functions (f ∷ fs) = ap suc (how_many_functions fs)
 abbrev pub inside_call : Map → List Function → ℕ → List Value → GroupForest
 inside_call m fs j vs = meaning_at (meanings m (functions_view fs)) j vs
 
-pub call_body : {U : Type 0} (m : Map) (fs : List Function) (j : ℕ) (vs : List Value) (f : Function) (slice : List Statement) (parameters : List Parameter) (env : Bindings)
-    (d : ℕ) (out out' : List Listed) (asked asked' mine mine' : List ℕ) (result : Result U ScratchStop) → j < length fs → f ≡ get_or fs j f → slice ≡ f.body.items → parameters ≡ f.parameters.items → env ≡ bind parameters vs →
-    ComposesForest d (body_forest m (take j fs) (stmts_view slice) env) out out' asked asked' mine mine' result → ComposesForest d (inside_call m fs j vs) out out' asked asked' mine mine' result
+pub call_body : {U : Type 0} (m : Map) (fs : List Function) (j : ℕ) (vs : List Value) (f : Function)
+    (slice : List Statement) (parameters : List Parameter) (env : Bindings)
+    (d : ℕ) (out out' : List Listed) (asked asked' mine mine' : List ℕ) (result : Result U ScratchStop) → j < length fs
+    → f ≡ get_or fs j f → slice ≡ f.body.items → parameters ≡ f.parameters.items → env ≡ bind parameters vs →
+    ComposesForest d (body_forest m (take j fs) (stmts_view slice) env) out out' asked asked' mine mine' result
+    → ComposesForest d (inside_call m fs j vs) out out' asked asked' mine mine' result
 call_body m fs j vs f slice parameters env d out out' asked asked' mine mine' result below is body names named h =
-    let found = meaning_found m (functions_view fs) j vs (function_view f) (let e = how_many_functions fs in omega (arith, e, below)) in
-    let front = ap (λ (l : List Func). run_all m (meanings m l) (get_or (functions_view fs) j (function_view f)).body (bind (get_or (functions_view fs) j (function_view f)).parameters vs)) (functions_front fs j) in
-    let there = ap (λ (g : Func). run_all m (meanings m (functions_view (take j fs))) g.body (bind g.parameters vs)) (functions_at fs j f below ∙ ap function_view (sym is)) in
-    let inner = ap (λ (b : List Statement). run_all m (meanings m (functions_view (take j fs))) (stmts_view b) (bind f.parameters.items vs)) (sym body) in
-    let scope = ap (λ (e : Bindings). run_all m (meanings m (functions_view (take j fs))) (stmts_view slice) e) (sym (named ∙ ap (λ (p : List Parameter). bind p vs) names)) in
-    subst (λ (t : GroupForest). ComposesForest d t out out' asked asked' mine mine' result) (sym (found ∙ front ∙ there ∙ inner ∙ scope)) h
+    let found = meaning_found m (functions_view fs) j vs (function_view f) (let e = how_many_functions fs in
+    omega (arith, e, below)) in
+    let front = ap (λ (l : List Func). run_all m (meanings m l)
+    (get_or (functions_view fs) j
+    (function_view f)).body (bind (get_or (functions_view fs) j (function_view f)).parameters vs))
+    (functions_front fs j) in
+    let there = ap (λ (g : Func). run_all m (meanings m (functions_view (take j fs))) g.body (bind g.parameters vs))
+    (functions_at fs j f below ∙ ap function_view (sym is)) in
+    let inner = ap (λ (b : List Statement). run_all m (meanings m (functions_view (take j fs))) (stmts_view b)
+    (bind f.parameters.items vs)) (sym body) in
+    let scope = ap (λ (e : Bindings). run_all m (meanings m (functions_view (take j fs))) (stmts_view slice) e)
+    (sym (named ∙ ap (λ (p : List Parameter). bind p vs) names)) in
+    subst (λ (t : GroupForest). ComposesForest d t out out' asked asked' mine mine' result)
+    (sym (found ∙ front ∙ there ∙ inner ∙ scope)) h
 
 -- A call of a missing function makes nothing.
 pub call_none : (m : Map) (fs : List Function) (j : ℕ) (vs : List Value) → length fs ≤ j → inside_call m fs j vs ≡ End
-call_none m fs j vs past = meaning_none m (functions_view fs) j vs (let e = how_many_functions fs in omega (arith, e, past))
+call_none m fs j vs past =
+    meaning_none m (functions_view fs) j vs (let e = how_many_functions fs in omega (arith, e, past))
 
 -- The forest of a program is that of the call of the root.
-pub forest_ran : {U : Type 0} (m : Map) (fs : List Function) (root : ℕ) (vs : List Value) (out out' : List Listed) (asked asked' mine mine' : List ℕ) (result : Result U ScratchStop) → vs ≡ [] → out ≡ [] →
-    ComposesForest 0 (call_forest m fs 0 root vs) out out' asked asked' mine mine' result → ComposesForest 0 (forest (functions_view fs) root m) [] out' asked asked' mine mine' result
+pub forest_ran : {U : Type 0} (m : Map) (fs : List Function) (root : ℕ) (vs : List Value) (out out' : List Listed)
+    (asked asked' mine mine' : List ℕ) (result : Result U ScratchStop) → vs ≡ [] → out ≡ [] →
+    ComposesForest 0 (call_forest m fs 0 root vs) out out' asked asked' mine mine' result
+    → ComposesForest 0 (forest (functions_view fs) root m) [] out' asked asked' mine mine' result
 forest_ran m fs root vs out out' asked asked' mine mine' result e f h =
-    subst (λ (o : List Listed). ComposesForest 0 (forest (functions_view fs) root m) o out' asked asked' mine mine' result) f
-    (subst (λ (ws : List Value). ComposesForest 0 (call_forest m fs 0 root ws) out out' asked asked' mine mine' result) e h)
+    subst (λ (o : List Listed). ComposesForest 0 (forest (functions_view fs) root m) o out' asked asked' mine mine'
+    result) f
+    (subst (λ (ws : List Value). ComposesForest 0 (call_forest m fs 0 root ws) out out' asked asked' mine mine' result)
+    e h)
 
 -- The list of the groups of a forest has as many items as the forest has groups.
 pub few : (t : GroupForest) (out : List Listed) (n : ℕ) → out ≡ preorder 0 t → length out ≤ n → how_many t ≤ n

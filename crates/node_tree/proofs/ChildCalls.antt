@@ -36,7 +36,7 @@ removals_turn [] new done os index e = none_turns _ _ refl
 removals_turn (o ∷ old) new done os index e =
     then_turns _ _ _ _ _
     (turns_from _ _ _ _ (children_same _ _ os (sym (pushed done o old)))
-        (removals_turn old new (done ++ o ∷ []) os (index + 1) (pushed_length done o index e)))
+    (removals_turn old new (done ++ o ∷ []) os (index + 1) (pushed_length done o index e)))
     (turns_from _ _ _ _ (children_same _ _ os (pushed done o (staying_nodes new old))) (by (has_number o.number new)))
   where
     by : (b : Bool) → Turns (tree (done ++ (o ∷ staying_nodes new old)) os) (if b then [] else op.Remove index 1 ∷ [])
@@ -58,7 +58,7 @@ attributes_back (a ∷ as_) = ap (λ l. a ∷ l) (attributes_back as_)
 
 inserted : (done rest : List TreeNode) (n : TreeNode) (os : List OpenNode) (index : ℕ) → length done ≡ index
     → Turns (tree (done ++ rest) os) (op.InsertTopDown index (new_node n) ∷ [])
-        (tree (done ++ (started_as None n ∷ rest)) os)
+    (tree (done ++ (started_as None n ∷ rest)) os)
 inserted done rest n os index e = one_turns (op.InsertTopDown index (new_node n)) _ _
     (omega (arith, length-append done rest))
     (children_same _ _ os (
@@ -74,10 +74,10 @@ moved_list {X} done before after x i k e f =
     let xs : List X = done ++ (before ++ (x ∷ after)) in
     let split : xs ≡ (done ++ before) ++ (x ∷ after) = sym (append_assoc done before (x ∷ after)) in
     let split_more : xs ≡ ((done ++ before) ++ x ∷ []) ++ after =
-        split ∙ sym (append_assoc (done ++ before) (x ∷ []) after) in
+    split ∙ sym (append_assoc (done ++ before) (x ∷ []) after) in
     let long : length (done ++ before) ≡ i + suc k = omega (arith, length-append done before) in
     let longer : length ((done ++ before) ++ x ∷ []) ≡ i + suc k + 1 =
-        omega (arith, length-append (done ++ before) (x ∷ []), long) in
+    omega (arith, length-append (done ++ before) (x ∷ []), long) in
     let first : take i xs ≡ done = take_at done (before ++ (x ∷ after)) i e in
     let second : drop (i + suc k) (take (i + suc k + 1) xs) ≡ x ∷ [] =
     ap (λ l. drop (i + suc k) (take (i + suc k + 1) l)) split_more
@@ -90,25 +90,25 @@ moved_list {X} done before after x i k e f =
     let fourth : drop (i + suc k + 1) xs ≡ after =
     ap (λ l. drop (i + suc k + 1) l) split_more ∙ drop_at ((done ++ before) ++ x ∷ []) after (i + suc k + 1) longer in
     cond-true (ltb i (i + suc k)) (exchanged_list i (i + suc k) (i + suc k + 1) xs)
-        (if ltb (i + suc k + 1) i then exchanged_list (i + suc k) (i + suc k + 1) i xs else xs)
-        (lt-ltb i (i + suc k) low)
+    (if ltb (i + suc k + 1) i then exchanged_list (i + suc k) (i + suc k + 1) i xs else xs)
+    (lt-ltb i (i + suc k) low)
     ∙ ap (λ l. l ++ (drop (i + suc k) (take (i + suc k + 1) xs)
-        ++ (drop i (take (i + suc k) xs) ++ drop (i + suc k + 1) xs))) first
+    ++ (drop i (take (i + suc k) xs) ++ drop (i + suc k + 1) xs))) first
     ∙ ap (λ l. done ++ (l ++ (drop i (take (i + suc k) xs) ++ drop (i + suc k + 1) xs))) second
     ∙ ap (λ l. done ++ (x ∷ (l ++ drop (i + suc k + 1) xs))) third
     ∙ ap (λ l. done ++ (x ∷ (before ++ l))) fourth
 
 move_turns : (before done after : List TreeNode) (x : TreeNode) (os : List OpenNode) (index : ℕ) → length done ≡ index
     → Turns (tree (done ++ (before ++ (x ∷ after))) os) (move_to index (length before))
-        (tree (done ++ (x ∷ (before ++ after))) os)
+    (tree (done ++ (x ∷ (before ++ after))) os)
 move_turns [] done after x os index e = none_turns _ _ refl
 move_turns (y ∷ before) done after x os index e =
     let all : List TreeNode = done ++ ((y ∷ before) ++ (x ∷ after)) in
     let long : length all ≡ length done + (suc (length before) + suc (length after)) =
     length-append done ((y ∷ before) ++ (x ∷ after))
-        ∙ ap (λ n. length done + n) (length-append (y ∷ before) (x ∷ after)) in
+    ∙ ap (λ n. length done + n) (length-append (y ∷ before) (x ∷ after)) in
     let inside : (index + suc (length before) + 1 ≤ length all) × (index ≤ length all) =
-        (omega (arith, long, e), omega (arith, long, e)) in
+    (omega (arith, long, e), omega (arith, long, e)) in
     one_turns (op.Move (index + suc (length before)) index 1) _ _ inside
     (children_same _ _ os (moved_list done (y ∷ before) after x index (length before) e refl))
 
@@ -142,7 +142,7 @@ left_after_move old rest new n lacks left = record {
   same = λ j h. other_numbered n.number j rest (not_here j n new lacks h) ∙ left.same j (has_later j n new h);
   all = λ j h. has_rest j n new
       (λ e. true≢false (sym h ∙ ap (λ (i : ℕ). has_number i (nodes_without n.number rest)) (sym e)
-          ∙ gone_without n.number rest left.distinct))
+      ∙ gone_without n.number rest left.distinct))
       (left.all j (still_has n.number j rest h));
   distinct = distinct_without n.number rest left.distinct;
 }
@@ -181,34 +181,34 @@ arrangements_turn (n ∷ new) old rest done os index e d left =
     Goal : Bool → Type 0
     Goal b = Turns (tree (done ++ rest) os)
         (if b then move_to index (index_of n.number rest) ++ arrangements (index + 1) old
-            (nodes_without n.number rest) new
+        (nodes_without n.number rest) new
         else op.InsertTopDown index (new_node n) ∷ arrangements (index + 1) old rest new)
         (tree (done ++ (started old n ∷ map (started old) new)) os)
 
     by : (b : Bool) → has_number n.number old ≡ b
         → ((x : TreeNode) (rest : List TreeNode) → Left old rest new
         → Turns (tree (done ++ (x ∷ rest)) os) (arrangements (index + 1) old rest new)
-            (tree (done ++ (x ∷ map (started old) new)) os))
+        (tree (done ++ (x ∷ map (started old) new)) os))
         → Goal b
     by true is go =
         let found : numbered_node n.number rest ≡ numbered_node n.number old = left.same n.number (has_first n new) in
         let there : has_number n.number rest ≡ true =
         has_is_some n.number rest ∙ ap (λ (o : Option TreeNode). is_some o) found
-            ∙ sym (has_is_some n.number old) ∙ is in
+        ∙ sym (has_is_some n.number old) ∙ is in
         let s = split_at_number n.number rest there in
         let start : started old n ≡ s.node = ap (λ (o : Option TreeNode). started_as o n) (sym found ∙ s.found) in
         let first : Turns (tree (done ++ rest) os) (move_to index (index_of n.number rest))
-            (tree (done ++ (s.node ∷ nodes_without n.number rest)) os) =
+        (tree (done ++ (s.node ∷ nodes_without n.number rest)) os) =
         turns_from _ _ _ _ (children_same _ _ os (ap (λ l. done ++ l) s.whole))
         (turns_to _ _ _ _ (children_same _ _ os (ap (λ l. done ++ (s.node ∷ l)) (sym s.left)))
         (subst (λ (i : ℕ). Turns (tree (done ++ (s.before ++ (s.node ∷ s.after))) os) (move_to index i)
-            (tree (done ++ (s.node ∷ (s.before ++ s.after))) os)) s.index
+        (tree (done ++ (s.node ∷ (s.before ++ s.after))) os)) s.index
         (move_turns s.before done s.after s.node os index e))) in
         turns_to _ _ _ _ (children_same _ _ os (ap (λ x. done ++ (x ∷ map (started old) new)) (sym start)))
         (then_turns _ _ _ _ _ first (go s.node (nodes_without n.number rest) (left_after_move old rest new n d.0 left)))
     by false is go =
         let none : numbered_node n.number old ≡ None =
-            none_from (numbered_node n.number old) (sym (has_is_some n.number old) ∙ is) in
+        none_from (numbered_node n.number old) (sym (has_is_some n.number old) ∙ is) in
         let start : started old n ≡ started_as None n = ap (λ (o : Option TreeNode). started_as o n) none in
         turns_to _ _ _ _ (children_same _ _ os (ap (λ x. done ++ (x ∷ map (started old) new)) (sym start)))
         (then_turns (op.InsertTopDown index (new_node n) ∷ []) _ _ _ _ (inserted done rest n os index e)

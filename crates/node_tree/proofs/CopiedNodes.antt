@@ -17,7 +17,7 @@ pub copied_node : (n : FlatNode) (inner number : ℕ) (kind copied : List ℕ) (
 copied_node n inner number kind copied attributes all view e f =
     ap (λ (k : List ℕ). record { number = number; kind = k; attributes = all }) e
     ∙ ap (λ (l : List AttributeData). record { number = number; kind = kind; attributes = l })
-        (f ∙ sym (data_back attributes))
+    (f ∙ sym (data_back attributes))
     ∙ ap (λ (m : FlatNode). flat_new m) view
 
 -- A look-up by index returns `None` after the end of the list.

@@ -44,9 +44,9 @@ odd_sum (x ∷ (y ∷ ys)) (suc (suc (suc at))) e h =
     let last : suc (suc (suc at)) - 1 ≡ suc (suc at) = omega arith in
     let one : suc at - 1 ≡ at = omega arith in
     let whole : total (take (suc (suc (suc at)) / 2) (pairs (x ∷ (y ∷ ys)))) ≡ (x + y) + total
-        (take (suc at / 2) (pairs ys)) = ap (λ n. total (take n (pairs (x ∷ (y ∷ ys))))) half in
+    (take (suc at / 2) (pairs ys)) = ap (λ n. total (take n (pairs (x ∷ (y ∷ ys))))) half in
     let got : get_or (x ∷ (y ∷ ys)) (suc (suc (suc at)) - 1) 0 ≡ get_or ys at 0 =
-        ap (λ n. get_or (x ∷ (y ∷ ys)) n 0) last in
+    ap (λ n. get_or (x ∷ (y ∷ ys)) n 0) last in
     let was : get_or ys (suc at - 1) 0 ≡ get_or ys at 0 = ap (λ n. get_or ys n 0) one in
     omega (arith, rest, whole, got, was)
 
@@ -63,7 +63,7 @@ half_inside l at h = let e = pairs_length l in omega (arith, e)
 -- Subtracting 1 from a count subtracts 1 from the total above it.
 pairs_after : (l : List ℕ) (at : ℕ) → (0 < get_or l at 0) ⊎ (length l ≤ at)
     → (pairs (set l at (get_or l at 0 - 1)) ≡ set (pairs l) (at / 2) (get_or (pairs l) (at / 2) 0 - 1))
-        × ((0 < get_or (pairs l) (at / 2) 0) ⊎ (length (pairs l) ≤ at / 2))
+    × ((0 < get_or (pairs l) (at / 2) 0) ⊎ (length (pairs l) ≤ at / 2))
 pairs_after [] at h = (refl, inr (omega arith))
 pairs_after (x ∷ []) zero h = (refl, inr (omega arith))
 pairs_after (x ∷ []) (suc at) h = (refl, inr (omega arith))
@@ -122,14 +122,14 @@ after_all ls at is some =
 -- A step of a loop over the levels.
 pub after_step : (now : List (List ℕ)) (i at : ℕ) (l : List ℕ) → i < length now → l ≡ get_or now i l
     → take (i + 1) (set now i (set l at (get_or l at 0 - 1))) ++ levels_after (at / 2)
-        (drop (i + 1) (set now i (set l at (get_or l at 0 - 1)))) ≡ take i now ++ levels_after at (drop i now)
+    (drop (i + 1) (set now i (set l at (get_or l at 0 - 1)))) ≡ take i now ++ levels_after at (drop i now)
 after_step now i at l below read =
     let new : List ℕ = set l at (get_or l at 0 - 1) in
     ap (λ xs. xs ++ levels_after (at / 2) (drop (i + 1) (set now i new))) (take_more_set now i new below)
     ∙ ap (λ xs. (take i now ++ new ∷ []) ++ levels_after (at / 2) xs) (drop-set-lt (i + 1) now i new (omega arith))
     ∙ append_assoc (take i now) (new ∷ []) (levels_after (at / 2) (drop (i + 1) now))
     ∙ ap (λ xs. take i now ++ levels_after at xs)
-        (sym (drop_more now i l below ∙ ap (λ x. x ∷ drop (i + 1) now) (sym read)))
+    (sym (drop_more now i l below ∙ ap (λ x. x ∷ drop (i + 1) now) (sym read)))
 
 pub take_less : (l : List ℕ) (n : ℕ) → total (take n l) ≤ total l
 take_less l zero = omega arith
@@ -148,7 +148,7 @@ pub steps_on : (rest above : List (List ℕ)) (level : List ℕ) (at : ℕ) → 
     → AreLevels (first_level rest) rest → at ≤ length (first_level rest) → StepsOn rest above level at
 steps_on rest above level at whole are below =
     let here : AreLevels level (level ∷ above) =
-        subst (λ (ls : List (List ℕ)). AreLevels (first_level ls) ls) whole are in
+    subst (λ (ls : List (List ℕ)). AreLevels (first_level ls) ls) whole are in
     let under : at ≤ length level = subst (λ (ls : List (List ℕ)). at ≤ length (first_level ls)) whole below in
     let step = level_step level above here in
     record {
@@ -172,7 +172,7 @@ pub levels_grow : (first level above : List ℕ) (items now : List (List ℕ)) �
 levels_grow first level above items now e f so ls are =
     let more : AreLevels level (level ∷ ls) = (refl, subst (λ (xs : List ℕ). AreLevels xs ls) f are) in
     subst (λ (xs : List (List ℕ)). AreLevels first xs) (sym (append_assoc items (level ∷ []) ls)
-        ∙ ap (λ xs. xs ++ ls) (sym e)) (so (level ∷ ls) more)
+    ∙ ap (λ xs. xs ++ ls) (sym e)) (so (level ∷ ls) more)
 
 pub first_stays : (first level above : List ℕ) (items now : List (List ℕ)) → now ≡ items ++ level ∷ []
     → first_level (items ++ level ∷ []) ≡ first → first_level (now ++ above ∷ []) ≡ first

@@ -32,22 +32,22 @@ skipped (suc k) at (x ∷ xs) =
 pub next_sibling : (xs : List FlatNode) (x : FlatNode) (at end : ℕ) → at < length xs → x ≡ get_or xs at x
     → end ≡ at + 1 + min x.inner (length xs - at - 1)
     → sibling_list 0 at (drop at xs) ≡ record { number = x.number; start = at; end = end }
-        ∷ sibling_list 0 end (drop end xs)
+    ∷ sibling_list 0 end (drop end xs)
 next_sibling xs x at end below read is =
     let rest : drop at xs ≡ x ∷ drop (at + 1) xs =
-        drop_more xs at x below ∙ ap (λ y. y ∷ drop (at + 1) xs) (sym read) in
+    drop_more xs at x below ∙ ap (λ y. y ∷ drop (at + 1) xs) (sym read) in
     let long : length (drop (at + 1) xs) ≡ length xs - at - 1 = omega (arith, length-drop (at + 1) xs) in
     let bound : min x.inner (length (drop (at + 1) xs)) ≡ min x.inner (length xs - at - 1) =
-        ap (λ n. min x.inner n) long in
+    ap (λ n. min x.inner n) long in
     let there : at + 1 + min x.inner (length (drop (at + 1) xs)) ≡ end = omega (arith, bound, is) in
     let after : drop (min x.inner (length (drop (at + 1) xs))) (drop (at + 1) xs) ≡ drop end xs =
-        drop-drop (min x.inner (length (drop (at + 1) xs))) (at + 1) xs ∙ ap (λ n. drop n xs) there in
+    drop-drop (min x.inner (length (drop (at + 1) xs))) (at + 1) xs ∙ ap (λ n. drop n xs) there in
     ap (λ l. sibling_list 0 at l) rest
     ∙ ap (λ n. record { number = x.number; start = at; end = n } ∷ sibling_list x.inner (at + 1) (drop (at + 1) xs))
-        there
+    there
     ∙ ap (λ l. record { number = x.number; start = at; end = end } ∷ l) (skipped x.inner (at + 1) (drop (at + 1) xs))
     ∙ ap (λ n. record { number = x.number; start = at; end = end } ∷ sibling_list 0 n
-        (drop (min x.inner (length (drop (at + 1) xs))) (drop (at + 1) xs))) there
+    (drop (min x.inner (length (drop (at + 1) xs))) (drop (at + 1) xs))) there
     ∙ ap (λ l. record { number = x.number; start = at; end = end } ∷ sibling_list 0 end l) after
 
 -- The next sibling is appended to the list of siblings.
@@ -58,12 +58,12 @@ pub one_more : (xs : List FlatNode) (x y : FlatNode) (at end : ℕ) (found now w
     → (now ++ sibling_list 0 end (drop end xs) ≡ whole) × (end ≤ length xs)
 one_more xs x y at end found now whole below read same is pushed so =
     let there : end ≡ at + 1 + min x.inner (length xs - at - 1) =
-        is ∙ ap (λ (z : FlatNode). at + 1 + min z.inner (length xs - at - 1)) same in (
+    is ∙ ap (λ (z : FlatNode). at + 1 + min z.inner (length xs - at - 1)) same in (
       ap (λ l. l ++ sibling_list 0 end (drop end xs)) pushed
           ∙ append_assoc found (record { number = y.number; start = at; end = end } ∷ [])
-              (sibling_list 0 end (drop end xs))
+          (sibling_list 0 end (drop end xs))
           ∙ ap (λ (z : FlatNode). found ++ (record { number = z.number; start = at; end = end } ∷ sibling_list 0 end
-              (drop end xs))) same
+          (drop end xs))) same
           ∙ ap (λ l. found ++ l) (sym (next_sibling xs x at end below read there)) ∙ so,
       omega (arith, there),
     )
@@ -86,7 +86,7 @@ pub one_index : (ss : List Sibling) (d : Sibling) (i q : ℕ) (was now whole : O
     → last_index q (i + 1) now (drop (i + 1) ss) ≡ whole
 one_index ss d i q was now whole below is so =
     ap (λ o. last_index q (i + 1) o (drop (i + 1) ss))
-        (is ∙ ap (λ (b : Bool). cond b (Some i) was) (at_number (get_or ss i d).number q))
+    (is ∙ ap (λ (b : Bool). cond b (Some i) was) (at_number (get_or ss i d).number q))
     ∙ ap (λ l. last_index q i was l) (sym (drop_more ss i d below))
     ∙ so
 
@@ -98,8 +98,8 @@ one_count new old d i count o found now below is counted pushed so =
     pushed ∙ ap (λ n. found ++ n ∷ []) (counted ∙ ap (λ (p : Option ℕ). if is_some p then 1 else 0) is)
     ∙ ap (λ l. l ++ (if is_some (index_in (get_or old i d).number new) then 1 else 0) ∷ []) so
     ∙ sym (ap (λ l. kept_counts new l) (take_more old i d below)
-        ∙ map-append (λ (s : Sibling). if is_some (index_in s.number new) then 1 else 0) (take i old)
-        (get_or old i d ∷ []))
+    ∙ map-append (λ (s : Sibling). if is_some (index_in s.number new) then 1 else 0) (take i old)
+    (get_or old i d ∷ []))
 
 pub total_more : (cs : List ℕ) (c : ℕ) → total (cs ++ c ∷ []) ≡ total cs + c
 total_more [] c = omega arith

@@ -24,7 +24,7 @@ flat_joined tree.None t = refl
 flat_joined (Branch n kind attributes children rest) t =
     ap (λ l. flat_node (length (flat_nodes children)) n kind attributes ∷ l)
     (ap (λ l. flat_nodes children ++ l) (flat_joined rest t)
-        ∙ sym (append_assoc (flat_nodes children) (flat_nodes rest) (flat_nodes t)))
+    ∙ sym (append_assoc (flat_nodes children) (flat_nodes rest) (flat_nodes t)))
 
 count_joined : (xs ys : List Kept) → node_count (xs ++ ys) ≡ node_count xs + node_count ys
 count_joined [] ys = omega arith
@@ -36,7 +36,7 @@ group_counted : (what : GroupKind) (n inner : ℕ) (inside : Nodes) → inner �
 group_counted (Call f vs) n inner inside e = omega (arith, e)
 group_counted (Node kind attributes) n inner inside e =
     let f : length (flat_nodes inside ++ []) ≡ length (flat_nodes inside) =
-        ap (λ (l : List FlatNode). length l) (append-nil (flat_nodes inside)) in
+    ap (λ (l : List FlatNode). length l) (append-nil (flat_nodes inside)) in
     omega (arith, e, f)
 group_counted (Key v) n inner inside e = omega (arith, e)
 group_counted (Cell ks v) n inner inside e = omega (arith, e)
@@ -47,13 +47,13 @@ counted depth End = refl
 counted depth (Read x rest) = counted depth rest
 counted depth (Group site n what inside rest) =
     let here = group_counted what n (node_count (preorder (depth + 1) inside)) (nodes inside)
-        (counted (depth + 1) inside) in
+    (counted (depth + 1) inside) in
     let later = counted depth rest in
     let apart = count_joined (preorder (depth + 1) inside) (preorder depth rest) in
     let long : length (flat_nodes (joined_nodes (group_nodes what n (nodes inside)) (nodes rest))) ≡ length
-        (flat_nodes (group_nodes what n (nodes inside))) + length (flat_nodes (nodes rest)) =
+    (flat_nodes (group_nodes what n (nodes inside))) + length (flat_nodes (nodes rest)) =
     ap (λ (l : List FlatNode). length l) (flat_joined (group_nodes what n (nodes inside)) (nodes rest))
-        ∙ length-append (flat_nodes (group_nodes what n (nodes inside))) (flat_nodes (nodes rest)) in
+    ∙ length-append (flat_nodes (group_nodes what n (nodes inside))) (flat_nodes (nodes rest)) in
     omega (arith, here, later, apart, long)
 
 -- The nodes of a group and of the groups inside it.
@@ -63,9 +63,9 @@ group_listed (Call f vs) n inner inside e = refl
 group_listed (Node kind attributes) n inner inside e =
     ap (λ (i : ℕ). flat_node i n kind (map attribute_of (map flat_attribute attributes)) ∷ flat_nodes inside) e
     ∙ ap (λ (l : List Attribute). flat_node (length (flat_nodes inside)) n kind l ∷ flat_nodes inside)
-        (attributes_back attributes)
+    (attributes_back attributes)
     ∙ ap (λ (l : List FlatNode). flat_node (length (flat_nodes inside)) n kind attributes ∷ l)
-        (sym (append-nil (flat_nodes inside)))
+    (sym (append-nil (flat_nodes inside)))
 group_listed (Key v) n inner inside e = refl
 group_listed (Cell ks v) n inner inside e = refl
 
@@ -94,33 +94,36 @@ listed skipping depth (Group site n what inside rest) more e =
     let within : List Kept = preorder (depth + 1) inside in
     let later : List Kept = preorder depth rest ++ more in
     let whole : (within ++ preorder depth rest) ++ more ≡ within ++ later =
-        append_assoc within (preorder depth rest) more in
+    append_assoc within (preorder depth rest) more in
     let past : after_deep (depth + 1) (within ++ later) ≡ later = skipping depth inside rest more e in
     let apart = count_joined within later in
     let many = counted (depth + 1) inside in
     let inner : inner_nodes depth (within ++ later) ≡ length (flat_nodes (nodes inside)) =
     ap (λ (l : List Kept). node_count (within ++ later) - node_count l) past
-        ∙ (let s : node_count (within ++ later) - node_count later ≡ length (flat_nodes (nodes inside)) = omega (arith,
-        apart, many) in s) in
+    ∙ (let s : node_count (within ++ later) - node_count later ≡ length (flat_nodes (nodes inside)) = omega (
+      arith,
+      apart,
+      many,
+    ) in s) in
     let group : List FlatNode = flat_nodes (group_nodes what n (nodes inside)) in
     ap (λ (l : List Kept). node_of_kind (inner_nodes depth l) n (flat_kind what) ++ nodes_among l) whole
     ∙ ap (λ (l : List FlatNode). node_of_kind (inner_nodes depth (within ++ later)) n (flat_kind what) ++ l)
-        (listed skipping (depth + 1) inside later (ends_at (depth + 1) later (deeper_ends depth rest more e)))
+    (listed skipping (depth + 1) inside later (ends_at (depth + 1) later (deeper_ends depth rest more e)))
     ∙ sym (append_assoc (node_of_kind (inner_nodes depth (within ++ later)) n (flat_kind what))
-        (flat_nodes (nodes inside)) (nodes_among later))
+    (flat_nodes (nodes inside)) (nodes_among later))
     ∙ ap (λ (l : List FlatNode). l ++ nodes_among later)
-        (group_listed what n (inner_nodes depth (within ++ later)) (nodes inside) inner)
+    (group_listed what n (inner_nodes depth (within ++ later)) (nodes inside) inner)
     ∙ ap (λ (l : List FlatNode). group ++ l) (listed skipping depth rest more e)
     ∙ sym (append_assoc group (flat_nodes (nodes rest)) (nodes_among more))
     ∙ ap (λ (l : List FlatNode). l ++ nodes_among more)
-        (sym (flat_joined (group_nodes what n (nodes inside)) (nodes rest)))
+    (sym (flat_joined (group_nodes what n (nodes inside)) (nodes rest)))
 
 -- The nodes among the groups of a whole forest.
 pub nodes_are_listed : (skipping : SkippingLeavesTheSiblings) (t : GroupForest) (groups : List Kept)
     (list : List FlatNode) → groups ≡ preorder 0 t → list ≡ nodes_among groups → list ≡ flat_nodes (nodes t)
 nodes_are_listed skipping t groups list e f =
     f ∙ ap nodes_among (e ∙ sym (append-nil (preorder 0 t))) ∙ listed skipping 0 t [] refl
-        ∙ append-nil (flat_nodes (nodes t))
+    ∙ append-nil (flat_nodes (nodes t))
 
 -- Counts of nodes.
 
@@ -173,11 +176,11 @@ one_earlier gs counts at k v one d next inside long known is told =
     let same : at ≡ suc k = omega (arith, next) in
     let first : drop k gs ≡ get_or gs k d ∷ drop (suc k) gs = drop-cons gs k d (omega (arith, next, inside)) in
     let after : drop (suc k) counts ≡ later_counts (drop (suc k) gs) = ap (λ n. drop n counts) (sym same) ∙ known
-        ∙ ap (λ n. later_counts (drop n gs)) same in
+    ∙ ap (λ n. later_counts (drop n gs)) same in
     let count : get_or counts at 0 ≡ node_count (drop (suc k) gs) = known_count gs counts at known
-        ∙ ap (λ n. node_count (drop n gs)) same in
+    ∙ ap (λ n. node_count (drop n gs)) same in
     let whole : v ≡ (if is_node_kind (get_or gs k d).what then 1 else 0) + node_count (drop (suc k) gs) =
-        omega (arith, told, is, count) in (
+    omega (arith, told, is, count) in (
       omega (arith, next, inside),
       length-set counts k v ∙ long,
       set_first counts k v (omega (arith, next, inside, long)) ∙ ap (λ n. n ∷ drop (suc k) counts) whole
@@ -202,18 +205,18 @@ pub inside_is : (gs : List Kept) (counts : List ℕ) (d : Kept) (at after first 
 inside_is gs counts d at after first second e inside ends is_first is_second =
     let next : suc at ≡ at + 1 = omega arith in
     let here : drop at gs ≡ get_or gs at d ∷ drop (at + 1) gs =
-        drop-cons gs at d inside ∙ ap (λ n. get_or gs at d ∷ drop n gs) next in
+    drop-cons gs at d inside ∙ ap (λ n. get_or gs at d ∷ drop n gs) next in
     let past = ends (get_or gs at d) (drop (at + 1) gs) here in
     let one : first ≡ node_count (drop (at + 1) gs) = is_first ∙ ap (λ l. get_or l (at + 1) 0) e
-        ∙ count_is gs (at + 1) in
+    ∙ count_is gs (at + 1) in
     let two : second ≡ node_count (after_deep ((get_or gs at d).depth + 1) (drop (at + 1) gs)) =
-        is_second ∙ ap (λ l. get_or l after 0) e ∙ count_is gs after ∙ ap node_count past in
+    is_second ∙ ap (λ l. get_or l after 0) e ∙ count_is gs after ∙ ap node_count past in
     ap (λ n. n - second) one ∙ ap (λ n. node_count (drop (at + 1) gs) - n) two
 
 -- The nodes among the groups from an index on.
 pub one_further : (gs : List Kept) (d : Kept) (at : ℕ) (before now : List FlatNode) → at < length gs
     → now ≡ before ++ node_of_kind (inner_nodes (get_or gs at d).depth (drop (at + 1) gs)) (get_or gs at d).number
-        (get_or gs at d).what
+    (get_or gs at d).what
     → before ++ nodes_among (drop at gs) ≡ nodes_among gs → now ++ nodes_among (drop (at + 1) gs) ≡ nodes_among gs
 one_further gs d at before now inside is so_far =
     let next : suc at ≡ at + 1 = omega arith in
@@ -221,7 +224,7 @@ one_further gs d at before now inside is so_far =
     let rest : List Kept = drop (at + 1) gs in
     let here : drop at gs ≡ g ∷ rest = drop-cons gs at d inside ∙ ap (λ n. get_or gs at d ∷ drop n gs) next in
     ap (λ l. l ++ nodes_among rest) is ∙ append_assoc before (node_of_kind (inner_nodes g.depth rest) g.number g.what)
-        (nodes_among rest)
+    (nodes_among rest)
     ∙ ap (λ l. before ++ nodes_among l) (sym here) ∙ so_far
 
 pub all_listed : (gs : List Kept) (at : ℕ) (now : List FlatNode) → length gs ≤ at

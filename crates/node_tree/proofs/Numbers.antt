@@ -120,7 +120,7 @@ stays j new (o ∷ old) h = by (has_number o.number new) refl (stays j new old h
     by true is go = ap (λ (r : Option TreeNode). if o.number == j then Some o else r) go
     by false is go =
         let lacks : (o.number == j) ≡ false =
-            ne_eqb o.number j (λ e. true≢false (sym (ap (λ (i : ℕ). has_number i new) e ∙ h) ∙ is)) in
+        ne_eqb o.number j (λ e. true≢false (sym (ap (λ (i : ℕ). has_number i new) e ∙ h) ∙ is)) in
         go ∙ sym (ap (λ (c : Bool). if c then Some o else numbered_node j old) lacks)
 
 pub staying_is_new : (j : ℕ) (new old : List TreeNode) → has_number j (staying_nodes new old) ≡ true

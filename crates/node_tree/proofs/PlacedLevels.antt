@@ -27,7 +27,7 @@ pub level_begins : (o n : Nodes) (so sn : List Sibling) (new : List FlatNode) (b
 level_begins o n so sn new before now e f g d h is =
     ap (λ l. l ++ inner_calls 0 (node_list o) n) (
     is ∙ ap (λ s. before ++ sibling_calls s sn new) e ∙ ap (λ s. before ++ sibling_calls (siblings_of 0 o) s new) f
-        ∙ ap (λ l. before ++ sibling_calls (siblings_of 0 o) (siblings_of 0 n) l) g
+    ∙ ap (λ l. before ++ sibling_calls (siblings_of 0 o) (siblings_of 0 n) l) g
     ∙ ap (λ l. before ++ l) (sibling_calls_are o n (distinct_list o d) (distinct_list n h)))
     ∙ append_assoc before _ (inner_calls 0 (node_list o) n)
 
@@ -53,9 +53,9 @@ level_ends o n sn i now whole e past so =
 abbrev pub Inner : ℕ → List FlatNode → List FlatNode → List Op → List Op → Type 0
 Inner index old new was now =
     (before : Option TreeNode) (node : FlatNode) (children : Nodes) → old ≡ flat_before before
-        → new ≡ node ∷ flat_nodes children → ChildrenAreDistinct before → AreDistinct children
+    → new ≡ node ∷ flat_nodes children → ChildrenAreDistinct before → AreDistinct children
     → now ≡ was ++ calls_inside index
-        (sets_since before node.attributes ++ ops_between (children_since before) children)
+    (sets_since before node.attributes ++ ops_between (children_since before) children)
 
 pub level_goes_on : (o n : Nodes) (so sn : List Sibling) (d : Sibling) (find : Option ℕ)
     (old new before after : List FlatNode) (i : ℕ) (was now whole : List Op)
@@ -68,7 +68,7 @@ pub level_goes_on : (o n : Nodes) (so sn : List Sibling) (d : Sibling) (find : O
 level_goes_on o n so sn d find old new before after i was now whole e f g h distinct_old distinct_new below found is_before is_after inner so_far =
     let s = sibling_at n i (subst (λ (l : List Sibling). i < length l) f below) in
     let sibling : get_or sn i d ≡ record { number = s.number; start = s.start; end = s.end } =
-        ap (λ (l : List Sibling). get_or l i d) f ∙ s.sibling d in
+    ap (λ (l : List Sibling). get_or l i d) f ∙ s.sibling d in
     let t : Option TreeNode = numbered_node s.number (node_list o) in
     let first : before ≡ flat_before t =
     is_before ∙ ap (λ (k : Option ℕ). part_of so old k) (found ∙ ap (λ (x : Sibling). index_in x.number so) sibling)
@@ -76,13 +76,13 @@ level_goes_on o n so sn d find old new before after i was now whole e f g h dist
     ∙ ap (λ (l : List FlatNode). part_of (siblings_of 0 o) l (index_in s.number (siblings_of 0 o))) g
     ∙ part_found o s.number (distinct_list o distinct_old) in
     let second : after ≡ flat_node (length (flat_nodes s.children)) s.number s.kind s.attributes
-        ∷ flat_nodes s.children =
+    ∷ flat_nodes s.children =
     is_after ∙ ap (λ (x : Sibling). part x.start x.end new) sibling
-        ∙ ap (λ (l : List FlatNode). part s.start s.end l) h ∙ s.part in
+    ∙ ap (λ (l : List FlatNode). part s.start s.end l) h ∙ s.part in
     let children : AreDistinct s.children =
-        (subst (λ (r : Nodes). AreDistinct r) s.here (distinct_from i n distinct_new)).1 in
+    (subst (λ (r : Nodes). AreDistinct r) s.here (distinct_from i n distinct_new)).1 in
     let one = inner t (flat_node (length (flat_nodes s.children)) s.number s.kind s.attributes) s.children first second
-        (found_distinct s.number (node_list o) (each_distinct o distinct_old)) children in
+    (found_distinct s.number (node_list o) (each_distinct o distinct_old)) children in
     let rest : List Op = inner_calls (i + 1) (node_list o) (nodes_from (i + 1) n) in
     ap (λ l. l ++ rest) one
     ∙ append_assoc was (calls_inside i (sets_since t s.attributes ++ ops_between (children_since t) s.children)) rest
@@ -122,6 +122,6 @@ inside_all before node first children index was pushed set now e p s l =
     let level : List Op = ops_between (children_since before) children in
     l ∙ ap (λ (c : List TreeNode). set ++ ops_between c children) (since_before before)
     ∙ ap (λ x. x ++ level) (s ∙ ap (λ (x : FlatNode). pushed ++ sets_since before x.attributes) e
-        ∙ ap (λ x. x ++ sets) p)
+    ∙ ap (λ x. x ++ sets) p)
     ∙ append_assoc (was ++ op.Down index ∷ []) sets level
     ∙ append_assoc was (op.Down index ∷ []) (sets ++ level)

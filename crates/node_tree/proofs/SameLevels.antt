@@ -61,7 +61,7 @@ all_stay : (new old : List TreeNode) → AllIn new old → staying_nodes new old
 all_stay new [] h = refl
 all_stay new (o ∷ old) h =
     ap (λ (b : Bool). cond b (o ∷ staying_nodes new old) (staying_nodes new old)) h.0
-        ∙ ap (λ l. o ∷ l) (all_stay new old h.1)
+    ∙ ap (λ l. o ∷ l) (all_stay new old h.1)
 
 no_arrangements : (index : ℕ) (whole : List TreeNode) (o n : Nodes) → HaveSameNumbers o n → AllIn whole (node_list n)
     → arrangements index whole (node_list o) (node_list n) ≡ []
@@ -72,19 +72,19 @@ no_arrangements index whole (Branch m k a c rest) (Branch m' k' a' c' rest') h f
     let x : TreeNode = tree_node m k a c in
     let same : (m == m') ≡ true = eq-eqb m m' h.0 in
     ap (λ (b : Bool). if b then move_to index (index_of m' (x ∷ node_list rest)) ++ arrangements (index + 1) whole
-        (nodes_without m' (x ∷ node_list rest)) (node_list rest')
+    (nodes_without m' (x ∷ node_list rest)) (node_list rest')
     else op.InsertTopDown index (new_node (tree_node m' k' a' c')) ∷ arrangements (index + 1) whole (x ∷ node_list rest)
-        (node_list rest')) f.0
+    (node_list rest')) f.0
     ∙ ap (λ (b : Bool). move_to index (if b then 0 else 1 + index_of m' (node_list rest)) ++ arrangements
-        (index + 1) whole (if b then node_list rest else x ∷ nodes_without m' (node_list rest)) (node_list rest')) same
+    (index + 1) whole (if b then node_list rest else x ∷ nodes_without m' (node_list rest)) (node_list rest')) same
     ∙ no_arrangements (index + 1) whole rest rest' h.1 f.1
 
 pub no_child_calls : (o n : Nodes) → HaveSameNumbers o n → child_calls (node_list o) (node_list n) ≡ []
 no_child_calls o n h =
     ap (λ (l : List Op). l ++ arrangements 0 (node_list o) (staying_nodes (node_list n) (node_list o)) (node_list n))
-        (no_removals 0 (node_list n) (node_list o) (old_in_new o n h))
+    (no_removals 0 (node_list n) (node_list o) (old_in_new o n h))
     ∙ ap (λ (l : List TreeNode). arrangements 0 (node_list o) l (node_list n))
-        (all_stay (node_list n) (node_list o) (old_in_new o n h))
+    (all_stay (node_list n) (node_list o) (old_in_new o n h))
     ∙ no_arrangements 0 (node_list o) o n h (new_in_old o n h)
 
 -- The nodes of a level are found by their numbers.
@@ -104,7 +104,7 @@ found_later x whole nodes.None h f = tt
 found_later x whole (Branch m k a c rest) h f =
     let apart = parts_false (m == x.number) (has_number x.number (node_list rest)) h in
     let other : (x.number == m) ≡ false =
-        ne_eqb x.number m (λ e. true≢false (sym (eq-eqb m x.number (sym e)) ∙ apart.0)) in (
+    ne_eqb x.number m (λ e. true≢false (sym (eq-eqb m x.number (sym e)) ∙ apart.0)) in (
       ap (λ (b : Bool). if b then Some x else numbered_node m whole) other ∙ f.0,
       found_later x whole rest apart.1 f.1,
     )
@@ -126,7 +126,7 @@ no_sets : (attributes : List Attribute) → set_calls attributes attributes ≡ 
 no_sets [] = refl
 no_sets (a ∷ rest) =
     let same : same_value a.value a.value ≡ true =
-        (told_equal a.value a.value (same_value a.value a.value) refl).1 refl in
+    (told_equal a.value a.value (same_value a.value a.value) refl).1 refl in
     ap (λ (b : Bool). (if b then [] else op.Set a.name a.value ∷ []) ++ set_calls rest rest) same ∙ no_sets rest
 
 no_inner_calls : (index : ℕ) (whole : List TreeNode) (n : Nodes) → FoundIn whole n → AreDistinct n
@@ -138,15 +138,15 @@ no_inner_calls index whole (Branch m k a c rest) f d =
     ∙ ap (λ (l : List Op). l ++ inner_calls 0 (node_list c) c) (no_child_calls c c (same_numbers c))
     ∙ no_inner_calls 0 (node_list c) c (all_found c d.1) d.1 in
     ap (λ (t : Option TreeNode). calls_inside index
-        (sets_since t a ++ (child_calls (children_since t) (node_list c) ++ inner_calls 0 (children_since t) c))
-        ++ inner_calls (index + 1) whole rest) f.0
+    (sets_since t a ++ (child_calls (children_since t) (node_list c) ++ inner_calls 0 (children_since t) c))
+    ++ inner_calls (index + 1) whole rest) f.0
     ∙ ap (λ (l : List Op). calls_inside index l ++ inner_calls (index + 1) whole rest) inside
     ∙ no_inner_calls (index + 1) whole rest f.1 d.2
 
 pub unchanged_tree_needs_no_calls : UnchangedTreeNeedsNoCalls
 unchanged_tree_needs_no_calls n d =
     ap (λ (l : List Op). l ++ inner_calls 0 (node_list n) n) (no_child_calls n n (same_numbers n))
-        ∙ no_inner_calls 0 (node_list n) n (all_found n d) d
+    ∙ no_inner_calls 0 (node_list n) n (all_found n d) d
 
 -- A list without nodes.
 pub no_nodes : (n : Nodes) (xs : List FlatNode) → xs ≡ flat_nodes n → length xs ≡ 0 → n ≡ nodes.None
@@ -206,7 +206,7 @@ pub levels_end : (o n : Nodes) (before after : List FlatNode) → LevelsLeft o n
     → length after ≡ 0 → HaveSameNumbers o n
 levels_end o n before after left e f =
     left.so_far (subst (λ (t : Nodes). HaveSameNumbers t left.new) (sym (no_nodes left.old before left.before_is e))
-        (subst (λ (t : Nodes). HaveSameNumbers nodes.None t) (sym (no_nodes left.new after left.after_is f)) tt))
+    (subst (λ (t : Nodes). HaveSameNumbers nodes.None t) (sym (no_nodes left.new after left.after_is f)) tt))
 
 -- The walk along a level whose siblings have the same numbers.
 
@@ -253,15 +253,15 @@ pub along_ends : (o n : Nodes) (before after : List FlatNode) (index : ℕ) (now
     → IsAlong o n before after index now whole → length after ≡ 0 → now ≡ whole
 along_ends o n before after index now whole a e =
     sym (append-nil now) ∙ ap (λ (r : Nodes). now ++ inner_calls index (node_list o) r)
-        (sym (no_nodes (nodes_from index n) after a.after_is e)) ∙ a.calls
+    (sym (no_nodes (nodes_from index n) after a.after_is e)) ∙ a.calls
 
 -- The requirements and results of the calls inside a node.
 abbrev Inner : ℕ → List FlatNode → List FlatNode → List Op → List Op → Type 0
 Inner index old new was now =
     (before : Option TreeNode) (node : FlatNode) (children : Nodes) → old ≡ flat_before before
-        → new ≡ node ∷ flat_nodes children → ChildrenAreDistinct before → AreDistinct children
+    → new ≡ node ∷ flat_nodes children → ChildrenAreDistinct before → AreDistinct children
     → now ≡ was ++ calls_inside index
-        (sets_since before node.attributes ++ ops_between (children_since before) children)
+    (sets_since before node.attributes ++ ops_between (children_since before) children)
 
 inside_first : (whole : List TreeNode) (old new : Nodes) (index : ℕ) (was now : List Op)
     (first second after : List FlatNode) → after ≡ flat_nodes new → 0 < length after → HaveSameNumbers old new
@@ -273,14 +273,14 @@ inside_first whole old nodes.None index was now first second after e some h f d 
 inside_first whole nodes.None (Branch m' k' a' c' rest') index was now first second after e some h f d g is_first is_second inner = absurd h
 inside_first whole (Branch m k a c rest) (Branch m' k' a' c' rest') index was now first second after e some h f d g is_first is_second inner =
     let found : numbered_node m' whole ≡ Some (tree_node m k a c) =
-        ap (λ (j : ℕ). numbered_node j whole) (sym h.0) ∙ f.0 in
+    ap (λ (j : ℕ). numbered_node j whole) (sym h.0) ∙ f.0 in
     let one = inner (Some (tree_node m k a c)) (flat_node (length (flat_nodes c')) m' k' a') c' is_first
-        is_second d.1 g.1 in
+    is_second d.1 g.1 in
     let more : List Op = inner_calls (index + 1) whole rest' in
     ap (λ (l : List Op). l ++ more) one
     ∙ append_assoc was (calls_inside index (set_calls a a' ++ ops_between (node_list c) c')) more
     ∙ ap (λ (t : Option TreeNode). was
-        ++ (calls_inside index (sets_since t a' ++ ops_between (children_since t) c') ++ more)) (sym found)
+    ++ (calls_inside index (sets_since t a' ++ ops_between (children_since t) c') ++ more)) (sym found)
 
 pub along_goes_on : (o n : Nodes) (before after before' after' first second : List FlatNode) (index : ℕ)
     (was now whole : List Op) → HaveSameNumbers o n → AreDistinct o → AreDistinct n → 0 < length after
@@ -298,7 +298,7 @@ along_goes_on o n before after before' after' first second index was now whole h
       after_is = is_after new a.after_is ∙ ap (λ (t : Nodes). flat_nodes t) (one_further index n);
       calls = ap (λ (t : Nodes). now ++ inner_calls (index + 1) (node_list o) t) (sym (one_further index n))
           ∙ inside_first (node_list o) old new index was now first second after a.after_is some (from_same index o n h)
-              (from_found index (node_list o) o (all_found o d)) (from_distinct index o d) (from_distinct index n g)
+          (from_found index (node_list o) o (all_found o d)) (from_distinct index o d) (from_distinct index n g)
           (is_first old a.before_is) (is_second new a.after_is) inner
           ∙ a.calls;
     }

@@ -58,28 +58,30 @@ apart_more : (done new : List Attribute) (n : Attribute) → Apart done new → 
 unfolding Apart
 apart_more done [] n apart lacks = tt
 apart_more done (m ∷ new) n apart lacks =
-    let p = or_parts (bytes_eq m.name n.name) (has_attribute n.name new) lacks in
-    (joined_names m.name done (n ∷ []) apart.0
-        (or_none (bytes_eq n.name m.name) false (other_way m.name n.name p.0) refl), apart_more done new n apart.1 p.1)
+    let p = or_parts (bytes_eq m.name n.name) (has_attribute n.name new) lacks in (
+      joined_names m.name done (n ∷ []) apart.0
+          (or_none (bytes_eq n.name m.name) false (other_way m.name n.name p.0) refl),
+      apart_more done new n apart.1 p.1,
+    )
 
 set_one : (done more : List Attribute) (o n : Attribute) → o.name ≡ n.name → has_attribute n.name done ≡ false
     → attributes_after_set n.name n.value (done ++ (o ∷ more)) ≡ done ++ (n ∷ more)
 set_one [] more o n e none =
     let is : bytes_eq o.name n.name ≡ true = ap (λ (x : List ℕ). bytes_eq x n.name) e ∙ same_name n.name in
     ap (λ (b : Bool). if b then record { name = o.name; value = n.value } ∷ more
-        else o ∷ attributes_after_set n.name n.value more) is
+    else o ∷ attributes_after_set n.name n.value more) is
     ∙ ap (λ (x : List ℕ). record { name = x; value = n.value } ∷ more) e
 set_one (d ∷ done) more o n e none =
     let p = or_parts (bytes_eq d.name n.name) (has_attribute n.name done) none in
     ap (λ (b : Bool). if b then record { name = d.name; value = n.value } ∷ (done ++ (o ∷ more))
-        else d ∷ attributes_after_set n.name n.value (done ++ (o ∷ more))) p.0
+    else d ∷ attributes_after_set n.name n.value (done ++ (o ∷ more))) p.0
     ∙ ap (λ l. d ∷ l) (set_one done more o n e p.1)
 
 sets_turn : (old new done : List Attribute) (children before after : List TreeNode) (number : ℕ) (kind : List ℕ)
     (os : List OpenNode)
     → names_of old ≡ names_of new → HaveDistinctNames new → Apart done new
     → Turns (tree children (opened before number kind (done ++ old) after os)) (set_calls old new)
-        (tree children (opened before number kind (done ++ new) after os))
+    (tree children (opened before number kind (done ++ new) after os))
 unfolding Apart
 sets_turn [] [] done children before after number kind os e d apart = none_turns _ _ refl
 sets_turn [] (n ∷ new) done children before after number kind os e d apart = absurd cc
@@ -89,7 +91,7 @@ sets_turn (o ∷ old) (n ∷ new) done children before after number kind os e d 
     (turns_from _ _ _ _ (as_one (sym (append_assoc done (n ∷ []) old)))
     (turns_to _ _ _ _ (as_one (append_assoc done (n ∷ []) new))
     (sets_turn old new (done ++ n ∷ []) children before after number kind os later d.1
-        (apart_more done new n apart.1 d.0))))
+    (apart_more done new n apart.1 d.0))))
   where
     first : o.name ≡ n.name
     first = cc
@@ -103,12 +105,12 @@ sets_turn (o ∷ old) (n ∷ new) done children before after number kind os e d 
 
     by : (b : Bool) → same_value o.value n.value ≡ b
         → Turns (tree children (opened before number kind (done ++ (o ∷ old)) after os))
-            (if b then [] else op.Set n.name n.value ∷ [])
-            (tree children (opened before number kind (done ++ (n ∷ old)) after os))
+        (if b then [] else op.Set n.name n.value ∷ [])
+        (tree children (opened before number kind (done ++ (n ∷ old)) after os))
     by true is =
         let value : o.value ≡ n.value = (same_value_decides o.value n.value).0 is in
         let same : o ≡ n = ap (λ (x : List ℕ). record { name = x; value = o.value }) first
-            ∙ ap (λ (v : Value). record { name = n.name; value = v }) value in
+        ∙ ap (λ (v : Value). record { name = n.name; value = v }) value in
         none_turns _ _ (as_one (ap (λ (a : Attribute). done ++ (a ∷ old)) same))
     by false is = one_turns (op.Set n.name n.value) _ _
         (in_the_middle n.name done old o (ap (λ (x : List ℕ). bytes_eq x n.name) first ∙ same_name n.name))
@@ -123,6 +125,6 @@ pub set_calls_turn : (old new : List Attribute) (children before after : List Tr
     (os : List OpenNode)
     → names_of old ≡ names_of new → HaveDistinctNames new
     → Turns (tree children (opened before number kind old after os)) (set_calls old new)
-        (tree children (opened before number kind new after os))
+    (tree children (opened before number kind new after os))
 set_calls_turn old new children before after number kind os e d =
     sets_turn old new [] children before after number kind os e d (none_done new)

@@ -27,9 +27,9 @@ counts_are : (o n : Nodes) (at : ℕ)
 counts_are nodes.None n at = refl
 counts_are (Branch number kind attributes children rest) n at =
     ap (λ (b : Bool). (if b then 1 else 0) ∷ kept_counts (siblings_of 0 n)
-        (siblings_of (at + 1 + length (flat_nodes children)) rest)) (is_some_index n number)
+    (siblings_of (at + 1 + length (flat_nodes children)) rest)) (is_some_index n number)
     ∙ ap (λ l. (if has_number number (node_list n) then 1 else 0) ∷ l)
-        (counts_are rest n (at + 1 + length (flat_nodes children)))
+    (counts_are rest n (at + 1 + length (flat_nodes children)))
 
 removals_are : (new old : List TreeNode) (i : ℕ) → removals_at i (stay_counts new old) ≡ removals i new old
 removals_are new [] i = refl
@@ -37,7 +37,7 @@ removals_are new (o ∷ old) i = by (has_number o.number new) (removals_are new 
   where
     by : (b : Bool) → removals_at (i + 1) (stay_counts new old) ≡ removals (i + 1) new old
         → removals_at (i + 1) (stay_counts new old) ++ (if (if b then 1 else 0) == 0 then op.Remove i 1 ∷ [] else [])
-            ≡ removals (i + 1) new old ++ (if b then [] else op.Remove i 1 ∷ [])
+        ≡ removals (i + 1) new old ++ (if b then [] else op.Remove i 1 ∷ [])
     by true e = ap (λ l. l ++ []) e
     by false e = ap (λ l. l ++ op.Remove i 1 ∷ []) e
 
@@ -47,8 +47,8 @@ counted_are new (o ∷ old) = by (has_number o.number new) (counted_are new old)
   where
     by : (b : Bool) → counted_nodes (stay_counts new old) old ≡ staying_nodes new old
         → (if (if b then 1 else 0) == 0 then counted_nodes (stay_counts new old) old
-            else o ∷ counted_nodes (stay_counts new old) old) ≡ cond b (o ∷ staying_nodes new old)
-            (staying_nodes new old)
+        else o ∷ counted_nodes (stay_counts new old) old) ≡ cond b (o ∷ staying_nodes new old)
+        (staying_nodes new old)
     by true e = ap (λ l. o ∷ l) e
     by false e = e
 
@@ -149,8 +149,10 @@ left_at (o ∷ os) (suc zero ∷ cs) zero q d at s h =
 left_at (o ∷ os) (suc (suc c) ∷ cs) zero q d at s h = absurd (let le : suc (suc c) ≤ 1 = s.0 in omega arith)
 left_at (o ∷ os) (zero ∷ cs) (suc i) q d at s h =
     let later = left_at os cs i q d.1 at s.1 h in
-    record { index = later.index ∙ (let e : total (take i cs) ≡ 0 + total (take i cs) = omega arith in e);
-        rest = later.rest }
+    record {
+      index = later.index ∙ (let e : total (take i cs) ≡ 0 + total (take i cs) = omega arith in e);
+      rest = later.rest;
+    }
 left_at (o ∷ os) (suc zero ∷ cs) (suc i) q d at s h =
     let later = left_at os cs i q d.1 at s.1 h in
     let apart : (o.number == q) ≡ false = other_first o os i q d.0 at in
@@ -173,9 +175,9 @@ arranged (Branch number kind attributes children rest) o whole counts front inde
     by (has_number number old) refl (numbered_node number old) refl (look_up o number d)
     (λ counts small left.
     ap (λ l. arrange_at (index + 1) (λ q. index_in q (siblings_of 0 o)) counts l (siblings_of later rest))
-        (sym (append_assoc front (x ∷ flat_nodes children) (flat_nodes rest)))
+    (sym (append_assoc front (x ∷ flat_nodes children) (flat_nodes rest)))
     ∙ arranged rest o whole counts (front ++ (x ∷ flat_nodes children)) (index + 1) later
-        (omega (arith, length-append front (x ∷ flat_nodes children))) d new.1 small left)
+    (omega (arith, length-append front (x ∷ flat_nodes children))) d new.1 small left)
   where
     x : FlatNode
     x = flat_node (length (flat_nodes children)) number kind attributes
@@ -202,17 +204,17 @@ arranged (Branch number kind attributes children rest) o whole counts front inde
     Rest : Type 0
     Rest = (counts : List ℕ) → AreSmall counts → Left old (counted_nodes counts old) (node_list rest)
         → arrange_at (index + 1) find counts list (siblings_of later rest) ≡ arrangements (index + 1) old
-            (counted_nodes counts old) (node_list rest)
+        (counted_nodes counts old) (node_list rest)
 
     by : (b : Bool) → has_number number old ≡ b → (t : Option TreeNode) → numbered_node number old ≡ t
         → LooksUp o number 0 0 [] None (find number) t → Rest
         → arrangement index (distance_of (find number) counts) (slice_get list at) ++ arrange_at (index + 1) find
-            (counts_after (find number) counts) list (siblings_of later rest)
+        (counts_after (find number) counts) list (siblings_of later rest)
         ≡ (if b
         then move_to index (index_of number (counted_nodes counts old)) ++ arrangements (index + 1) old
-            (nodes_without number (counted_nodes counts old)) (node_list rest)
+        (nodes_without number (counted_nodes counts old)) (node_list rest)
         else op.InsertTopDown index (new_node n) ∷ arrangements (index + 1) old (counted_nodes counts old)
-            (node_list rest))
+        (node_list rest))
     by true has None none looked go =
         absurd (true≢false (sym has ∙ has_is_some number old ∙ ap (λ (p : Option TreeNode). is_some p) none))
     by true has (Some t) some looked go =
@@ -220,7 +222,7 @@ arranged (Branch number kind attributes children rest) o whole counts front inde
         let found : find number ≡ Some i = looked.is ∙ ap (λ k. Some k) (let same : 0 + i ≡ i = omega arith in same) in
         let there : has_number number (counted_nodes counts old) ≡ true =
         has_is_some number (counted_nodes counts old)
-            ∙ ap (λ (p : Option TreeNode). is_some p) (left.same number (has_first n (node_list rest)) ∙ some) in
+        ∙ ap (λ (p : Option TreeNode). is_some p) (left.same number (has_first n (node_list rest)) ∙ some) in
         let more : 0 < get_or counts i 0 = left_count old counts i number d looked.numbered there in
         let out : (get_or counts i 0 == 0) ≡ false = ne_eqb (get_or counts i 0) 0 (λ e. absurd (omega arith)) in
         let place = left_at old counts i number d looked.numbered small more in
@@ -229,28 +231,28 @@ arranged (Branch number kind attributes children rest) o whole counts front inde
         ∙ ap (λ (b : Bool). if b then None else Some (total (take i counts))) out
         ∙ ap (λ k. Some k) (sym place.index) in
         let after : counts_after (find number) counts ≡ set counts i (get_or counts i 0 - 1) =
-            ap (λ (k : Option ℕ). counts_after k counts) found in
+        ap (λ (k : Option ℕ). counts_after k counts) found in
         let less : get_or counts i 0 - 1 ≤ 1 = (let h = small_get counts i small in omega (arith, h)) in
         let next : Left old (counted_nodes (set counts i (get_or counts i 0 - 1)) old) (node_list rest) =
         subst (λ (l : List TreeNode). Left old l (node_list rest)) place.rest
-            (left_after_move old (counted_nodes counts old) (node_list rest) n new.0 left) in
+        (left_after_move old (counted_nodes counts old) (node_list rest) n new.0 left) in
         ap (λ (k : Option ℕ). arrangement index k (slice_get list at) ++ arrange_at (index + 1) find
-            (counts_after (find number) counts) list (siblings_of later rest)) distance
+        (counts_after (find number) counts) list (siblings_of later rest)) distance
         ∙ ap (λ cs. move_to index (index_of number (counted_nodes counts old)) ++ arrange_at (index + 1) find cs list
-            (siblings_of later rest)) after
+        (siblings_of later rest)) after
         ∙ ap (λ l. move_to index (index_of number (counted_nodes counts old)) ++ l)
-            (go (set counts i (get_or counts i 0 - 1)) (small_set counts i (get_or counts i 0 - 1) less small) next)
+        (go (set counts i (get_or counts i 0 - 1)) (small_set counts i (get_or counts i 0 - 1) less small) next)
         ∙ ap (λ l. move_to index (index_of number (counted_nodes counts old)) ++ arrangements (index + 1) old l
-            (node_list rest)) (sym place.rest)
+        (node_list rest)) (sym place.rest)
     by false has (Some t) some looked go =
         absurd (false≢true (sym has ∙ has_is_some number old ∙ ap (λ (p : Option TreeNode). is_some p) some))
     by false has None none looked go =
         ap (λ (k : Option ℕ). arrangement index (distance_of k counts) (slice_get list at) ++ arrange_at
-            (index + 1) find (counts_after k counts) list (siblings_of later rest)) looked
+        (index + 1) find (counts_after k counts) list (siblings_of later rest)) looked
         ∙ ap (λ (k : Option FlatNode). insert_of index k ++ arrange_at (index + 1) find counts list
-            (siblings_of later rest)) here
+        (siblings_of later rest)) here
         ∙ ap (λ l. op.InsertTopDown index (new_node n) ∷ l)
-            (go counts small (left_after_insert old (counted_nodes counts old) (node_list rest) n has left))
+        (go counts small (left_after_insert old (counted_nodes counts old) (node_list rest) n has left))
 
 -- The calls of one level are those of the definition.
 pub sibling_calls_are : (o n : Nodes) → HaveDistinctNumbers (node_list o) → HaveDistinctNumbers (node_list n)
@@ -268,7 +270,7 @@ sibling_calls_are o n d e =
     ap (λ cs. removals_at 0 cs ++ arrange_at 0 find cs (flat_nodes n) (siblings_of 0 n)) (counts_are o n 0)
     ∙ ap (λ l. l ++ arrange_at 0 find (stay_counts new old) (flat_nodes n) (siblings_of 0 n)) (removals_are new old 0)
     ∙ ap (λ l. removals 0 new old ++ l)
-        (arranged n o n (stay_counts new old) [] 0 0 refl d e (small_counts new old) left)
+    (arranged n o n (stay_counts new old) [] 0 0 refl d e (small_counts new old) left)
     ∙ ap (λ l. removals 0 new old ++ arrangements 0 old l new) (counted_are new old)
 
 small_total : (cs : List ℕ) → AreSmall cs → total cs ≤ length cs

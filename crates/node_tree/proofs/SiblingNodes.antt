@@ -28,11 +28,11 @@ siblings_then (Branch number kind attributes children rest) ys at =
     let c : List FlatNode = flat_nodes children in
     let r : List FlatNode = flat_nodes rest in
     let long : length ((c ++ r) ++ ys) ≡ length c + length r + length ys =
-        length-append (c ++ r) ys ∙ ap (λ n. n + length ys) (length-append c r) in
+    length-append (c ++ r) ys ∙ ap (λ n. n + length ys) (length-append c r) in
     let few : min (length c) (length ((c ++ r) ++ ys)) ≡ length c = omega (arith, long) in
     let far : at + 1 + length c + length r ≡ at + suc (length (c ++ r)) = omega (arith, length-append c r) in
     ap (λ n. record { number = number; start = at; end = at + 1 + n } ∷ sibling_list (length c) (at + 1)
-        ((c ++ r) ++ ys)) few
+    ((c ++ r) ++ ys)) few
     ∙ ap (λ l. record { number = number; start = at; end = at + 1 + length c } ∷ l) (
     ap (λ l. sibling_list (length c) (at + 1) l) (append_assoc c r ys)
     ∙ skip_front c (r ++ ys) (at + 1)
@@ -54,7 +54,7 @@ some_index nodes.None q i at last = by (is_some last)
     by false = refl
 some_index (Branch number kind attributes children rest) q i at last =
     some_index rest q (i + 1) (at + 1 + length (flat_nodes children)) (if number == q then Some i else last)
-        ∙ by (number == q) (is_some last) refl
+    ∙ by (number == q) (is_some last) refl
   where
     by : (b l : Bool) → l ≡ is_some last
         → (is_some (if b then Some i else last) || has_number q (node_list rest))
@@ -71,7 +71,7 @@ part_after : (front middle back : List FlatNode) (start end : ℕ) → length fr
     → part start end (front ++ (middle ++ back)) ≡ middle
 part_after front middle back start end e f =
     ap (λ l. take (end - start) l) (drop_at front (middle ++ back) start e)
-        ∙ take_at middle back (end - start) (omega (arith, f))
+    ∙ take_at middle back (end - start) (omega (arith, f))
 
 -- A sibling of a tree, by its index.
 pub record SiblingAt (n : Nodes) (start_at i : ℕ) (front : List FlatNode) : Type 0 where
@@ -90,20 +90,20 @@ pub record SiblingAt (n : Nodes) (start_at i : ℕ) (front : List FlatNode) : Ty
 first_part : (number : ℕ) (kind : List ℕ) (attributes : List Attribute) (children rest : Nodes) (at : ℕ)
     (front : List FlatNode) → length front ≡ at
     → part at (at + 1 + length (flat_nodes children))
-        (front ++ flat_nodes (Branch number kind attributes children rest))
+    (front ++ flat_nodes (Branch number kind attributes children rest))
     ≡ flat_node (length (flat_nodes children)) number kind attributes ∷ flat_nodes children
 first_part number kind attributes children rest at front e =
     part_after front (flat_node (length (flat_nodes children)) number kind attributes ∷ flat_nodes children)
-        (flat_nodes rest) at (at + 1 + length (flat_nodes children)) e (omega arith)
+    (flat_nodes rest) at (at + 1 + length (flat_nodes children)) e (omega arith)
 
 -- The nodes before the later siblings, if the list begins with `front`.
 later_front : (number : ℕ) (kind : List ℕ) (attributes : List Attribute) (children rest : Nodes) (front : List FlatNode)
     → front ++ flat_nodes (Branch number kind attributes children rest)
     ≡ (front ++ (flat_node (length (flat_nodes children)) number kind attributes ∷ flat_nodes children))
-        ++ flat_nodes rest
+    ++ flat_nodes rest
 later_front number kind attributes children rest front =
     sym (append_assoc front (flat_node (length (flat_nodes children)) number kind attributes ∷ flat_nodes children)
-        (flat_nodes rest))
+    (flat_nodes rest))
 
 later_length : (x : FlatNode) (c front : List FlatNode) (at : ℕ) → length front ≡ at
     → length (front ++ (x ∷ c)) ≡ at + 1 + length c
@@ -126,7 +126,7 @@ sibling_from (Branch number kind attributes children rest) at zero front e below
 sibling_from (Branch number kind attributes children rest) at (suc i) front e below =
     let x : FlatNode = flat_node (length (flat_nodes children)) number kind attributes in
     let s = sibling_from rest (at + 1 + length (flat_nodes children)) i (front ++ (x ∷ flat_nodes children))
-        (later_length x (flat_nodes children) front at e) (omega arith) in
+    (later_length x (flat_nodes children) front at e) (omega arith) in
     let next : suc i + 1 ≡ suc (i + 1) = omega arith in
     record {
       number = s.number;
@@ -172,7 +172,7 @@ not_there (Branch number kind attributes children rest) q i at last h =
         → (has_number q (node_list rest) ≡ false
         → last_index q (i + 1) last (siblings_of (at + 1 + length (flat_nodes children)) rest) ≡ last)
         → last_index q (i + 1) (if b then Some i else last) (siblings_of (at + 1 + length (flat_nodes children)) rest)
-            ≡ last
+        ≡ last
     by true e go = absurd (true≢false e)
     by false e go = go e
 
@@ -204,10 +204,10 @@ looks_up (Branch number kind attributes children rest) q i at front last e d =
 
     by : (b : Bool) → (number == q) ≡ b
         → ((last : Option ℕ) → LooksUp rest q (i + 1) later (front ++ (x ∷ flat_nodes children)) last
-            (last_index q (i + 1) last (siblings_of later rest)) (numbered_node q (node_list rest)))
+        (last_index q (i + 1) last (siblings_of later rest)) (numbered_node q (node_list rest)))
         → LooksUp (Branch number kind attributes children rest) q i at front last
-            (last_index q (i + 1) (if b then Some i else last) (siblings_of later rest))
-            (if b then Some (tree_node number kind attributes children) else numbered_node q (node_list rest))
+        (last_index q (i + 1) (if b then Some i else last) (siblings_of later rest))
+        (if b then Some (tree_node number kind attributes children) else numbered_node q (node_list rest))
     by true is go = record {
       index = 0;
       is = not_there rest q (i + 1) later (Some i)

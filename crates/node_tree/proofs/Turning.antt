@@ -62,28 +62,28 @@ length-middle done x more = omega (arith, length-append done (x ∷ more))
 -- The node at an index, opened.
 down_turns : (done more : List TreeNode) (x : TreeNode) (os : List OpenNode) (index : ℕ) → length done ≡ index
     → tree_after (op.Down index) (tree (done ++ (x ∷ more)) os) ≡ tree (node_list x.children)
-        (opened done x.number x.kind x.attributes more os)
+    (opened done x.number x.kind x.attributes more os)
 down_turns done more x os index e = rw (take_at done (x ∷ more) index e, drop_at done (x ∷ more) index e)
 
 -- The calls inside the child at an index turn this child, if they turn its list of children.
 pub inside_turns : (calls : List Op) (done more : List TreeNode) (x : TreeNode) (as_ : List Attribute) (c : Nodes)
     (os : List OpenNode) (index : ℕ) → length done ≡ index
     → Turns (tree (node_list x.children) (opened done x.number x.kind x.attributes more os)) calls
-        (tree (node_list c) (opened done x.number x.kind as_ more os))
+    (tree (node_list c) (opened done x.number x.kind as_ more os))
     → Turns (tree (done ++ (x ∷ more)) os) (calls_inside index calls)
-        (tree (done ++ (tree_node x.number x.kind as_ c ∷ more)) os)
+    (tree (done ++ (tree_node x.number x.kind as_ c ∷ more)) os)
 inside_turns [] done more x as_ c os index e turns = none_turns _ _ (
     ap (λ (k : Nodes). tree (done ++ (tree_node x.number x.kind x.attributes k ∷ more)) os)
-        (sym (nodes_back x.children))
+    (sym (nodes_back x.children))
     ∙ ap (λ (t : CursorTree). tree_after op.Up t) turns.carried
     ∙ ap (λ (k : Nodes). tree (done ++ (tree_node x.number x.kind as_ k ∷ more)) os) (nodes_back c))
 inside_turns (call ∷ calls) done more x as_ c os index e turns =
     let first : Turns (tree (done ++ (x ∷ more)) os) (op.Down index ∷ [])
-        (tree (node_list x.children) (opened done x.number x.kind x.attributes more os)) =
+    (tree (node_list x.children) (opened done x.number x.kind x.attributes more os)) =
     one_turns (op.Down index) _ _ (rw (sym e) (length-middle done x more)) (down_turns done more x os index e) in
     let last : Turns (tree (node_list c) (opened done x.number x.kind as_ more os)) (op.Up ∷ [])
-        (tree (done ++ (tree_node x.number x.kind as_ c ∷ more)) os) =
+    (tree (done ++ (tree_node x.number x.kind as_ c ∷ more)) os) =
     one_turns op.Up _ _ (let h : 0 < suc (length os) = omega arith in h)
-        (ap (λ (k : Nodes). tree (done ++ (tree_node x.number x.kind as_ k ∷ more)) os) (nodes_back c)) in
+    (ap (λ (k : Nodes). tree (done ++ (tree_node x.number x.kind as_ k ∷ more)) os) (nodes_back c)) in
     then_turns (op.Down index ∷ []) (call ∷ calls ++ op.Up ∷ []) _ _ _ first
-        (then_turns (call ∷ calls) (op.Up ∷ []) _ _ _ turns last)
+    (then_turns (call ∷ calls) (op.Up ∷ []) _ _ _ turns last)

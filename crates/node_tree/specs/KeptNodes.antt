@@ -26,8 +26,14 @@ pub record KeptValue : Type 0 where
 
 abbrev pub kept_value : ℕ → List ℕ → List AttributeData → KeptNodes → KeptNodes → KeptNodes → KeptValue
 kept_value number kind attributes children before after =
-    record { number = number; kind = kind; attributes = attributes; children = children; before = before;
-        after = after }
+    record {
+      number = number;
+      kind = kind;
+      attributes = attributes;
+      children = children;
+      before = before;
+      after = after;
+    }
 
 abbrev pub kept_of : List KeptValue → KeptNodes
 kept_of [] = NoNode

@@ -16,10 +16,10 @@ set_links items s x (e ∷ es) v w found is = by (nat_eq x e.0) found (set_links
   where
     by : (b : Bool) → cond b (Some e.1) (lookup (nat_eq x) es) ≡ Some v
         → (lookup (nat_eq x) es ≡ Some v → items w ≡ with_scope s (items v)
-            → entry_links items (set_value (nat_eq x) es w) ≡ links_with s x (entry_links items es))
+        → entry_links items (set_value (nat_eq x) es w) ≡ links_with s x (entry_links items es))
         → entry_links items (cond b ((e.0, w) ∷ es) (e ∷ set_value (nat_eq x) es w))
-            ≡ (if b then (e.0, with_scope s (items e.1)) ∷ entry_links items es else (e.0, items e.1) ∷ links_with s x
-            (entry_links items es))
+        ≡ (if b then (e.0, with_scope s (items e.1)) ∷ entry_links items es else (e.0, items e.1) ∷ links_with s x
+        (entry_links items es))
     by true found later = ap (λ l. (e.0, l) ∷ entry_links items es)
         (is ∙ ap (λ u. with_scope s (items u)) (sym (same_Some e.1 v found)))
     by false found later = ap (λ l. (e.0, items e.1) ∷ l) (later found is)
@@ -31,10 +31,10 @@ insert_links items s x (e ∷ es) w absent is = by (nat_eq x e.0) absent (insert
   where
     by : (b : Bool) → cond b (Some e.1) (lookup (nat_eq x) es) ≡ None
         → (lookup (nat_eq x) es ≡ None → items w ≡ s ∷ []
-            → entry_links items (insert_entry nat_eq es x w) ≡ links_with s x (entry_links items es))
+        → entry_links items (insert_entry nat_eq es x w) ≡ links_with s x (entry_links items es))
         → entry_links items (if b then (e.0, w) ∷ es else e ∷ insert_entry nat_eq es x w)
-            ≡ (if b then (e.0, with_scope s (items e.1)) ∷ entry_links items es else (e.0, items e.1) ∷ links_with s x
-            (entry_links items es))
+        ≡ (if b then (e.0, with_scope s (items e.1)) ∷ entry_links items es else (e.0, items e.1) ∷ links_with s x
+        (entry_links items es))
     by true absent later = absurd (none-some e.1 (sym absent))
     by false absent later = ap (λ l. (e.0, items e.1) ∷ l) (later absent is)
 
@@ -45,7 +45,7 @@ found_scopes items x (e ∷ es) = by (nat_eq x e.0) (found_scopes items x es)
   where
     by : (b : Bool) → option_map_or items (lookup (nat_eq x) es) [] ≡ scopes_in x (entry_links items es)
         → option_map_or items (cond b (Some e.1) (lookup (nat_eq x) es)) []
-            ≡ (if b then items e.1 else scopes_in x (entry_links items es))
+        ≡ (if b then items e.1 else scopes_in x (entry_links items es))
     by true later = refl
     by false later = later
 
@@ -91,11 +91,11 @@ next_entry items g k [] v w found is ls e = absurd (none-some v found)
 next_entry items g zero (x ∷ es) v w found is [] e = absurd cc
 next_entry items g zero (x ∷ es) v w found is (l ∷ ls) e =
     ap (λ u. (x.0, u) ∷ entry_links items es) (is ∙ ap (λ u. g (items u)) (sym (same_Some x.1 v found)))
-        ∙ ap (map_first g) e
+    ∙ ap (map_first g) e
 next_entry items g (suc k) (x ∷ es) v w found is [] e = absurd cc
 next_entry items g (suc k) (x ∷ es) v w found is (l ∷ ls) e =
     ap (λ m. m ++ entry_links items (set_value_at es k w)) (ap entry_at e)
-        ∙ ap (λ m. (l.0, g l.1) ∷ m) (next_entry items g k es v w found is ls (ap entries_after e))
+    ∙ ap (λ m. (l.0, g l.1) ∷ m) (next_entry items g k es v w found is ls (ap entries_after e))
 
 pub length-set : {V : Type 0} (es : List (ℕ × V)) (k : ℕ) (w : V) → length (set_value_at es k w) ≡ length es
 length-set [] k w = refl

@@ -16,7 +16,7 @@ put_in s x y (l ∷ ls) b e = by (x == l.0) refl (y == l.0) refl b e (put_in s x
     by : (c : Bool) → (x == l.0) ≡ c → (d : Bool) → (y == l.0) ≡ d → (b : Bool) → (x == y) ≡ b
         → scopes_in y (links_with s x ls) ≡ (if b then with_scope s (scopes_in y ls) else scopes_in y ls)
         → scopes_in y (if c then (l.0, with_scope s l.1) ∷ ls else l ∷ links_with s x ls)
-            ≡ (if b then with_scope s (if d then l.1 else scopes_in y ls) else (if d then l.1 else scopes_in y ls))
+        ≡ (if b then with_scope s (if d then l.1 else scopes_in y ls) else (if d then l.1 else scopes_in y ls))
     by true f true g true e later = ap (λ c. if c then with_scope s l.1 else scopes_in y ls) g
     by true f true g false e later =
         absurd (true≢false (sym (eq-eqb x x refl) ∙ ap (λ n. x == n) (eqb-true x l.0 f ∙ sym (eqb-true y l.0 g)) ∙ e))

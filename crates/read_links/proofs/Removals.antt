@@ -40,7 +40,7 @@ all_are_others s [] k le h = refl
 all_are_others s (x ∷ xs) zero le h = absurd (omega (arith, le))
 all_are_others s (x ∷ xs) (suc k) le h =
     ap (λ l. x ∷ l) (all_are_others s xs k (omega (arith, le)) h.1)
-        ∙ sym (ap (λ b. if not b then x ∷ scopes_without s xs else scopes_without s xs) h.0)
+    ∙ sym (ap (λ b. if not b then x ∷ scopes_without s xs else scopes_without s xs) h.0)
 
 pub is_scope : (s x y : ℕ) → x ≡ y → x ≡ s → (y == s) ≡ true
 is_scope s x y e is = eq-eqb y s (sym e ∙ is)

@@ -17,13 +17,15 @@ use Rattle.recompose_laws.proofs.Renewals.{composing_again_is_the_frame}
 
 -- Only nodes get numbers.
 
-own_number : (what : GroupKind) (old : Option Found) (k : ℕ) → (number_of what old k).0 ≡ kept_number what (number_of what old k).0
+own_number : (what : GroupKind) (old : Option Found) (k : ℕ)
+    → (number_of what old k).0 ≡ kept_number what (number_of what old k).0
 own_number (Call f vs) old k = refl
 own_number (Node kind attributes) old k = refl
 own_number (Key v) old k = refl
 own_number (Cell ks v) old k = refl
 
-numbered_is_numbered : (old : GroupForest) (here : Path) (seen : List GroupKey) (k : ℕ) (t : GroupForest) → IsNumbered (numbered_forest old here seen k t).0
+numbered_is_numbered : (old : GroupForest) (here : Path) (seen : List GroupKey) (k : ℕ) (t : GroupForest)
+    → IsNumbered (numbered_forest old here seen k t).0
 numbered_is_numbered old here seen k End = tt
 numbered_is_numbered old here seen k (Read x rest) = numbered_is_numbered old here seen k rest
 numbered_is_numbered old here seen k (Group site n what inside rest) =
@@ -59,40 +61,50 @@ quiet (Group site n what inside rest) = (quiet_call what inside, quiet inside, q
 
 -- The walk over a quiet part changes no group.
 
-inside_stays : (m : Map) (owed : List ℕ) (functions : List Func) (what : GroupKind) (inside : GroupForest) (k : ℕ) → IsNotOwed owed what inside → ((fs : List Func) → renewed_groups m owed inside fs k ≡ (inside, k)) →
+inside_stays : (m : Map) (owed : List ℕ) (functions : List Func) (what : GroupKind) (inside : GroupForest) (k : ℕ)
+    → IsNotOwed owed what inside → ((fs : List Func) → renewed_groups m owed inside fs k ≡ (inside, k)) →
     renewed_inside m functions what (is_owed owed inside) inside k (renewed_groups m owed inside) ≡ (inside, k)
 inside_stays m owed functions (Call f vs) inside k none h =
-    ap (λ b. if b then numbered_by_siblings inside [] k (meaning_at (meanings m functions) f vs) else renewed_groups m owed inside (take f functions) k) none
+    ap (λ b. if b then numbered_by_siblings inside [] k (meaning_at (meanings m functions) f vs)
+    else renewed_groups m owed inside (take f functions) k) none
     ∙ h (take f functions)
 inside_stays m owed functions (Node kind attributes) inside k none h = h functions
 inside_stays m owed functions (Key v) inside k none h = h functions
 inside_stays m owed functions (Cell ks v) inside k none h = h functions
 
-stays : (m : Map) (owed : List ℕ) (t : GroupForest) (functions : List Func) (k : ℕ) → IsQuiet owed t → IsNumbered t → renewed_groups m owed t functions k ≡ (t, k)
+stays : (m : Map) (owed : List ℕ) (t : GroupForest) (functions : List Func) (k : ℕ) → IsQuiet owed t → IsNumbered t
+    → renewed_groups m owed t functions k ≡ (t, k)
 stays m owed End functions k q h = refl
-stays m owed (Read x rest) functions k q h = ap (λ (p : GroupForest × ℕ). (Read x p.0, p.1)) (stays m owed rest functions k q h)
+stays m owed (Read x rest) functions k q h =
+    ap (λ (p : GroupForest × ℕ). (Read x p.0, p.1)) (stays m owed rest functions k q h)
 stays m owed (Group site n what inside rest) functions k q h =
-    same_put site (kept_number what n) what (renewed_inside m functions what (is_owed owed inside) inside k (renewed_groups m owed inside)) (inside, k)
+    same_put site (kept_number what n) what
+    (renewed_inside m functions what (is_owed owed inside) inside k (renewed_groups m owed inside)) (inside, k)
     (λ j. renewed_groups m owed rest functions j) (λ j. (rest, j))
-    (inside_stays m owed functions what inside k q.0 (λ fs. stays m owed inside fs k q.1 h.1)) (λ j. stays m owed rest functions j q.2 h.2)
+    (inside_stays m owed functions what inside k q.0 (λ fs. stays m owed inside fs k q.1 h.1))
+    (λ j. stays m owed rest functions j q.2 h.2)
     ∙ ap (λ (x : ℕ). (Group site x what inside rest, k)) (sym h.0)
 
 -- The walk over a quiet part does no work.
 
-inside_idles : (m : Map) (owed : List ℕ) (functions : List Func) (what : GroupKind) (inside : GroupForest) → IsNotOwed owed what inside → ((fs : List Func) → walk_work m owed inside fs ≡ no_work) →
+inside_idles : (m : Map) (owed : List ℕ) (functions : List Func) (what : GroupKind) (inside : GroupForest)
+    → IsNotOwed owed what inside → ((fs : List Func) → walk_work m owed inside fs ≡ no_work) →
     walk_work_inside m owed functions what (is_owed owed inside) inside (walk_work m owed inside) ≡ no_work
 inside_idles m owed functions (Call f vs) inside none h =
-    ap (λ b. if b then with_call true (work owed inside [] true (meaning_at (meanings m functions) f vs)) else walk_work m owed inside (take f functions)) none
+    ap (λ b. if b then with_call true (work owed inside [] true (meaning_at (meanings m functions) f vs))
+    else walk_work m owed inside (take f functions)) none
     ∙ h (take f functions)
 inside_idles m owed functions (Node kind attributes) inside none h = h functions
 inside_idles m owed functions (Key v) inside none h = h functions
 inside_idles m owed functions (Cell ks v) inside none h = h functions
 
-idles : (m : Map) (owed : List ℕ) (t : GroupForest) (functions : List Func) → IsQuiet owed t → walk_work m owed t functions ≡ no_work
+idles : (m : Map) (owed : List ℕ) (t : GroupForest) (functions : List Func) → IsQuiet owed t
+    → walk_work m owed t functions ≡ no_work
 idles m owed End functions q = refl
 idles m owed (Read x rest) functions q = idles m owed rest functions q
 idles m owed (Group site n what inside rest) functions q =
-    ap (λ w. work_sum w (walk_work m owed rest functions)) (inside_idles m owed functions what inside q.0 (λ fs. idles m owed inside fs q.1))
+    ap (λ w. work_sum w (walk_work m owed rest functions))
+    (inside_idles m owed functions what inside q.0 (λ fs. idles m owed inside fs q.1))
     ∙ ap (λ w. work_sum no_work w) (idles m owed rest functions q.2)
 
 pub quiet_part_is_kept : QuietPartIsKept
@@ -118,24 +130,39 @@ nodes-without_numbers (Group site n what inside rest) =
 
 -- A report, by the work that it counts.
 abbrev told : Work → ℕ → ℕ → Report
-told w groups nodes = record { ran = w.ran; calculated = w.calculated; reads = min (length w.reads) (2 ^ 64 - 1); groups = groups; nodes = nodes }
+told w groups nodes = record {
+  ran = w.ran;
+  calculated = w.calculated;
+  reads = min (length w.reads) (2 ^ 64 - 1);
+  groups = groups;
+  nodes = nodes;
+}
 
-told_nothing : (w : Work) (groups nodes groups' nodes' : ℕ) → w ≡ no_work → groups ≡ groups' → nodes ≡ nodes' → told w groups nodes ≡ told no_work groups' nodes'
-told_nothing w groups nodes groups' nodes' e f g = ap (λ v. told v groups nodes) e ∙ ap (λ x. told no_work x nodes) f ∙ ap (λ x. told no_work groups' x) g
+told_nothing : (w : Work) (groups nodes groups' nodes' : ℕ) → w ≡ no_work → groups ≡ groups' → nodes ≡ nodes'
+    → told w groups nodes ≡ told no_work groups' nodes'
+told_nothing w groups nodes groups' nodes' e f g =
+    ap (λ v. told v groups nodes) e ∙ ap (λ x. told no_work x nodes) f ∙ ap (λ x. told no_work groups' x) g
 
 idle_is : (t : GroupForest) → told no_work (how_many t) (how_many_nodes t) ≡ unchanged_report t
 idle_is t = let e : min 0 (2 ^ 64 - 1) ≡ 0 = omega arith in
-    ap {B = Report} (λ x. record { ran = 0; calculated = 0; reads = x; groups = how_many t; nodes = how_many_nodes t }) e
+    ap {B = Report} (λ x. record { ran = 0; calculated = 0; reads = x; groups = how_many t; nodes = how_many_nodes t })
+    e
 
 pub idle_frame : NothingOwedNothingDone
 idle_frame m m' functions root old k kept numbers same =
     let new = forest functions root m' in
     let both = composing_again_is_the_frame m m' [] functions root old k kept same in
-    let keeps : numbered_forest old [] [] k (forest functions root m') ≡ (old, k) = sym both.0 ∙ stays m' [] old functions k (quiet old) numbers in
+    let keeps : numbered_forest old [] [] k (forest functions root m') ≡ (old, k) = sym both.0
+    ∙ stays m' [] old functions k (quiet old) numbers in
     let plain : forest functions root m' ≡ without_numbers old =
     sym (kept_trail_is_the_forest old k functions root m') ∙ ap (λ (p : GroupForest × ℕ). without_numbers p.0) keeps in (
       keeps,
-      told_nothing (record { ran = length (ran [] old new); calculated = length (calculated_cells [] old new); reads = reads [] old new }) (how_many new) (how_many_nodes new) (how_many old) (how_many_nodes old)
-          (sym both.1 ∙ idles m' [] old functions (quiet old)) (ap how_many plain ∙ groups-without_numbers old) (ap how_many_nodes plain ∙ nodes-without_numbers old)
+      told_nothing (record {
+        ran = length (ran [] old new);
+        calculated = length (calculated_cells [] old new);
+        reads = reads [] old new;
+      }) (how_many new) (how_many_nodes new) (how_many old) (how_many_nodes old)
+          (sym both.1 ∙ idles m' [] old functions (quiet old)) (ap how_many plain ∙ groups-without_numbers old)
+          (ap how_many_nodes plain ∙ nodes-without_numbers old)
           ∙ idle_is old,
     )

@@ -19,15 +19,18 @@ use Rattle.recompose_laws.proofs.Refreshes.{split_at}
 
 -- Lookup in a forest with made calls.
 
-pub found_made : (m : Map) (all : List Func) (s : GroupKey) (n : ℕ) (t : GroupForest) → IsMade m all t → IsFoundMade m all (matching_sibling s n t)
+pub found_made : (m : Map) (all : List Func) (s : GroupKey) (n : ℕ) (t : GroupForest) → IsMade m all t
+    → IsFoundMade m all (matching_sibling s n t)
 found_made m all s n End h = tt
 found_made m all s n (Read x rest) h = found_made m all s n rest h
-found_made m all s n (Group site number what inside rest) h = by (same_sibling (sibling site what) s) n (λ j. found_made m all s j rest h.2)
+found_made m all s n (Group site number what inside rest) h =
+    by (same_sibling (sibling site what) s) n (λ j. found_made m all s j rest h.2)
   where
     found : Found
     found = record { number = number; what = what; inside = inside }
 
-    by : (b : Bool) (j : ℕ) → ((k : ℕ) → IsFoundMade m all (matching_sibling s k rest)) → IsFoundMade m all (if b then nth j found (λ k. matching_sibling s k rest) else matching_sibling s j rest)
+    by : (b : Bool) (j : ℕ) → ((k : ℕ) → IsFoundMade m all (matching_sibling s k rest))
+        → IsFoundMade m all (if b then nth j found (λ k. matching_sibling s k rest) else matching_sibling s j rest)
     by true zero later = (h.0, h.1)
     by true (suc j) later = later j
     by false j later = later j
@@ -54,20 +57,24 @@ take-long : {X : Type 0} (xs : List X) (f k : ℕ) → f < k → f < length xs �
 take-long xs f zero h g = absurd (omega (arith, h))
 take-long [] f (suc k) h g = absurd (omega (arith, g))
 take-long (x ∷ xs) zero (suc k) h g = omega arith
-take-long (x ∷ xs) (suc f) (suc k) h g = let e = take-long xs f k (omega (arith, h)) (omega (arith, g)) in omega (arith, e)
+take-long (x ∷ xs) (suc f) (suc k) h g =
+    let e = take-long xs f k (omega (arith, h)) (omega (arith, g)) in omega (arith, e)
 
 take-short : {X : Type 0} (xs : List X) (k : ℕ) → length (take k xs) ≤ length xs
 take-short xs zero = omega arith
 take-short [] (suc k) = omega arith
 take-short (x ∷ xs) (suc k) = let e = take-short xs k in omega (arith, e)
 
-pub front_means : (m : Map) (all : List Func) (k f : ℕ) (vs : List Value) → f < k → meaning_at (meanings m (take k all)) f vs ≡ meaning_at (meanings m all) f vs
+pub front_means : (m : Map) (all : List Func) (k f : ℕ) (vs : List Value) → f < k
+    → meaning_at (meanings m (take k all)) f vs ≡ meaning_at (meanings m all) f vs
 front_means m all k f vs h = elim (split_at f (length all)) [
   | inl below ↦ by all h below refl
-  | inr past ↦ meaning_none m (take k all) f vs (let e = take-short all k in omega (arith, e, past)) ∙ sym (meaning_none m all f vs past)
+  | inr past ↦ meaning_none m (take k all) f vs (let e = take-short all k in omega (arith, e, past))
+      ∙ sym (meaning_none m all f vs past)
 ]
   where
-    by : (fs : List Func) → f < k → f < length fs → fs ≡ all → meaning_at (meanings m (take k all)) f vs ≡ meaning_at (meanings m all) f vs
+    by : (fs : List Func) → f < k → f < length fs → fs ≡ all
+        → meaning_at (meanings m (take k all)) f vs ≡ meaning_at (meanings m all) f vs
     by [] h below e = absurd (omega (arith, below))
     by (g ∷ fs) h below e =
         let long : f < length all = let z = ap (λ (l : List Func). length l) e in omega (arith, z, below) in
@@ -78,73 +85,105 @@ front_means m all k f vs h = elim (split_at f (length all)) [
 
 -- The forests of the program's functions have made calls.
 
-made_reads : (m : Map) (all : List Func) (xs : List ℕ) (t : GroupForest) → IsMade m all t → IsMade m all (reads_then xs t)
+made_reads : (m : Map) (all : List Func) (xs : List ℕ) (t : GroupForest) → IsMade m all t
+    → IsMade m all (reads_then xs t)
 made_reads m all [] t h = h
 made_reads m all (x ∷ xs) t h = made_reads m all xs t h
 
-made_after : {A : Type 0} (m : Map) (all : List Func) (r : Reading A) (go : A → GroupForest) → IsMade m all (go r.value) → IsMade m all (forest_after r go)
+made_after : {A : Type 0} (m : Map) (all : List Func) (r : Reading A) (go : A → GroupForest) → IsMade m all (go r.value)
+    → IsMade m all (forest_after r go)
 unfolding forest_after
 made_after m all r go h = made_reads m all r.reads (go r.value) h
 
-made_joined : (m : Map) (all : List Func) (t u : GroupForest) → IsMade m all t → IsMade m all u → IsMade m all (joined_forest t u)
+made_joined : (m : Map) (all : List Func) (t u : GroupForest) → IsMade m all t → IsMade m all u
+    → IsMade m all (joined_forest t u)
 made_joined m all End u f g = g
 made_joined m all (Read x rest) u f g = made_joined m all rest u f g
 made_joined m all (Group site n what inside rest) u f g = (f.0, f.1, made_joined m all rest u f.2 g)
 
-made_turns : (m : Map) (all : List Func) (go : ℤ → GroupForest) (is : List ℤ) → ((i : ℤ) → IsMade m all (go i)) → IsMade m all (turns go is)
+made_turns : (m : Map) (all : List Func) (go : ℤ → GroupForest) (is : List ℤ) → ((i : ℤ) → IsMade m all (go i))
+    → IsMade m all (turns go is)
 unfolding turns
 made_turns m all go [] h = tt
 made_turns m all go (i ∷ is) h = made_joined m all (go i) (turns go is) (h i) (made_turns m all go is h)
 
-made_choice : (m : Map) (all : List Func) (c : Bool) (x y : GroupForest) → IsMade m all x → IsMade m all y → IsMade m all (if c then x else y)
+made_choice : (m : Map) (all : List Func) (c : Bool) (x y : GroupForest) → IsMade m all x → IsMade m all y
+    → IsMade m all (if c then x else y)
 made_choice m all true x y f g = f
 made_choice m all false x y f g = g
 
 -- The meanings `fs` of the first `k` functions are those among all functions, except for node numbers, and their calls
 -- are made.
 abbrev FrontMade : Map → List Func → ℕ → List Meaning → Type 0
-FrontMade m all k fs = (f : ℕ) (vs : List Value) → f < k → (without_numbers (meaning_at fs f vs) ≡ meaning_at (meanings m all) f vs) × IsMade m all (meaning_at fs f vs)
+FrontMade m all k fs = (f : ℕ) (vs : List Value) → f < k
+    → (without_numbers (meaning_at fs f vs) ≡ meaning_at (meanings m all) f vs) × IsMade m all (meaning_at fs f vs)
 
 mutual
-  stmt_made : (m : Map) (all : List Func) (k : ℕ) (fs : List Meaning) (s : Stmt) (env : Bindings) → FrontMade m all k fs → CallsBelow k s → IsMade m all (run m fs s env)
-  stmt_made m all k fs (Node at site kind attributes body) env front below = made_after m all (eval_named m attributes env) _ (tt, all_made m all k fs body env front below, tt)
+  stmt_made : (m : Map) (all : List Func) (k : ℕ) (fs : List Meaning) (s : Stmt) (env : Bindings) → FrontMade m all k fs
+      → CallsBelow k s → IsMade m all (run m fs s env)
+  stmt_made m all k fs (Node at site kind attributes body) env front below =
+      made_after m all (eval_named m attributes env) _ (tt, all_made m all k fs body env front below, tt)
   stmt_made m all k fs (Call at site name function arguments) env front below =
-      made_after m all (eval_all m arguments env) _ ((front function (eval_all m arguments env).value below).0, (front function (eval_all m arguments env).value below).1, tt)
-  stmt_made m all k fs (Key at site key body) env front below = made_after m all (eval m key env) _ (tt, all_made m all k fs body env front below, tt)
+      made_after m all (eval_all m arguments env) _ (
+        (front function (eval_all m arguments env).value below).0,
+        (front function (eval_all m arguments env).value below).1,
+        tt,
+      )
+  stmt_made m all k fs (Key at site key body) env front below =
+      made_after m all (eval m key env) _ (tt, all_made m all k fs body env front below, tt)
   stmt_made m all k fs (If at site condition then_branch else_branch) env front below =
-      made_after m all (eval m condition env) _ (made_choice m all (is_true (eval m condition env).value) (run_all m fs then_branch env) (run_all m fs else_branch env)
+      made_after m all (eval m condition env) _
+      (made_choice m all (is_true (eval m condition env).value) (run_all m fs then_branch env)
+      (run_all m fs else_branch env)
       (all_made m all k fs then_branch env front below.0) (all_made m all k fs else_branch env front below.1))
   stmt_made m all k fs (For at site name list body) env front below =
-      made_after m all (eval m list env) _ (made_turns m all (λ i. run_all m fs body (env ++ new_binding name.text (value.Int i) ∷ [])) (items_of (eval m list env).value)
+      made_after m all (eval m list env) _
+      (made_turns m all (λ i. run_all m fs body (env ++ new_binding name.text (value.Int i) ∷ []))
+      (items_of (eval m list env).value)
       (λ i. all_made m all k fs body (env ++ new_binding name.text (value.Int i) ∷ []) front below))
   stmt_made m all k fs (Let at site name e body) env front below =
-      made_after m all (eval m e env) _ (all_made m all k fs body (env ++ new_binding name.text (eval m e env).value ∷ []) front below)
+      made_after m all (eval m e env) _
+      (all_made m all k fs body (env ++ new_binding name.text (eval m e env).value ∷ []) front below)
   stmt_made m all k fs (Remember at site name keys e body) env front below =
-      made_after m all (eval_named m keys env) _ (made_after m all (eval m e (eval_named m keys env).value) _
-      (tt, tt, all_made m all k fs body (env ++ new_binding name.text (eval m e (eval_named m keys env).value).value ∷ []) front below))
+      made_after m all (eval_named m keys env) _ (made_after m all (eval m e (eval_named m keys env).value) _ (
+        tt,
+        tt,
+        all_made m all k fs body
+            (env ++ new_binding name.text (eval m e (eval_named m keys env).value).value ∷ []) front below,
+      ))
 
-  all_made : (m : Map) (all : List Func) (k : ℕ) (fs : List Meaning) (body : Stmts) (env : Bindings) → FrontMade m all k fs → AllBelow k body → IsMade m all (run_all m fs body env)
+  all_made : (m : Map) (all : List Func) (k : ℕ) (fs : List Meaning) (body : Stmts) (env : Bindings)
+      → FrontMade m all k fs → AllBelow k body → IsMade m all (run_all m fs body env)
   all_made m all k fs done env front below = tt
   all_made m all k fs (next s ss) env front below =
-      made_joined m all (run m fs s env) (run_all m fs ss env) (stmt_made m all k fs s env front below.0) (all_made m all k fs ss env front below.1)
+      made_joined m all (run m fs s env) (run_all m fs ss env) (stmt_made m all k fs s env front below.0)
+      (all_made m all k fs ss env front below.1)
 
-ordered_at : (fs : List Func) (k f : ℕ) (d : Func) → f < length fs → AreOrdered k fs → AllBelow (k + f) (get_or fs f d).body
+ordered_at : (fs : List Func) (k f : ℕ) (d : Func) → f < length fs → AreOrdered k fs
+    → AllBelow (k + f) (get_or fs f d).body
 ordered_at [] k f d h o = absurd (omega (arith, h))
 ordered_at (g ∷ fs) k zero d h o = let e : k ≡ k + 0 = omega arith in subst (λ n. AllBelow n g.body) e o.0
 ordered_at (g ∷ fs) k (suc f) d h o =
-    let e : (k + 1) + f ≡ k + suc f = omega arith in subst (λ n. AllBelow n (get_or fs f d).body) e (ordered_at fs (k + 1) f d (omega (arith, h)) o.1)
+    let e : (k + 1) + f ≡ k + suc f = omega arith in
+    subst (λ n. AllBelow n (get_or fs f d).body) e (ordered_at fs (k + 1) f d (omega (arith, h)) o.1)
 
 -- The forest of function `f` has made calls, if the forests of the earlier functions have.
-made_at : (m : Map) (all : List Func) (f : ℕ) (vs : List Value) → AreOrdered 0 all → ((j : ℕ) (ws : List Value) → j < f → IsMade m all (meaning_at (meanings m all) j ws)) → IsMade m all (meaning_at (meanings m all) f vs)
+made_at : (m : Map) (all : List Func) (f : ℕ) (vs : List Value) → AreOrdered 0 all
+    → ((j : ℕ) (ws : List Value) → j < f → IsMade m all (meaning_at (meanings m all) j ws))
+    → IsMade m all (meaning_at (meanings m all) f vs)
 made_at m all f vs ordered earlier = elim (split_at f (length all)) [
   | inl below ↦ by all below refl
   | inr past ↦ subst (λ (t : GroupForest). IsMade m all t) (sym (meaning_none m all f vs past)) tt
 ]
   where
-    front : (j : ℕ) (ws : List Value) → j < f → (without_numbers (meaning_at (meanings m (take f all)) j ws) ≡ meaning_at (meanings m all) j ws) × IsMade m all (meaning_at (meanings m (take f all)) j ws)
+    front : (j : ℕ) (ws : List Value) → j < f
+        → (without_numbers (meaning_at (meanings m (take f all)) j ws) ≡ meaning_at (meanings m all) j ws)
+        × IsMade m all (meaning_at (meanings m (take f all)) j ws)
     front j ws less =
-        let same = front_means m all f j ws less in
-        (meaning_plain m (take f all) j ws ∙ same, subst (λ (t : GroupForest). IsMade m all t) (sym same) (earlier j ws less))
+        let same = front_means m all f j ws less in (
+          meaning_plain m (take f all) j ws ∙ same,
+          subst (λ (t : GroupForest). IsMade m all t) (sym same) (earlier j ws less),
+        )
 
     by : (fs : List Func) → f < length fs → fs ≡ all → IsMade m all (meaning_at (meanings m all) f vs)
     by [] below e = absurd (omega (arith, below))
@@ -153,21 +192,26 @@ made_at m all f vs ordered earlier = elim (split_at f (length all)) [
         let zero_is : 0 + f ≡ f = omega arith in
         let body = subst (λ j. AllBelow j (get_or all f g).body) zero_is (ordered_at all 0 f g long ordered) in
         subst (λ (t : GroupForest). IsMade m all t) (sym (meaning_found m all f vs g long))
-        (all_made m all f (meanings m (take f all)) (get_or all f g).body (bind (get_or all f g).parameters vs) front body)
+        (all_made m all f (meanings m (take f all)) (get_or all f g).body (bind (get_or all f g).parameters vs) front
+        body)
 
 -- The forest of function `f` has made calls, by induction on a number greater than `f`.
-means_made : (n : ℕ) (m : Map) (all : List Func) (f : ℕ) (vs : List Value) → f < n → AreOrdered 0 all → IsMade m all (meaning_at (meanings m all) f vs)
+means_made : (n : ℕ) (m : Map) (all : List Func) (f : ℕ) (vs : List Value) → f < n → AreOrdered 0 all
+    → IsMade m all (meaning_at (meanings m all) f vs)
 means_made zero m all f vs h ordered = absurd (omega (arith, h))
-means_made (suc n) m all f vs h ordered = made_at m all f vs ordered (λ j ws less. means_made n m all j ws (omega (arith, less, h)) ordered)
+means_made (suc n) m all f vs h ordered =
+    made_at m all f vs ordered (λ j ws less. means_made n m all j ws (omega (arith, less, h)) ordered)
 
 -- Node numbers do not matter.
 without_numbers-without_numbers : (t : GroupForest) → without_numbers (without_numbers t) ≡ without_numbers t
 without_numbers-without_numbers End = refl
 without_numbers-without_numbers (Read x rest) = ap (λ t. Read x t) (without_numbers-without_numbers rest)
 without_numbers-without_numbers (Group site n what inside rest) =
-    ap (λ t. Group site 0 what t (without_numbers (without_numbers rest))) (without_numbers-without_numbers inside) ∙ ap (λ t. Group site 0 what (without_numbers inside) t) (without_numbers-without_numbers rest)
+    ap (λ t. Group site 0 what t (without_numbers (without_numbers rest))) (without_numbers-without_numbers inside)
+    ∙ ap (λ t. Group site 0 what (without_numbers inside) t) (without_numbers-without_numbers rest)
 
-numbered_inside : (m : Map) (all : List Func) (what : GroupKind) (inside : GroupForest) → IsMadeInside m all what (without_numbers inside) → IsMadeInside m all what inside
+numbered_inside : (m : Map) (all : List Func) (what : GroupKind) (inside : GroupForest)
+    → IsMadeInside m all what (without_numbers inside) → IsMadeInside m all what inside
 numbered_inside m all (trail.Call f vs) inside h = sym (without_numbers-without_numbers inside) ∙ h
 numbered_inside m all (trail.Node kind attributes) inside h = tt
 numbered_inside m all (trail.Key v) inside h = tt
@@ -176,7 +220,8 @@ numbered_inside m all (trail.Cell ks v) inside h = tt
 numbered_made : (m : Map) (all : List Func) (t : GroupForest) → IsMade m all (without_numbers t) → IsMade m all t
 numbered_made m all End h = tt
 numbered_made m all (Read x rest) h = numbered_made m all rest h
-numbered_made m all (Group site n what inside rest) h = (numbered_inside m all what inside h.0, numbered_made m all inside h.1, numbered_made m all rest h.2)
+numbered_made m all (Group site n what inside rest) h =
+    (numbered_inside m all what inside h.0, numbered_made m all inside h.1, numbered_made m all rest h.2)
 
 pub kept_calls_are_made : KeptCallsAreMade
 kept_calls_are_made m functions root old ordered e =

@@ -17,7 +17,8 @@ use Rattle.lang_meaning.proofs.Meanings.{meaning_found, meaning_none}
 use Rattle.recompose_laws.specs.Refreshing.{is_owed, refreshed_groups, SameBut, SameReads, RefreshingIsScratch}
 
 abbrev pub MadeInside : Map → List Func → GroupKind → GroupForest → (List Func → Type 0) → Type 0
-MadeInside m functions (trail.Call f vs) inside made = (inside ≡ meaning_at (meanings m functions) f vs) × made (take f functions)
+MadeInside m functions (trail.Call f vs) inside made =
+    (inside ≡ meaning_at (meanings m functions) f vs) × made (take f functions)
 MadeInside m functions (trail.Node kind attributes) inside made = made functions
 MadeInside m functions (trail.Key v) inside made = made functions
 MadeInside m functions (trail.Cell ks v) inside made = made functions
@@ -26,22 +27,32 @@ MadeInside m functions (trail.Cell ks v) inside made = made functions
 abbrev pub Made : Map → GroupForest → List Func → Type 0
 Made m End functions = Unit {0}
 Made m (Read x rest) functions = Made m rest functions
-Made m (Group site n what inside rest) functions = MadeInside m functions what inside (Made m inside) × Made m rest functions
+Made m (Group site n what inside rest) functions =
+    MadeInside m functions what inside (Made m inside) × Made m rest functions
 
-body_at : (fs : List Func) (j : ℕ) → j < length fs → (f : Func) × ((m : Map) (args : List Value) → meaning_at (meanings m fs) j args ≡ meaning m (meanings m (take j fs)) f args)
+body_at : (fs : List Func) (j : ℕ) → j < length fs
+    → (f : Func) × ((m : Map) (args : List Value)
+    → meaning_at (meanings m fs) j args ≡ meaning m (meanings m (take j fs)) f args)
 body_at [] j h = absurd (omega arith)
 body_at (f ∷ fs) j h = (get_or (f ∷ fs) j f, λ m args. meaning_found m (f ∷ fs) j args f h)
 
-recomposed_forest-own : (fs : List Meaning) (t : GroupForest) → recomposed_forest fs (own_part t) ≡ recomposed_forest fs t
+recomposed_forest-own : (fs : List Meaning) (t : GroupForest)
+    → recomposed_forest fs (own_part t) ≡ recomposed_forest fs t
 recomposed_forest-own fs End = refl
 recomposed_forest-own fs (Read x rest) = ap (λ t. Read x t) (recomposed_forest-own fs rest)
-recomposed_forest-own fs (Group site n (trail.Call f vs) inside rest) = ap (λ t. Group site n (trail.Call f vs) (meaning_at fs f vs) t) (recomposed_forest-own fs rest)
+recomposed_forest-own fs (Group site n (trail.Call f vs) inside rest) =
+    ap (λ t. Group site n (trail.Call f vs) (meaning_at fs f vs) t) (recomposed_forest-own fs rest)
 recomposed_forest-own fs (Group site n (trail.Node kind attributes) inside rest) =
-    ap (λ t. Group site n (trail.Node kind attributes) t (recomposed_forest fs (own_part rest))) (recomposed_forest-own fs inside) ∙ ap (λ t. Group site n (trail.Node kind attributes) (recomposed_forest fs inside) t) (recomposed_forest-own fs rest)
+    ap (λ t. Group site n (trail.Node kind attributes) t (recomposed_forest fs (own_part rest)))
+    (recomposed_forest-own fs inside)
+    ∙ ap (λ t. Group site n (trail.Node kind attributes) (recomposed_forest fs inside) t)
+    (recomposed_forest-own fs rest)
 recomposed_forest-own fs (Group site n (trail.Key v) inside rest) =
-    ap (λ t. Group site n (trail.Key v) t (recomposed_forest fs (own_part rest))) (recomposed_forest-own fs inside) ∙ ap (λ t. Group site n (trail.Key v) (recomposed_forest fs inside) t) (recomposed_forest-own fs rest)
+    ap (λ t. Group site n (trail.Key v) t (recomposed_forest fs (own_part rest))) (recomposed_forest-own fs inside)
+    ∙ ap (λ t. Group site n (trail.Key v) (recomposed_forest fs inside) t) (recomposed_forest-own fs rest)
 recomposed_forest-own fs (Group site n (trail.Cell ks v) inside rest) =
-    ap (λ t. Group site n (trail.Cell ks v) t (recomposed_forest fs (own_part rest))) (recomposed_forest-own fs inside) ∙ ap (λ t. Group site n (trail.Cell ks v) (recomposed_forest fs inside) t) (recomposed_forest-own fs rest)
+    ap (λ t. Group site n (trail.Cell ks v) t (recomposed_forest fs (own_part rest))) (recomposed_forest-own fs inside)
+    ∙ ap (λ t. Group site n (trail.Cell ks v) (recomposed_forest fs inside) t) (recomposed_forest-own fs rest)
 
 pub or_false : (a b : Bool) → (a || b) ≡ false → (a ≡ false) × (b ≡ false)
 or_false true b e = (e, cc)
@@ -49,7 +60,8 @@ or_false false b e = (refl, e)
 
 agree_from : (m m' : Map) (owed : List ℕ) (xs : List ℕ) → SameReads owed xs m m' → meets xs owed ≡ false → Agree m m' xs
 agree_from m m' owed [] same e = tt
-agree_from m m' owed (x ∷ xs) same e = let p = or_false (contains x owed) (meets xs owed) e in (same.0 p.0, agree_from m m' owed xs same.1 p.1)
+agree_from m m' owed (x ∷ xs) same e =
+    let p = or_false (contains x owed) (meets xs owed) e in (same.0 p.0, agree_from m m' owed xs same.1 p.1)
 
 -- The reads of a forest, in parts.
 
@@ -67,26 +79,37 @@ same-back m m' owed (x ∷ xs) ys h = same-back m m' owed xs ys h.1
 
 -- The inside of a group, and what follows the group.
 
-pub same_inside : (m m' : Map) (owed : List ℕ) (site n : ℕ) (what : GroupKind) (inside rest : GroupForest) → SameReads owed (asks (Group site n what inside rest)) m m' → SameReads owed (asks inside) m m'
+pub same_inside : (m m' : Map) (owed : List ℕ) (site n : ℕ) (what : GroupKind) (inside rest : GroupForest)
+    → SameReads owed (asks (Group site n what inside rest)) m m' → SameReads owed (asks inside) m m'
 same_inside m m' owed site n what inside rest h = same-front m m' owed (asks inside) (asks rest) h
 
-pub same_rest : (m m' : Map) (owed : List ℕ) (site n : ℕ) (what : GroupKind) (inside rest : GroupForest) → SameReads owed (asks (Group site n what inside rest)) m m' → SameReads owed (asks rest) m m'
+pub same_rest : (m m' : Map) (owed : List ℕ) (site n : ℕ) (what : GroupKind) (inside rest : GroupForest)
+    → SameReads owed (asks (Group site n what inside rest)) m m' → SameReads owed (asks rest) m m'
 same_rest m m' owed site n what inside rest h = same-back m m' owed (asks inside) (asks rest) h
 
-same-both : (m m' : Map) (owed xs ys : List ℕ) → SameReads owed xs m m' → SameReads owed ys m m' → SameReads owed (xs ++ ys) m m'
+same-both : (m m' : Map) (owed xs ys : List ℕ) → SameReads owed xs m m' → SameReads owed ys m m'
+    → SameReads owed (xs ++ ys) m m'
 same-both m m' owed [] ys h g = g
 same-both m m' owed (x ∷ xs) ys h g = (h.0, same-both m m' owed xs ys h.1 g)
 
-same-own : (m m' : Map) (owed : List ℕ) (t : GroupForest) → SameReads owed (asks t) m m' → SameReads owed (asks (own_part t)) m m'
+same-own : (m m' : Map) (owed : List ℕ) (t : GroupForest) → SameReads owed (asks t) m m'
+    → SameReads owed (asks (own_part t)) m m'
 same-own m m' owed End h = tt
 same-own m m' owed (Read x rest) h = (h.0, same-own m m' owed rest h.1)
-same-own m m' owed (Group site n (trail.Call f vs) inside rest) h = same-own m m' owed rest (same-back m m' owed (asks inside) (asks rest) h)
+same-own m m' owed (Group site n (trail.Call f vs) inside rest) h =
+    same-own m m' owed rest (same-back m m' owed (asks inside) (asks rest) h)
 same-own m m' owed (Group site n (trail.Node kind attributes) inside rest) h =
-    same-both m m' owed (asks (own_part inside)) (asks (own_part rest)) (same-own m m' owed inside (same-front m m' owed (asks inside) (asks rest) h)) (same-own m m' owed rest (same-back m m' owed (asks inside) (asks rest) h))
+    same-both m m' owed (asks (own_part inside)) (asks (own_part rest))
+    (same-own m m' owed inside (same-front m m' owed (asks inside) (asks rest) h))
+    (same-own m m' owed rest (same-back m m' owed (asks inside) (asks rest) h))
 same-own m m' owed (Group site n (trail.Key v) inside rest) h =
-    same-both m m' owed (asks (own_part inside)) (asks (own_part rest)) (same-own m m' owed inside (same-front m m' owed (asks inside) (asks rest) h)) (same-own m m' owed rest (same-back m m' owed (asks inside) (asks rest) h))
+    same-both m m' owed (asks (own_part inside)) (asks (own_part rest))
+    (same-own m m' owed inside (same-front m m' owed (asks inside) (asks rest) h))
+    (same-own m m' owed rest (same-back m m' owed (asks inside) (asks rest) h))
 same-own m m' owed (Group site n (trail.Cell ks v) inside rest) h =
-    same-both m m' owed (asks (own_part inside)) (asks (own_part rest)) (same-own m m' owed inside (same-front m m' owed (asks inside) (asks rest) h)) (same-own m m' owed rest (same-back m m' owed (asks inside) (asks rest) h))
+    same-both m m' owed (asks (own_part inside)) (asks (own_part rest))
+    (same-own m m' owed inside (same-front m m' owed (asks inside) (asks rest) h))
+    (same-own m m' owed rest (same-back m m' owed (asks inside) (asks rest) h))
 
 pub split_at : (a b : ℕ) → (a < b) ⊎ (b ≤ a)
 split_at a zero = inr (omega arith)
@@ -94,62 +117,91 @@ split_at zero (suc b) = inl (omega arith)
 split_at (suc a) (suc b) = elim (split_at a b) [ inl h ↦ inl (omega arith) | inr h ↦ inr (omega arith) ]
 
 -- The old contents of a call that is not owed, with the owed calls inside composed again, are the new contents.
-pub kept_call : (m m' : Map) (owed : List ℕ) (functions : List Func) (f : ℕ) (vs : List Value) (inside : GroupForest) → SameReads owed (asks inside) m m' → inside ≡ meaning_at (meanings m functions) f vs →
-    is_owed owed inside ≡ false → recomposed_forest (meanings m' (take f functions)) inside ≡ meaning_at (meanings m' functions) f vs
+pub kept_call : (m m' : Map) (owed : List ℕ) (functions : List Func) (f : ℕ) (vs : List Value) (inside : GroupForest)
+    → SameReads owed (asks inside) m m' → inside ≡ meaning_at (meanings m functions) f vs →
+    is_owed owed inside ≡ false → recomposed_forest (meanings m' (take f functions)) inside
+    ≡ meaning_at (meanings m' functions) f vs
 kept_call m m' owed functions f vs inside same made e = elim (split_at f (length functions)) [
   | inl h ↦
       let b = body_at functions f h in
-      let was : inside ≡ run_all m (meanings m (take f functions)) b.0.body (bind b.0.parameters vs) = made ∙ b.1 m vs in
-      let agree = subst (λ (t : GroupForest). Agree m m' (asks (own_part t))) was (agree_from m m' owed (asks (own_part inside)) (same-own m m' owed inside same) e) in
-      let now = skipping_is_right m m' (meanings m (take f functions)) (meanings m' (take f functions)) b.0.body (bind b.0.parameters vs) agree in
+      let was : inside ≡ run_all m (meanings m (take f functions)) b.0.body (bind b.0.parameters vs) = made
+      ∙ b.1 m vs in
+      let agree = subst (λ (t : GroupForest). Agree m m' (asks (own_part t))) was
+      (agree_from m m' owed (asks (own_part inside)) (same-own m m' owed inside same) e) in
+      let now = skipping_is_right m m' (meanings m (take f functions)) (meanings m' (take f functions)) b.0.body
+      (bind b.0.parameters vs) agree in
       ap (λ t. recomposed_forest (meanings m' (take f functions)) t) was
-      ∙ sym (recomposed_forest-own (meanings m' (take f functions)) (run_all m (meanings m (take f functions)) b.0.body (bind b.0.parameters vs))) ∙ sym now ∙ sym (b.1 m' vs)
-  | inr h ↦ ap (λ t. recomposed_forest (meanings m' (take f functions)) t) (made ∙ meaning_none m functions f vs h) ∙ sym (meaning_none m' functions f vs h)
+      ∙ sym (recomposed_forest-own (meanings m' (take f functions))
+      (run_all m (meanings m (take f functions)) b.0.body (bind b.0.parameters vs))) ∙ sym now ∙ sym (b.1 m' vs)
+  | inr h ↦ ap (λ t. recomposed_forest (meanings m' (take f functions)) t) (made ∙ meaning_none m functions f vs h)
+      ∙ sym (meaning_none m' functions f vs h)
 ]
 
-choose : (m m' : Map) (owed : List ℕ) (functions : List Func) (f : ℕ) (vs : List Value) (inside : GroupForest) (anew : Bool) → SameReads owed (asks inside) m m' → inside ≡ meaning_at (meanings m functions) f vs →
-    is_owed owed inside ≡ anew → refreshed_groups m' owed inside (take f functions) ≡ recomposed_forest (meanings m' (take f functions)) inside →
-    (if anew then meaning_at (meanings m' functions) f vs else refreshed_groups m' owed inside (take f functions)) ≡ meaning_at (meanings m' functions) f vs
+choose : (m m' : Map) (owed : List ℕ) (functions : List Func) (f : ℕ) (vs : List Value) (inside : GroupForest)
+    (anew : Bool) → SameReads owed (asks inside) m m' → inside ≡ meaning_at (meanings m functions) f vs →
+    is_owed owed inside ≡ anew → refreshed_groups m' owed inside (take f functions)
+    ≡ recomposed_forest (meanings m' (take f functions)) inside →
+    (if anew then meaning_at (meanings m' functions) f vs else refreshed_groups m' owed inside (take f functions))
+    ≡ meaning_at (meanings m' functions) f vs
 choose m m' owed functions f vs inside true same made e h = refl
 choose m m' owed functions f vs inside false same made e h = h ∙ kept_call m m' owed functions f vs inside same made e
 
-pub refreshed_is : (m m' : Map) (owed : List ℕ) (t : GroupForest) (functions : List Func) → SameReads owed (asks t) m m' → Made m t functions → refreshed_groups m' owed t functions ≡ recomposed_forest (meanings m' functions) t
+pub refreshed_is : (m m' : Map) (owed : List ℕ) (t : GroupForest) (functions : List Func) → SameReads owed (asks t) m m'
+    → Made m t functions → refreshed_groups m' owed t functions ≡ recomposed_forest (meanings m' functions) t
 refreshed_is m m' owed End functions same made = refl
-refreshed_is m m' owed (Read x rest) functions same made = ap (λ t. Read x t) (refreshed_is m m' owed rest functions same.1 made)
+refreshed_is m m' owed (Read x rest) functions same made =
+    ap (λ t. Read x t) (refreshed_is m m' owed rest functions same.1 made)
 refreshed_is m m' owed (Group site n (trail.Call f vs) inside rest) functions same made =
-    let h = choose m m' owed functions f vs inside (is_owed owed inside) (same-front m m' owed (asks inside) (asks rest) same) made.0.0 refl (refreshed_is m m' owed inside (take f functions) (same-front m m' owed (asks inside) (asks rest) same) made.0.1) in
-    ap (λ t. Group site n (trail.Call f vs) t (refreshed_groups m' owed rest functions)) h ∙ ap (λ t. Group site n (trail.Call f vs) (meaning_at (meanings m' functions) f vs) t) (refreshed_is m m' owed rest functions (same-back m m' owed (asks inside) (asks rest) same) made.1)
+    let h = choose m m' owed functions f vs inside (is_owed owed inside)
+    (same-front m m' owed (asks inside) (asks rest) same) made.0.0 refl
+    (refreshed_is m m' owed inside (take f functions) (same-front m m' owed (asks inside) (asks rest) same)
+    made.0.1) in
+    ap (λ t. Group site n (trail.Call f vs) t (refreshed_groups m' owed rest functions)) h
+    ∙ ap (λ t. Group site n (trail.Call f vs) (meaning_at (meanings m' functions) f vs) t)
+    (refreshed_is m m' owed rest functions (same-back m m' owed (asks inside) (asks rest) same) made.1)
 refreshed_is m m' owed (Group site n (trail.Node kind attributes) inside rest) functions same made =
-    ap (λ t. Group site n (trail.Node kind attributes) t (refreshed_groups m' owed rest functions)) (refreshed_is m m' owed inside functions (same-front m m' owed (asks inside) (asks rest) same) made.0)
-    ∙ ap (λ t. Group site n (trail.Node kind attributes) (recomposed_forest (meanings m' functions) inside) t) (refreshed_is m m' owed rest functions (same-back m m' owed (asks inside) (asks rest) same) made.1)
+    ap (λ t. Group site n (trail.Node kind attributes) t (refreshed_groups m' owed rest functions))
+    (refreshed_is m m' owed inside functions (same-front m m' owed (asks inside) (asks rest) same) made.0)
+    ∙ ap (λ t. Group site n (trail.Node kind attributes) (recomposed_forest (meanings m' functions) inside) t)
+    (refreshed_is m m' owed rest functions (same-back m m' owed (asks inside) (asks rest) same) made.1)
 refreshed_is m m' owed (Group site n (trail.Key v) inside rest) functions same made =
-    ap (λ t. Group site n (trail.Key v) t (refreshed_groups m' owed rest functions)) (refreshed_is m m' owed inside functions (same-front m m' owed (asks inside) (asks rest) same) made.0)
-    ∙ ap (λ t. Group site n (trail.Key v) (recomposed_forest (meanings m' functions) inside) t) (refreshed_is m m' owed rest functions (same-back m m' owed (asks inside) (asks rest) same) made.1)
+    ap (λ t. Group site n (trail.Key v) t (refreshed_groups m' owed rest functions))
+    (refreshed_is m m' owed inside functions (same-front m m' owed (asks inside) (asks rest) same) made.0)
+    ∙ ap (λ t. Group site n (trail.Key v) (recomposed_forest (meanings m' functions) inside) t)
+    (refreshed_is m m' owed rest functions (same-back m m' owed (asks inside) (asks rest) same) made.1)
 refreshed_is m m' owed (Group site n (trail.Cell ks v) inside rest) functions same made =
-    ap (λ t. Group site n (trail.Cell ks v) t (refreshed_groups m' owed rest functions)) (refreshed_is m m' owed inside functions (same-front m m' owed (asks inside) (asks rest) same) made.0)
-    ∙ ap (λ t. Group site n (trail.Cell ks v) (recomposed_forest (meanings m' functions) inside) t) (refreshed_is m m' owed rest functions (same-back m m' owed (asks inside) (asks rest) same) made.1)
+    ap (λ t. Group site n (trail.Cell ks v) t (refreshed_groups m' owed rest functions))
+    (refreshed_is m m' owed inside functions (same-front m m' owed (asks inside) (asks rest) same) made.0)
+    ∙ ap (λ t. Group site n (trail.Cell ks v) (recomposed_forest (meanings m' functions) inside) t)
+    (refreshed_is m m' owed rest functions (same-back m m' owed (asks inside) (asks rest) same) made.1)
 
 -- The calls that statements make are made by the meanings.
 
-reads_made : (m : Map) (functions : List Func) (xs : List ℕ) (t : GroupForest) → Made m t functions → Made m (reads_then xs t) functions
+reads_made : (m : Map) (functions : List Func) (xs : List ℕ) (t : GroupForest) → Made m t functions
+    → Made m (reads_then xs t) functions
 reads_made m functions [] t h = h
 reads_made m functions (x ∷ xs) t h = reads_made m functions xs t h
 
-after_made : {A : Type 0} (m : Map) (functions : List Func) (r : Reading A) (go : A → GroupForest) → Made m (go r.value) functions → Made m (forest_after r go) functions
+after_made : {A : Type 0} (m : Map) (functions : List Func) (r : Reading A) (go : A → GroupForest)
+    → Made m (go r.value) functions → Made m (forest_after r go) functions
 unfolding forest_after
 after_made m functions r go h = reads_made m functions r.reads (go r.value) h
 
-joined_made : (m : Map) (functions : List Func) (t u : GroupForest) → Made m t functions → Made m u functions → Made m (joined_forest t u) functions
+joined_made : (m : Map) (functions : List Func) (t u : GroupForest) → Made m t functions → Made m u functions
+    → Made m (joined_forest t u) functions
 joined_made m functions End u f g = g
 joined_made m functions (Read x rest) u f g = joined_made m functions rest u f g
 joined_made m functions (Group site n what inside rest) u f g = (f.0, joined_made m functions rest u f.1 g)
 
-turns_made : (m : Map) (functions : List Func) (go : ℤ → GroupForest) (is : List ℤ) → ((i : ℤ) → Made m (go i) functions) → Made m (turns go is) functions
+turns_made : (m : Map) (functions : List Func) (go : ℤ → GroupForest) (is : List ℤ)
+    → ((i : ℤ) → Made m (go i) functions) → Made m (turns go is) functions
 unfolding turns
 turns_made m functions go [] h = tt
-turns_made m functions go (i ∷ is) h = joined_made m functions (go i) (turns go is) (h i) (turns_made m functions go is h)
+turns_made m functions go (i ∷ is) h =
+    joined_made m functions (go i) (turns go is) (h i) (turns_made m functions go is h)
 
-choice_made : (m : Map) (functions : List Func) (c : Bool) (x y : GroupForest) → Made m x functions → Made m y functions → Made m (if c then x else y) functions
+choice_made : (m : Map) (functions : List Func) (c : Bool) (x y : GroupForest) → Made m x functions → Made m y functions
+    → Made m (if c then x else y) functions
 choice_made m functions true x y f g = f
 choice_made m functions false x y f g = g
 
@@ -157,36 +209,51 @@ abbrev pub CallsMade : Map → List Func → Type 0
 CallsMade m functions = (f : ℕ) (vs : List Value) → Made m (meaning_at (meanings m functions) f vs) (take f functions)
 
 mutual
-  run_made : (m : Map) (functions : List Func) (s : Stmt) (env : Bindings) → CallsMade m functions → Made m (run m (meanings m functions) s env) functions
+  run_made : (m : Map) (functions : List Func) (s : Stmt) (env : Bindings) → CallsMade m functions
+      → Made m (run m (meanings m functions) s env) functions
   run_made m functions (Node at site kind attributes body) env calls =
       after_made m functions (eval_named m attributes env) _ (body_made m functions body env calls, tt)
   run_made m functions (Call at site name function arguments) env calls =
       after_made m functions (eval_all m arguments env) _ ((refl, calls function (eval_all m arguments env).value), tt)
-  run_made m functions (Key at site key body) env calls = after_made m functions (eval m key env) _ (body_made m functions body env calls, tt)
+  run_made m functions (Key at site key body) env calls =
+      after_made m functions (eval m key env) _ (body_made m functions body env calls, tt)
   run_made m functions (If at site condition then_branch else_branch) env calls =
-      after_made m functions (eval m condition env) _ (choice_made m functions (is_true (eval m condition env).value) (run_all m (meanings m functions) then_branch env) (run_all m (meanings m functions) else_branch env)
+      after_made m functions (eval m condition env) _
+      (choice_made m functions (is_true (eval m condition env).value)
+      (run_all m (meanings m functions) then_branch env) (run_all m (meanings m functions) else_branch env)
       (body_made m functions then_branch env calls) (body_made m functions else_branch env calls))
   run_made m functions (For at site name list body) env calls =
-      after_made m functions (eval m list env) _ (turns_made m functions (λ i. run_all m (meanings m functions) body (env ++ new_binding name.text (value.Int i) ∷ [])) (items_of (eval m list env).value)
+      after_made m functions (eval m list env) _
+      (turns_made m functions (λ i. run_all m (meanings m functions) body
+      (env ++ new_binding name.text (value.Int i) ∷ [])) (items_of (eval m list env).value)
       (λ i. body_made m functions body (env ++ new_binding name.text (value.Int i) ∷ []) calls))
   run_made m functions (Let at site name e body) env calls =
-      after_made m functions (eval m e env) _ (body_made m functions body (env ++ new_binding name.text (eval m e env).value ∷ []) calls)
+      after_made m functions (eval m e env) _
+      (body_made m functions body (env ++ new_binding name.text (eval m e env).value ∷ []) calls)
   run_made m functions (Remember at site name keys e body) env calls =
-      after_made m functions (eval_named m keys env) _ (after_made m functions (eval m e (eval_named m keys env).value) _
-      (tt, body_made m functions body (env ++ new_binding name.text (eval m e (eval_named m keys env).value).value ∷ []) calls))
+      after_made m functions (eval_named m keys env) _
+      (after_made m functions (eval m e (eval_named m keys env).value) _ (
+        tt,
+        body_made m functions body (env ++ new_binding name.text (eval m e (eval_named m keys env).value).value ∷ [])
+            calls,
+      ))
 
-  body_made : (m : Map) (functions : List Func) (body : Stmts) (env : Bindings) → CallsMade m functions → Made m (run_all m (meanings m functions) body env) functions
+  body_made : (m : Map) (functions : List Func) (body : Stmts) (env : Bindings) → CallsMade m functions
+      → Made m (run_all m (meanings m functions) body env) functions
   body_made m functions done env calls = tt
   body_made m functions (next s ss) env calls =
-      joined_made m functions (run m (meanings m functions) s env) (run_all m (meanings m functions) ss env) (run_made m functions s env calls) (body_made m functions ss env calls)
+      joined_made m functions (run m (meanings m functions) s env) (run_all m (meanings m functions) ss env)
+      (run_made m functions s env calls) (body_made m functions ss env calls)
 
 pub calls_made : (n : ℕ) (m : Map) (functions : List Func) → length functions ≤ n → CallsMade m functions
-calls_made zero m functions h f vs = subst (λ (t : GroupForest). Made m t (take f functions)) (sym (meaning_none m functions f vs (omega arith))) tt
+calls_made zero m functions h f vs =
+    subst (λ (t : GroupForest). Made m t (take f functions)) (sym (meaning_none m functions f vs (omega arith))) tt
 calls_made (suc n) m functions h f vs = elim (split_at f (length functions)) [
   | inl below ↦
       let b = body_at functions f below in
       subst (λ (t : GroupForest). Made m t (take f functions)) (sym (b.1 m vs))
-      (body_made m (take f functions) b.0.body (bind b.0.parameters vs) (calls_made n m (take f functions) (omega (arith, length-take-le f functions, h, below))))
+      (body_made m (take f functions) b.0.body (bind b.0.parameters vs)
+      (calls_made n m (take f functions) (omega (arith, length-take-le f functions, h, below))))
   | inr past ↦ subst (λ (t : GroupForest). Made m t (take f functions)) (sym (meaning_none m functions f vs past)) tt
 ]
 
@@ -194,4 +261,5 @@ forest_made : (m : Map) (functions : List Func) (root : ℕ) → Made m (forest 
 forest_made m functions root = ((refl, calls_made (length functions) m functions (omega arith) root []), tt)
 
 pub refreshing_is_scratch : RefreshingIsScratch
-refreshing_is_scratch m m' owed functions root same = refreshed_is m m' owed (forest functions root m) functions same (forest_made m functions root)
+refreshing_is_scratch m m' owed functions root same =
+    refreshed_is m m' owed (forest functions root m) functions same (forest_made m functions root)

@@ -63,8 +63,8 @@ abbrev pub FunctionsCalculate : Calculation → List Func → Type 0
 FunctionsCalculate calc [] = Unit {0}
 FunctionsCalculate calc (f ∷ fs) = StmtsCalculate calc f.body × FunctionsCalculate calc fs
 
--- Law: if `calc` gives the values of all calculations of a program, it gives the values of the cells in each forest that
--- a frame keeps.
+-- Law: if `calc` gives the values of all calculations of a program, it gives the values of the cells in each forest
+-- that a frame keeps.
 abbrev pub KeptCellsAreCalculated : Type 0
 KeptCellsAreCalculated = (calc : Calculation) (m : Map) (functions : List Func) (root : ℕ) (old : GroupForest) →
     FunctionsCalculate calc functions → without_numbers old ≡ forest functions root m → CellsAreCalculated calc old

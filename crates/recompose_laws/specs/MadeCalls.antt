@@ -48,8 +48,8 @@ abbrev pub AreOrdered : ℕ → List Func → Type 0
 AreOrdered k [] = Unit {0}
 AreOrdered k (f ∷ fs) = AllBelow k f.body × AreOrdered (k + 1) fs
 
--- Law: if each function calls only earlier functions, each call of a kept forest contains what its function makes in the
--- map of that forest.
+-- Law: if each function calls only earlier functions, each call of a kept forest contains what its function makes in
+-- the map of that forest.
 abbrev pub KeptCallsAreMade : Type 0
 KeptCallsAreMade = (m : Map) (functions : List Func) (root : ℕ) (old : GroupForest) → AreOrdered 0 functions →
     without_numbers old ≡ forest functions root m → IsMade m functions old

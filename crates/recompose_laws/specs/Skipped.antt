@@ -10,8 +10,9 @@ use Rattle.recompose_laws.specs.Refreshing.{is_owed, SameReads}
 use Rattle.recompose_laws.specs.Walking.{walk_work}
 use Rattle.recompose_laws.specs.Numbering.{without_numbers, numbered_by_siblings, renewed_groups}
 
--- Law: for a call with equal arguments whose own reads do not include an owed object, the walk over its old groups gives
--- what composing the call again next to them gives: the same groups with numbers, the same work, and the same own reads.
+-- Law: for a call with equal arguments whose own reads do not include an owed object, the walk over its old groups
+-- gives what composing the call again next to them gives: the same groups with numbers, the same work, and the same own
+-- reads.
 abbrev pub SkippedCallIsRenewed : Type 0
 SkippedCallIsRenewed =
     (m m' : Map) (owed : List ℕ) (functions : List Func) (f : ℕ) (vs : List Value) (inside : GroupForest) (next : ℕ) →

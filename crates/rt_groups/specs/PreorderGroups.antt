@@ -36,4 +36,4 @@ preorder depth End = []
 preorder depth (Read x rest) = preorder depth rest
 preorder depth (trail.Group site number what inside rest) =
     flat_group depth site number (flat_kind what) (flat_reads what inside)
-        ∷ (preorder (depth + 1) inside ++ preorder depth rest)
+    ∷ (preorder (depth + 1) inside ++ preorder depth rest)

@@ -8,14 +8,22 @@ use Rattle.rt_streams.specs.Streams.{AppendsPart}
 -- All of xs and then a prefix of ys is a prefix of both.
 pub part-behind : (a b c : Option (List ℕ)) (xs ys : List ℕ) → Appends a b xs → AppendsPart b c ys
     → AppendsPart a c (xs ++ ys)
-part-behind a b c xs ys all part =
-    (xs ++ part.0, part.1, append_assoc xs part.0 part.1 ∙ ap (λ l. xs ++ l) part.2,
-    Appends-trans a b c xs part.0 all part.3)
+part-behind a b c xs ys all part = (
+  xs ++ part.0,
+  part.1,
+  append_assoc xs part.0 part.1 ∙ ap (λ l. xs ++ l) part.2,
+  Appends-trans a b c xs part.0 all part.3,
+)
 
 -- A prefix of xs is a prefix of xs ++ ys.
 pub part-front : (a b : Option (List ℕ)) (xs ys : List ℕ) → AppendsPart a b xs → AppendsPart a b (xs ++ ys)
-part-front a b xs ys part = (part.0, part.1 ++ ys, sym (append_assoc part.0 part.1 ys)
-    ∙ ap (λ l. l ++ ys) part.2, part.3)
+part-front a b xs ys part = (
+  part.0,
+  part.1 ++ ys,
+  sym (append_assoc part.0 part.1 ys)
+      ∙ ap (λ l. l ++ ys) part.2,
+  part.3,
+)
 
 -- An append of the first `n` bytes appends a prefix.
 pub part-take : (a b : Option (List ℕ)) (n : ℕ) (xs : List ℕ) → Appends a b (take n xs) → AppendsPart a b xs

@@ -46,8 +46,11 @@ none_begins front e b = let is = whole-spells (front ++ b.more) b.forest b.spell
 -- Bytes after which lists are open too deep are no prefix of a shallow text.
 none_shallow : (front : List ℕ) → IsSomeAnd (run first_state 0 front) (λ s. 100 < depth_reached s.1 s.2)
     → ¬ IsShallowTextFront front
-none_shallow front h b = omega (arith, b.shallow,
-    deep_whole front b.more b.forest h (whole-spells (front ++ b.more) b.forest b.spells))
+none_shallow front h b = omega (
+  arith,
+  b.shallow,
+  deep_whole front b.more b.forest h (whole-spells (front ++ b.more) b.forest b.spells),
+)
 
 -- The byte after which the machine has no state is the byte that it rejects.
 stuck_next : (bytes : List ℕ) (at : ℕ) (s : State) → at < length bytes → state_at bytes at ≡ Some s
@@ -104,8 +107,12 @@ refuses_cause bytes (stops.TooDeep at) utf8 r = deep_cause bytes at utf8 r
 -- Each prefix of a shallow text is a prefix of a shallow text.
 front_begins : (bytes : List ℕ) (n : ℕ) (f : Forest) → Spells bytes f → nesting f ≤ 100
     → IsShallowTextFront (take n bytes)
-front_begins bytes n f s le = record { more = drop n bytes; forest = f;
-    spells = subst (λ (l : List ℕ). Spells l f) (sym (take-append-drop n bytes)) s; shallow = le }
+front_begins bytes n f s le = record {
+  more = drop n bytes;
+  forest = f;
+  spells = subst (λ (l : List ℕ). Spells l f) (sym (take-append-drop n bytes)) s;
+  shallow = le;
+}
 
 begins : (bytes : List ℕ) → IsShallowTextFront bytes → IsTextFront bytes
 begins bytes b = record { more = b.more; forest = b.forest; spells = b.spells }
@@ -125,7 +132,7 @@ no_cause bytes (stops.TooDeep at) f r n s le = r.deep (front_begins bytes (suc a
 shorter : (bytes : List ℕ) (m n : ℕ) → m ≤ n → IsShallowTextFront (take n bytes) → IsShallowTextFront (take m bytes)
 shorter bytes m n le b =
     let front : take n bytes ≡ take m bytes ++ drop m (take n bytes) = sym (take-append-drop m (take n bytes))
-        ∙ ap (λ l. l ++ drop m (take n bytes)) (take-take m n bytes le) in
+    ∙ ap (λ l. l ++ drop m (take n bytes)) (take-take m n bytes le) in
     record {
       more = drop m (take n bytes) ++ b.more;
       forest = b.forest;
@@ -153,8 +160,10 @@ bad_deep bytes p q r d = elim (lt_eq_or_gt p q) [
 ]
 
 same_place : (p q : ℕ) → ¬ (p < q) → ¬ (q < p) → p ≡ q
-same_place p q a b = elim (lt_eq_or_gt p q) [ inl lt ↦ absurd (a lt)
-    | inr h ↦ elim h [ inl e ↦ e | inr gt ↦ absurd (b gt) ] ]
+same_place p q a b = elim (lt_eq_or_gt p q) [
+  | inl lt ↦ absurd (a lt)
+  | inr h ↦ elim h [ inl e ↦ e | inr gt ↦ absurd (b gt) ]
+]
 
 -- Bytes have at most one cause of a refusal.
 pub same_cause : (bytes : List ℕ) (a b : TextStop) → Cause bytes a → Cause bytes b → a ≢ stops.NoMemory

@@ -73,8 +73,14 @@ not_blank b e = false_from_ne_true (is_blank b) (λ s. let p : is_atom_byte b �
 -- A byte of an atom begins an atom.
 pub start_word : (at b : ℕ) (os : OpenLists) (f : Forest) → is_atom_byte b ≡ true
     → start at b os f ≡ Some (in_word at (b ∷ []), os, f)
-start_word at b os f e = rw (not_blank b e, other_than b 59 e refl, other_than b 40 e refl, other_than b 41 e refl,
-    other_than b 34 e refl, e) refl
+start_word at b os f e = rw (
+  not_blank b e,
+  other_than b 59 e refl,
+  other_than b 40 e refl,
+  other_than b 41 e refl,
+  other_than b 34 e refl,
+  e,
+) refl
 
 -- The bytes of an atom are appended to the unfinished atom.
 pub name_on : (bs : List ℕ) (from : ℕ) (name : List ℕ) (os : OpenLists) (f : Forest) (at : ℕ)
@@ -84,8 +90,8 @@ name_on [] from name os f at h = ap (λ l. Some (in_word from l, os, f)) (sym (a
 name_on (b ∷ bs) from name os f at h =
     let p = both (is_atom_byte b) (list_all is_atom_byte bs) h in
     ap (λ w. option_and_then (λ t. run t (at + 1) bs)
-        (cond w (Some (in_word from (name ++ b ∷ []), os, f)) (start at b os (joined_trees f (atom from name empty)))))
-        p.0
+    (cond w (Some (in_word from (name ++ b ∷ []), os, f)) (start at b os (joined_trees f (atom from name empty)))))
+    p.0
     ∙ name_on bs from (name ++ b ∷ []) os f (at + 1) p.1
     ∙ ap (λ l. Some (in_word from l, os, f)) (append_assoc name (b ∷ []) bs)
 
@@ -124,7 +130,7 @@ chars_on [] from chars os f at h = ap (λ l. Some (in_text from l, os, f)) (sym 
 chars_on (c ∷ cs) from chars os f at h =
     let p = both (is_char c) (list_all is_char cs) h in
     run_on (escape c) (escaped_string cs) (in_text from chars, os, f) (in_text from (chars ++ c ∷ []), os, f) at
-        (escape_on c from chars os f at p.0)
+    (escape_on c from chars os f at p.0)
     ∙ chars_on cs from (chars ++ c ∷ []) os f (at + length (escape c)) p.1
     ∙ ap (λ l. Some (in_text from l, os, f)) (append_assoc chars (c ∷ []) cs)
 
@@ -181,13 +187,13 @@ after_spelling-settled (word name s) m f at =
     ∙ joined_trees_assoc (settled m f) (atom at name empty) (forest_at (at + length name) s)
 after_spelling-settled (quoted chars s) m f at =
     after_spelling-settled s gap (joined_trees (settled m f) (text at chars empty))
-        (at + length (escaped_string chars) + 2)
+    (at + length (escaped_string chars) + 2)
     ∙ joined_trees_assoc (settled m f) (text at chars empty) (forest_at (at + length (escaped_string chars) + 2) s)
 after_spelling-settled (parens inner s) m f at =
     after_spelling-settled s gap (joined_trees (settled m f) (list at (forest_at (at + 1) inner) empty))
-        (at + length (spelling_bytes inner) + 2)
+    (at + length (spelling_bytes inner) + 2)
     ∙ joined_trees_assoc (settled m f) (list at (forest_at (at + 1) inner) empty)
-        (forest_at (at + length (spelling_bytes inner) + 2) s)
+    (forest_at (at + length (spelling_bytes inner) + 2) s)
 
 -- The state with the open lists `os` and the mode and trees of `p`.
 abbrev pub beside : OpenLists → Mode × Forest → State
@@ -227,12 +233,12 @@ finish-between (in_escape from chars) f h = absurd h
 pub spelling_on : (s : Spelling) (m : Mode) (os : OpenLists) (f : Forest) (at : ℕ) (rest : List ℕ)
     → is_well_spelled s ≡ true → IsApart m s
     → run (m, os, f) at (spelling_bytes s ++ rest) ≡ run (beside os (after_spelling m f at s))
-        (at + length (spelling_bytes s)) rest
+    (at + length (spelling_bytes s)) rest
 spelling_on nothing m os f at rest h k = ap (λ n. run (m, os, f) n rest) (omega arith)
 spelling_on (blank b s) m os f at rest h k =
     let p = both (is_blank b) (is_well_spelled s) h in
     begins_on m os f at b (spelling_bytes s ++ rest) (gap, os, settled m f) (between-apart m (blank b s) k)
-        (blank_no_atom b p.0) (rw p.0 refl)
+    (blank_no_atom b p.0) (rw p.0 refl)
     ∙ spelling_on s gap os (settled m f) (at + 1) rest p.1 tt
     ∙ ap (λ n. run (beside os (after_spelling gap (settled m f) (at + 1) s)) n rest) (omega arith)
 spelling_on (comment cs s) m os f at rest h k =
@@ -244,7 +250,7 @@ spelling_on (comment cs s) m os f at rest h k =
     ∙ ap (λ n. run (gap, os, settled m f) n (spelling_bytes s ++ rest)) (omega arith)
     ∙ spelling_on s gap os (settled m f) (at + length cs + 2) rest p.1 tt
     ∙ ap (λ n. run (beside os (after_spelling gap (settled m f) (at + length cs + 2) s)) n rest)
-        (omega (arith, length-append cs (10 ∷ spelling_bytes s)))
+    (omega (arith, length-append cs (10 ∷ spelling_bytes s)))
 spelling_on (word [] s) m os f at rest h k = cc
 spelling_on (word (b ∷ bs) s) m os f at rest h k =
     let p = both (is_name (b ∷ bs) && not (begins_with_word s)) (is_well_spelled s) h in
@@ -254,42 +260,42 @@ spelling_on (word (b ∷ bs) s) m os f at rest h k =
     word_begins m os f at b ((bs ++ spelling_bytes s) ++ rest) (word_ready m (b ∷ bs) s k) r.0
     ∙ ap (run o (at + 1)) (append_assoc bs (spelling_bytes s) rest)
     ∙ run_on bs (spelling_bytes s ++ rest) o (in_word at (b ∷ bs), os, settled m f) (at + 1)
-        (name_on bs at (b ∷ []) os (settled m f) (at + 1) r.1)
+    (name_on bs at (b ∷ []) os (settled m f) (at + 1) r.1)
     ∙ ap (λ n. run (in_word at (b ∷ bs), os, settled m f) n (spelling_bytes s ++ rest)) (omega arith)
     ∙ spelling_on s (in_word at (b ∷ bs)) os (settled m f) (at + suc (length bs)) rest p.1
-        (negated (begins_with_word s) q.1)
+    (negated (begins_with_word s) q.1)
     ∙ ap (λ n. run (beside os (after_spelling (in_word at (b ∷ bs)) (settled m f) (at + suc (length bs)) s)) n rest)
-        (omega (arith, length-append bs (spelling_bytes s)))
+    (omega (arith, length-append bs (spelling_bytes s)))
 spelling_on (quoted chars s) m os f at rest h k =
     let p = both (list_all is_char chars) (is_well_spelled s) h in
     let o : State = (in_text at [], os, settled m f) in
     let g : Forest = joined_trees (settled m f) (text at chars empty) in
     begins_on m os f at 34 ((escaped_string chars ++ 34 ∷ spelling_bytes s) ++ rest) o
-        (between-apart m (quoted chars s) k) refl refl
+    (between-apart m (quoted chars s) k) refl refl
     ∙ ap (run o (at + 1)) (append_assoc (escaped_string chars) (34 ∷ spelling_bytes s) rest)
     ∙ run_on (escaped_string chars) (34 ∷ spelling_bytes s ++ rest) o (in_text at chars, os, settled m f) (at + 1)
-        (chars_on chars at [] os (settled m f) (at + 1) p.0)
+    (chars_on chars at [] os (settled m f) (at + 1) p.0)
     ∙ ap (λ n. run (gap, os, g) n (spelling_bytes s ++ rest)) (omega arith)
     ∙ spelling_on s gap os g (at + length (escaped_string chars) + 2) rest p.1 tt
     ∙ ap (λ n. run (beside os (after_spelling gap g (at + length (escaped_string chars) + 2) s)) n rest)
-        (omega (arith, length-append (escaped_string chars) (34 ∷ spelling_bytes s)))
+    (omega (arith, length-append (escaped_string chars) (34 ∷ spelling_bytes s)))
 spelling_on (parens inner s) m os f at rest h k =
     let p = both (is_well_spelled inner) (is_well_spelled s) h in
     let around : OpenLists = (at, settled m f) ∷ os in
     let t : Mode × Forest = after_spelling gap empty (at + 1) inner in
     let g : Forest = joined_trees (settled m f) (list at (forest_at (at + 1) inner) empty) in
     begins_on m os f at 40 ((spelling_bytes inner ++ 41 ∷ spelling_bytes s) ++ rest) (gap, around, empty)
-        (between-apart m (parens inner s) k) refl refl
+    (between-apart m (parens inner s) k) refl refl
     ∙ ap (run (gap, around, empty) (at + 1)) (append_assoc (spelling_bytes inner) (41 ∷ spelling_bytes s) rest)
     ∙ spelling_on inner gap around empty (at + 1) (41 ∷ spelling_bytes s ++ rest) p.0 tt
     ∙ begins_on t.0 around t.1 (at + 1 + length (spelling_bytes inner)) 41 (spelling_bytes s ++ rest) (gap, os, g)
-        (after_spelling-between inner gap empty (at + 1) tt) refl
+    (after_spelling-between inner gap empty (at + 1) tt) refl
     (ap (λ i. Some (gap, os, joined_trees (settled m f) (list at i empty)))
-        (after_spelling-settled inner gap empty (at + 1)))
+    (after_spelling-settled inner gap empty (at + 1)))
     ∙ ap (λ n. run (gap, os, g) n (spelling_bytes s ++ rest)) (omega arith)
     ∙ spelling_on s gap os g (at + length (spelling_bytes inner) + 2) rest p.1 tt
     ∙ ap (λ n. run (beside os (after_spelling gap g (at + length (spelling_bytes inner) + 2) s)) n rest)
-        (omega (arith, length-append (spelling_bytes inner) (41 ∷ spelling_bytes s)))
+    (omega (arith, length-append (spelling_bytes inner) (41 ∷ spelling_bytes s)))
 
 -- A comment that the end of the input ends changes no tree.
 pub tail_on : (tail : List ℕ) (m : Mode) (f : Forest) (at : ℕ) → IsBetween m → is_tail tail ≡ true
@@ -298,7 +304,7 @@ tail_on [] m f at h e = finish-between m f h
 tail_on (b ∷ bs) m f at h e =
     let p = both (b == 59) (is_comment bs) e in
     subst (λ (x : ℕ). option_and_then forest_at_end (run (m, [], f) at (x ∷ bs)) ≡ Some (settled m f))
-        (sym (eqb-true b 59 p.0))
+    (sym (eqb-true b 59 p.0))
     (ap (option_and_then forest_at_end)
     (begins_on m [] f at 59 bs (in_comment, [], settled m f) h refl refl ∙ comment_on bs [] (settled m f) (at + 1) p.1))
 
@@ -309,7 +315,7 @@ whole-spells bytes f s =
     ap whole s.bytes_are
     ∙ ap (option_and_then forest_at_end) (spelling_on s.spelling gap [] empty 0 s.tail s.well_spelled tt)
     ∙ tail_on s.tail t.0 t.1 (0 + length (spelling_bytes s.spelling))
-        (after_spelling-between s.spelling gap empty 0 tt) s.ends
+    (after_spelling-between s.spelling gap empty 0 tt) s.ends
     ∙ ap Some (after_spelling-settled s.spelling gap empty 0)
     ∙ ap Some (sym s.forest_is)
 

@@ -30,8 +30,12 @@ closing_on (o ∷ os) f at = closing_on os (joined_trees o.1 (list o.0 f empty))
 nesting-closes : (os : OpenLists) (f : Forest) → nesting (closes os f) ≡ depth_reached os f
 nesting-closes [] f = refl
 nesting-closes (o ∷ os) f =
-    omega (arith, nesting-closes os (joined_trees o.1 (list o.0 f empty)),
-        depth_reached-joined_trees os o.1 (list o.0 f empty), length_le-depth_reached os o.1)
+    omega (
+      arith,
+      nesting-closes os (joined_trees o.1 (list o.0 f empty)),
+      depth_reached-joined_trees os o.1 (list o.0 f empty),
+      length_le-depth_reached os o.1,
+    )
 
 -- The bytes that end a comment or a string, and the resulting trees.
 abbrev ending : Mode → List ℕ
@@ -50,7 +54,7 @@ ended (in_escape from chars) f = joined_trees f (text from (chars ++ 34 ∷ []) 
 
 word_closes : (from : ℕ) (name : List ℕ) (os : OpenLists) (f : Forest) (at : ℕ)
     → option_and_then forest_at_end (run (in_word from name, os, f) at (closing os)) ≡ Some
-        (closes os (joined_trees f (atom from name empty)))
+    (closes os (joined_trees f (atom from name empty)))
 word_closes from name [] f at = refl
 word_closes from name (o ∷ os) f at =
     ap (option_and_then forest_at_end)
@@ -113,7 +117,7 @@ completed bytes s utf8 e =
           (IsUtf8-append bytes more utf8
           (IsUtf8-append (ending s.0) (closing s.1) (ending_utf8 s.0) (closing_utf8 s.1)))
           (ap (option_and_then forest_at_end) (run_on bytes more first_state s 0 e)
-              ∙ completes s.0 s.1 s.2 (0 + length bytes));
+          ∙ completes s.0 s.1 s.2 (0 + length bytes));
       deep = nesting-closes s.1 (ended s.0 s.2) ∙ depth_reached-ended s.0 s.1 s.2;
     }
 
@@ -132,17 +136,17 @@ pub blank_ascii : (b : ℕ) → is_blank b ≡ true → b < 128
 blank_ascii b =
     let P : Type 0 = b < 128 in
     either P _ _ (either P _ _ (either P _ _ (is_ascii b 32 (omega arith)) (is_ascii b 9 (omega arith)))
-        (is_ascii b 10 (omega arith))) (is_ascii b 13 (omega arith))
+    (is_ascii b 10 (omega arith))) (is_ascii b 13 (omega arith))
 
 pub atom_ascii : (b : ℕ) → is_atom_byte b ≡ true → b < 128
 atom_ascii b =
     let P : Type 0 = b < 128 in
     either P _ _ (either P _ _ (either P _ _
-        (either P _ _ (either P _ _ (either P _ _
-        (either P _ _ (either P _ _ (either P _ _
-        (either P _ _ (either P _ _ (either P _ _
-        (either P _ _ (within_ascii b 97 122 (omega arith)) (within_ascii b 65 90 (omega arith)))
-        (within_ascii b 48 57 (omega arith)))
+    (either P _ _ (either P _ _ (either P _ _
+    (either P _ _ (either P _ _ (either P _ _
+    (either P _ _ (either P _ _ (either P _ _
+    (either P _ _ (within_ascii b 97 122 (omega arith)) (within_ascii b 65 90 (omega arith)))
+    (within_ascii b 48 57 (omega arith)))
     (is_ascii b 43 (omega arith)))
     (is_ascii b 45 (omega arith)))
     (is_ascii b 42 (omega arith)))
@@ -190,7 +194,7 @@ step_ascii gap os f at b = start_ascii at b os f
 step_ascii in_comment os f at b = comment_ascii (b == 10) b refl
 step_ascii (in_word from name) os f at b =
     tested (λ (o : Option State). IfSome o (SharpAscii b)) (is_atom_byte b) _ _ (λ e _. atom_ascii b e)
-        (λ _. start_ascii at b os (joined_trees f (atom from name empty)))
+    (λ _. start_ascii at b os (joined_trees f (atom from name empty)))
 step_ascii (in_text from chars) os f at b =
     let P = (λ (o : Option State). IfSome o (SharpAscii b)) in
     tested P (b == 34) _ _ (λ e _. is_ascii b 34 (omega arith) e)
@@ -212,9 +216,9 @@ sharp_boundary bytes (suc j) s utf8 le e sharp = from (state_at bytes j) refl wh
       ∙ run_none (take j bytes) (get_or bytes j 0 ∷ []) first_state 0 n in cc
   from (Some t) n =
       let moved : next t j (get_or bytes j 0) ≡ Some s =
-          sym (walk_on bytes j t (next t j (get_or bytes j 0)) le n refl) ∙ e in
+      sym (walk_on bytes j t (next t j (get_or bytes j 0)) le n refl) ∙ e in
       let ascii : get_or bytes j 0 < 128 = subst (λ (o : Option State). IfSome o (SharpAscii (get_or bytes j 0))) moved
-          (step_ascii t.0 t.1 t.2 j (get_or bytes j 0)) sharp in
+      (step_ascii t.0 t.1 t.2 j (get_or bytes j 0)) sharp in
       subst (IsCharBoundary bytes) (omega arith) (IsCharBoundary-after_ascii bytes j utf8 le ascii)
 
 -- The machine rejects a byte only in a mode with `IsSharp`, or if the byte is ASCII.
@@ -225,7 +229,7 @@ stuck_boundary (in_word from name) os f at b e = inl tt
 stuck_boundary (in_text from chars) os f at b e =
     let P = (λ (o : Option State). o ≡ None → b < 128) in
     inr (tested P (b == 34) _ _ (λ _ h. cc)
-        (λ _. tested P (b == 92) _ _ (λ _ h. cc) (λ _. tested P (nat_le 32 b) _ _ (λ _ h. cc)
+    (λ _. tested P (b == 92) _ _ (λ _ h. cc) (λ _. tested P (nat_le 32 b) _ _ (λ _ h. cc)
     (λ lt _. let below : b < 32 = leb-false 32 b lt in omega arith))) e)
 stuck_boundary (in_escape from chars) os f at b e = inl tt
 

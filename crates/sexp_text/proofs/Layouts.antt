@@ -19,7 +19,7 @@ pub escaped_string-more : (xs : List ℕ) (i : ℕ) → i < length xs
     → escaped_string (take (i + 1) xs) ≡ escaped_string (take i xs) ++ escape (get_or xs i 0)
 escaped_string-more xs i lt =
     ap (λ n. escaped_string (take n xs)) (add-one i) ∙ ap escaped_string (take-suc xs i 0 lt)
-        ∙ escaped_string-append (take i xs) (get_or xs i 0 ∷ [])
+    ∙ escaped_string-append (take i xs) (get_or xs i 0 ∷ [])
     ∙ ap (λ l. escaped_string (take i xs) ++ l) (append-nil (escape (get_or xs i 0)))
 
 -- The rules for printing a string in quotes.
@@ -41,7 +41,7 @@ first_of_view ts i t lt e =
 -- The trees from an index print as the tree at that index and then the trees after it.
 row_next : (due : Bool) (ts : List Tree) (i : ℕ) (t : Tree) → i < length ts → t ≡ get_or ts i t
     → inline_form due (forest_view (drop i ts)) ≡ separator due ++ inline_form false (tree_view t) ++ inline_form true
-        (forest_view (drop (i + 1) ts))
+    (forest_view (drop (i + 1) ts))
 row_next due ts i t lt e = ap (inline_form due) (first_of_view ts i t lt e)
     ∙ row_one (tree_view t) (forest_view (drop (i + 1) ts)) due (one_tree t)
 
@@ -52,7 +52,7 @@ pub row_on : (out after : List ℕ) (due : Bool) (ts : List Tree) (i : ℕ) (t :
 row_on out after due ts i t lt e h =
     ap (λ l. l ++ inline_form true (forest_view (drop (i + 1) ts))) h
     ∙ ap (λ l. l ++ inline_form true (forest_view (drop (i + 1) ts)))
-        (append_assoc out (separator due) (inline_form false (tree_view t)))
+    (append_assoc out (separator due) (inline_form false (tree_view t)))
     ∙ append_assoc out (separator due ++ inline_form false (tree_view t))
-        (inline_form true (forest_view (drop (i + 1) ts)))
+    (inline_form true (forest_view (drop (i + 1) ts)))
     ∙ ap (λ l. out ++ l) (sym (row_next due ts i t lt e))

@@ -37,11 +37,11 @@ written-inline_form : (f : Forest) (due : Bool) → spelling_bytes (row_spelling
 written-inline_form empty due = refl
 written-inline_form (atom at a f) due =
     written-behind_blank due (word a (row_spelling true f))
-        ∙ ap (λ l. separator due ++ (a ++ l)) (written-inline_form f true)
-        ∙ sym (append_assoc (separator due) a (inline_form true f))
+    ∙ ap (λ l. separator due ++ (a ++ l)) (written-inline_form f true)
+    ∙ sym (append_assoc (separator due) a (inline_form true f))
 written-inline_form (text at s f) due =
     written-behind_blank due (quoted s (row_spelling true f))
-        ∙ ap (λ l. separator due ++ (34 ∷ escaped_string s ++ 34 ∷ l)) (written-inline_form f true)
+    ∙ ap (λ l. separator due ++ (34 ∷ escaped_string s ++ 34 ∷ l)) (written-inline_form f true)
     ∙ sym (append_assoc (separator due) (34 ∷ escaped_string s) (34 ∷ inline_form true f))
 written-inline_form (list at i f) due =
     written-behind_blank due (parens (row_spelling false i) (row_spelling true f))
@@ -55,7 +55,7 @@ written-lines (atom at a f) = ap (λ l. a ++ 10 ∷ l) (written-lines f)
 written-lines (text at s f) = ap (λ l. 34 ∷ escaped_string s ++ 34 ∷ 10 ∷ l) (written-lines f)
 written-lines (list at i f) =
     ap (λ l. 40 ∷ spelling_bytes (row_spelling false i) ++ 41 ∷ 10 ∷ l) (written-lines f)
-        ∙ ap (λ l. 40 ∷ l ++ 41 ∷ 10 ∷ lines f) (written-inline_form i false)
+    ∙ ap (λ l. 40 ∷ l ++ 41 ∷ 10 ∷ lines f) (written-inline_form i false)
 
 -- A blank before a spelling keeps its forest, except for offsets.
 without_offsets-behind_blank : (due : Bool) (s : Spelling) (f : Forest)
@@ -69,18 +69,18 @@ without_offsets-inline_form : (f : Forest) (due : Bool) (at : ℕ)
 without_offsets-inline_form empty due at = refl
 without_offsets-inline_form (atom p a f) due at =
     without_offsets-behind_blank due (word a (row_spelling true f)) (atom 0 a (without_offsets f))
-        (λ k. ap (atom 0 a) (without_offsets-inline_form f true (k + length a))) at
+    (λ k. ap (atom 0 a) (without_offsets-inline_form f true (k + length a))) at
 without_offsets-inline_form (text p s f) due at =
     without_offsets-behind_blank due (quoted s (row_spelling true f)) (text 0 s (without_offsets f))
-        (λ k. ap (text 0 s) (without_offsets-inline_form f true (k + length (escaped_string s) + 2))) at
+    (λ k. ap (text 0 s) (without_offsets-inline_form f true (k + length (escaped_string s) + 2))) at
 without_offsets-inline_form (list p i f) due at =
     without_offsets-behind_blank due (parens (row_spelling false i) (row_spelling true f))
-        (list 0 (without_offsets i) (without_offsets f))
+    (list 0 (without_offsets i) (without_offsets f))
     (λ k. ap (λ g. list 0 g (without_offsets
-        (forest_at (k + length (spelling_bytes (row_spelling false i)) + 2) (row_spelling true f))))
-        (without_offsets-inline_form i false (k + 1))
+    (forest_at (k + length (spelling_bytes (row_spelling false i)) + 2) (row_spelling true f))))
+    (without_offsets-inline_form i false (k + 1))
     ∙ ap (list 0 (without_offsets i))
-        (without_offsets-inline_form f true (k + length (spelling_bytes (row_spelling false i)) + 2))) at
+    (without_offsets-inline_form f true (k + length (spelling_bytes (row_spelling false i)) + 2))) at
 
 without_offsets-lines : (f : Forest) (at : ℕ) → without_offsets (forest_at at (lines_spelling f)) ≡ without_offsets f
 without_offsets-lines empty at = refl
@@ -88,10 +88,10 @@ without_offsets-lines (atom p a f) at = ap (atom 0 a) (without_offsets-lines f (
 without_offsets-lines (text p s f) at = ap (text 0 s) (without_offsets-lines f (at + length (escaped_string s) + 2 + 1))
 without_offsets-lines (list p i f) at =
     ap (λ g. list 0 g (without_offsets
-        (forest_at (at + length (spelling_bytes (row_spelling false i)) + 2 + 1) (lines_spelling f))))
-        (without_offsets-inline_form i false (at + 1))
+    (forest_at (at + length (spelling_bytes (row_spelling false i)) + 2 + 1) (lines_spelling f))))
+    (without_offsets-inline_form i false (at + 1))
     ∙ ap (list 0 (without_offsets i))
-        (without_offsets-lines f (at + length (spelling_bytes (row_spelling false i)) + 2 + 1))
+    (without_offsets-lines f (at + length (spelling_bytes (row_spelling false i)) + 2 + 1))
 
 -- A blank before a spelling keeps it well spelled.
 well-behind_blank : (due : Bool) (s : Spelling) → is_well_spelled s ≡ true → is_well_spelled (behind_blank due s) ≡ true
@@ -141,12 +141,12 @@ row_utf8 (text at s f) due h =
     subst IsUtf8 (sym (append_assoc (separator due) (34 ∷ escaped_string s) (34 ∷ inline_form true f)))
     (IsUtf8-append (separator due) (34 ∷ escaped_string s ++ 34 ∷ inline_form true f) (spaced_utf8 due)
     (around_utf8 34 34 (escaped_string s) (inline_form true f) (omega arith) (omega arith) (escaped_utf8 s h.0)
-        (row_utf8 f true h.2)))
+    (row_utf8 f true h.2)))
 row_utf8 (list at i f) due h =
     subst IsUtf8 (sym (append_assoc (separator due) (40 ∷ inline_form false i) (41 ∷ inline_form true f)))
     (IsUtf8-append (separator due) (40 ∷ inline_form false i ++ 41 ∷ inline_form true f) (spaced_utf8 due)
     (around_utf8 40 41 (inline_form false i) (inline_form true f) (omega arith) (omega arith) (row_utf8 i false h.0)
-        (row_utf8 f true h.1)))
+    (row_utf8 f true h.1)))
 
 line_end : (ys : List ℕ) → IsUtf8 ys → IsUtf8 (10 ∷ ys)
 line_end ys y = IsUtf8-append (10 ∷ []) ys (ascii_one 10 (omega arith)) y
@@ -201,7 +201,7 @@ enclosed : (b d : ℕ) (xs ys rest : List ℕ) → b < 128 → d < 128 → IsUtf
     → IsUtf8 xs × IsUtf8 (ys ++ rest)
 enclosed b d xs ys rest small other u =
     let p = split_utf8 (b ∷ xs) d (ys ++ rest) other
-        (subst (λ (l : List ℕ). IsUtf8 (b ∷ l)) (append_assoc xs (d ∷ ys) rest) u) in
+    (subst (λ (l : List ℕ). IsUtf8 (b ∷ l)) (append_assoc xs (d ∷ ys) rest) u) in
     ((split_utf8 [] b xs small p.0).1, p.1)
 
 -- The trees of a spelling in UTF-8 can be spelled, and the bytes after it are UTF-8.
@@ -214,12 +214,12 @@ spelling_can (blank b s) rest at h u =
 spelling_can (comment cs s) rest at h u =
     let p = both (is_comment cs) (is_well_spelled s) h in
     spelling_can s rest (at + length cs + 2) p.1
-        (enclosed 59 10 cs (spelling_bytes s) rest (omega arith) (omega arith) u).1
+    (enclosed 59 10 cs (spelling_bytes s) rest (omega arith) (omega arith) u).1
 spelling_can (word name s) rest at h u =
     let p = both (is_name name && not (begins_with_word s)) (is_well_spelled s) h in
     let q = both (is_name name) (not (begins_with_word s)) p.0 in
     let r = spelling_can s rest (at + length name) p.1
-        (after_word name (spelling_bytes s ++ rest) q.0 (subst IsUtf8 (append_assoc name (spelling_bytes s) rest) u)) in
+    (after_word name (spelling_bytes s ++ rest) q.0 (subst IsUtf8 (append_assoc name (spelling_bytes s) rest) u)) in
     ((q.0, r.0), r.1)
 spelling_can (quoted cs s) rest at h u =
     let p = both (list_all is_char cs) (is_well_spelled s) h in
@@ -230,13 +230,13 @@ spelling_can (parens inner s) rest at h u =
     let p = both (is_well_spelled inner) (is_well_spelled s) h in
     let inside = (split_utf8 [] 40 ((spelling_bytes inner ++ 41 ∷ spelling_bytes s) ++ rest) (omega arith) u).1 in
     let q = spelling_can inner (41 ∷ spelling_bytes s ++ rest) (at + 1) p.0
-        (subst IsUtf8 (append_assoc (spelling_bytes inner) (41 ∷ spelling_bytes s) rest) inside) in
+    (subst IsUtf8 (append_assoc (spelling_bytes inner) (41 ∷ spelling_bytes s) rest) inside) in
     let r = spelling_can s rest (at + length (spelling_bytes inner) + 2) p.1
-        (split_utf8 [] 41 (spelling_bytes s ++ rest) (omega arith) q.1).1 in
+    (split_utf8 [] 41 (spelling_bytes s ++ rest) (omega arith) q.1).1 in
     ((q.0, r.0), r.1)
 
 -- The forest that a text spells can be spelled.
 pub spells_can : (bytes : List ℕ) (f : Forest) → Spells bytes f → CanBeSpelled f
 spells_can bytes f s =
     subst CanBeSpelled (sym s.forest_is)
-        (spelling_can s.spelling s.tail 0 s.well_spelled (subst IsUtf8 s.bytes_are s.utf8)).0
+    (spelling_can s.spelling s.tail 0 s.well_spelled (subst IsUtf8 s.bytes_are s.utf8)).0

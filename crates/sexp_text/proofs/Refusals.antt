@@ -30,6 +30,8 @@ deep_whole front more f h e = from (run first_state 0 front) refl h where
   from : (o : Option State) → run first_state 0 front ≡ o → IsSomeAnd o (λ s. 100 < depth_reached s.1 s.2)
       → 100 < nesting f
   from None n h = absurd h
-  from (Some s) n h = omega (arith,
-      run_reaches more s (0 + length front) f
-      (ap (option_and_then forest_at_end) (sym (run_on front more first_state s 0 n)) ∙ e))
+  from (Some s) n h = omega (
+    arith,
+    run_reaches more s (0 + length front) f
+        (ap (option_and_then forest_at_end) (sym (run_on front more first_state s 0 n)) ∙ e),
+  )

@@ -50,12 +50,12 @@ view_at : (ts : List Tree) (i : ℕ) (t : Tree) → i < length ts → t ≡ get_
     forest_view (drop i ts) ≡ joined_trees (tree_view t) (forest_view (drop (i + 1) ts))
 view_at ts i t lt e =
     ap forest_view (drop-cons ts i t lt)
-        ∙ ap (λ (u : Tree). joined_trees (tree_view u) (forest_view (drop (suc i) ts))) (sym e)
+    ∙ ap (λ (u : Tree). joined_trees (tree_view u) (forest_view (drop (suc i) ts))) (sym e)
     ∙ ap (λ (n : ℕ). joined_trees (tree_view t) (forest_view (drop n ts))) (sym (add-one i))
 
 pub step : (ts : List Tree) (i : ℕ) (t u : Tree) (us : List Tree) → i < length ts → t ≡ get_or ts i t →
     same_forest (forest_view (drop i ts)) (forest_view (u ∷ us))
-        ≡ (same_forest (tree_view t) (tree_view u) && same_forest (forest_view (drop (i + 1) ts)) (forest_view us))
+    ≡ (same_forest (tree_view t) (tree_view u) && same_forest (forest_view (drop (i + 1) ts)) (forest_view us))
 step ts i t u us lt e =
     ap (λ (f : Forest). same_forest f (forest_view (u ∷ us))) (view_at ts i t lt e)
     ∙ one_pair (tree_view t) (forest_view (drop (i + 1) ts)) (tree_view u) (forest_view us) (one_tree t) (one_tree u)
@@ -110,7 +110,7 @@ same_unplaced (list at i f) (text bt b g) h = absurd (true≢false (sym h))
 same_unplaced (list at i f) (list bt j g) h =
     let p = and_parts (same_forest i j) (same_forest f g) h in
     ap (λ (x : Forest). list 0 x (without_offsets f)) (same_unplaced i j p.0)
-        ∙ ap (list 0 (without_offsets j)) (same_unplaced f g p.1)
+    ∙ ap (list 0 (without_offsets j)) (same_unplaced f g p.1)
 
 bytes_are : (a b : List ℕ) → a ≡ b → bytes_eq a b ≡ true
 bytes_are a b h = (bytes_eq-Decides a b).1 h

@@ -23,14 +23,14 @@ Remains [] f at bs g = (s : Spelling) × (tail : List ℕ) × (is_well_spelled s
 Remains (o ∷ os) f at bs g = (s : Spelling) × (more : List ℕ) × (is_well_spelled s ≡ true)
     × (bs ≡ spelling_bytes s ++ 41 ∷ more)
     × Remains os (joined_trees o.1 (list o.0 (joined_trees f (forest_at at s)) empty))
-        (at + length (spelling_bytes s) + 1) more g
+    (at + length (spelling_bytes s) + 1) more g
 
 -- A part before the rest of the input is parsed as the next part of the spelling.
 prepend : (p : Spelling → Spelling) (at : ℕ) (front : List ℕ) (trees : Forest) (bs : List ℕ)
     → ((s : Spelling) → spelling_bytes (p s) ≡ front ++ spelling_bytes s)
     → ((s : Spelling) → forest_at at (p s) ≡ joined_trees trees (forest_at (at + length front) s))
     → ((s : Spelling) (rest : List ℕ) → is_well_spelled s ≡ true → bs ≡ spelling_bytes s ++ rest
-        → is_well_spelled (p s) ≡ true)
+    → is_well_spelled (p s) ≡ true)
     → (os : OpenLists) (f g : Forest) → Remains os (joined_trees f trees) (at + length front) bs g
     → Remains os f at (front ++ bs) g
 prepend p at front trees bs writes reads fits [] f g r = (
@@ -43,12 +43,12 @@ prepend p at front trees bs writes reads fits [] f g r = (
 )
 prepend p at front trees bs writes reads fits (o ∷ os) f g r =
     let trees_are : joined_trees (joined_trees f trees) (forest_at (at + length front) r.0) ≡ joined_trees f
-        (forest_at at (p r.0))
+    (forest_at at (p r.0))
     = joined_trees_assoc f trees (forest_at (at + length front) r.0) ∙ ap (joined_trees f) (sym (reads r.0)) in
     let long : length (spelling_bytes (p r.0)) ≡ length front + length (spelling_bytes r.0) =
-        ap length (writes r.0) ∙ length-append front (spelling_bytes r.0) in
+    ap length (writes r.0) ∙ length-append front (spelling_bytes r.0) in
     let place : at + length front + length (spelling_bytes r.0) + 1 ≡ at + length (spelling_bytes (p r.0)) + 1 =
-        omega arith in (
+    omega arith in (
       p r.0,
       r.1,
       fits r.0 (41 ∷ r.1) r.2 r.3,
@@ -57,7 +57,7 @@ prepend p at front trees bs writes reads fits (o ∷ os) f g r =
       subst (λ (n : ℕ). Remains os (joined_trees o.1 (list o.0 (joined_trees f (forest_at at (p r.0))) empty)) n r.1 g)
           place
           (subst (λ (h : Forest). Remains os (joined_trees o.1 (list o.0 h empty))
-              (at + length front + length (spelling_bytes r.0) + 1) r.1 g) trees_are r.4),
+          (at + length front + length (spelling_bytes r.0) + 1) r.1 g) trees_are r.4),
     )
 
 -- The rest of the input at an equal offset and with an equal forest.
@@ -78,10 +78,10 @@ comment_before : (cs : List ℕ) (at : ℕ) (bs : List ℕ) (os : OpenLists) (f 
 comment_before cs at bs os f g e r =
     subst (λ (l : List ℕ). Remains os f at l g) (ap (λ l. 59 ∷ l) (append_assoc cs (10 ∷ []) bs))
     (prepend (comment cs) at (59 ∷ cs ++ 10 ∷ []) empty bs
-        (λ s. ap (λ l. 59 ∷ l) (sym (append_assoc cs (10 ∷ []) (spelling_bytes s))))
+    (λ s. ap (λ l. 59 ∷ l) (sym (append_assoc cs (10 ∷ []) (spelling_bytes s))))
     (λ s. ap (λ n. forest_at n s) (omega (arith, length-append cs (10 ∷ [])))) (λ s rest h _. rw (e, h) refl) os f g
     (moved os f (joined_trees f empty) (at + length cs + 2) (at + length (59 ∷ cs ++ 10 ∷ [])) bs g
-        (sym (joined_trees-empty f)) (omega (arith, length-append cs (10 ∷ []))) r))
+    (sym (joined_trees-empty f)) (omega (arith, length-append cs (10 ∷ []))) r))
 
 open_before : (at : ℕ) (bs : List ℕ) (os : OpenLists) (f g : Forest) → Remains ((at, f) ∷ os) empty (at + 1) bs g
     → Remains os f at (40 ∷ bs) g
@@ -91,9 +91,9 @@ open_before at bs os f g r =
     (prepend (parens r.0) at (40 ∷ inner ++ 41 ∷ []) (list at (forest_at (at + 1) r.0) empty) r.1
     (λ s. ap (λ l. 40 ∷ l) (sym (append_assoc inner (41 ∷ []) (spelling_bytes s))))
     (λ s. ap (λ n. list at (forest_at (at + 1) r.0) (forest_at n s)) (omega (arith, length-append inner (41 ∷ []))))
-        (λ s rest h _. rw (r.2, h) refl) os f g
+    (λ s rest h _. rw (r.2, h) refl) os f g
     (moved os (joined_trees f (list at (forest_at (at + 1) r.0) empty))
-        (joined_trees f (list at (forest_at (at + 1) r.0) empty)) (at + 1 + length inner + 1)
+    (joined_trees f (list at (forest_at (at + 1) r.0) empty)) (at + 1 + length inner + 1)
     (at + length (40 ∷ inner ++ 41 ∷ [])) r.1 g refl (omega (arith, length-append inner (41 ∷ []))) r.4))
 
 close_before : (o : ℕ × Forest) (at : ℕ) (bs : List ℕ) (os : OpenLists) (f g : Forest)
@@ -114,11 +114,11 @@ text_before : (cs : List ℕ) (at : ℕ) (bs : List ℕ) (os : OpenLists) (f g :
 text_before cs at bs os f g e r =
     subst (λ (l : List ℕ). Remains os f at l g) (ap (λ l. 34 ∷ l) (append_assoc (escaped_string cs) (34 ∷ []) bs))
     (prepend (quoted cs) at (34 ∷ escaped_string cs ++ 34 ∷ []) (text at cs empty) bs
-        (λ s. ap (λ l. 34 ∷ l) (sym (append_assoc (escaped_string cs) (34 ∷ []) (spelling_bytes s))))
+    (λ s. ap (λ l. 34 ∷ l) (sym (append_assoc (escaped_string cs) (34 ∷ []) (spelling_bytes s))))
     (λ s. ap (λ n. text at cs (forest_at n s)) (omega (arith, length-append (escaped_string cs) (34 ∷ []))))
-        (λ s rest h _. rw (e, h) refl) os f g
+    (λ s rest h _. rw (e, h) refl) os f g
     (moved os (joined_trees f (text at cs empty)) (joined_trees f (text at cs empty))
-        (at + length (escaped_string cs) + 2) (at + length (34 ∷ escaped_string cs ++ 34 ∷ [])) bs g
+    (at + length (escaped_string cs) + 2) (at + length (34 ∷ escaped_string cs ++ 34 ∷ [])) bs g
     refl (omega (arith, length-append (escaped_string cs) (34 ∷ []))) r))
 
 abbrev starts_atom : List ℕ → Bool
@@ -164,11 +164,11 @@ abbrev pub Follows : Mode → OpenLists → Forest → ℕ → List ℕ → Fore
 Follows gap os f at bs g = Remains os f at bs g
 Follows in_comment os f at bs g = (cs : List ℕ) × (is_comment cs ≡ true)
     × (((more : List ℕ) × (bs ≡ cs ++ 10 ∷ more) × Remains os f (at + length cs + 1) more g)
-        ⊎ ((bs ≡ cs) × Last os f g))
+    ⊎ ((bs ≡ cs) × Last os f g))
 Follows (in_word from name) os f at bs g = (more : List ℕ) × (rest : List ℕ) × (list_all is_atom_byte more ≡ true)
     × (bs ≡ more ++ rest)
     × (starts_atom rest ≡ false) × Remains os (joined_trees f (atom from (name ++ more) empty))
-        (at + length more) rest g
+    (at + length more) rest g
 Follows (in_text from chars) os f at bs g = TextRemains from chars os f at bs g
 Follows (in_escape from chars) os f at bs g =
     (c : ℕ) × (b : ℕ) × (more : List ℕ) × (escape c ≡ 92 ∷ b ∷ []) × (is_char c ≡ true) × (bs ≡ b ∷ more)
@@ -188,7 +188,7 @@ comment_follows : (at : ℕ) (bs : List ℕ) (os : OpenLists) (f g : Forest) →
 comment_follows at bs os f g r = elim (r.2) [
   | inl h ↦ subst (λ (l : List ℕ). Remains os f at (59 ∷ l) g) (sym h.1)
       (comment_before r.0 at h.0 os f g r.1
-          (moved os f f (at + 1 + length r.0 + 1) (at + length r.0 + 2) h.0 g refl (omega arith) h.2))
+      (moved os f f (at + 1 + length r.0 + 1) (at + length r.0 + 2) h.0 g refl (omega arith) h.2))
   | inr h ↦ last_comment at bs os f g (ap is_comment h.0 ∙ r.1) h.1
 ]
 
@@ -198,7 +198,7 @@ word_follows at b bs os f g e r =
     subst (λ (l : List ℕ). Remains os f at (b ∷ l) g) (sym r.3)
     (word_before (b ∷ r.0) at r.1 os f g (rw (e, r.2) refl) r.4
     (moved os (joined_trees f (atom at (b ∷ r.0) empty)) (joined_trees f (atom at (b ∷ r.0) empty))
-        (at + 1 + length r.0) (at + length (b ∷ r.0)) r.1 g refl (omega arith) r.5))
+    (at + 1 + length r.0) (at + length (b ∷ r.0)) r.1 g refl (omega arith) r.5))
 
 text_follows : (at : ℕ) (bs : List ℕ) (os : OpenLists) (f g : Forest) → TextRemains at [] os f (at + 1) bs g
     → Remains os f at (34 ∷ bs) g
@@ -206,7 +206,7 @@ text_follows at bs os f g r =
     subst (λ (l : List ℕ). Remains os f at (34 ∷ l) g) (sym r.3)
     (text_before r.0 at r.1 os f g r.2
     (moved os (joined_trees f (text at r.0 empty)) (joined_trees f (text at r.0 empty))
-        (at + 1 + length (escaped_string r.0) + 1) (at + length (escaped_string r.0) + 2) r.1 g refl (omega arith) r.4))
+    (at + 1 + length (escaped_string r.0) + 1) (at + length (escaped_string r.0) + 2) r.1 g refl (omega arith) r.4))
 
 closed_follows : (at : ℕ) (bs : List ℕ) (os : OpenLists) (f g : Forest)
     → IfSome (close_list os f) (λ t. FollowsIn (at + 1) bs g t → Remains os f at (41 ∷ bs) g)
@@ -223,7 +223,7 @@ start_follows at b bs os f g =
     (λ _. tested P (b == 40) _ _ (λ e r. as_byte _ e (open_before at bs os f g r))
     (λ _. tested P (b == 41) _ _
     (λ e. subst (λ (x : ℕ). IfSome (close_list os f) (λ t. FollowsIn (at + 1) bs g t → Remains os f at (x ∷ bs) g))
-        (sym (eqb-true b 41 e)) (closed_follows at bs os f g))
+    (sym (eqb-true b 41 e)) (closed_follows at bs os f g))
     (λ _. tested P (b == 34) _ _ (λ e r. as_byte _ e (text_follows at bs os f g r))
     (λ _. tested P (is_atom_byte b) _ _ (λ e r. word_follows at b bs os f g e r) (λ _. tt))))))
   where
@@ -234,15 +234,24 @@ start_follows at b bs os f g =
 comment_step : (w : Bool) (at b : ℕ) (bs : List ℕ) (os : OpenLists) (f g : Forest) → b == 10 ≡ w
     → Follows (cond w gap in_comment) os f (at + 1) bs g
     → Follows in_comment os f at (b ∷ bs) g
-comment_step true at b bs os f g e r =
-    ([], refl, inl (bs, ap (λ x. x ∷ bs) (eqb-true b 10 e),
-        moved os f f (at + 1) (at + 0 + 1) bs g refl (omega arith) r))
+comment_step true at b bs os f g e r = (
+  [],
+  refl,
+  inl (
+    bs,
+    ap (λ x. x ∷ bs) (eqb-true b 10 e),
+    moved os f f (at + 1) (at + 0 + 1) bs g refl (omega arith) r,
+  ),
+)
 comment_step false at b bs os f g e r = (
   b ∷ r.0,
   rw (e, r.1) refl,
   elim (r.2) [
-    | inl h ↦ inl (h.0, ap (λ l. b ∷ l) h.1,
-        moved os f f (at + 1 + length r.0 + 1) (at + suc (length r.0) + 1) h.0 g refl (omega arith) h.2)
+    | inl h ↦ inl (
+      h.0,
+      ap (λ l. b ∷ l) h.1,
+      moved os f f (at + 1 + length r.0 + 1) (at + suc (length r.0) + 1) h.0 g refl (omega arith) h.2,
+    )
     | inr h ↦ inr (ap (λ l. b ∷ l) h.0, h.1)
   ],
 )
@@ -253,7 +262,7 @@ char_before : (c : ℕ) (front : List ℕ) (from : ℕ) (chars : List ℕ) (os :
     → TextRemains from (chars ++ c ∷ []) os f (at + length front) bs g → TextRemains from chars os f at (front ++ bs) g
 char_before c front from chars os f at bs g e k r =
     let long : length (escaped_string (c ∷ r.0)) ≡ length front + length (escaped_string r.0) =
-        length-append (escape c) (escaped_string r.0) ∙ ap (λ l. length l + length (escaped_string r.0)) e in (
+    length-append (escape c) (escaped_string r.0) ∙ ap (λ l. length l + length (escaped_string r.0)) e in (
       c ∷ r.0,
       r.1,
       rw (k, r.2) refl,
@@ -262,7 +271,7 @@ char_before c front from chars os f at bs g e k r =
       moved os (joined_trees f (text from ((chars ++ c ∷ []) ++ r.0) empty))
           (joined_trees f (text from (chars ++ c ∷ r.0) empty)) (at + length front + length (escaped_string r.0) + 1)
           (at + length (escaped_string (c ∷ r.0)) + 1) r.1 g
-              (ap (λ l. joined_trees f (text from l empty)) (append_assoc chars (c ∷ []) r.0)) (omega arith) r.4,
+          (ap (λ l. joined_trees f (text from l empty)) (append_assoc chars (c ∷ []) r.0)) (omega arith) r.4,
     )
 
 -- The closing quote and the rest after it are the rest of the string.
@@ -341,26 +350,26 @@ step_follows gap os f at b bs g = start_follows at b bs os f g
 step_follows in_comment os f at b bs g = comment_step (b == 10) at b bs os f g refl
 step_follows (in_word from name) os f at b bs g =
     tested (λ (o : Option State). IfSome o (λ t. FollowsIn (at + 1) bs g t
-        → Follows (in_word from name) os f at (b ∷ bs) g)) (is_atom_byte b) _ _
+    → Follows (in_word from name) os f at (b ∷ bs) g)) (is_atom_byte b) _ _
     (λ e. word_goes_on from name os f at b bs g e)
     (λ e. IfSome_then (start at b os (joined_trees f (atom from name empty)))
-        (start_follows at b bs os (joined_trees f (atom from name empty)) g)
+    (start_follows at b bs os (joined_trees f (atom from name empty)) g)
     (λ t h r. word_ends from name os f at b bs g e (h r)))
 step_follows (in_text from chars) os f at b bs g =
     let P = (λ (o : Option State). IfSome o (λ t. FollowsIn (at + 1) bs g t
-        → Follows (in_text from chars) os f at (b ∷ bs) g)) in
+    → Follows (in_text from chars) os f at (b ∷ bs) g)) in
     tested P (b == 34) _ _ (λ e. quote_before b from chars os f at bs g (eqb-true b 34 e))
     (λ e1. tested P (b == 92) _ _ (λ e. backslash_before b from chars os f at bs g (eqb-true b 92 e))
     (λ e2. tested P (nat_le 32 b) _ _ (λ e. plain_before b from chars os f at bs g e1 e2 e) (λ _. tt)))
 step_follows (in_escape from chars) os f at b bs g =
     let P = (λ (o : Option State). IfSome o (λ t. FollowsIn (at + 1) bs g t
-        → Follows (in_escape from chars) os f at (b ∷ bs) g)) in
+    → Follows (in_escape from chars) os f at (b ∷ bs) g)) in
     tested P (b == 34) _ _ (λ e. escape_step 34 b from chars os f at bs g
-        (ap (λ x. 92 ∷ x ∷ []) (sym (eqb-true b 34 e))) refl)
+    (ap (λ x. 92 ∷ x ∷ []) (sym (eqb-true b 34 e))) refl)
     (λ _. tested P (b == 92) _ _ (λ e. escape_step 92 b from chars os f at bs g
-        (ap (λ x. 92 ∷ x ∷ []) (sym (eqb-true b 92 e))) refl)
+    (ap (λ x. 92 ∷ x ∷ []) (sym (eqb-true b 92 e))) refl)
     (λ _. tested P (b == 110) _ _ (λ e. escape_step 10 b from chars os f at bs g
-        (ap (λ x. 92 ∷ x ∷ []) (sym (eqb-true b 110 e))) refl) (λ _. tt)))
+    (ap (λ x. 92 ∷ x ∷ []) (sym (eqb-true b 110 e))) refl) (λ _. tt)))
 
 -- At the end of the input no list is open, and the forest is complete.
 closed_last : (os : OpenLists) (f g : Forest) → all_closed os f ≡ Some g → Last os f g
@@ -384,7 +393,7 @@ finish_follows (in_word from name) os f at g e = (
   moved os (joined_trees f (atom from name empty)) (joined_trees f (atom from (name ++ []) empty)) at (at + 0) [] g
       (ap (λ l. joined_trees f (atom from l empty)) (sym (append-nil name))) (omega arith)
       (nothing_remains os (joined_trees f (atom from name empty)) at g
-          (closed_last os (joined_trees f (atom from name empty)) g e)),
+      (closed_last os (joined_trees f (atom from name empty)) g e)),
 )
 finish_follows (in_text from chars) os f at g e = cc
 finish_follows (in_escape from chars) os f at g e = cc

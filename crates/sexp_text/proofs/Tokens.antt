@@ -68,7 +68,7 @@ pub open_rests : (bytes : List ℕ) (at : ℕ) (os : OpenLists) (f : Forest) →
 open_rests bytes at os f r lt e few =
     let s : State = (gap, (at, f) ∷ os, empty) in
     gap_rests bytes (at + 1) ((at, f) ∷ os) empty (rw add-one (started bytes at os f (Some s) r lt (rw e refl)))
-        (omega (arith, r.shallow))
+    (omega (arith, r.shallow))
 
 -- The machine rejects a parenthesis that would open a list too deep.
 pub open_refuses : (bytes : List ℕ) (at : ℕ) (os : OpenLists) (f : Forest) → Rests bytes at os f → at < length bytes
@@ -77,7 +77,7 @@ pub open_refuses : (bytes : List ℕ) (at : ℕ) (os : OpenLists) (f : Forest) �
 open_refuses bytes at os f r lt e many =
     let here : next r.state at (get_or bytes at 0) ≡ Some (gap, (at, f) ∷ os, empty) = r.goes_on lt ∙ rw e refl in
     stops_refuses bytes at r.state (stops.TooDeep at) lt r.here (omega (arith, r.reached, r.shallow))
-        (refl, e, rw here (omega arith))
+    (refl, e, rw here (omega arith))
 
 -- The depth does not rise when the innermost list is closed.
 closed_shallow : (os : OpenLists) (f : Forest) (after : OpenLists) (g : Forest) → close_list os f ≡ Some (gap, after, g)
@@ -93,7 +93,7 @@ pub close_rests : (bytes : List ℕ) (at : ℕ) (os : OpenLists) (f : Forest) (a
     → close_list os f ≡ Some (gap, after, g) → Rests bytes (at + 1) after g
 close_rests bytes at os f after g r lt e c =
     gap_rests bytes (at + 1) after g (rw add-one (started bytes at os f (Some (gap, after, g)) r lt (rw e c)))
-        (closed_shallow os f after g c r.shallow)
+    (closed_shallow os f after g c r.shallow)
 
 not_equal : (b k : ℕ) → b ≢ k → b == k ≡ false
 not_equal b k n = false_from_ne_true (b == k) (λ s. n (eqb-true b k s))
@@ -110,7 +110,7 @@ pub bad_refuses : (bytes : List ℕ) (at : ℕ) (os : OpenLists) (f : Forest) �
     → Refuses bytes (stops.Bad at)
 bad_refuses bytes at os f r lt e =
     stops_refuses bytes at r.state (stops.Bad at) lt r.here (omega (arith, r.reached, r.shallow))
-        (refl, r.goes_on lt ∙ e)
+    (refl, r.goes_on lt ∙ e)
 
 -- The bytes from an offset begin with the byte at that offset.
 first_of : (bytes : List ℕ) (at m : ℕ) → at < length bytes
@@ -155,12 +155,12 @@ atom_here bytes at m os f r lt all =
     let b = get_or bytes at 0 in
     let more = take m (drop (suc at) bytes) in
     let p = both (is_atom_byte b) (list_all is_atom_byte more)
-        (ap (list_all is_atom_byte) (sym (first_of bytes at m lt)) ∙ all) in
+    (ap (list_all is_atom_byte) (sym (first_of bytes at m lt)) ∙ all) in
     let first : state_at bytes (suc at) ≡ Some (in_word at (b ∷ []), os, f) =
-        started bytes at os f _ r lt (start_word at b os f p.0) in
+    started bytes at os f _ r lt (start_word at b os f p.0) in
     let whole_atom : state_at bytes (suc at + m) ≡ Some (in_word at (b ∷ more), os, f) =
     run_further bytes (suc at) m (in_word at (b ∷ []), os, f) _ (omega arith) first
-        (name_on more at (b ∷ []) os f (suc at) p.1) in
+    (name_on more at (b ∷ []) os f (suc at) p.1) in
     let end : at + suc m ≡ suc at + m = omega arith in
     ap (state_at bytes) end ∙ whole_atom ∙ ap (λ l. Some (in_word at l, os, f)) (sym (first_of bytes at m lt))
 
@@ -187,11 +187,11 @@ comment_here : (bytes : List ℕ) (at m : ℕ) (os : OpenLists) (f : Forest) →
 comment_here bytes at m os f r lt e all =
     let more = take m (drop (suc at) bytes) in
     let p = both (not (get_or bytes at 0 == 10)) (is_comment more)
-        (ap is_comment (sym (first_of bytes at m lt)) ∙ all) in
+    (ap is_comment (sym (first_of bytes at m lt)) ∙ all) in
     let first : state_at bytes (suc at) ≡ Some (in_comment, os, f) = started bytes at os f _ r lt (rw e refl) in
     let end : at + suc m ≡ suc at + m = omega arith in
     ap (state_at bytes) end ∙ run_further bytes (suc at) m (in_comment, os, f) _ (omega arith) first
-        (comment_on more os f (suc at) p.1)
+    (comment_on more os f (suc at) p.1)
 
 -- A byte that fails the test for a comment is LF.
 is_line_feed : (b : ℕ) → not (b == 10) ≡ false → b ≡ 10
@@ -227,7 +227,7 @@ pub text_rests : (bytes : List ℕ) (at end : ℕ) (chars : List ℕ) (os : Open
     → Rests bytes end os (joined_trees f (text at chars empty))
 text_rests bytes at end chars os f r lt e h =
     gap_rests bytes end os (joined_trees f (text at chars empty)) (h os f (text_begins bytes at os f r lt e))
-        (omega (arith, reached_same os f (text at chars empty) refl, r.shallow))
+    (omega (arith, reached_same os f (text at chars empty) refl, r.shallow))
 
 -- The machine rejects the bytes if it rejects the string.
 pub text_refuses : (bytes : List ℕ) (at : ℕ) (os : OpenLists) (f : Forest) (e : TextStop) → Rests bytes at os f
@@ -282,14 +282,14 @@ char_on bytes i at from m n chars lt on before =
 pub escape_leads : (bytes : List ℕ) (i at from c : ℕ) (m : Mode) (chars : List ℕ) → at + 1 < length bytes
     → get_or bytes at 0 ≡ 92
     → ((os : OpenLists) (f : Forest) → step (in_escape from chars) os f (at + 1) (get_or bytes (at + 1) 0) ≡ Some
-        (in_text from (chars ++ c ∷ []), os, f))
+    (in_text from (chars ++ c ∷ []), os, f))
     → Leads bytes i m at (in_text from chars) → Leads bytes i m (at + 2) (in_text from (chars ++ c ∷ []))
 escape_leads bytes i at from c m chars lt e on before = λ os f here.
     let two : at + 2 ≡ suc (at + 1) = omega arith in
     ap (state_at bytes) two
     ∙ walk_on bytes (at + 1) (in_escape from chars, os, f) _ lt
-        (char_on bytes i at from m (in_escape from chars) chars (omega arith) (λ os f. rw e refl) before os f here)
-        (on os f)
+    (char_on bytes i at from m (in_escape from chars) chars (omega arith) (λ os f. rw e refl) before os f here)
+    (on os f)
 
 -- A string ends at a quote.
 pub quote_ends : (bytes : List ℕ) (at from : ℕ) (chars : List ℕ) → at < length bytes → get_or bytes at 0 ≡ 34
@@ -314,14 +314,14 @@ char_refuses bytes at from chars lt small before = λ os f deep here.
 -- The machine rejects an unknown escape, and an escape that is open at the end of the input.
 pub escape_refuses : (bytes : List ℕ) (at from : ℕ) (chars : List ℕ) → at < length bytes → get_or bytes at 0 ≡ 92
     → ((os : OpenLists) (f : Forest) → at + 1 < length bytes
-        → step (in_escape from chars) os f (at + 1) (get_or bytes (at + 1) 0) ≡ None)
+    → step (in_escape from chars) os f (at + 1) (get_or bytes (at + 1) 0) ≡ None)
     → Leads bytes (suc from) (in_text from []) at (in_text from chars)
     → RefusesAfter bytes (suc from) (in_text from []) (stops.Bad (at + 1))
 escape_refuses bytes at from chars lt e none before = λ os f deep here.
     let s : State = (in_escape from chars, os, f) in
     let le : at + 1 ≤ length bytes = omega (arith, lt) in
     let next_is = char_on bytes (suc from) at from (in_text from []) (in_escape from chars) chars lt
-        (λ os f. rw e refl) before os f here in
+    (λ os f. rw e refl) before os f here in
     elim (eq-or-lt_of_le le) [
       | inl end ↦ unfinished_refuses bytes (at + 1) s end next_is deep refl
       | inr more ↦ stops_refuses bytes (at + 1) s (stops.Bad (at + 1)) more next_is deep (refl, none os f more)

@@ -30,7 +30,7 @@ AllLarge (b ∷ bs) = (128 ≤ b) × AllLarge bs
 plain : (b : ℕ) → 128 ≤ b → escape b ≡ b ∷ []
 plain b le =
     let other : (k : ℕ) → k < 128 → b == k ≡ false =
-        λ k lt. false_from_ne_true (b == k) (λ e. let same : b ≡ k = eqb-true b k e in omega arith) in
+    λ k lt. false_from_ne_true (b == k) (λ e. let same : b ≡ k = eqb-true b k e in omega arith) in
     rw (other 34 (omega arith), other 92 (omega arith), other 10 (omega arith)) refl
 
 -- Bytes that are not ASCII need no escape.
@@ -77,7 +77,7 @@ escaped_chars (c ∷ cs) h =
     let p = both _ (all_scalars cs) h in
     subst IsUtf8 (sym (escaped_string-append (encode_utf8 c) (encode_utf8_all cs)))
     (IsUtf8-append (escaped_string (encode_utf8 c)) (escaped_string (encode_utf8_all cs)) (escaped_char c p.0)
-        (escaped_chars cs p.1))
+    (escaped_chars cs p.1))
 
 pub escaped_utf8 : (s : List ℕ) → IsUtf8 s → IsUtf8 (escaped_string s)
 escaped_utf8 s u = subst (λ (l : List ℕ). IsUtf8 (escaped_string l)) u.1.1 (escaped_chars u.0 u.1.0)

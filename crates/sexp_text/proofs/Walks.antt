@@ -23,7 +23,7 @@ pub run-append : (xs ys : List ℕ) (s : State) (at : ℕ)
 run-append [] ys s at = ap (λ k. run s k ys) (omega arith)
 run-append (x ∷ xs) ys s at =
     onward (next s at x) (λ t. run t (at + 1) (xs ++ ys)) (λ t. run t (at + suc (length xs)) ys)
-        (λ t. run t (at + 1) xs)
+    (λ t. run t (at + 1) xs)
     (λ t. run-append xs ys t (at + 1) ∙ ap (λ k. option_and_then (λ u. run u k ys) (run t (at + 1) xs)) (omega arith))
 
 -- A run over two pieces continues from the state after the first.
@@ -84,8 +84,11 @@ grown os f g e = omega (arith, depth_reached-joined_trees os f g, length_le-dept
 
 closed_deepens : (os : OpenLists) (f : Forest) → IfSome (close_list os f) (Deepens os f)
 closed_deepens [] f = tt
-closed_deepens (o ∷ os) f = omega (arith, depth_reached-joined_trees os o.1 (list o.0 f empty),
-    length_le-depth_reached os o.1)
+closed_deepens (o ∷ os) f = omega (
+  arith,
+  depth_reached-joined_trees os o.1 (list o.0 f empty),
+  length_le-depth_reached os o.1,
+)
 
 start_deepens : (at b : ℕ) (os : OpenLists) (f : Forest) → IfSome (start at b os f) (Deepens os f)
 start_deepens at b os f =
@@ -106,14 +109,14 @@ start_deepens_joined : (at b : ℕ) (os : OpenLists) (f g : Forest) → nesting 
     → IfSome (start at b os (joined_trees f g)) (Deepens os f)
 start_deepens_joined at b os f g e =
     subst (λ (k : ℕ). IfSome (start at b os (joined_trees f g)) (λ t. depth_reached t.1 t.2 ≡ max k (length t.1)))
-        (reached_same os f g e) (start_deepens at b os (joined_trees f g))
+    (reached_same os f g e) (start_deepens at b os (joined_trees f g))
 
 step_deepens : (m : Mode) (os : OpenLists) (f : Forest) (at b : ℕ) → IfSome (step m os f at b) (Deepens os f)
 step_deepens gap os f at b = start_deepens at b os f
 step_deepens in_comment os f at b = omega (arith, length_le-depth_reached os f)
 step_deepens (in_word from name) os f at b =
     tested (λ (o : Option State). IfSome o (Deepens os f)) (is_atom_byte b) _ _
-        (λ _. kept (in_word from (name ++ b ∷ [])) os f)
+    (λ _. kept (in_word from (name ++ b ∷ [])) os f)
     (λ _. start_deepens_joined at b os f (atom from name empty) refl)
 step_deepens (in_text from chars) os f at b =
     let P = (λ (o : Option State). IfSome o (Deepens os f)) in
@@ -142,7 +145,7 @@ finish_reaches gap os f g e = all_closed_reaches os f g e
 finish_reaches in_comment os f g e = all_closed_reaches os f g e
 finish_reaches (in_word from name) os f g e =
     sym (reached_same os f (atom from name empty) refl)
-        ∙ all_closed_reaches os (joined_trees f (atom from name empty)) g e
+    ∙ all_closed_reaches os (joined_trees f (atom from name empty)) g e
 finish_reaches (in_text from chars) os f g e = cc
 finish_reaches (in_escape from chars) os f g e = cc
 

@@ -24,15 +24,15 @@ one_more f all now k x y inside is e =
     let below : k < length all =
     let whole = ap (λ l. length l) is ∙ length-append (map f (take k all)) (drop k all) in
     let one = length-map (take k all) f in let two = length-take k all in let three = length-drop k all in
-        omega (arith, whole, one, two, three, inside) in
+    omega (arith, whole, one, two, three, inside) in
     let next : suc k ≡ k + 1 = omega arith in
     let split : now ≡ map f (take k all) ++ (get_or all k x ∷ drop (k + 1) all) =
     is ∙ ap (λ l. map f (take k all) ++ l) (drop-cons all k x below ∙ ap (λ n. get_or all k x ∷ drop n all) next) in
     let long : length (map f (take k all)) ≡ k = let one = length-map (take k all) f in let two = length-take k all in
-        omega (arith, one, two, below) in
+    omega (arith, one, two, below) in
     let got = got_seam now (map f (take k all)) (drop (k + 1) all) (get_or all k x) x k long split in
     set_seam now (map f (take k all)) (drop (k + 1) all) (get_or all k x) y k long split
     ∙ ap (λ z. map f (take k all) ++ (z ∷ drop (k + 1) all)) (e ∙ ap f got)
     ∙ sym (append_assoc (map f (take k all)) (f (get_or all k x) ∷ []) (drop (k + 1) all))
     ∙ ap (λ l. l ++ drop (k + 1) all)
-        (sym (ap (λ l. map f l) (take_more all k x below) ∙ map-append f (take k all) (get_or all k x ∷ [])))
+    (sym (ap (λ l. map f l) (take_more all k x below) ∙ map-append f (take k all) (get_or all k x ∷ [])))

@@ -68,7 +68,7 @@ removed t u i (Some p) at e = by (index_at u p) refl
         let here : path_at u j ≡ Some p = each_found_group_has_the_path u j p is in
         absurd (none_is (old_indexes t u) 0 i j e (
         get-map (index_at t) (paths [] u) j ∙ ap (λ o. option_map (index_at t) o) here
-            ∙ ap Some (each_path_finds_its_group t i p at)
+        ∙ ap Some (each_path_finds_its_group t i p at)
         ))
 
 first_by_path : (t u : GroupForest) (i : ℕ) (r : Option ℕ) → first_from 0 i (old_indexes t u) ≡ r
@@ -79,7 +79,7 @@ first_by_path t u i (Some m) e =
     let sum = is.sum in
     let same : is.at ≡ m = omega (arith, sum) in
     sym (kept t u i m (path_at u m) refl (sym (get-map (index_at t) (paths [] u) m)
-        ∙ ap (λ j. slice_get (old_indexes t u) j) (sym same) ∙ is.found))
+    ∙ ap (λ j. slice_get (old_indexes t u) j) (sym same) ∙ is.found))
 
 pub anchor_is : (t u : GroupForest) (a : Option ℕ) → index_after_edit (old_indexes t u) a ≡ anchor_index t u a
 anchor_is t u None = refl

@@ -20,7 +20,7 @@ run_grows gs from i low inside =
     ap (λ n. take n (drop from gs)) next
     ∙ one_longer (drop from gs) k (group_at [] i) within
     ∙ ap (λ g. take k (drop from gs) ++ g ∷ []) (get_or-drop from gs k (group_at [] i)
-        ∙ ap (λ n. get_or gs n (group_at [] i)) whole)
+    ∙ ap (λ n. get_or gs n (group_at [] i)) whole)
 
 -- The groups after the next group of the run is appended.
 pub run_pushed : (gs old before after : List Group) (g : Group) (from i : ℕ) → from ≤ i → i < length gs

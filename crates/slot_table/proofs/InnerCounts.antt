@@ -50,7 +50,7 @@ after_is gs rest g i size e s =
     let long : size ≡ length (leading_deep (g.depth + 1) rest) = s ∙ size_is gs rest g i size e in
     let sum : i + 1 + size ≡ i + suc size = omega arith in
     ap (λ n. drop n gs) sum ∙ sym (drop-drop (suc size) i gs) ∙ ap (λ l. drop (suc size) l) e
-        ∙ ap (λ n. drop n rest) long ∙ past_is (g.depth + 1) rest
+    ∙ ap (λ n. drop n rest) long ∙ past_is (g.depth + 1) rest
 
 -- The index after a group and its inner groups is at most the length of the list.
 pub after_fits : (gs : List Group) (g : Group) (i size : ℕ) → i < length gs → size ≡ get_or (inner_counts gs) i size
@@ -59,7 +59,7 @@ after_fits gs g i size inside s =
     let first : Group = get_or gs i g in
     let e : drop i gs ≡ first ∷ drop (suc i) gs = drop-cons gs i g inside in
     let long : size ≡ length (leading_deep (first.depth + 1) (drop (suc i) gs)) =
-        s ∙ size_is gs (drop (suc i) gs) first i size e in
+    s ∙ size_is gs (drop (suc i) gs) first i size e in
     let few = fewer (first.depth + 1) (drop (suc i) gs) in
     let rest = length-drop (suc i) gs in
     omega (arith, long, few, rest, inside)
@@ -74,7 +74,7 @@ deep_split d k (g ∷ gs) le = by (nat_le k g.depth)
     by : (b : Bool) → (b ≡ true → nat_le d g.depth ≡ true)
         → length (leading_deep d gs) ≡ length (leading_deep k gs) + length (leading_deep d (after_deep k gs))
         → length (leading_deep d (g ∷ gs)) ≡ length (if b then g ∷ leading_deep k gs else []) + length
-            (leading_deep d (if b then after_deep k gs else g ∷ gs))
+        (leading_deep d (if b then after_deep k gs else g ∷ gs))
     by true up e = let more : length (leading_deep d (g ∷ gs)) ≡ suc
         (length (leading_deep d gs)) = ap (λ c. length (if c then g ∷ leading_deep d gs else [])) (up refl) in
         omega (arith, more, e)
@@ -106,7 +106,7 @@ one_more gs counts at k v next inside long known told =
     let same : at ≡ suc k = omega (arith, next) in
     let here = told one.first (drop (suc k) gs) one.is in
     let later : drop (suc k) counts ≡ inner_counts (drop (suc k) gs) = ap (λ n. drop n counts) (sym same) ∙ known
-        ∙ ap (λ n. inner_counts (drop n gs)) same in (
+    ∙ ap (λ n. inner_counts (drop n gs)) same in (
       omega (arith, next, inside),
       length-set counts k v ∙ long,
       set_first counts k v (omega (arith, next, inside, long)) ∙ ap (λ n. n ∷ drop (suc k) counts) here
@@ -122,20 +122,20 @@ known_size gs counts e i next size low inside known s is =
     let j : ℕ = next - (i + 1) in
     let whole : (i + 1) + j ≡ next = omega (arith, low) in
     let first : drop j (drop (i + 1) gs) ≡ e ∷ drop (suc next) gs = drop-drop j (i + 1) gs ∙ ap (λ n. drop n gs) whole
-        ∙ first_at gs (drop (suc next) gs) e next inside is in
+    ∙ first_at gs (drop (suc next) gs) e next inside is in
     s ∙ ap (λ n. get_or counts n 0) (sym whole) ∙ sym (get_or-drop (i + 1) counts j 0) ∙ ap (λ l. get_or l j 0) known
-        ∙ size_is (drop (i + 1) gs) (drop (suc next) gs) e j 0 first
+    ∙ size_is (drop (i + 1) gs) (drop (suc next) gs) e j 0 first
 
 -- A group inside the one at index i is counted with all groups inside it.
 pub counted : (gs : List Group) (counts : List ℕ) (e : Group) (i next size d : ℕ)
     → drop (i + 1) counts ≡ inner_counts (drop (i + 1) gs) → size ≡ get_or counts next 0 → next < length gs
     → e ≡ get_or gs next e → d < e.depth
     → (i + 1 ≤ next) × (next ≤ length gs)
-        × ((next - (i + 1)) + length (leading_deep (d + 1) (drop next gs)) ≡ length
-        (leading_deep (d + 1) (drop (i + 1) gs)))
+    × ((next - (i + 1)) + length (leading_deep (d + 1) (drop next gs)) ≡ length
+    (leading_deep (d + 1) (drop (i + 1) gs)))
     → (i + 1 ≤ next + 1 + size) × (next + 1 + size ≤ length gs)
-        × (((next + 1 + size) - (i + 1)) + length (leading_deep (d + 1) (drop (next + 1 + size) gs)) ≡ length
-        (leading_deep (d + 1) (drop (i + 1) gs)))
+    × (((next + 1 + size) - (i + 1)) + length (leading_deep (d + 1) (drop (next + 1 + size) gs)) ≡ length
+    (leading_deep (d + 1) (drop (i + 1) gs)))
 counted gs counts e i next size d known s inside is deeper so_far =
     let low = so_far.0 in
     let rest : List Group = drop (suc next) gs in
@@ -146,12 +146,12 @@ counted gs counts e i next size d known s inside is deeper so_far =
     let fits : next + 1 + size ≤ length gs = omega (arith, told, few, long, inside) in
     let enough : d + 1 ≤ e.depth = omega (arith, deeper) in
     let one : length (leading_deep (d + 1) (drop next gs)) ≡ suc (length (leading_deep (d + 1) rest)) =
-        ap (λ l. length (leading_deep (d + 1) l)) first
-        ∙ ap (λ b. length (if b then e ∷ leading_deep (d + 1) rest else [])) (le-leb (d + 1) e.depth enough) in
+    ap (λ l. length (leading_deep (d + 1) l)) first
+    ∙ ap (λ b. length (if b then e ∷ leading_deep (d + 1) rest else [])) (le-leb (d + 1) e.depth enough) in
     let split = deep_split (d + 1) (e.depth + 1) rest (omega (arith, deeper)) in
     let sum : next + 1 + size ≡ suc next + size = omega arith in
     let later : drop (next + 1 + size) gs ≡ after_deep (e.depth + 1) rest = ap (λ n. drop n gs) sum
-        ∙ sym (drop-drop size (suc next) gs) ∙ ap (λ n. drop n rest) told ∙ past_is (e.depth + 1) rest in
+    ∙ sym (drop-drop size (suc next) gs) ∙ ap (λ n. drop n rest) told ∙ past_is (e.depth + 1) rest in
     let after = ap (λ l. length (leading_deep (d + 1) l)) later in
     let whole = so_far.2 in
     (omega (arith, low), fits, omega (arith, one, split, told, after, whole, low))

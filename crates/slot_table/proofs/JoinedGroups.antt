@@ -37,8 +37,8 @@ node_at (x ∷ hs) (y ∷ ss) (suc i) h d known e lt =
 head_at : (hs : List GroupHead) (ss : List GroupSlots) (i : ℕ) (h : GroupHead) (d : Group) → length hs ≡ length ss
     → i < length hs
     → ((get_or hs i h).depth ≡ (get_or (joined_groups hs ss) i d).depth)
-        × ((get_or hs i h).site ≡ (get_or (joined_groups hs ss) i d).site)
-        × ((get_or hs i h).number ≡ (get_or (joined_groups hs ss) i d).number)
+    × ((get_or hs i h).site ≡ (get_or (joined_groups hs ss) i d).site)
+    × ((get_or hs i h).number ≡ (get_or (joined_groups hs ss) i d).number)
 head_at [] ss i h d e lt = absurd (omega (arith, lt))
 head_at (x ∷ hs) [] i h d e lt = absurd (omega (arith, e))
 head_at (x ∷ hs) (y ∷ ss) zero h d e lt = (refl, refl, refl)
@@ -47,7 +47,7 @@ head_at (x ∷ hs) (y ∷ ss) (suc i) h d e lt = head_at hs ss i h d (omega (ari
 slot_at : (hs : List GroupHead) (ss : List GroupSlots) (i : ℕ) (s : GroupSlots) (d : Group) → length hs ≡ length ss
     → i < length hs
     → ((get_or ss i s).what ≡ (get_or (joined_groups hs ss) i d).what)
-        × ((get_or ss i s).reads ≡ (get_or (joined_groups hs ss) i d).reads)
+    × ((get_or ss i s).reads ≡ (get_or (joined_groups hs ss) i d).reads)
 slot_at [] ss i s d e lt = absurd (omega (arith, lt))
 slot_at (x ∷ hs) [] i s d e lt = absurd (omega (arith, e))
 slot_at (x ∷ hs) (y ∷ ss) zero s d e lt = (refl, refl)
@@ -140,7 +140,7 @@ at_is gs i inside = same_default gs i (group_at [] i) (group_at gs i) inside whe
 joined_set : (hs : List GroupHead) (ss : List GroupSlots) (i : ℕ) (s : GroupSlots) (d : Group) → length hs ≡ length ss
     → i < length hs → s.what ≡ (get_or (joined_groups hs ss) i d).what
     → joined_groups hs (set ss i s) ≡ set (joined_groups hs ss) i
-        (with_reads (get_or (joined_groups hs ss) i d) s.reads)
+    (with_reads (get_or (joined_groups hs ss) i d) s.reads)
 joined_set [] ss i s d e lt same = absurd (omega (arith, lt))
 joined_set (x ∷ hs) [] i s d e lt same = absurd (omega (arith, e))
 joined_set (x ∷ hs) (y ∷ ss) zero s d e lt same =

@@ -24,15 +24,17 @@ place_at gs at opens = record { left = drop at gs; open_groups = open_groups_at 
 -- The state of a reader after it opens a group.
 pub opened_is : (gs rest : List Group) (g : Group) (at : ℕ) (opens new : List ℕ) (p : ReaderState)
     → place_at gs at opens ≡ p → new ≡ opens ++ at ∷ [] → p.left ≡ g ∷ rest
-    → place_at gs (at + 1) new ≡ record { left = rest;
-        open_groups = record { group = g; after = after_deep (g.depth + 1) rest } ∷ p.open_groups }
+    → place_at gs (at + 1) new ≡ record {
+      left = rest;
+      open_groups = record { group = g; after = after_deep (g.depth + 1) rest } ∷ p.open_groups;
+    }
 opened_is gs rest g at opens new p here more is =
     let stands : drop at gs ≡ g ∷ rest = ap (λ q. q.left) here ∙ is in
     let left : drop (at + 1) gs ≡ rest = sym (drop-drop 1 at gs) ∙ ap (λ l. drop 1 l) stands in
     let open_groups = opens_are gs rest g opens new at more stands
-        ∙ ap (λ (q : ReaderState). record { group = g; after = after_deep (g.depth + 1) rest } ∷ q.open_groups) here in
+    ∙ ap (λ (q : ReaderState). record { group = g; after = after_deep (g.depth + 1) rest } ∷ q.open_groups) here in
     ap (λ l. record { left = l; open_groups = open_groups_at gs [] new }) left
-        ∙ ap (λ l. record { left = rest; open_groups = l }) open_groups
+    ∙ ap (λ l. record { left = rest; open_groups = l }) open_groups
 
 -- The index of an open group is that of a group.
 inside_last : (gs : List Group) (opens front : List ℕ) (i : ℕ) → AreIndexes gs opens → opens ≡ front ++ i ∷ []
@@ -40,7 +42,7 @@ inside_last : (gs : List Group) (opens front : List ℕ) (i : ℕ) → AreIndexe
 inside_last gs opens front i inside e =
     let long = ap (λ l. length l) e ∙ length-append front (i ∷ []) in
     subst (λ n. n < length gs) (got_seam opens front [] i 0 (length front) refl e)
-        (inside (length front) 0 (omega (arith, long)))
+    (inside (length front) 0 (omega (arith, long)))
 
 abbrev after_first : List OpenGroup → List Group
 after_first [] = []
@@ -55,11 +57,11 @@ closed_is gs at i next opens front p o os inside here e told is =
     let one = first_of_rest gs i (inside_last gs opens front i inside e) in
     let after = told one.first (drop (suc i) gs) one.is in
     let both = sym (opens_are gs (drop (suc i) gs) one.first front opens i e one.is)
-        ∙ ap (λ q. q.open_groups) here ∙ is in
+    ∙ ap (λ q. q.open_groups) here ∙ is in
     let left : drop next gs ≡ o.after = after ∙ ap after_first both in
     let open_groups : open_groups_at gs [] front ≡ os = ap (λ l. drop 1 l) both in
     ap (λ l. record { left = l; open_groups = open_groups_at gs [] front }) left
-        ∙ ap (λ l. record { left = o.after; open_groups = l }) open_groups
+    ∙ ap (λ l. record { left = o.after; open_groups = l }) open_groups
 
 -- The innermost open group is at the last index.
 pub innermost_is : (gs : List Group) (g : Group) (opens : List ℕ) (i d : ℕ) → 0 < length opens
@@ -70,15 +72,18 @@ innermost_is gs g opens i d some e inside is =
     let whole : last + 1 ≡ length opens = omega (arith, some) in
     let split : opens ≡ take last opens ++ i ∷ [] =
     sym (take_all (last + 1) opens (omega (arith, whole))) ∙ take_more opens last d (omega (arith, some))
-        ∙ ap (λ n. take last opens ++ n ∷ []) (sym e) in
+    ∙ ap (λ n. take last opens ++ n ∷ []) (sym e) in
     sym (ap innermost_group (opens_are gs (drop (suc i) gs) g (take last opens) opens i split
-        (first_at gs (drop (suc i) gs) g i inside is)))
+    (first_at gs (drop (suc i) gs) g i inside is)))
 
 -- After an open group is added there is one more, and after it is closed one less.
 pub one_more_open : (p q : ReaderState) → has_more p ≡ true
     → ((g : Group) (rest : List Group) → p.left ≡ g ∷ rest
-    → q ≡ record { left = rest; open_groups = record { group = g; after = after_deep (g.depth + 1) rest }
-    ∷ p.open_groups }) → length q.open_groups ≡ length p.open_groups + 1
+    → q ≡ record {
+      left = rest;
+      open_groups = record { group = g; after = after_deep (g.depth + 1) rest }
+          ∷ p.open_groups;
+    }) → length q.open_groups ≡ length p.open_groups + 1
 one_more_open p q more opened = by p.left refl more
   where
     by : (gs : List Group) → p.left ≡ gs → begins_at (inner_depth p.open_groups) gs ≡ true

@@ -13,8 +13,8 @@ past_flat d k End more le = refl
 past_flat d k (Read x rest) more le = past_flat d k rest more le
 past_flat d k (Group site n what inside rest) more le =
     ap (λ b. if b then after_deep d ((preorder (k + 1) inside ++ preorder k rest) ++ more)
-        else flat_group k site n (flat_kind what) (flat_reads what inside)
-        ∷ ((preorder (k + 1) inside ++ preorder k rest) ++ more)) (le-leb d k le)
+    else flat_group k site n (flat_kind what) (flat_reads what inside)
+    ∷ ((preorder (k + 1) inside ++ preorder k rest) ++ more)) (le-leb d k le)
     ∙ ap (λ l. after_deep d l) (append_assoc (preorder (k + 1) inside) (preorder k rest) more)
     ∙ past_flat d (k + 1) inside (preorder k rest ++ more) (omega (arith, le)) ∙ past_flat d k rest more le
 

@@ -74,9 +74,9 @@ impl<'a> Reader<'a> {
         requires { IsTrue (has_more self.old) }
         ensures opened { (g : group_data) (rest : List group_data) → self.old.left ≡ g ∷ rest
             → OnOk result (self.new ≡ record {
-          left = rest;
-          open_groups = record { group = g; after = after_deep (g.depth + 1) rest } ∷ self.old.open_groups;
-        }) }
+              left = rest;
+              open_groups = record { group = g; after = after_deep (g.depth + 1) rest } ∷ self.old.open_groups;
+            }) }
         ensures count { OnOk result (length self.new.open_groups ≡ length self.old.open_groups + 1) }
         ensures same { OnErr result (self.new ≡ self.old) }
         ensures step { steps.new ≡ steps.old + 1 }

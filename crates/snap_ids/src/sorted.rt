@@ -10,8 +10,8 @@ use smallvec::SmallVec;
 /// Ids in increasing order. Up to four need no allocation.
 pub type Ids = SmallVec<u64, 4>;
 
-// Returns an index before which all ids are less than `id`: a high one if `id` is above all but the last ids, which are read
-// most.
+// Returns an index before which all ids are less than `id`: a high one if `id` is above all but the last ids, which are
+// read most.
 fn recent_start(ids: &[u64], id: u64) -> usize
     requires rising { IsRising ids.now }
     ensures within { result ≤ length ids.now }

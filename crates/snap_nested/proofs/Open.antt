@@ -23,24 +23,30 @@ sees_live i m h = first m.is_live (is_valid m.id m.invalid i) h where
   first true b k = refl
   first false b k = absurd cc
 
--- tests of the open members
-pub seen_open : (os : List ℕ) (ms : List Member) (i : ℕ) → AreOpen os ms → list_any (λ n. sees i (member ms n)) os ≡ is_seen ms i
+-- A test of the open members is a test of all members.
+pub seen_open : (os : List ℕ) (ms : List Member) (i : ℕ) → AreOpen os ms
+    → list_any (λ n. sees i (member ms n)) os ≡ is_seen ms i
 seen_open os ms i o = any_open (sees i) os ms refl (λ n h. o.live n (sees_live i (member ms n) h))
 
-pub owned_open : (os : List ℕ) (ms : List Member) (i : ℕ) → AreOpen os ms → list_any (λ n. contains i (member ms n).ids) os ≡ is_owned ms i
+pub owned_open : (os : List ℕ) (ms : List Member) (i : ℕ) → AreOpen os ms
+    → list_any (λ n. contains i (member ms n).ids) os ≡ is_owned ms i
 owned_open os ms i o = any_open (λ (m : Member). contains i m.ids) os ms refl (λ n h. o.kept n i h)
 
-pub free_open : (os : List ℕ) (ms : List Member) (k : ℕ) → AreOpen os ms → is_free ms (member ms k) ≡ true → contains k os ≡ true
+pub free_open : (os : List ℕ) (ms : List Member) (k : ℕ) → AreOpen os ms → is_free ms (member ms k) ≡ true
+    → contains k os ≡ true
 free_open os ms k o h =
-    let own = some_own (member ms k).ids (free_parts (member ms k).is_live (is_empty (member ms k).ids) (is_seen ms (member ms k).first) h).1 in
+    let own = some_own (member ms k).ids (free_parts (member ms k).is_live (is_empty (member ms k).ids)
+    (is_seen ms (member ms k).first) h).1 in
     o.kept k own.0 own.1
 
-module _ (os : List ℕ) (ms : List Member) (handed parent : ℕ) (kind : Kind) (owner : ℕ) (a : AreMembers ms handed) (up : (member ms parent).is_live ≡ true) (o : AreOpen os ms) where
+module _ (os : List ℕ) (ms : List Member) (handed parent : ℕ) (kind : Kind) (owner : ℕ) (a : AreMembers ms handed)
+    (up : (member ms parent).is_live ≡ true) (o : AreOpen os ms) where
   grown : (n : ℕ) → contains n os ≡ true → contains n (with_id (length ms) os) ≡ true
   grown n h = contains-with_id n (length ms) os ∙ or_left (contains n os) (n == length ms) h
 
   newest : contains (length ms) (with_id (length ms) os) ≡ true
-  newest = contains-with_id (length ms) (length ms) os ∙ or_right (contains (length ms) os) (length ms == length ms) ((Decides-eqb (length ms) (length ms)).1 refl)
+  newest = contains-with_id (length ms) (length ms) os
+      ∙ or_right (contains (length ms) os) (length ms == length ms) ((Decides-eqb (length ms) (length ms)).1 refl)
 
   abbrev next : List Member
   next = members_after_enter ms handed parent kind owner
@@ -52,23 +58,32 @@ module _ (os : List ℕ) (ms : List Member) (handed parent : ℕ) (kind : Kind) 
   open_entered = record {
     live = λ n h. elim (same_or_other n (length ms)) [
       | inl e ↦ new_name (λ k. contains k (with_id (length ms) os) ≡ true) newest n e
-      | inr e ↦ grown n (o.live n (sym (ap (λ (m : Member). m.is_live) (at_other ms handed parent kind owner a up n e)) ∙ h))
+      | inr e ↦ grown n (o.live n (sym (ap (λ (m : Member). m.is_live) (at_other ms handed parent kind owner a up n e))
+          ∙ h))
     ];
     kept = λ n i h. elim (same_or_other n (length ms)) [
       | inl e ↦ new_name (λ k. contains k (with_id (length ms) os) ≡ true) newest n e
-      | inr e ↦ grown n (o.kept n i (sym (ap (λ (m : Member). contains i m.ids) (at_other ms handed parent kind owner a up n e)) ∙ h))
+      | inr e ↦ grown n (o.kept n i
+          (sym (ap (λ (m : Member). contains i m.ids) (at_other ms handed parent kind owner a up n e)) ∙ h))
     ];
     within = λ n h. elim (or_true (contains n os) (n == length ms) (sym (contains-with_id n (length ms) os) ∙ h)) [
       | inl e ↦ omega (arith, o.within n e, length-append ms (new ms handed parent kind owner a up ∷ []))
-      | inr e ↦ omega (arith, (Decides-eqb n (length ms)).0 e, length-append ms (new ms handed parent kind owner a up ∷ []))
+      | inr e ↦ omega (
+        arith,
+        (Decides-eqb n (length ms)).0 e,
+        length-append ms (new ms handed parent kind owner a up ∷ []),
+      )
     ];
     shut = λ n h. elim (same_or_other n (length ms)) [
-      | inl e ↦ absurd (not_both (member next n).is_live (ap (λ (k : ℕ). (member next k).is_live) e ∙ ap (λ (m : Member). m.is_live) (at_new ms handed parent kind owner a up)) h)
-      | inr e ↦ let same = at_other ms handed parent kind owner a up n e in ap (λ (m : Member). m.invalid) same ∙ o.shut n (sym (ap (λ (m : Member). m.is_live) same) ∙ h)
+      | inl e ↦ absurd (not_both (member next n).is_live (ap (λ (k : ℕ). (member next k).is_live) e
+          ∙ ap (λ (m : Member). m.is_live) (at_new ms handed parent kind owner a up)) h)
+      | inr e ↦ let same = at_other ms handed parent kind owner a up n e in
+          ap (λ (m : Member). m.invalid) same ∙ o.shut n (sym (ap (λ (m : Member). m.is_live) same) ∙ h)
     ];
   }
 
-module _ (os : List ℕ) (ms : List Member) (handed name : ℕ) (a : AreMembers ms handed) (live : (member ms name).is_live ≡ true) (o : AreOpen os ms) where
+module _ (os : List ℕ) (ms : List Member) (handed name : ℕ) (a : AreMembers ms handed)
+    (live : (member ms name).is_live ≡ true) (o : AreOpen os ms) where
   pub open_advanced : AreOpen os (members_after_advance ms handed name)
   open_advanced = record {
     live = λ n h. elim (same_or_other n name) [
@@ -81,8 +96,11 @@ module _ (os : List ℕ) (ms : List Member) (handed name : ℕ) (a : AreMembers 
     ];
     within = λ n h. omega (arith, o.within n h, length-set ms name (later ms handed name a live));
     shut = λ n h. elim (same_or_other n name) [
-      | inl e ↦ absurd (not_both (member (members_after_advance ms handed name) n).is_live (ap (λ (k : ℕ). (member (members_after_advance ms handed name) k).is_live) e ∙ ap (λ (m : Member). m.is_live) (at_name ms handed name a live) ∙ live) h)
-      | inr e ↦ let same = at_rest ms handed name a live n e in ap (λ (m : Member). m.invalid) same ∙ o.shut n (sym (ap (λ (m : Member). m.is_live) same) ∙ h)
+      | inl e ↦ absurd (not_both (member (members_after_advance ms handed name)
+          n).is_live (ap (λ (k : ℕ). (member (members_after_advance ms handed name) k).is_live) e
+          ∙ ap (λ (m : Member). m.is_live) (at_name ms handed name a live) ∙ live) h)
+      | inr e ↦ let same = at_rest ms handed name a live n e in
+          ap (λ (m : Member). m.invalid) same ∙ o.shut n (sym (ap (λ (m : Member). m.is_live) same) ∙ h)
     ];
   }
 
@@ -99,23 +117,30 @@ module _ (os : List ℕ) (ms : List Member) (name : ℕ) (there : name < length 
   pub open_closed : AreOpen os (members_after_close ms name)
   open_closed = record {
     live = λ n h. elim (same_or_other n name) [
-      | inl e ↦ absurd (not_both (member (members_after_close ms name) n).is_live h (ap (λ (k : ℕ). (member (members_after_close ms name) k).is_live) e ∙ ap (λ (m : Member). m.is_live) shut_at))
+      | inl e ↦ absurd (not_both (member (members_after_close ms name) n).is_live h
+          (ap (λ (k : ℕ). (member (members_after_close ms name) k).is_live) e ∙ ap (λ (m : Member). m.is_live) shut_at))
       | inr e ↦ o.live n (sym (ap (λ (m : Member). m.is_live) (open_at n e)) ∙ h)
     ];
     kept = λ n i h. elim (same_or_other n name) [
-      | inl e ↦ subst (λ k. contains k os ≡ true) (sym e) (o.kept name i (sym (ap (λ (k : ℕ). contains i (member (members_after_close ms name) k).ids) e ∙ ap (λ (m : Member). contains i m.ids) shut_at) ∙ h))
+      | inl e ↦ subst (λ k. contains k os ≡ true) (sym e)
+          (o.kept name i (sym (ap (λ (k : ℕ). contains i (member (members_after_close ms name) k).ids) e
+          ∙ ap (λ (m : Member). contains i m.ids) shut_at) ∙ h))
       | inr e ↦ o.kept n i (sym (ap (λ (m : Member). contains i m.ids) (open_at n e)) ∙ h)
     ];
     within = λ n h. omega (arith, o.within n h, length-set ms name shut_member);
     shut = λ n h. elim (same_or_other n name) [
-      | inl e ↦ ap (λ (k : ℕ). (member (members_after_close ms name) k).invalid) e ∙ ap (λ (m : Member). m.invalid) shut_at
-      | inr e ↦ ap (λ (m : Member). m.invalid) (open_at n e) ∙ o.shut n (sym (ap (λ (m : Member). m.is_live) (open_at n e)) ∙ h)
+      | inl e ↦ ap (λ (k : ℕ). (member (members_after_close ms name) k).invalid) e
+          ∙ ap (λ (m : Member). m.invalid) shut_at
+      | inr e ↦ ap (λ (m : Member). m.invalid) (open_at n e)
+          ∙ o.shut n (sym (ap (λ (m : Member). m.is_live) (open_at n e)) ∙ h)
     ];
   }
 
--- a name that is emptied and closed is not open any more; another one may have more ids, and the others stay
-module _ (os : List ℕ) (ms ns : List Member) (name into : ℕ) (o : AreOpen os ms) (other : into ≢ name) (up : (member ms into).is_live ≡ true) (up_after : (member ns into).is_live ≡ true)
-    (count : length ns ≡ length ms) (emptied : (i : ℕ) → contains i (member ns name).ids ≡ false) (closed : (member ns name).is_live ≡ false) (none : (member ns name).invalid ≡ [])
+-- The open names after a name is closed and emptied. Another name may get ids, and the others are unchanged.
+module _ (os : List ℕ) (ms ns : List Member) (name into : ℕ) (o : AreOpen os ms) (other : into ≢ name)
+    (up : (member ms into).is_live ≡ true) (up_after : (member ns into).is_live ≡ true)
+    (count : length ns ≡ length ms) (emptied : (i : ℕ) → contains i (member ns name).ids ≡ false)
+    (closed : (member ns name).is_live ≡ false) (none : (member ns name).invalid ≡ [])
     (rest : (n : ℕ) → n ≢ name → n ≢ into → member ns n ≡ member ms n) where
   pub open_joined : AreOpen (without_id name os) ns
   open_joined = record {
@@ -127,7 +152,8 @@ module _ (os : List ℕ) (ms ns : List Member) (name into : ℕ) (o : AreOpen os
       ]
     ];
     kept = λ n i h. elim (same_or_other n name) [
-      | inl e ↦ absurd (not_both (contains i (member ns n).ids) h (ap (λ (k : ℕ). contains i (member ns k).ids) e ∙ emptied i))
+      | inl e ↦ absurd (not_both (contains i (member ns n).ids) h
+          (ap (λ (k : ℕ). contains i (member ns k).ids) e ∙ emptied i))
       | inr e ↦ kept-without_id n name os e ∙ elim (same_or_other n into) [
         | inl d ↦ subst (λ k. contains k os ≡ true) (sym d) (o.live into up)
         | inr d ↦ o.kept n i (sym (ap (λ (m : Member). contains i m.ids) (rest n e d)) ∙ h)
@@ -138,7 +164,8 @@ module _ (os : List ℕ) (ms ns : List Member) (name into : ℕ) (o : AreOpen os
       | inl e ↦ ap (λ (k : ℕ). (member ns k).invalid) e ∙ none
       | inr e ↦ elim (same_or_other n into) [
         | inl d ↦ absurd (not_both (member ns n).is_live (ap (λ (k : ℕ). (member ns k).is_live) d ∙ up_after) h)
-        | inr d ↦ ap (λ (m : Member). m.invalid) (rest n e d) ∙ o.shut n (sym (ap (λ (m : Member). m.is_live) (rest n e d)) ∙ h)
+        | inr d ↦ ap (λ (m : Member). m.invalid) (rest n e d)
+            ∙ o.shut n (sym (ap (λ (m : Member). m.is_live) (rest n e d)) ∙ h)
       ]
     ];
   }
@@ -146,21 +173,28 @@ module _ (os : List ℕ) (ms ns : List Member) (name into : ℕ) (o : AreOpen os
 none_without : (ys : List ℕ) → without_ids [] ys ≡ []
 none_without ys = refl
 
-module _ (os : List ℕ) (ms ns : List Member) (name : ℕ) (o : AreOpen os ms) (closed : (member ms name).is_live ≡ false) (a : IsForgotten ms ns name) where
+module _ (os : List ℕ) (ms ns : List Member) (name : ℕ) (o : AreOpen os ms) (closed : (member ms name).is_live ≡ false)
+    (a : IsForgotten ms ns name) where
   pub open_forgotten : AreOpen (without_id name os) ns
   open_forgotten = record {
     live = λ n h. elim (same_or_other n name) [
-      | inl e ↦ absurd (not_both (member ns n).is_live h (ap (λ (k : ℕ). (member ns k).is_live) e ∙ ap (λ (m : Member). m.is_live) a.here ∙ closed))
+      | inl e ↦ absurd (not_both (member ns n).is_live h
+          (ap (λ (k : ℕ). (member ns k).is_live) e ∙ ap (λ (m : Member). m.is_live) a.here ∙ closed))
       | inr e ↦ kept-without_id n name os e ∙ o.live n (sym (ap (λ (m : Member). m.is_live) (a.others n e)) ∙ h)
     ];
     kept = λ n i h. elim (same_or_other n name) [
-      | inl e ↦ absurd (nothing i (sym (ap (λ (k : ℕ). contains i (member ns k).ids) e ∙ ap (λ (m : Member). contains i m.ids) a.here) ∙ h))
-      | inr e ↦ kept-without_id n name os e ∙ o.kept n i (sym (ap (λ (m : Member). contains i m.ids) (a.others n e)) ∙ h)
+      | inl e ↦ absurd (nothing i (sym (ap (λ (k : ℕ). contains i (member ns k).ids) e
+          ∙ ap (λ (m : Member). contains i m.ids) a.here) ∙ h))
+      | inr e ↦ kept-without_id n name os e
+          ∙ o.kept n i (sym (ap (λ (m : Member). contains i m.ids) (a.others n e)) ∙ h)
     ];
     within = λ n h. omega (arith, o.within n (contains-without_id n name os h), a.count);
     shut = λ n h. elim (same_or_other n name) [
-      | inl e ↦ ap (λ (k : ℕ). (member ns k).invalid) e ∙ ap (λ (m : Member). m.invalid) a.here ∙ ap (λ (l : List ℕ). without_ids l (member ms name).ids) (o.shut name closed)
-      | inr e ↦ ap (λ (m : Member). m.invalid) (a.others n e) ∙ ap (λ (l : List ℕ). without_ids l (member ms name).ids) (o.shut n (sym (ap (λ (m : Member). m.is_live) (a.others n e)) ∙ h))
+      | inl e ↦ ap (λ (k : ℕ). (member ns k).invalid) e ∙ ap (λ (m : Member). m.invalid) a.here
+          ∙ ap (λ (l : List ℕ). without_ids l (member ms name).ids) (o.shut name closed)
+      | inr e ↦ ap (λ (m : Member). m.invalid) (a.others n e)
+          ∙ ap (λ (l : List ℕ). without_ids l (member ms name).ids)
+          (o.shut n (sym (ap (λ (m : Member). m.is_live) (a.others n e)) ∙ h))
     ];
   }
 
@@ -180,21 +214,24 @@ open_start = record { live = live; kept = kept; within = within; shut = shut } w
 
   within : (n : ℕ) → contains n (0 ∷ []) ≡ true → n < 1
   within zero h = omega arith
-  within (suc n) h = let same : 0 ≡ suc n = (Decides-eqb 0 (suc n)).0 (only (0 == suc n) h) in absurd (omega (arith, same))
+  within (suc n) h =
+      let same : 0 ≡ suc n = (Decides-eqb 0 (suc n)).0 (only (0 == suc n) h) in absurd (omega (arith, same))
 
   shut : (n : ℕ) → (member (global ∷ []) n).is_live ≡ false → (member (global ∷ []) n).invalid ≡ []
   shut zero h = refl
   shut (suc n) h = refl
 
--- freeing again changes nothing
+-- A second removal of the same invalid ids changes nothing.
 pub free-twice : (own : List ℕ) (m : Member) → without_invalid own (without_invalid own m) ≡ without_invalid own m
 free-twice own m = ap (λ (l : List ℕ). record m { invalid = l }) (without_ids-twice m.invalid own)
 
 pub free-none : (own : List ℕ) (m : Member) → m.invalid ≡ [] → m ≡ without_invalid own m
-free-none own m none = ap (λ (l : List ℕ). record m { invalid = l }) none ∙ sym (ap (λ (l : List ℕ). record m { invalid = without_ids l own }) none)
+free-none own m none = ap (λ (l : List ℕ). record m { invalid = l }) none
+    ∙ sym (ap (λ (l : List ℕ). record m { invalid = without_ids l own }) none)
 
--- one step of freeing each open member
-module _ (own : List ℕ) (before cur : List Member) (name : ℕ) (there : name < length cur) (all : (k : ℕ) → without_invalid own (member cur k) ≡ without_invalid own (member before k)) where
+-- One step of the loop that removes ids from each open member.
+module _ (own : List ℕ) (before cur : List Member) (name : ℕ) (there : name < length cur)
+    (all : (k : ℕ) → without_invalid own (member cur k) ≡ without_invalid own (member before k)) where
   abbrev stepped : List Member
   stepped = slice_set cur name (without_invalid own (member cur name))
 
@@ -206,14 +243,18 @@ module _ (own : List ℕ) (before cur : List Member) (name : ℕ) (there : name 
 
   pub all_stepped : (k : ℕ) → without_invalid own (member stepped k) ≡ without_invalid own (member before k)
   all_stepped k = elim (same_or_other k name) [
-    | inl e ↦ subst (λ n. without_invalid own (member stepped n) ≡ without_invalid own (member before n)) (sym e) (ap (without_invalid own) at_step ∙ free-twice own (member cur name) ∙ all name)
+    | inl e ↦ subst (λ n. without_invalid own (member stepped n) ≡ without_invalid own (member before n)) (sym e)
+        (ap (without_invalid own) at_step ∙ free-twice own (member cur name) ∙ all name)
     | inr e ↦ ap (without_invalid own) (at_others k e) ∙ all k
   ]
 
-  pub done_stepped : (more : List ℕ) → ((k : ℕ) → contains k (name ∷ more) ≡ false → member cur k ≡ without_invalid own (member before k)) → (k : ℕ) → contains k more ≡ false → member stepped k ≡ without_invalid own (member before k)
+  pub done_stepped : (more : List ℕ)
+      → ((k : ℕ) → contains k (name ∷ more) ≡ false → member cur k ≡ without_invalid own (member before k)) → (k : ℕ)
+      → contains k more ≡ false → member stepped k ≡ without_invalid own (member before k)
   done_stepped more done k out = elim (same_or_other k name) [
     | inl e ↦ subst (λ n. member stepped n ≡ without_invalid own (member before n)) (sym e) (at_step ∙ all name)
-    | inr e ↦ at_others k e ∙ done k (neither (name == k) (contains k more) (λ h. e (sym ((Decides-eqb name k).0 h))) out)
+    | inr e ↦ at_others k e ∙ done k
+        (neither (name == k) (contains k more) (λ h. e (sym ((Decides-eqb name k).0 h))) out)
   ] where
     neither : (a b : Bool) → (a ≡ true → ⊥) → b ≡ false → (a || b) ≡ false
     neither true b h k = absurd (h refl)

@@ -20,7 +20,8 @@ fn owns(members: &[Member], name: Name, id: u64) -> bool
     }
 }
 
-// Returns whether a member has the id. Looks at the open names only, at the last ones first: their ids are asked for most.
+// Returns whether a member has the id. Looks at the open names only, at the last ones first: their ids are asked for
+// most.
 fn is_owned(members: &[Member], held: &IdList, id: u64) -> bool
     requires { AreOpen held.now members.now }
     ensures { result ≡ is_owned members.now id }
@@ -214,7 +215,7 @@ pub fn merge_member(
     Ok(())
 }
 
-/// Appends a member, and gives its parent a new id. Both have the same invalid ids, but for the child's id, which is
+/// Appends a member, and gives its parent a new id. Both have the same invalid ids, except that the child's id is
 /// invalid for the parent.
 pub fn take_members(
     alloc: Global,

@@ -10,12 +10,15 @@ use Rattle.snap_plain.specs.CallParts.{conflict_of}
 use Rattle.snap_settle.specs.declared.choice.Choice.TheVariants.{Changed, Kept}
 
 -- A changed object comes after those before it.
-pub put_all-changed : (front : Map) (changed : List ℕ) (x : ℕ) (e : StampedValue) (rest : Settled) → put_all front changed (choice_verdict x (Changed e) rest) ≡ put_all (front ++ e ∷ []) (changed ++ x ∷ []) rest
-put_all-changed front changed x e (settled m more) = rw (append_assoc front (e ∷ []) m, append_assoc changed (x ∷ []) more)
+pub put_all-changed : (front : Map) (changed : List ℕ) (x : ℕ) (e : StampedValue) (rest : Settled)
+    → put_all front changed (choice_verdict x (Changed e) rest) ≡ put_all (front ++ e ∷ []) (changed ++ x ∷ []) rest
+put_all-changed front changed x e (settled m more) =
+    rw (append_assoc front (e ∷ []) m, append_assoc changed (x ∷ []) more)
 put_all-changed front changed x e (conflict y) = refl
 
 -- A kept object comes after those before it.
-pub put_all-kept : (front : Map) (changed : List ℕ) (x : ℕ) (e : StampedValue) (rest : Settled) → put_all front changed (choice_verdict x (Kept e) rest) ≡ put_all (front ++ e ∷ []) changed rest
+pub put_all-kept : (front : Map) (changed : List ℕ) (x : ℕ) (e : StampedValue) (rest : Settled)
+    → put_all front changed (choice_verdict x (Kept e) rest) ≡ put_all (front ++ e ∷ []) changed rest
 put_all-kept front changed x e (settled m more) = rw (append_assoc front (e ∷ []) m)
 put_all-kept front changed x e (conflict y) = refl
 
@@ -37,6 +40,7 @@ with_members-snoc : (xs ys : List ℕ) (x : ℕ) → with_members (xs ++ x ∷ [
 with_members-snoc [] ys x = refl
 with_members-snoc (z ∷ xs) ys x = with_members-snoc xs (with_member z ys) x
 
--- One more member.
-pub members_more : (xs ys : List ℕ) (i : ℕ) → i < length xs → with_members (take (i + 1) xs) ys ≡ with_member (get_or xs i 0) (with_members (take i xs) ys)
+-- One more step of the loop inserts one more member.
+pub members_more : (xs ys : List ℕ) (i : ℕ) → i < length xs
+    → with_members (take (i + 1) xs) ys ≡ with_member (get_or xs i 0) (with_members (take i xs) ys)
 members_more xs ys i within = rw (take_more xs i 0 within) (with_members-snoc (take i xs) ys (get_or xs i 0))

@@ -7,5 +7,7 @@ use Rattle.snap_api.specs.World.{with_object}
 use Rattle.snap_api.specs.declared.data.Snapshot.{Snapshot}
 
 -- After a make each snapshot has a stamped value for the new object too.
-pub shaped_made : (n m : ℕ) (old new : List Snapshot) (e : StampedValue) → m ≡ n + 1 → new ≡ map (with_object e) old → AreShaped n old → AreShaped m new
-shaped_made n m old new e more is full = subst (AreShaped m) (sym is) (subst (λ k. AreShaped k (map (with_object e) old)) (sym more) (shaped-world_after_make n old e full))
+pub shaped_made : (n m : ℕ) (old new : List Snapshot) (e : StampedValue) → m ≡ n + 1 → new ≡ map (with_object e) old
+    → AreShaped n old → AreShaped m new
+shaped_made n m old new e more is full = subst (AreShaped m) (sym is)
+    (subst (λ k. AreShaped k (map (with_object e) old)) (sym more) (shaped-world_after_make n old e full))

@@ -52,7 +52,8 @@ abbrev pub with_view : Snapshot → Map → List ℕ → Snapshot
 with_view s m wrote = record s { view = m; wrote = wrote }
 
 -- The verdict on object x, written or not, before the verdicts on the later objects.
-abbrev pub settle_one : {P : Type 0} → Rules P → Bool → P → StampedValue → StampedValue → StampedValue → ℕ → ℕ → Settled → Settled
+abbrev pub settle_one : {P : Type 0} → Rules P → Bool → P → StampedValue → StampedValue → StampedValue → ℕ → ℕ → Settled
+    → Settled
 settle_one rules wrote p previous current applied now x rest =
     if wrote then put_verdict x current (settle rules p previous current applied now) rest else put_kept current rest
 

@@ -77,7 +77,8 @@ fn choose<P: Policy>(
     now: u64,
 ) -> Result<Choice, NoMemory>
     ensures { IfOk result (λ ch. (x : ℕ) (rest : Settled) →
-        choice_verdict x ch rest ≡ settle_one P.rules wrote policy.now previous.now current.now applied.now now x rest) }
+        choice_verdict x ch rest ≡ settle_one P.rules wrote policy.now previous.now current.now applied.now now x
+        rest) }
 {
     if wrote {
         snap_settle::choose(alloc, policy, previous, current, applied, now)

@@ -56,7 +56,8 @@ pub fn push_child(
 ) -> Result<(), NoMemory>
     requires { parent < length snapshots.old.items }
     ensures ok { OnOk result (snapshots.new.items
-        ≡ snapshots.old.items ++ child_of caller parent kind (slice_index_or snapshots.old.items parent no_snapshot) ∷ []) }
+        ≡ snapshots.old.items ++ child_of caller parent kind
+        (slice_index_or snapshots.old.items parent no_snapshot) ∷ []) }
     ensures err { OnErr result (snapshots.new.items ≡ snapshots.old.items) }
 {
     let new_child = new_child(alloc, &snapshots[parent as usize], caller, parent, kind)?;
@@ -85,7 +86,8 @@ pub fn set_entry(
     requires name { name < length snapshots.old.items }
     requires object { object < length (slice_index_or snapshots.old.items name no_snapshot).view }
     ensures ok { OnOk result (snapshots.new.items
-        ≡ slice_set snapshots.old.items name (with_entry (slice_index_or snapshots.old.items name no_snapshot) object entry)) }
+        ≡ slice_set snapshots.old.items name
+        (with_entry (slice_index_or snapshots.old.items name no_snapshot) object entry)) }
     ensures err { OnErr result (snapshots.new.items ≡ snapshots.old.items) }
 {
     let shot = &mut snapshots[name as usize];

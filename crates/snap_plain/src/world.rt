@@ -121,7 +121,8 @@ impl<P: Policy> PlainWorld<P> {
     fn take_refusal(&self, parent: Name, kind: Kind) -> Option<Refusal>
         ensures tested { (caller : ℕ) → Tested (world_of self.now)
             (call P.rules (world_of self.now) caller (Request.Take parent kind))
-            (world_after_take (world_of self.now) caller parent kind, Reply.Taken (length self.now.snapshots.items)) result }
+            (world_after_take (world_of self.now) caller parent kind, Reply.Taken (length self.now.snapshots.items))
+            result }
         ensures known { IfNone result (parent < length self.now.snapshots.items) }
         ensures unspent { IfNone result (self.now.clock < 2 ^ 60) }
     {

@@ -15,10 +15,10 @@ pub append_is : (previous current applied merged : List ℤ) → starts_with int
     → Some (Ints merged) ≡ merged_items previous current applied
 append_is previous current applied merged begins goes_on fits is_merged =
     let all : length (appended_list previous current applied) ≤ 4096 =
-        omega (arith, fits, length-append current (drop (length previous) applied)) in
+    omega (arith, fits, length-append current (drop (length previous) applied)) in
     let room : nat_le (length (appended_list previous current applied)) 4096 ≡ true = grind (arith, all) in
     rw (begins, goes_on, room) (ap (λ l. Some (Ints l))
-        (is_merged ∙ take_all 4096 (appended_list previous current applied) all))
+    (is_merged ∙ take_all 4096 (appended_list previous current applied) all))
 
 -- The slice after a prefix has all later items.
 pub behind_front : (front l : List ℤ) → take (length l - length front) (drop (length front) l) ≡ drop (length front) l

@@ -23,7 +23,7 @@ is_read_by c i reader = has_id i (readable (is_valid reader.id reader.invalid) c
 abbrev pub is_read : List Rec → ℕ → List RecordReader → Bool
 is_read c i readers = list_any (is_read_by c i) readers
 
--- The record, if no reader reads it and its id is lower than that of the best one so far, and else that one.
+-- The record with the lower id of `r` and the best record so far, if no reader reads `r`. Else the best record so far.
 abbrev pub lower_record : Chains → RecordNo → Option RecordNo → Bool → Option RecordNo
 lower_record c r best false = best
 lower_record c r None true = Some r
@@ -48,8 +48,8 @@ IsLowestUnread c x readers n (Some b) = LowestUnread c x readers n b.0
 abbrev pub AreUsed : Chains → ℕ → Type 0
 AreUsed c x = (k q : ℕ) → slice_get (keys_at c x) k ≡ Some q → (record_at c q).id ≢ 0
 
--- The record that a write may overwrite: one with id 0, or, if there is no such record, the one with the lowest id that no
--- reader reads. None if no record has id 0 and each is read.
+-- The record that a write may overwrite: one with id 0, or, if there is no such record, the one with the lowest id that
+-- no reader reads. None if no record has id 0 and each is read.
 abbrev pub IsReusable : Chains → ℕ → List RecordReader → Option RecordNo → Type 0
 IsReusable c x readers None = AreUsed c x × IsLowestUnread c x readers (length (keys_at c x)) None
 IsReusable c x readers (Some b) =
@@ -63,8 +63,8 @@ IsReadWithin sees c ids = (i : ℕ) → has_id i (readable sees c) ≡ true → 
 abbrev pub is_unkept : List ℕ → ℕ → ℕ → Bool
 is_unkept kept id i = i == id || not (contains i kept)
 
--- A record came into the chain. Records whose ids are in the list are still there, but for one with the new record's id.
--- No other record has an id except 0.
+-- A write puts `q` into the chain. Each record whose id is in `kept` remains, except a record with the id of `q`.
+-- After the write, each record has id 0 or an id in `kept`.
 pub record PutsKeeping (before after : List Rec) (q : Rec) (kept : List ℕ) : Type 0 where
   pub put : Puts before after q (is_unkept kept q.id)
   pub swept : (p : Rec) → Has after p → 0 < p.id → contains p.id kept ≡ true

@@ -70,8 +70,8 @@ fn lowest_unread(chains: &Chains, x: ObjectNo, readers: &Readers) -> Option<Reco
     best
 }
 
-/// Returns a record of object `x` that may be overwritten: one with id 0, or else the one with the lowest id that no reader
-/// reads. Takes no memory.
+/// Returns a record of object `x` that may be overwritten: one with id 0, or else the one with the lowest id that no
+/// reader reads. Takes no memory.
 pub fn reusable(chains: &Chains, x: ObjectNo, readers: &Readers) -> Option<RecordNo>
     requires { x < length chains.now.heads.items }
     ensures is { IsReusable chains.now x readers.now result }
@@ -84,8 +84,8 @@ pub fn reusable(chains: &Chains, x: ObjectNo, readers: &Readers) -> Option<Recor
 }
 
 /// Puts a record into the chain of object `x`, with an id that `kept` contains. The record takes the place of the one
-/// with the same id, or else of one whose id is not in `kept`, or else is put before the others. The other records whose
-/// ids are not in `kept` get id 0. After `NoMemory` all chains are unchanged.
+/// with the same id, or else of one whose id is not in `kept`, or else is put before the others. The other records
+/// whose ids are not in `kept` get id 0. After `NoMemory` all chains are unchanged.
 pub fn put(
     chains: &mut Chains,
     x: ObjectNo,

@@ -25,7 +25,7 @@ pub fn is_conflict<P: Policy>(
 ) -> Result<bool, NoMemory>
     ensures found { IfOk result (λ found. (now : ℕ)
         → found ≡ is_clash
-            (choice_of (settle P.rules policy.now previous.now current.now applied.now now) current.now)) }
+        (choice_of (settle P.rules policy.now previous.now current.now applied.now now) current.now)) }
     ensures free { P.is_free_merge policy.now previous.now.value current.now.value applied.now.value → IsOk result }
 {
     if previous.stamp == current.stamp || policy.equivalent(&current.value, &applied.value) {

@@ -9,16 +9,23 @@ use Rattle.snap_shared.specs.declared.rule.SeatState.{SeatState}
 use Rattle.snap_shared.specs.TurnRule.{total, occurrences, caller_total, one_if_below}
 use Rattle.snap_shared.proofs.Totals.{total-set}
 
-module _ {W E : Type 0} (views : List (SeatState W E)) (id : ℕ) (v w : SeatState W E) (at : get_elem? views id ≡ some v) where
-  pub once_kept : (n : ℕ) → ((k : ℕ) → occurrences k w.own ≡ occurrences k v.own) → ((k : ℕ) → total (λ (u : SeatState W E). occurrences k u.own) views ≡ one_if_below k n) → (k : ℕ) → total (λ (u : SeatState W E). occurrences k u.own) (set views id w) ≡ one_if_below k n
-  once_kept n same once k = omega (arith, total-set (λ (u : SeatState W E). occurrences k u.own) views id v w at, same k, once k)
+module _ {W E : Type 0} (views : List (SeatState W E)) (id : ℕ) (v w : SeatState W E)
+    (at : get_elem? views id ≡ some v) where
+  pub once_kept : (n : ℕ) → ((k : ℕ) → occurrences k w.own ≡ occurrences k v.own)
+      → ((k : ℕ) → total (λ (u : SeatState W E). occurrences k u.own) views ≡ one_if_below k n) → (k : ℕ)
+      → total (λ (u : SeatState W E). occurrences k u.own) (set views id w) ≡ one_if_below k n
+  once_kept n same once k =
+      omega (arith, total-set (λ (u : SeatState W E). occurrences k u.own) views id v w at, same k, once k)
 
   pub callers_kept : (n : ℕ) → length w.own ≡ length v.own → caller_total views ≡ n → caller_total (set views id w) ≡ n
-  callers_kept n same all_callers = omega (arith, total-set (λ (u : SeatState W E). length u.own) views id v w at, same, all_callers)
+  callers_kept n same all_callers =
+      omega (arith, total-set (λ (u : SeatState W E). length u.own) views id v w at, same, all_callers)
 
   pub distinct_kept : (w.phase ≡ HasTurn → v.phase ≡ HasTurn)
-      → ((i j : ℕ) (u x : SeatState W E) → get_elem? views i ≡ some u → get_elem? views j ≡ some x → u.phase ≡ HasTurn → x.phase ≡ HasTurn → i ≡ j)
-      → (i j : ℕ) (u x : SeatState W E) → get_elem? (set views id w) i ≡ some u → get_elem? (set views id w) j ≡ some x → u.phase ≡ HasTurn → x.phase ≡ HasTurn → i ≡ j
+      → ((i j : ℕ) (u x : SeatState W E) → get_elem? views i ≡ some u → get_elem? views j ≡ some x → u.phase ≡ HasTurn
+      → x.phase ≡ HasTurn → i ≡ j)
+      → (i j : ℕ) (u x : SeatState W E) → get_elem? (set views id w) i ≡ some u → get_elem? (set views id w) j ≡ some x
+      → u.phase ≡ HasTurn → x.phase ≡ HasTurn → i ≡ j
   distinct_kept fewer old i j u x eu ex hu hx =
       let has : SeatState W E → Phase = λ y. y.phase in
       ⊎_elim

@@ -33,11 +33,13 @@ append-cancel [] ys e = e
 append-cancel (x ∷ xs) ys e = append-cancel xs ys (ap other_items e)
 
 module _ {P : Type 0} (rules : Rules P) where
-  pub legal-snoc : (w : World P) (xs : List Entry) (e : Entry) → IsLegal rules w xs → (call rules (world_after rules w xs) e.caller e.request).1 ≡ e.reply → IsLegal rules w (xs ++ e ∷ [])
+  pub legal-snoc : (w : World P) (xs : List Entry) (e : Entry) → IsLegal rules w xs
+      → (call rules (world_after rules w xs) e.caller e.request).1 ≡ e.reply → IsLegal rules w (xs ++ e ∷ [])
   legal-snoc w [] e l h = (h, tt)
   legal-snoc w (x ∷ xs) e l h = (l.0, legal-snoc (call rules w x.caller x.request).0 xs e l.1 h)
 
-  pub after-snoc : (w : World P) (xs : List Entry) (e : Entry) → world_after rules w (xs ++ e ∷ []) ≡ (call rules (world_after rules w xs) e.caller e.request).0
+  pub after-snoc : (w : World P) (xs : List Entry) (e : Entry)
+      → world_after rules w (xs ++ e ∷ []) ≡ (call rules (world_after rules w xs) e.caller e.request).0
   after-snoc w [] e = refl
   after-snoc w (x ∷ xs) e = after-snoc (call rules w x.caller x.request).0 xs e
 
@@ -52,9 +54,12 @@ module _ {W P : Type 0} (rules : Rules P) (stands : W → World P → Type 0) (l
     abbrev Step : Reply → Bool → Type 0
     Step r b = MatchBool b
         ((log_of new ≡ Some log) × ((w : World P) → stands old w → stands new w))
-        ((log_of new ≡ Some (log ++ entry r ∷ [])) × ((w : World P) → stands old w → (r ≡ (call rules w number request).1) × stands new (call rules w number request).0))
+        ((log_of new ≡ Some (log ++ entry r ∷ []))
+        × ((w : World P) → stands old w
+        → (r ≡ (call rules w number request).1) × stands new (call rules w number request).0))
 
-    step_of : (r : Reply) → Logs (Some log) (log_of new) number request r → Calls rules (stands old) (stands new) number request r → Step r (is_no_memory r)
+    step_of : (r : Reply) → Logs (Some log) (log_of new) number request r
+        → Calls rules (stands old) (stands new) number request r → Step r (is_no_memory r)
     step_of (reply.Refused refusal.NoMemory) l c = (l, c)
     step_of r l c = (l, c)
 
@@ -69,30 +74,41 @@ module _ {W P : Type 0} (rules : Rules P) (stands : W → World P → Type 0) (l
     grows_by r true = inl (append-nil log)
     grows_by r false = inr (entry r, refl, refl)
 
-    follows_by : (r : Reply) (b : Bool) → Step r b → (opening : W) → IsWorldAfter rules stands opening log old → IsWorldAfter rules stands opening (later r b) new
-    follows_by r true s opening f = subst (λ l. IsWorldAfter rules stands opening l new) (sym (append-nil log)) (λ w p. let a = f w p in (a.0, s.1 (world_after rules w log) a.1))
+    follows_by : (r : Reply) (b : Bool) → Step r b → (opening : W) → IsWorldAfter rules stands opening log old
+        → IsWorldAfter rules stands opening (later r b) new
+    follows_by r true s opening f = subst (λ l. IsWorldAfter rules stands opening l new) (sym (append-nil log))
+        (λ w p. let a = f w p in (a.0, s.1 (world_after rules w log) a.1))
     follows_by r false s opening f = λ w p.
         let a = f w p in
-        let one = s.1 (world_after rules w log) a.1 in
-        (legal-snoc rules w log (entry r) a.0 (sym one.0), subst (stands new) (sym (after-snoc rules w log (entry r))) one.1)
+        let one = s.1 (world_after rules w log) a.1 in (
+          legal-snoc rules w log (entry r) a.0 (sym one.0),
+          subst (stands new) (sym (after-snoc rules w log (entry r))) one.1,
+        )
 
   -- The only caller of a seat at rest is the first of its list.
-  own_there : (opening : W) (number : ℕ) (m : M) → IsAtRest opening number m → get_elem? m.0.own 0 ≡ maybe.some (number, own_calls number m.0.seen)
+  own_there : (opening : W) (number : ℕ) (m : M) → IsAtRest opening number m
+      → get_elem? m.0.own 0 ≡ maybe.some (number, own_calls number m.0.seen)
   own_there opening number m rests = ap (λ (l : List (ℕ × List Entry)). get_elem? l 0) rests.2
 
   -- Between what the seat saw and its turn, only other callers made calls.
-  pub others_between : (opening : W) (number : ℕ) (m : M) (log : List Entry) → IsAtRest opening number m → AreCallsIn caller_of log m.0.own → (b : StartsWith log m.0.seen) → own_calls number b.0 ≡ []
+  pub others_between : (opening : W) (number : ℕ) (m : M) (log : List Entry) → IsAtRest opening number m
+      → AreCallsIn caller_of log m.0.own → (b : StartsWith log m.0.seen) → own_calls number b.0 ≡ []
   others_between opening number m log rests own b =
-      let same : own_calls number log ≡ own_calls number m.0.seen = own 0 (number, own_calls number m.0.seen) (own_there opening number m rests) in
-      append-cancel (own_calls number m.0.seen) (own_calls number b.0) (sym (calls_by-append caller_of number m.0.seen b.0) ∙ ap (own_calls number) (sym b.1) ∙ same)
+      let same : own_calls number log ≡ own_calls number m.0.seen =
+      own 0 (number, own_calls number m.0.seen) (own_there opening number m rests) in
+      append-cancel (own_calls number m.0.seen) (own_calls number b.0)
+      (sym (calls_by-append caller_of number m.0.seen b.0) ∙ ap (own_calls number) (sym b.1) ∙ same)
 
-  module _ (opening : W) (number : ℕ) (m0 m : M) (old new : W) (request : Request) (r : Reply) (rests : IsAtRest opening number m0) (ht : HasTurn log_of (IsWorldAfter rules stands) m0.0 old m)
-      (logs : Logs (log_of old) (log_of new) number request r) (calls : Calls rules (stands old) (stands new) number request r) where
+  module _ (opening : W) (number : ℕ) (m0 m : M) (old new : W) (request : Request) (r : Reply)
+      (rests : IsAtRest opening number m0) (ht : HasTurn log_of (IsWorldAfter rules stands) m0.0 old m)
+      (logs : Logs (log_of old) (log_of new) number request r)
+      (calls : Calls rules (stands old) (stands new) number request r) where
     log : List Entry
     log = ht.log
 
     step : Step old new ht.log number request r (is_no_memory r)
-    step = step_of old new ht.log number request r (subst (λ (o : Option (List Entry)). Logs o (log_of new) number request r) ht.holds.log_is logs) calls
+    step = step_of old new ht.log number request r
+        (subst (λ (o : Option (List Entry)). Logs o (log_of new) number request r) ht.holds.log_is logs) calls
 
     abbrev now : List Entry
     now = later old new ht.log number request r (is_no_memory r)
@@ -110,13 +126,16 @@ module _ {W P : Type 0} (rules : Rules P) (stands : W → World P → Type 0) (l
       has = ap (λ (x : M). x.0.phase) ht.is;
       empty = ap (λ (x : M). x.1) ht.is;
       opened = ap (λ (x : M). x.0.opening) ht.is ∙ rests.1;
-      mine = subst (λ (l : List (ℕ × List Entry)). 0 < occurrences number l) (sym same_own) (times_here ((number, own_calls number m0.0.seen) ∷ []) 0 (number, own_calls number m0.0.seen) refl);
+      mine = subst (λ (l : List (ℕ × List Entry)). 0 < occurrences number l) (sym same_own)
+          (times_here ((number, own_calls number m0.0.seen) ∷ []) 0 (number, own_calls number m0.0.seen) refl);
       log_is = log_by old new ht.log number request r (is_no_memory r) step;
-      grows = subst (λ (l : List Entry). GrowsByAtMostOne caller_of number l now) (sym (ap (λ (x : M). x.0.seen) ht.is)) (grows_by old new ht.log number request r (is_no_memory r));
+      grows = subst (λ (l : List Entry). GrowsByAtMostOne caller_of number l now) (sym (ap (λ (x : M). x.0.seen) ht.is))
+          (grows_by old new ht.log number request r (is_no_memory r));
       leads = leads;
     }
 
-    module _ (last : M) (returned : (l : List Entry) → log_of new ≡ Some l → last ≡ (after_return caller_of m.0 l, [])) where
+    module _ (last : M)
+        (returned : (l : List Entry) → log_of new ≡ Some l → last ≡ (after_return caller_of m.0 l, [])) where
       is_now : last ≡ (after_return caller_of m.0 now, [])
       is_now = returned now (log_by old new ht.log number request r (is_no_memory r) step)
 
@@ -142,19 +161,25 @@ module _ {W P : Type 0} (rules : Rules P) (stands : W → World P → Type 0) (l
       }
 
   -- A snapshot that is the caller's own after what the seat has seen is its own in the world that the seat takes.
-  pub own_at : (opening : W) (number : ℕ) (m0 m : M) (old : W) → IsAtRest opening number m0 → HasTurn log_of (IsWorldAfter rules stands) m0.0 old m → (o : World P) → stands opening o → (name : ℕ) → IsOwn (world_after rules o m0.0.seen) number name →
+  pub own_at : (opening : W) (number : ℕ) (m0 m : M) (old : W) → IsAtRest opening number m0
+      → HasTurn log_of (IsWorldAfter rules stands) m0.0 old m → (o : World P) → stands opening o → (name : ℕ)
+      → IsOwn (world_after rules o m0.0.seen) number name →
       (w : World P) × stands old w × IsOwn w number name
   own_at opening number m0 m old rests ht o h name mine =
       let b = ht.holds.begins in (
         world_after rules o ht.log,
         (ht.holds.leads opening rests.1 o h).1,
-        subst (λ (v : World P). IsOwn v number name) (sym (ap (λ (l : List Entry). world_after rules o l) b.1 ∙ after_append rules o m0.0.seen b.0))
-            (stays_own rules (world_after rules o m0.0.seen) number name b.0 (others_between opening number m0 ht.log rests ht.holds.own b) mine),
+        subst (λ (v : World P). IsOwn v number name)
+            (sym (ap (λ (l : List Entry). world_after rules o l) b.1 ∙ after_append rules o m0.0.seen b.0))
+            (stays_own rules (world_after rules o m0.0.seen) number name b.0
+            (others_between opening number m0 ht.log rests ht.holds.own b) mine),
       )
 
   -- A dispose of such a snapshot succeeds.
-  pub disposes_seen_own : (opening : W) (number : ℕ) (m0 m : M) (old : W) → IsAtRest opening number m0 → HasTurn log_of (IsWorldAfter rules stands) m0.0 old m
-      → (q : Request) (r : Reply) → DisposesOwn (stands old) number q r → DisposesSeenOwn rules stands opening number m0.0.seen q r
+  pub disposes_seen_own : (opening : W) (number : ℕ) (m0 m : M) (old : W) → IsAtRest opening number m0
+      → HasTurn log_of (IsWorldAfter rules stands) m0.0 old m
+      → (q : Request) (r : Reply) → DisposesOwn (stands old) number q r
+      → DisposesSeenOwn rules stands opening number m0.0.seen q r
   disposes_seen_own opening number m0 m old rests ht (request.Dispose name) r own = λ o h mine.
       let at = own_at opening number m0 m old rests ht o h name mine in
       own at.0 at.1 at.2
@@ -165,17 +190,25 @@ module _ {W P : Type 0} (rules : Rules P) (stands : W → World P → Type 0) (l
   disposes_seen_own opening number m0 m old rests ht (request.Apply n) r own = tt
 
   -- The turn can be returned.
-  pub returns_at : (opening : W) (count slots id : ℕ) (m two : M) (new : W) → CanReturn log_of (IsWorldAfter rules stands) opening m new → two ≡ (m.0, (0, Some new) ∷ rest m.1)
-      → Allows (IsKept caller_of log_of (IsWorldAfter rules stands) opening count) slots id two 0 (λ n. 0) (ReturnsTurn caller_of log_of two)
+  pub returns_at : (opening : W) (count slots id : ℕ) (m two : M) (new : W)
+      → CanReturn log_of (IsWorldAfter rules stands) opening m new → two ≡ (m.0, (0, Some new) ∷ rest m.1)
+      → Allows (IsKept caller_of log_of (IsWorldAfter rules stands) opening count) slots id two 0 (λ n. 0)
+      (ReturnsTurn caller_of log_of two)
   returns_at opening count slots id m two new g is =
-      let now : two ≡ (m.0, (0, Some new) ∷ []) = is ∙ ap (λ (l : List (ℕ × Option W)). (m.0, (0, Some new) ∷ rest l)) g.empty in
-      subst (λ (x : M). Allows (IsKept caller_of log_of (IsWorldAfter rules stands) opening count) slots id x 0 (λ n. 0) (ReturnsTurn caller_of log_of x)) (sym now)
-      (returns_turn caller_of log_of (IsWorldAfter rules stands) opening count slots id m.0 g.number new g.log g.has g.mine g.opened g.log_is g.grows g.leads)
+      let now : two ≡ (m.0, (0, Some new) ∷ []) = is
+      ∙ ap (λ (l : List (ℕ × Option W)). (m.0, (0, Some new) ∷ rest l)) g.empty in
+      subst (λ (x : M). Allows (IsKept caller_of log_of (IsWorldAfter rules stands) opening count) slots id x 0 (λ n. 0)
+      (ReturnsTurn caller_of log_of x)) (sym now)
+      (returns_turn caller_of log_of (IsWorldAfter rules stands) opening count slots id m.0 g.number new g.log g.has
+      g.mine g.opened g.log_is g.grows g.leads)
 
-  pub after_return_is : (m two last : M) (new : W) (found : ℕ) → m.1 ≡ (0, None) ∷ [] → two ≡ (m.0, (0, Some new) ∷ rest m.1) → ReturnsTurn caller_of log_of two found last → (l : List Entry) → log_of new ≡ Some l → last ≡ (after_return caller_of m.0 l, [])
+  pub after_return_is : (m two last : M) (new : W) (found : ℕ) → m.1 ≡ (0, None) ∷ []
+      → two ≡ (m.0, (0, Some new) ∷ rest m.1) → ReturnsTurn caller_of log_of two found last → (l : List Entry)
+      → log_of new ≡ Some l → last ≡ (after_return caller_of m.0 l, [])
   after_return_is m two last new found empty is g l log_is =
       let head : List (ℕ × Option W) → Option W = λ x. elim x [ [] ↦ None | y ∷ ys ↦ y.1 ] in
-      let now : two ≡ (m.0, (0, Some new) ∷ []) = is ∙ ap (λ (x : List (ℕ × Option W)). (m.0, (0, Some new) ∷ rest x)) empty in
+      let now : two ≡ (m.0, (0, Some new) ∷ []) = is
+      ∙ ap (λ (x : List (ℕ × Option W)). (m.0, (0, Some new) ∷ rest x)) empty in
       let p : Some g.0 ≡ Some new = ap head (sym g.2 ∙ ap (λ (x : M). x.1) now) in
       let same : g.0 ≡ new = cc in
       let logs : Some g.1 ≡ Some l = sym g.3 ∙ ap log_of same ∙ log_is in
@@ -183,5 +216,6 @@ module _ {W P : Type 0} (rules : Rules P) (stands : W → World P → Type 0) (l
       let view : two.0 ≡ m.0 = ap (λ (x : M). x.0) now in
       g.4 ∙ (λ i. (after_return caller_of (view i) (log i), []))
 
-pub follows_none : {W P : Type 0} (rules : Rules P) (stands : W → World P → Type 0) (opening : W) → IsWorldAfter rules stands opening [] opening
+pub follows_none : {W P : Type 0} (rules : Rules P) (stands : W → World P → Type 0) (opening : W)
+    → IsWorldAfter rules stands opening [] opening
 follows_none rules stands opening = λ w h. (tt, h)

@@ -9,7 +9,8 @@ use Rattle.snap_shared.specs.declared.rule.SeatState.{SeatState}
 use Rattle.snap_shared.specs.TurnRule.{IsKept, IsSeatState, first_state, callers_from, occurrences}
 use Rattle.snap_shared.proofs.Totals.{own_from, length_from, once_from}
 
-module _ {W E : Type 0} (caller : E → ℕ) (log_of : W → Option (List E)) (leads_to : W → List E → W → Type 0) (key : W) (n : ℕ) where
+module _ {W E : Type 0} (caller : E → ℕ) (log_of : W → Option (List E)) (leads_to : W → List E → W → Type 0) (key : W)
+    (n : ℕ) where
   abbrev first : SeatState W E
   first = first_state key n
 
@@ -18,12 +19,20 @@ module _ {W E : Type 0} (caller : E → ℕ) (log_of : W → Option (List E)) (l
   only (suc j) v e = absurd (some-ne-none v (sym e))
 
   state : IsSeatState caller log_of leads_to key [] first
-  state = record { opened = λ o e. let q : key ≡ o = cc in sym q; begins = ([], refl); begins_received = ([], refl); own = own_from E caller 0 n; turn = λ e. absurd cc }
+  state = record {
+    opened = λ o e. let q : key ≡ o = cc in
+        sym q;
+    begins = ([], refl);
+    begins_received = ([], refl);
+    own = own_from E caller 0 n;
+    turn = λ e. absurd cc;
+  }
 
   idle : (v : SeatState W E) → first ≡ v → v.phase ≡ Idle
   idle v e = ap (λ (x : SeatState W E). x.phase) (sym e)
 
-  pub opens : log_of key ≡ Some [] → leads_to key [] key → IsKept caller log_of leads_to key n (opening (0 ∷ []) (Some key ∷ []) first)
+  pub opens : log_of key ≡ Some [] → leads_to key [] key
+      → IsKept caller log_of leads_to key n (opening (0 ∷ []) (Some key ∷ []) first)
   opens none here = record {
     word = 0;
     log = [];
@@ -38,5 +47,7 @@ module _ {W E : Type 0} (caller : E → ℕ) (log_of : W → Option (List E)) (l
     plus_zero : (a : ℕ) → a + 0 ≡ a
     plus_zero a = omega arith
 
-  pub opens_with : (slots : List (Option W)) → slots ≡ Some key ∷ [] → log_of key ≡ Some [] → leads_to key [] key → IsKept caller log_of leads_to key n (opening (0 ∷ []) slots first)
-  opens_with slots is none here = subst (λ (l : List (Option W)). IsKept caller log_of leads_to key n (opening (0 ∷ []) l first)) (sym is) (opens none here)
+  pub opens_with : (slots : List (Option W)) → slots ≡ Some key ∷ [] → log_of key ≡ Some [] → leads_to key [] key
+      → IsKept caller log_of leads_to key n (opening (0 ∷ []) slots first)
+  opens_with slots is none here = subst (λ (l : List (Option W)). IsKept caller log_of leads_to key n
+      (opening (0 ∷ []) l first)) (sym is) (opens none here)

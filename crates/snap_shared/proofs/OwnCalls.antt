@@ -16,7 +16,8 @@ use Rattle.snap_shared.proofs.Prefixes.{calls_by-append}
 pub others_only : (number : ℕ) (es : List Entry) → own_calls number es ≡ [] → AreOthersOrReads number es
 others_only number [] h = tt
 others_only number (e ∷ es) h = go (others_only number es) (e.caller == number) refl h where
-  go : (own_calls number es ≡ [] → AreOthersOrReads number es) → (b : Bool) → (e.caller == number) ≡ b → cond b (e ∷ own_calls number es) (own_calls number es) ≡ [] → AreOthersOrReads number (e ∷ es)
+  go : (own_calls number es ≡ [] → AreOthersOrReads number es) → (b : Bool) → (e.caller == number) ≡ b
+      → cond b (e ∷ own_calls number es) (own_calls number es) ≡ [] → AreOthersOrReads number (e ∷ es)
   go more true f k = absurd cc
   go more false f k = (ap (λ (b : Bool). not b || is_read e.request) f, more k)
 
@@ -26,7 +27,8 @@ itself n = (Decides-eqb n n).1 refl
 
 pub objects_read-append : (xs ys : List Entry) → objects_read (xs ++ ys) ≡ objects_read xs ++ objects_read ys
 objects_read-append [] ys = refl
-objects_read-append (x ∷ xs) ys = ap (λ (l : List ℕ). objects_of_read x.request ++ l) (objects_read-append xs ys) ∙ sym (append_assoc (objects_of_read x.request) (objects_read xs) (objects_read ys))
+objects_read-append (x ∷ xs) ys = ap (λ (l : List ℕ). objects_of_read x.request ++ l) (objects_read-append xs ys)
+    ∙ sym (append_assoc (objects_of_read x.request) (objects_read xs) (objects_read ys))
 
 module _ (number : ℕ) (q : Request) (r : Reply) where
   -- The entry of a call with its reply.
@@ -40,14 +42,21 @@ module _ (number : ℕ) (q : Request) (r : Reply) where
     by false = ap (λ b. cond b (entry ∷ []) []) (itself number)
 
   -- The own calls grow by the entry that a call adds.
-  pub own_new : (old new : List Entry) → ContinuesWith number old new (entries_added number q r) → own_calls number new ≡ own_calls number old ++ entries_added number q r
+  pub own_new : (old new : List Entry) → ContinuesWith number old new (entries_added number q r)
+      → own_calls number new ≡ own_calls number old ++ entries_added number q r
   own_new old new g =
       ap (own_calls number) g.is ∙ calls_by-append caller_of number (old ++ g.between) (entries_added number q r)
-      ∙ ap (λ l. l ++ own_calls number (entries_added number q r)) (calls_by-append caller_of number old g.between ∙ ap (λ l. own_calls number old ++ l) g.others ∙ append-nil (own_calls number old))
+      ∙ ap (λ l. l ++ own_calls number (entries_added number q r))
+      (calls_by-append caller_of number old g.between ∙ ap (λ l. own_calls number old ++ l) g.others
+      ∙ append-nil (own_calls number old))
       ∙ ap (λ l. own_calls number old ++ l) own_added
 
 -- A call that ran out of memory is not among the caller's own calls. Any other call is the last of them.
-pub logs_own : (number : ℕ) (q : Request) (r : Reply) (old new : List Entry) → ContinuesWith number old new (entries_added number q r) → Logs (Some (own_calls number old)) (Some (own_calls number new)) number q r
-logs_own number q (reply.Refused refusal.NoMemory) old new g = ap (λ (l : List Entry). Some l) (own_new number q (reply.Refused refusal.NoMemory) old new g ∙ append-nil (own_calls number old))
-logs_own number q (reply.Refused r) old new g = ap (λ (l : List Entry). Some l) (own_new number q (reply.Refused r) old new g)
+pub logs_own : (number : ℕ) (q : Request) (r : Reply) (old new : List Entry)
+    → ContinuesWith number old new (entries_added number q r)
+    → Logs (Some (own_calls number old)) (Some (own_calls number new)) number q r
+logs_own number q (reply.Refused refusal.NoMemory) old new g = ap (λ (l : List Entry). Some l)
+    (own_new number q (reply.Refused refusal.NoMemory) old new g ∙ append-nil (own_calls number old))
+logs_own number q (reply.Refused r) old new g =
+    ap (λ (l : List Entry). Some l) (own_new number q (reply.Refused r) old new g)
 logs_own number q r old new g = ap (λ (l : List Entry). Some l) (own_new number q r old new g)

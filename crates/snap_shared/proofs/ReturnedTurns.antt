@@ -14,9 +14,12 @@ use Rattle.snap_shared.proofs.Prefixes.{other_calls, starts_on}
 use Rattle.snap_shared.proofs.ChangedStates.{once_kept, callers_kept, distinct_kept}
 use Rattle.snap_shared.proofs.Totals.{total_one, total_two, times_here, times_renewed, length_renewed, renewed_own, one_below_one, one_below_is}
 
-module _ {W E : Type 0} (caller : E → ℕ) (log_of : W → Option (List E)) (leads_to : W → List E → W → Type 0) (opening : W) (n : ℕ) where
-  module _ (s : State (Option W) (SeatState W E)) (k : IsKept caller log_of leads_to opening n s) (id : ℕ) (v : SeatState W E) (at : get_elem? s.views id ≡ some v) (has : v.phase ≡ HasTurn)
-      (c : ℕ) (mine_c : 0 < occurrences c v.own) (h : W) (log : List E) (log_is : log_of h ≡ Some log) (grows : GrowsByAtMostOne caller c v.seen log) (leads : leads_to opening log h) where
+module _ {W E : Type 0} (caller : E → ℕ) (log_of : W → Option (List E)) (leads_to : W → List E → W → Type 0)
+    (opening : W) (n : ℕ) where
+  module _ (s : State (Option W) (SeatState W E)) (k : IsKept caller log_of leads_to opening n s) (id : ℕ)
+      (v : SeatState W E) (at : get_elem? s.views id ≡ some v) (has : v.phase ≡ HasTurn)
+      (c : ℕ) (mine_c : 0 < occurrences c v.own) (h : W) (log : List E) (log_is : log_of h ≡ Some log)
+      (grows : GrowsByAtMostOne caller c v.seen log) (leads : leads_to opening log h) where
     abbrev w : SeatState W E
     w = after_return caller v log
 
@@ -33,14 +36,21 @@ module _ {W E : Type 0} (caller : E → ℕ) (log_of : W → Option (List E)) (l
     only j u e h = k.distinct j id u v e at h has
 
     -- A caller of another seat has another number.
-    other_number : (j : ℕ) (u : SeatState W E) → j ≢ id → get_elem? s.views j ≡ some u → (x : ℕ) → 0 < occurrences x u.own → x ≢ c
+    other_number : (j : ℕ) (u : SeatState W E) → j ≢ id → get_elem? s.views j ≡ some u → (x : ℕ)
+        → 0 < occurrences x u.own → x ≢ c
     other_number j u ne e x here same =
         let its : 0 < occurrences c u.own = subst (λ y. 0 < occurrences y u.own) same here in
         let both = total_two (λ (y : SeatState W E). occurrences c y.own) s.views j id u v ne e at in
         omega (arith, its, mine_c, both, k.once c, one_below_one c n)
 
     below : c < n
-    below = one_below_is c n (omega (arith, mine_c, total_one (λ (y : SeatState W E). occurrences c y.own) s.views id v at, k.once c))
+    below =
+        one_below_is c n (omega (
+          arith,
+          mine_c,
+          total_one (λ (y : SeatState W E). occurrences c y.own) s.views id v at,
+          k.once c,
+        ))
 
     new_state : IsSeatState caller log_of leads_to opening log w
     new_state = let old = k.states id v at in record {
@@ -51,16 +61,19 @@ module _ {W E : Type 0} (caller : E → ℕ) (log_of : W → Option (List E)) (l
       turn = λ e. absurd cc;
     }
 
-    other_state : (j : ℕ) (u : SeatState W E) → j ≢ id → get_elem? s.views j ≡ some u → IsSeatState caller log_of leads_to opening log u
+    other_state : (j : ℕ) (u : SeatState W E) → j ≢ id → get_elem? s.views j ≡ some u
+        → IsSeatState caller log_of leads_to opening log u
     other_state j u ne e = let old = k.states j u e in record {
       opened = old.opened;
       begins = starts_on caller c k.log log u.seen grown old.begins;
       begins_received = starts_on caller c k.log log u.received grown old.begins_received;
-      own = λ i p q. other_calls caller c p.0 k.log log (other_number j u ne e p.0 (times_here u.own i p q)) grown ∙ old.own i p q;
+      own = λ i p q. other_calls caller c p.0 k.log log (other_number j u ne e p.0 (times_here u.own i p q)) grown
+          ∙ old.own i p q;
       turn = λ q. absurd (ne (only j u e q));
     }
 
-    states' : (j : ℕ) (u : SeatState W E) → get_elem? views j ≡ some u → IsSeatState caller log_of leads_to opening log u
+    states' : (j : ℕ) (u : SeatState W E) → get_elem? views j ≡ some u
+        → IsSeatState caller log_of leads_to opening log u
     states' j u e = ⊎_elim
         (λ a. subst (λ x. IsSeatState caller log_of leads_to opening log x) a.1 new_state)
         (λ a. other_state j u a.0 a.1)
@@ -69,7 +82,8 @@ module _ {W E : Type 0} (caller : E → ℕ) (log_of : W → Option (List E)) (l
     out : s.homes ≡ maybe.none ∷ []
     out = ⊎_elim (λ home. absurd (home.4 id v at has)) (λ o. o.0) k.slot
 
-    pub returned_state : IsKept caller log_of leads_to opening n record { words = slice_set s.words 0 0; homes = slice_set s.homes 0 (some (Some h)); views = views }
+    pub returned_state : IsKept caller log_of leads_to opening
+        n record { words = slice_set s.words 0 0; homes = slice_set s.homes 0 (some (Some h)); views = views }
     returned_state = record {
       word = 0;
       log = log;
@@ -92,7 +106,15 @@ module _ {W E : Type 0} (caller : E → ℕ) (log_of : W → Option (List E)) (l
       );
     }
 
-  pub returns_turn : (slots id : ℕ) (v : SeatState W E) (c : ℕ) (h : W) (log : List E) → v.phase ≡ HasTurn → 0 < occurrences c v.own → v.opening ≡ Some opening → log_of h ≡ Some log → GrowsByAtMostOne caller c v.seen log → leads_to opening log h
-      → Allows (IsKept caller log_of leads_to opening n) slots id (v, (0, Some h) ∷ []) 0 (λ x. 0) (ReturnsTurn caller log_of (v, (0, Some h) ∷ []))
-  returns_turn slots id v c h log has mine opened log_is grows leads s k many at small =
-      (after_return caller v log, gives, tt, returned_state s k id v at has c mine h log log_is grows leads, (h, log, refl, log_is, refl))
+  pub returns_turn : (slots id : ℕ) (v : SeatState W E) (c : ℕ) (h : W) (log : List E) → v.phase ≡ HasTurn
+      → 0 < occurrences c v.own → v.opening ≡ Some opening → log_of h ≡ Some log → GrowsByAtMostOne caller c v.seen log
+      → leads_to opening log h
+      → Allows (IsKept caller log_of leads_to opening n) slots id (v, (0, Some h) ∷ []) 0 (λ x. 0)
+      (ReturnsTurn caller log_of (v, (0, Some h) ∷ []))
+  returns_turn slots id v c h log has mine opened log_is grows leads s k many at small = (
+    after_return caller v log,
+    gives,
+    tt,
+    returned_state s k id v at has c mine h log log_is grows leads,
+    (h, log, refl, log_is, refl),
+  )

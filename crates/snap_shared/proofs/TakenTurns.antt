@@ -13,11 +13,14 @@ module _ {W : Type 0} (log_of : W → Option (List Entry)) (leads_to : W → Lis
   abbrev M : Type 0
   M = Me (Option W) (SeatState W Entry)
 
-  pub took : (v w : M) (found : ℕ) → TriesTurn caller_of log_of leads_to v found w → found ≡ 0 → TakesTurn caller_of log_of leads_to v w
+  pub took : (v w : M) (found : ℕ) → TriesTurn caller_of log_of leads_to v found w → found ≡ 0
+      → TakesTurn caller_of log_of leads_to v w
   took v w found l f = subst (λ x. MatchBool x (TakesTurn caller_of log_of leads_to v w) (w ≡ v)) (eq-eqb found 0 f) l
 
   -- The world found in the slot is the world that came with the turn.
-  pub has_turn : (v w one : M) (found : Option W) (h : W) → TakesTurn caller_of log_of leads_to v w → w.1 ≡ (0, found) ∷ rest w.1 → found ≡ Some h → one ≡ (w.0, (0, None) ∷ rest w.1) → HasTurn log_of leads_to v.0 h one
+  pub has_turn : (v w one : M) (found : Option W) (h : W) → TakesTurn caller_of log_of leads_to v w
+      → w.1 ≡ (0, found) ∷ rest w.1 → found ≡ Some h → one ≡ (w.0, (0, None) ∷ rest w.1)
+      → HasTurn log_of leads_to v.0 h one
   has_turn v w one found h tk e f m =
       let head : List (ℕ × Option W) → Option W = λ l. elim l [ [] ↦ None | x ∷ xs ↦ x.1 ] in
       let p : found ≡ Some tk.0 = ap head (sym e ∙ ap (λ (x : M). x.1) tk.2) in

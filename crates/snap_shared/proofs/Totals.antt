@@ -10,7 +10,8 @@ use Rattle.snap_shared.specs.StepResults.{AreCallsIn}
 use Rattle.snap_shared.specs.TurnRule.{total, occurrences, one_if_below, callers_from, with_calls_in, first_item, other_items}
 
 module _ {W E : Type 0} (g : SeatState W E → ℕ) where
-  pub total-set : (l : List (SeatState W E)) (j : ℕ) (v w : SeatState W E) → get_elem? l j ≡ some v → total g (set l j w) + g v ≡ total g l + g w
+  pub total-set : (l : List (SeatState W E)) (j : ℕ) (v w : SeatState W E) → get_elem? l j ≡ some v
+      → total g (set l j w) + g v ≡ total g l + g w
   total-set [] j v w e = absurd (some-ne-none v (sym e))
   total-set (x ∷ xs) zero v w e = omega (arith, ap g (some-injective x v e))
   total-set (x ∷ xs) (suc j) v w e = omega (arith, total-set xs j v w e)
@@ -25,7 +26,8 @@ module _ {W E : Type 0} (g : SeatState W E → ℕ) where
   total_one (x ∷ xs) (suc j) v e = omega (arith, total_one xs j v e)
 
   -- Two states together have at most the total.
-  pub total_two : (l : List (SeatState W E)) (i j : ℕ) (u v : SeatState W E) → i ≢ j → get_elem? l i ≡ some u → get_elem? l j ≡ some v → g u + g v ≤ total g l
+  pub total_two : (l : List (SeatState W E)) (i j : ℕ) (u v : SeatState W E) → i ≢ j → get_elem? l i ≡ some u
+      → get_elem? l j ≡ some v → g u + g v ≤ total g l
   total_two [] i j u v n eu ev = absurd (some-ne-none u (sym eu))
   total_two (x ∷ xs) zero zero u v n eu ev = absurd (n refl)
   total_two (x ∷ xs) zero (suc j) u v n eu ev = omega (arith, ap g (some-injective x u eu), total_one xs j v ev)
@@ -37,7 +39,8 @@ index_below [] j v e = absurd (some-ne-none v (sym e))
 index_below (x ∷ xs) zero v e = omega arith
 index_below (x ∷ xs) (suc j) v e = omega (arith, index_below xs j v e)
 
-pub at_append : {A : Type 0} (xs ys : List A) (i : ℕ) (a : A) → get_elem? (xs ++ ys) i ≡ some a → (get_elem? xs i ≡ some a) ⊎ ((j : ℕ) × (get_elem? ys j ≡ some a))
+pub at_append : {A : Type 0} (xs ys : List A) (i : ℕ) (a : A) → get_elem? (xs ++ ys) i ≡ some a
+    → (get_elem? xs i ≡ some a) ⊎ ((j : ℕ) × (get_elem? ys j ≡ some a))
 at_append [] ys i a e = inr (i, e)
 at_append (x ∷ xs) ys zero a e = inl e
 at_append (x ∷ xs) ys (suc i) a e = at_append xs ys i a e
@@ -47,13 +50,17 @@ module _ {E : Type 0} where
   abbrev is_one : ℕ → ℕ × List E → ℕ
   is_one k p = cond (eqb p.0 k) 1 0
 
-  pub occurrences-append : (k : ℕ) (xs ys : List (ℕ × List E)) → occurrences k (xs ++ ys) ≡ occurrences k xs + occurrences k ys
+  pub occurrences-append : (k : ℕ) (xs ys : List (ℕ × List E))
+      → occurrences k (xs ++ ys) ≡ occurrences k xs + occurrences k ys
   occurrences-append k [] ys = omega arith
-  occurrences-append k (x ∷ xs) ys = let t : ℕ = is_one k x in let rest = occurrences-append k xs ys in let r : occurrences k (xs ++ ys) ≡ occurrences k xs + occurrences k ys = rest in sums t (occurrences k (xs ++ ys)) (occurrences k xs) (occurrences k ys) r where
-    sums : (a b c d : ℕ) → b ≡ c + d → a + b ≡ (a + c) + d
-    sums a b c d e = omega arith
+  occurrences-append k (x ∷ xs) ys = let t : ℕ = is_one k x in let rest = occurrences-append k xs ys in
+      let r : occurrences k (xs ++ ys) ≡ occurrences k xs + occurrences k ys = rest in
+      sums t (occurrences k (xs ++ ys)) (occurrences k xs) (occurrences k ys) r where
+        sums : (a b c d : ℕ) → b ≡ c + d → a + b ≡ (a + c) + d
+        sums a b c d e = omega arith
 
-  pub times_here : (own : List (ℕ × List E)) (i : ℕ) (p : ℕ × List E) → get_elem? own i ≡ some p → 0 < occurrences p.0 own
+  pub times_here : (own : List (ℕ × List E)) (i : ℕ) (p : ℕ × List E) → get_elem? own i ≡ some p
+      → 0 < occurrences p.0 own
   times_here [] i p e = absurd (some-ne-none p (sym e))
   times_here (x ∷ xs) zero p e =
       let same : eqb x.0 p.0 ≡ true = eq-eqb x.0 p.0 (ap (λ (q : ℕ × List E). q.0) (some-injective x p e)) in
@@ -65,18 +72,21 @@ module _ {E : Type 0} where
     more : (a b : ℕ) → 0 < b → 0 < a + b
     more a b h = omega arith
 
-  pub times_first_rest : (k : ℕ) (own : List (ℕ × List E)) → occurrences k (first_item own) + occurrences k (other_items own) ≡ occurrences k own
+  pub times_first_rest : (k : ℕ) (own : List (ℕ × List E))
+      → occurrences k (first_item own) + occurrences k (other_items own) ≡ occurrences k own
   times_first_rest k [] = refl
   times_first_rest k (x ∷ xs) = zeros (is_one k x) (occurrences k xs) where
     zeros : (a b : ℕ) → (a + 0) + b ≡ a + b
     zeros a b = omega arith
 
-  pub at_first : (own : List (ℕ × List E)) (i : ℕ) (p : ℕ × List E) → get_elem? (first_item own) i ≡ some p → get_elem? own i ≡ some p
+  pub at_first : (own : List (ℕ × List E)) (i : ℕ) (p : ℕ × List E) → get_elem? (first_item own) i ≡ some p
+      → get_elem? own i ≡ some p
   at_first [] i p e = e
   at_first (x ∷ xs) zero p e = e
   at_first (x ∷ xs) (suc i) p e = absurd (some-ne-none p (sym e))
 
-  pub at_rest : (own : List (ℕ × List E)) (i : ℕ) (p : ℕ × List E) → get_elem? (other_items own) i ≡ some p → get_elem? own (suc i) ≡ some p
+  pub at_rest : (own : List (ℕ × List E)) (i : ℕ) (p : ℕ × List E) → get_elem? (other_items own) i ≡ some p
+      → get_elem? own (suc i) ≡ some p
   at_rest [] i p e = absurd (some-ne-none p (sym e))
   at_rest (x ∷ xs) i p e = e
 
@@ -85,7 +95,8 @@ module _ {E : Type 0} where
   length_first_rest (x ∷ xs) = omega arith
 
   module _ (caller : E → ℕ) (log : List E) where
-    pub times_renewed : (k : ℕ) (own : List (ℕ × List E)) → occurrences k (with_calls_in caller log own) ≡ occurrences k own
+    pub times_renewed : (k : ℕ) (own : List (ℕ × List E))
+        → occurrences k (with_calls_in caller log own) ≡ occurrences k own
     times_renewed k [] = refl
     times_renewed k (x ∷ xs) = ap (λ (n : ℕ). is_one k x + n) (times_renewed k xs)
 
@@ -116,7 +127,8 @@ module _ (E : Type 0) where
 
   low : (k a n : ℕ) → k < a → occurrences k (callers_from {E = E} a n) ≡ 0
   low k a zero h = refl
-  low k a (suc n) h = plus (cond (eqb a k) 1 0) (occurrences k (callers_from {E = E} (suc a) n)) 0 (ap (λ b. cond b 1 0) (ne_eqb a k (λ e. omega arith))) (low k (suc a) n (omega arith))
+  low k a (suc n) h = plus (cond (eqb a k) 1 0) (occurrences k (callers_from {E = E} (suc a) n)) 0
+      (ap (λ b. cond b 1 0) (ne_eqb a k (λ e. omega arith))) (low k (suc a) n (omega arith))
 
   distinct : (a k : ℕ) → a ≢ k → a ≤ k → suc a ≤ k
   distinct a k ne h = elim (cases_lt a k) [ inl b ↦ b | inr b ↦ absurd (ne (omega (arith, b))) ]
@@ -127,13 +139,16 @@ module _ (E : Type 0) where
   within : (k a n : ℕ) → a ≤ k → k < a + n → occurrences k (callers_from {E = E} a n) ≡ 1
   within k a zero h l = absurd (omega arith)
   within k a (suc n) h l = elim (eqb_tells a k) [
-    | inl e ↦ one_more (cond (eqb a k) 1 0) (occurrences k (callers_from {E = E} (suc a) n)) (ap (λ b. cond b 1 0) e.0) (low k (suc a) n (omega (arith, e.1)))
-    | inr e ↦ plus (cond (eqb a k) 1 0) (occurrences k (callers_from {E = E} (suc a) n)) 1 (ap (λ b. cond b 1 0) e.0) (within k (suc a) n (distinct a k e.1 h) (omega arith))
+    | inl e ↦ one_more (cond (eqb a k) 1 0) (occurrences k (callers_from {E = E} (suc a) n)) (ap (λ b. cond b 1 0) e.0)
+        (low k (suc a) n (omega (arith, e.1)))
+    | inr e ↦ plus (cond (eqb a k) 1 0) (occurrences k (callers_from {E = E} (suc a) n)) 1 (ap (λ b. cond b 1 0) e.0)
+        (within k (suc a) n (distinct a k e.1 h) (omega arith))
   ]
 
   high : (k a n : ℕ) → a + n ≤ k → occurrences k (callers_from {E = E} a n) ≡ 0
   high k a zero h = refl
-  high k a (suc n) h = plus (cond (eqb a k) 1 0) (occurrences k (callers_from {E = E} (suc a) n)) 0 (ap (λ b. cond b 1 0) (ne_eqb a k (λ e. omega arith))) (high k (suc a) n (omega arith))
+  high k a (suc n) h = plus (cond (eqb a k) 1 0) (occurrences k (callers_from {E = E} (suc a) n)) 0
+      (ap (λ b. cond b 1 0) (ne_eqb a k (λ e. omega arith))) (high k (suc a) n (omega arith))
 
   pub once_from : (n k : ℕ) → occurrences k (callers_from {E = E} 0 n) ≡ one_if_below k n
   once_from n k = elim (leb_tells (suc k) n) [

@@ -16,7 +16,8 @@ use Rattle.snap_shared.specs.StepResults.{TriesTurn, TakesTurn}
 use Rattle.snap_shared.proofs.ChangedStates.{once_kept, callers_kept}
 use Rattle.snap_shared.proofs.Totals.{index_below}
 
-module _ {W E : Type 0} (caller : E → ℕ) (log_of : W → Option (List E)) (leads_to : W → List E → W → Type 0) (opening : W) (n : ℕ) where
+module _ {W E : Type 0} (caller : E → ℕ) (log_of : W → Option (List E)) (leads_to : W → List E → W → Type 0)
+    (opening : W) (n : ℕ) where
   module _ (s : State (Option W) (SeatState W E)) (k : IsKept caller log_of leads_to opening n s) where
     pub same_word : (x : ℕ) → x ≡ slice_index s.words 0 → slice_set s.words 0 x ≡ s.words
     same_word x e = rw e (rw k.words_are refl)
@@ -27,8 +28,10 @@ module _ {W E : Type 0} (caller : E → ℕ) (log_of : W → Option (List E)) (l
     word_is : slice_index s.words 0 ≡ k.word
     word_is = ap (λ ws. slice_index ws 0) k.words_are
 
-    module _ (id : ℕ) (v : SeatState W E) (at : get_elem? s.views id ≡ some v) (calls : 0 < length v.own) (x : ℕ) (not_zero : x ≡ 0 → ⊥)
-        (h : W) (here : s.homes ≡ some (Some h) ∷ []) (log_is : log_of h ≡ Some k.log) (leads : leads_to opening k.log h)
+    module _ (id : ℕ) (v : SeatState W E) (at : get_elem? s.views id ≡ some v) (calls : 0 < length v.own) (x : ℕ)
+        (not_zero : x ≡ 0 → ⊥)
+        (h : W) (here : s.homes ≡ some (Some h) ∷ []) (log_is : log_of h ≡ Some k.log)
+        (leads : leads_to opening k.log h)
         (nobody : (j : ℕ) (u : SeatState W E) → get_elem? s.views j ≡ some u → u.phase ≡ HasTurn → ⊥) where
       abbrev w : SeatState W E
       w = with_turn v k.log
@@ -45,7 +48,8 @@ module _ {W E : Type 0} (caller : E → ℕ) (log_of : W → Option (List E)) (l
         turn = λ e. (refl, calls);
       }
 
-      states' : (j : ℕ) (u : SeatState W E) → get_elem? views j ≡ some u → IsSeatState caller log_of leads_to opening k.log u
+      states' : (j : ℕ) (u : SeatState W E) → get_elem? views j ≡ some u
+          → IsSeatState caller log_of leads_to opening k.log u
       states' j u e = ⊎_elim
           (λ a. subst (λ y. IsSeatState caller log_of leads_to opening k.log y) a.1 new_state)
           (λ a. k.states j u a.1)
@@ -54,7 +58,8 @@ module _ {W E : Type 0} (caller : E → ℕ) (log_of : W → Option (List E)) (l
       only : (j : ℕ) (u : SeatState W E) → get_elem? views j ≡ some u → u.phase ≡ HasTurn → j ≡ id
       only j u e has = ⊎_elim (λ a. a.0) (λ a. absurd (nobody j u a.1 has)) (at_set s.views id j w u e)
 
-      taken : IsKept caller log_of leads_to opening n record { words = slice_set s.words 0 x; homes = slice_set s.homes 0 maybe.none; views = views }
+      taken : IsKept caller log_of leads_to opening
+          n record { words = slice_set s.words 0 x; homes = slice_set s.homes 0 maybe.none; views = views }
       taken = record {
         word = x;
         log = k.log;
@@ -64,10 +69,15 @@ module _ {W E : Type 0} (caller : E → ℕ) (log_of : W → Option (List E)) (l
         outside = k.outside;
         states = states';
         distinct = λ i j u y eu ey hu hy. only i u eu hu ∙ sym (only j y ey hy);
-        slot = inr (rw here refl, (h, leads), (id, w, set_here s.views id w (index_below s.views id v at), refl), not_zero);
+        slot = inr (
+          rw here refl,
+          (h, leads),
+          (id, w, set_here s.views id w (index_below s.views id v at), refl),
+          not_zero,
+        );
       }
 
-      -- What the seat knows then.
+      -- The facts of a seat that has taken the turn.
       takes_turn : (c : List (ℕ × Option W)) → c ≡ [] → TakesTurn caller log_of leads_to (v, c) (w, (0, Some h) ∷ c)
       takes_turn c none = (
         h,
@@ -83,14 +93,17 @@ module _ {W E : Type 0} (caller : E → ℕ) (log_of : W → Option (List E)) (l
 
     -- At 0 the world is in its slot.
     at_home : k.word ≡ 0 → IsSlot caller log_of leads_to opening k.log k.word s.homes s.views
-        → (h : W) × (s.homes ≡ some (Some h) ∷ []) × (log_of h ≡ Some k.log) × leads_to opening k.log h × ((j : ℕ) (u : SeatState W E) → get_elem? s.views j ≡ some u → u.phase ≡ HasTurn → ⊥)
+        → (h : W) × (s.homes ≡ some (Some h) ∷ []) × (log_of h ≡ Some k.log) × leads_to opening k.log h
+        × ((j : ℕ) (u : SeatState W E) → get_elem? s.views j ≡ some u → u.phase ≡ HasTurn → ⊥)
     at_home zero slot = ⊎_elim
         (λ home. (home.0, home.1, home.2, home.3, home.4))
         (λ out. absurd (out.3 zero))
         slot
 
     -- At another number the word may become any number but 0.
-    waits : (k.word ≡ 0 → ⊥) → (x : ℕ) → (x ≡ 0 → ⊥) → IsKept caller log_of leads_to opening n record { words = slice_set s.words 0 x; homes = s.homes; views = s.views }
+    waits : (k.word ≡ 0 → ⊥) → (x : ℕ) → (x ≡ 0 → ⊥)
+        → IsKept caller log_of leads_to opening
+        n record { words = slice_set s.words 0 x; homes = s.homes; views = s.views }
     waits taken x not_zero = record {
       word = x;
       log = k.log;
@@ -103,13 +116,16 @@ module _ {W E : Type 0} (caller : E → ℕ) (log_of : W → Option (List E)) (l
       slot = ⊎_elim (λ home. absurd (taken home.5)) (λ out. inr (out.0, out.1, out.2, not_zero)) k.slot;
     }
 
-  module _ (slots id : ℕ) (me : Me (Option W) (SeatState W E)) (calls : 0 < length me.0.own) (empty : me.1 ≡ []) (f : ℕ → ℕ) (not_zero : (x : ℕ) → f x ≡ 0 → ⊥)
-      (s : State (Option W) (SeatState W E)) (k : IsKept caller log_of leads_to opening n s) (at : get_elem? s.views id ≡ some me.0) where
+  module _ (slots id : ℕ) (me : Me (Option W) (SeatState W E)) (calls : 0 < length me.0.own) (empty : me.1 ≡ [])
+      (f : ℕ → ℕ) (not_zero : (x : ℕ) → f x ≡ 0 → ⊥)
+      (s : State (Option W) (SeatState W E)) (k : IsKept caller log_of leads_to opening n s)
+      (at : get_elem? s.views id ≡ some me.0) where
     abbrev found : ℕ
     found = slice_index s.words 0
 
     Goal : Bool → Type 0
-    Goal b = (w : SeatState W E) × (a : Act (Option W)) × Valid s.homes me.1 a × IsKept caller log_of leads_to opening n (stepped s 0 (f found) id me.1 w a)
+    Goal b = (w : SeatState W E) × (a : Act (Option W)) × Valid s.homes me.1 a
+        × IsKept caller log_of leads_to opening n (stepped s 0 (f found) id me.1 w a)
         × MatchBool b (TakesTurn caller log_of leads_to me (w, carried_after me.1 a)) ((w, carried_after me.1 a) ≡ me)
 
     go : (b : Bool) → (found == 0) ≡ b → Goal b
@@ -127,16 +143,21 @@ module _ {W E : Type 0} (caller : E → ℕ) (log_of : W → Option (List E)) (l
       me.0,
       keeps,
       tt,
-      subst (λ vs. IsKept caller log_of leads_to opening n record { words = slice_set s.words 0 (f found); homes = s.homes; views = vs }) (sym (set_again s.views id me.0 at))
-          (waits s k (λ z. let q : (found == 0) ≡ true = eq-eqb found 0 (word_is s k ∙ z) in absurd cc) (f found) (not_zero found)),
+      subst (λ vs. IsKept caller log_of leads_to opening
+          n record { words = slice_set s.words 0 (f found); homes = s.homes; views = vs })
+          (sym (set_again s.views id me.0 at))
+          (waits s k (λ z. let q : (found == 0) ≡ true = eq-eqb found 0 (word_is s k ∙ z) in absurd cc) (f found)
+          (not_zero found)),
       refl,
     )
 
-  pub tries_turn : (slots id : ℕ) (me : Me (Option W) (SeatState W E)) → 0 < length me.0.own → me.1 ≡ [] → (f : ℕ → ℕ) → ((x : ℕ) → f x ≡ 0 → ⊥)
+  pub tries_turn : (slots id : ℕ) (me : Me (Option W) (SeatState W E)) → 0 < length me.0.own → me.1 ≡ [] → (f : ℕ → ℕ)
+      → ((x : ℕ) → f x ≡ 0 → ⊥)
       → Allows (IsKept caller log_of leads_to opening n) slots id me 0 f (TriesTurn caller log_of leads_to me)
   unfolding Goal
   tries_turn slots id me calls empty f not_zero s k many at small =
-      let g = go slots id me calls empty f not_zero s k at (slice_index s.words 0 == 0) refl in (g.0, g.1, g.2, g.3, g.4)
+      let g = go slots id me calls empty f not_zero s k at (slice_index s.words 0 == 0) refl in
+      (g.0, g.1, g.2, g.3, g.4)
 
 -- A compare and exchange of 0 for 1 leaves a number that is not 0.
 pub exchanged_not_zero : (x : ℕ) → cond (x == 0) 1 x ≡ 0 → ⊥

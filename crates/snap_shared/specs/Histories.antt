@@ -23,4 +23,5 @@ IsLegalFrom {W} {P} rules stands opening log = (w : World P) → stands opening 
 
 -- For each plain world that the opening world represents, the history is legal and `now` represents the world after it.
 abbrev pub IsWorldAfter : {W P : Type 0} → Rules P → (W → World P → Type 0) → W → List Entry → W → Type 0
-IsWorldAfter {W} {P} rules stands opening log now = (w : World P) → stands opening w → IsLegal rules w log × stands now (world_after rules w log)
+IsWorldAfter {W} {P} rules stands opening log now =
+    (w : World P) → stands opening w → IsLegal rules w log × stands now (world_after rules w log)

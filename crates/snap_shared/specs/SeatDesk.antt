@@ -27,7 +27,7 @@ is_take_for n _ = false
 abbrev pub is_other_or_read : ℕ → Entry → Bool
 is_other_or_read number e = not (e.caller == number) || is_read e.request
 
--- All entries are so.
+-- Whether each entry is another caller's call, or a read of the caller.
 abbrev pub AreOthersOrReads : ℕ → List Entry → Type 0
 AreOthersOrReads number [] = Unit {0}
 AreOthersOrReads number (e ∷ es) = (is_other_or_read number e ≡ true) × AreOthersOrReads number es
@@ -35,7 +35,8 @@ AreOthersOrReads number (e ∷ es) = (is_other_or_read number e ≡ true) × Are
 -- No other caller takes for watcher n.
 abbrev pub IsOnlyTaker : ℕ → ℕ → List Entry → Type 0
 IsOnlyTaker number n [] = Unit {0}
-IsOnlyTaker number n (e ∷ es) = ((not (e.caller == number) && is_take_for n e.request) ≡ false) × IsOnlyTaker number n es
+IsOnlyTaker number n (e ∷ es) =
+    ((not (e.caller == number) && is_take_for n e.request) ≡ false) × IsOnlyTaker number n es
 
 -- The object of a read.
 abbrev pub objects_of_read : Request → List ℕ
@@ -54,13 +55,14 @@ pub record IsOwnReadonly {P : Type 0} (w : World P) (number name : ℕ) : Type 0
   pub kind : (snapshot_of w name).kind ≡ Readonly
   pub inner : (name == 0) ≡ false
 
--- There is an open snapshot, and it is one of these.
+-- Whether a snapshot is open, and is a readonly snapshot of the caller.
 abbrev pub OpensOwnReadonly : {P : Type 0} → World P → ℕ → Option ℕ → Type 0
 OpensOwnReadonly w number None = ⊥
 OpensOwnReadonly w number (Some name) = IsOwnReadonly w number name
 
 -- The world after the history, from a valid opening world from which the history is legal.
-pub record IsPossibleWorld {P : Type 0} (rules : Rules P) (opens : World P → Type 0) (log : List Entry) (w : World P) : Type 0 where
+pub record IsPossibleWorld {P : Type 0} (rules : Rules P) (opens : World P → Type 0) (log : List Entry)
+    (w : World P) : Type 0 where
   pub opening : World P
   pub is_opening : opens opening
   pub valid : IsValid rules opening
@@ -77,14 +79,16 @@ pub record SeesMap {P : Type 0} (rules : Rules P) (opens : World P → Type 0) (
   pub full : length m ≡ length world.objects
 
 -- In a world that is possible after the history, the clock is at least k.
-pub record ClockIsAtLeast {P : Type 0} (rules : Rules P) (opens : World P → Type 0) (log : List Entry) (k : ℕ) : Type 0 where
+pub record ClockIsAtLeast {P : Type 0} (rules : Rules P) (opens : World P → Type 0) (log : List Entry)
+    (k : ℕ) : Type 0 where
   pub world : World P
   pub now : IsPossibleWorld rules opens log world
   pub reached : k ≤ world.clock
 
--- A seat has seen more of one history: what it has seen now begins with what it had seen, and is legal from each opening
--- world from which that was legal.
-pub record SeesFurther {P : Type 0} (rules : Rules P) (opens : World P → Type 0) (seen seen' : List Entry) : Type 0 where
+-- A seat has seen more of one history: what it has seen now begins with what it had seen, and is legal from each
+-- opening world from which that was legal.
+pub record SeesFurther {P : Type 0} (rules : Rules P) (opens : World P → Type 0)
+    (seen seen' : List Entry) : Type 0 where
   pub begins : StartsWith seen' seen
   pub legal : (o : World P) → opens o → IsLegal rules o seen → IsLegal rules o seen'
 

@@ -31,11 +31,13 @@ module _ {W : Type 0} (log_of : W → Option (List Entry)) (leads_to : W → Lis
     pub leads : leads_to opening log h
 
 -- The seat joined a note of the other seat, and has then seen the whole history.
-abbrev pub SeesJoined : {W : Type 0} → (W → List Entry → W → Type 0) → Me (Option W) (SeatState W Entry) → Me (Option W) (SeatState W Entry) → Me (Option W) (SeatState W Entry) → Type 0
+abbrev pub SeesJoined : {W : Type 0} → (W → List Entry → W → Type 0) → Me (Option W) (SeatState W Entry)
+    → Me (Option W) (SeatState W Entry) → Me (Option W) (SeatState W Entry) → Type 0
 SeesJoined leads_to v w x = SeesHistory caller_of leads_to (joined_state v.0 (note_of w.0), v.1) 0 x
 
 -- The seat joined a note of the other seat, and has then seen exactly what the note had.
-abbrev pub AdoptsJoined : {W : Type 0} → (W → List Entry → W → Type 0) → Me (Option W) (SeatState W Entry) → Me (Option W) (SeatState W Entry) → Me (Option W) (SeatState W Entry) → Type 0
+abbrev pub AdoptsJoined : {W : Type 0} → (W → List Entry → W → Type 0) → Me (Option W) (SeatState W Entry)
+    → Me (Option W) (SeatState W Entry) → Me (Option W) (SeatState W Entry) → Type 0
 AdoptsJoined leads_to v w x = AdoptsReceived caller_of leads_to (joined_state v.0 (note_of w.0), v.1) 0 x
 
 -- A state has the caller with its own calls, and has seen all that the caller's seat had.
@@ -53,4 +55,5 @@ pub record IsJoinedSeat {W : Type 0} (opening : W) (count : ℕ) (m : Me (Option
 
 -- A seat that has seen nothing, with `n` callers from number `k` on.
 abbrev pub state_with_callers : {W : Type 0} → W → ℕ → ℕ → SeatState W Entry
-state_with_callers opening k n = record { opening = Some opening; own = callers_from k n; phase = phase.Idle; seen = []; received = [] }
+state_with_callers opening k n =
+    record { opening = Some opening; own = callers_from k n; phase = phase.Idle; seen = []; received = [] }

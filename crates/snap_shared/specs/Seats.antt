@@ -29,10 +29,11 @@ seen_by s = s.seat.me.0.seen
 abbrev pub mine_of : {W : Type 0} → Seat W → List Entry
 mine_of s = own_calls (number_of s) (seen_by s)
 
--- The seat does not have the turn and does not hold the world. It belongs to this opening world and to this one caller, whose own
--- calls are those that the seat has seen.
+-- The seat does not have the turn and does not hold the world. It belongs to this opening world and to this one caller,
+-- whose own calls are those that the seat has seen.
 abbrev pub IsAtRest : {W : Type 0} → W → ℕ → Me (Option W) (SeatState W Entry) → Type 0
-IsAtRest opening number m = (m.0.phase ≡ Idle) × (m.0.opening ≡ Some opening) × (m.0.own ≡ (number, own_calls number m.0.seen) ∷ []) × (m.1 ≡ [])
+IsAtRest opening number m = (m.0.phase ≡ Idle) × (m.0.opening ≡ Some opening)
+    × (m.0.own ≡ (number, own_calls number m.0.seen) ∷ []) × (m.1 ≡ [])
 
 -- The seat belongs to this table and is at rest.
 abbrev pub IsSeatOf : {W : Type 0} → TableId → W → TableId → Me (Option W) (SeatState W Entry) → ℕ → Type 0

@@ -1,4 +1,5 @@
--- Trusted: what the calls on a shared world promise. A seat's own calls are the entries of its caller in what it has seen.
+-- Trusted: what the calls on a shared world promise. A seat's own calls are the entries of its caller in what it has
+-- seen.
 use Rattle.std.specs.Prelude.{◌≡◌, ℕ, zero, suc, ◌≤◌, List, [], ◌∷◌, ◌++◌, if◌then◌else◌}
 use Rattle.snap_policy.specs.Rules.{Rules}
 use Rattle.snap_api.specs.Calls.{is_no_memory, IsOwn}
@@ -16,7 +17,8 @@ own_calls number log = calls_by caller_of number log
 
 -- The entries that a call adds to the history: none if it ran out of memory, else the call with its reply.
 abbrev pub entries_added : ℕ → Request → Reply → List Entry
-entries_added number request r = if is_no_memory r then [] else record { caller = number; request = request; reply = r } ∷ []
+entries_added number request r =
+    if is_no_memory r then [] else record { caller = number; request = request; reply = r } ∷ []
 
 -- History `new` is `old`, then calls of other callers only, then `last`.
 pub record ContinuesWith (number : ℕ) (old new last : List Entry) : Type 0 where
@@ -24,17 +26,18 @@ pub record ContinuesWith (number : ℕ) (old new last : List Entry) : Type 0 whe
   pub others : own_calls number between ≡ []
   pub is : new ≡ (old ++ between) ++ last
 
--- After a call the seat has seen a legal history, which continues what it had seen and ends with this call and its reply.
--- The own calls have grown by this entry alone. A call that ran out of memory adds no entry.
+-- After a call the seat has seen a legal history, which continues what it had seen and ends with this call and its
+-- reply. The own calls have grown by this entry alone. A call that ran out of memory adds no entry.
 pub record SeesOwnCall {W P : Type 0} (rules : Rules P) (stands : W → World P → Type 0) (opening : W) (number : ℕ)
     (old new : List Entry) (request : Request) (r : Reply) : Type 0 where
   pub legal : IsLegalFrom rules stands opening new
   pub continues : ContinuesWith number old new (entries_added number request r)
   pub mine : own_calls number new ≡ own_calls number old ++ entries_added number request r
 
--- A dispose of a snapshot that is live and the caller's own after what the seat has seen is never refused, so it takes no
--- memory.
-abbrev pub DisposesSeenOwn : {W P : Type 0} → Rules P → (W → World P → Type 0) → W → ℕ → List Entry → Request → Reply → Type 0
+-- A dispose of a snapshot that is live and the caller's own after what the seat has seen is never refused, so it takes
+-- no memory.
+abbrev pub DisposesSeenOwn : {W P : Type 0} → Rules P → (W → World P → Type 0) → W → ℕ → List Entry → Request → Reply
+    → Type 0
 DisposesSeenOwn {W} {P} rules stands opening number seen (request.Dispose name) r =
     (o : World P) → stands opening o → IsOwn (world_after rules o seen) number name → r ≡ reply.Disposed
 DisposesSeenOwn rules stands opening number seen _ r = Unit {0}

@@ -10,7 +10,8 @@ use Rattle.snap_shared.specs.TurnRule.{with_turn, after_return, with_seen}
 
 -- The lists of a seat are its callers' calls in the history.
 abbrev pub AreCallsIn : {E : Type 0} → (E → ℕ) → List E → List (ℕ × List E) → Type 0
-AreCallsIn {E} caller log own = (i : ℕ) (p : ℕ × List E) → get_elem? own i ≡ maybe.some p → calls_by caller p.0 log ≡ p.1
+AreCallsIn {E} caller log own =
+    (i : ℕ) (p : ℕ × List E) → get_elem? own i ≡ maybe.some p → calls_by caller p.0 log ≡ p.1
 
 -- The history is the same, or has one more call of the caller.
 abbrev pub GrowsByAtMostOne : {E : Type 0} → (E → ℕ) → ℕ → List E → List E → Type 0
@@ -33,8 +34,10 @@ module _ {W E : Type 0} (caller : E → ℕ) (log_of : W → Option (List E)) (l
   TriesTurn v found w = MatchBool (found == 0) (TakesTurn v w) (w ≡ v)
 
 -- The turn was returned with the world and its history.
-abbrev pub ReturnsTurn : {W E : Type 0} → (E → ℕ) → (W → Option (List E)) → Me (Option W) (SeatState W E) → ℕ → Me (Option W) (SeatState W E) → Type 0
-ReturnsTurn {W} {E} caller log_of v found w = (h : W) × (log : List E) × (v.1 ≡ (0, Some h) ∷ []) × (log_of h ≡ Some log) × (w ≡ (after_return caller v.0 log, []))
+abbrev pub ReturnsTurn : {W E : Type 0} → (E → ℕ) → (W → Option (List E)) → Me (Option W) (SeatState W E) → ℕ
+    → Me (Option W) (SeatState W E) → Type 0
+ReturnsTurn {W} {E} caller log_of v found w = (h : W) × (log : List E) × (v.1 ≡ (0, Some h) ∷ [])
+    × (log_of h ≡ Some log) × (w ≡ (after_return caller v.0 log, []))
 
 module _ {W E : Type 0} (caller : E → ℕ) (leads_to : W → List E → W → Type 0) where
   -- The history begins with what the seat has seen and with what it received.

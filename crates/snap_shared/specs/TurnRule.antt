@@ -1,5 +1,6 @@
 -- Internal: the rule of the table, which says whose turn it is, where the world is, and what each seat has seen. It
--- concerns any entries with a caller, any world with a log, and any relation between a world, a history and a later world.
+-- concerns any entries with a caller, any world with a log, and any relation between a world, a history and a later
+-- world.
 use Rattle.std.specs.Prelude.{◌≡◌, ℕ, zero, suc, ◌+◌, ◌<◌, ◌≤◌, ◌⊎◌, ◌==◌, nat_lt, List, [], ◌∷◌, ◌++◌, length, Option, Some, None, if◌then◌else◌}
 use mathlib.Core.Option as maybe
 use lib.ListN.{get_elem?}
@@ -53,13 +54,19 @@ module _ {W E : Type 0} where
 
   -- The state after returning the turn with this history.
   abbrev pub after_return : (E → ℕ) → SeatState W E → List E → SeatState W E
-  after_return caller v log = record { opening = v.opening; own = with_calls_in caller log v.own; phase = Idle; seen = log; received = v.received }
+  after_return caller v log = record {
+    opening = v.opening;
+    own = with_calls_in caller log v.own;
+    phase = Idle;
+    seen = log;
+    received = v.received;
+  }
 
   -- The state that has seen this history.
   abbrev pub with_seen : SeatState W E → List E → SeatState W E
   with_seen v log = record { opening = v.opening; own = v.own; phase = v.phase; seen = log; received = v.received }
 
-  -- A note has seen the same, and has no caller.
+  -- The state of a note of a seat. A note has seen what the seat has seen, and has no caller.
   abbrev pub note_of : SeatState W E → SeatState W E
   note_of v = record { opening = v.opening; own = []; phase = Idle; seen = v.seen; received = [] }
 
@@ -69,11 +76,13 @@ module _ {W E : Type 0} where
 
   -- The seat of the other callers, which remains.
   abbrev pub split_left : SeatState W E → SeatState W E
-  split_left v = record { opening = v.opening; own = other_items v.own; phase = v.phase; seen = v.seen; received = v.received }
+  split_left v =
+      record { opening = v.opening; own = other_items v.own; phase = v.phase; seen = v.seen; received = v.received }
 
   -- A seat that takes another's callers and receives what that seat has seen.
   abbrev pub joined_state : SeatState W E → SeatState W E → SeatState W E
-  joined_state v w = record { opening = v.opening; own = v.own ++ w.own; phase = v.phase; seen = v.seen; received = w.seen }
+  joined_state v w =
+      record { opening = v.opening; own = v.own ++ w.own; phase = v.phase; seen = v.seen; received = w.seen }
 
   -- The state of a seat that was joined to another.
   abbrev pub spent_state : SeatState W E
@@ -88,14 +97,17 @@ module _ {W E : Type 0} (caller : E → ℕ) (log_of : W → Option (List E)) (l
   abbrev pub HasWorldAfter : W → List E → Type 0
   HasWorldAfter opening log = (now : W) × leads_to opening log now
 
-  -- The word is 0, the world is in its slot and no seat has the turn; or the word is not 0 and a seat has taken the turn and
-  -- the world.
+  -- The word is 0, the world is in its slot and no seat has the turn; or the word is not 0 and a seat has taken the
+  -- turn and the world.
   abbrev pub IsSlot : W → List E → ℕ → List (maybe.Option (Option W)) → List (SeatState W E) → Type 0
   IsSlot opening log word homes views =
-      ((h : W) × (homes ≡ maybe.some (Some h) ∷ []) × (log_of h ≡ Some log) × leads_to opening log h × ((id : ℕ) (v : SeatState W E) → get_elem? views id ≡ maybe.some v → v.phase ≡ HasTurn → ⊥) × (word ≡ 0))
-      ⊎ ((homes ≡ maybe.none ∷ []) × HasWorldAfter opening log × ((id : ℕ) × (v : SeatState W E) × (get_elem? views id ≡ maybe.some v) × (v.phase ≡ HasTurn)) × (word ≡ 0 → ⊥))
+      ((h : W) × (homes ≡ maybe.some (Some h) ∷ []) × (log_of h ≡ Some log) × leads_to opening log h
+      × ((id : ℕ) (v : SeatState W E) → get_elem? views id ≡ maybe.some v → v.phase ≡ HasTurn → ⊥) × (word ≡ 0))
+      ⊎ ((homes ≡ maybe.none ∷ []) × HasWorldAfter opening log
+      × ((id : ℕ) × (v : SeatState W E) × (get_elem? views id ≡ maybe.some v) × (v.phase ≡ HasTurn))
+      × (word ≡ 0 → ⊥))
 
-  -- What the rule says of the state of one seat.
+  -- The state of one seat follows the rule, for an opening world and a history.
   pub record IsSeatState (opening : W) (log : List E) (v : SeatState W E) : Type 0 where
     pub opened : (o : W) → v.opening ≡ Some o → o ≡ opening
     pub begins : StartsWith log v.seen
@@ -103,7 +115,7 @@ module _ {W E : Type 0} (caller : E → ℕ) (log_of : W → Option (List E)) (l
     pub own : (i : ℕ) (p : ℕ × List E) → get_elem? v.own i ≡ maybe.some p → calls_by caller p.0 log ≡ p.1
     pub turn : v.phase ≡ HasTurn → (v.seen ≡ log) × (0 < length v.own)
 
-  -- The rule.
+  -- The state of the table follows the rule, for an opening world and `n` callers.
   pub record IsKept (opening : W) (n : ℕ) (s : State (Option W) (SeatState W E)) : Type 0 where
     -- The value of the word, and the history so far.
     pub word : ℕ
@@ -115,5 +127,6 @@ module _ {W E : Type 0} (caller : E → ℕ) (log_of : W → Option (List E)) (l
     pub outside : (k : ℕ) → n ≤ k → calls_by caller k log ≡ []
     pub states : (id : ℕ) (v : SeatState W E) → get_elem? s.views id ≡ maybe.some v → IsSeatState opening log v
     -- At most one seat has the turn.
-    pub distinct : (i j : ℕ) (u v : SeatState W E) → get_elem? s.views i ≡ maybe.some u → get_elem? s.views j ≡ maybe.some v → u.phase ≡ HasTurn → v.phase ≡ HasTurn → i ≡ j
+    pub distinct : (i j : ℕ) (u v : SeatState W E) → get_elem? s.views i ≡ maybe.some u
+        → get_elem? s.views j ≡ maybe.some v → u.phase ≡ HasTurn → v.phase ≡ HasTurn → i ≡ j
     pub slot : IsSlot opening log word s.homes s.views

@@ -1,4 +1,4 @@
--- What is read under ids.
+-- The records that are read by valid ids.
 use Rattle.std.proofs.Common.{◌≡◌, ℕ, ◌+◌, ◌<◌, List, [], ◌∷◌, length, refl, sym, ap, ◌∙◌, Option, Some, None, Bool, true, false, ◌||◌, ◌==◌, Result, Ok, Err, IfOk, OnOk, IfSome, IfNone}
 use Rattle.std.specs.Prelude.{slice_get}
 use Rattle.std.specs.Option.{option_map}
@@ -28,54 +28,71 @@ use Rattle.snap_world.specs.declared.settling.ReadRecords.{ReadRecords}
 use Rattle.snap_world.specs.declared.world.RecordWorld.{RecordWorld}
 use Rattle.std.proofs.lemmas.Bool.Decides.{Decides-eqb}
 
--- what a record that is found gives
+-- The value of the readable record.
 pub entry_found : (sees : ℕ → Bool) (c : List Rec) (q : Rec) → Some q ≡ readable sees c → q.entry ≡ read_entry sees c
 entry_found sees c q is = ap entry_of is
 
--- what a live snapshot reads is what the world has
-pub read_view : {P : Type 0} {h : WorldParts P} {w : World P} → Represents h w → (n x : ℕ) → h.ids.live n ≡ true → x < length h.objects → read_entry (h.ids.sees n) (h.chains x) ≡ entry_at (snapshot_of w n).view x
-read_view {P} {h} {w} s n x live within = read_is (h.ids.sees n) (h.chains x) (entry_at (snapshot_of w n).view x) (reader s.kept.dated n live) (s.kept.chained.apart x) (s.kept.shown.views n x live within)
+-- A live snapshot reads the value that its view has in the plain world.
+pub read_view : {P : Type 0} {h : WorldParts P} {w : World P} → Represents h w → (n x : ℕ) → h.ids.live n ≡ true
+    → x < length h.objects → read_entry (h.ids.sees n) (h.chains x) ≡ entry_at (snapshot_of w n).view x
+read_view {P} {h} {w} s n x live within = read_is (h.ids.sees n) (h.chains x) (entry_at (snapshot_of w n).view x)
+    (reader s.kept.dated n live) (s.kept.chained.apart x) (s.kept.shown.views n x live within)
 
-pub read_base : {P : Type 0} {h : WorldParts P} {w : World P} → Represents h w → (n x : ℕ) → h.ids.live n ≡ true → 0 < n → x < length h.objects → read_entry (valid_for_base h.ids n) (h.chains x) ≡ entry_at (snapshot_of w n).base x
-read_base {P} {h} {w} s n x live inner within = read_is (valid_for_base h.ids n) (h.chains x) (entry_at (snapshot_of w n).base x) (reader_began s.kept.dated n live) (s.kept.chained.apart x) (s.kept.shown.bases n x live inner within)
+pub read_base : {P : Type 0} {h : WorldParts P} {w : World P} → Represents h w → (n x : ℕ) → h.ids.live n ≡ true → 0 < n
+    → x < length h.objects → read_entry (valid_for_base h.ids n) (h.chains x) ≡ entry_at (snapshot_of w n).base x
+read_base {P} {h} {w} s n x live inner within = read_is (valid_for_base h.ids n) (h.chains x)
+    (entry_at (snapshot_of w n).base x) (reader_began s.kept.dated n live) (s.kept.chained.apart x)
+    (s.kept.shown.bases n x live inner within)
 
--- the records that are found decide as the records of the world do
-pub choice_read : {P : Type 0} (rules : Rules P) (s : RecordWorld P) (name into x : ℕ) (r : ReadRecords) (o : Object P) → AreRead s name into x r → slice_get s.objects.items x ≡ Some o →
-    choice_of (settle rules o.policy (record_at s.chains r.previous.0).entry (record_at s.chains r.current.0).entry (record_at s.chains r.applied.0).entry (s.clock + 1)) (record_at s.chains r.current.0).entry ≡ choice_at rules (parts_of s) name into x
+-- The records that the search finds give the choice of the plain world.
+pub choice_read : {P : Type 0} (rules : Rules P) (s : RecordWorld P) (name into x : ℕ) (r : ReadRecords) (o : Object P)
+    → AreRead s name into x r → slice_get s.objects.items x ≡ Some o →
+    choice_of (settle rules o.policy
+    (record_at s.chains r.previous.0).entry (record_at s.chains r.current.0).entry (record_at s.chains
+    r.applied.0).entry (s.clock + 1)) (record_at s.chains r.current.0).entry
+    ≡ choice_at rules (parts_of s) name into x
 choice_read {P} rules s name into x r o a there =
     let h = parts_of s in
     let c : StampedValue = read_entry (h.ids.sees into) (h.chains x) in
-    ap (λ (e : StampedValue). choice_of (settle rules o.policy e (record_at s.chains r.current.0).entry (record_at s.chains r.applied.0).entry (s.clock + 1)) (record_at s.chains r.current.0).entry) a.previous
-    ∙ ap (λ (e : StampedValue). choice_of (settle rules o.policy (read_entry (valid_for_base h.ids name) (h.chains x)) e (record_at s.chains r.applied.0).entry (s.clock + 1)) e) a.current
-    ∙ ap (λ (e : StampedValue). choice_of (settle rules o.policy (read_entry (valid_for_base h.ids name) (h.chains x)) c e (s.clock + 1)) c) a.applied
+    ap (λ (e : StampedValue). choice_of (settle rules o.policy e
+    (record_at s.chains r.current.0).entry (record_at s.chains r.applied.0).entry (s.clock + 1))
+    (record_at s.chains r.current.0).entry) a.previous
+    ∙ ap (λ (e : StampedValue). choice_of (settle rules o.policy (read_entry (valid_for_base h.ids name) (h.chains x)) e
+    (record_at s.chains r.applied.0).entry (s.clock + 1)) e) a.current
+    ∙ ap (λ (e : StampedValue). choice_of (settle rules o.policy (read_entry (valid_for_base h.ids name) (h.chains x)) c
+    e (s.clock + 1)) c) a.applied
     ∙ sym (ap (λ (p : Option (Object P)). choice_on rules h name into x p) there)
 
--- what holds of an answer
+-- A fact about a successful result gives each fact that follows from it.
 pub ok_more : {U E : Type 0} (A B : U → Type 0) (r : Result U E) → IfOk r A → ((u : U) → A u → B u) → IfOk r B
 ok_more A B (Ok u) h f = f u h
 ok_more A B (Err e) h f = h
 
--- the record that is found is read
-pub found_reads : (c : Chains) (x id : ℕ) (invalid : List ℕ) (o : Option RecordNo) → option_map (λ b. record_at c b.0) o ≡ readable (is_valid id invalid) (chain_of c x) → IfSome o (λ r. Reads (is_valid id invalid) (chain_of c x) (record_at c r.0).entry)
+-- The record that the search finds is the record that is read.
+pub found_reads : (c : Chains) (x id : ℕ) (invalid : List ℕ) (o : Option RecordNo)
+    → option_map (λ b. record_at c b.0) o ≡ readable (is_valid id invalid) (chain_of c x)
+    → IfSome o (λ r. Reads (is_valid id invalid) (chain_of c x) (record_at c r.0).entry)
 found_reads c x id invalid None h = cc
 found_reads c x id invalid (Some r) h = read_found (is_valid id invalid) (chain_of c x) (record_at c r.0) h
 
--- where no record is found none is read
-pub found_none : (c : Chains) (x id : ℕ) (invalid : List ℕ) (o : Option RecordNo) → option_map (λ b. record_at c b.0) o ≡ readable (is_valid id invalid) (chain_of c x) → IfNone o ((e : StampedValue) → Reads (is_valid id invalid) (chain_of c x) e → ⊥)
+-- If the search finds no record, no record is read.
+pub found_none : (c : Chains) (x id : ℕ) (invalid : List ℕ) (o : Option RecordNo)
+    → option_map (λ b. record_at c b.0) o ≡ readable (is_valid id invalid) (chain_of c x)
+    → IfNone o ((e : StampedValue) → Reads (is_valid id invalid) (chain_of c x) e → ⊥)
 found_none c x id invalid None h = λ e reads. read_none (is_valid id invalid) (chain_of c x) e h reads
 found_none c x id invalid (Some r) h = cc
 
 pub err_is : {U E : Type 0} (d e : E) (r : Result U E) → r ≡ Err d → r ≡ Err e → d ≡ e
 err_is d e r h k = cc
 
--- a name is not in a list that begins with another one
+-- A name other than the head is not in a list whose rest does not contain it.
 pub left_out : (o n : ℕ) (os : List ℕ) → (n ≡ o → ⊥) → contains n os ≡ false → contains n (o ∷ os) ≡ false
 left_out o n os other out = neither (o == n) (contains n os) (λ h. other (sym ((Decides-eqb o n).0 h))) out where
   neither : (a b : Bool) → (a ≡ true → ⊥) → b ≡ false → (a || b) ≡ false
   neither true b h k = absurd (h refl)
   neither false b h k = k
 
--- an id is in the list of it alone
+-- An id is in the list that contains it alone.
 pub one_listed : (i id : ℕ) (l : List ℕ) → id ≡ i → l ≡ id ∷ [] → contains i l ≡ true
 one_listed i id l same is = ap (λ (xs : List ℕ). contains i xs) is ∙ contains-one i id ∙ (Decides-eqb i id).1 (sym same)
 

@@ -1,4 +1,4 @@
--- Records of no object stand for the world that begins.
+-- Records of no object represent the first world.
 use Rattle.std.proofs.Common.{◌≡◌, ℕ, zero, suc, ◌<◌, List, [], ◌∷◌, length, refl, Some, true, false, arith}
 use Rattle.std.specs.Prelude.{slice_get, slice_index_or}
 use Rattle.rt_values.specs.Maps.{contains}
@@ -14,7 +14,7 @@ use Rattle.snap_laws.specs.Represents.{WorldParts, Represents, views_of, bases_o
 abbrev ms : List Member
 ms = global ∷ []
 
--- what is held at the beginning
+-- The parts of the first world of records.
 abbrev pub begun : {P : Type 0} → ℕ → WorldParts P
 begun clock = record {
   clock = clock;
@@ -35,13 +35,18 @@ no_record p h = absurd (at h.at h.is) where
   at : (k : ℕ) → slice_get {X = Rec} [] k ≡ Some p → ⊥
   at k is = cc
 
-kept : (P : Type 0) (clock : ℕ) → IsKept (ids_of ms) 1 (λ n x. false) (λ x. []) 0 (views_of {P = P} (start clock)) (bases_of {P = P} (start clock))
+kept : (P : Type 0) (clock : ℕ)
+    → IsKept (ids_of ms) 1 (λ n x. false) (λ x. []) 0 (views_of {P = P} (start clock)) (bases_of {P = P} (start clock))
 kept P clock = record {
   sound = members_start.sound;
   dated = dated ms;
   alone = alone_start;
-  chained = record { apart = λ x j k p q one two positive same. absurd cc; known = λ x p there positive. no_record p there };
-  shown = record { views = λ n x live within. absurd (omega (arith, within)); bases = λ n x live inner within. absurd (omega (arith, within)) };
+  chained =
+      record { apart = λ x j k p q one two positive same. absurd cc; known = λ x p there positive. no_record p there };
+  shown = record {
+    views = λ n x live within. absurd (omega (arith, within));
+    bases = λ n x live inner within. absurd (omega (arith, within));
+  };
 }
 
 module _ (P : Type 0) (clock : ℕ) where

@@ -37,4 +37,5 @@ lesser true x (Some y) = if nat_le y x then Some y else Some x
 -- The least of the listed objects that pass a test, or none if no listed object passes it.
 abbrev pub IsLeast : (ℕ → Bool) → List ℕ → Option ℕ → Type 0
 IsLeast test xs None = (x : ℕ) → contains x xs ≡ true → test x ≡ false
-IsLeast test xs (Some y) = (contains y xs ≡ true) × (test y ≡ true) × ((x : ℕ) → x < y → contains x xs ≡ true → test x ≡ false)
+IsLeast test xs (Some y) =
+    (contains y xs ≡ true) × (test y ≡ true) × ((x : ℕ) → x < y → contains x xs ≡ true → test x ≡ false)

@@ -21,8 +21,8 @@ impl<P: Policy> RecordWorld<P> {
     ghost use Rattle.snap_world.specs.Choices.{objects_of, IsLeast};
     ghost use Rattle.snap_world.specs.Holding.{parts_of, AreRead, AreSettled};
 
-    // Returns the records of an object that a snapshot reads for its base, that its parent reads, and that the snapshot reads.
-    // There are such records in every represented world.
+    // Returns the records of an object that a snapshot reads for its base, that its parent reads, and that the snapshot
+    // reads. There are such records in every represented world.
     fn find_read(&self, name: Name, into: Name, object: ObjectNo) -> Option<ReadRecords>
         requires live { (member self.now.family.members.items name).is_live ≡ true }
         requires above { (member self.now.family.members.items into).is_live ≡ true }
@@ -104,7 +104,8 @@ impl<P: Policy> RecordWorld<P> {
         )
     }
 
-    // Finds the least object that a snapshot wrote and that conflicts. Every such object is known in a represented world.
+    // Finds the least object that a snapshot wrote and that conflicts. Every such object is known in a represented
+    // world.
     pub(crate) fn find_conflict(
         &self,
         alloc: Global,

@@ -13,9 +13,9 @@ use rt_values::{Name, NoMemory, ObjectNo};
 use snap_nested::Family;
 use snap_records::{Chains, KeptIds, RecordNo};
 
-/// Puts into `ids` the ids of the records of object `x` that a write in the snapshot `name` must keep, and no others: the
-/// current id of `name`, the ids of the records that the other live snapshots read, and of those that all but global read
-/// for their bases. After `NoMemory` the list may have some of them.
+/// Puts into `ids` the ids of the records of object `x` that a write in the snapshot `name` must keep, and no others:
+/// the current id of `name`, the ids of the records that the other live snapshots read, and of those that all but
+/// global read for their bases. After `NoMemory` the list may have some of them.
 pub fn find_kept_ids(
     family: &Family,
     chains: &Chains,
@@ -71,8 +71,8 @@ fn add_read_ids(
     add_both_ids(family, chains, x, reader, ids)
 }
 
-// Adds the ids of the records of object `x` that a live snapshot reads for its view and for its base. The snapshot is not
-// global.
+// Adds the ids of the records of object `x` that a live snapshot reads for its view and for its base. The snapshot is
+// not global.
 fn add_both_ids(
     family: &Family,
     chains: &Chains,

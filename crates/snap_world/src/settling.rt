@@ -7,7 +7,8 @@ use rt_values::{ObjectNo, StampedValue};
 use snap_records::RecordNo;
 use snap_settle::Choice;
 
-/// The stamped value that an object has in the parent after an apply, and whether the parent takes it from the snapshot.
+/// The stamped value that an object has in the parent after an apply, and whether the parent takes it from the
+/// snapshot.
 #[derive(Drop)]
 pub struct Settled {
     pub object: ObjectNo,

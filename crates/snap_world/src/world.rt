@@ -16,9 +16,9 @@ use snap_reuse::put;
 use std::alloc::Global;
 use std::mem::replace;
 
-/// A world of snapshots with state records: the clock, the objects, the ids of the snapshots, the chains of records, the
-/// objects that each snapshot wrote, the stamps of global's view, and the stamps of each watcher's last map. The next take
-/// for a watcher copies global's stamps into the memory of `spare`.
+/// A world of snapshots with state records: the clock, the objects, the ids of the snapshots, the chains of records,
+/// the objects that each snapshot wrote, the stamps of global's view, and the stamps of each watcher's last map. The
+/// next take for a watcher copies global's stamps into the memory of `spare`.
 #[derive(Drop)]
 pub struct RecordWorld<P> {
     pub(crate) clock: u64,
@@ -230,7 +230,8 @@ impl<P: Policy> RecordWorld<P> {
         Ok(())
     }
 
-    // Gives an object another value in a snapshot. The other records of the object that no live snapshot reads get id 0.
+    // Gives an object another value in a snapshot. The other records of the object that no live snapshot reads get id
+    // 0.
     fn put_entry(
         &mut self,
         alloc: Global,

@@ -57,7 +57,9 @@ run_all-returns g t c = record {
   longer = search rules;
   fits = search rules;
   counted = λ m h. c.loop-statement.invariant.counted m h;
-  ran = λ m o h b calc. going_done (all_end m c.args.level.now.functions.now c.args.body.now c.loop-statement.statement-index c.args.made.now.scope (omega arith)) (c.loop-statement.invariant.going m o h b calc);
+  ran = λ m o h b calc. going_done (all_end m c.args.level.now.functions.now c.args.body.now
+      c.loop-statement.statement-index c.args.made.now.scope (omega arith))
+      (c.loop-statement.invariant.going m o h b calc);
 }
 
 pub run_all-returns-in_err-run_one : goal.run_all-returns-in_err-run_one
@@ -71,10 +73,18 @@ run_all-returns-in_err-run_one g t c = record {
   ran = λ m o h b calc.
       let e : c.from_residual.result ≡ Err c.in_err-run_one.field-0.0 = search rules in
       let k = c.loop-statement.invariant.going m o h b calc in
-      let P : List Binding → Type 0 = λ env. ComposesBeside c.args.level.now.owed.now.objects o.old c.args.level.now.depth k.now (statement_forest m c.args.level.now.functions.now (stmt_view c.statement-item.result) env) (state_of c.loop-statement.made.writer (g.V.View.asked c.loop-statement.view) c.loop-statement.made.reads)
-      (state_of c.run_one.new.made.writer (g.V.View.asked c.run_one.new.view) c.run_one.new.made.reads) c.run_one.new.made.pending {U = Unit {0}} (Err c.in_err-run_one.field-0.0) in
-      let ran = subst P c.loop-statement.invariant.same_scope (c.in_err-run_one.ensures.ran m (at_now o k.now) (c.loop-statement.invariant.same m h) (beside_now k.now b k.fits) (statement_calculates o.last.calculation c.args.body.now c.loop-statement.statement-index c.statement-item.result (omega arith) c.statement-item.is calc)) in
-      going_stop _ _ (all_at m c.args.level.now.functions.now c.args.body.now c.loop-statement.statement-index c.statement-item.result c.args.made.now.scope (omega arith) c.statement-item.is) k ran e;
+      let P : List Binding → Type 0 = λ env. ComposesBeside c.args.level.now.owed.now.objects o.old
+      c.args.level.now.depth k.now
+      (statement_forest m c.args.level.now.functions.now (stmt_view c.statement-item.result) env)
+      (state_of c.loop-statement.made.writer (g.V.View.asked c.loop-statement.view) c.loop-statement.made.reads)
+      (state_of c.run_one.new.made.writer (g.V.View.asked c.run_one.new.view) c.run_one.new.made.reads)
+      c.run_one.new.made.pending {U = Unit {0}} (Err c.in_err-run_one.field-0.0) in
+      let ran = subst P c.loop-statement.invariant.same_scope
+      (c.in_err-run_one.ensures.ran m (at_now o k.now) (c.loop-statement.invariant.same m h)
+      (beside_now k.now b k.fits) (statement_calculates o.last.calculation c.args.body.now
+      c.loop-statement.statement-index c.statement-item.result (omega arith) c.statement-item.is calc)) in
+      going_stop _ _ (all_at m c.args.level.now.functions.now c.args.body.now c.loop-statement.statement-index
+      c.statement-item.result c.args.made.now.scope (omega arith) c.statement-item.is) k ran e;
 }
 
 pub run_all-loop-statement-preserved : goal.run_all-loop-statement-preserved
@@ -84,18 +94,28 @@ run_all-loop-statement-preserved g t c = record {
   same_scope = c.in_ok-run_one.ensures.same_scope ∙ c.loop-statement.invariant.same_scope;
   longer = omega (arith, c.loop-statement.invariant.longer, c.in_ok-run_one.ensures.longer);
   fits = c.in_ok-run_one.ensures.fits;
-  counted = λ m h. let e = c.loop-statement.invariant.counted m h in let f = c.in_ok-run_one.ensures.counted m (c.loop-statement.invariant.same m h) in omega (arith, e, f);
+  counted = λ m h. let e = c.loop-statement.invariant.counted m h in
+      let f = c.in_ok-run_one.ensures.counted m (c.loop-statement.invariant.same m h) in omega (arith, e, f);
   going = λ m o h b calc.
       let k = c.loop-statement.invariant.going m o h b calc in
-      let P : List Binding → Type 0 = λ env. ComposesBeside c.args.level.now.owed.now.objects o.old c.args.level.now.depth k.now (statement_forest m c.args.level.now.functions.now (stmt_view c.statement-item.result) env) (state_of c.loop-statement.made.writer (g.V.View.asked c.loop-statement.view) c.loop-statement.made.reads)
-      (state_of c.run_one.new.made.writer (g.V.View.asked c.run_one.new.view) c.run_one.new.made.reads) c.run_one.new.made.pending {U = Unit {0}} (Ok tt) in
-      let ran = subst P c.loop-statement.invariant.same_scope (c.in_ok-run_one.ensures.ran m (at_now o k.now) (c.loop-statement.invariant.same m h) (beside_now k.now b k.fits) (statement_calculates o.last.calculation c.args.body.now c.loop-statement.statement-index c.statement-item.result (omega arith) c.statement-item.is calc)) in
-      going_more (all_at m c.args.level.now.functions.now c.args.body.now c.loop-statement.statement-index c.statement-item.result c.args.made.now.scope (omega arith) c.statement-item.is) k ran;
+      let P : List Binding → Type 0 = λ env. ComposesBeside c.args.level.now.owed.now.objects o.old
+      c.args.level.now.depth k.now
+      (statement_forest m c.args.level.now.functions.now (stmt_view c.statement-item.result) env)
+      (state_of c.loop-statement.made.writer (g.V.View.asked c.loop-statement.view) c.loop-statement.made.reads)
+      (state_of c.run_one.new.made.writer (g.V.View.asked c.run_one.new.view) c.run_one.new.made.reads)
+      c.run_one.new.made.pending {U = Unit {0}} (Ok tt) in
+      let ran = subst P c.loop-statement.invariant.same_scope
+      (c.in_ok-run_one.ensures.ran m (at_now o k.now) (c.loop-statement.invariant.same m h)
+      (beside_now k.now b k.fits) (statement_calculates o.last.calculation c.args.body.now
+      c.loop-statement.statement-index c.statement-item.result (omega arith) c.statement-item.is calc)) in
+      going_more (all_at m c.args.level.now.functions.now c.args.body.now c.loop-statement.statement-index
+      c.statement-item.result c.args.made.now.scope (omega arith) c.statement-item.is) k ran;
 }
 
 pub run_all-run_one-requires : goal.run_all-run_one-requires
 run_all-run_one-requires g t c κs w =
-    let least = size_at c.args.body.now c.loop-statement.statement-index c.statement-item.result (omega arith) c.statement-item.is in
+    let least = size_at c.args.body.now c.loop-statement.statement-index c.statement-item.result (omega arith)
+    c.statement-item.is in
     search rules
 
 pub run_all-loop-statement-init : goal.run_all-loop-statement-init
@@ -120,7 +140,9 @@ run_one-returns-in-Node g t c = record {
   fits = search rules;
   counted = λ m h. c.run_node.ensures.counted m h;
   ran = λ m o h b calc.
-      let r = c.run_node.ensures.ran m o h b (search (rules, node_calculates)) in node_beside m c.args.level.now.functions.now _ c.args.made.now.scope _ _ _ _ _ _ _ _ _ _ _ _ _ _ _ c.in-Node.is (search rules) (search rules) r;
+      let r = c.run_node.ensures.ran m o h b (search (rules, node_calculates)) in
+      node_beside m c.args.level.now.functions.now _ c.args.made.now.scope _ _ _ _ _ _ _ _ _ _ _ _ _ _ _
+      c.in-Node.is (search rules) (search rules) r;
 }
 
 pub run_one-returns-in-Call : goal.run_one-returns-in-Call
@@ -132,7 +154,9 @@ run_one-returns-in-Call g t c = record {
   fits = search rules;
   counted = λ m h. c.run_arguments.ensures.counted m h;
   ran = λ m o h b calc.
-      let r = c.run_arguments.ensures.ran m o h b tt in call_beside m c.args.level.now.functions.now _ c.args.made.now.scope _ _ _ _ _ _ _ _ _ _ _ _ _ _ c.in-Call.is (search rules) r;
+      let r = c.run_arguments.ensures.ran m o h b tt in
+      call_beside m c.args.level.now.functions.now _ c.args.made.now.scope _ _ _ _ _ _ _ _ _ _ _ _ _ _ c.in-Call.is
+      (search rules) r;
 }
 
 pub run_one-returns-in-Key : goal.run_one-returns-in-Key
@@ -156,7 +180,8 @@ run_one-returns-in-If g t c = record {
   fits = search rules;
   counted = λ m h. c.run_if.ensures.counted m h;
   ran = λ m o h b calc.
-      let r = c.run_if.ensures.ran m o h b (search (rules, then_calculates), search (rules, else_calculates)) in search (rules, choice_beside);
+      let r = c.run_if.ensures.ran m o h b (search (rules, then_calculates), search (rules, else_calculates)) in
+      search (rules, choice_beside);
 }
 
 pub run_one-returns-in-For : goal.run_one-returns-in-For
@@ -192,7 +217,10 @@ run_one-returns-in-Remember g t c = record {
   fits = search rules;
   counted = λ m h. c.run_remember.ensures.counted m h;
   ran = λ m o h b calc.
-      let r = c.run_remember.ensures.ran m o h b (search (rules, cell_calculates), search (rules, remember_calculates)) in remember_beside m c.args.level.now.functions.now _ c.args.made.now.scope _ _ _ _ _ _ _ _ _ _ _ _ _ _ _ _ c.in-Remember.is (search rules) (search rules) r;
+      let r = c.run_remember.ensures.ran m o h b
+      (search (rules, cell_calculates), search (rules, remember_calculates)) in
+      remember_beside m c.args.level.now.functions.now _ c.args.made.now.scope _ _ _ _ _ _ _ _ _ _ _ _ _ _ _ _
+      c.in-Remember.is (search rules) (search rules) r;
 }
 
 -- A node or a key, with the groups inside.
@@ -230,12 +258,17 @@ pub run_group-returns-then-is_empty-clause-ran : goal.run_group-returns-then-is_
 run_group-returns-then-is_empty-clause-ran g t c w is plain m h o b calc =
     let x = sibling c.args.site w in
     let xs = key_is c.args.site w (group_kind c.args.what) _ c.key.ensures is c.new.ensures in
-    let k = matched {left = c.take.new.self} x c.new.result xs b c.in_ok-found.ensures.found c.in_ok-found.ensures.left in
+    let k = matched {left = c.take.new.self} x c.new.result xs b c.in_ok-found.ensures.found
+    c.in_ok-found.ensures.left in
     let there = matching_sibling x (occurrence x o.seen) o.old in
     let inside = body_forest m c.args.level.now.functions.now (stmts_view c.args.body.now) c.args.made.now.scope in
-    let state = matched_state c.args.level.now.depth c.args.site w (group_kind c.args.what) inside c.in_ok-found.found there c.args.made.now.writer c.enter.new.self (g.V.View.asked c.args.view.now) c.args.made.now.reads (container_is_no_call w plain) k.like is c.in_ok-enter.ensures.entered in
-    let empty : length c.args.body.now ≡ 0 = eqb-true (length c.args.body.now) 0 (sym c.is_empty.ensures ∙ c.if-is_empty.true) in
-    let none : inside ≡ End = all_end m c.args.level.now.functions.now c.args.body.now 0 c.args.made.now.scope (omega (arith, empty)) in
+    let state = matched_state c.args.level.now.depth c.args.site w (group_kind c.args.what) inside c.in_ok-found.found
+    there c.args.made.now.writer c.enter.new.self (g.V.View.asked c.args.view.now) c.args.made.now.reads
+    (container_is_no_call w plain) k.like is c.in_ok-enter.ensures.entered in
+    let empty : length c.args.body.now ≡ 0 =
+    eqb-true (length c.args.body.now) 0 (sym c.is_empty.ensures ∙ c.if-is_empty.true) in
+    let none : inside ≡ End = all_end m c.args.level.now.functions.now c.args.body.now 0 c.args.made.now.scope
+    (omega (arith, empty)) in
     beside_alone w inside _ plain none state k.fits
 
 pub run_group-returns-then-is_empty-clause-part : goal.run_group-returns-then-is_empty-clause-part
@@ -243,23 +276,31 @@ run_group-returns-then-is_empty-clause-part g t c = record {
   keeps = search (rules, g.met.V.View.keeps_on, g.met.V.View.keeps_itself);
   same = search rules;
   same_scope = search rules;
-  longer = entered_longer _ _ (group_kind c.args.what) c.in_ok-found.found c.args.made.now.writer _ c.in_ok-enter.ensures.entered;
+  longer = entered_longer _ _ (group_kind c.args.what) c.in_ok-found.found c.args.made.now.writer _
+      c.in_ok-enter.ensures.entered;
   fits = c.in_ok-enter.ensures.fits;
-  counted = λ m h. let e : c.enter.new.self.reads ≡ c.args.made.now.writer.reads = ap (λ (q : WrittenGroups). q.reads) c.in_ok-enter.ensures.entered in omega (arith, e);
+  counted = λ m h. let e : c.enter.new.self.reads ≡ c.args.made.now.writer.reads =
+      ap (λ (q : WrittenGroups). q.reads) c.in_ok-enter.ensures.entered in omega (arith, e);
 }
 
 pub run_group-returns-in_err-run_all-clause-ran : goal.run_group-returns-in_err-run_all-clause-ran
 run_group-returns-in_err-run_all-clause-ran g t c w is plain m h o b calc =
     let x = sibling c.args.site w in
     let xs = key_is c.args.site w (group_kind c.args.what) _ c.key.ensures is c.new.ensures in
-    let k = matched {left = c.take.new.self} x c.new.result xs b c.in_ok-found.ensures.found c.in_ok-found.ensures.left in
+    let k = matched {left = c.take.new.self} x c.new.result xs b c.in_ok-found.ensures.found
+    c.in_ok-found.ensures.left in
     let there = matching_sibling x (occurrence x o.seen) o.old in
     let inside = body_forest m c.args.level.now.functions.now (stmts_view c.args.body.now) c.args.made.now.scope in
-    let state = matched_state c.args.level.now.depth c.args.site w (group_kind c.args.what) inside c.in_ok-found.found there c.args.made.now.writer c.enter.new.self (g.V.View.asked c.args.view.now) c.args.made.now.reads (container_is_no_call w plain) k.like is c.in_ok-enter.ensures.entered in
+    let state = matched_state c.args.level.now.depth c.args.site w (group_kind c.args.what) inside c.in_ok-found.found
+    there c.args.made.now.writer c.enter.new.self (g.V.View.asked c.args.view.now) c.args.made.now.reads
+    (container_is_no_call w plain) k.like is c.in_ok-enter.ensures.entered in
     let within : c.replace-around.new.dest ≡ c.inside_found-within.result = search rules in
-    let fits = subst (λ (p : Pending). Fits (c.args.level.now.depth + 1) p (inside_of there) []) (sym within) (fits_inside c.args.level.now.depth c.inside_found-within.result c.in_ok-found.found there c.inside_found-within.ensures k.like) in
+    let fits = subst (λ (p : Pending). Fits (c.args.level.now.depth + 1) p (inside_of there) []) (sym within)
+    (fits_inside c.args.level.now.depth c.inside_found-within.result c.in_ok-found.found there
+    c.inside_found-within.ensures k.like) in
     let e : c.from_residual-in_err-run_all.result ≡ Err c.in_err-run_all.field-0.0 = search rules in
-    let inner = c.in_err-run_all.ensures.ran m (inside_old o (inside_of there)) h (beside_inside (inside_of there) b k.part fits) calc in
+    let inner = c.in_err-run_all.ensures.ran m (inside_old o (inside_of there)) h
+    (beside_inside (inside_of there) b k.part fits) calc in
     beside_err _ e (beside_group w _ plain state tt inner)
 
 pub run_group-returns-in_err-run_all-clause-part : goal.run_group-returns-in_err-run_all-clause-part
@@ -276,24 +317,34 @@ pub run_group-returns-clause-ran : goal.run_group-returns-clause-ran
 run_group-returns-clause-ran g t c w is plain m h o b calc =
     let x = sibling c.args.site w in
     let xs = key_is c.args.site w (group_kind c.args.what) _ c.key.ensures is c.new.ensures in
-    let k = matched {left = c.take.new.self} x c.new.result xs b c.in_ok-found.ensures.found c.in_ok-found.ensures.left in
+    let k = matched {left = c.take.new.self} x c.new.result xs b c.in_ok-found.ensures.found
+    c.in_ok-found.ensures.left in
     let there = matching_sibling x (occurrence x o.seen) o.old in
     let inside = body_forest m c.args.level.now.functions.now (stmts_view c.args.body.now) c.args.made.now.scope in
-    let state = matched_state c.args.level.now.depth c.args.site w (group_kind c.args.what) inside c.in_ok-found.found there c.args.made.now.writer c.enter.new.self (g.V.View.asked c.args.view.now) c.args.made.now.reads (container_is_no_call w plain) k.like is c.in_ok-enter.ensures.entered in
+    let state = matched_state c.args.level.now.depth c.args.site w (group_kind c.args.what) inside c.in_ok-found.found
+    there c.args.made.now.writer c.enter.new.self (g.V.View.asked c.args.view.now) c.args.made.now.reads
+    (container_is_no_call w plain) k.like is c.in_ok-enter.ensures.entered in
     let within : c.replace-around.new.dest ≡ c.inside_found-within.result = search rules in
-    let fits = subst (λ (p : Pending). Fits (c.args.level.now.depth + 1) p (inside_of there) []) (sym within) (fits_inside c.args.level.now.depth c.inside_found-within.result c.in_ok-found.found there c.inside_found-within.ensures k.like) in
-    let inner = c.in_ok-run_all.ensures.ran m (inside_old o (inside_of there)) h (beside_inside (inside_of there) b k.part fits) calc in
+    let fits = subst (λ (p : Pending). Fits (c.args.level.now.depth + 1) p (inside_of there) []) (sym within)
+    (fits_inside c.args.level.now.depth c.inside_found-within.result c.in_ok-found.found there
+    c.inside_found-within.ensures k.like) in
+    let inner = c.in_ok-run_all.ensures.ran m (inside_old o (inside_of there)) h
+    (beside_inside (inside_of there) b k.part fits) calc in
     let around : c.replace-around.result ≡ c.take.new.self = search rules in
-    beside_group w _ plain state (subst (λ (p : Pending). Fits c.args.level.now.depth p o.old (x ∷ o.seen)) (sym around) k.fits) inner
+    beside_group w _ plain state
+    (subst (λ (p : Pending). Fits c.args.level.now.depth p o.old (x ∷ o.seen)) (sym around) k.fits) inner
 
 pub run_group-returns-clause-part : goal.run_group-returns-clause-part
 run_group-returns-clause-part g t c = record {
   keeps = c.in_ok-run_all.ensures.keeps;
   same = c.in_ok-run_all.ensures.same;
   same_scope = c.in_ok-run_all.ensures.same_scope;
-  longer = let e = entered_longer _ _ (group_kind c.args.what) c.in_ok-found.found c.args.made.now.writer _ c.in_ok-enter.ensures.entered in omega (arith, e, c.in_ok-run_all.ensures.longer);
+  longer = let e = entered_longer _ _ (group_kind c.args.what) c.in_ok-found.found c.args.made.now.writer _
+      c.in_ok-enter.ensures.entered in omega (arith, e, c.in_ok-run_all.ensures.longer);
   fits = c.in_ok-run_all.ensures.fits;
-  counted = λ m h. let f = c.in_ok-run_all.ensures.counted m h in let e : c.enter.new.self.reads ≡ c.args.made.now.writer.reads = ap (λ (q : WrittenGroups). q.reads) c.in_ok-enter.ensures.entered in omega (arith, e, f);
+  counted = λ m h. let f = c.in_ok-run_all.ensures.counted m h in
+      let e : c.enter.new.self.reads ≡ c.args.made.now.writer.reads =
+      ap (λ (q : WrittenGroups). q.reads) c.in_ok-enter.ensures.entered in omega (arith, e, f);
 }
 
 -- A key.
@@ -319,12 +370,19 @@ run_key-returns g t c = record {
   same_scope = c.run_group.ensures.part.same_scope;
   longer = c.run_group.ensures.part.longer;
   fits = c.run_group.ensures.part.fits;
-  counted = λ m h. counted_after _ _ _ _ _ _ _ _ _ _ (c.in_ok-key.ensures.asks m h) (c.in_ok-key.ensures.reads m h) (c.run_group.ensures.part.counted m (c.eval_noting.ensures.same m h));
+  counted = λ m h. counted_after _ _ _ _ _ _ _ _ _ _ (c.in_ok-key.ensures.asks m h) (c.in_ok-key.ensures.reads m h)
+      (c.run_group.ensures.part.counted m (c.eval_noting.ensures.same m h));
   ran = λ m o h b calc.
-      let P : Value → Type 0 = λ v. ComposesBeside c.args.level.now.owed.now.objects o.old c.args.level.now.depth o.seen (GroupForest.Group c.args.site 0 (Key v) (body_forest m c.args.level.now.functions.now (stmts_view c.args.body.now) c.args.made.now.scope) End) (state_of c.args.made.now.writer (g.V.View.asked c.eval_noting.new.view) c.eval_noting.new.reads)
-      (state_of c.run_group.new.made.writer (g.V.View.asked c.run_group.new.view) c.run_group.new.made.reads) c.run_group.new.made.pending c.run_group.result in
-      let inner = subst P (c.in_ok-key.ensures.value m h) (c.run_group.ensures.ran (Key c.in_ok-key.key) refl refl m (c.eval_noting.ensures.same m h) o b calc) in
-      beside_after _ _ (state_of c.args.made.now.writer (g.V.View.asked c.eval_noting.new.view) c.eval_noting.new.reads) (same_state refl refl refl refl (c.in_ok-key.ensures.asks m h) (c.in_ok-key.ensures.reads m h)) (inner);
+      let P : Value → Type 0 = λ v. ComposesBeside c.args.level.now.owed.now.objects o.old c.args.level.now.depth o.seen
+      (GroupForest.Group c.args.site 0 (Key v)
+      (body_forest m c.args.level.now.functions.now (stmts_view c.args.body.now) c.args.made.now.scope) End)
+      (state_of c.args.made.now.writer (g.V.View.asked c.eval_noting.new.view) c.eval_noting.new.reads)
+      (state_of c.run_group.new.made.writer (g.V.View.asked c.run_group.new.view) c.run_group.new.made.reads)
+      c.run_group.new.made.pending c.run_group.result in
+      let inner = subst P (c.in_ok-key.ensures.value m h)
+      (c.run_group.ensures.ran (Key c.in_ok-key.key) refl refl m (c.eval_noting.ensures.same m h) o b calc) in
+      beside_after _ _ (state_of c.args.made.now.writer (g.V.View.asked c.eval_noting.new.view) c.eval_noting.new.reads)
+      (same_state refl refl refl refl (c.in_ok-key.ensures.asks m h) (c.in_ok-key.ensures.reads m h)) (inner);
 }
 
 -- A node.
@@ -363,13 +421,19 @@ run_node-returns g t c = record {
   same_scope = c.run_group.ensures.part.same_scope;
   longer = c.run_group.ensures.part.longer;
   fits = c.run_group.ensures.part.fits;
-  counted = λ m h. counted_after _ _ _ _ _ _ _ _ _ _ (c.in_ok-attributes.ensures.asks m h) (c.in_ok-attributes.ensures.reads m h) (c.run_group.ensures.part.counted m (c.evaluate_attributes.ensures.same m h));
+  counted = λ m h. counted_after _ _ _ _ _ _ _ _ _ _ (c.in_ok-attributes.ensures.asks m h)
+      (c.in_ok-attributes.ensures.reads m h)
+      (c.run_group.ensures.part.counted m (c.evaluate_attributes.ensures.same m h));
   ran = λ m o h b calc.
       let all = (eval_named m (nameds_view c.args.attributes.now) c.args.made.now.scope).value in
       let w = Node c.args.kind.now.text (map attribute all) in
-      let made : what.Node c.args.kind.now.text c.in_ok-attributes.attributes ≡ flat_kind w = ap (λ (l : List Attribute). what.Node c.args.kind.now.text l) (c.in_ok-attributes.ensures.value m h) in
+      let made : what.Node c.args.kind.now.text c.in_ok-attributes.attributes ≡ flat_kind w =
+      ap (λ (l : List Attribute). what.Node c.args.kind.now.text l) (c.in_ok-attributes.ensures.value m h) in
       let inner = c.run_group.ensures.ran w made refl m (c.evaluate_attributes.ensures.same m h) o b calc in
-      beside_after _ _ (state_of c.args.made.now.writer (g.V.View.asked c.evaluate_attributes.new.view) c.evaluate_attributes.new.reads) (same_state refl refl refl refl (c.in_ok-attributes.ensures.asks m h) (c.in_ok-attributes.ensures.reads m h)) (inner);
+      beside_after _ _ (state_of c.args.made.now.writer (g.V.View.asked c.evaluate_attributes.new.view)
+      c.evaluate_attributes.new.reads)
+      (same_state refl refl refl refl (c.in_ok-attributes.ensures.asks m h) (c.in_ok-attributes.ensures.reads m h))
+      (inner);
 }
 
 -- One of two lists of statements.
@@ -395,11 +459,15 @@ run_if-returns-then-is_true g t c = record {
   same_scope = search rules;
   longer = search rules;
   fits = search rules;
-  counted = λ m h. counted_after _ _ _ _ _ _ _ _ _ _ (c.in_ok-condition.ensures.asks m h) (c.in_ok-condition.ensures.reads m h) (c.run_all.ensures.counted m (c.eval_noting.ensures.same m h));
+  counted = λ m h. counted_after _ _ _ _ _ _ _ _ _ _ (c.in_ok-condition.ensures.asks m h)
+      (c.in_ok-condition.ensures.reads m h) (c.run_all.ensures.counted m (c.eval_noting.ensures.same m h));
   ran = λ m o h b calc.
       let inner = c.run_all.ensures.ran m o (c.eval_noting.ensures.same m h) b calc.0 in
-      let yes_is : is_true (eval m (expr_view c.args.condition.now) c.args.made.now.scope).value ≡ true = ap is_true (sym (c.in_ok-condition.ensures.value m h)) ∙ sym c.is_true.ensures ∙ c.if-is_true.true in
-      beside_after _ _ (state_of c.args.made.now.writer (g.V.View.asked c.eval_noting.new.view) c.eval_noting.new.reads) (same_state refl refl refl refl (c.in_ok-condition.ensures.asks m h) (c.in_ok-condition.ensures.reads m h)) (beside_first _ _ _ yes_is inner);
+      let yes_is : is_true (eval m (expr_view c.args.condition.now) c.args.made.now.scope).value ≡ true =
+      ap is_true (sym (c.in_ok-condition.ensures.value m h)) ∙ sym c.is_true.ensures ∙ c.if-is_true.true in
+      beside_after _ _ (state_of c.args.made.now.writer (g.V.View.asked c.eval_noting.new.view) c.eval_noting.new.reads)
+      (same_state refl refl refl refl (c.in_ok-condition.ensures.asks m h) (c.in_ok-condition.ensures.reads m h))
+      (beside_first _ _ _ yes_is inner);
 }
 
 pub run_if-returns : goal.run_if-returns
@@ -409,11 +477,15 @@ run_if-returns g t c = record {
   same_scope = search rules;
   longer = search rules;
   fits = search rules;
-  counted = λ m h. counted_after _ _ _ _ _ _ _ _ _ _ (c.in_ok-condition.ensures.asks m h) (c.in_ok-condition.ensures.reads m h) (c.run_all-2.ensures.counted m (c.eval_noting.ensures.same m h));
+  counted = λ m h. counted_after _ _ _ _ _ _ _ _ _ _ (c.in_ok-condition.ensures.asks m h)
+      (c.in_ok-condition.ensures.reads m h) (c.run_all-2.ensures.counted m (c.eval_noting.ensures.same m h));
   ran = λ m o h b calc.
       let inner = c.run_all-2.ensures.ran m o (c.eval_noting.ensures.same m h) b calc.1 in
-      let no_is : is_true (eval m (expr_view c.args.condition.now) c.args.made.now.scope).value ≡ false = ap is_true (sym (c.in_ok-condition.ensures.value m h)) ∙ sym c.is_true.ensures ∙ c.if-is_true.false in
-      beside_after _ _ (state_of c.args.made.now.writer (g.V.View.asked c.eval_noting.new.view) c.eval_noting.new.reads) (same_state refl refl refl refl (c.in_ok-condition.ensures.asks m h) (c.in_ok-condition.ensures.reads m h)) (beside_second _ _ _ no_is inner);
+      let no_is : is_true (eval m (expr_view c.args.condition.now) c.args.made.now.scope).value ≡ false =
+      ap is_true (sym (c.in_ok-condition.ensures.value m h)) ∙ sym c.is_true.ensures ∙ c.if-is_true.false in
+      beside_after _ _ (state_of c.args.made.now.writer (g.V.View.asked c.eval_noting.new.view) c.eval_noting.new.reads)
+      (same_state refl refl refl refl (c.in_ok-condition.ensures.asks m h) (c.in_ok-condition.ensures.reads m h))
+      (beside_second _ _ _ no_is inner);
 }
 
 -- A name more in scope.
@@ -453,9 +525,15 @@ run_bound-returns g t c = record {
   fits = search rules;
   counted = λ m h. c.in_ok-run_all.ensures.counted m h;
   ran = λ m o h b calc.
-      let e : c.push.new.self ≡ c.args.made.now.scope ++ new_binding c.args.name.now.text c.args.value ∷ [] = c.in_ok-push.ensures.ok ∙ ap (λ (n : List ℕ). c.args.made.now.scope ++ new_binding n c.args.value ∷ []) c.in_ok-name.ensures in
-      let P : List Binding → Type 0 = λ env. ComposesBeside c.args.level.now.owed.now.objects o.old c.args.level.now.depth o.seen (body_forest m c.args.level.now.functions.now (stmts_view c.args.body.now) env) (state_of c.args.made.now.writer (g.V.View.asked c.args.view.now) c.args.made.now.reads)
-      (state_of c.run_all.new.made.writer (g.V.View.asked c.run_all.new.view) c.run_all.new.made.reads) c.run_all.new.made.pending {U = Unit {0}} (Ok tt) in
+      let e : c.push.new.self ≡ c.args.made.now.scope ++ new_binding c.args.name.now.text c.args.value ∷ [] =
+      c.in_ok-push.ensures.ok ∙ ap (λ (n : List ℕ). c.args.made.now.scope ++ new_binding n c.args.value ∷ [])
+      c.in_ok-name.ensures in
+      let P : List Binding → Type 0 =
+      λ env. ComposesBeside c.args.level.now.owed.now.objects o.old c.args.level.now.depth o.seen
+      (body_forest m c.args.level.now.functions.now (stmts_view c.args.body.now) env)
+      (state_of c.args.made.now.writer (g.V.View.asked c.args.view.now) c.args.made.now.reads)
+      (state_of c.run_all.new.made.writer (g.V.View.asked c.run_all.new.view) c.run_all.new.made.reads)
+      c.run_all.new.made.pending {U = Unit {0}} (Ok tt) in
       subst P e (c.in_ok-run_all.ensures.ran m o h b calc);
 }
 
@@ -482,12 +560,19 @@ run_let-returns g t c = record {
   same_scope = search rules;
   longer = search rules;
   fits = search rules;
-  counted = λ m h. counted_after _ _ _ _ _ _ _ _ _ _ (c.in_ok-value.ensures.asks m h) (c.in_ok-value.ensures.reads m h) (c.run_bound.ensures.counted m (c.eval_noting.ensures.same m h));
+  counted = λ m h. counted_after _ _ _ _ _ _ _ _ _ _ (c.in_ok-value.ensures.asks m h) (c.in_ok-value.ensures.reads m h)
+      (c.run_bound.ensures.counted m (c.eval_noting.ensures.same m h));
   ran = λ m o h b calc.
-      let P : Value → Type 0 = λ v. ComposesBeside c.args.level.now.owed.now.objects o.old c.args.level.now.depth o.seen (body_forest m c.args.level.now.functions.now (stmts_view c.args.body.now) (c.args.made.now.scope ++ new_binding c.args.name.now.text v ∷ [])) (state_of c.args.made.now.writer (g.V.View.asked c.eval_noting.new.view) c.eval_noting.new.reads)
-      (state_of c.run_bound.new.made.writer (g.V.View.asked c.run_bound.new.view) c.run_bound.new.made.reads) c.run_bound.new.made.pending c.run_bound.result in
-      let inner = subst P (c.in_ok-value.ensures.value m h) (c.run_bound.ensures.ran m o (c.eval_noting.ensures.same m h) b calc) in
-      beside_after _ _ (state_of c.args.made.now.writer (g.V.View.asked c.eval_noting.new.view) c.eval_noting.new.reads) (same_state refl refl refl refl (c.in_ok-value.ensures.asks m h) (c.in_ok-value.ensures.reads m h)) (inner);
+      let P : Value → Type 0 = λ v. ComposesBeside c.args.level.now.owed.now.objects o.old c.args.level.now.depth o.seen
+      (body_forest m c.args.level.now.functions.now (stmts_view c.args.body.now)
+      (c.args.made.now.scope ++ new_binding c.args.name.now.text v ∷ []))
+      (state_of c.args.made.now.writer (g.V.View.asked c.eval_noting.new.view) c.eval_noting.new.reads)
+      (state_of c.run_bound.new.made.writer (g.V.View.asked c.run_bound.new.view) c.run_bound.new.made.reads)
+      c.run_bound.new.made.pending c.run_bound.result in
+      let inner = subst P (c.in_ok-value.ensures.value m h)
+      (c.run_bound.ensures.ran m o (c.eval_noting.ensures.same m h) b calc) in
+      beside_after _ _ (state_of c.args.made.now.writer (g.V.View.asked c.eval_noting.new.view) c.eval_noting.new.reads)
+      (same_state refl refl refl refl (c.in_ok-value.ensures.asks m h) (c.in_ok-value.ensures.reads m h)) (inner);
 }
 
 -- A loop.
@@ -513,12 +598,19 @@ run_for-returns g t c = record {
   same_scope = search rules;
   longer = search rules;
   fits = search rules;
-  counted = λ m h. counted_after _ _ _ _ _ _ _ _ _ _ (c.in_ok-list.ensures.asks m h) (c.in_ok-list.ensures.reads m h) (c.run_turns.ensures.counted m (c.eval_noting.ensures.same m h));
+  counted = λ m h. counted_after _ _ _ _ _ _ _ _ _ _ (c.in_ok-list.ensures.asks m h) (c.in_ok-list.ensures.reads m h)
+      (c.run_turns.ensures.counted m (c.eval_noting.ensures.same m h));
   ran = λ m o h b calc.
-      let P : List ℤ → Type 0 = λ is. ComposesBeside c.args.level.now.owed.now.objects o.old c.args.level.now.depth o.seen (loop_forest m c.args.level.now.functions.now c.args.name.now.text (stmts_view c.args.body.now) c.args.made.now.scope is) (state_of c.args.made.now.writer (g.V.View.asked c.eval_noting.new.view) c.eval_noting.new.reads)
-      (state_of c.run_turns.new.made.writer (g.V.View.asked c.run_turns.new.view) c.run_turns.new.made.reads) c.run_turns.new.made.pending c.run_turns.result in
-      let inner = subst P (c.items.ensures ∙ ap items_of (c.in_ok-list.ensures.value m h)) (c.run_turns.ensures.ran m o (c.eval_noting.ensures.same m h) b calc) in
-      beside_after _ _ (state_of c.args.made.now.writer (g.V.View.asked c.eval_noting.new.view) c.eval_noting.new.reads) (same_state refl refl refl refl (c.in_ok-list.ensures.asks m h) (c.in_ok-list.ensures.reads m h)) (inner);
+      let P : List ℤ → Type 0 = λ is. ComposesBeside c.args.level.now.owed.now.objects o.old c.args.level.now.depth
+      o.seen (loop_forest m c.args.level.now.functions.now c.args.name.now.text (stmts_view c.args.body.now)
+      c.args.made.now.scope is) (state_of c.args.made.now.writer (g.V.View.asked c.eval_noting.new.view)
+      c.eval_noting.new.reads)
+      (state_of c.run_turns.new.made.writer (g.V.View.asked c.run_turns.new.view) c.run_turns.new.made.reads)
+      c.run_turns.new.made.pending c.run_turns.result in
+      let inner = subst P (c.items.ensures ∙ ap items_of (c.in_ok-list.ensures.value m h))
+      (c.run_turns.ensures.ran m o (c.eval_noting.ensures.same m h) b calc) in
+      beside_after _ _ (state_of c.args.made.now.writer (g.V.View.asked c.eval_noting.new.view) c.eval_noting.new.reads)
+      (same_state refl refl refl refl (c.in_ok-list.ensures.asks m h) (c.in_ok-list.ensures.reads m h)) (inner);
 }
 
 pub run_turns-loop-item-init : goal.run_turns-loop-item-init
@@ -541,8 +633,10 @@ run_turns-returns g t c = record {
   fits = search rules;
   counted = λ m h. c.loop-item.invariant.counted m h;
   ran = λ m o h b calc.
-      let go : ℤ → GroupForest = λ i. body_forest m c.args.level.now.functions.now (stmts_view c.args.body.now) (c.args.made.now.scope ++ new_binding c.args.name.now.text (value.Int i) ∷ []) in
-      going_done (turns_end go c.args.items.now c.loop-item.item-index (omega arith)) (c.loop-item.invariant.going m o h b calc);
+      let go : ℤ → GroupForest = λ i. body_forest m c.args.level.now.functions.now (stmts_view c.args.body.now)
+      (c.args.made.now.scope ++ new_binding c.args.name.now.text (value.Int i) ∷ []) in
+      going_done (turns_end go c.args.items.now c.loop-item.item-index (omega arith))
+      (c.loop-item.invariant.going m o h b calc);
 }
 
 pub run_turns-returns-in_err-run_bound : goal.run_turns-returns-in_err-run_bound
@@ -557,11 +651,21 @@ run_turns-returns-in_err-run_bound g t c = record {
       let fits : to_z w64 (of_z w64 (get_or c.args.items.now c.loop-item.item-index (pos 0))) ≡ get_or c.args.items.now c.loop-item.item-index (pos 0) = search rules in
       let e : c.from_residual.result ≡ Err c.in_err-run_bound.field-0.0 = search rules in
       let k = c.loop-item.invariant.going m o h b calc in
-      let P : List Binding → ℤ → Type 0 = λ env i. ComposesBeside c.args.level.now.owed.now.objects o.old c.args.level.now.depth k.now (body_forest m c.args.level.now.functions.now (stmts_view c.args.body.now) (env ++ new_binding c.args.name.now.text (value.Int i) ∷ [])) (state_of c.loop-item.made.writer (g.V.View.asked c.loop-item.view) c.loop-item.made.reads)
-      (state_of c.run_bound.new.made.writer (g.V.View.asked c.run_bound.new.view) c.run_bound.new.made.reads) c.run_bound.new.made.pending {U = Unit {0}} (Err c.in_err-run_bound.field-0.0) in
-      let ran = subst (P c.args.made.now.scope) fits (subst (λ (env : List Binding). P env (to_z w64 (of_z w64 (get_or c.args.items.now c.loop-item.item-index (pos 0))))) c.loop-item.invariant.same_scope
-      (c.in_err-run_bound.ensures.ran m (at_now o k.now) (c.loop-item.invariant.same m h) (beside_now k.now b k.fits) calc)) in
-      let go : ℤ → GroupForest = λ i. body_forest m c.args.level.now.functions.now (stmts_view c.args.body.now) (c.args.made.now.scope ++ new_binding c.args.name.now.text (value.Int i) ∷ []) in
+      let P : List Binding → ℤ → Type 0 = λ env i. ComposesBeside c.args.level.now.owed.now.objects o.old
+      c.args.level.now.depth k.now
+      (body_forest m c.args.level.now.functions.now (stmts_view c.args.body.now)
+      (env ++ new_binding c.args.name.now.text (value.Int i) ∷ []))
+      (state_of c.loop-item.made.writer (g.V.View.asked c.loop-item.view) c.loop-item.made.reads)
+      (state_of c.run_bound.new.made.writer (g.V.View.asked c.run_bound.new.view) c.run_bound.new.made.reads)
+      c.run_bound.new.made.pending {U = Unit {0}} (Err c.in_err-run_bound.field-0.0) in
+      let ran = subst (P c.args.made.now.scope) fits
+      (subst (λ (env : List Binding). P env
+      (to_z w64 (of_z w64 (get_or c.args.items.now c.loop-item.item-index (pos 0)))))
+      c.loop-item.invariant.same_scope
+      (c.in_err-run_bound.ensures.ran m (at_now o k.now) (c.loop-item.invariant.same m h) (beside_now k.now b k.fits)
+      calc)) in
+      let go : ℤ → GroupForest = λ i. body_forest m c.args.level.now.functions.now (stmts_view c.args.body.now)
+      (c.args.made.now.scope ++ new_binding c.args.name.now.text (value.Int i) ∷ []) in
       going_stop _ _ (turns_at go c.args.items.now c.loop-item.item-index (omega arith)) k ran e;
 }
 
@@ -572,15 +676,26 @@ run_turns-loop-item-preserved g t c = record {
   same_scope = c.in_ok-run_bound.ensures.same_scope ∙ c.loop-item.invariant.same_scope;
   longer = omega (arith, c.loop-item.invariant.longer, c.in_ok-run_bound.ensures.longer);
   fits = c.in_ok-run_bound.ensures.fits;
-  counted = λ m h. let e = c.loop-item.invariant.counted m h in let f = c.in_ok-run_bound.ensures.counted m (c.loop-item.invariant.same m h) in omega (arith, e, f);
+  counted = λ m h. let e = c.loop-item.invariant.counted m h in
+      let f = c.in_ok-run_bound.ensures.counted m (c.loop-item.invariant.same m h) in omega (arith, e, f);
   going = λ m o h b calc.
       let fits : to_z w64 (of_z w64 (get_or c.args.items.now c.loop-item.item-index (pos 0))) ≡ get_or c.args.items.now c.loop-item.item-index (pos 0) = search rules in
       let k = c.loop-item.invariant.going m o h b calc in
-      let P : List Binding → ℤ → Type 0 = λ env i. ComposesBeside c.args.level.now.owed.now.objects o.old c.args.level.now.depth k.now (body_forest m c.args.level.now.functions.now (stmts_view c.args.body.now) (env ++ new_binding c.args.name.now.text (value.Int i) ∷ [])) (state_of c.loop-item.made.writer (g.V.View.asked c.loop-item.view) c.loop-item.made.reads)
-      (state_of c.run_bound.new.made.writer (g.V.View.asked c.run_bound.new.view) c.run_bound.new.made.reads) c.run_bound.new.made.pending {U = Unit {0}} (Ok tt) in
-      let ran = subst (P c.args.made.now.scope) fits (subst (λ (env : List Binding). P env (to_z w64 (of_z w64 (get_or c.args.items.now c.loop-item.item-index (pos 0))))) c.loop-item.invariant.same_scope
-      (c.in_ok-run_bound.ensures.ran m (at_now o k.now) (c.loop-item.invariant.same m h) (beside_now k.now b k.fits) calc)) in
-      let go : ℤ → GroupForest = λ i. body_forest m c.args.level.now.functions.now (stmts_view c.args.body.now) (c.args.made.now.scope ++ new_binding c.args.name.now.text (value.Int i) ∷ []) in
+      let P : List Binding → ℤ → Type 0 = λ env i. ComposesBeside c.args.level.now.owed.now.objects o.old
+      c.args.level.now.depth k.now
+      (body_forest m c.args.level.now.functions.now (stmts_view c.args.body.now)
+      (env ++ new_binding c.args.name.now.text (value.Int i) ∷ []))
+      (state_of c.loop-item.made.writer (g.V.View.asked c.loop-item.view) c.loop-item.made.reads)
+      (state_of c.run_bound.new.made.writer (g.V.View.asked c.run_bound.new.view) c.run_bound.new.made.reads)
+      c.run_bound.new.made.pending {U = Unit {0}} (Ok tt) in
+      let ran = subst (P c.args.made.now.scope) fits
+      (subst (λ (env : List Binding). P env
+      (to_z w64 (of_z w64 (get_or c.args.items.now c.loop-item.item-index (pos 0)))))
+      c.loop-item.invariant.same_scope
+      (c.in_ok-run_bound.ensures.ran m (at_now o k.now) (c.loop-item.invariant.same m h) (beside_now k.now b k.fits)
+      calc)) in
+      let go : ℤ → GroupForest = λ i. body_forest m c.args.level.now.functions.now (stmts_view c.args.body.now)
+      (c.args.made.now.scope ++ new_binding c.args.name.now.text (value.Int i) ∷ []) in
       going_more (turns_at go c.args.items.now c.loop-item.item-index (omega arith)) k ran;
 }
 
@@ -610,7 +725,9 @@ run_remember-returns-in_err-found g t c = record {
   counted = λ m h. search rules;
   ran = λ m o h b calc.
       let e : c.from_residual-in_err-found.result ≡ Err NoMemory = search rules in
-      beside_after _ _ (state_of c.args.made.now.writer (g.V.View.asked c.evaluate_keys.new.view) c.evaluate_keys.new.reads) (same_state refl refl refl refl (c.in_ok-env.ensures.asks m h) (c.in_ok-env.ensures.reads m h)) (beside_stop_here _ e refl);
+      beside_after _ _ (state_of c.args.made.now.writer (g.V.View.asked c.evaluate_keys.new.view)
+      c.evaluate_keys.new.reads) (same_state refl refl refl refl (c.in_ok-env.ensures.asks m h)
+      (c.in_ok-env.ensures.reads m h)) (beside_stop_here _ e refl);
 }
 
 pub run_remember-returns-in_err-value : goal.run_remember-returns-in_err-value
@@ -624,8 +741,12 @@ run_remember-returns-in_err-value g t c = record {
   ran = λ m o h b calc.
       let ev = ap (λ (k : List Binding). eval m (expr_view c.args.cell.value.now) k) (c.in_ok-env.ensures.value m h) in
       let e : c.from_residual-in_err-value.result ≡ Err NoMemory = search rules in
-      let p = subst (λ (r : Reading Value). Grew (g.V.View.asked c.evaluate_keys.new.view) (g.V.View.asked c.remember.new.view) r.reads) ev (c.in_err-value.ensures.part m (c.in_ok-env.ensures.same m h)) in
-      beside_after _ _ (state_of c.args.made.now.writer (g.V.View.asked c.evaluate_keys.new.view) c.evaluate_keys.new.reads) (same_state refl refl refl refl (c.in_ok-env.ensures.asks m h) (c.in_ok-env.ensures.reads m h)) (beside_stop_after _ _ _ e p.rest p.is);
+      let p = subst (λ (r : Reading Value). Grew (g.V.View.asked c.evaluate_keys.new.view)
+      (g.V.View.asked c.remember.new.view) r.reads) ev
+      (c.in_err-value.ensures.part m (c.in_ok-env.ensures.same m h)) in
+      beside_after _ _ (state_of c.args.made.now.writer (g.V.View.asked c.evaluate_keys.new.view)
+      c.evaluate_keys.new.reads) (same_state refl refl refl refl (c.in_ok-env.ensures.asks m h)
+      (c.in_ok-env.ensures.reads m h)) (beside_stop_after _ _ _ e p.rest p.is);
 }
 
 pub run_remember-returns-in_err-enter_cell : goal.run_remember-returns-in_err-enter_cell
@@ -641,12 +762,19 @@ run_remember-returns-in_err-enter_cell g t c = record {
       let ev = ap (λ (k : List Binding). eval m (expr_view c.args.cell.value.now) k) (c.in_ok-env.ensures.value m h) in
       let there = c.in_ok-env.ensures.same m h in
       let none = (calc.0 m c.args.made.now.scope).1 in
-      let quiet : (eval m (expr_view c.args.cell.value.now) c.in_ok-env.env).reads ≡ [] = ap (λ (r : Reading Value). r.reads) ev ∙ none in
+      let quiet : (eval m (expr_view c.args.cell.value.now) c.in_ok-env.env).reads ≡ [] =
+      ap (λ (r : Reading Value). r.reads) ev ∙ none in
       let asks : g.V.View.asked c.remember.new.view ≡ g.V.View.asked c.evaluate_keys.new.view ++ (eval m (expr_view c.args.cell.value.now) env).reads =
-      c.in_ok-value.ensures.asks m there quiet ∙ sym (append-nil (g.V.View.asked c.evaluate_keys.new.view)) ∙ ap (λ l. g.V.View.asked c.evaluate_keys.new.view ++ l) (sym none) in
+      c.in_ok-value.ensures.asks m there quiet ∙ sym (append-nil (g.V.View.asked c.evaluate_keys.new.view))
+      ∙ ap (λ l. g.V.View.asked c.evaluate_keys.new.view ++ l) (sym none) in
       let reads : c.remember.new.reads ≡ c.evaluate_keys.new.reads ++ (eval m (expr_view c.args.cell.value.now) env).reads =
-      c.in_ok-value.ensures.reads m there quiet ∙ sym (append-nil c.evaluate_keys.new.reads) ∙ ap (λ l. c.evaluate_keys.new.reads ++ l) (sym none) in
-      beside_after _ _ (state_of c.args.made.now.writer (g.V.View.asked c.evaluate_keys.new.view) c.evaluate_keys.new.reads) (same_state refl refl refl refl (c.in_ok-env.ensures.asks m h) (c.in_ok-env.ensures.reads m h)) (beside_after _ _ (state_of c.args.made.now.writer (g.V.View.asked c.remember.new.view) c.remember.new.reads) (same_state refl refl refl refl asks reads) (beside_full _ (search rules) (search rules) refl));
+      c.in_ok-value.ensures.reads m there quiet ∙ sym (append-nil c.evaluate_keys.new.reads)
+      ∙ ap (λ l. c.evaluate_keys.new.reads ++ l) (sym none) in
+      beside_after _ _ (state_of c.args.made.now.writer (g.V.View.asked c.evaluate_keys.new.view)
+      c.evaluate_keys.new.reads) (same_state refl refl refl refl (c.in_ok-env.ensures.asks m h)
+      (c.in_ok-env.ensures.reads m h))
+      (beside_after _ _ (state_of c.args.made.now.writer (g.V.View.asked c.remember.new.view) c.remember.new.reads)
+      (same_state refl refl refl refl asks reads) (beside_full _ (search rules) (search rules) refl));
 }
 
 pub run_remember-returns : goal.run_remember-returns
@@ -654,37 +782,63 @@ run_remember-returns g t c = record {
   keeps = search (rules, g.met.V.View.keeps_on, g.met.V.View.keeps_itself);
   same = search rules;
   same_scope = search rules;
-  longer = longer_on _ _ _ _ (entered_longer _ _ (what.Cell (map (λ (k : Binding). k.value) c.in_ok-env.env) c.in_ok-value.value) c.in_ok-found.found c.args.made.now.writer _ c.in_ok-enter_cell.ensures.entered) c.run_bound.ensures.longer;
+  longer = longer_on _ _ _ _ (entered_longer _ _
+      (what.Cell (map (λ (k : Binding). k.value) c.in_ok-env.env) c.in_ok-value.value) c.in_ok-found.found
+      c.args.made.now.writer _ c.in_ok-enter_cell.ensures.entered) c.run_bound.ensures.longer;
   fits = search rules;
-  counted = λ m h. counted_cell _ _ _ _ _ _ _ _ _ _ _ _ _ (c.in_ok-env.ensures.asks m h) (c.in_ok-env.ensures.reads m h) (c.in_ok-value.ensures.counted m (c.in_ok-env.ensures.same m h)) (ap (λ (q : WrittenGroups). q.reads) c.in_ok-enter_cell.ensures.entered) (c.run_bound.ensures.counted m (c.in_ok-value.ensures.same m (c.in_ok-env.ensures.same m h)));
+  counted = λ m h. counted_cell _ _ _ _ _ _ _ _ _ _ _ _ _ (c.in_ok-env.ensures.asks m h) (c.in_ok-env.ensures.reads m h)
+      (c.in_ok-value.ensures.counted m (c.in_ok-env.ensures.same m h))
+      (ap (λ (q : WrittenGroups). q.reads) c.in_ok-enter_cell.ensures.entered)
+      (c.run_bound.ensures.counted m (c.in_ok-value.ensures.same m (c.in_ok-env.ensures.same m h)));
   ran = λ m o h b calc.
       let env = (eval_named m (nameds_view c.args.cell.keys.now) c.args.made.now.scope).value in
       let ev = ap (λ (k : List Binding). eval m (expr_view c.args.cell.value.now) k) (c.in_ok-env.ensures.value m h) in
       let there = c.in_ok-env.ensures.same m h in
       let none = (calc.0 m c.args.made.now.scope).1 in
-      let quiet : (eval m (expr_view c.args.cell.value.now) c.in_ok-env.env).reads ≡ [] = ap (λ (r : Reading Value). r.reads) ev ∙ none in
+      let quiet : (eval m (expr_view c.args.cell.value.now) c.in_ok-env.env).reads ≡ [] =
+      ap (λ (r : Reading Value). r.reads) ev ∙ none in
       let asks : g.V.View.asked c.remember.new.view ≡ g.V.View.asked c.evaluate_keys.new.view ++ (eval m (expr_view c.args.cell.value.now) env).reads =
-      c.in_ok-value.ensures.asks m there quiet ∙ sym (append-nil (g.V.View.asked c.evaluate_keys.new.view)) ∙ ap (λ l. g.V.View.asked c.evaluate_keys.new.view ++ l) (sym none) in
+      c.in_ok-value.ensures.asks m there quiet ∙ sym (append-nil (g.V.View.asked c.evaluate_keys.new.view))
+      ∙ ap (λ l. g.V.View.asked c.evaluate_keys.new.view ++ l) (sym none) in
       let reads : c.remember.new.reads ≡ c.evaluate_keys.new.reads ++ (eval m (expr_view c.args.cell.value.now) env).reads =
-      c.in_ok-value.ensures.reads m there quiet ∙ sym (append-nil c.evaluate_keys.new.reads) ∙ ap (λ l. c.evaluate_keys.new.reads ++ l) (sym none) in
+      c.in_ok-value.ensures.reads m there quiet ∙ sym (append-nil c.evaluate_keys.new.reads)
+      ∙ ap (λ l. c.evaluate_keys.new.reads ++ l) (sym none) in
       let ks = map (λ (k : Binding). k.value) env in
       let v = (eval m (expr_view c.args.cell.value.now) env).value in
       let w = Cell ks v in
       let x = sibling c.args.cell.site w in
       let keys = map (λ (k : Binding). k.value) c.in_ok-env.env in
       let keys_are : keys ≡ ks = ap (λ (k : List Binding). map (λ b. b.value) k) (c.in_ok-env.ensures.value m h) in
-      let k = matched {left = c.take.new.self} x c.new.result c.new.ensures b c.in_ok-found.ensures.found c.in_ok-found.ensures.left in
+      let k = matched {left = c.take.new.self} x c.new.result c.new.ensures b c.in_ok-found.ensures.found
+      c.in_ok-found.ensures.left in
       let old = matching_sibling x (occurrence x o.seen) o.old in
       let value : c.in_ok-value.value ≡ v = c.in_ok-value.ensures.value m v there
-      (λ u e. kept_is_calculated o.last.calculation c.args.level.now.depth c.args.cell.site ks c.in_ok-found.found old u k.like k.there.cells (ap (λ (l : List Binding). kept_of c.in_ok-found.found (map (λ b. b.value) l)) (sym (c.in_ok-env.ensures.value m h)) ∙ e) ∙ sym (calc.0 m c.args.made.now.scope).0)
+      (λ u e. kept_is_calculated o.last.calculation c.args.level.now.depth c.args.cell.site ks c.in_ok-found.found old u
+      k.like k.there.cells (ap (λ (l : List Binding). kept_of c.in_ok-found.found (map (λ b. b.value) l))
+      (sym (c.in_ok-env.ensures.value m h)) ∙ e) ∙ sym (calc.0 m c.args.made.now.scope).0)
       (ap (λ (r : Reading Value). r.value) ev) in
-      let made : what.Cell keys c.in_ok-value.value ≡ flat_kind w = ap (λ (l : List Value). what.Cell l c.in_ok-value.value) keys_are ∙ ap (λ (y : Value). what.Cell ks y) value in
-      let state = matched_state c.args.level.now.depth c.args.cell.site w (what.Cell keys c.in_ok-value.value) End c.in_ok-found.found old c.args.made.now.writer c.enter_cell.new.self (g.V.View.asked c.remember.new.view) c.remember.new.reads refl k.like made c.in_ok-enter_cell.ensures.entered in
+      let made : what.Cell keys c.in_ok-value.value ≡ flat_kind w =
+      ap (λ (l : List Value). what.Cell l c.in_ok-value.value) keys_are
+      ∙ ap (λ (y : Value). what.Cell ks y) value in
+      let state = matched_state c.args.level.now.depth c.args.cell.site w (what.Cell keys c.in_ok-value.value) End
+      c.in_ok-found.found old c.args.made.now.writer c.enter_cell.new.self (g.V.View.asked c.remember.new.view)
+      c.remember.new.reads refl k.like made c.in_ok-enter_cell.ensures.entered in
       let now = x ∷ o.seen in
-      let P : Value → Type 0 = λ y. ComposesBeside c.args.level.now.owed.now.objects o.old c.args.level.now.depth now (body_forest m c.args.level.now.functions.now (stmts_view c.args.body.now) (c.args.made.now.scope ++ new_binding c.args.name.now.text y ∷ [])) (state_of c.enter_cell.new.self (g.V.View.asked c.remember.new.view) c.remember.new.reads)
-      (state_of c.run_bound.new.made.writer (g.V.View.asked c.run_bound.new.view) c.run_bound.new.made.reads) c.run_bound.new.made.pending c.run_bound.result in
-      let inner = subst P value (c.run_bound.ensures.ran m (at_now o now) (c.in_ok-value.ensures.same m there) (beside_now now b k.fits) calc.1) in
-      beside_after _ _ (state_of c.args.made.now.writer (g.V.View.asked c.evaluate_keys.new.view) c.evaluate_keys.new.reads) (same_state refl refl refl refl (c.in_ok-env.ensures.asks m h) (c.in_ok-env.ensures.reads m h)) (beside_after _ _ (state_of c.args.made.now.writer (g.V.View.asked c.remember.new.view) c.remember.new.reads) (same_state refl refl refl refl asks reads) (beside_cell (state_of c.enter_cell.new.self (g.V.View.asked c.remember.new.view) c.remember.new.reads) state inner));
+      let P : Value → Type 0 = λ y. ComposesBeside c.args.level.now.owed.now.objects o.old c.args.level.now.depth now
+      (body_forest m c.args.level.now.functions.now (stmts_view c.args.body.now)
+      (c.args.made.now.scope ++ new_binding c.args.name.now.text y ∷ []))
+      (state_of c.enter_cell.new.self (g.V.View.asked c.remember.new.view) c.remember.new.reads)
+      (state_of c.run_bound.new.made.writer (g.V.View.asked c.run_bound.new.view) c.run_bound.new.made.reads)
+      c.run_bound.new.made.pending c.run_bound.result in
+      let inner = subst P value (c.run_bound.ensures.ran m (at_now o now) (c.in_ok-value.ensures.same m there)
+      (beside_now now b k.fits) calc.1) in
+      beside_after _ _ (state_of c.args.made.now.writer (g.V.View.asked c.evaluate_keys.new.view)
+      c.evaluate_keys.new.reads) (same_state refl refl refl refl (c.in_ok-env.ensures.asks m h)
+      (c.in_ok-env.ensures.reads m h)) (beside_after _ _
+      (state_of c.args.made.now.writer (g.V.View.asked c.remember.new.view) c.remember.new.reads)
+      (same_state refl refl refl refl asks reads)
+      (beside_cell (state_of c.enter_cell.new.self (g.V.View.asked c.remember.new.view) c.remember.new.reads) state
+      inner));
 }
 
 -- A call.
@@ -710,12 +864,19 @@ run_arguments-returns g t c = record {
   same_scope = search rules;
   longer = search rules;
   fits = search rules;
-  counted = λ m h. counted_after _ _ _ _ _ _ _ _ _ _ (c.in_ok-arguments.ensures.asks m h) (c.in_ok-arguments.ensures.reads m h) (c.run_call.ensures.counted m (c.evaluate_all.ensures.same m h));
+  counted = λ m h. counted_after _ _ _ _ _ _ _ _ _ _ (c.in_ok-arguments.ensures.asks m h)
+      (c.in_ok-arguments.ensures.reads m h) (c.run_call.ensures.counted m (c.evaluate_all.ensures.same m h));
   ran = λ m o h b calc.
-      let P : List Value → Type 0 = λ vs. ComposesBeside c.args.level.now.owed.now.objects o.old c.args.level.now.depth o.seen (call_forest m c.args.level.now.functions.now c.args.site c.args.function vs) (state_of c.args.made.now.writer (g.V.View.asked c.evaluate_all.new.view) c.evaluate_all.new.reads)
-      (state_of c.run_call.new.made.writer (g.V.View.asked c.run_call.new.view) c.run_call.new.made.reads) c.run_call.new.made.pending c.run_call.result in
-      let inner = subst P (c.in_ok-arguments.ensures.value m h) (c.run_call.ensures.ran m o (c.evaluate_all.ensures.same m h) b tt) in
-      beside_after _ _ (state_of c.args.made.now.writer (g.V.View.asked c.evaluate_all.new.view) c.evaluate_all.new.reads) (same_state refl refl refl refl (c.in_ok-arguments.ensures.asks m h) (c.in_ok-arguments.ensures.reads m h)) (inner);
+      let P : List Value → Type 0 = λ vs. ComposesBeside c.args.level.now.owed.now.objects o.old c.args.level.now.depth
+      o.seen (call_forest m c.args.level.now.functions.now c.args.site c.args.function vs)
+      (state_of c.args.made.now.writer (g.V.View.asked c.evaluate_all.new.view) c.evaluate_all.new.reads)
+      (state_of c.run_call.new.made.writer (g.V.View.asked c.run_call.new.view) c.run_call.new.made.reads)
+      c.run_call.new.made.pending c.run_call.result in
+      let inner = subst P (c.in_ok-arguments.ensures.value m h)
+      (c.run_call.ensures.ran m o (c.evaluate_all.ensures.same m h) b tt) in
+      beside_after _ _ (state_of c.args.made.now.writer (g.V.View.asked c.evaluate_all.new.view)
+      c.evaluate_all.new.reads) (same_state refl refl refl refl (c.in_ok-arguments.ensures.asks m h)
+      (c.in_ok-arguments.ensures.reads m h)) (inner);
 }
 
 pub run_call-returns-in_err-found : goal.run_call-returns-in_err-found
@@ -742,10 +903,15 @@ run_call-returns-then-call_is_run g t c = record {
   ran = λ m o h b calc.
       let call = Call c.args.function c.args.arguments in
       let x = sibling c.args.site call in
-      let k = matched {left = c.take.new.self} x c.new.result c.new.ensures b c.in_ok-found.ensures.found c.in_ok-found.ensures.left in
+      let k = matched {left = c.take.new.self} x c.new.result c.new.ensures b c.in_ok-found.ensures.found
+      c.in_ok-found.ensures.left in
       let there = matching_sibling x (occurrence x o.seen) o.old in
       let runs : true ≡ runs_after c.args.level.now.owed.now.objects there call =
-      sym c.if-call_is_run.true ∙ c.call_is_run.ensures ∙ ap (λ (vs : List Value). call_runs c.args.level.now.owed.now.objects c.in_ok-found.found (what.Call c.args.function vs)) c.items.ensures ∙ call_runs_kept c.args.level.now.owed.now.objects c.args.level.now.depth c.in_ok-found.found there call k.like in
+      sym c.if-call_is_run.true ∙ c.call_is_run.ensures
+      ∙ ap (λ (vs : List Value). call_runs c.args.level.now.owed.now.objects c.in_ok-found.found
+      (what.Call c.args.function vs)) c.items.ensures
+      ∙ call_runs_kept c.args.level.now.owed.now.objects c.args.level.now.depth c.in_ok-found.found there call
+      k.like in
       beside_run true runs k.fits (c.run_body.ensures.ran m h o.last there c.args.made.now.reads b.since k.part k.like);
 }
 
@@ -771,13 +937,22 @@ run_call-returns-then-function-level g t c = record {
   ran = λ m o h b calc.
       let call = Call c.args.function c.args.arguments in
       let x = sibling c.args.site call in
-      let k = matched {left = c.take.new.self} x c.new.result c.new.ensures b c.in_ok-found.ensures.found c.in_ok-found.ensures.left in
+      let k = matched {left = c.take.new.self} x c.new.result c.new.ensures b c.in_ok-found.ensures.found
+      c.in_ok-found.ensures.left in
       let there = matching_sibling x (occurrence x o.seen) o.old in
       let runs : false ≡ runs_after c.args.level.now.owed.now.objects there call =
-      sym c.if-call_is_run.false ∙ c.call_is_run.ensures ∙ ap (λ (vs : List Value). call_runs c.args.level.now.owed.now.objects c.in_ok-found.found (what.Call c.args.function vs)) c.items.ensures ∙ call_runs_kept c.args.level.now.owed.now.objects c.args.level.now.depth c.in_ok-found.found there call k.like in
+      sym c.if-call_is_run.false ∙ c.call_is_run.ensures
+      ∙ ap (λ (vs : List Value). call_runs c.args.level.now.owed.now.objects c.in_ok-found.found
+      (what.Call c.args.function vs)) c.items.ensures
+      ∙ call_runs_kept c.args.level.now.owed.now.objects c.args.level.now.depth c.in_ok-found.found there call
+      k.like in
       let none = body_none m c.args.level.now.functions.now c.args.function c.args.arguments (omega arith) in
       beside_run false runs k.fits (record {
-        all = call_alone c.args.level.now.owed.now.objects (inside_of there) there c.args.level.now.depth c.args.site c.args.function c.args.arguments false (meaning_at (meanings m (functions_view c.args.level.now.functions.now)) c.args.function c.args.arguments) c.args.made.now.writer c.enter_call.new.self (g.V.View.asked c.args.view.now) c.args.made.now.reads none c.in_ok-enter_call.ensures.added;
+        all = call_alone c.args.level.now.owed.now.objects (inside_of there) there c.args.level.now.depth c.args.site
+            c.args.function c.args.arguments false
+            (meaning_at (meanings m (functions_view c.args.level.now.functions.now)) c.args.function c.args.arguments)
+            c.args.made.now.writer c.enter_call.new.self (g.V.View.asked c.args.view.now) c.args.made.now.reads none
+            c.in_ok-enter_call.ensures.added;
         part = tt;
         many = λ y. cc;
       });
@@ -794,17 +969,28 @@ run_call-returns-in-Some g t c = record {
   ran = λ m o h b calc.
       let call = Call c.args.function c.args.arguments in
       let x = sibling c.args.site call in
-      let k = matched {left = c.take.new.self} x c.new.result c.new.ensures b c.in_ok-found.ensures.found c.in_ok-found.ensures.left in
+      let k = matched {left = c.take.new.self} x c.new.result c.new.ensures b c.in_ok-found.ensures.found
+      c.in_ok-found.ensures.left in
       let there = matching_sibling x (occurrence x o.seen) o.old in
       let runs : false ≡ runs_after c.args.level.now.owed.now.objects there call =
-      sym c.if-call_is_run.false ∙ c.call_is_run.ensures ∙ ap (λ (vs : List Value). call_runs c.args.level.now.owed.now.objects c.in_ok-found.found (what.Call c.args.function vs)) c.items.ensures ∙ call_runs_kept c.args.level.now.owed.now.objects c.args.level.now.depth c.in_ok-found.found there call k.like in
+      sym c.if-call_is_run.false ∙ c.call_is_run.ensures
+      ∙ ap (λ (vs : List Value). call_runs c.args.level.now.owed.now.objects c.in_ok-found.found
+      (what.Call c.args.function vs)) c.items.ensures
+      ∙ call_runs_kept c.args.level.now.owed.now.objects c.args.level.now.depth c.in_ok-found.found there call
+      k.like in
       let many = how_many_functions c.args.level.now.functions.now in
-      let s = skips c.args.level.now.owed.now.objects m (functions_view c.args.level.now.functions.now) o.last c.args.site c.args.function c.args.arguments there b.since (omega (arith, many)) k.there (sym runs) in
+      let s = skips c.args.level.now.owed.now.objects m (functions_view c.args.level.now.functions.now) o.last
+      c.args.site c.args.function c.args.arguments there b.since (omega (arith, many)) k.there (sym runs) in
       let some : c.in_ok-found.found ≡ Some c.in-Some.old = search rules in
       let like = subst (λ (y : Option KeyInfo). Alike c.args.level.now.depth y there) some k.like in
       let like_call = subst (λ (f : Option Found). Alike c.args.level.now.depth (Some c.in-Some.old) f) s.is like in
-      let r = c.skip_group.ensures.ran m h o.last s.call c.args.made.now.reads b.since (subst (λ (f : Option Found). IsOldPart o.last c.args.level.now.owed.now.objects m (inside_of f)) s.is k.part) like_call in
-      beside_run false runs k.fits (reached_at (skips_as c.args.level.now.owed.now.objects m (functions_view c.args.level.now.functions.now) o.last c.args.level.now.depth c.args.site c.args.function c.args.arguments there (state_of c.args.made.now.writer (g.V.View.asked c.args.view.now) c.args.made.now.reads) k.there s) r);
+      let r = c.skip_group.ensures.ran m h o.last s.call c.args.made.now.reads b.since
+      (subst (λ (f : Option Found). IsOldPart o.last c.args.level.now.owed.now.objects m (inside_of f)) s.is k.part)
+      like_call in
+      beside_run false runs k.fits (reached_at (skips_as c.args.level.now.owed.now.objects m
+      (functions_view c.args.level.now.functions.now) o.last c.args.level.now.depth c.args.site c.args.function
+      c.args.arguments there (state_of c.args.made.now.writer (g.V.View.asked c.args.view.now)
+      c.args.made.now.reads) k.there s) r);
 }
 
 -- A call that runs.
@@ -817,9 +1003,14 @@ run_body-returns-then-function-level g t c = record {
   fits = c.in_ok-enter_empty.ensures.fits;
   counted = λ m h. let e = ap (λ (q : WrittenGroups). q.reads) c.in_ok-enter_empty.ensures.added in omega (arith, e);
   ran = λ m h l there mine since part like.
-      let none = body_none m c.args.level.now.functions.now c.args.function (arguments_of c.args.arguments) (omega arith) in
+      let none = body_none m c.args.level.now.functions.now c.args.function (arguments_of c.args.arguments)
+      (omega arith) in
       record {
-        all = call_alone c.args.level.now.owed.now.objects (inside_of there) None c.args.level.now.depth c.args.site c.args.function (arguments_of c.args.arguments) true (meaning_at (meanings m (functions_view c.args.level.now.functions.now)) c.args.function (arguments_of c.args.arguments)) c.args.writer.now c.enter_empty.new.self (g.V.View.asked c.args.view.now) mine none c.in_ok-enter_empty.ensures.added;
+        all = call_alone c.args.level.now.owed.now.objects (inside_of there) None c.args.level.now.depth c.args.site
+            c.args.function (arguments_of c.args.arguments) true
+            (meaning_at (meanings m (functions_view c.args.level.now.functions.now)) c.args.function
+            (arguments_of c.args.arguments)) c.args.writer.now c.enter_empty.new.self
+            (g.V.View.asked c.args.view.now) mine none c.in_ok-enter_empty.ensures.added;
         part = tt;
         many = λ y. cc;
       };
@@ -833,9 +1024,16 @@ run_body-returns-in_err-enter_empty g t c = record {
   fits = search rules;
   counted = λ m h. search rules;
   ran = λ m h l there mine since part like.
-      let one = longer_ran c.args.level.now.owed.now.objects (inside_of there) c.args.level.now.depth c.args.site c.args.function (arguments_of c.args.arguments) (meaning_at (meanings m (functions_view c.args.level.now.functions.now)) c.args.function (arguments_of c.args.arguments)) (state_of c.args.writer.now (g.V.View.asked c.args.view.now) mine) in
-      reached_full _ (search rules) (λ e. let full : length c.args.writer.now.groups ≡ most_groups = search rules in omega (arith, one, full))
-      (part_ran c.args.level.now.owed.now.objects (inside_of there) c.args.level.now.depth c.args.site c.args.function (arguments_of c.args.arguments) (meaning_at (meanings m (functions_view c.args.level.now.functions.now)) c.args.function (arguments_of c.args.arguments)) (state_of c.args.writer.now (g.V.View.asked c.args.view.now) mine));
+      let one = longer_ran c.args.level.now.owed.now.objects (inside_of there) c.args.level.now.depth c.args.site
+      c.args.function (arguments_of c.args.arguments)
+      (meaning_at (meanings m (functions_view c.args.level.now.functions.now)) c.args.function
+      (arguments_of c.args.arguments)) (state_of c.args.writer.now (g.V.View.asked c.args.view.now) mine) in
+      reached_full _ (search rules)
+      (λ e. let full : length c.args.writer.now.groups ≡ most_groups = search rules in omega (arith, one, full))
+      (part_ran c.args.level.now.owed.now.objects (inside_of there) c.args.level.now.depth c.args.site c.args.function
+      (arguments_of c.args.arguments)
+      (meaning_at (meanings m (functions_view c.args.level.now.functions.now)) c.args.function
+      (arguments_of c.args.arguments)) (state_of c.args.writer.now (g.V.View.asked c.args.view.now) mine));
 }
 
 pub run_body-returns-in_err-enter_running : goal.run_body-returns-in_err-enter_running
@@ -846,9 +1044,16 @@ run_body-returns-in_err-enter_running g t c = record {
   fits = search rules;
   counted = λ m h. search rules;
   ran = λ m h l there mine since part like.
-      let one = longer_ran c.args.level.now.owed.now.objects (inside_of there) c.args.level.now.depth c.args.site c.args.function (arguments_of c.args.arguments) (meaning_at (meanings m (functions_view c.args.level.now.functions.now)) c.args.function (arguments_of c.args.arguments)) (state_of c.args.writer.now (g.V.View.asked c.args.view.now) mine) in
-      reached_full _ (search rules) (λ e. let full : length c.args.writer.now.groups ≡ most_groups = search rules in omega (arith, one, full))
-      (part_ran c.args.level.now.owed.now.objects (inside_of there) c.args.level.now.depth c.args.site c.args.function (arguments_of c.args.arguments) (meaning_at (meanings m (functions_view c.args.level.now.functions.now)) c.args.function (arguments_of c.args.arguments)) (state_of c.args.writer.now (g.V.View.asked c.args.view.now) mine));
+      let one = longer_ran c.args.level.now.owed.now.objects (inside_of there) c.args.level.now.depth c.args.site
+      c.args.function (arguments_of c.args.arguments)
+      (meaning_at (meanings m (functions_view c.args.level.now.functions.now)) c.args.function
+      (arguments_of c.args.arguments)) (state_of c.args.writer.now (g.V.View.asked c.args.view.now) mine) in
+      reached_full _ (search rules)
+      (λ e. let full : length c.args.writer.now.groups ≡ most_groups = search rules in omega (arith, one, full))
+      (part_ran c.args.level.now.owed.now.objects (inside_of there) c.args.level.now.depth c.args.site c.args.function
+      (arguments_of c.args.arguments)
+      (meaning_at (meanings m (functions_view c.args.level.now.functions.now)) c.args.function
+      (arguments_of c.args.arguments)) (state_of c.args.writer.now (g.V.View.asked c.args.view.now) mine));
 }
 
 pub run_body-returns-in_err-scope : goal.run_body-returns-in_err-scope
@@ -860,14 +1065,20 @@ run_body-returns-in_err-scope g t c = record {
   counted = λ m h. search rules;
   ran = λ m h l there mine since part like.
       let e : c.from_residual-in_err-scope.result ≡ Err NoMemory = search rules in
-      reached_stop _ e (part_ran c.args.level.now.owed.now.objects (inside_of there) c.args.level.now.depth c.args.site c.args.function (arguments_of c.args.arguments) (meaning_at (meanings m (functions_view c.args.level.now.functions.now)) c.args.function (arguments_of c.args.arguments)) (state_of c.args.writer.now (g.V.View.asked c.args.view.now) mine));
+      reached_stop _ e (part_ran c.args.level.now.owed.now.objects (inside_of there) c.args.level.now.depth c.args.site
+      c.args.function (arguments_of c.args.arguments)
+      (meaning_at (meanings m (functions_view c.args.level.now.functions.now)) c.args.function
+      (arguments_of c.args.arguments)) (state_of c.args.writer.now (g.V.View.asked c.args.view.now) mine));
 }
 
 pub run_body-run_all-requires : goal.run_body-run_all-requires
 run_body-run_all-requires g t c κs w =
-    let body : c.deref-2.result.now ≡ c.index-level-function.result.body.items = c.deref-2.ensures.value ∙ sym (ap (λ (q : Function). q.body.items) c.index-level-function.is) in
-    let h = falls_at c.args.level.now.functions.now c.args.function c.index-level-function.result c.deref-2.result.now (omega arith) c.index-level-function.is body in
-    let long = ap (λ (q : WrittenGroups). length q.groups) c.in_ok-enter_running.ensures.added ∙ length-append c.args.writer.now.groups _ in
+    let body : c.deref-2.result.now ≡ c.index-level-function.result.body.items = c.deref-2.ensures.value
+    ∙ sym (ap (λ (q : Function). q.body.items) c.index-level-function.is) in
+    let h = falls_at c.args.level.now.functions.now c.args.function c.index-level-function.result c.deref-2.result.now
+    (omega arith) c.index-level-function.is body in
+    let long = ap (λ (q : WrittenGroups). length q.groups) c.in_ok-enter_running.ensures.added
+    ∙ length-append c.args.writer.now.groups _ in
     search rules
 
 pub run_body-returns-in_err-run_all : goal.run_body-returns-in_err-run_all
@@ -879,18 +1090,36 @@ run_body-returns-in_err-run_all g t c = record {
   counted = λ m h. search rules;
   ran = λ m h l there mine since part like.
       let below : c.args.function < length c.args.level.now.functions.now = omega arith in
-      let slice : c.deref-2.result.now ≡ c.index-level-function.result.body.items = c.deref-2.ensures.value ∙ sym (ap (λ (q : Function). q.body.items) c.index-level-function.is) in
-      let names : c.deref.result.now ≡ c.index-level-function.result.parameters.items = c.deref.ensures.value ∙ sym (ap (λ (q : Function). q.parameters.items) c.index-level-function.is) in
-      let body = body_is m c.args.level.now.functions.now c.args.function (arguments_of c.args.arguments) c.index-level-function.result c.deref-2.result.now c.deref.result.now c.in_ok-scope.scope
-      below c.index-level-function.is slice names (c.in_ok-scope.ensures ∙ ap (λ (vs : List Value). bind c.deref.result.now vs) c.values.ensures) in
-      let calc = body_calculates c.args.level.now.functions.now c.args.function c.index-level-function.result c.deref-2.result.now since below c.index-level-function.is slice in
-      let fits = fits_inside c.args.level.now.depth c.inside_found-pending.result c.args.found.now there c.inside_found-pending.ensures like in
-      let r = c.in_err-run_all.ensures.ran m (record { last = l; old = inside_of there; seen = [] }) h (record { since = since_slice c.args.level.now.functions.now _ c.args.function refl since; part = part; fits = fits }) calc in
+      let slice : c.deref-2.result.now ≡ c.index-level-function.result.body.items = c.deref-2.ensures.value
+      ∙ sym (ap (λ (q : Function). q.body.items) c.index-level-function.is) in
+      let names : c.deref.result.now ≡ c.index-level-function.result.parameters.items = c.deref.ensures.value
+      ∙ sym (ap (λ (q : Function). q.parameters.items) c.index-level-function.is) in
+      let body = body_is m c.args.level.now.functions.now c.args.function (arguments_of c.args.arguments)
+      c.index-level-function.result c.deref-2.result.now c.deref.result.now c.in_ok-scope.scope
+      below c.index-level-function.is slice names
+      (c.in_ok-scope.ensures ∙ ap (λ (vs : List Value). bind c.deref.result.now vs) c.values.ensures) in
+      let calc = body_calculates c.args.level.now.functions.now c.args.function c.index-level-function.result
+      c.deref-2.result.now since below c.index-level-function.is slice in
+      let fits = fits_inside c.args.level.now.depth c.inside_found-pending.result c.args.found.now there
+      c.inside_found-pending.ensures like in
+      let r = c.in_err-run_all.ensures.ran m (record { last = l; old = inside_of there; seen = [] }) h
+      (record {
+        since = since_slice c.args.level.now.functions.now _ c.args.function refl since;
+        part = part;
+        fits = fits;
+      }) calc in
       let start : c.replace-taken.result ≡ c.enter_running.new.self = search rules in
-      let at = reached_at (ap (λ (tr : GroupForest). composed_beside c.args.level.now.owed.now.objects (inside_of there) (c.args.level.now.depth + 1) true [] tr (state_of c.replace-taken.result (g.V.View.asked c.args.view.now) c.new-reads.result)) (sym body)) r.reached in
+      let at = reached_at (ap (λ (tr : GroupForest). composed_beside c.args.level.now.owed.now.objects (inside_of there)
+      (c.args.level.now.depth + 1) true [] tr
+      (state_of c.replace-taken.result (g.V.View.asked c.args.view.now) c.new-reads.result)) (sym body))
+      r.reached in
       let entered_is = start ∙ c.in_ok-enter_running.ensures.added in
       let e : c.from_residual-in_err-run_all.result ≡ Err c.in_err-run_all.field-0.0 = search rules in
-      body_stop c.args.level.now.owed.now.objects (inside_of there) c.args.level.now.depth c.args.site c.args.function (arguments_of c.args.arguments) (meaning_at (meanings m (functions_view c.args.level.now.functions.now)) c.args.function (arguments_of c.args.arguments)) c.args.writer.now c.replace-taken.result c.run_all.new.made.writer (g.V.View.asked c.args.view.now) (g.V.View.asked c.run_all.new.view) mine c.run_all.new.made.reads c.new-reads.result (first_reads c.args.arguments c.args.found.now) _ _
+      body_stop c.args.level.now.owed.now.objects (inside_of there) c.args.level.now.depth c.args.site c.args.function
+      (arguments_of c.args.arguments) (meaning_at (meanings m (functions_view c.args.level.now.functions.now))
+      c.args.function (arguments_of c.args.arguments)) c.args.writer.now c.replace-taken.result
+      c.run_all.new.made.writer (g.V.View.asked c.args.view.now) (g.V.View.asked c.run_all.new.view) mine
+      c.run_all.new.made.reads c.new-reads.result (first_reads c.args.arguments c.args.found.now) _ _
       c.new-reads.ensures entered_is at e refl;
 }
 
@@ -903,42 +1132,88 @@ run_body-returns-in_err-end_call g t c = record {
   counted = λ m h. search rules;
   ran = λ m h l there mine since part like.
       let below : c.args.function < length c.args.level.now.functions.now = omega arith in
-      let slice : c.deref-2.result.now ≡ c.index-level-function.result.body.items = c.deref-2.ensures.value ∙ sym (ap (λ (q : Function). q.body.items) c.index-level-function.is) in
-      let names : c.deref.result.now ≡ c.index-level-function.result.parameters.items = c.deref.ensures.value ∙ sym (ap (λ (q : Function). q.parameters.items) c.index-level-function.is) in
-      let body = body_is m c.args.level.now.functions.now c.args.function (arguments_of c.args.arguments) c.index-level-function.result c.deref-2.result.now c.deref.result.now c.in_ok-scope.scope
-      below c.index-level-function.is slice names (c.in_ok-scope.ensures ∙ ap (λ (vs : List Value). bind c.deref.result.now vs) c.values.ensures) in
-      let calc = body_calculates c.args.level.now.functions.now c.args.function c.index-level-function.result c.deref-2.result.now since below c.index-level-function.is slice in
-      let fits = fits_inside c.args.level.now.depth c.inside_found-pending.result c.args.found.now there c.inside_found-pending.ensures like in
-      let r = c.in_ok-run_all.ensures.ran m (record { last = l; old = inside_of there; seen = [] }) h (record { since = since_slice c.args.level.now.functions.now _ c.args.function refl since; part = part; fits = fits }) calc in
+      let slice : c.deref-2.result.now ≡ c.index-level-function.result.body.items = c.deref-2.ensures.value
+      ∙ sym (ap (λ (q : Function). q.body.items) c.index-level-function.is) in
+      let names : c.deref.result.now ≡ c.index-level-function.result.parameters.items = c.deref.ensures.value
+      ∙ sym (ap (λ (q : Function). q.parameters.items) c.index-level-function.is) in
+      let body = body_is m c.args.level.now.functions.now c.args.function (arguments_of c.args.arguments)
+      c.index-level-function.result c.deref-2.result.now c.deref.result.now c.in_ok-scope.scope
+      below c.index-level-function.is slice names
+      (c.in_ok-scope.ensures ∙ ap (λ (vs : List Value). bind c.deref.result.now vs) c.values.ensures) in
+      let calc = body_calculates c.args.level.now.functions.now c.args.function c.index-level-function.result
+      c.deref-2.result.now since below c.index-level-function.is slice in
+      let fits = fits_inside c.args.level.now.depth c.inside_found-pending.result c.args.found.now there
+      c.inside_found-pending.ensures like in
+      let r = c.in_ok-run_all.ensures.ran m (record { last = l; old = inside_of there; seen = [] }) h
+      (record {
+        since = since_slice c.args.level.now.functions.now _ c.args.function refl since;
+        part = part;
+        fits = fits;
+      }) calc in
       let start : c.replace-taken.result ≡ c.enter_running.new.self = search rules in
-      let at = reached_at (ap (λ (tr : GroupForest). composed_beside c.args.level.now.owed.now.objects (inside_of there) (c.args.level.now.depth + 1) true [] tr (state_of c.replace-taken.result (g.V.View.asked c.args.view.now) c.new-reads.result)) (sym body)) r.reached in
+      let at = reached_at (ap (λ (tr : GroupForest). composed_beside c.args.level.now.owed.now.objects (inside_of there)
+      (c.args.level.now.depth + 1) true [] tr
+      (state_of c.replace-taken.result (g.V.View.asked c.args.view.now) c.new-reads.result)) (sym body))
+      r.reached in
       let entered_is = start ∙ c.in_ok-enter_running.ensures.added in
       let e : c.from_residual-in_err-end_call.result ≡ Err NoMemory = search rules in
-      reached_stop _ e (body_part c.args.level.now.owed.now.objects (inside_of there) c.args.level.now.depth c.args.site c.args.function (arguments_of c.args.arguments) (meaning_at (meanings m (functions_view c.args.level.now.functions.now)) c.args.function (arguments_of c.args.arguments)) c.args.writer.now c.replace-taken.result c.run_all.new.made.writer (g.V.View.asked c.args.view.now) (g.V.View.asked c.run_all.new.view) mine c.run_all.new.made.reads c.new-reads.result (first_reads c.args.arguments c.args.found.now) c.new-reads.ensures entered_is at);
+      reached_stop _ e (body_part c.args.level.now.owed.now.objects (inside_of there) c.args.level.now.depth c.args.site
+      c.args.function (arguments_of c.args.arguments)
+      (meaning_at (meanings m (functions_view c.args.level.now.functions.now)) c.args.function
+      (arguments_of c.args.arguments)) c.args.writer.now c.replace-taken.result c.run_all.new.made.writer
+      (g.V.View.asked c.args.view.now) (g.V.View.asked c.run_all.new.view) mine c.run_all.new.made.reads
+      c.new-reads.result (first_reads c.args.arguments c.args.found.now) c.new-reads.ensures entered_is at);
 }
 
 pub run_body-returns : goal.run_body-returns
 run_body-returns g t c = record {
   keeps = c.in_ok-run_all.ensures.keeps;
   same = c.in_ok-run_all.ensures.same;
-  longer = let start : c.replace-taken.result ≡ c.enter_running.new.self = search rules in let a = ap (λ (q : WrittenGroups). length q.groups) start in let e = running_longer _ _ _ _ _ _ c.in_ok-enter_running.ensures.added in omega (arith, a, e, c.in_ok-run_all.ensures.longer, c.in_ok-end_call.ensures.len);
+  longer = let start : c.replace-taken.result ≡ c.enter_running.new.self = search rules in
+      let a = ap (λ (q : WrittenGroups). length q.groups) start in
+      let e = running_longer _ _ _ _ _ _ c.in_ok-enter_running.ensures.added in
+      omega (arith, a, e, c.in_ok-run_all.ensures.longer, c.in_ok-end_call.ensures.len);
   fits = let e = c.in_ok-end_call.ensures.len in omega (arith, e, c.in_ok-run_all.ensures.fits);
-  counted = λ m h. let start : c.replace-taken.result ≡ c.enter_running.new.self = search rules in let a = ap (λ (q : WrittenGroups). q.reads) (start ∙ c.in_ok-enter_running.ensures.added) in let n = ap (λ (l : List ℕ). length l) c.new-reads.ensures in let f = c.in_ok-run_all.ensures.counted m h in let e = c.in_ok-end_call.ensures.reads in omega (arith, a, n, e, f);
+  counted = λ m h. let start : c.replace-taken.result ≡ c.enter_running.new.self = search rules in
+      let a = ap (λ (q : WrittenGroups). q.reads) (start ∙ c.in_ok-enter_running.ensures.added) in
+      let n = ap (λ (l : List ℕ). length l) c.new-reads.ensures in let f = c.in_ok-run_all.ensures.counted m h in
+      let e = c.in_ok-end_call.ensures.reads in omega (arith, a, n, e, f);
   ran = λ m h l there mine since part like.
       let below : c.args.function < length c.args.level.now.functions.now = omega arith in
-      let slice : c.deref-2.result.now ≡ c.index-level-function.result.body.items = c.deref-2.ensures.value ∙ sym (ap (λ (q : Function). q.body.items) c.index-level-function.is) in
-      let names : c.deref.result.now ≡ c.index-level-function.result.parameters.items = c.deref.ensures.value ∙ sym (ap (λ (q : Function). q.parameters.items) c.index-level-function.is) in
-      let body = body_is m c.args.level.now.functions.now c.args.function (arguments_of c.args.arguments) c.index-level-function.result c.deref-2.result.now c.deref.result.now c.in_ok-scope.scope
-      below c.index-level-function.is slice names (c.in_ok-scope.ensures ∙ ap (λ (vs : List Value). bind c.deref.result.now vs) c.values.ensures) in
-      let calc = body_calculates c.args.level.now.functions.now c.args.function c.index-level-function.result c.deref-2.result.now since below c.index-level-function.is slice in
-      let fits = fits_inside c.args.level.now.depth c.inside_found-pending.result c.args.found.now there c.inside_found-pending.ensures like in
-      let r = c.in_ok-run_all.ensures.ran m (record { last = l; old = inside_of there; seen = [] }) h (record { since = since_slice c.args.level.now.functions.now _ c.args.function refl since; part = part; fits = fits }) calc in
+      let slice : c.deref-2.result.now ≡ c.index-level-function.result.body.items = c.deref-2.ensures.value
+      ∙ sym (ap (λ (q : Function). q.body.items) c.index-level-function.is) in
+      let names : c.deref.result.now ≡ c.index-level-function.result.parameters.items = c.deref.ensures.value
+      ∙ sym (ap (λ (q : Function). q.parameters.items) c.index-level-function.is) in
+      let body = body_is m c.args.level.now.functions.now c.args.function (arguments_of c.args.arguments)
+      c.index-level-function.result c.deref-2.result.now c.deref.result.now c.in_ok-scope.scope
+      below c.index-level-function.is slice names
+      (c.in_ok-scope.ensures ∙ ap (λ (vs : List Value). bind c.deref.result.now vs) c.values.ensures) in
+      let calc = body_calculates c.args.level.now.functions.now c.args.function c.index-level-function.result
+      c.deref-2.result.now since below c.index-level-function.is slice in
+      let fits = fits_inside c.args.level.now.depth c.inside_found-pending.result c.args.found.now there
+      c.inside_found-pending.ensures like in
+      let r = c.in_ok-run_all.ensures.ran m (record { last = l; old = inside_of there; seen = [] }) h
+      (record {
+        since = since_slice c.args.level.now.functions.now _ c.args.function refl since;
+        part = part;
+        fits = fits;
+      }) calc in
       let start : c.replace-taken.result ≡ c.enter_running.new.self = search rules in
-      let at = reached_at (ap (λ (tr : GroupForest). composed_beside c.args.level.now.owed.now.objects (inside_of there) (c.args.level.now.depth + 1) true [] tr (state_of c.replace-taken.result (g.V.View.asked c.args.view.now) c.new-reads.result)) (sym body)) r.reached in
+      let at = reached_at (ap (λ (tr : GroupForest). composed_beside c.args.level.now.owed.now.objects (inside_of there)
+      (c.args.level.now.depth + 1) true [] tr
+      (state_of c.replace-taken.result (g.V.View.asked c.args.view.now) c.new-reads.result)) (sym body))
+      r.reached in
       let entered_is = start ∙ c.in_ok-enter_running.ensures.added in
-      body_done c.args.level.now.owed.now.objects (inside_of there) c.args.level.now.depth c.args.site c.args.function (arguments_of c.args.arguments) (meaning_at (meanings m (functions_view c.args.level.now.functions.now)) c.args.function (arguments_of c.args.arguments)) c.args.writer.now c.replace-taken.result c.run_all.new.made.writer c.end_call.new.self (g.V.View.asked c.args.view.now) (g.V.View.asked c.run_all.new.view) mine c.run_all.new.made.reads c.new-reads.result (first_reads c.args.arguments c.args.found.now)
+      body_done c.args.level.now.owed.now.objects (inside_of there) c.args.level.now.depth c.args.site c.args.function
+      (arguments_of c.args.arguments) (meaning_at (meanings m (functions_view c.args.level.now.functions.now))
+      c.args.function (arguments_of c.args.arguments)) c.args.writer.now c.replace-taken.result
+      c.run_all.new.made.writer c.end_call.new.self (g.V.View.asked c.args.view.now)
+      (g.V.View.asked c.run_all.new.view) mine c.run_all.new.made.reads c.new-reads.result
+      (first_reads c.args.arguments c.args.found.now)
       c.new-reads.ensures entered_is at
-      (λ before behind y e is reads. c.in_ok-end_call.ensures.groups before behind y (e ∙ sym c.len-place.ensures) is (reads ∙ sym c.first_reads-first.ensures)) (c.in_ok-end_call.ensures.next, c.in_ok-end_call.ensures.ran, c.in_ok-end_call.ensures.calculated);
+      (λ before behind y e is reads. c.in_ok-end_call.ensures.groups before behind y (e ∙ sym c.len-place.ensures) is
+      (reads ∙ sym c.first_reads-first.ensures))
+      (c.in_ok-end_call.ensures.next, c.in_ok-end_call.ensures.ran, c.in_ok-end_call.ensures.calculated);
 }
 
 -- Old groups that are skipped.
@@ -950,7 +1225,9 @@ skip_group-returns-in-Node g t c = record {
   longer = search rules;
   fits = search rules;
   counted = λ m h. search rules;
-  ran = λ m h l f mine since part like. (c.skip_inside.ensures (ap is_call_kept (sym c.kind.ensures ∙ c.in-Node.is))).ran m h l f mine since part like;
+  ran =
+      λ m h l f mine since part like. (c.skip_inside.ensures (ap is_call_kept
+      (sym c.kind.ensures ∙ c.in-Node.is))).ran m h l f mine since part like;
 }
 
 pub skip_group-returns-in-Key : goal.skip_group-returns-in-Key
@@ -960,7 +1237,9 @@ skip_group-returns-in-Key g t c = record {
   longer = search rules;
   fits = search rules;
   counted = λ m h. search rules;
-  ran = λ m h l f mine since part like. (c.skip_inside-in-Key.ensures (ap is_call_kept (sym c.kind.ensures ∙ c.in-Key.is))).ran m h l f mine since part like;
+  ran =
+      λ m h l f mine since part like. (c.skip_inside-in-Key.ensures (ap is_call_kept
+      (sym c.kind.ensures ∙ c.in-Key.is))).ran m h l f mine since part like;
 }
 
 pub skip_group-returns-in-Cell : goal.skip_group-returns-in-Cell
@@ -970,7 +1249,9 @@ skip_group-returns-in-Cell g t c = record {
   longer = search rules;
   fits = search rules;
   counted = λ m h. search rules;
-  ran = λ m h l f mine since part like. (c.skip_inside-in-Cell.ensures (ap is_call_kept (sym c.kind.ensures ∙ c.in-Cell.is))).ran m h l f mine since part like;
+  ran =
+      λ m h l f mine since part like. (c.skip_inside-in-Cell.ensures (ap is_call_kept
+      (sym c.kind.ensures ∙ c.in-Cell.is))).ran m h l f mine since part like;
 }
 
 pub skip_group-returns-then-meet : goal.skip_group-returns-then-meet
@@ -981,10 +1262,17 @@ skip_group-returns-then-meet g t c = record {
   fits = search rules;
   counted = λ m h. search rules;
   ran = λ m h l f mine since part like.
-      let what_is = call_what f.what c.in-Call.function c.in-Call.arguments (sym (sym c.kind.ensures ∙ c.in-Call.is) ∙ like.kind) in
-      let anew : is_owed c.args.level.now.owed.now.objects f.inside ≡ true = sym (owed_is c.args.level.now.depth c.args.old.now f c.in-Call.function c.in-Call.arguments c.args.level.now.owed.now.objects like what_is) ∙ sym (ap (λ l. meets l c.args.level.now.owed.now.objects) c.reads.ensures) ∙ sym c.meet.ensures ∙ c.if-meet.true in
+      let what_is = call_what f.what c.in-Call.function c.in-Call.arguments
+      (sym (sym c.kind.ensures ∙ c.in-Call.is) ∙ like.kind) in
+      let anew : is_owed c.args.level.now.owed.now.objects f.inside ≡ true =
+      sym (owed_is c.args.level.now.depth c.args.old.now f c.in-Call.function c.in-Call.arguments
+      c.args.level.now.owed.now.objects like what_is)
+      ∙ sym (ap (λ l. meets l c.args.level.now.owed.now.objects) c.reads.ensures) ∙ sym c.meet.ensures
+      ∙ c.if-meet.true in
       let r = c.run_body.ensures.ran m h l (Some f) mine since part (search rules) in
-      reached_at (owed_call m c.args.level.now.owed.now.objects (functions_view c.args.level.now.functions.now) c.args.level.now.depth c.args.site f c.in-Call.function c.in-Call.arguments (state_of c.args.writer.now (g.V.View.asked c.args.view.now) mine) what_is anew) r;
+      reached_at (owed_call m c.args.level.now.owed.now.objects (functions_view c.args.level.now.functions.now)
+      c.args.level.now.depth c.args.site f c.in-Call.function c.in-Call.arguments
+      (state_of c.args.writer.now (g.V.View.asked c.args.view.now) mine) what_is anew) r;
 }
 
 pub skip_group-returns-in_err-keep_group-in-Call : goal.skip_group-returns-in_err-keep_group-in-Call
@@ -995,25 +1283,42 @@ skip_group-returns-in_err-keep_group-in-Call g t c = record {
   fits = search rules;
   counted = λ m h. search rules;
   ran = λ m h l f mine since part like.
-      let one = longer_than m c.args.level.now.owed.now.objects (functions_view c.args.level.now.functions.now) c.args.level.now.depth c.args.site f (state_of c.args.writer.now (g.V.View.asked c.args.view.now) mine) in
-      reached_full _ (search rules) (λ e. let full : length c.args.writer.now.groups ≡ most_groups = search rules in omega (arith, one, full))
-      (part_one m c.args.level.now.owed.now.objects (functions_view c.args.level.now.functions.now) c.args.level.now.depth c.args.site f (state_of c.args.writer.now (g.V.View.asked c.args.view.now) mine));
+      let one = longer_than m c.args.level.now.owed.now.objects (functions_view c.args.level.now.functions.now)
+      c.args.level.now.depth c.args.site f (state_of c.args.writer.now (g.V.View.asked c.args.view.now) mine) in
+      reached_full _ (search rules)
+      (λ e. let full : length c.args.writer.now.groups ≡ most_groups = search rules in omega (arith, one, full))
+      (part_one m c.args.level.now.owed.now.objects (functions_view c.args.level.now.functions.now)
+      c.args.level.now.depth c.args.site f (state_of c.args.writer.now (g.V.View.asked c.args.view.now) mine));
 }
 
 pub skip_group-returns-in_ok-keep_group-in-Call : goal.skip_group-returns-in_ok-keep_group-in-Call
 skip_group-returns-in_ok-keep_group-in-Call g t c = record {
   keeps = search (rules, g.met.V.View.keeps_on, g.met.V.View.keeps_itself);
   same = search rules;
-  longer = longer_on _ _ _ _ (kept_longer _ _ _ _ _ _ _ c.in_ok-keep_group-in-Call.ensures.added) c.skip_all.ensures.longer;
+  longer =
+      longer_on _ _ _ _ (kept_longer _ _ _ _ _ _ _ c.in_ok-keep_group-in-Call.ensures.added) c.skip_all.ensures.longer;
   fits = search rules;
   counted = λ m h. search rules;
   ran = λ m h l f mine since part like.
-      let what_is = call_what f.what c.in-Call.function c.in-Call.arguments (sym (sym c.kind.ensures ∙ c.in-Call.is) ∙ like.kind) in
-      let quiet : is_owed c.args.level.now.owed.now.objects f.inside ≡ false = sym (owed_is c.args.level.now.depth c.args.old.now f c.in-Call.function c.in-Call.arguments c.args.level.now.owed.now.objects like what_is) ∙ sym (ap (λ l. meets l c.args.level.now.owed.now.objects) c.reads.ensures) ∙ sym c.meet.ensures ∙ c.if-meet.false in
-      let state = kept_state c.args.level.now.depth c.args.site c.args.old.now f c.args.writer.now c.keep_group.new.writer (g.V.View.asked c.args.view.now) mine like c.in_ok-keep_group-in-Call.ensures.added in
-      let r = c.skip_all.ensures.ran m h l f.inside mine (since_slice c.args.level.now.functions.now c.front.result.now c.in-Call.function c.front.ensures since) part (begins_after _ c.args.old.now f _ _ c.table.ensures c.first_inside.ensures like) in
-      reached_at (ap (λ (fs : List Func). skipped_groups m c.args.level.now.owed.now.objects f.inside fs (c.args.level.now.depth + 1) (state_of c.keep_group.new.writer (g.V.View.asked c.args.view.now) mine)) (slice_is c.args.level.now.functions.now c.front.result.now c.in-Call.function c.front.ensures)
-      ∙ kept_call m c.args.level.now.owed.now.objects (functions_view c.args.level.now.functions.now) c.args.level.now.depth c.args.site f c.in-Call.function c.in-Call.arguments (state_of c.args.writer.now (g.V.View.asked c.args.view.now) mine) (state_of c.keep_group.new.writer (g.V.View.asked c.args.view.now) mine) what_is quiet state) r;
+      let what_is = call_what f.what c.in-Call.function c.in-Call.arguments
+      (sym (sym c.kind.ensures ∙ c.in-Call.is) ∙ like.kind) in
+      let quiet : is_owed c.args.level.now.owed.now.objects f.inside ≡ false =
+      sym (owed_is c.args.level.now.depth c.args.old.now f c.in-Call.function c.in-Call.arguments
+      c.args.level.now.owed.now.objects like what_is)
+      ∙ sym (ap (λ l. meets l c.args.level.now.owed.now.objects) c.reads.ensures) ∙ sym c.meet.ensures
+      ∙ c.if-meet.false in
+      let state = kept_state c.args.level.now.depth c.args.site c.args.old.now f c.args.writer.now
+      c.keep_group.new.writer (g.V.View.asked c.args.view.now) mine like c.in_ok-keep_group-in-Call.ensures.added in
+      let r = c.skip_all.ensures.ran m h l f.inside mine
+      (since_slice c.args.level.now.functions.now c.front.result.now c.in-Call.function c.front.ensures since) part
+      (begins_after _ c.args.old.now f _ _ c.table.ensures c.first_inside.ensures like) in
+      reached_at (ap (λ (fs : List Func). skipped_groups m c.args.level.now.owed.now.objects f.inside fs
+      (c.args.level.now.depth + 1) (state_of c.keep_group.new.writer (g.V.View.asked c.args.view.now) mine))
+      (slice_is c.args.level.now.functions.now c.front.result.now c.in-Call.function c.front.ensures)
+      ∙ kept_call m c.args.level.now.owed.now.objects (functions_view c.args.level.now.functions.now)
+      c.args.level.now.depth c.args.site f c.in-Call.function c.in-Call.arguments
+      (state_of c.args.writer.now (g.V.View.asked c.args.view.now) mine)
+      (state_of c.keep_group.new.writer (g.V.View.asked c.args.view.now) mine) what_is quiet state) r;
 }
 
 pub skip_inside-returns-in_err-keep_group : goal.skip_inside-returns-in_err-keep_group
@@ -1024,9 +1329,12 @@ skip_inside-returns-in_err-keep_group g t c plain = record {
   fits = search rules;
   counted = λ m h. search rules;
   ran = λ m h l f mine since part like.
-      let one = longer_than m c.args.level.now.owed.now.objects (functions_view c.args.level.now.functions.now) c.args.level.now.depth c.args.site f (state_of c.args.writer.now (g.V.View.asked c.args.view.now) mine) in
-      reached_full _ (search rules) (λ e. let full : length c.args.writer.now.groups ≡ most_groups = search rules in omega (arith, one, full))
-      (part_one m c.args.level.now.owed.now.objects (functions_view c.args.level.now.functions.now) c.args.level.now.depth c.args.site f (state_of c.args.writer.now (g.V.View.asked c.args.view.now) mine));
+      let one = longer_than m c.args.level.now.owed.now.objects (functions_view c.args.level.now.functions.now)
+      c.args.level.now.depth c.args.site f (state_of c.args.writer.now (g.V.View.asked c.args.view.now) mine) in
+      reached_full _ (search rules)
+      (λ e. let full : length c.args.writer.now.groups ≡ most_groups = search rules in omega (arith, one, full))
+      (part_one m c.args.level.now.owed.now.objects (functions_view c.args.level.now.functions.now)
+      c.args.level.now.depth c.args.site f (state_of c.args.writer.now (g.V.View.asked c.args.view.now) mine));
 }
 
 pub skip_inside-returns : goal.skip_inside-returns
@@ -1037,9 +1345,14 @@ skip_inside-returns g t c plain = record {
   fits = search rules;
   counted = λ m h. search rules;
   ran = λ m h l f mine since part like.
-      let state = kept_state c.args.level.now.depth c.args.site c.args.old.now f c.args.writer.now c.keep_group.new.writer (g.V.View.asked c.args.view.now) mine like c.in_ok-keep_group.ensures.added in
-      let r = c.skip_all.ensures.ran m h l f.inside mine since part (begins_after _ c.args.old.now f _ _ c.table.ensures c.first_inside.ensures like) in
-      reached_at (kept_other m c.args.level.now.owed.now.objects (functions_view c.args.level.now.functions.now) c.args.level.now.depth c.args.site f (state_of c.args.writer.now (g.V.View.asked c.args.view.now) mine) (state_of c.keep_group.new.writer (g.V.View.asked c.args.view.now) mine) (no_call c.args.level.now.depth c.args.old.now f like plain) state) r;
+      let state = kept_state c.args.level.now.depth c.args.site c.args.old.now f c.args.writer.now
+      c.keep_group.new.writer (g.V.View.asked c.args.view.now) mine like c.in_ok-keep_group.ensures.added in
+      let r = c.skip_all.ensures.ran m h l f.inside mine since part
+      (begins_after _ c.args.old.now f _ _ c.table.ensures c.first_inside.ensures like) in
+      reached_at (kept_other m c.args.level.now.owed.now.objects (functions_view c.args.level.now.functions.now)
+      c.args.level.now.depth c.args.site f (state_of c.args.writer.now (g.V.View.asked c.args.view.now) mine)
+      (state_of c.keep_group.new.writer (g.V.View.asked c.args.view.now) mine)
+      (no_call c.args.level.now.depth c.args.old.now f like plain) state) r;
 }
 
 pub skip_all-loop-at-init : goal.skip_all-loop-at-init
@@ -1058,11 +1371,13 @@ skip_all-returns-then-is_end g t c = record {
   same = search rules;
   longer = omega (arith, c.loop-at.invariant.longer, c.in_ok-keep_run.ensures.longer);
   fits = c.in_ok-keep_run.ensures.fits;
-  counted = λ m h. let e = c.loop-at.invariant.counted m h in let reads = ap (λ (w : WrittenGroups). w.reads) c.in_ok-keep_run.ensures.added in omega (arith, e, reads);
+  counted = λ m h. let e = c.loop-at.invariant.counted m h in
+      let reads = ap (λ (w : WrittenGroups). w.reads) c.in_ok-keep_run.ensures.added in omega (arith, e, reads);
   ran = λ m h l tr mine since part begins.
       let k = c.loop-at.invariant.going m h l tr mine since part begins in
       let q = c.quiet_end-stop.ensures.quiet k.rest k.begins in
-      let added = ap (λ (w : WrittenGroups). state_of w (g.V.View.asked c.loop-at.view) mine) c.in_ok-keep_run.ensures.added in
+      let added = ap (λ (w : WrittenGroups). state_of w (g.V.View.asked c.loop-at.view) mine)
+      c.in_ok-keep_run.ensures.added in
       left_done (left_run k q added) (c.is_end.ensures.end c.if-is_end.true);
 }
 
@@ -1086,7 +1401,8 @@ skip_all-returns g t c = record {
   longer = search rules;
   fits = search rules;
   counted = λ m h. c.loop-at.invariant.counted m h;
-  ran = λ m h l tr mine since part begins. left_done (c.loop-at.invariant.going m h l tr mine since part begins) (ends_past c.args.table.now.groups c.args.level.now.depth c.loop-at.at (search (rules, arith)));
+  ran = λ m h l tr mine since part begins. left_done (c.loop-at.invariant.going m h l tr mine since part begins)
+      (ends_past c.args.table.now.groups c.args.level.now.depth c.loop-at.at (search (rules, arith)));
 }
 
 pub skip_all-returns-in_err-skip_group : goal.skip_all-returns-in_err-skip_group
@@ -1103,23 +1419,29 @@ skip_all-returns-in_err-skip_group g t c = record {
       let fs = functions_view c.args.level.now.functions.now in
       let d = c.args.level.now.depth in
       let k0 = c.loop-at.invariant.going m h l tr mine since part begins in
-      let added = ap (λ (w : WrittenGroups). state_of w (g.V.View.asked c.loop-at.view) mine) c.in_ok-keep_run.ensures.added in
+      let added = ap (λ (w : WrittenGroups). state_of w (g.V.View.asked c.loop-at.view) mine)
+      c.in_ok-keep_run.ensures.added in
       let k = left_run k0 (c.quiet_end-stop.ensures.quiet k0.rest k0.begins) added in
       let here = c.is_end.ensures.more c.if-is_end.false in
-      let f = first_of_all c.args.table.now.groups d i (index_behind c.args.table.now.groups i) k.rest k.begins here.0 here.1 (behind_is c.args.table.now.groups i) in
+      let f = first_of_all c.args.table.now.groups d i (index_behind c.args.table.now.groups i) k.rest k.begins here.0
+      here.1 (behind_is c.args.table.now.groups i) in
       let like = subst (λ (q : KeyInfo). SameGroup d q f.found) (sym c.new-old.ensures) f.same in
       let site = c.site.ensures ∙ ap (λ (q : KeyInfo). (old_group q).site) c.new-old.ensures ∙ f.site_is in
       let s = state_of c.keep_run.new.self (g.V.View.asked c.loop-at.view) mine in
       let move : skipped_inside m owed fs d c.site.result f.found.number f.found.what (is_owed owed f.found.inside) f.found.inside (skipped_groups m owed f.found.inside) s ≡ skipped_inside m owed fs d f.site f.found.number f.found.what (is_owed owed f.found.inside) f.found.inside (skipped_groups m owed f.found.inside) s =
-      ap (λ n. skipped_inside m owed fs d n f.found.number f.found.what (is_owed owed f.found.inside) f.found.inside (skipped_groups m owed f.found.inside) s) site in
-      left_stop _ k f (reached_at move (c.in_err-skip_group.ensures.ran m (c.loop-at.invariant.same m h) l f.found mine since (first_parts f k.part).0 like)) e;
+      ap (λ n. skipped_inside m owed fs d n f.found.number f.found.what (is_owed owed f.found.inside) f.found.inside
+      (skipped_groups m owed f.found.inside) s) site in
+      left_stop _ k f (reached_at move
+      (c.in_err-skip_group.ensures.ran m (c.loop-at.invariant.same m h) l f.found mine since
+      (first_parts f k.part).0 like)) e;
 }
 
 pub skip_all-loop-at-preserved : goal.skip_all-loop-at-preserved
 skip_all-loop-at-preserved g t c = record {
   keeps = g.met.V.View.keeps_on _ _ _ c.loop-at.invariant.keeps c.in_ok-skip_group.ensures.keeps;
   same = λ m h. c.in_ok-skip_group.ensures.same m (c.loop-at.invariant.same m h);
-  longer = omega (arith, c.loop-at.invariant.longer, c.in_ok-keep_run.ensures.longer, c.in_ok-skip_group.ensures.longer);
+  longer =
+      omega (arith, c.loop-at.invariant.longer, c.in_ok-keep_run.ensures.longer, c.in_ok-skip_group.ensures.longer);
   fits = c.in_ok-skip_group.ensures.fits;
   counted = λ m h.
       let e = c.loop-at.invariant.counted m h in
@@ -1131,21 +1453,27 @@ skip_all-loop-at-preserved g t c = record {
       let fs = functions_view c.args.level.now.functions.now in
       let d = c.args.level.now.depth in
       let k0 = c.loop-at.invariant.going m h l tr mine since part begins in
-      let added = ap (λ (w : WrittenGroups). state_of w (g.V.View.asked c.loop-at.view) mine) c.in_ok-keep_run.ensures.added in
+      let added = ap (λ (w : WrittenGroups). state_of w (g.V.View.asked c.loop-at.view) mine)
+      c.in_ok-keep_run.ensures.added in
       let k = left_run k0 (c.quiet_end-stop.ensures.quiet k0.rest k0.begins) added in
       let here = c.is_end.ensures.more c.if-is_end.false in
-      let f = first_of_all c.args.table.now.groups d i c.index_after-at.result k.rest k.begins here.0 here.1 c.index_after-at.ensures.after in
+      let f = first_of_all c.args.table.now.groups d i c.index_after-at.result k.rest k.begins here.0 here.1
+      c.index_after-at.ensures.after in
       let like = subst (λ (q : KeyInfo). SameGroup d q f.found) (sym c.new-old.ensures) f.same in
       let site = c.site.ensures ∙ ap (λ (q : KeyInfo). (old_group q).site) c.new-old.ensures ∙ f.site_is in
       let s = state_of c.keep_run.new.self (g.V.View.asked c.loop-at.view) mine in
       let move : skipped_inside m owed fs d c.site.result f.found.number f.found.what (is_owed owed f.found.inside) f.found.inside (skipped_groups m owed f.found.inside) s ≡ skipped_inside m owed fs d f.site f.found.number f.found.what (is_owed owed f.found.inside) f.found.inside (skipped_groups m owed f.found.inside) s =
-      ap (λ n. skipped_inside m owed fs d n f.found.number f.found.what (is_owed owed f.found.inside) f.found.inside (skipped_groups m owed f.found.inside) s) site in
-      left_more k f (reached_at move (c.in_ok-skip_group.ensures.ran m (c.loop-at.invariant.same m h) l f.found mine since (first_parts f k.part).0 like));
+      ap (λ n. skipped_inside m owed fs d n f.found.number f.found.what (is_owed owed f.found.inside) f.found.inside
+      (skipped_groups m owed f.found.inside) s) site in
+      left_more k f (reached_at move
+      (c.in_ok-skip_group.ensures.ran m (c.loop-at.invariant.same m h) l f.found mine since
+      (first_parts f k.part).0 like));
 }
 
 pub skip_all-loop-at-smaller : goal.skip_all-loop-at-smaller
 skip_all-loop-at-smaller g t c =
     let here = c.is_end.ensures.more c.if-is_end.false in
-    let less = index_grows c.args.table.now.groups c.quiet_end-stop.result c.index_after-at.result here.0 c.index_after-at.ensures.after c.index_after-at.ensures.inside in
+    let less = index_grows c.args.table.now.groups c.quiet_end-stop.result c.index_after-at.result here.0
+    c.index_after-at.ensures.after c.index_after-at.ensures.inside in
     let low = c.quiet_end-stop.ensures.order in
     omega (arith, less, low)

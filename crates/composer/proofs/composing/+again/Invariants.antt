@@ -20,10 +20,17 @@ invariant-run_all-loop-statement g l = record {
   same_scope : l.made.scope ≡ l.initial.made.scope;
   longer : length l.initial.made.writer.groups ≤ length l.made.writer.groups;
   fits : length l.made.writer.groups ≤ most_groups;
-  counted : (m : Map) → g.V.View.shows l.initial.view m → l.made.writer.reads + length l.made.reads + length (g.V.View.asked l.initial.view) ≡ l.initial.made.writer.reads + length l.initial.made.reads + length (g.V.View.asked l.view);
-  going : (m : Map) (o : OldSiblings) → g.V.View.shows l.initial.view m → IsBeside o l.level.owed.now.objects m (functions_view l.level.functions.now) l.level.depth l.initial.made.pending → StmtsCalculate o.last.calculation (stmts_view l.body) →
-      BesideProgress l.level.owed.now.objects o.old l.level.depth o.seen (body_forest m l.level.functions.now (stmts_view (drop l.statement-index l.body)) l.initial.made.scope) (body_forest m l.level.functions.now (stmts_view l.body) l.initial.made.scope)
-      (state_of l.initial.made.writer (g.V.View.asked l.initial.view) l.initial.made.reads) (state_of l.made.writer (g.V.View.asked l.view) l.made.reads) l.made.pending;
+  counted : (m : Map) → g.V.View.shows l.initial.view m
+      → l.made.writer.reads + length l.made.reads + length (g.V.View.asked l.initial.view)
+      ≡ l.initial.made.writer.reads + length l.initial.made.reads + length (g.V.View.asked l.view);
+  going : (m : Map) (o : OldSiblings) → g.V.View.shows l.initial.view m
+      → IsBeside o l.level.owed.now.objects m (functions_view l.level.functions.now) l.level.depth
+      l.initial.made.pending → StmtsCalculate o.last.calculation (stmts_view l.body) →
+      BesideProgress l.level.owed.now.objects o.old l.level.depth o.seen
+      (body_forest m l.level.functions.now (stmts_view (drop l.statement-index l.body)) l.initial.made.scope)
+      (body_forest m l.level.functions.now (stmts_view l.body) l.initial.made.scope)
+      (state_of l.initial.made.writer (g.V.View.asked l.initial.view) l.initial.made.reads)
+      (state_of l.made.writer (g.V.View.asked l.view) l.made.reads) l.made.pending;
 }
 
 abbrev pub invariant-run_turns-loop-item : goal.invariant-run_turns-loop-item
@@ -33,10 +40,18 @@ invariant-run_turns-loop-item g l = record {
   same_scope : l.made.scope ≡ l.initial.made.scope;
   longer : length l.initial.made.writer.groups ≤ length l.made.writer.groups;
   fits : length l.made.writer.groups ≤ most_groups;
-  counted : (m : Map) → g.V.View.shows l.initial.view m → l.made.writer.reads + length l.made.reads + length (g.V.View.asked l.initial.view) ≡ l.initial.made.writer.reads + length l.initial.made.reads + length (g.V.View.asked l.view);
-  going : (m : Map) (o : OldSiblings) → g.V.View.shows l.initial.view m → IsBeside o l.level.owed.now.objects m (functions_view l.level.functions.now) l.level.depth l.initial.made.pending → StmtsCalculate o.last.calculation (stmts_view l.body) →
-      BesideProgress l.level.owed.now.objects o.old l.level.depth o.seen (loop_forest m l.level.functions.now l.name.text (stmts_view l.body) l.initial.made.scope (drop l.item-index l.items)) (loop_forest m l.level.functions.now l.name.text (stmts_view l.body) l.initial.made.scope l.items)
-      (state_of l.initial.made.writer (g.V.View.asked l.initial.view) l.initial.made.reads) (state_of l.made.writer (g.V.View.asked l.view) l.made.reads) l.made.pending;
+  counted : (m : Map) → g.V.View.shows l.initial.view m
+      → l.made.writer.reads + length l.made.reads + length (g.V.View.asked l.initial.view)
+      ≡ l.initial.made.writer.reads + length l.initial.made.reads + length (g.V.View.asked l.view);
+  going : (m : Map) (o : OldSiblings) → g.V.View.shows l.initial.view m
+      → IsBeside o l.level.owed.now.objects m (functions_view l.level.functions.now) l.level.depth
+      l.initial.made.pending → StmtsCalculate o.last.calculation (stmts_view l.body) →
+      BesideProgress l.level.owed.now.objects o.old l.level.depth o.seen
+      (loop_forest m l.level.functions.now l.name.text (stmts_view l.body) l.initial.made.scope
+      (drop l.item-index l.items))
+      (loop_forest m l.level.functions.now l.name.text (stmts_view l.body) l.initial.made.scope l.items)
+      (state_of l.initial.made.writer (g.V.View.asked l.initial.view) l.initial.made.reads)
+      (state_of l.made.writer (g.V.View.asked l.view) l.made.reads) l.made.pending;
 }
 
 abbrev pub invariant-skip_all-loop-at : goal.invariant-skip_all-loop-at
@@ -45,46 +60,61 @@ invariant-skip_all-loop-at g l = record {
   same : (m : Map) → g.V.View.shows l.initial.view m → g.V.View.shows l.view m;
   longer : length l.initial.writer.groups ≤ length l.writer.groups;
   fits : length l.writer.groups ≤ most_groups;
-  counted : (m : Map) → g.V.View.shows l.initial.view m → l.writer.reads + length (g.V.View.asked l.initial.view) ≡ l.initial.writer.reads + length (g.V.View.asked l.view);
-  going : (m : Map) → g.V.View.shows l.initial.view m → (a : LastComposition) (t : GroupForest) (mine : List ℕ) → IsSince a (functions_view l.level.functions.now) → IsOldPart a l.level.owed.now.objects m t → Begins l.level.depth (drop l.first l.table.groups) t →
-      GroupsLeft m l.level.owed.now.objects a (functions_view l.level.functions.now) l.level.depth t (drop l.at l.table.groups) (state_of l.initial.writer (g.V.View.asked l.initial.view) mine) (state_of l.writer (g.V.View.asked l.view) mine);
+  counted : (m : Map) → g.V.View.shows l.initial.view m
+      → l.writer.reads + length (g.V.View.asked l.initial.view)
+      ≡ l.initial.writer.reads + length (g.V.View.asked l.view);
+  going : (m : Map) → g.V.View.shows l.initial.view m → (a : LastComposition) (t : GroupForest) (mine : List ℕ)
+      → IsSince a (functions_view l.level.functions.now) → IsOldPart a l.level.owed.now.objects m t
+      → Begins l.level.depth (drop l.first l.table.groups) t →
+      GroupsLeft m l.level.owed.now.objects a (functions_view l.level.functions.now) l.level.depth t
+      (drop l.at l.table.groups) (state_of l.initial.writer (g.V.View.asked l.initial.view) mine)
+      (state_of l.writer (g.V.View.asked l.view) mine);
 }
 
 abbrev pub decreases-skip_all-loop-at : goal.decreases-skip_all-loop-at
 decreases-skip_all-loop-at g l = length l.table.groups - l.at
 
 abbrev pub decreases-run_all : goal.decreases-run_all
-decreases-run_all g l = 8 * weight l.level.now.functions.now + 8 * body_size l.body.now + 4 + 3 * (most_groups - l.level.now.depth)
+decreases-run_all g l =
+    8 * weight l.level.now.functions.now + 8 * body_size l.body.now + 4 + 3 * (most_groups - l.level.now.depth)
 
 abbrev pub decreases-run_one : goal.decreases-run_one
 decreases-run_one g l = 8 * weight l.level.now.functions.now + 8 * stmt_size (stmt_view l.statement.now) + 3 + 3 * (most_groups - l.level.now.depth)
 
 abbrev pub decreases-run_group : goal.decreases-run_group
-decreases-run_group g l = 8 * weight l.level.now.functions.now + 8 * body_size l.body.now + 5 + 3 * (most_groups - l.level.now.depth)
+decreases-run_group g l =
+    8 * weight l.level.now.functions.now + 8 * body_size l.body.now + 5 + 3 * (most_groups - l.level.now.depth)
 
 abbrev pub decreases-run_node : goal.decreases-run_node
-decreases-run_node g l = 8 * weight l.level.now.functions.now + 8 * body_size l.body.now + 6 + 3 * (most_groups - l.level.now.depth)
+decreases-run_node g l =
+    8 * weight l.level.now.functions.now + 8 * body_size l.body.now + 6 + 3 * (most_groups - l.level.now.depth)
 
 abbrev pub decreases-run_key : goal.decreases-run_key
-decreases-run_key g l = 8 * weight l.level.now.functions.now + 8 * body_size l.body.now + 6 + 3 * (most_groups - l.level.now.depth)
+decreases-run_key g l =
+    8 * weight l.level.now.functions.now + 8 * body_size l.body.now + 6 + 3 * (most_groups - l.level.now.depth)
 
 abbrev pub decreases-run_if : goal.decreases-run_if
 decreases-run_if g l = 8 * weight l.level.now.functions.now + 8 * (body_size l.then_branch.now + body_size l.else_branch.now) + 5 + 3 * (most_groups - l.level.now.depth)
 
 abbrev pub decreases-run_bound : goal.decreases-run_bound
-decreases-run_bound g l = 8 * weight l.level.now.functions.now + 8 * body_size l.body.now + 5 + 3 * (most_groups - l.level.now.depth)
+decreases-run_bound g l =
+    8 * weight l.level.now.functions.now + 8 * body_size l.body.now + 5 + 3 * (most_groups - l.level.now.depth)
 
 abbrev pub decreases-run_let : goal.decreases-run_let
-decreases-run_let g l = 8 * weight l.level.now.functions.now + 8 * body_size l.body.now + 6 + 3 * (most_groups - l.level.now.depth)
+decreases-run_let g l =
+    8 * weight l.level.now.functions.now + 8 * body_size l.body.now + 6 + 3 * (most_groups - l.level.now.depth)
 
 abbrev pub decreases-run_turns : goal.decreases-run_turns
-decreases-run_turns g l = 8 * weight l.level.now.functions.now + 8 * body_size l.body.now + 6 + 3 * (most_groups - l.level.now.depth)
+decreases-run_turns g l =
+    8 * weight l.level.now.functions.now + 8 * body_size l.body.now + 6 + 3 * (most_groups - l.level.now.depth)
 
 abbrev pub decreases-run_for : goal.decreases-run_for
-decreases-run_for g l = 8 * weight l.level.now.functions.now + 8 * body_size l.body.now + 7 + 3 * (most_groups - l.level.now.depth)
+decreases-run_for g l =
+    8 * weight l.level.now.functions.now + 8 * body_size l.body.now + 7 + 3 * (most_groups - l.level.now.depth)
 
 abbrev pub decreases-run_remember : goal.decreases-run_remember
-decreases-run_remember g l = 8 * weight l.level.now.functions.now + 8 * body_size l.body.now + 6 + 3 * (most_groups - l.level.now.depth)
+decreases-run_remember g l =
+    8 * weight l.level.now.functions.now + 8 * body_size l.body.now + 6 + 3 * (most_groups - l.level.now.depth)
 
 abbrev pub decreases-run_arguments : goal.decreases-run_arguments
 decreases-run_arguments g l = 8 * weight l.level.now.functions.now + 3 + 3 * (most_groups - l.level.now.depth)

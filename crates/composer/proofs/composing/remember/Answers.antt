@@ -5,4 +5,6 @@ use Rattle.lang_meaning.proofs.Grows.{grew_none}
 use Rattle.composer.proofs.composing.remember.Goals as goal
 
 pub returns-in_err-kept-clause-part : goal.returns-in_err-kept-clause-part
-returns-in_err-kept-clause-part g c m h = let none = grew_none (g.V.View.asked c.args.view.now) (eval m (expr_view c.args.value.now) c.args.env.now).reads in search rules
+returns-in_err-kept-clause-part g c m h = let none =
+    grew_none (g.V.View.asked c.args.view.now) (eval m (expr_view c.args.value.now) c.args.env.now).reads in
+    search rules

@@ -6,12 +6,14 @@ pub loop-at-smaller : goal.loop-at-smaller
 loop-at-smaller c =
     let more = c.loop-at-test.true in
     let len = c.len.ensures in
-    index_grows c.args.table.now.groups c.loop-at.at c.index_after-at.result (omega (arith, more, len)) c.index_after-at.ensures.after c.index_after-at.ensures.inside
+    index_grows c.args.table.now.groups c.loop-at.at c.index_after-at.result (omega (arith, more, len))
+    c.index_after-at.ensures.after c.index_after-at.ensures.inside
 
 pub loop-at-preserved : goal.loop-at-preserved
 loop-at-preserved c =
     let more = c.loop-at-test.true in
     let len = c.len.ensures in
     let few = c.loop-at.invariant in
-    let less = index_grows c.args.table.now.groups c.loop-at.at c.index_after-at.result (omega (arith, more, len)) c.index_after-at.ensures.after c.index_after-at.ensures.inside in
+    let less = index_grows c.args.table.now.groups c.loop-at.at c.index_after-at.result (omega (arith, more, len))
+    c.index_after-at.ensures.after c.index_after-at.ensures.inside in
     omega (arith, few, less)

@@ -10,5 +10,6 @@ loop-i-preserved c =
     let inside = c.requires.inside in
     let own = sym (ap (λ l. meets l c.args.owed.now.objects) c.reads.ensures) ∙ sym c.meet.ensures ∙ c.if-meet.false in (
       omega (arith, low),
-      quiet_more c.args.owed.now.objects c.args.table.now.groups c.args.from c.loop-i.i low (omega (arith, more, inside)) own c.loop-i.invariant.1,
+      quiet_more c.args.owed.now.objects c.args.table.now.groups c.args.from c.loop-i.i low
+          (omega (arith, more, inside)) own c.loop-i.invariant.1,
     )

@@ -8,14 +8,16 @@ pub is_quiet-requires-clause-order : goal.is_quiet-requires-clause-order
 is_quiet-requires-clause-order c =
     let more = c.loop-next-test.true in
     let len = c.len.ensures in
-    let less = index_grows c.args.table.now.groups c.loop-next.next c.index_after-after.result (omega (arith, more, len)) c.index_after-after.ensures.after c.index_after-after.ensures.inside in
+    let less = index_grows c.args.table.now.groups c.loop-next.next c.index_after-after.result
+    (omega (arith, more, len)) c.index_after-after.ensures.after c.index_after-after.ensures.inside in
     omega (arith, less)
 
 pub loop-next-smaller : goal.loop-next-smaller
 loop-next-smaller c =
     let more = c.loop-next-test.true in
     let len = c.len.ensures in
-    index_grows c.args.table.now.groups c.loop-next.next c.index_after-after.result (omega (arith, more, len)) c.index_after-after.ensures.after c.index_after-after.ensures.inside
+    index_grows c.args.table.now.groups c.loop-next.next c.index_after-after.result (omega (arith, more, len))
+    c.index_after-after.ensures.after c.index_after-after.ensures.inside
 
 pub loop-next-preserved : goal.loop-next-preserved
 loop-next-preserved c =
@@ -34,6 +36,7 @@ loop-next-preserved c =
       low = omega (arith, low, less);
       inside = c.index_after-after.ensures.inside;
       quiet = λ t begins.
-          quiet_on c.args.owed.now.objects groups c.args.depth c.args.first i j t (c.loop-next.invariant.quiet t begins) low here c.index_after-after.ensures.inside deep c.index_after-after.ensures.after (omega (arith, less))
+          quiet_on c.args.owed.now.objects groups c.args.depth c.args.first i j t (c.loop-next.invariant.quiet t begins)
+          low here c.index_after-after.ensures.inside deep c.index_after-after.ensures.after (omega (arith, less))
           (c.is_quiet.ensures c.if-not-is_quiet.false);
     }

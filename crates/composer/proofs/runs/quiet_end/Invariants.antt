@@ -8,7 +8,8 @@ abbrev pub invariant-loop-next : goal.invariant-loop-next
 invariant-loop-next l = record {
   low : l.first ≤ l.next;
   inside : l.next ≤ length l.table.groups;
-  quiet : (t : GroupForest) → Begins l.depth (drop l.first l.table.groups) t → QuietRun l.owed.objects l.depth l.table.groups l.first l.next t;
+  quiet : (t : GroupForest) → Begins l.depth (drop l.first l.table.groups) t
+      → QuietRun l.owed.objects l.depth l.table.groups l.first l.next t;
 }
 
 abbrev pub decreases-loop-next : goal.decreases-loop-next

@@ -3,4 +3,5 @@ use Rattle.compose_model.specs.Composing.{bind}
 use Rattle.lang_meaning.proofs.arguments.bind.Given as goal
 
 abbrev pub invariant-loop-parameter : goal.invariant-loop-parameter
-invariant-loop-parameter l = l.scope ++ bind (drop l.parameter-index l.parameters) l.rest ≡ bind l.parameters l.arguments
+invariant-loop-parameter l =
+    l.scope ++ bind (drop l.parameter-index l.parameters) l.rest ≡ bind l.parameters l.arguments

@@ -13,8 +13,12 @@ invariant-run_all-loop-statement g l = record {
   same_scope : l.made.scope ≡ l.initial.made.scope;
   longer : length l.initial.made.groups ≤ length l.made.groups;
   fits : length l.made.groups ≤ most_groups;
-  going : (m : Map) → g.V.View.shows l.initial.view m → LoopProgress l.level.depth (body_forest m l.level.functions.now (stmts_view (drop l.statement-index l.body)) l.initial.made.scope) (body_forest m l.level.functions.now (stmts_view l.body) l.initial.made.scope)
-      l.initial.made.groups l.made.groups (g.V.View.asked l.initial.view) (g.V.View.asked l.view) l.initial.made.reads l.made.reads;
+  going : (m : Map) → g.V.View.shows l.initial.view m
+      → LoopProgress l.level.depth
+      (body_forest m l.level.functions.now (stmts_view (drop l.statement-index l.body)) l.initial.made.scope)
+      (body_forest m l.level.functions.now (stmts_view l.body) l.initial.made.scope)
+      l.initial.made.groups l.made.groups (g.V.View.asked l.initial.view) (g.V.View.asked l.view) l.initial.made.reads
+      l.made.reads;
 }
 
 abbrev pub invariant-run_turns-loop-item : goal.invariant-run_turns-loop-item
@@ -24,8 +28,13 @@ invariant-run_turns-loop-item g l = record {
   same_scope : l.made.scope ≡ l.initial.made.scope;
   longer : length l.initial.made.groups ≤ length l.made.groups;
   fits : length l.made.groups ≤ most_groups;
-  going : (m : Map) → g.V.View.shows l.initial.view m → LoopProgress l.level.depth (loop_forest m l.level.functions.now l.name.text (stmts_view l.body) l.initial.made.scope (drop l.item-index l.items)) (loop_forest m l.level.functions.now l.name.text (stmts_view l.body) l.initial.made.scope l.items)
-      l.initial.made.groups l.made.groups (g.V.View.asked l.initial.view) (g.V.View.asked l.view) l.initial.made.reads l.made.reads;
+  going : (m : Map) → g.V.View.shows l.initial.view m
+      → LoopProgress l.level.depth
+      (loop_forest m l.level.functions.now l.name.text (stmts_view l.body) l.initial.made.scope
+      (drop l.item-index l.items))
+      (loop_forest m l.level.functions.now l.name.text (stmts_view l.body) l.initial.made.scope l.items)
+      l.initial.made.groups l.made.groups (g.V.View.asked l.initial.view) (g.V.View.asked l.view) l.initial.made.reads
+      l.made.reads;
 }
 
 abbrev pub decreases-run_all : goal.decreases-run_all
@@ -41,7 +50,8 @@ abbrev pub decreases-run_key : goal.decreases-run_key
 decreases-run_key g l = 8 * weight l.level.now.functions.now + 8 * body_size l.body.now + 5
 
 abbrev pub decreases-run_if : goal.decreases-run_if
-decreases-run_if g l = 8 * weight l.level.now.functions.now + 8 * (body_size l.then_branch.now + body_size l.else_branch.now) + 5
+decreases-run_if g l =
+    8 * weight l.level.now.functions.now + 8 * (body_size l.then_branch.now + body_size l.else_branch.now) + 5
 
 abbrev pub decreases-run_bound : goal.decreases-run_bound
 decreases-run_bound g l = 8 * weight l.level.now.functions.now + 8 * body_size l.body.now + 5

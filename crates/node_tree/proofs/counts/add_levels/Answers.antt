@@ -16,8 +16,8 @@ levels-preserved c =
     let above : c.in_ok-above.above ≡ pairs c.levels.level = c.in_ok-above.ensures in
     let pushed : c.push.new.self.items ≡ c.levels.levels.items ++ c.levels.level ∷ [] = c.in_ok-push.ensures.items in
     let few : total c.in_ok-above.above ≤ total c.levels.level =
-        (let f = pairs_few c.levels.level in
-        let e : total c.in_ok-above.above ≡ total (pairs c.levels.level) = ap total above in omega (arith, f, e)) in
+    (let f = pairs_few c.levels.level in
+    let e : total c.in_ok-above.above ≡ total (pairs c.levels.level) = ap total above in omega (arith, f, e)) in
     record {
       levels = λ ls are. levels_grow c.args.first c.levels.level c.in_ok-above.above c.levels.levels.items
           c.push.new.self.items pushed above c.levels.invariant.levels ls are;

@@ -7,4 +7,4 @@ use Rattle.node_tree.proofs.level.push_arrangements.Given as goal
 abbrev pub invariant-loop-index : goal.invariant-loop-index
 invariant-loop-index l = (find : ℕ → Option ℕ) → ((number : ℕ) → get nat_cmp l.indexes number ≡ find number)
     → l.ops ++ arrange_at l.index find l.counts l.new (drop l.index l.siblings) ≡ l.fn.ops
-        ++ arrange_at 0 find l.fn.counts l.new l.siblings
+    ++ arrange_at 0 find l.fn.counts l.new l.siblings

@@ -6,5 +6,5 @@ pub returns : goal.returns
 returns c =
     c.saturating_sub.ensures
     ∙ inside_is c.args.table.now.groups c.args.counts.now _ c.args.at c.index_after.result c.count_at.result
-        c.count_at-2.result c.requires.counts c.requires.inside c.index_after.ensures.after c.count_at.ensures
-        c.count_at-2.ensures
+    c.count_at-2.result c.requires.counts c.requires.inside c.index_after.ensures.after c.count_at.ensures
+    c.count_at-2.ensures

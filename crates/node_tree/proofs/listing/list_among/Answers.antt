@@ -7,11 +7,11 @@ loop-at-preserved c =
     let below = c.loop-at-test.true in
     let whole = c.len-at-end.ensures in
     one_further c.args.table.now.groups _ c.loop-at.at c.loop-at.nodes.items c.push_group.new.nodes.items
-        (omega (arith, below, whole)) c.in_ok-push_group.ensures c.loop-at.invariant
+    (omega (arith, below, whole)) c.in_ok-push_group.ensures c.loop-at.invariant
 
 pub returns : goal.returns
 returns c =
     let past = c.loop-at-test.false in
     let whole = c.len-at-end.ensures in
     all_listed c.args.table.now.groups c.loop-at.at c.loop-at.nodes.items
-        (omega (arith, past, whole)) c.loop-at.invariant
+    (omega (arith, past, whole)) c.loop-at.invariant

@@ -6,8 +6,8 @@ pub returns : goal.returns
 returns c = record {
   node = λ k more whole.
       let first = opened_first c.args.list.now more c.take_all-children.new.list c.args.before c.args.after
-          c.node.inside.children c.node.inside.before c.node.inside.after c.in-Some.node.now k
+      c.node.inside.children c.node.inside.before c.node.inside.after c.in-Some.node.now k
       c.node.inside.number c.node.inside.kind c.node.inside.attributes c.in-Some.ensures.value whole c.node.view_is
-          c.take_all-children.ensures.left in
+      c.take_all-children.ensures.left in
       (first.0, c.take_all-children.ensures.all ∙ first.1);
 }

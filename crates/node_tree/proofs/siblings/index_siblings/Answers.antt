@@ -7,6 +7,6 @@ use Rattle.node_tree.proofs.siblings.index_siblings.Goals as goal
 pub loop-index-preserved : goal.loop-index-preserved
 loop-index-preserved c = λ number.
     one_index c.args.siblings.now (record { number = 0; start = 0; end = 0 }) c.loop-index.index number
-        (get nat_cmp c.loop-index.indexes number) (get nat_cmp c.insert.new.self number)
-        (index_in number c.args.siblings.now)
+    (get nat_cmp c.loop-index.indexes number) (get nat_cmp c.insert.new.self number)
+    (index_in number c.args.siblings.now)
     c.loop-index-test.true (c.in_ok-insert.ensures.updates.0 number) (c.loop-index.invariant number)

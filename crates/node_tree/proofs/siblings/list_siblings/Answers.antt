@@ -10,8 +10,8 @@ pub loop-at-preserved : goal.loop-at-preserved
 loop-at-preserved c =
     one_more c.args.nodes.now c.index-nodes-at.result
     (flat_node c.node.inside.inner c.node.inside.number c.node.inside.kind.now
-        (map attribute_of c.node.inside.attributes.now))
+    (map attribute_of c.node.inside.attributes.now))
     c.loop-at.at (c.loop-at.at + 1 + c.min.result) c.loop-at.siblings.items c.push.new.self.items
-        (sibling_list 0 0 c.args.nodes.now)
+    (sibling_list 0 0 c.args.nodes.now)
     c.loop-at-test.true c.index-nodes-at.is c.node.view_is
-        (ap (λ n. c.loop-at.at + 1 + n) c.min.ensures) c.in_ok-push.ensures.items c.loop-at.invariant.0
+    (ap (λ n. c.loop-at.at + 1 + n) c.min.ensures) c.in_ok-push.ensures.items c.loop-at.invariant.0

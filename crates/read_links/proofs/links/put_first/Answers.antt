@@ -8,7 +8,7 @@ use Rattle.read_links.proofs.links.put_first.Goals as goal
 pub returns-in_err-push-clause-free : goal.returns-in_err-push-clause-free
 returns-in_err-push-clause-free c = λ some.
     let have = below_spare (λ v. vec_capacity v - vec_len v) 1 (spare c.args.objects.now) c.args.objects.now.entries
-        c.args.pool.now.items (omega (arith, some)) in
+    c.args.pool.now.items (omega (arith, some)) in
     let count = have.count in
     let room = c.take_list-scopes.ensures.room 1 have.ready (omega (arith, count)) in
     let full = c.in_err-push.ensures.full in
@@ -17,7 +17,7 @@ returns-in_err-push-clause-free c = λ some.
 pub returns-in_err-insert-clause-free : goal.returns-in_err-insert-clause-free
 returns-in_err-insert-clause-free c = λ some.
     let have = below_spare (λ v. vec_capacity v - vec_len v) 1 (spare c.args.objects.now) c.args.objects.now.entries
-        c.args.pool.now.items (omega (arith, some)) in
+    c.args.pool.now.items (omega (arith, some)) in
     let map = have.map in
     absurd (true≢false (sym (c.in_err-insert.ensures.succeeds (omega (arith, map)))))
 
@@ -34,11 +34,11 @@ returns-clause-spare c =
     let capacity = c.push.ensures.capacity in
     subst
     (λ es. links_spare (λ v. vec_capacity v - vec_len v)
-        (spare c.args.objects.now) c.args.objects.now.entries c.args.pool.now.items
+    (spare c.args.objects.now) c.args.objects.now.entries c.args.pool.now.items
     ≤ links_spare (λ v. vec_capacity v - vec_len v) (spare c.insert.new.self) es c.take_list-scopes.new.pool.items + 1)
     (sym c.in_ok-insert.ensures.entries)
     (insert_spare (λ v. vec_capacity v - vec_len v) (spare c.args.objects.now)
-        (spare c.insert.new.self) c.args.object c.args.objects.now.entries c.args.pool.now.items
-        c.take_list-scopes.new.pool.items c.take_list-scopes.result c.push.new.self
+    (spare c.insert.new.self) c.args.object c.args.objects.now.entries c.args.pool.now.items
+    c.take_list-scopes.new.pool.items c.take_list-scopes.result c.push.new.self
     less c.take_list-scopes.ensures.len (omega (arith, longer, capacity)) c.take_list-scopes.ensures.room
-        c.take_list-scopes.ensures.rest)
+    c.take_list-scopes.ensures.rest)

@@ -14,7 +14,7 @@ loop-at-preserved c =
           c.index_mut.result.now c.remove_scope.new.scopes c.index_mut.ensures.value c.remove_scope.ensures.items
           (entry_links (λ v. v.items) c.args.objects.now.entries) c.loop-at.invariant.0
           ∙ ap (λ n. mapped_first (λ e. (e.0, scopes_without c.args.scope e.1)) n
-              (entry_links (λ v. v.items) c.args.objects.now.entries)) next,
+          (entry_links (λ v. v.items) c.args.objects.now.entries)) next,
       c.loop-at.invariant.1,
       λ n all. replaced_has_spare (λ v. vec_capacity v - vec_len v) n c.loop-at.at c.loop-at.objects.entries
           c.index_mut.result.now c.remove_scope.new.scopes c.index_mut.ensures.value (omega (arith, len, capacity))
@@ -31,14 +31,14 @@ loop-at-smaller c =
 pub returns-clause-links : goal.returns-clause-links
 returns-clause-links c =
     let before : entry_links (λ v. v.items) c.loop-at.objects.entries ≡ mapped_first
-        (λ e. (e.0, scopes_without c.args.scope e.1)) c.loop-at.at
-        (entry_links (λ v. v.items) c.args.objects.now.entries) = c.loop-at.invariant.0 in
+    (λ e. (e.0, scopes_without c.args.scope e.1)) c.loop-at.at
+    (entry_links (λ v. v.items) c.args.objects.now.entries) = c.loop-at.invariant.0 in
     let one = entry_count (λ v. v.items) c.loop-at.objects.entries in
     let two = entry_count (λ v. v.items) c.args.objects.now.entries in
     let long = ap (λ l. length l) before in
     let same = mapped_count (λ e. (e.0, scopes_without c.args.scope e.1)) c.loop-at.at
-        (entry_links (λ v. v.items) c.args.objects.now.entries) in
+    (entry_links (λ v. v.items) c.args.objects.now.entries) in
     let len = c.len.ensures.len in
     let test = c.loop-at-test.false in
     before ∙ mapped_all (λ e. (e.0, scopes_without c.args.scope e.1)) c.loop-at.at
-        (entry_links (λ v. v.items) c.args.objects.now.entries) (omega (arith, one, two, long, same, len, test))
+    (entry_links (λ v. v.items) c.args.objects.now.entries) (omega (arith, one, two, long, same, len, test))

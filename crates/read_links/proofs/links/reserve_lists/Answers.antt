@@ -7,7 +7,7 @@ use Rattle.read_links.proofs.links.reserve_lists.Goals as goal
 pub returns-in_err-reserve-clause-links : goal.returns-in_err-reserve-clause-links
 returns-in_err-reserve-clause-links c =
     same_entry (λ v. v.items) c.loop-at.at c.loop-at.objects.entries c.index_mut.result.now c.reserve.new.self
-        c.index_mut.ensures.value c.reserve.ensures.items ∙ c.loop-at.invariant.0
+    c.index_mut.ensures.value c.reserve.ensures.items ∙ c.loop-at.invariant.0
 
 pub loop-at-preserved : goal.loop-at-preserved
 loop-at-preserved c =
@@ -35,4 +35,4 @@ returns-clause-room c =
     let len = c.len.ensures.len in
     let test = c.loop-at-test.false in
     all_have_spare (λ v. vec_capacity v - vec_len v) c.args.n c.loop-at.at c.loop-at.objects.entries
-        (omega (arith, len, test)) c.loop-at.invariant.2
+    (omega (arith, len, test)) c.loop-at.invariant.2

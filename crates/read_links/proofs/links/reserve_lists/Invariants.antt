@@ -7,7 +7,7 @@ use Rattle.read_links.proofs.links.reserve_lists.Given as goal
 abbrev pub invariant-loop-at : goal.invariant-loop-at
 invariant-loop-at l =
     (entry_links (λ v. v.items) l.objects.entries ≡ entry_links (λ v. v.items) l.initial.objects.entries)
-        × (spare l.objects ≡ spare l.initial.objects)
+    × (spare l.objects ≡ spare l.initial.objects)
     × FirstHaveSpare (λ v. vec_capacity v - vec_len v) l.n l.at l.objects.entries
 
 abbrev pub decreases-loop-at : goal.decreases-loop-at

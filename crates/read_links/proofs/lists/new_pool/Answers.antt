@@ -9,12 +9,12 @@ loop-at-preserved c =
     let capacity = c.in_ok-with_capacity.ensures.capacity in
     let pushed = c.in_ok-push.ensures.items in
     let room : c.args.n ≤ vec_capacity c.in_ok-with_capacity.field-0 - vec_len c.in_ok-with_capacity.field-0 =
-        omega (arith, empty, capacity) in
+    omega (arith, empty, capacity) in
     let before = c.loop-at.invariant in
     let count = before.0 in
     let test = c.loop-at-test.true in
     let longer = ap (λ l. length l) pushed
-        ∙ length-append c.loop-at.pool.items (c.in_ok-with_capacity.field-0 ∷ []) in (
+    ∙ length-append c.loop-at.pool.items (c.in_ok-with_capacity.field-0 ∷ []) in (
       omega (arith, longer, count),
       omega (arith, test),
       subst (λ l. AllHaveSpare (λ v. vec_capacity v - vec_len v) c.args.n l) (sym pushed)

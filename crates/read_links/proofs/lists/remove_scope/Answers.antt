@@ -28,10 +28,13 @@ loop-at-preserved c =
     let test = c.loop-at-test.true in
     let whole = c.loop-at.scopes.ok.0 in
     let inside : c.loop-at.at < length c.loop-at.scopes.items = omega (arith, len, test, whole) in
-    let before = c.loop-at.invariant in
-    (before.0, next_is_other c.args.scope c.loop-at.scopes.items c.loop-at.at c.index.result.now inside
-        (is_other c.args.scope c.index.result.now _ c.index.ensures c.if-index-scope.false) before.1,
-        before.2, before.3)
+    let before = c.loop-at.invariant in (
+      before.0,
+      next_is_other c.args.scope c.loop-at.scopes.items c.loop-at.at c.index.result.now inside
+          (is_other c.args.scope c.index.result.now _ c.index.ensures c.if-index-scope.false) before.1,
+      before.2,
+      before.3,
+    )
 
 pub returns-clause-items : goal.returns-clause-items
 returns-clause-items c =

@@ -19,9 +19,9 @@ loop-done-preserved g c =
 pub returns-in_default-clause-part : goal.returns-in_default-clause-part
 returns-in_default-clause-part g c =
     part-take _ _ c.loop-done.done c.args.bytes.now
-        (appends-kept _ _ _ _ c.loop-done.invariant.bytes c.in_default.ensures.err)
+    (appends-kept _ _ _ _ c.loop-done.invariant.bytes c.in_default.ensures.err)
 
 pub returns-then-count-eq0-clause-part : goal.returns-then-count-eq0-clause-part
 returns-then-count-eq0-clause-part g c =
     part-take _ _ c.loop-done.done c.args.bytes.now
-        (appends-nothing _ _ _ _ c.loop-done.invariant.bytes (rw c.if-count-eq0.true at c.in-Ok.ensures.bytes))
+    (appends-nothing _ _ _ _ c.loop-done.invariant.bytes (rw c.if-count-eq0.true at c.in-Ok.ensures.bytes))

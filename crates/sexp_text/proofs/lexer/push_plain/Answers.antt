@@ -12,5 +12,5 @@ returns-clause-ok c =
     let rest : List ℕ = take (length bytes - at) (drop at bytes) in
     λ from os f here.
     plain_leads bytes at from n c.args.chars.now.items (take n rest) c.requires (ap (take n) (tail_is bytes at))
-        (length-take-le n rest c.plain_len.ensures.within) c.plain_len.ensures.plain os f here
+    (length-take-le n rest c.plain_len.ensures.within) c.plain_len.ensures.plain os f here
     ∙ ap (λ l. Some (in_text from l, os, f)) (sym c.in_ok-extend_from_slice.ensures.items)

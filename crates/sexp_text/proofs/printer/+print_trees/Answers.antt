@@ -14,12 +14,12 @@ print_row-loop-i-preserved t c =
     let i = c.loop-i.i in
     let trees = c.args.trees.now.items in
     let lt : i < length trees = subst (λ (l : List Tree). i < length l) c.deref-tree-items.ensures.value
-        c.loop-i-test.true in
+    c.loop-i-test.true in
     let at : c.tree-item.result ≡ get_or trees i c.tree-item.result
     = subst (λ (l : List Tree). c.tree-item.result ≡ get_or l i c.tree-item.result) c.deref-tree-items.ensures.value
-        c.tree-item.is in
+    c.tree-item.is in
     ap (λ (b : Bool). c.print_tree.new.out.items ++ inline_form b (forest_view (drop (i + 1) trees))) (due_behind i)
     ∙ row_on c.loop-i.out.items c.print_tree.new.out.items (nat_lt 0 i) trees i c.tree-item.result lt at
     (c.in_ok-print_tree.ensures.ok
-        ∙ ap (λ l. l ++ inline_form false (tree_view c.tree-item.result)) c.in_ok-print_blank.ensures)
+    ∙ ap (λ l. l ++ inline_form false (tree_view c.tree-item.result)) c.in_ok-print_blank.ensures)
     ∙ c.loop-i.invariant

@@ -6,4 +6,4 @@ pub loop-at-preserved : goal.loop-at-preserved
 loop-at-preserved c =
     let some = c.loop-at-test.true in
     one_more c.args.groups.now c.loop-at.counts.items c.loop-at.at (c.loop-at.at - 1) c.count_inside.result
-        (omega (arith, some)) c.loop-at.invariant.0 c.loop-at.invariant.1 c.loop-at.invariant.2 c.count_inside.ensures
+    (omega (arith, some)) c.loop-at.invariant.0 c.loop-at.invariant.1 c.loop-at.invariant.2 c.count_inside.ensures

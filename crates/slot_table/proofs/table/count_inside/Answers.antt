@@ -12,8 +12,8 @@ loop-next-preserved c =
     let deeper = c.if-depth.false in
     let is = c.depth.ensures in
     counted c.args.groups.now c.args.counts.now (group_at c.args.groups.now c.loop-next.next) c.args.i c.loop-next.next
-        (get_or c.args.counts.now c.loop-next.next 0) c.depth-depth.result c.requires.after refl (inside)
-        (at_is c.args.groups.now c.loop-next.next inside) (omega (arith, deeper, is)) c.loop-next.invariant
+    (get_or c.args.counts.now c.loop-next.next 0) c.depth-depth.result c.requires.after refl (inside)
+    (at_is c.args.groups.now c.loop-next.next inside) (omega (arith, deeper, is)) c.loop-next.invariant
 
 pub overflow_add-next-in-loop-next-2 : goal.overflow_add-next-in-loop-next-2
 overflow_add-next-in-loop-next-2 c = let fits = (loop-next-preserved c).1 in omega (arith, fits)

@@ -10,5 +10,8 @@ use Rattle.snap_nested.proofs.changes.first_free.Goals as goal
 pub returns-clause-none : goal.returns-clause-none
 returns-clause-none c = λ k. not_true (is_free c.args.members.now (member c.args.members.now k)) (λ h.
     let free = λ (n : ℕ). is_free c.args.members.now (member c.args.members.now n) in
-    let none : list_any free c.args.held.now ≡ false = sym c.loop-name.invariant ∙ ap (λ (l : List ℕ). list_any free l) (drop_of_length-le c.ids-name-items.result.now (omega (arith, c.loop-name-test.false))) in
-    not_both (list_any free c.args.held.now) (name_any free c.args.held.now k (free_open c.args.held.now c.args.members.now k c.requires h) h) none)
+    let none : list_any free c.args.held.now ≡ false = sym c.loop-name.invariant
+    ∙ ap (λ (l : List ℕ). list_any free l)
+    (drop_of_length-le c.ids-name-items.result.now (omega (arith, c.loop-name-test.false))) in
+    not_both (list_any free c.args.held.now)
+    (name_any free c.args.held.now k (free_open c.args.held.now c.args.members.now k c.requires h) h) none)

@@ -4,4 +4,5 @@ use Rattle.snap_reuse.specs.Readers.{is_read}
 use Rattle.snap_reuse.proofs.reuse.is_read.Given as goal
 
 abbrev pub invariant-loop-reader : goal.invariant-loop-reader
-invariant-loop-reader l = is_read (chain_of l.chains l.x) l.id (drop l.reader-index l.reader-items) ≡ is_read (chain_of l.chains l.x) l.id l.readers
+invariant-loop-reader l = is_read (chain_of l.chains l.x) l.id (drop l.reader-index l.reader-items)
+    ≡ is_read (chain_of l.chains l.x) l.id l.readers

@@ -12,10 +12,12 @@ pub returns-clause-base : goal.returns-clause-base
 returns-clause-base c =
     let m : Member = member c.args.family.now.members.items c.args.reader in
     let chain = chain_of c.args.chains.now c.args.x in
-    on_ok_more c.add_record_id.result (λ added inner. λ i h. added i (ap (has_id i) (c.readable_for_base-found.ensures.is
+    on_ok_more c.add_record_id.result
+    (λ added inner. λ i h. added i (ap (has_id i) (c.readable_for_base-found.ensures.is
     ∙ ap (λ (l : List ℕ). readable (is_valid_except l c.id.result c.invalid.result.now) chain) c.ids.ensures
     ∙ ap (λ (n : ℕ). readable (is_valid_except m.ids n c.invalid.result.now) chain) c.id.ensures.id
-    ∙ ap (λ (l : List ℕ). readable (is_valid_except m.ids m.id l) chain) c.invalid.ensures) ∙ h)) c.add_record_id.ensures.added
+    ∙ ap (λ (l : List ℕ). readable (is_valid_except m.ids m.id l) chain) c.invalid.ensures) ∙ h))
+    c.add_record_id.ensures.added
 
 pub returns-clause-needed : goal.returns-clause-needed
 returns-clause-needed c =
@@ -23,7 +25,8 @@ returns-clause-needed c =
     let chain = chain_of c.args.chains.now c.args.x in
     on_ok_more c.add_record_id.result (λ only. λ name i h. elim (only i h) [
       | inl t ↦ inl t
-      | inr t ↦ inr (base c.args.reader c.requires.live (positive c.args.reader c.if-reader-eq0.false) (sym (ap (has_id i) (c.readable_for_base-found.ensures.is
+      | inr t ↦ inr (base c.args.reader c.requires.live (positive c.args.reader c.if-reader-eq0.false)
+          (sym (ap (has_id i) (c.readable_for_base-found.ensures.is
           ∙ ap (λ (l : List ℕ). readable (is_valid_except l c.id.result c.invalid.result.now) chain) c.ids.ensures
           ∙ ap (λ (n : ℕ). readable (is_valid_except m.ids n c.invalid.result.now) chain) c.id.ensures.id
           ∙ ap (λ (l : List ℕ). readable (is_valid_except m.ids m.id l) chain) c.invalid.ensures)) ∙ t))

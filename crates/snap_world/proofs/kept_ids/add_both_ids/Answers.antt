@@ -13,7 +13,9 @@ pub returns-clause-view : goal.returns-clause-view
 returns-clause-view c =
     let m : Member = member c.args.family.now.members.items c.args.reader in
     let chain = chain_of c.args.chains.now c.args.x in
-    on_ok_more c.add_record_id-2.result (λ added. λ i h. c.add_record_id-2.ensures.more i (c.in_ok-add_record_id.ensures.added i (ap (has_id i) (c.readable_both-read.ensures.view
+    on_ok_more c.add_record_id-2.result
+    (λ added. λ i h. c.add_record_id-2.ensures.more i
+    (c.in_ok-add_record_id.ensures.added i (ap (has_id i) (c.readable_both-read.ensures.view
     ∙ ap (λ (n : ℕ). readable (is_valid n c.invalid.result.now) chain) c.id.ensures.id
     ∙ ap (λ (l : List ℕ). readable (is_valid m.id l) chain) c.invalid.ensures) ∙ h))) c.add_record_id-2.ensures.added
 
@@ -24,7 +26,8 @@ returns-clause-base c =
     on_ok_more c.add_record_id-2.result (λ added. λ i h. added i (ap (has_id i) (c.readable_both-read.ensures.base
     ∙ ap (λ (l : List ℕ). readable (is_valid_except l c.id.result c.invalid.result.now) chain) c.ids.ensures
     ∙ ap (λ (n : ℕ). readable (is_valid_except m.ids n c.invalid.result.now) chain) c.id.ensures.id
-    ∙ ap (λ (l : List ℕ). readable (is_valid_except m.ids m.id l) chain) c.invalid.ensures) ∙ h)) c.add_record_id-2.ensures.added
+    ∙ ap (λ (l : List ℕ). readable (is_valid_except m.ids m.id l) chain) c.invalid.ensures) ∙ h))
+    c.add_record_id-2.ensures.added
 
 pub returns-clause-needed : goal.returns-clause-needed
 returns-clause-needed c =
@@ -37,7 +40,8 @@ returns-clause-needed c =
             ∙ ap (λ (n : ℕ). readable (is_valid n c.invalid.result.now) chain) c.id.ensures.id
             ∙ ap (λ (l : List ℕ). readable (is_valid m.id l) chain) c.invalid.ensures)) ∙ u))
       ]
-      | inr t ↦ inr (base c.args.reader c.requires.live c.requires.inner (sym (ap (has_id i) (c.readable_both-read.ensures.base
+      | inr t ↦ inr (base c.args.reader c.requires.live c.requires.inner
+          (sym (ap (has_id i) (c.readable_both-read.ensures.base
           ∙ ap (λ (l : List ℕ). readable (is_valid_except l c.id.result c.invalid.result.now) chain) c.ids.ensures
           ∙ ap (λ (n : ℕ). readable (is_valid_except m.ids n c.invalid.result.now) chain) c.id.ensures.id
           ∙ ap (λ (l : List ℕ). readable (is_valid_except m.ids m.id l) chain) c.invalid.ensures)) ∙ t))

@@ -23,7 +23,8 @@ returns-clause-needed c =
     let chain = chain_of c.args.chains.now c.args.x in
     on_ok_more c.add_record_id.result (λ only. λ i h. elim (only i h) [
       | inl t ↦ inl t
-      | inr t ↦ inr (view c.args.reader c.requires.live c.if-reader-name.false (sym (ap (has_id i) (c.readable-found.ensures.is
+      | inr t ↦ inr (view c.args.reader c.requires.live c.if-reader-name.false
+          (sym (ap (has_id i) (c.readable-found.ensures.is
           ∙ ap (λ (n : ℕ). readable (is_valid n c.invalid.result.now) chain) c.id.ensures.id
           ∙ ap (λ (l : List ℕ). readable (is_valid m.id l) chain) c.invalid.ensures)) ∙ t))
     ]) c.add_record_id.ensures.only

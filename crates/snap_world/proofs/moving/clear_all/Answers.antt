@@ -15,9 +15,12 @@ loop-x-preserved c =
     let items = c.numbers-x-items.result.now in
     let x : ℕ = slice_index_or items c.loop-x.x-index 0 in
     record {
-      done = done_more (chain_without_ids c.args.ids.now) (clears_again c.args.ids.now) items c.args.count (chain_of c.args.chains.now) c.loop-x.x-index (chain_of c.loop-x.chains) (chain_of c.clear_at.new.chains) c.loop-x-test.true c.loop-x.invariant.done c.clear_at.ensures.put c.clear_at.ensures.others;
+      done = done_more (chain_without_ids c.args.ids.now) (clears_again c.args.ids.now) items c.args.count
+          (chain_of c.args.chains.now) c.loop-x.x-index (chain_of c.loop-x.chains) (chain_of c.clear_at.new.chains)
+          c.loop-x-test.true c.loop-x.invariant.done c.clear_at.ensures.put c.clear_at.ensures.others;
       past = λ y h. elim (same_or_other y x) [
-        | inl e ↦ ap (chain_of c.clear_at.new.chains) e ∙ c.clear_at.ensures.past (omega (arith, h, e)) ∙ ap (chain_of c.loop-x.chains) (sym e) ∙ c.loop-x.invariant.past y h
+        | inl e ↦ ap (chain_of c.clear_at.new.chains) e ∙ c.clear_at.ensures.past (omega (arith, h, e))
+            ∙ ap (chain_of c.loop-x.chains) (sym e) ∙ c.loop-x.invariant.past y h
         | inr e ↦ c.clear_at.ensures.others y e ∙ c.loop-x.invariant.past y h
       ];
       many = c.clear_at.ensures.many ∙ c.loop-x.invariant.many;
@@ -27,10 +30,14 @@ pub returns-clause-put : goal.returns-clause-put
 returns-clause-put c = λ x small noted.
     let items = c.numbers-x-items.result.now in
     let end : length items ≤ c.loop-x.x-index = omega (arith, c.loop-x-test.false) in
-    done_put (chain_without_ids c.args.ids.now) (clears_again c.args.ids.now) items c.args.count (chain_of c.args.chains.now) c.loop-x.x-index (chain_of c.loop-x.chains) end c.loop-x.invariant.done x small (ap (λ (l : List ℕ). contains x l) c.numbers-x-items.ensures ∙ noted)
+    done_put (chain_without_ids c.args.ids.now) (clears_again c.args.ids.now) items c.args.count
+    (chain_of c.args.chains.now) c.loop-x.x-index (chain_of c.loop-x.chains) end c.loop-x.invariant.done x small
+    (ap (λ (l : List ℕ). contains x l) c.numbers-x-items.ensures ∙ noted)
 
 pub returns-clause-left : goal.returns-clause-left
 returns-clause-left c = λ x unnoted.
     let items = c.numbers-x-items.result.now in
     let end : length items ≤ c.loop-x.x-index = omega (arith, c.loop-x-test.false) in
-    done_left (chain_without_ids c.args.ids.now) (clears_again c.args.ids.now) items c.args.count (chain_of c.args.chains.now) c.loop-x.x-index (chain_of c.loop-x.chains) end c.loop-x.invariant.done c.loop-x.invariant.past x (ap (λ (l : List ℕ). contains x l) c.numbers-x-items.ensures ∙ unnoted)
+    done_left (chain_without_ids c.args.ids.now) (clears_again c.args.ids.now) items c.args.count
+    (chain_of c.args.chains.now) c.loop-x.x-index (chain_of c.loop-x.chains) end c.loop-x.invariant.done
+    c.loop-x.invariant.past x (ap (λ (l : List ℕ). contains x l) c.numbers-x-items.ensures ∙ unnoted)

@@ -10,6 +10,8 @@ use Rattle.snap_world.proofs.moving.pad_all.Given as goal
 abbrev pub invariant-loop-s : goal.invariant-loop-s
 invariant-loop-s l = record {
   padded : (x : ℕ) → Padded (chain_of l.initial.chains x) (chain_of l.chains x);
-  head : (f : ℕ → StampedValue) → EntriesAre f l.settled → (x : ℕ) → x < length l.initial.chains.heads.items → contains x (take l.s-index (objects_of l.settled)) ≡ true → slice_get (chain_of l.chains x) 0 ≡ Some (blank (f x));
+  head : (f : ℕ → StampedValue) → EntriesAre f l.settled → (x : ℕ) → x < length l.initial.chains.heads.items
+      → contains x (take l.s-index (objects_of l.settled)) ≡ true
+      → slice_get (chain_of l.chains x) 0 ≡ Some (blank (f x));
   many : length l.chains.heads.items ≡ length l.initial.chains.heads.items;
 }

@@ -19,15 +19,22 @@ loop-s-preserved c =
     let there : slice_get xs at ≡ Some s = slice_get_read xs (length xs) at s refl c.loop-s-test.true c.s-item.is in
     record {
       put = λ f are x small listed. elim (same_or_other x s.object) [
-        | inl e ↦ ap (λ (n : ℕ). slice_index_or c.set_stamp.new.stamps.items n 0) e ∙ c.set_stamp.ensures.here (omega (arith, small, e, c.loop-s.invariant.many)) ∙ ap (λ (d : StampedValue). d.stamp) (are at s there) ∙ ap (λ (n : ℕ). (f n).stamp) (sym e)
-        | inr e ↦ c.set_stamp.ensures.others x e ∙ elim (or_true (contains x (take at (objects_of xs))) (s.object == x) (sym (contains_object x xs at s there) ∙ listed)) [
-          | inl before ↦ c.loop-s.invariant.put f are x small before
-          | inr same ↦ absurd (e (sym ((Decides-eqb s.object x).0 same)))
-        ]
+        | inl e ↦ ap (λ (n : ℕ). slice_index_or c.set_stamp.new.stamps.items n 0) e
+            ∙ c.set_stamp.ensures.here (omega (arith, small, e, c.loop-s.invariant.many))
+            ∙ ap (λ (d : StampedValue). d.stamp) (are at s there) ∙ ap (λ (n : ℕ). (f n).stamp) (sym e)
+        | inr e ↦ c.set_stamp.ensures.others x e
+            ∙ elim (or_true (contains x (take at (objects_of xs))) (s.object == x)
+            (sym (contains_object x xs at s there) ∙ listed)) [
+              | inl before ↦ c.loop-s.invariant.put f are x small before
+              | inr same ↦ absurd (e (sym ((Decides-eqb s.object x).0 same)))
+            ]
       ];
       left = λ x unlisted. elim (same_or_other x s.object) [
-        | inl e ↦ absurd (clash (contains x (take at (objects_of xs))) (s.object == x) ((Decides-eqb s.object x).1 (sym e)) (sym (contains_object x xs at s there) ∙ unlisted))
-        | inr e ↦ c.set_stamp.ensures.others x e ∙ c.loop-s.invariant.left x (first (contains x (take at (objects_of xs))) (s.object == x) (sym (contains_object x xs at s there) ∙ unlisted))
+        | inl e ↦ absurd (clash (contains x (take at (objects_of xs))) (s.object == x)
+            ((Decides-eqb s.object x).1 (sym e)) (sym (contains_object x xs at s there) ∙ unlisted))
+        | inr e ↦ c.set_stamp.ensures.others x e
+            ∙ c.loop-s.invariant.left x (first (contains x (take at (objects_of xs))) (s.object == x)
+            (sym (contains_object x xs at s there) ∙ unlisted))
       ];
       many = c.set_stamp.ensures.many ∙ c.loop-s.invariant.many;
     } where
@@ -42,5 +49,7 @@ loop-s-preserved c =
 pub returns-clause-put : goal.returns-clause-put
 returns-clause-put c = λ f are x small listed.
     let xs = c.args.settled.now in
-    let end : length (objects_of xs) ≤ c.loop-s.s-index = omega (arith, c.loop-s-test.false, length-map xs (λ (t : Settled). t.object)) in
-    c.loop-s.invariant.put f are x small (ap (λ (l : List ℕ). contains x l) (take_all c.loop-s.s-index (objects_of xs) end) ∙ listed)
+    let end : length (objects_of xs) ≤ c.loop-s.s-index =
+    omega (arith, c.loop-s-test.false, length-map xs (λ (t : Settled). t.object)) in
+    c.loop-s.invariant.put f are x small
+    (ap (λ (l : List ℕ). contains x l) (take_all c.loop-s.s-index (objects_of xs) end) ∙ listed)

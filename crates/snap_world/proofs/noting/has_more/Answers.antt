@@ -12,4 +12,5 @@ loop-s-preserved c =
     let s : Settled = c.s-item.result in
     sym (skip_taken s (drop (at + 1) xs) c.args.noted.now (sym c.is_more.ensures ∙ c.if-is_more.false))
     ∙ ap (λ (t : Settled). with_taken (t ∷ drop (at + 1) xs) c.args.noted.now) c.s-item.is
-    ∙ sym (at_drop_more (λ (l : List Settled). with_taken l c.args.noted.now) xs at s c.loop-s-test.true) ∙ c.loop-s.invariant
+    ∙ sym (at_drop_more (λ (l : List Settled). with_taken l c.args.noted.now) xs at s c.loop-s-test.true)
+    ∙ c.loop-s.invariant

@@ -11,5 +11,8 @@ returns-clause-left c = λ s.
     let p = c.args.self.now in
     let groups = p.table.now.groups in
     let j = c.index_after-self.result in
-    next_taken groups (is_some p.queues) (same_sibling (sibling_key (group_at groups p.next)) s) p.next (indexes_in p.queues s) (level_indexes s p.depth p.next (drop p.next groups)) (level_indexes s p.depth j (drop j groups)) c.requires.ordered
-    (level_step s groups p.depth p.next j c.requires.level c.index_after-self.ensures.after c.index_after-self.ensures.inside)
+    next_taken groups (is_some p.queues) (same_sibling (sibling_key (group_at groups p.next)) s) p.next
+    (indexes_in p.queues s) (level_indexes s p.depth p.next (drop p.next groups))
+    (level_indexes s p.depth j (drop j groups)) c.requires.ordered
+    (level_step s groups p.depth p.next j c.requires.level c.index_after-self.ensures.after
+    c.index_after-self.ensures.inside)

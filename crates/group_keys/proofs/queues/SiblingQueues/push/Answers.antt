@@ -10,19 +10,19 @@ pub returns-in-None : goal.returns-in-None
 returns-in-None c = λ s.
     let w = c.with.result in
     queue_after queued_indexes (λ (t : GroupKey). get same_sibling c.args.self.now.queues t) c.args.key s w
-        (get same_sibling c.insert.new.self s) (λ l. l ++ c.args.index ∷ [])
+    (get same_sibling c.insert.new.self s) (λ l. l ++ c.args.index ∷ [])
     (c.with.ensures ∙ ap (λ o. option_map_or queued_indexes o [] ++ c.args.index ∷ [])
-        (sym c.in-None.is ∙ c.in_ok-insert.ensures.old))
+    (sym c.in-None.is ∙ c.in_ok-insert.ensures.old))
     (c.in_ok-insert.ensures.updates.0 s)
 
 pub returns-in_ok-insert-in-Some : goal.returns-in_ok-insert-in-Some
 returns-in_ok-insert-in-Some c = λ s.
     let w = c.push.new.self in
     queue_after queued_indexes (λ (t : GroupKey). get same_sibling c.args.self.now.queues t) c.args.key s w
-        (get same_sibling c.insert-in-Some.new.self s) (λ l. l ++ c.args.index ∷ [])
+    (get same_sibling c.insert-in-Some.new.self s) (λ l. l ++ c.args.index ∷ [])
     (c.in_ok-push-in-Some.ensures ∙ ap (λ o. option_map_or queued_indexes o [] ++ c.args.index ∷ [])
-        (sym c.in-Some.is ∙ c.in_ok-insert.ensures.old))
+    (sym c.in-Some.is ∙ c.in_ok-insert.ensures.old))
     (replaced_twice (same_sibling c.args.key s) _ _ _ _ _ (c.in_ok-insert.ensures.updates.0 s)
     (c.in_ok-insert-in-Some.ensures.updates.0 s
-        ∙ ap (λ (t : GroupKey). cond (same_sibling t s) (Some w) (get same_sibling c.insert.new.self s))
-        c.copy-again.ensures))
+    ∙ ap (λ (t : GroupKey). cond (same_sibling t s) (Some w) (get same_sibling c.insert.new.self s))
+    c.copy-again.ensures))

@@ -13,16 +13,16 @@ returns-in-Some-clause-left c = λ s.
     let w = c.pop.new.self in
     let some = subst (λ o. IsSome o) c.in-Some.ensures.value refl in
     queue_after queued_indexes (λ (t : GroupKey). get same_sibling c.args.self.now.queues t)
-        (lookup_key c.lookup.result) s w (get same_sibling (c.get_mut.follows.lender w) s) (λ l. drop 1 l)
+    (lookup_key c.lookup.result) s w (get same_sibling (c.get_mut.follows.lender w) s) (λ l. drop 1 l)
     (c.pop.ensures.left ∙ ap (λ o. drop 1 (option_map_or queued_indexes o [])) c.in-Some.ensures.value)
     (((c.get_mut.follows.holds w).3 some).0 s)
     ∙ ap (λ (t : GroupKey). if same_sibling t s then drop 1 (queue_of c.args.self.now s)
-        else queue_of c.args.self.now s) c.lookup.ensures
+    else queue_of c.args.self.now s) c.lookup.ensures
 
 pub returns-in-None-clause-left : goal.returns-in-None-clause-left
 returns-in-None-clause-left c = λ s.
     ap (λ m. option_map_or queued_indexes (get same_sibling m s) []) c.get_mut.follows.holds-at-none
     ∙ none_after queued_indexes (λ (t : GroupKey). get same_sibling c.args.self.now.queues t)
-        (lookup_key c.lookup.result) s (sym c.in-None.ensures.value)
+    (lookup_key c.lookup.result) s (sym c.in-None.ensures.value)
     ∙ ap (λ (t : GroupKey). if same_sibling t s then drop 1 (queue_of c.args.self.now s)
-        else queue_of c.args.self.now s) c.lookup.ensures
+    else queue_of c.args.self.now s) c.lookup.ensures

@@ -8,11 +8,11 @@ returns-clause-spare c =
     let same = c.remove_from_lists.ensures.spare in
     let view = ap (λ l. l.spare) c.self.view_is in
     let have = below_spare (λ v. vec_capacity v - vec_len v) c.args.self.now.spare
-        (spare c.self.inside.objects) c.self.inside.objects.entries c.self.inside.pool.items (omega (arith, view)) in
+    (spare c.self.inside.objects) c.self.inside.objects.entries c.self.inside.pool.items (omega (arith, view)) in
     let map = have.map in
     spare_is (λ v. vec_capacity v - vec_len v) c.args.self.now.spare
-        (spare c.remove_from_lists.new.objects) c.remove_from_lists.new.objects.entries c.self.inside.pool.items
-        (record {
+    (spare c.remove_from_lists.new.objects) c.remove_from_lists.new.objects.entries c.self.inside.pool.items
+    (record {
       map = omega (arith, map, same);
       count = have.count;
       ready = have.ready;

@@ -5,5 +5,5 @@ use Rattle.read_links.proofs.links.Links.put.Given as goal
 abbrev pub invariant-loop-object : goal.invariant-loop-object
 invariant-loop-object l =
     (links_with_all l.scope (drop l.object-index l.objects) l.self.links
-        ≡ links_with_all l.scope l.objects l.initial.self.links)
+    ≡ links_with_all l.scope l.objects l.initial.self.links)
     × (l.initial.self.spare ≤ l.self.spare + l.object-index)

@@ -9,7 +9,7 @@ returns-clause-room c =
     let enough = c.in_ok-reserve.ensures.ok in
     let count = c.in_ok-pool.ensures.len in
     spare_is (λ v. vec_capacity v - vec_len v) c.args.n
-        (spare c.reserve_lists.new.objects) c.reserve_lists.new.objects.entries c.in_ok-pool.pool.items (record {
+    (spare c.reserve_lists.new.objects) c.reserve_lists.new.objects.entries c.in_ok-pool.pool.items (record {
       map = omega (arith, same, enough);
       count = omega (arith, count);
       ready = c.in_ok-pool.ensures.room;

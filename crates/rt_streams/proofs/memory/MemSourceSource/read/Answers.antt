@@ -12,7 +12,7 @@ handed items front back at n within e =
     let next : front ≡ take n (drop at items) = grind (arith, common_steps, e, take_rest) in
     let len : length front ≡ n = rw (next, length-take, length-drop) (omega arith) in
     sym (ap (λ l. l ++ drop (at + n) items) (take_at front back n len ∙ next)
-        ∙ ap (λ l. take n (drop at items) ++ l) (sym (drop-drop n at items)) ∙ take-append-drop n (drop at items))
+    ∙ ap (λ l. take n (drop at items) ++ l) (sym (drop-drop n at items)) ∙ take-append-drop n (drop at items))
 
 pub returns-clause-bytes : goal.returns-clause-bytes
 returns-clause-bytes c =

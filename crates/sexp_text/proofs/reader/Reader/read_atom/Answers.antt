@@ -16,10 +16,13 @@ returns-clause-ok c =
     let f : Forest = trees c.args.self.now in
     let name = c.in_ok-of.field-0 in
     let scan = scan_of is_atom_byte bytes at n
-        (record { within = c.atom_len.ensures.within; all = c.atom_len.ensures.atom;
-        after = c.atom_len.ensures.after }) in
+    (record {
+      within = c.atom_len.ensures.within;
+      all = c.atom_len.ensures.atom;
+      after = c.atom_len.ensures.after;
+    }) in
     let some = scan_some is_atom_byte bytes at n scan c.requires.inside c.requires.begins in
     λ r. rw (length-take-le n (take (length bytes - at) (drop at bytes)) c.atom_len.ensures.within)
     (atom_taken bytes at n os (lists c.put.new.self) f (trees c.put.new.self) name scan some c.requires.inside
     (c.in_ok-of.ensures ∙ ap (take n) (tail_is bytes at)) c.in_ok-put.ensures.lists
-        (c.in_ok-put.ensures.trees ∙ ap (joined_trees f) (view-Atom at name)) r)
+    (c.in_ok-put.ensures.trees ∙ ap (joined_trees f) (view-Atom at name)) r)

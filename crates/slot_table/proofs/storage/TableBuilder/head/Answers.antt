@@ -5,7 +5,7 @@ use Rattle.slot_table.proofs.storage.TableBuilder.head.Goals as goal
 pub index-requires : goal.index-requires
 index-requires c =
     let inside = inside_heads c.args.self.now c.self.inside.heads.items c.self.inside.slots.items c.args.i
-        c.self.view_is c.self.invariant.0 c.requires in
+    c.self.view_is c.self.invariant.0 c.requires in
     let long = c.len-length.ensures in
     omega (arith, inside, long)
 

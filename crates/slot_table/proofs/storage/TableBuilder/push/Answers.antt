@@ -5,8 +5,8 @@ use Rattle.slot_table.proofs.storage.TableBuilder.push.Goals as goal
 pub returns-clause-added : goal.returns-clause-added
 returns-clause-added c =
     (parts_pushed c.self.inside.heads.items c.push_reserved.new.self.items c.self.inside.slots.items
-        c.push_reserved-2.new.self.items c.args.self.now c.group.inside.head c.group.inside.slots c.args.group
+    c.push_reserved-2.new.self.items c.args.self.now c.group.inside.head c.group.inside.slots c.args.group
     (record { joined = c.self.view_is; long = c.self.invariant.0; nodes = c.self.invariant.1 })
     c.group.invariant (c.push_reserved.ensures.items
-        ∙ ap (λ l. l ++ c.group.inside.head ∷ []) c.make_room.ensures.items) (c.push_reserved-2.ensures.items
-        ∙ ap (λ l. l ++ c.group.inside.slots ∷ []) c.make_room-2.ensures.items) c.group.view_is).joined
+    ∙ ap (λ l. l ++ c.group.inside.head ∷ []) c.make_room.ensures.items) (c.push_reserved-2.ensures.items
+    ∙ ap (λ l. l ++ c.group.inside.slots ∷ []) c.make_room-2.ensures.items) c.group.view_is).joined

@@ -5,7 +5,7 @@ use Rattle.slot_table.proofs.storage.TableBuilder.set_reads.Goals as goal
 pub index_mut-requires : goal.index_mut-requires
 index_mut-requires c =
     let inside = inside_heads c.args.self.now c.self.inside.heads.items c.self.inside.slots.items c.args.i
-        c.self.view_is c.self.invariant.0 c.requires in
+    c.self.view_is c.self.invariant.0 c.requires in
     let long = c.len-length.ensures in
     let same = c.self.invariant.0 in
     omega (arith, inside, long, same)
@@ -13,13 +13,13 @@ index_mut-requires c =
 pub invariant_of-self : goal.invariant_of-self
 invariant_of-self c =
     let parts = set_parts c.self.inside.heads.items c.self.inside.slots.items c.args.self.now c.args.i _
-        c.index_mut.result.now c.args.reads
-        (record { joined = c.self.view_is; long = c.self.invariant.0; nodes = c.self.invariant.1 }) c.requires
-        c.index_mut.ensures.value (ap (λ s. s.what) c.behind-self.view_is) c.in_ok-reads.ensures in
+    c.index_mut.result.now c.args.reads
+    (record { joined = c.self.view_is; long = c.self.invariant.0; nodes = c.self.invariant.1 }) c.requires
+    c.index_mut.ensures.value (ap (λ s. s.what) c.behind-self.view_is) c.in_ok-reads.ensures in
     (parts.long, parts.nodes)
 
 pub returns-clause-set : goal.returns-clause-set
 returns-clause-set c =
     (set_parts c.self.inside.heads.items c.self.inside.slots.items c.args.self.now c.args.i _ c.index_mut.result.now
-        c.args.reads (record { joined = c.self.view_is; long = c.self.invariant.0; nodes = c.self.invariant.1 })
-        c.requires c.index_mut.ensures.value (ap (λ s. s.what) c.behind-self.view_is) c.in_ok-reads.ensures).joined
+    c.args.reads (record { joined = c.self.view_is; long = c.self.invariant.0; nodes = c.self.invariant.1 })
+    c.requires c.index_mut.ensures.value (ap (λ s. s.what) c.behind-self.view_is) c.in_ok-reads.ensures).joined

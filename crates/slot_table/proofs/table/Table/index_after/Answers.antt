@@ -13,17 +13,17 @@ pub returns-clause-inside : goal.returns-clause-inside
 returns-clause-inside c =
     let gs = c.args.self.now.groups in
     after_fits gs (first_of_rest gs c.args.i c.requires).first c.args.i c.index.result.now c.requires
-        (count_known gs (joined_groups c.self.inside.groups.items c.self.inside.slots.items) c.self.inside.counts.items
-        c.args.i c.index.result.now (ap (λ s. s.groups) c.self.view_is) c.self.invariant.1 c.index.ensures)
+    (count_known gs (joined_groups c.self.inside.groups.items c.self.inside.slots.items) c.self.inside.counts.items
+    c.args.i c.index.result.now (ap (λ s. s.groups) c.self.view_is) c.self.invariant.1 c.index.ensures)
 
 pub overflow_add-result-2 : goal.overflow_add-result-2
 overflow_add-result-2 c =
     let fits = returns-clause-inside c in let len = c.len-length.ensures in let bound = c.len-length.type_inv in
-        omega (arith, fits, len, bound)
+    omega (arith, fits, len, bound)
 
 pub returns-clause-after : goal.returns-clause-after
 returns-clause-after c = λ g rest is.
     let gs = c.args.self.now.groups in
     after_is gs rest g c.args.i c.index.result.now is
-        (count_known gs (joined_groups c.self.inside.groups.items c.self.inside.slots.items) c.self.inside.counts.items
-        c.args.i c.index.result.now (ap (λ s. s.groups) c.self.view_is) c.self.invariant.1 c.index.ensures)
+    (count_known gs (joined_groups c.self.inside.groups.items c.self.inside.slots.items) c.self.inside.counts.items
+    c.args.i c.index.result.now (ap (λ s. s.groups) c.self.view_is) c.self.invariant.1 c.index.ensures)

@@ -5,7 +5,7 @@ use Rattle.slot_table.proofs.table.Table.slot.Goals as goal
 pub get-requires : goal.get-requires
 get-requires c =
     let inside = inside_heads c.args.self.now.groups c.self.inside.groups.items c.self.inside.slots.items c.args.i
-        (ap (λ t. t.groups) c.self.view_is) c.self.invariant.0 c.requires in
+    (ap (λ t. t.groups) c.self.view_is) c.self.invariant.0 c.requires in
     let same = c.self.invariant.0 in
     omega (arith, inside, same)
 

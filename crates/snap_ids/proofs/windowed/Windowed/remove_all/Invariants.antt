@@ -7,7 +7,8 @@ use Rattle.snap_ids.proofs.windowed.Windowed.remove_all.Given as goal
 abbrev pub invariant-loop-next : goal.invariant-loop-next
 invariant-loop-next l = record {
   same : without_ids (ids_in l.self) (ids_in l.other) ≡ without_ids (ids_in l.initial.self) (ids_in l.other);
-  kept : (i : ℕ) → contains i (ids_in l.self) ≡ true → contains i (rest_from l.next (ids_in l.self)) ≡ false → contains i (ids_in l.other) ≡ false;
+  kept : (i : ℕ) → contains i (ids_in l.self) ≡ true → contains i (rest_from l.next (ids_in l.self)) ≡ false
+      → contains i (ids_in l.other) ≡ false;
 }
 
 abbrev pub decreases-loop-next : goal.decreases-loop-next

@@ -16,10 +16,17 @@ loop-i-preserved c =
     record {
       best = elim c.if-best-r.branch [
         | then-best-r+then-valid_except w ↦ subst (λ (b : Numbered). IsBest s sees chain rest b) (sym w.best-is)
-            (takes_higher s sees chain c.args.x c.loop-i.i (c.loop-i.i + 1) r c.loop-i.best (omega arith) c.numbered-r.ensures.at c.numbered-r.ensures.is c.loop-i.invariant.best (sym w.valid_except.ensures ∙ w.if-valid_except.true) (omega (arith, w.if-best-r.true)))
-        | else-best-r w ↦ subst (λ (b : Numbered). IsBest s sees chain rest b) (sym w.best-is) (elim w.else-best-r.branch [
-          | else-best-r-via-then-best-r+else-valid_except v ↦ skips_invalid s sees chain c.args.x c.loop-i.i (c.loop-i.i + 1) r c.loop-i.best (omega arith) c.numbered-r.ensures.at c.numbered-r.ensures.is c.loop-i.invariant.best (sym v.valid_except.ensures ∙ v.if-valid_except.false)
-          | else-best-r-via-else-best-r v ↦ skips_lower s sees chain c.args.x c.loop-i.i (c.loop-i.i + 1) r c.loop-i.best (omega arith) c.numbered-r.ensures.at c.numbered-r.ensures.is c.loop-i.invariant.best refl (omega (arith, v.if-best-r.false))
-        ])
+            (takes_higher s sees chain c.args.x c.loop-i.i (c.loop-i.i + 1) r c.loop-i.best (omega arith)
+            c.numbered-r.ensures.at c.numbered-r.ensures.is c.loop-i.invariant.best
+            (sym w.valid_except.ensures ∙ w.if-valid_except.true) (omega (arith, w.if-best-r.true)))
+        | else-best-r w ↦ subst (λ (b : Numbered). IsBest s sees chain rest b) (sym w.best-is)
+            (elim w.else-best-r.branch [
+              | else-best-r-via-then-best-r+else-valid_except v ↦ skips_invalid s sees chain c.args.x c.loop-i.i
+                  (c.loop-i.i + 1) r c.loop-i.best (omega arith) c.numbered-r.ensures.at c.numbered-r.ensures.is
+                  c.loop-i.invariant.best (sym v.valid_except.ensures ∙ v.if-valid_except.false)
+              | else-best-r-via-else-best-r v ↦ skips_lower s sees chain c.args.x c.loop-i.i (c.loop-i.i + 1) r
+                  c.loop-i.best (omega arith) c.numbered-r.ensures.at c.numbered-r.ensures.is c.loop-i.invariant.best refl
+                  (omega (arith, v.if-best-r.false))
+            ])
       ];
     }

@@ -12,5 +12,7 @@ one_log a b e = cc
 pub returns-clause-seats : goal.returns-clause-seats
 returns-clause-seats g c =
     let e = c.close.ensures.ended in
-    let same : e.0 ≡ c.into_parts.result.1.items = one_log e.0 c.into_parts.result.1.items (sym e.1 ∙ c.into_parts.ensures.log) in
-    subst (λ (l : List Entry). All (λ (x : Seat (LogWorld g.row.V.Denot)). ContainsSeat l x.number x.seat.me.0.seen) c.args.seats.items) same e.3
+    let same : e.0 ≡ c.into_parts.result.1.items =
+    one_log e.0 c.into_parts.result.1.items (sym e.1 ∙ c.into_parts.ensures.log) in
+    subst (λ (l : List Entry). All (λ (x : Seat (LogWorld g.row.V.Denot)). ContainsSeat l x.number x.seat.me.0.seen)
+    c.args.seats.items) same e.3

@@ -6,5 +6,7 @@ use Rattle.snap_shared.proofs.shared.Shared.open.Goals as goal
 
 pub new-requires : goal.new-requires
 new-requires g c =
-    opens_with caller_of g.W.Versions.log (IsWorldAfter g.W.P.Policy.rules g.W.Versions.stands) c.of.result.value c.args.count c.in-Ok.slots.items (c.in-Ok.ensures ∙ ap (λ w. Some w ∷ []) (sym c.of.ensures))
-    (ap g.W.Versions.log c.of.ensures ∙ c.requires.empty) (follows_none g.W.P.Policy.rules g.W.Versions.stands c.of.result.value)
+    opens_with caller_of g.W.Versions.log (IsWorldAfter g.W.P.Policy.rules g.W.Versions.stands) c.of.result.value
+    c.args.count c.in-Ok.slots.items (c.in-Ok.ensures ∙ ap (λ w. Some w ∷ []) (sym c.of.ensures))
+    (ap g.W.Versions.log c.of.ensures ∙ c.requires.empty)
+    (follows_none g.W.P.Policy.rules g.W.Versions.stands c.of.result.value)

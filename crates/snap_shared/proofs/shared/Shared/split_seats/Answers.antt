@@ -11,8 +11,13 @@ use Rattle.snap_shared.proofs.shared.Shared.split_seats.Goals as goal
 
 pub split_seat-seat-requires : goal.split_seat-seat-requires
 split_seat-seat-requires g c =
-    let inv = c.loop-number.invariant in
-    (inv.0, omega (arith, c.args.self.now.words), splits_seat caller_of g.W.Versions.log (IsWorldAfter g.W.P.Policy.rules g.W.Versions.stands) c.args.self.now.table.shared.key.world.value c.args.self.now.table.shared.key.seats c.loop-number.first.id c.loop-number.first.me.0 (ap (λ m. m.0.phase) inv.1))
+    let inv = c.loop-number.invariant in (
+      inv.0,
+      omega (arith, c.args.self.now.words),
+      splits_seat caller_of g.W.Versions.log (IsWorldAfter g.W.P.Policy.rules g.W.Versions.stands)
+          c.args.self.now.table.shared.key.world.value c.args.self.now.table.shared.key.seats c.loop-number.first.id
+          c.loop-number.first.me.0 (ap (λ m. m.0.phase) inv.1),
+    )
 
 pub loop-number-preserved : goal.loop-number-preserved
 loop-number-preserved g c =
@@ -24,12 +29,18 @@ loop-number-preserved g c =
     let less = c.loop-number-test.true in
     let long : c.args.count - k ≡ suc n = omega (arith, less, inv.5) in
     let whole = view ∙ ap (λ x. state_with_callers key k x) long in
-    let own = cut_rests key k n c.split_seat-seat.result.me c.loop-number.first.me.0 whole c.split_seat-seat.ensures.4 in (
+    let own = cut_rests key k n c.split_seat-seat.result.me c.loop-number.first.me.0 whole
+    c.split_seat-seat.ensures.4 in (
       c.split_seat-seat.ensures.0 ∙ inv.0,
-      cut_rest key k n c.split_seat-seat.new.seat.me c.loop-number.first.me.0 c.loop-number.first.me.1 whole (ap (λ m. m.1) inv.1) c.split_seat-seat.ensures.2,
-      All-same (λ (x : Seat g.row.W.Denot). IsNewSeatOf c.args.self.now.table.shared.table_id key x.seat.table_id x.seat.me x.number) _ _ c.in-Ok.ensures
-          (All-push (λ (x : Seat g.row.W.Denot). IsNewSeatOf c.args.self.now.table.shared.table_id key x.seat.table_id x.seat.me x.number) c.loop-number.seats.items _ inv.2 ((c.split_seat-seat.ensures.3 ∙ inv.0, own.0), own.1)),
-      split_numbers (λ (x : Seat g.row.W.Denot). x.number) c.push_seat.new.seats.items c.loop-number.seats.items _ k c.in-Ok.ensures refl inv.3,
+      cut_rest key k n c.split_seat-seat.new.seat.me c.loop-number.first.me.0 c.loop-number.first.me.1 whole
+          (ap (λ m. m.1) inv.1) c.split_seat-seat.ensures.2,
+      All-same (λ (x : Seat g.row.W.Denot). IsNewSeatOf c.args.self.now.table.shared.table_id key x.seat.table_id
+          x.seat.me x.number) _ _ c.in-Ok.ensures
+          (All-push (λ (x : Seat g.row.W.Denot). IsNewSeatOf c.args.self.now.table.shared.table_id key x.seat.table_id
+          x.seat.me x.number) c.loop-number.seats.items _ inv.2
+          ((c.split_seat-seat.ensures.3 ∙ inv.0, own.0), own.1)),
+      split_numbers (λ (x : Seat g.row.W.Denot). x.number) c.push_seat.new.seats.items c.loop-number.seats.items _ k
+          c.in-Ok.ensures refl inv.3,
       omega (arith, less),
       inv.5,
     )
@@ -40,7 +51,10 @@ returns-clause-numbers g c =
     let past = c.loop-number-test.false in
     let same : c.loop-number.number ≡ c.args.count - 1 = omega (arith, past, inv.4, inv.5) in
     let last : c.args.count - 1 + 1 ≡ c.args.count = omega (arith, c.requires.some) in
-    split_numbers (λ (x : Seat g.row.W.Denot). x.number) c.push_seat-2.new.seats.items c.loop-number.seats.items _ c.loop-number.number c.in-Ok-push_seat.ensures (sym same) inv.3 ∙ ap numbers_below (ap (λ (k : ℕ). k + 1) same ∙ last)
+    split_numbers (λ (x : Seat g.row.W.Denot). x.number) c.push_seat-2.new.seats.items c.loop-number.seats.items _
+    c.loop-number.number c.in-Ok-push_seat.ensures (sym same) inv.3
+    ∙ ap numbers_below (ap (λ (k : ℕ). k + 1) same ∙ last)
 
 pub returns-clause-many : goal.returns-clause-many
-returns-clause-many g c = numbers_length (λ (x : Seat g.row.W.Denot). x.number) c.push_seat-2.new.seats.items c.args.count (returns-clause-numbers g c)
+returns-clause-many g c = numbers_length (λ (x : Seat g.row.W.Denot). x.number) c.push_seat-2.new.seats.items
+    c.args.count (returns-clause-numbers g c)

@@ -13,4 +13,6 @@ exchange-requires g c =
 pub returns-clause-taken : goal.returns-clause-taken
 returns-clause-taken g c =
     let tk = c.wait_turn.ensures.taken in
-    has_turn g.W.Versions.log (IsWorldAfter g.W.P.Policy.rules g.W.Versions.stands) c.args.seat.now.me c.wait_turn.new.seat.me c.exchange.new.seat.me c.exchange.result c.in-Some.world tk c.exchange.ensures.2 c.in-Some.is c.exchange.ensures.3
+    has_turn g.W.Versions.log (IsWorldAfter g.W.P.Policy.rules g.W.Versions.stands) c.args.seat.now.me
+    c.wait_turn.new.seat.me c.exchange.new.seat.me c.exchange.result c.in-Some.world tk c.exchange.ensures.2
+    c.in-Some.is c.exchange.ensures.3

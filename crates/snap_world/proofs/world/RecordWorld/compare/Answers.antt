@@ -17,14 +17,18 @@ returns-in-Some-clause-is g c =
     let q : Rec = record_at c.args.self.now.chains c.in-Some.record.0 in
     let chain : List Rec = chain_of c.args.self.now.chains c.args.object in
     let found : Some q ≡ readable (is_valid c.id.result c.invalid.result.now) chain = c.in-Some.ensures.is in
-    let at_id : Some q ≡ readable (is_valid m.id c.invalid.result.now) chain = subst (λ (n : ℕ). Some q ≡ readable (is_valid n c.invalid.result.now) chain) c.id.ensures.id found in
-    let at_both : Some q ≡ readable (is_valid m.id m.invalid) chain = subst (λ (l : List ℕ). Some q ≡ readable (is_valid m.id l) chain) c.invalid.ensures at_id in
+    let at_id : Some q ≡ readable (is_valid m.id c.invalid.result.now) chain =
+    subst (λ (n : ℕ). Some q ≡ readable (is_valid n c.invalid.result.now) chain) c.id.ensures.id found in
+    let at_both : Some q ≡ readable (is_valid m.id m.invalid) chain =
+    subst (λ (l : List ℕ). Some q ≡ readable (is_valid m.id l) chain) c.invalid.ensures at_id in
     record {
       object = c.index-kept.result.now;
-      there = slice_get_read c.args.self.now.objects.items (length c.args.self.now.objects.items) c.args.object c.index-kept.result.now refl c.requires.there c.index-kept.ensures;
+      there = slice_get_read c.args.self.now.objects.items (length c.args.self.now.objects.items) c.args.object
+          c.index-kept.result.now refl c.requires.there c.index-kept.ensures;
       entry = q.entry;
       reads = read_found (is_valid m.id m.invalid) chain q at_both;
-      is = ap (λ (v : Value). g.P.Policy.rules.equiv c.index-kept.result.now.policy v c.args.value.now) (sym c.value.ensures) ∙ sym c.equivalent.ensures;
+      is = ap (λ (v : Value). g.P.Policy.rules.equiv c.index-kept.result.now.policy v c.args.value.now)
+          (sym c.value.ensures) ∙ sym c.equivalent.ensures;
     }
 
 pub returns-in-None-clause-none : goal.returns-in-None-clause-none
@@ -32,6 +36,8 @@ returns-in-None-clause-none g c =
     let m : Member = member c.args.self.now.family.members.items c.args.name in
     let chain : List Rec = chain_of c.args.self.now.chains c.args.object in
     let found : None ≡ readable (is_valid c.id.result c.invalid.result.now) chain = c.in-None.ensures.is in
-    let at_id : None ≡ readable (is_valid m.id c.invalid.result.now) chain = subst (λ (n : ℕ). None ≡ readable (is_valid n c.invalid.result.now) chain) c.id.ensures.id found in
-    let at_both : None ≡ readable (is_valid m.id m.invalid) chain = subst (λ (l : List ℕ). None ≡ readable (is_valid m.id l) chain) c.invalid.ensures at_id in
+    let at_id : None ≡ readable (is_valid m.id c.invalid.result.now) chain =
+    subst (λ (n : ℕ). None ≡ readable (is_valid n c.invalid.result.now) chain) c.id.ensures.id found in
+    let at_both : None ≡ readable (is_valid m.id m.invalid) chain =
+    subst (λ (l : List ℕ). None ≡ readable (is_valid m.id l) chain) c.invalid.ensures at_id in
     λ e reads. read_none (is_valid m.id m.invalid) chain e at_both reads

@@ -14,29 +14,43 @@ pub returns-then-x-len-clause-free : goal.returns-then-x-len-clause-free
 returns-then-x-len-clause-free g c = λ w s inner free.
     let items = c.noted-x-items.result.now in
     let x : ℕ = slice_index_or items c.loop-x.x-index 0 in
-    let eq : items ≡ slice_index_or c.args.self.now.wrote.items c.args.name [] = c.noted-x-items.ensures ∙ ap (λ (l : List (List ℕ)). slice_index_or l c.args.name []) c.deref.ensures.value in
-    let listed : contains x (slice_index_or c.args.self.now.wrote.items c.args.name []) ≡ true = ap (λ (l : List ℕ). contains x l) (sym eq) ∙ contains-at items c.loop-x.x-index c.loop-x-test.true in
-    absurd (omega (arith, s.within c.args.name x c.requires.live listed, c.if-x-len.true, c.len.ensures, c.args.self.now.objects.ok.0))
+    let eq : items ≡ slice_index_or c.args.self.now.wrote.items c.args.name [] = c.noted-x-items.ensures
+    ∙ ap (λ (l : List (List ℕ)). slice_index_or l c.args.name []) c.deref.ensures.value in
+    let listed : contains x (slice_index_or c.args.self.now.wrote.items c.args.name []) ≡ true =
+    ap (λ (l : List ℕ). contains x l) (sym eq) ∙ contains-at items c.loop-x.x-index c.loop-x-test.true in
+    absurd (omega (
+      arith,
+      s.within c.args.name x c.requires.live listed,
+      c.if-x-len.true,
+      c.len.ensures,
+      c.args.self.now.objects.ok.0,
+    ))
 
 pub returns-in_default-clause-free : goal.returns-in_default-clause-free
 returns-in_default-clause-free g c = λ w s inner free.
     let items = c.noted-x-items.result.now in
     let x : ℕ = slice_index_or items c.loop-x.x-index 0 in
-    let eq : items ≡ slice_index_or c.args.self.now.wrote.items c.args.name [] = c.noted-x-items.ensures ∙ ap (λ (l : List (List ℕ)). slice_index_or l c.args.name []) c.deref.ensures.value in
-    let listed : contains x (slice_index_or c.args.self.now.wrote.items c.args.name []) ≡ true = ap (λ (l : List ℕ). contains x l) (sym eq) ∙ contains-at items c.loop-x.x-index c.loop-x-test.true in
+    let eq : items ≡ slice_index_or c.args.self.now.wrote.items c.args.name [] = c.noted-x-items.ensures
+    ∙ ap (λ (l : List (List ℕ)). slice_index_or l c.args.name []) c.deref.ensures.value in
+    let listed : contains x (slice_index_or c.args.self.now.wrote.items c.args.name []) ≡ true =
+    ap (λ (l : List ℕ). contains x l) (sym eq) ∙ contains-at items c.loop-x.x-index c.loop-x-test.true in
     c.in_default.ensures.free w s inner (free x listed)
 
 pub loop-x-preserved : goal.loop-x-preserved
 loop-x-preserved g c =
     let items = c.noted-x-items.result.now in
-    let test : ℕ → Bool = λ x. is_clash (choice_at g.P.Policy.rules (parts_of c.args.self.now) c.args.name c.args.into x) in
+    let test : ℕ → Bool = λ x. is_clash (choice_at g.P.Policy.rules (parts_of c.args.self.now) c.args.name c.args.into
+    x) in
     subst (λ (o : Option ℕ). IsLeast test (take (c.loop-x.x-index + 1) items) o) (sym c.lesser-least.ensures)
-    (least_more test items c.loop-x.x-index c.in-Ok.found c.loop-x.least c.loop-x-test.true (sym c.in-Ok.ensures.is) c.loop-x.invariant)
+    (least_more test items c.loop-x.x-index c.in-Ok.found c.loop-x.least c.loop-x-test.true (sym c.in-Ok.ensures.is)
+    c.loop-x.invariant)
 
 pub returns-clause-is : goal.returns-clause-is
 returns-clause-is g c =
     let items = c.noted-x-items.result.now in
-    let test : ℕ → Bool = λ x. is_clash (choice_at g.P.Policy.rules (parts_of c.args.self.now) c.args.name c.args.into x) in
-    let eq : items ≡ slice_index_or c.args.self.now.wrote.items c.args.name [] = c.noted-x-items.ensures ∙ ap (λ (l : List (List ℕ)). slice_index_or l c.args.name []) c.deref.ensures.value in
+    let test : ℕ → Bool = λ x. is_clash (choice_at g.P.Policy.rules (parts_of c.args.self.now) c.args.name c.args.into
+    x) in
+    let eq : items ≡ slice_index_or c.args.self.now.wrote.items c.args.name [] = c.noted-x-items.ensures
+    ∙ ap (λ (l : List (List ℕ)). slice_index_or l c.args.name []) c.deref.ensures.value in
     let end : length items ≤ c.loop-x.x-index = omega (arith, c.loop-x-test.false) in
     subst (λ (l : List ℕ). IsLeast test l c.loop-x.least) (take_all c.loop-x.x-index items end ∙ eq) c.loop-x.invariant

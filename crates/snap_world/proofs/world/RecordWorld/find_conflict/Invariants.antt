@@ -6,4 +6,5 @@ use Rattle.snap_world.specs.Holding.{parts_of}
 use Rattle.snap_world.proofs.world.RecordWorld.find_conflict.Given as goal
 
 abbrev pub invariant-loop-x : goal.invariant-loop-x
-invariant-loop-x g l = IsLeast (λ x. is_clash (choice_at g.P.Policy.rules (parts_of l.self) l.name l.into x)) (take l.x-index l.x-items) l.least
+invariant-loop-x g l = IsLeast (λ x. is_clash (choice_at g.P.Policy.rules (parts_of l.self) l.name l.into x))
+    (take l.x-index l.x-items) l.least

@@ -22,7 +22,13 @@ invariant_of-self g c =
     let old = c.args.self.now in
     let ms = old.family.members.items in
     let many : length c.forget.new.self.members.items ≡ length ms = c.forget.ensures.ok.count in
-    record { in_time = old.in_time; few = omega (arith, c.forget.ensures.handed, old.few); many = c.clear_noted.ensures.many ∙ old.many; stamped = old.stamped; blank = λ n past. old.blank n (omega (arith, past, many)) }
+    record {
+      in_time = old.in_time;
+      few = omega (arith, c.forget.ensures.handed, old.few);
+      many = c.clear_noted.ensures.many ∙ old.many;
+      stamped = old.stamped;
+      blank = λ n past. old.blank n (omega (arith, past, many));
+    }
 
 pub returns : goal.returns
 returns g c = λ w s.
@@ -33,7 +39,8 @@ returns g c = λ w s.
     let count : c.len.result ≡ length old.objects.items = c.len.ensures ∙ old.objects.ok.0 in
     let ids : c.ids.result.now ≡ (member ms name).ids = c.ids.ensures in
     let wrote : List ℕ = slice_index_or old.wrote.items name [] in
-    let nt : slice_index_or c.deref.result.now name [] ≡ wrote = ap (λ (l : List (List ℕ)). slice_index_or l name []) c.deref.ensures.value in
+    let nt : slice_index_or c.deref.result.now name [] ≡ wrote =
+    ap (λ (l : List (List ℕ)). slice_index_or l name []) c.deref.ensures.value in
     let closed = free_closed ms name c.requires.free in
     forgets_stand g.P.Policy.rules (parts_of old) _ w name s closed (free_unseen ms name c.requires.free) (record {
       same = record {
@@ -48,9 +55,12 @@ returns g c = λ w s.
       handed = c.forget.ensures.handed;
       ids = c.forget.ensures.ids;
       dated = dated c.forget.new.self.members.items;
-      dropped = drops_all (parts_of old) (λ x. chain_of c.clear_noted.new.chains x) (member ms name).ids w name s closed (λ i. refl) (length old.objects.items) (λ x past. chain_past old.chains x (omega (arith, past, old.many)))
+      dropped = drops_all (parts_of old) (λ x. chain_of c.clear_noted.new.chains x) (member ms name).ids w name s closed
+          (λ i. refl) (length old.objects.items) (λ x past. chain_past old.chains x (omega (arith, past, old.many)))
           (λ x past. chain_past c.clear_noted.new.chains x (omega (arith, past, old.many, c.clear_noted.ensures.many)))
-          (λ x within noted. c.clear_noted.ensures.put x (omega (arith, within, count)) (ap (λ (l : List ℕ). contains x l) nt ∙ noted) ∙ ap (λ (l : List ℕ). chain_without_ids l (chain_of old.chains x)) ids)
+          (λ x within noted. c.clear_noted.ensures.put x (omega (arith, within, count))
+          (ap (λ (l : List ℕ). contains x l) nt ∙ noted)
+          ∙ ap (λ (l : List ℕ). chain_without_ids l (chain_of old.chains x)) ids)
           (λ x none. c.clear_noted.ensures.left x (ap (λ (l : List ℕ). contains x l) nt ∙ none));
       noted = refl;
     })

@@ -28,14 +28,24 @@ returns-in_default-clause-err g c =
 pub invariant_of-self : goal.invariant_of-self
 invariant_of-self g c =
     let old = c.args.self.now in
-    let many : length c.take.new.self.members.items ≡ length old.family.members.items = ap (λ (l : List Member). length l) c.in_default.ensures.err in
-    record { in_time = old.in_time; few = omega (arith, c.in_default.ensures.err_handed, old.few); many = old.many; stamped = old.stamped; blank = λ n past. old.blank n (omega (arith, past, many)) }
+    let many : length c.take.new.self.members.items ≡ length old.family.members.items =
+    ap (λ (l : List Member). length l) c.in_default.ensures.err in
+    record {
+      in_time = old.in_time;
+      few = omega (arith, c.in_default.ensures.err_handed, old.few);
+      many = old.many;
+      stamped = old.stamped;
+      blank = λ n past. old.blank n (omega (arith, past, many));
+    }
 
 pub invariant_of-self-2 : goal.invariant_of-self-2
 invariant_of-self-2 g c =
     let old = c.args.self.now in
     let e : c.take.new.self.members.items ≡ members_after_advance (members_after_enter old.family.members.items old.family.handed c.args.parent c.args.kind c.args.caller) (old.family.handed + 1) c.args.parent = c.in-Ok.ensures.ok in
-    let many : length c.take.new.self.members.items ≡ length old.family.members.items + 1 = ap (λ (ms : List Member). length ms) e ∙ taken_count old.family.members.items old.family.handed c.args.parent c.args.kind c.args.caller old.family.sound c.requires.live in
+    let many : length c.take.new.self.members.items ≡ length old.family.members.items + 1 =
+    ap (λ (ms : List Member). length ms) e
+    ∙ taken_count old.family.members.items old.family.handed c.args.parent c.args.kind c.args.caller
+    old.family.sound c.requires.live in
     record {
       in_time = omega (arith, c.requires.room);
       few = omega (arith, c.in-Ok.ensures.handed, old.few);
@@ -61,14 +71,22 @@ returns-clause-ok g c =
         names = ap (λ (l : List Member). length l) e ∙ taken_count ms handed parent c.args.kind c.args.caller a up;
         handed = c.in-Ok.ensures.handed;
         enters = enters_entered ms handed parent c.args.kind c.args.caller a up;
-        advances = subst (λ (l : List Member). Advances (ids_of (members_after_enter ms handed parent c.args.kind c.args.caller)) (ids_of l) (handed + 1) parent) (sym e)
-            (advances_advanced (members_after_enter ms handed parent c.args.kind c.args.caller) (handed + 1) parent (members_entered ms handed parent c.args.kind c.args.caller a up) (up_entered ms handed parent c.args.kind c.args.caller a up));
+        advances =
+            subst (λ (l : List Member). Advances (ids_of (members_after_enter ms handed parent c.args.kind
+            c.args.caller)) (ids_of l) (handed + 1) parent) (sym e)
+            (advances_advanced (members_after_enter ms handed parent c.args.kind c.args.caller) (handed + 1) parent
+            (members_entered ms handed parent c.args.kind c.args.caller a up)
+            (up_entered ms handed parent c.args.kind c.args.caller a up));
         dated_between = dated (members_after_enter ms handed parent c.args.kind c.args.caller);
         dated = dated c.take.new.self.members.items;
-        owner = ap (λ (l : List Member). (member l (length ms)).owner) e ∙ ap (λ (m : Member). m.owner) (taken_new ms handed parent c.args.kind c.args.caller a up);
-        kind_is = ap (λ (l : List Member). (member l (length ms)).kind) e ∙ ap (λ (m : Member). m.kind) (taken_new ms handed parent c.args.kind c.args.caller a up);
-        owners = λ n other. ap (λ (l : List Member). (member l n).owner) e ∙ (taken_others ms handed parent c.args.kind c.args.caller a up n other).0;
-        kinds = λ n other. ap (λ (l : List Member). (member l n).kind) e ∙ (taken_others ms handed parent c.args.kind c.args.caller a up n other).1;
+        owner = ap (λ (l : List Member). (member l (length ms)).owner) e
+            ∙ ap (λ (m : Member). m.owner) (taken_new ms handed parent c.args.kind c.args.caller a up);
+        kind_is = ap (λ (l : List Member). (member l (length ms)).kind) e
+            ∙ ap (λ (m : Member). m.kind) (taken_new ms handed parent c.args.kind c.args.caller a up);
+        owners = λ n other. ap (λ (l : List Member). (member l n).owner) e
+            ∙ (taken_others ms handed parent c.args.kind c.args.caller a up n other).0;
+        kinds = λ n other. ap (λ (l : List Member). (member l n).kind) e
+            ∙ (taken_others ms handed parent c.args.kind c.args.caller a up n other).1;
         watchers = refl;
         chains = refl;
         stamps = refl;

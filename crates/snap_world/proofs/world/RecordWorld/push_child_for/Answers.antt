@@ -11,8 +11,11 @@ returns-clause-ok g c =
     record {
       stamps = c.in-Ok.stamps;
       stamps_are = c.in-Ok.ensures ∙ c.deref.ensures.value;
-      changed_are = c.in-Ok-find_changed_objects.ensures ∙ ap (λ (o : Option (List ℕ)). differ_stamps (unwrap_or o []) 0 c.in-Ok.stamps) (c.index.ensures ∙ get_or_default s.lasts.items c.args.watcher _ None c.requires.known);
+      changed_are = c.in-Ok-find_changed_objects.ensures
+          ∙ ap (λ (o : Option (List ℕ)). differ_stamps (unwrap_or o []) 0 c.in-Ok.stamps)
+          (c.index.ensures ∙ get_or_default s.lasts.items c.args.watcher _ None c.requires.known);
       taken = parts_of c.push_child.new.self;
       took = c.in-Ok-push_child.ensures.ok;
-      is = ap (λ (ws : List (Option (List ℕ))). record (parts_of c.push_child.new.self) { watchers = ws }) c.replace_last.ensures;
+      is = ap (λ (ws : List (Option (List ℕ))). record (parts_of c.push_child.new.self) { watchers = ws })
+          c.replace_last.ensures;
     }

@@ -8,12 +8,14 @@ use Rattle.snap_world.proofs.world.RecordWorld.put_entry.Goals as goal
 
 pub returns-clause-ok : goal.returns-clause-ok
 returns-clause-ok g c = on_ok_more c.put_record.result (λ written w s.
-    writes_stand g.P.Policy.rules (parts_of c.args.self.now) (parts_of c.put_record.new.self) w c.args.name c.args.object c.args.value s c.requires.live c.requires.there (written w s)) c.put_record.ensures.ok
+    writes_stand g.P.Policy.rules (parts_of c.args.self.now) (parts_of c.put_record.new.self) w c.args.name
+    c.args.object c.args.value s c.requires.live c.requires.there (written w s)) c.put_record.ensures.ok
 
 pub returns-clause-swept : goal.returns-clause-swept
 returns-clause-swept g c = on_ok_more c.put_record.result (λ swept w s.
     let t = swept w s in
-    let few : used_count ((parts_of c.put_record.new.self).chains c.args.object) ≤ length c.find_kept_ids.new.ids = used_within ((parts_of c.put_record.new.self).chains c.args.object) c.find_kept_ids.new.ids t.apart t.listed in
+    let few : used_count ((parts_of c.put_record.new.self).chains c.args.object) ≤ length c.find_kept_ids.new.ids =
+    used_within ((parts_of c.put_record.new.self).chains c.args.object) c.find_kept_ids.new.ids t.apart t.listed in
     record {
       needed = λ p there positive. c.in-Ok.ensures.needed p.id (t.listed p there positive);
       names_live = c.in-Ok.ensures.names;

@@ -12,11 +12,26 @@ use Rattle.snap_world.proofs.NotedMembers.{contains-noted, undone}
 use Rattle.snap_world.proofs.world.RecordWorld.put_record.Goals as goal
 
 pub invariant_of-self : goal.invariant_of-self
-invariant_of-self g c = let old = c.args.self.now in record { in_time = old.in_time; few = old.few; many = old.many; stamped = old.stamped; blank = λ n past. c.fill.ensures.same n ∙ old.blank n past }
+invariant_of-self g c = let old = c.args.self.now in
+    record {
+      in_time = old.in_time;
+      few = old.few;
+      many = old.many;
+      stamped = old.stamped;
+      blank = λ n past. c.fill.ensures.same n ∙ old.blank n past;
+    }
 
 pub returns-in_default-clause-err : goal.returns-in_default-clause-err
 returns-in_default-clause-err g c = record {
-  same = record { clock = refl; objects = refl; names = refl; owner = λ n. refl; kind = λ n. refl; stamps = refl; watchers = refl };
+  same = record {
+    clock = refl;
+    objects = refl;
+    names = refl;
+    owner = λ n. refl;
+    kind = λ n. refl;
+    stamps = refl;
+    watchers = refl;
+  };
   handed = refl;
   ids = refl;
   chains = λ x. refl;
@@ -24,11 +39,26 @@ returns-in_default-clause-err g c = record {
 }
 
 pub invariant_of-self-in_default-note_object : goal.invariant_of-self-in_default-note_object
-invariant_of-self-in_default-note_object g c = let old = c.args.self.now in record { in_time = old.in_time; few = old.few; many = old.many; stamped = old.stamped; blank = λ n past. c.in_default-note_object.ensures.err n ∙ c.fill.ensures.same n ∙ old.blank n past }
+invariant_of-self-in_default-note_object g c = let old = c.args.self.now in
+    record {
+      in_time = old.in_time;
+      few = old.few;
+      many = old.many;
+      stamped = old.stamped;
+      blank = λ n past. c.in_default-note_object.ensures.err n ∙ c.fill.ensures.same n ∙ old.blank n past;
+    }
 
 pub returns-in_default-note_object-clause-err : goal.returns-in_default-note_object-clause-err
 returns-in_default-note_object-clause-err g c = record {
-  same = record { clock = refl; objects = refl; names = refl; owner = λ n. refl; kind = λ n. refl; stamps = refl; watchers = refl };
+  same = record {
+    clock = refl;
+    objects = refl;
+    names = refl;
+    owner = λ n. refl;
+    kind = λ n. refl;
+    stamps = refl;
+    watchers = refl;
+  };
   handed = refl;
   ids = refl;
   chains = λ x. refl;
@@ -39,15 +69,31 @@ pub invariant_of-self-in_default-put : goal.invariant_of-self-in_default-put
 invariant_of-self-in_default-put g c =
     let old = c.args.self.now in
     let u = c.unnote_object.ensures in
-    let same = undone c.fill.new.wrote.items c.note_object.new.wrote.items c.unnote_object.new.wrote.items c.args.name c.args.object c.in-Ok-note_object.is_new c.in-Ok-note_object.ensures.ok u.last u.kept u.others in
-    record { in_time = old.in_time; few = old.few; many = c.put.ensures.many ∙ old.many; stamped = old.stamped; blank = λ n past. same n ∙ c.fill.ensures.same n ∙ old.blank n past }
+    let same = undone c.fill.new.wrote.items c.note_object.new.wrote.items c.unnote_object.new.wrote.items c.args.name
+    c.args.object c.in-Ok-note_object.is_new c.in-Ok-note_object.ensures.ok u.last u.kept u.others in
+    record {
+      in_time = old.in_time;
+      few = old.few;
+      many = c.put.ensures.many ∙ old.many;
+      stamped = old.stamped;
+      blank = λ n past. same n ∙ c.fill.ensures.same n ∙ old.blank n past;
+    }
 
 pub returns-in_default-put-clause-err : goal.returns-in_default-put-clause-err
 returns-in_default-put-clause-err g c =
     let u = c.unnote_object.ensures in
-    let same = undone c.fill.new.wrote.items c.note_object.new.wrote.items c.unnote_object.new.wrote.items c.args.name c.args.object c.in-Ok-note_object.is_new c.in-Ok-note_object.ensures.ok u.last u.kept u.others in
+    let same = undone c.fill.new.wrote.items c.note_object.new.wrote.items c.unnote_object.new.wrote.items c.args.name
+    c.args.object c.in-Ok-note_object.is_new c.in-Ok-note_object.ensures.ok u.last u.kept u.others in
     record {
-      same = record { clock = refl; objects = refl; names = refl; owner = λ n. refl; kind = λ n. refl; stamps = refl; watchers = refl };
+      same = record {
+        clock = refl;
+        objects = refl;
+        names = refl;
+        owner = λ n. refl;
+        kind = λ n. refl;
+        stamps = refl;
+        watchers = refl;
+      };
       handed = refl;
       ids = refl;
       chains = λ x. c.in_default-put.ensures.err x;
@@ -61,9 +107,11 @@ invariant_of-self-2 g c =
       in_time = omega (arith, c.requires.room);
       few = omega (arith, old.few);
       many = c.put.ensures.many ∙ old.many;
-      stamped = ap (λ (l : List ℕ). length l) c.stamp_object.ensures ∙ set_count (c.args.name == 0) old.stamps.items c.args.object (old.clock + 1) ∙ old.stamped;
+      stamped = ap (λ (l : List ℕ). length l) c.stamp_object.ensures
+          ∙ set_count (c.args.name == 0) old.stamps.items c.args.object (old.clock + 1) ∙ old.stamped;
       blank = λ n past.
-          let other : n ≢ c.args.name = λ same. omega (arith, same, past, live_member old.family.members.items c.args.name c.requires.live) in
+          let other : n ≢ c.args.name =
+          λ same. omega (arith, same, past, live_member old.family.members.items c.args.name c.requires.live) in
           c.in-Ok-note_object.ensures.ok.others n other ∙ c.fill.ensures.same n ∙ old.blank n past;
     } where
       set_count : (b : Bool) (xs : List ℕ) (i y : ℕ) → length (cond b (slice_set xs i y) xs) ≡ length xs
@@ -88,11 +136,15 @@ returns-clause-ok g c = λ w s.
       watchers = refl;
       ids = refl;
       gone = is_unkept c.args.kept.now c.id-id.result;
-      put = subst (λ (i : ℕ). Puts (chain_of old.chains c.args.object) (chain_of c.put.new.chains c.args.object) (record { id = i; entry = e }) (is_unkept c.args.kept.now c.id-id.result)) id put.put;
+      put = subst (λ (i : ℕ). Puts (chain_of old.chains c.args.object) (chain_of c.put.new.chains c.args.object)
+          (record { id = i; entry = e }) (is_unkept c.args.kept.now c.id-id.result)) id put.put;
       view_stays = view_stays s name c.args.object c.requires.live c.id-id.result id c.requires.read;
       base_stays = base_stays s name c.args.object c.requires.live c.id-id.result id c.requires.read;
       others = c.put.ensures.others;
-      noted = λ y. ap (λ (l : List ℕ). contains y l) (noted.here ∙ ap (λ (l : List ℕ). cond (nat_lt 0 name) (with_member c.args.object l) l) (c.fill.ensures.same name)) ∙ listed (nat_lt 0 name) y c.args.object (slice_index_or old.wrote.items name []);
+      noted = λ y. ap (λ (l : List ℕ). contains y l)
+          (noted.here ∙ ap (λ (l : List ℕ). cond (nat_lt 0 name) (with_member c.args.object l) l)
+          (c.fill.ensures.same name)) ∙ listed (nat_lt 0 name) y c.args.object
+          (slice_index_or old.wrote.items name []);
       noted_others = λ n y other. ap (λ (l : List ℕ). contains y l) (noted.others n other ∙ c.fill.ensures.same n);
       stamps = c.stamp_object.ensures;
     } where
@@ -100,7 +152,8 @@ returns-clause-ok g c = λ w s.
       none true = refl
       none false = refl
 
-      listed : (b : Bool) (y x : ℕ) (xs : List ℕ) → contains y (cond b (with_member x xs) xs) ≡ (contains y xs || (b && y == x))
+      listed : (b : Bool) (y x : ℕ) (xs : List ℕ)
+          → contains y (cond b (with_member x xs) xs) ≡ (contains y xs || (b && y == x))
       listed true y x xs = contains-noted y x xs
       listed false y x xs = none (contains y xs)
 

@@ -21,11 +21,26 @@ use Rattle.snap_world.proofs.Settled.{entry_settled, changed_settled, find_settl
 use Rattle.snap_world.proofs.world.RecordWorld.put_settled.Goals as goal
 
 pub invariant_of-self-in_default-fill : goal.invariant_of-self-in_default-fill
-invariant_of-self-in_default-fill g c = let old = c.args.self.now in record { in_time = old.in_time; few = old.few; many = old.many; stamped = old.stamped; blank = λ n past. c.fill.ensures.same n ∙ old.blank n past }
+invariant_of-self-in_default-fill g c = let old = c.args.self.now in
+    record {
+      in_time = old.in_time;
+      few = old.few;
+      many = old.many;
+      stamped = old.stamped;
+      blank = λ n past. c.fill.ensures.same n ∙ old.blank n past;
+    }
 
 pub returns-in_default-fill-clause-err : goal.returns-in_default-fill-clause-err
 returns-in_default-fill-clause-err g c = record {
-  same = record { clock = refl; objects = refl; names = refl; owner = λ n. refl; kind = λ n. refl; stamps = refl; watchers = refl };
+  same = record {
+    clock = refl;
+    objects = refl;
+    names = refl;
+    owner = λ n. refl;
+    kind = λ n. refl;
+    stamps = refl;
+    watchers = refl;
+  };
   handed = refl;
   ids = refl;
   chains = λ x. padded_same (chain_of c.args.self.now.chains x);
@@ -33,11 +48,26 @@ returns-in_default-fill-clause-err g c = record {
 }
 
 pub invariant_of-self-in_default-pad_all : goal.invariant_of-self-in_default-pad_all
-invariant_of-self-in_default-pad_all g c = let old = c.args.self.now in record { in_time = old.in_time; few = old.few; many = c.pad_all.ensures.many ∙ old.many; stamped = old.stamped; blank = λ n past. c.fill.ensures.same n ∙ old.blank n past }
+invariant_of-self-in_default-pad_all g c = let old = c.args.self.now in
+    record {
+      in_time = old.in_time;
+      few = old.few;
+      many = c.pad_all.ensures.many ∙ old.many;
+      stamped = old.stamped;
+      blank = λ n past. c.fill.ensures.same n ∙ old.blank n past;
+    }
 
 pub returns-in_default-pad_all-clause-err : goal.returns-in_default-pad_all-clause-err
 returns-in_default-pad_all-clause-err g c = record {
-  same = record { clock = refl; objects = refl; names = refl; owner = λ n. refl; kind = λ n. refl; stamps = refl; watchers = refl };
+  same = record {
+    clock = refl;
+    objects = refl;
+    names = refl;
+    owner = λ n. refl;
+    kind = λ n. refl;
+    stamps = refl;
+    watchers = refl;
+  };
   handed = refl;
   ids = refl;
   chains = c.pad_all.ensures.padded;
@@ -47,12 +77,20 @@ returns-in_default-pad_all-clause-err g c = record {
 pub invariant_of-self-in_default-close_applied : goal.invariant_of-self-in_default-close_applied
 invariant_of-self-in_default-close_applied g c =
     let old = c.args.self.now in
-    let many : length c.close_applied.new.self.members.items ≡ length old.family.members.items = ap (λ (l : List Member). length l) c.in_default-close_applied.ensures.err in
-    record { in_time = old.in_time; few = omega (arith, c.in_default-close_applied.ensures.err_handed, old.few); many = c.pad_all.ensures.many ∙ old.many; stamped = old.stamped; blank = λ n past. c.fill.ensures.same n ∙ old.blank n (omega (arith, past, many)) }
+    let many : length c.close_applied.new.self.members.items ≡ length old.family.members.items =
+    ap (λ (l : List Member). length l) c.in_default-close_applied.ensures.err in
+    record {
+      in_time = old.in_time;
+      few = omega (arith, c.in_default-close_applied.ensures.err_handed, old.few);
+      many = c.pad_all.ensures.many ∙ old.many;
+      stamped = old.stamped;
+      blank = λ n past. c.fill.ensures.same n ∙ old.blank n (omega (arith, past, many));
+    }
 
 pub returns-in_default-close_applied-clause-err : goal.returns-in_default-close_applied-clause-err
 returns-in_default-close_applied-clause-err g c =
-    let e : c.close_applied.new.self.members.items ≡ c.args.self.now.family.members.items = c.in_default-close_applied.ensures.err in
+    let e : c.close_applied.new.self.members.items ≡ c.args.self.now.family.members.items =
+    c.in_default-close_applied.ensures.err in
     record {
       same = record {
         clock = refl;
@@ -70,31 +108,43 @@ returns-in_default-close_applied-clause-err g c =
     }
 
 pub raise_noted-requires-clause-within : goal.raise_noted-requires-clause-within
-raise_noted-requires-clause-within g c = omega (arith, c.len.ensures, c.args.self.now.objects.ok.0, c.args.self.now.many, c.pad_all.ensures.many)
+raise_noted-requires-clause-within g c =
+    omega (arith, c.len.ensures, c.args.self.now.objects.ok.0, c.args.self.now.many, c.pad_all.ensures.many)
 
 pub raise_noted-requires-clause-some : goal.raise_noted-requires-clause-some
 raise_noted-requires-clause-some g c = λ x small noted.
     let old = c.args.self.now in
     let choices : ℕ → Choice = λ y. choice_at g.P.Policy.rules (parts_of old) c.args.name c.args.into y in
-    let are : EntriesAre (λ y. entry_of_choice (choices y)) c.args.settled.now = λ i s there. entry_settled s ∙ ap entry_of_choice (c.requires.each i s there).0 in
-    let listed : contains x (objects_of c.args.settled.now) ≡ true = ap (λ (l : List ℕ). contains x l) (c.requires.objects ∙ sym (c.fill.ensures.same c.args.name) ∙ ap (λ (l : List (List ℕ)). slice_index_or l c.args.name []) (sym c.deref-2.ensures.value)) ∙ noted in
-    let head = c.in-Ok-pad_all.ensures.head (λ y. entry_of_choice (choices y)) are x (omega (arith, small, c.len.ensures, old.objects.ok.0, old.many)) listed in
+    let are : EntriesAre (λ y. entry_of_choice (choices y)) c.args.settled.now = λ i s there. entry_settled s
+    ∙ ap entry_of_choice (c.requires.each i s there).0 in
+    let listed : contains x (objects_of c.args.settled.now) ≡ true =
+    ap (λ (l : List ℕ). contains x l)
+    (c.requires.objects ∙ sym (c.fill.ensures.same c.args.name)
+    ∙ ap (λ (l : List (List ℕ)). slice_index_or l c.args.name []) (sym c.deref-2.ensures.value)) ∙ noted in
+    let head = c.in-Ok-pad_all.ensures.head (λ y. entry_of_choice (choices y)) are x
+    (omega (arith, small, c.len.ensures, old.objects.ok.0, old.many)) listed in
     omega (arith, slice_get_within (chain_of c.pad_all.new.chains x) 0 _ head)
 
 pub invariant_of-self-2 : goal.invariant_of-self-2
 invariant_of-self-2 g c =
     let old = c.args.self.now in
     let ms = old.family.members.items in
-    let many : length c.close_applied.new.self.members.items ≡ length ms = ap (λ (l : List Member). length l) c.in-Ok-close_applied.ensures.ok ∙ merged_count ms old.family.handed c.args.name c.args.into old.family.sound c.requires.live c.requires.inner c.requires.parent c.requires.above in
+    let many : length c.close_applied.new.self.members.items ≡ length ms =
+    ap (λ (l : List Member). length l) c.in-Ok-close_applied.ensures.ok
+    ∙ merged_count ms old.family.handed c.args.name c.args.into old.family.sound c.requires.live c.requires.inner
+    c.requires.parent c.requires.above in
     record {
       in_time = omega (arith, c.requires.room);
       few = omega (arith, c.in-Ok-close_applied.ensures.handed, old.few);
       many = c.raise_noted.ensures.many ∙ c.pad_all.ensures.many ∙ old.many;
       stamped = c.stamp_settled.ensures.many ∙ old.stamped;
       blank = λ n past.
-          let other : n ≢ c.args.into = λ same. omega (arith, same, past, many, live_member ms c.args.into c.requires.above) in
-          let outer : n ≢ c.args.name = λ same. omega (arith, same, past, many, live_member ms c.args.name c.requires.live) in
-          c.clear_noted_objects.ensures.others n outer ∙ c.set_noted.ensures.others n other ∙ c.fill.ensures.same n ∙ old.blank n (omega (arith, past, many));
+          let other : n ≢ c.args.into =
+          λ same. omega (arith, same, past, many, live_member ms c.args.into c.requires.above) in
+          let outer : n ≢ c.args.name =
+          λ same. omega (arith, same, past, many, live_member ms c.args.name c.requires.live) in
+          c.clear_noted_objects.ensures.others n outer ∙ c.set_noted.ensures.others n other ∙ c.fill.ensures.same n
+          ∙ old.blank n (omega (arith, past, many));
     }
 
 pub returns-clause-ok : goal.returns-clause-ok
@@ -112,15 +162,23 @@ returns-clause-ok g c =
     let stays = merged_stays ms handed name into a r.live r.inner r.parent r.above in
     let id : c.handed-id.result ≡ handed + 1 = c.handed-id.ensures ∙ c.in-Ok-close_applied.ensures.handed in
     let choices : ℕ → Choice = λ y. choice_at g.P.Policy.rules h name into y in
-    let are : EntriesAre (λ y. entry_of_choice (choices y)) settled = λ i s there. entry_settled s ∙ ap entry_of_choice (r.each i s there).0 in
-    let kinds : (i : ℕ) (s : Settled) → slice_get settled i ≡ Some s → s.is_changed ≡ is_changed (choices s.object) = λ i s there. changed_settled s ∙ ap is_changed (r.each i s there).0 in
-    let listed : (x : ℕ) → h.noted name x ≡ true → contains x (objects_of settled) ≡ true = λ x noted. ap (λ (l : List ℕ). contains x l) r.objects ∙ noted in
-    let within : (x : ℕ) → h.noted name x ≡ true → x < length old.objects.items = λ x noted. let f = find_settled x settled (listed x noted) in omega (arith, (r.each f.at f.one f.there).1, f.same) in
-    let wrote : slice_index_or c.deref-2.result.now name [] ≡ slice_index_or old.wrote.items name [] = ap (λ (l : List (List ℕ)). slice_index_or l name []) c.deref-2.ensures.value ∙ c.fill.ensures.same name in
+    let are : EntriesAre (λ y. entry_of_choice (choices y)) settled = λ i s there. entry_settled s
+    ∙ ap entry_of_choice (r.each i s there).0 in
+    let kinds : (i : ℕ) (s : Settled) → slice_get settled i ≡ Some s → s.is_changed ≡ is_changed (choices s.object) =
+    λ i s there. changed_settled s ∙ ap is_changed (r.each i s there).0 in
+    let listed : (x : ℕ) → h.noted name x ≡ true → contains x (objects_of settled) ≡ true =
+    λ x noted. ap (λ (l : List ℕ). contains x l) r.objects ∙ noted in
+    let within : (x : ℕ) → h.noted name x ≡ true → x < length old.objects.items =
+    λ x noted. let f = find_settled x settled (listed x noted) in
+    omega (arith, (r.each f.at f.one f.there).1, f.same) in
+    let wrote : slice_index_or c.deref-2.result.now name [] ≡ slice_index_or old.wrote.items name [] =
+    ap (λ (l : List (List ℕ)). slice_index_or l name []) c.deref-2.ensures.value ∙ c.fill.ensures.same name in
     let unlike : into ≢ name = λ same. a.sound.above name r.live r.inner (r.parent ∙ same) in
     let before : List ℕ = slice_index_or old.wrote.items into [] in
     let more : unwrap_or c.in-Ok.more before ≡ cond (nat_lt 0 into) (with_taken settled before) before =
-    ap (λ (l : List (List ℕ)). unwrap_or c.in-Ok.more (slice_index_or l into [])) (sym c.deref.ensures.value) ∙ c.in-Ok.ensures ∙ ap (λ (l : List (List ℕ)). cond (nat_lt 0 into) (with_taken settled (slice_index_or l into [])) (slice_index_or l into [])) c.deref.ensures.value in
+    ap (λ (l : List (List ℕ)). unwrap_or c.in-Ok.more (slice_index_or l into [])) (sym c.deref.ensures.value)
+    ∙ c.in-Ok.ensures ∙ ap (λ (l : List (List ℕ)). cond (nat_lt 0 into)
+    (with_taken settled (slice_index_or l into [])) (slice_index_or l into [])) c.deref.ensures.value in
     record {
       clock = refl;
       objects = refl;
@@ -133,23 +191,36 @@ returns-clause-ok g c =
       advances = advances_between ms handed name into a r.live r.inner r.parent r.above;
       dated_between = dated (members_after_advance ms handed into);
       high = high_own ms handed name into a r.live r.inner r.parent r.above;
-      ids = subst (λ (l : List Member). Applies (ids_of (members_after_advance ms handed into)) (ids_of l) name into) (sym e) (applies_merged ms handed name into a r.live r.inner r.parent r.above);
+      ids = subst (λ (l : List Member). Applies (ids_of (members_after_advance ms handed into)) (ids_of l) name into)
+          (sym e) (applies_merged ms handed name into a r.live r.inner r.parent r.above);
       dated = dated c.close_applied.new.self.members.items;
       padded = λ x. chain_of c.pad_all.new.chains x;
       pads = c.pad_all.ensures.padded;
-      head = λ x noted. c.in-Ok-pad_all.ensures.head (λ y. entry_of_choice (choices y)) are x (omega (arith, within x noted, old.many)) (listed x noted);
-      put = λ x noted. c.raise_noted.ensures.put x (omega (arith, within x noted, c.len.ensures, old.objects.ok.0)) (ap (λ (l : List ℕ). contains x l) wrote ∙ noted) ∙ ap (λ (i : ℕ). with_head_id i (chain_of c.pad_all.new.chains x)) id;
+      head = λ x noted. c.in-Ok-pad_all.ensures.head (λ y. entry_of_choice (choices y)) are x
+          (omega (arith, within x noted, old.many)) (listed x noted);
+      put = λ x noted. c.raise_noted.ensures.put x (omega (arith, within x noted, c.len.ensures, old.objects.ok.0))
+          (ap (λ (l : List ℕ). contains x l) wrote ∙ noted)
+          ∙ ap (λ (i : ℕ). with_head_id i (chain_of c.pad_all.new.chains x)) id;
       left = λ x none. c.raise_noted.ensures.left x (ap (λ (l : List ℕ). contains x l) wrote ∙ none);
-      noted_into = λ x. ap (λ (l : List ℕ). contains x l) (c.clear_noted_objects.ensures.others into unlike ∙ c.set_noted.ensures.here ∙ ap (λ (l : List ℕ). unwrap_or c.in-Ok.more l) (c.fill.ensures.same into) ∙ more)
-          ∙ merged (nat_lt 0 into) x settled before (h.noted name x) (is_changed (choices x)) (taken_is (λ y. is_changed (choices y)) settled kinds x ∙ ap (λ (l : List ℕ). contains x l && is_changed (choices x)) r.objects);
-      noted_others = λ n x one two. ap (λ (l : List ℕ). contains x l) (c.clear_noted_objects.ensures.others n one ∙ c.set_noted.ensures.others n two ∙ c.fill.ensures.same n);
+      noted_into = λ x. ap (λ (l : List ℕ). contains x l)
+          (c.clear_noted_objects.ensures.others into unlike ∙ c.set_noted.ensures.here
+          ∙ ap (λ (l : List ℕ). unwrap_or c.in-Ok.more l) (c.fill.ensures.same into) ∙ more)
+          ∙ merged (nat_lt 0 into) x settled before (h.noted name x) (is_changed (choices x))
+          (taken_is (λ y. is_changed (choices y)) settled kinds x
+          ∙ ap (λ (l : List ℕ). contains x l && is_changed (choices x)) r.objects);
+      noted_others = λ n x one two. ap (λ (l : List ℕ). contains x l)
+          (c.clear_noted_objects.ensures.others n one ∙ c.set_noted.ensures.others n two ∙ c.fill.ensures.same n);
       stamps_count = c.stamp_settled.ensures.many;
-      stamps_put = λ x root noted. c.stamp_settled.ensures.put root (λ y. entry_of_choice (choices y)) are x (omega (arith, within x noted, old.stamped)) (listed x noted);
+      stamps_put = λ x root noted. c.stamp_settled.ensures.put root (λ y. entry_of_choice (choices y)) are x
+          (omega (arith, within x noted, old.stamped)) (listed x noted);
       stamps_left = λ x out. elim out [
         | inl above ↦ ap (λ (l : List ℕ). slice_index_or l x 0) (c.stamp_settled.ensures.other above)
         | inr none ↦ c.stamp_settled.ensures.left x (ap (λ (l : List ℕ). contains x l) r.objects ∙ none)
       ];
     } where
-      merged : (b : Bool) (x : ℕ) (settled : List Settled) (xs : List ℕ) (noted changed : Bool) → is_taken x settled ≡ (noted && changed) → contains x (cond b (with_taken settled xs) xs) ≡ ((b && (noted && changed)) || contains x xs)
-      merged true x settled xs noted changed is = contains-with_taken x settled xs ∙ ap (λ (c : Bool). c || contains x xs) is
+      merged : (b : Bool) (x : ℕ) (settled : List Settled) (xs : List ℕ) (noted changed : Bool)
+          → is_taken x settled ≡ (noted && changed)
+          → contains x (cond b (with_taken settled xs) xs) ≡ ((b && (noted && changed)) || contains x xs)
+      merged true x settled xs noted changed is =
+          contains-with_taken x settled xs ∙ ap (λ (c : Bool). c || contains x xs) is
       merged false x settled xs noted changed is = refl

@@ -17,19 +17,25 @@ loop-x-preserved g c =
     let one : Settled = c.in-Some.one in
     let e : c.push.new.self.items ≡ before ++ one ∷ [] = c.in-Ok-push.ensures.items in
     record {
-      objects = ap objects_of e ∙ map-append (λ (s : Settled). s.object) before (one ∷ []) ∙ ap (λ (l : List ℕ). l ++ one.object ∷ []) c.loop-x.invariant.objects ∙ ap (λ (y : ℕ). take at items ++ y ∷ []) c.in-Some.ensures.object ∙ sym (take_more items at 0 c.loop-x-test.true);
+      objects = ap objects_of e ∙ map-append (λ (s : Settled). s.object) before (one ∷ [])
+          ∙ ap (λ (l : List ℕ). l ++ one.object ∷ []) c.loop-x.invariant.objects
+          ∙ ap (λ (y : ℕ). take at items ++ y ∷ []) c.in-Some.ensures.object
+          ∙ sym (take_more items at 0 c.loop-x-test.true);
       each = λ k s there. elim (get_last before one k s (ap (λ (l : List Settled). slice_get l k) (sym e) ∙ there)) [
         | inl old ↦ c.loop-x.invariant.each k s old
-        | inr same ↦ subst (λ (t : Settled). (choice_of_settled t ≡ choice_at g.P.Policy.rules h c.args.name c.args.into t.object) × (t.object < length h.objects)) same (
-          c.in-Some.ensures.choice ∙ c.in-Ok.ensures ∙ ap (λ (y : ℕ). choice_at g.P.Policy.rules h c.args.name c.args.into y) (sym c.in-Some.ensures.object),
-          omega (arith, c.if-x-len.false, c.len.ensures, c.args.self.now.objects.ok.0, c.in-Some.ensures.object),
-        )
+        | inr same ↦ subst (λ (t : Settled). (choice_of_settled t
+            ≡ choice_at g.P.Policy.rules h c.args.name c.args.into t.object) × (t.object < length h.objects)) same (
+              c.in-Some.ensures.choice ∙ c.in-Ok.ensures
+                  ∙ ap (λ (y : ℕ). choice_at g.P.Policy.rules h c.args.name c.args.into y) (sym c.in-Some.ensures.object),
+              omega (arith, c.if-x-len.false, c.len.ensures, c.args.self.now.objects.ok.0, c.in-Some.ensures.object),
+            )
       ];
     }
 
 pub returns-clause-objects : goal.returns-clause-objects
 returns-clause-objects g c =
     let items = c.noted-x-items.result.now in
-    let eq : items ≡ slice_index_or c.args.self.now.wrote.items c.args.name [] = c.noted-x-items.ensures ∙ ap (λ (l : List (List ℕ)). slice_index_or l c.args.name []) c.deref.ensures.value in
+    let eq : items ≡ slice_index_or c.args.self.now.wrote.items c.args.name [] = c.noted-x-items.ensures
+    ∙ ap (λ (l : List (List ℕ)). slice_index_or l c.args.name []) c.deref.ensures.value in
     let end : length items ≤ c.loop-x.x-index = omega (arith, c.loop-x-test.false) in
     c.loop-x.invariant.objects ∙ take_all c.loop-x.x-index items end ∙ eq

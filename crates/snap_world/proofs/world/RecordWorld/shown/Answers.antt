@@ -13,11 +13,15 @@ returns-clause-is g c =
     let s = c.args.self.now in
     let m : Member = member s.family.members.items c.args.name in
     let chain : List Rec = chain_of s.chains c.args.object in
-    found_reads s.chains c.args.object m.id m.invalid c.readable.result (c.readable.ensures.is ∙ ap (λ (n : ℕ). readable (is_valid n c.invalid.result.now) chain) c.id.ensures.id ∙ ap (λ (l : List ℕ). readable (is_valid m.id l) chain) c.invalid.ensures)
+    found_reads s.chains c.args.object m.id m.invalid c.readable.result
+    (c.readable.ensures.is ∙ ap (λ (n : ℕ). readable (is_valid n c.invalid.result.now) chain) c.id.ensures.id
+    ∙ ap (λ (l : List ℕ). readable (is_valid m.id l) chain) c.invalid.ensures)
 
 pub returns-clause-none : goal.returns-clause-none
 returns-clause-none g c =
     let s = c.args.self.now in
     let m : Member = member s.family.members.items c.args.name in
     let chain : List Rec = chain_of s.chains c.args.object in
-    found_none s.chains c.args.object m.id m.invalid c.readable.result (c.readable.ensures.is ∙ ap (λ (n : ℕ). readable (is_valid n c.invalid.result.now) chain) c.id.ensures.id ∙ ap (λ (l : List ℕ). readable (is_valid m.id l) chain) c.invalid.ensures)
+    found_none s.chains c.args.object m.id m.invalid c.readable.result
+    (c.readable.ensures.is ∙ ap (λ (n : ℕ). readable (is_valid n c.invalid.result.now) chain) c.id.ensures.id
+    ∙ ap (λ (l : List ℕ). readable (is_valid m.id l) chain) c.invalid.ensures)

@@ -13,6 +13,7 @@ returns-clause-made g c = (
   sym c.make_refusal.ensures ∙ c.in_default.is,
   λ w s. (
     c.in-Ok.ensures.number ∙ (counts_of c.args.self.now w s).0,
-    makes_stand g.P.Policy.rules (parts_of c.args.self.now) (parts_of c.put_object.new.self) w c.args.ty c.args.policy c.args.value s c.in-Ok.ensures.ok,
+    makes_stand g.P.Policy.rules (parts_of c.args.self.now) (parts_of c.put_object.new.self) w c.args.ty c.args.policy
+        c.args.value s c.in-Ok.ensures.ok,
   ),
 )

@@ -10,5 +10,6 @@ pub returns-clause-ok : goal.returns-clause-ok
 returns-clause-ok g c = λ w s.
     let h = parts_of c.args.self.now in (
       c.len-number.ensures ∙ c.args.self.now.lasts.ok.0 ∙ (counts_of c.args.self.now w s).1,
-      subst (λ (l : List (Option (List ℕ))). Represents (record h { watchers = l }) (world_after_watch w)) (sym c.in-Ok.ensures.items) (watches_stand g.P.Policy.rules h w s),
+      subst (λ (l : List (Option (List ℕ))). Represents (record h { watchers = l }) (world_after_watch w))
+          (sym c.in-Ok.ensures.items) (watches_stand g.P.Policy.rules h w s),
     )
