@@ -17,3 +17,5 @@ mod steps;
 mod worker;
 
 pub use actors::{ActorsEnd, run_actors};
+pub use memory::ActorMemory;
+pub use parts::StepPart;

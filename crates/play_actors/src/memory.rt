@@ -13,7 +13,7 @@ use script_lang::NameTable;
 use snap_api::{Reply, Request};
 use std::alloc::Global;
 
-/// What an actor keeps between its calls: the composition, the numbers of its snapshot names, the value of the last
+/// The machine that makes the calls of an actor's steps from the replies. It writes nothing. It keeps the composition, the numbers of its snapshot names, the value of the last
 /// read if it was not refused, and the snapshot of the open frame.
 #[derive(Drop)]
 pub struct ActorMemory<'p> {
@@ -68,7 +68,7 @@ fn write_request(
 
 impl<'p> ActorMemory<'p> {
     /// Creates the memory of an actor before its first step.
-    pub(crate) fn new(alloc: Global, program: &'p Checked) -> Result<Self, NoMemory>
+    pub fn new(alloc: Global, program: &'p Checked) -> Result<Self, NoMemory>
         ensures { IfOk result (λ m. IsNoted m no_notes) }
     {
         let composition = Composition::new(alloc, program, WATCHER)?;
@@ -81,7 +81,7 @@ impl<'p> ActorMemory<'p> {
     }
 
     /// Returns the call that a part makes, if it makes one.
-    pub(crate) fn request_for(
+    pub fn request_for(
         &self,
         alloc: Global,
         part: &StepPart<'_>,
@@ -140,7 +140,7 @@ impl<'p> ActorMemory<'p> {
     }
 
     /// Notes the reply to the call of a part.
-    pub(crate) fn note(
+    pub fn note(
         &mut self,
         alloc: Global,
         part: &StepPart<'_>,

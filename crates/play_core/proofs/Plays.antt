@@ -1,7 +1,7 @@
 -- What a command writes is what the definitions say.
 use Rattle.std.proofs.Common.{Ok, Err, ◌≡◌, ℕ, Bool, List, true, sym, ap, ◌∙◌, subst, refl, Option, Some, None, ◌⊎◌, inl, inr, ◌<◌, ◌≤◌, ◌≢◌, ◌+◌, length, arith}
 use Rattle.std.specs.declared.result.Result.{Result}
-use Rattle.std.specs.Prelude.{IfSome, IfOk, IfErr, OnOk}
+use Rattle.std.specs.Prelude.{IfSome, IfOk, IfErr, OnOk, OnErr}
 use Rattle.std.specs.Io.KnownBytes.{Appends, Keeps, Consumes, IsAtEnd}
 use Rattle.std.proofs.KnownBytes.{Consumes-whole}
 use Rattle.rt_streams.specs.Streams.{AppendsPart, Rose, rise}
@@ -30,11 +30,12 @@ use Rattle.play_gen.specs.Tallies.{generated_counts}
 use Rattle.play_gen.specs.SummaryText.{summary_text}
 use Rattle.play_core.specs.CommandOutput.{SaysOutput, run_status, IsRefusal, ReadsInput}
 use Rattle.snap_api.specs.declared.data.Entry.{Entry}
-use Rattle.play_run.specs.RunLog.{LogsRun}
+use Rattle.play_run.specs.RunLog.{LogsRun, StopsRun}
 use Rattle.play_run.specs.RunPromise.{FaultsAfter}
 use Rattle.play_run.specs.declared.write_lines.Stop.{Stop}
 use Rattle.play_run.specs.declared.write_lines.Stop.TheVariants as stop
-use Rattle.play_core.specs.Promise.{Streams, HasFailed, WritesOutput, WritesFault, CommandMeets, GenMeets, PlayMeets, KeepsWorld, LeavesWorld, LogsText}
+use Rattle.play_core.specs.Promise.{Streams, HasFailed, WritesOutput, WritesFault, CommandMeets, GenMeets, PlayMeets, KeepsWorld, LeavesWorld, LogsText, StopsText}
+use Rattle.play_run.proofs.Stops.{unlogged_stop}
 use Rattle.play_threads.proofs.Texts.{some_text}
 use Rattle.play_core.proofs.Uniques.{text_one}
 use Rattle.play_core.proofs.OneFault.{one_fault, faulty_is_no_text}
@@ -86,6 +87,31 @@ logs-is {bytes = bytes} {functions = functions} {actors = actors} {forms = forms
     (subst (λ l. OnOk r (LogsRun (record { states = h.source.program.states; actors = actors_of h.source.script }) l (script_parts (actors_of h.source.script) forms) old new)) h.functions_are
     (subst (λ l. OnOk r (LogsRun (record { states = h.source.program.states; actors = l }) functions (script_parts l forms) old new)) h.actors_are
     (subst (λ ss. OnOk r (LogsRun (record { states = ss; actors = actors }) functions (script_parts actors forms) old new)) h.states_are x))))
+
+-- The log of a run that stopped, likewise.
+pub stops-is : {threads : Bool} {bytes : List ℕ} {states : List State} {functions : List Func} {actors : List (List ℕ)} {forms : List DoForm} {T : Type 0} (flags : Flags) (h : IsRead threads bytes states functions actors forms) (p : Source) → IsText threads bytes p → (r : Result T Stop) (old new : Option (List Entry)) (a z : Option (List ℕ)) →
+    OnErr r (StopsRun (record { titles = record { states = states; actors = actors }; flags = flags }) functions (script_parts actors forms) old new a z) → OnErr r (StopsText flags p old new a z)
+stops-is {bytes = bytes} {functions = functions} {actors = actors} {forms = forms} flags h p t r old new a z x =
+    subst (λ (q : Source). OnErr r (StopsText flags q old new a z)) (text_one bytes h.source p h.text t)
+    (subst (λ l. OnErr r (StopsRun (record { titles = record { states = h.source.program.states; actors = actors_of h.source.script }; flags = flags }) h.source.program.functions (script_parts (actors_of h.source.script) l) old new a z)) h.forms_are
+    (subst (λ l. OnErr r (StopsRun (record { titles = record { states = h.source.program.states; actors = actors_of h.source.script }; flags = flags }) l (script_parts (actors_of h.source.script) forms) old new a z)) h.functions_are
+    (subst (λ l. OnErr r (StopsRun (record { titles = record { states = h.source.program.states; actors = l }; flags = flags }) functions (script_parts l forms) old new a z)) h.actors_are
+    (subst (λ ss. OnErr r (StopsRun (record { titles = record { states = ss; actors = actors }; flags = flags }) functions (script_parts actors forms) old new a z)) h.states_are x))))
+
+-- Nothing was logged.
+pub unlogged-text : (flags : Flags) (p : Source) (old : Option (List Entry)) (a z : Option (List ℕ)) → StopsText flags p old old a z
+unlogged-text flags p old a z = unlogged_stop (style p flags) p.program.functions (script_parts (actors_of p.script) p.script) old old a z refl
+
+-- What is true after a command that stopped.
+pub stopped-after : {T P : Type 0} (r : Result T Stop) → (run_status r ≡ status.WriteFault) ⊎ (run_status r ≡ status.NoMemory) → OnErr r P → P
+stopped-after (Ok x) (inl e) h = absurd cc
+stopped-after (Ok x) (inr e) h = absurd cc
+stopped-after (Err e) stopped h = h
+
+-- What is true of each text of a source, if the source shows it.
+pub each-text : (o : Option (List ℕ)) {P : List ℕ → Type 0} → ((bytes : List ℕ) → P bytes) → IfSome o P
+each-text None f = tt
+each-text (Some bytes) f = f bytes
 
 -- What is true after a command that is done.
 pub done-after : {T P : Type 0} (r : Result T Stop) → run_status r ≡ status.Done → OnOk r P → P

@@ -10,8 +10,8 @@ use Rattle.script_lang.specs.declared.flags.Flags.{Flags}
 use Rattle.script_lang.specs.Scripts.{actors_of}
 use Rattle.script_lang.specs.StepCalls.{script_parts}
 use Rattle.snap_api.specs.declared.data.Entry.{Entry}
-use Rattle.play_run.specs.RunLog.{LogsRun}
-use Rattle.play_core.specs.Texts.{IsText, IsNoText, IsOutput, has_threads, has_input, gen_output, titles, usage_line, long_line, input_limit}
+use Rattle.play_run.specs.RunLog.{LogsRun, StopsRun}
+use Rattle.play_core.specs.Texts.{IsText, IsNoText, IsOutput, has_threads, has_input, gen_output, titles, style, usage_line, long_line, input_limit}
 use Rattle.play_core.specs.Faults.{IsFault, WritesPart, fault_line}
 use Rattle.play_core.specs.declared.fault.Fault.{Fault}
 use Rattle.play_core.specs.declared.top.Status.{Status}
@@ -150,6 +150,20 @@ abbrev pub LogsCommand : Option Command → Status → Option (List ℕ) → Opt
 LogsCommand o result left old new =
     (flags : Flags) → o ≡ Some (Run flags) → result ≡ status.Done →
     IfSome left (λ bytes. (t : Source) → IsText false bytes t → LogsText t old new)
+
+-- A run of this source text with these flags stopped before its end. The log of the world, if there is one, grew by the calls
+-- of a first part of the run, and the lines of all these calls but the last were written.
+abbrev pub StopsText : Flags → Source → Option (List Entry) → Option (List Entry) → Option (List ℕ) → Option (List ℕ)
+    → Type 0
+StopsText flags t old new before now =
+    StopsRun (style t flags) t.program.functions (script_parts (actors_of t.script) t.script) old new before now
+
+-- If `run` failed at a write or is out of memory, no call was made after the line that was not written.
+abbrev pub StopsCommand : Option Command → Status → Option (List ℕ) → Option (List Entry) → Option (List Entry)
+    → Option (List ℕ) → Option (List ℕ) → Type 0
+StopsCommand o result left old new before now =
+    (flags : Flags) → o ≡ Some (Run flags) → (result ≡ status.WriteFault) ⊎ (result ≡ status.NoMemory) →
+    IfSome left (λ bytes. (t : Source) → IsText false bytes t → StopsText flags t old new before now)
 
 -- Nothing is read: the arguments ask for no command, or for one without input.
 abbrev pub NeedsNoInput : Option Command → Type 0

@@ -1,5 +1,5 @@
 // The top call.
-ghost use Rattle.std.specs.Prelude.{◌≡◌, ◌≢◌, ◌⊎◌, ◌<◌, ◌≤◌, ◌+◌, ℕ, List, false, true, Option, Some, None, Ok, Err, IfOk, IfErr, OnOk, IfSome, length};
+ghost use Rattle.std.specs.Prelude.{◌≡◌, ◌≢◌, ◌⊎◌, ◌<◌, ◌≤◌, ◌+◌, ℕ, List, false, true, Option, Some, None, Ok, Err, IfOk, IfErr, OnOk, OnErr, IfSome, length};
 ghost use Rattle.std.specs.Io.KnownBytes.{Appends, Keeps, IsAtEnd};
 ghost use Rattle.rt_streams.specs.Streams.{Rose, AppendsPart, rise};
 ghost use Rattle.lang_forms.specs.Sources.{Source as source_data};
@@ -10,7 +10,7 @@ ghost use Rattle.play_args.specs.declared.command.Command.{Command as command_da
 ghost use Rattle.play_core.specs.CommandOutput.{SaysOutput, run_status, IsRefusal, ReadsInput};
 ghost use Rattle.play_core.specs.Texts.{IsText, IsInput, IsNoText, IsOutput, has_threads, has_input, gen_output, usage_line, long_line, input_limit};
 ghost use Rattle.play_core.specs.Faults.{IsFault, WritesPart, fault_line};
-ghost use Rattle.play_core.specs.Promise.{streams, CommandMeets, IsUsage, GenMeets, PlayMeets, NeedsNoInput, KeepsWorld, LeavesWorld, LogsText, LogsCommand};
+ghost use Rattle.play_core.specs.Promise.{streams, CommandMeets, IsUsage, GenMeets, PlayMeets, NeedsNoInput, KeepsWorld, LeavesWorld, LogsText, LogsCommand, StopsText, StopsCommand};
 ghost use Rattle.play_core.specs.declared.fault.Fault.{Fault as fault_data};
 ghost use Rattle.play_run.specs.RunPromise.{FaultsAfter};
 
@@ -101,6 +101,9 @@ fn do_command<V: Versions<P = BuiltIn>, K: Sink>(
     ensures log { (bytes : List ℕ) (t : source_data) (flags : flags_data) → command ≡ Command.Run flags →
         IsInput false bytes input → IsText false bytes t →
         OnOk result (LogsText t (V.log world.old) (V.log world.new)) }
+    ensures stops { (bytes : List ℕ) (t : source_data) (flags : flags_data) → command ≡ Command.Run flags →
+        IsInput false bytes input → IsText false bytes t →
+        OnErr result (StopsText flags t (V.log world.old) (V.log world.new) (K.written sink.old) (K.written sink.new)) }
 {
     match command {
         Command::Run(flags) => {
@@ -196,6 +199,10 @@ fn play_input<V: Versions<P = BuiltIn>, S: Source, K: Sink>(
     ensures log { (flags : flags_data) → command ≡ Command.Run flags → result ≡ Status.Done →
         IfSome (S.left source.old) (λ bytes. (t : source_data) → IsText false bytes t →
         LogsText t (V.log world.old) (V.log world.new)) }
+    ensures stops { (flags : flags_data) → command ≡ Command.Run flags →
+        (result ≡ Status.WriteFault) ⊎ (result ≡ Status.NoMemory) →
+        IfSome (S.left source.old) (λ bytes. (t : source_data) → IsText false bytes t →
+        StopsText flags t (V.log world.old) (V.log world.new) (K.written sink.old) (K.written sink.new)) }
 {
     match read_input(alloc, false, source, sink) {
         Ok(input) => status_of(do_command(alloc, command, world, input, sink)),
@@ -291,6 +298,9 @@ pub fn play_alone<V: Versions<P = BuiltIn>, S: Source, K: Sink>(
     // After `run` the log of the world, if it has one, grew by the calls of the run.
     ensures log { LogsCommand (command_of_args (texts words.now.items)) result (S.left source.old) (V.log world.old)
         (V.log world.new) }
+    // If `run` failed at a write or is out of memory, no call was made after the line that was not written.
+    ensures stops { StopsCommand (command_of_args (texts words.now.items)) result (S.left source.old) (V.log world.old)
+        (V.log world.new) (K.written sink.old) (K.written sink.new) }
 {
     match parse_args(alloc, words) {
         Ok(Some(Command::Gen { number, size })) => write_summary(alloc, number, size, world, sink),
@@ -325,6 +335,9 @@ pub fn play<R: Threads + Wait + Sync, V: Versions<P = BuiltIn>, S: Source, K: Si
     // After `run` the log of the world, if it has one, grew by the calls of the run.
     ensures log { LogsCommand (command_of_args (texts words.now.items)) result (S.left source.old) (V.log world.old)
         (V.log world.new) }
+    // If `run` failed at a write or is out of memory, no call was made after the line that was not written.
+    ensures stops { StopsCommand (command_of_args (texts words.now.items)) result (S.left source.old) (V.log world.old)
+        (V.log world.new) (K.written sink.old) (K.written sink.new) }
 {
     match parse_args(alloc, words) {
         Ok(Some(Command::Threads(flags))) => play_threads(rt, alloc, flags, source, sink, gate),

@@ -21,7 +21,8 @@ use Rattle.play_run.specs.RunOutput.{Run, first_run, run_after_request, part_aft
 use Rattle.play_run.specs.RunState.{RunFacts, IsPlain}
 use Rattle.play_run.proofs.OpenFrames.{IsPlainCall}
 use Rattle.play_run.proofs.RunLogs.{next_world}
-use Rattle.play_run.proofs.RunParts.{is_plain_call, plain_facts, after_append}
+use Rattle.play_run.proofs.RunLines.{after_append}
+use Rattle.play_run.proofs.RunParts.{is_plain_call, plain_facts}
 use Rattle.play_run.proofs.FrameParts.{Noted, begun, frame_map, outcome, end_facts}
 use Rattle.play_gen.specs.declared.tally.Tally.{Tally}
 use Rattle.play_gen.specs.declared.counting.Counting.{Counting}

@@ -18,6 +18,8 @@ use Rattle.snap_api.specs.declared.data.Request.TheVariants as request
 use Rattle.snap_api.specs.declared.data.Entry.{Entry}
 use Rattle.snap_api.specs.declared.data.Snapshot.{Snapshot}
 use Rattle.snap_api.specs.Desks.{FollowsLast}
+use Rattle.snap_api.specs.DeskReads.{LogsReadsIn, AreLegal}
+use Rattle.rt_streams.specs.Streams.{AppendsPart}
 use Rattle.snap_api.specs.ShownMap.{ShownMap}
 use Rattle.snap_api.specs.Valid.{IsValid, MovedOn, View, Last}
 use Rattle.snap_api.specs.World.{World, call, snapshot_of, last_of, is_mutable}
@@ -28,9 +30,10 @@ use Rattle.script_lang.specs.Lines.{LineStyle, entry_line, frame_lines, frame_ta
 use Rattle.script_lang.specs.StepCalls.{BeginFrame, EndFrame, of_actor, frame_begun, entry, watcher_number, end_request}
 use Rattle.script_lang.specs.NamesInMemory.{Holds}
 use Rattle.play_run.specs.RunOutput.{Run, request_lines, run_after_request, part_lines, part_after, parts_lines}
-use Rattle.play_run.specs.RunState.{AreKnown, RunFacts, IsRun, IsLogged, AddsEntry, LogsFrameReads, flat}
+use Rattle.play_run.specs.RunState.{AreKnown, RunFacts, IsRun, IsLogged, AddsEntry, MayAddEntry, LogsFrameReads, StopsAt, flat}
 use Rattle.play_run.specs.declared.memory.RunMemory.{RunMemory}
 use Rattle.play_run.proofs.RunLogs.{logged_call, logged_end}
+use Rattle.play_run.proofs.Stops.{stops_at_call, stops_in_frame}
 use Rattle.play_run.proofs.OpenFrames.{same_last, few_after, grown, within}
 
 follows_of : (l : Option Map) (m : Map) → MovedOn (unwrap_or l []) m →
@@ -215,6 +218,12 @@ module _ {functions : List Func} {V : Type 0} {stands : V → World BuiltIn → 
       subst (λ o. IsLogged functions (run_after_request functions r (of_actor actor EndFrame) o) (run_after_request functions r (of_actor actor EndFrame) o).log now') (sym asks)
       (logged_end functions r (of_actor actor EndFrame) name (stands world) h.world_stands h.at_frame.frames r.log now mid now' logged reads adds)
 
+  -- The run of the part that ends a frame stopped.
+  pub end_stops : (t : LineStyle) (xs : List ℕ) (now mid now' : Option (List Entry)) (written written' : Option (List ℕ)) {bytes : List ℕ} → IsLogged functions r r.log now → LogsReadsIn now mid actor (Some name) xs → AreLegal table stands now mid →
+      MayAddEntry mid now' (entry r.standing.world actor (request.Dispose name)) → AppendsPart written written' bytes → StopsAt t functions (of_actor actor EndFrame ∷ []) now' written written' r
+  end_stops t xs now mid now' written written' {bytes} logged reads legal may part =
+      stops_in_frame functions r (of_actor actor EndFrame) name stands h.world_stands h.at_frame.frames t xs now mid now' written written' bytes (ap (run_after_request functions r (of_actor actor EndFrame)) asks) logged reads legal may part
+
   -- The end of a frame keeps the names.
   pub end_names : (part_after functions r (of_actor actor EndFrame)).notes.names ≡ r.notes.names
   end_names = ap (λ o. (run_after_request functions r (of_actor actor EndFrame) o).notes.names) asks
@@ -222,6 +231,13 @@ module _ {functions : List Func} {V : Type 0} {stands : V → World BuiltIn → 
   -- The lines of the end of a frame, as bytes.
   pub end_bytes : (t : LineStyle) → flat (parts_lines t functions r (of_actor actor EndFrame ∷ [])) ≡ entry_line t.titles (entry r.standing.world actor (request.Dispose name)) ++ flat (frame_lines t.flags r.standing.kept (outcome functions r name))
   end_bytes t = ap flat (append-nil (part_lines t functions r (of_actor actor EndFrame)) ∙ end_lines t)
+
+-- The run of the part that begins a frame stopped.
+pub begin_stops : (t : LineStyle) (functions : List Func) (actor : ℕ) (r : Run) (now now' : Option (List Entry)) (written written' : Option (List ℕ)) {bytes : List ℕ} → IsLogged functions r r.log now →
+    MayAddEntry now now' (entry r.standing.world actor (request.TakeFor watcher_number)) → AppendsPart written written' bytes → StopsAt t functions (of_actor actor BeginFrame ∷ []) now' written written' r
+begin_stops t functions actor r now now' written written' {bytes} logged may part =
+    stops_at_call t functions r (of_actor actor BeginFrame) (entry r.standing.world actor (request.TakeFor watcher_number)) now now' written written' bytes logged
+    (λ adds. logged_call functions r (of_actor actor BeginFrame) (request.TakeFor watcher_number) r.log now now' refl refl logged adds) may part
 
 -- The state after the part that begins a frame, with the table of names.
 pub begun_run : {functions : List Func} {V : Type 0} {stands : V → World BuiltIn → Type 0} {log : V → Option (List Entry)} {world world' : V} {memory : RunMemory} (memory' : RunMemory) (actor : ℕ) (r : Run) (y : Reply) (x : Option ℕ) → y ≡ answer r.standing.world actor →

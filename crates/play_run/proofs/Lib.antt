@@ -4,10 +4,11 @@ pub mod FrameCalls
 pub mod CallLines
 pub mod OpenFrames
 pub mod RunLogs
+pub mod RunLines
+pub mod Stops
 pub mod RunParts
 pub mod Sequences
 pub mod FrameParts
-pub mod RunLines
 pub mod Openings
 pub mod GivenReads
 pub mod PrintedCalls

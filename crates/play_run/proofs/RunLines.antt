@@ -1,5 +1,5 @@
 -- The lines of a run are those of its parts, one after the other.
-use Rattle.std.proofs.Common.{◌≡◌, List, [], ◌∷◌, ◌++◌, Option, Some, None, refl, sym, ap, ◌∙◌}
+use Rattle.std.proofs.Common.{◌≡◌, List, [], ◌∷◌, ◌++◌, Option, Some, None, refl, sym, ap, ◌∙◌, append_assoc}
 use Rattle.lang_ast.specs.Terms.{Func}
 use Rattle.snap_policy.specs.Table.{table}
 use Rattle.snap_api.specs.declared.data.Request.{Request}
@@ -7,7 +7,7 @@ use Rattle.snap_api.specs.declared.data.Entry.{Entry}
 use Rattle.snap_api.specs.World.{call}
 use Rattle.script_lang.specs.StepCalls.{ActorPart, request_of, notes_after, entry, sequential}
 use Rattle.script_lang.specs.Lines.{LineStyle, lines, lines_at, next, run_text}
-use Rattle.play_run.specs.RunOutput.{Run, first_run, request_lines, run_after_request, parts_lines}
+use Rattle.play_run.specs.RunOutput.{Run, first_run, request_lines, run_after_request, part_lines, part_after, parts_lines, parts_after}
 use Rattle.play_run.specs.RunState.{flat}
 use Rattle.play_run.proofs.RunLogs.{next_world}
 
@@ -30,3 +30,13 @@ module _ (t : LineStyle) (functions : List Func) where
 pub run_text_is : (t : LineStyle) (functions : List Func) (log : Option (List Entry)) (ps : List ActorPart) → run_text t functions ps ≡ flat (parts_lines t functions (first_run t.titles.states log) ps)
 unfolding run_text
 run_text_is t functions log ps = ap flat (run_lines t functions (first_run t.titles.states log) ps)
+
+-- The parts of two lists, one after the other.
+module _ (t : LineStyle) (functions : List Func) where
+  pub lines_append : (r : Run) (ps qs : List ActorPart) → parts_lines t functions r (ps ++ qs) ≡ parts_lines t functions r ps ++ parts_lines t functions (parts_after functions r ps) qs
+  lines_append r [] qs = refl
+  lines_append r (p ∷ ps) qs = ap (λ l. part_lines t functions r p ++ l) (lines_append (part_after functions r p) ps qs) ∙ sym (append_assoc (part_lines t functions r p) _ _)
+
+  pub after_append : (r : Run) (ps qs : List ActorPart) → parts_after functions r (ps ++ qs) ≡ parts_after functions (parts_after functions r ps) qs
+  after_append r [] qs = refl
+  after_append r (p ∷ ps) qs = after_append (part_after functions r p) ps qs

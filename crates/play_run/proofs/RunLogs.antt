@@ -61,12 +61,12 @@ adds (Some h) new caller q reply.Disposed had logs = logs
 pub adds_entry : (old new : Option (List Entry)) (w : World BuiltIn) (caller : ℕ) (q : Request) (y : Reply) → is_no_memory y ≡ false → Logs old new caller q y → y ≡ (call table w caller q).1 → AddsEntry old new (entry w caller q)
 adds_entry old new w caller q y had logs is = subst (λ z. AddsEntry old new (record { caller = caller; request = q; reply = z })) is (adds old new caller q y had logs)
 
-legal_append : (w : World BuiltIn) (a b : History) → IsLegal table w a → IsLegal table (world_after table w a) b → IsLegal table w (a ++ b)
+pub legal_append : (w : World BuiltIn) (a b : History) → IsLegal table w a → IsLegal table (world_after table w a) b → IsLegal table w (a ++ b)
 legal_append w [] b one two = two
 legal_append w (e ∷ es) b one two = (one.0, legal_append (call table w e.caller e.request).0 es b one.1 two)
 
 -- The reads of a frame are not printed.
-unprinted : (frames : List ℕ) (caller name : ℕ) → contains name frames ≡ true → (more rest : History) (xs : List ℕ) → map call_of more ≡ reads_of caller name xs → printed_calls frames (more ++ rest) ≡ printed_calls frames rest
+pub unprinted : (frames : List ℕ) (caller name : ℕ) → contains name frames ≡ true → (more rest : History) (xs : List ℕ) → map call_of more ≡ reads_of caller name xs → printed_calls frames (more ++ rest) ≡ printed_calls frames rest
 unprinted frames caller name inside [] rest xs is = refl
 unprinted frames caller name inside (x ∷ more) rest [] is = absurd cc
 unprinted frames caller name inside (x ∷ more) rest (o ∷ xs) is =
@@ -141,7 +141,7 @@ module _ (functions : List Func) where
     logged_call None (Some k) now' unread unended h adds = absurd cc
     logged_call (Some o) now now' unread unended h adds = logged_some o now now' unread unended h adds
 
-  itself : (n : ℕ) → (n == n) ≡ true
+  pub itself : (n : ℕ) → (n == n) ≡ true
   itself n = elim (eqb_tells n n) [ inl e ↦ e.0 | inr e ↦ absurd (e.1 refl) ]
 
   -- The log after the reads of a frame and its dispose.

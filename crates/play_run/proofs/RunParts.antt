@@ -1,5 +1,5 @@
 -- The state after a part that neither begins nor ends a frame.
-use Rattle.std.proofs.Common.{◌≡◌, ◌≢◌, ◌⊎◌, inl, inr, ℕ, ◌==◌, ◌<◌, List, [], ◌∷◌, ◌++◌, ◌||◌, length, refl, sym, ap, ◌∙◌, subst, Option, Some, None, Ok, Err, OnOk, Bool, true, false, cond, arith, append-nil, append_assoc, ℤ}
+use Rattle.std.proofs.Common.{◌≡◌, ◌≢◌, ◌⊎◌, inl, inr, ℕ, ◌==◌, ◌<◌, List, [], ◌∷◌, ◌++◌, ◌||◌, length, refl, sym, ap, ◌∙◌, subst, Option, Some, None, Ok, Err, OnOk, OnErr, Bool, true, false, cond, arith, append-nil, append_assoc, ℤ}
 use Rattle.std.proofs.lemmas.Bool.Decides.{eqb_tells}
 use Rattle.std.specs.declared.result.Result.{Result}
 use Rattle.std.specs.Io.KnownBytes.{Appends}
@@ -27,7 +27,7 @@ use Rattle.script_lang.specs.Lines.{LineStyle, entry_line, ends_frame, frame_tak
 use Rattle.recomposer.specs.Compositions.{IsAt}
 use Rattle.play_run.specs.RunOutput.{Run, request_lines, run_after_request, part_lines, part_after, parts_lines, parts_after}
 use Rattle.script_lang.specs.PrintedCalls.{reads_frame}
-use Rattle.play_run.specs.RunState.{IsAtFrame, RunFacts, IsRun, IsLogged, AddsEntry, IsPlain, KeepsNames, RunsAt, flat}
+use Rattle.play_run.specs.RunState.{IsAtFrame, RunFacts, IsRun, IsLogged, AddsEntry, MayAddEntry, IsPlain, KeepsNames, RunsAt, StopsAt, flat}
 use Rattle.play_run.specs.RunPromise.{WritesBytes}
 use Rattle.recomposer.specs.declared.composition.Composition.{Composition}
 use Rattle.play_run.specs.declared.memory.RunMemory.{RunMemory}
@@ -37,6 +37,7 @@ use Rattle.rt_streams.specs.Streams.{AppendsPart}
 use Rattle.rt_values.specs.declared.names.Kind.{Kind}
 use Rattle.play_run.proofs.OpenFrames.{IsPlainCall, Avoids, same_last, few_after, grown, same_snapshot, taken, own_after, within}
 use Rattle.play_run.proofs.RunLogs.{logged_call}
+use Rattle.play_run.proofs.Stops.{stops_at_call}
 use Rattle.play_run.proofs.Written.{says_same}
 
 -- A part that keeps the names neither begins nor ends a frame.
@@ -259,6 +260,12 @@ module _ (t : LineStyle) (functions : List Func) (r : Run) (actor : ℕ) (p : Pa
         subst (λ o. IsLogged functions (run_after_request functions r (of_actor actor p) o) (run_after_request functions r (of_actor actor p) o).log now') (sym is)
         (logged_call functions r (of_actor actor p) q r.log now now' (plain_unread frame h) (plain_quiet frame h) logged adds)
 
+    -- The run of the part stopped.
+    pub plain_stops : (frame : Option ℕ) (now now' : Option (List Entry)) (written written' : Option (List ℕ)) {bytes : List ℕ} → RunFacts functions stands world kept actor frame r → IsLogged functions r r.log now →
+        MayAddEntry now now' (entry r.standing.world actor q) → AppendsPart written written' bytes → StopsAt t functions (of_actor actor p ∷ []) now' written written' r
+    plain_stops frame now now' written written' {bytes} h logged may part =
+        stops_at_call t functions r (of_actor actor p) (entry r.standing.world actor q) now now' written written' bytes logged (plain_logged frame now now' h logged) may part
+
     plain_frame : (frame : Option ℕ) → RunFacts functions stands world kept actor frame r → IsAtFrame actor frame quiet
     plain_frame None h = h.at_frame
     plain_frame (Some name) h =
@@ -291,23 +298,13 @@ module _ (t : LineStyle) (functions : List Func) (r : Run) (actor : ℕ) (p : Pa
 pub one_part_lines : (t : LineStyle) (functions : List Func) (r : Run) (p : ActorPart) → parts_lines t functions r (p ∷ []) ≡ part_lines t functions r p
 one_part_lines t functions r p = append-nil (part_lines t functions r p)
 
--- The parts of two lists, one after the other.
-module _ (t : LineStyle) (functions : List Func) where
-  pub lines_append : (r : Run) (ps qs : List ActorPart) → parts_lines t functions r (ps ++ qs) ≡ parts_lines t functions r ps ++ parts_lines t functions (parts_after functions r ps) qs
-  lines_append r [] qs = refl
-  lines_append r (p ∷ ps) qs = ap (λ l. part_lines t functions r p ++ l) (lines_append (part_after functions r p) ps qs) ∙ sym (append_assoc (part_lines t functions r p) _ _)
-
-  pub after_append : (r : Run) (ps qs : List ActorPart) → parts_after functions r (ps ++ qs) ≡ parts_after functions (parts_after functions r ps) qs
-  after_append r [] qs = refl
-  after_append r (p ∷ ps) qs = after_append (part_after functions r p) ps qs
-
 -- A single call was made and its line was written. The part keeps the names.
 pub ran_single : {T : Type 0} {V : Type 0} {stands : V → World BuiltIn → Type 0} {log : V → Option (List Entry)} {world world' : V} {memory memory' : RunMemory} (t : LineStyle) (functions : List Func) (actor : ℕ) (frame : Option ℕ) (r : Run) (p : Part) (q : Request) (written written' : Option (List ℕ)) (result : Result T Stop) →
     KeepsNames p → IsRun functions stands log world memory actor frame r → request_of r.notes p ≡ Some q →
     WritesBytes written written' (entry_line t.titles (entry r.standing.world actor q)) result →
-    OnOk result (stands world' (call table r.standing.world actor q).0) → OnOk result (AddsEntry (log world) (log world') (entry r.standing.world actor q)) → memory'.composition ≡ memory.composition → memory'.names ≡ memory.names →
+    OnOk result (stands world' (call table r.standing.world actor q).0) → OnOk result (AddsEntry (log world) (log world') (entry r.standing.world actor q)) → OnErr result (MayAddEntry (log world) (log world') (entry r.standing.world actor q)) → memory'.composition ≡ memory.composition → memory'.names ≡ memory.names →
     RunsAt {T = T} t functions stands log actor (of_actor actor p ∷ []) world' memory' frame written written' r result
-ran_single {stands = stands} {log = log} {world = world} {world' = world'} {memory = memory} {memory' = memory'} t functions actor frame r p q written written' (Ok x) keeps h is says stood adds kept names =
+ran_single {stands = stands} {log = log} {world = world} {world' = world'} {memory = memory} {memory' = memory'} t functions actor frame r p q written written' (Ok x) keeps h is says stood adds may kept names =
     let facts = plain_facts t functions r actor p q {stands = stands} {world = world} {kept = memory.composition} (is_plain p keeps) is frame h.facts stood in
     record {
       says = says_same (Ok x) written written' _ _ (sym (plain_line t functions r actor p q {stands = stands} {world = world} {kept = memory.composition} (is_plain p keeps) is frame h.facts)) says;
@@ -317,10 +314,12 @@ ran_single {stands = stands} {log = log} {world = world} {world' = world'} {memo
             (subst (Holds memory.names) (sym (ap (λ (n : Notes). n.names) (plain_notes t functions r actor p q is) ∙ same_names r.notes p _ keeps)) h.named);
         logged = plain_logged t functions r actor p q {stands = stands} {world = world} {kept = memory.composition} (is_plain p keeps) is frame (log world) (log world') h.facts h.logged adds;
       };
+      stops = tt;
     }
-ran_single {stands = stands} {world = world} {world' = world'} {memory = memory} t functions actor frame r p q written written' (Err e) keeps h is says stood adds kept names = record {
+ran_single {stands = stands} {log = log} {world = world} {world' = world'} {memory = memory} t functions actor frame r p q written written' (Err e) keeps h is says stood adds may kept names = record {
   says = says_same (Err e) written written' _ _ (sym (plain_line t functions r actor p q {stands = stands} {world = world} {kept = memory.composition} (is_plain p keeps) is frame h.facts)) says;
   left = tt;
+  stops = plain_stops t functions r actor p q {stands = stands} {world = world} {kept = memory.composition} (is_plain p keeps) is frame (log world) (log world') written written' h.facts h.logged may says.part;
 }
 
 -- A take was made, its line was written, and its number was noted.
@@ -343,16 +342,18 @@ ran_take {stands = stands} {log = log} {world = world} {world' = world'} {memory
             ∙ ap (λ o. cond (bytes_eq name other) (Some (number_taken (call table r.standing.world actor q).1)) o) (h.named other));
         logged = plain_logged t functions r actor p q {stands = stands} {world = world} {kept = memory.composition} tt is frame (log world) (log world') h.facts h.logged adds;
       };
+      stops = tt;
     }
 
 -- A take's line was written up to an error.
 pub stopped_take : {T : Type 0} {V : Type 0} {stands : V → World BuiltIn → Type 0} {log : V → Option (List Entry)} {world world' : V} {memory memory' : RunMemory} (t : LineStyle) (functions : List Func) (actor : ℕ) (frame : Option ℕ) (r : Run) (name : List ℕ) (kind : Kind) (parent : SnapshotRef) (q : Request) (written written' : Option (List ℕ)) (e : Stop) →
     IsRun functions stands log world memory actor frame r → request_of r.notes (Take name kind parent) ≡ Some q →
-    AppendsPart written written' (entry_line t.titles (entry r.standing.world actor q)) →
+    AppendsPart written written' (entry_line t.titles (entry r.standing.world actor q)) → MayAddEntry (log world) (log world') (entry r.standing.world actor q) →
     RunsAt {T = T} t functions stands log actor (of_actor actor (Take name kind parent) ∷ []) world' memory' frame written written' r (Err e)
-stopped_take {T = T} {stands = stands} {world = world} {memory = memory} t functions actor frame r name kind parent q written written' e h is wrote = record {
+stopped_take {T = T} {stands = stands} {log = log} {world = world} {world' = world'} {memory = memory} t functions actor frame r name kind parent q written written' e h is wrote may = record {
   says = says_same {T = T} (Err e) written written' _ _ (sym (plain_line t functions r actor (Take name kind parent) q {stands = stands} {world = world} {kept = memory.composition} tt is frame h.facts)) (record { all = tt; part = wrote });
   left = tt;
+  stops = plain_stops t functions r actor (Take name kind parent) q {stands = stands} {world = world} {kept = memory.composition} tt is frame (log world) (log world') written written' h.facts h.logged may wrote;
 }
 
 -- Nothing is written of a sum that is not made.
@@ -362,4 +363,5 @@ pub no_sum : {T : Type 0} {V : Type 0} {stands : V → World BuiltIn → Type 0}
 no_sum {stands = stands} {log = log} {world = world} {memory = memory} t functions actor frame r p written x h is says = record {
   says = says_same {E = Stop} (Ok x) written written [] _ (ap (λ o. flat (request_lines t functions r actor o ++ [])) (sym is)) says;
   left = subst (IsRun functions stands log world memory actor frame) (sym (ap (run_after_request functions r (of_actor actor p)) is)) h;
+  stops = tt;
 }

@@ -18,7 +18,8 @@ use Rattle.play_run.specs.RunPromise.{WritesBytes}
 use Rattle.play_run.specs.declared.memory.RunMemory.{RunMemory}
 use Rattle.recomposer.specs.declared.composition.Composition.{Composition}
 use Rattle.play_run.specs.declared.write_lines.Stop.{Stop}
-use Rattle.play_run.proofs.RunParts.{lines_append, after_append}
+use Rattle.play_run.proofs.RunLines.{lines_append, after_append}
+use Rattle.play_run.proofs.Stops.{stops_then, stops_front}
 use Rattle.play_run.proofs.Written.{says_behind, says_front, says_same}
 
 -- The parts of two lists of an actor.
@@ -39,7 +40,7 @@ module _ {V : Type 0} {stands : V → World BuiltIn → Type 0} {log : V → Opt
   -- Nothing was run yet.
   pub runs_none : {T : Type 0} {world : V} {memory : RunMemory} (frame : Option ℕ) (written : Option (List ℕ)) (r : Run) (x : T) → IsRun functions stands log world memory actor frame r →
       WritesBytes {T = T} {E = Stop} written written [] (Ok x) → RunsAt {T = T} t functions stands log actor [] world memory frame written written r (Ok x)
-  runs_none frame written r x h says = record { says = says; left = h }
+  runs_none frame written r x h says = record { says = says; left = h; stops = tt }
 
   -- Parts were run, and then more parts.
   pub runs_then : {T U : Type 0} {world' world'' : V} {memory' memory'' : RunMemory} (frame' frame'' : Option ℕ) (written written' written'' : Option (List ℕ)) (r : Run) (x : T) (result : Result U Stop) (ps qs : List ActorPart) →
@@ -51,17 +52,19 @@ module _ {V : Type 0} {stands : V → World BuiltIn → Type 0} {log : V → Opt
         (sym (flat_map-append (λ l. l) (parts_lines t functions r ps) (parts_lines t functions (parts_after functions r ps) qs)) ∙ ap flat (sym (lines_append t functions r ps qs)))
         (says_behind result written written' written'' _ _ one.says.all two.says);
     left = subst (λ s. OnOk result (IsRun functions stands log world'' memory'' actor frame'' s)) (sym (after_append t functions r ps qs)) two.left;
+    stops = stops_then t functions r ps qs (log world'') result written written' written'' one.says.all two.stops;
   }
 
   -- Parts were run up to an error.
-  pub runs_stopped : {T U : Type 0} {world' world'' : V} {memory' memory'' : RunMemory} (frame' frame'' : Option ℕ) (written written' : Option (List ℕ)) (r : Run) (e f : Stop) (ps qs : List ActorPart) →
+  pub runs_stopped : {T U : Type 0} {world' : V} {memory' memory'' : RunMemory} (frame' frame'' : Option ℕ) (written written' : Option (List ℕ)) (r : Run) (e f : Stop) (ps qs : List ActorPart) →
       RunsAt {T = T} t functions stands log actor ps world' memory' frame' written written' r (Err e) →
-      RunsAt {T = U} t functions stands log actor (ps ++ qs) world'' memory'' frame'' written written' r (Err f)
-  runs_stopped frame' frame'' written written' r e f ps qs one = record {
+      RunsAt {T = U} t functions stands log actor (ps ++ qs) world' memory'' frame'' written written' r (Err f)
+  runs_stopped {world' = world'} frame' frame'' written written' r e f ps qs one = record {
     says = says_same _ written written' _ _
         (sym (flat_map-append (λ l. l) (parts_lines t functions r ps) (parts_lines t functions (parts_after functions r ps) qs)) ∙ ap flat (sym (lines_append t functions r ps qs)))
         (says_front e f written written' _ _ one.says);
     left = tt;
+    stops = stops_front t functions r ps qs (log world') written written' one.stops;
   }
 
   -- The same parts in another form.
@@ -78,8 +81,8 @@ run_as a b h = record { facts = facts_as a b h.facts; named = h.named; logged = 
 
 pub runs_as : {V T : Type 0} {stands : V → World BuiltIn → Type 0} {log : V → Option (List Entry)} {t : LineStyle} {functions : List Func} {world : V} {memory : RunMemory} {r : Run} (a b : ℕ) (ps : List ActorPart) (written written' : Option (List ℕ)) (result : Result T Stop) →
     RunsAt t functions stands log a ps world memory None written written' r result → RunsAt t functions stands log b ps world memory None written written' r result
-runs_as a b ps written written' (Ok x) h = record { says = h.says; left = run_as a b h.left }
-runs_as a b ps written written' (Err e) h = record { says = h.says; left = tt }
+runs_as a b ps written written' (Ok x) h = record { says = h.says; left = run_as a b h.left; stops = tt }
+runs_as a b ps written written' (Err e) h = record { says = h.says; left = tt; stops = h.stops }
 
 -- The same outcome with another value.
 pub runs_ok : {V T U : Type 0} {stands : V → World BuiltIn → Type 0} {log : V → Option (List Entry)} {t : LineStyle} {functions : List Func} {world : V} {memory : RunMemory} {r : Run} {actor : ℕ} {frame : Option ℕ} {ps : List ActorPart} {written written' : Option (List ℕ)} (a : Result T Stop) (x : T) (b : Result U Stop) (y : U) → a ≡ Ok x → b ≡ Ok y →
@@ -87,14 +90,14 @@ pub runs_ok : {V T U : Type 0} {stands : V → World BuiltIn → Type 0} {log : 
 runs_ok {stands = stands} {log = log} {t = t} {functions = functions} {world = world} {memory = memory} {r = r} {actor = actor} {frame = frame} {ps = ps} {written = written} {written' = written'} a x b y is same h =
     subst (λ c. RunsAt t functions stands log actor ps world memory frame written written' r c) (sym same)
     (let at = subst (λ c. RunsAt t functions stands log actor ps world memory frame written written' r c) is h in
-    record { says = record { all = at.says.all; part = tt }; left = at.left })
+    record { says = record { all = at.says.all; part = tt }; left = at.left; stops = tt })
 
 pub runs_err : {V T U : Type 0} {stands : V → World BuiltIn → Type 0} {log : V → Option (List Entry)} {t : LineStyle} {functions : List Func} {world : V} {memory : RunMemory} {r : Run} {actor : ℕ} {frame : Option ℕ} {ps : List ActorPart} {written written' : Option (List ℕ)} (a : Result T Stop) (e : Stop) (b : Result U Stop) (f : Stop) → a ≡ Err e → b ≡ Err f →
     RunsAt t functions stands log actor ps world memory frame written written' r a → RunsAt t functions stands log actor ps world memory frame written written' r b
 runs_err {stands = stands} {log = log} {t = t} {functions = functions} {world = world} {memory = memory} {r = r} {actor = actor} {frame = frame} {ps = ps} {written = written} {written' = written'} a e b f is same h =
     subst (λ c. RunsAt t functions stands log actor ps world memory frame written written' r c) (sym same)
     (let at = subst (λ c. RunsAt t functions stands log actor ps world memory frame written written' r c) is h in
-    record { says = record { all = tt; part = at.says.part }; left = tt })
+    record { says = record { all = tt; part = at.says.part }; left = tt; stops = at.stops })
 
 -- A loop over parts: those that were run, those that are run next, and the rest.
 module _ {V : Type 0} {stands : V → World BuiltIn → Type 0} {log : V → Option (List Entry)} (t : LineStyle) (functions : List Func) (actor : ℕ) (frame : Option ℕ) (written written' written'' : Option (List ℕ)) (r : Run) (done here rest left all : List ActorPart) where
@@ -114,7 +117,7 @@ module _ {V : Type 0} {stands : V → World BuiltIn → Type 0} {log : V → Opt
   loop_stopped {world' = world'} {world'' = world''} {memory' = memory'} {memory'' = memory''} e split is one two =
       runs_same t functions actor frame written written'' r (Err e) (done ++ (here ++ rest)) all (ap (λ l. done ++ l) (sym split) ∙ is)
       (runs_then t functions actor {world' = world'} {world'' = world''} {memory' = memory'} {memory'' = memory''} frame frame written written' written'' r tt (Err e) done (here ++ rest) one
-      (runs_stopped t functions actor {world' = world''} {world'' = world''} {memory' = memory''} {memory'' = memory''} frame frame written' written'' (parts_after functions r done) e e here rest two))
+      (runs_stopped t functions actor {world' = world''} {memory' = memory''} {memory'' = memory''} frame frame written' written'' (parts_after functions r done) e e here rest two))
 
 -- The steps of a repeat that is made once more.
 pub repeated_first : (n : ℕ) (steps : List StepForm) → 0 < n → repeated_steps n steps ≡ steps ++ repeated_steps (n - 1) steps

@@ -1,5 +1,5 @@
 -- What was written, piece by piece.
-use Rattle.std.proofs.Common.{◌≡◌, ◌<◌, ◌≤◌, ◌+◌, ℕ, List, Bool, length, drop, ◌++◌, ◌∙◌, ap, subst, append_assoc, append-nil, sym, [], Option, Some, None, Ok, Err, OnOk}
+use Rattle.std.proofs.Common.{◌≡◌, ◌<◌, ◌≤◌, ◌+◌, ℕ, List, Bool, length, drop, ◌++◌, ◌∙◌, ap, subst, append_assoc, append-nil, sym, [], Option, Some, None, Ok, Err, OnOk, OnErr}
 use Rattle.std.proofs.lemmas.List.{drop_more}
 use Rattle.std.proofs.Math.ListN.{drop_of_length-le}
 use Rattle.std.specs.declared.result.Result.{Result}
@@ -41,6 +41,11 @@ says_front e f a b xs ys says = record { all = tt; part = part-front a b xs ys s
 pub anyway : {T E P : Type 0} (r : Result T E) → P → OnOk r P
 anyway (Ok x) p = p
 anyway (Err e) p = tt
+
+-- A consequence of a fact after an error.
+pub after_error : {T E P Q : Type 0} (r : Result T E) → (P → Q) → OnErr r P → OnErr r Q
+after_error (Ok x) f p = tt
+after_error (Err e) f p = f p
 
 -- Equal bytes.
 pub appends_same : (a b : Option (List ℕ)) (xs ys : List ℕ) → xs ≡ ys → Appends a b xs → Appends a b ys

@@ -1,5 +1,5 @@
 -- Trusted: what a run adds to the log of a world: its calls, and which objects each frame reads.
-use Rattle.std.specs.Prelude.{◌≡◌, ℕ, List, [], ◌∷◌, ◌++◌, All, Option, Some, None, if◌then◌else◌}
+use Rattle.std.specs.Prelude.{◌≡◌, ◌⊎◌, ◌≤◌, ℕ, List, [], ◌∷◌, ◌++◌, All, Option, Some, None, length, if◌then◌else◌}
 use Rattle.rt_values.specs.Maps.{Map, differ}
 use Rattle.rt_groups.specs.Frames.{LastFrame, reads}
 use Rattle.lang_ast.specs.Terms.{Func}
@@ -12,8 +12,9 @@ use Rattle.snap_api.specs.declared.data.Request.{Request}
 use Rattle.snap_api.specs.declared.data.Request.TheVariants as request
 use Rattle.snap_api.specs.World.{History, IsLegal, snapshot_of}
 use Rattle.script_lang.specs.StepCalls.{ActorPart, no_notes, opening_world, sequential}
-use Rattle.script_lang.specs.Lines.{Titles, Standing, initial_standing, next, ends_frame, name_in}
+use Rattle.script_lang.specs.Lines.{Titles, LineStyle, Standing, initial_standing, next, ends_frame, name_in, run_text}
 use Rattle.script_lang.specs.PrintedCalls.{reads_frame, printed_calls}
+use Rattle.play_run.specs.RunPromise.{WritesAtLeast}
 
 -- The object of a read.
 abbrev pub object_read : Request → ℕ
@@ -63,3 +64,25 @@ pub record RunLogged (t : Titles) (functions : List Func) (parts : List ActorPar
 abbrev pub LogsRun : Titles → List Func → List ActorPart → Option (List Entry) → Option (List Entry) → Type 0
 LogsRun t functions parts None new = new ≡ None
 LogsRun t functions parts (Some old) new = RunLogged t functions parts old new
+
+-- A run stopped before its end. A log grew by the calls of the parts `whole` and of at most one part more, and then by no
+-- call that is printed. Each reply is the plain world's, and the lines of the parts `whole` were written.
+pub record RunStopped (style : LineStyle) (functions : List Func) (parts : List ActorPart) (old : List Entry)
+    (new : Option (List Entry)) (before now : Option (List ℕ)) : Type 0 where
+  pub whole : List ActorPart
+  pub last : List ActorPart
+  pub rest : List ActorPart
+  pub split : whole ++ (last ++ rest) ≡ parts
+  pub one : length last ≤ 1
+  pub more : History
+  pub log_is : new ≡ Some (old ++ more)
+  pub legal : IsLegal table (opening_world style.titles.states) more
+  pub printed_is : printed_calls [] more ≡ sequential (opening_world style.titles.states) no_notes (whole ++ last)
+  pub wrote : WritesAtLeast before now (run_text style functions whole)
+
+-- The log, if there is one, is unchanged or grew so.
+abbrev pub StopsRun : LineStyle → List Func → List ActorPart → Option (List Entry) → Option (List Entry)
+    → Option (List ℕ) → Option (List ℕ) → Type 0
+StopsRun style functions parts None new before now = new ≡ None
+StopsRun style functions parts (Some old) new before now =
+    (new ≡ Some old) ⊎ RunStopped style functions parts old new before now

@@ -1,5 +1,5 @@
 -- Trusted: what a run of a script promises of the bytes written and of failed writes.
-use Rattle.std.specs.Prelude.{◌≡◌, ℕ, List, Option, Result, Ok, Err, OnOk, OnErr}
+use Rattle.std.specs.Prelude.{◌≡◌, ◌++◌, ℕ, List, Option, Result, Ok, Err, OnOk, OnErr}
 use Rattle.std.specs.Io.KnownBytes.{Appends}
 use Rattle.rt_streams.specs.Streams.{AppendsPart, Rose}
 use Rattle.lang_ast.specs.Terms.{Func}
@@ -32,6 +32,10 @@ pub record WritesBytes {T E : Type 0} (before now : Option (List ℕ)) (bytes : 
     (result : Result T E) : Type 0 where
   pub all : OnOk result (Appends before now bytes)
   pub part : OnErr result (AppendsPart before now bytes)
+
+-- These bytes were written, and perhaps more.
+abbrev pub WritesAtLeast : Option (List ℕ) → Option (List ℕ) → List ℕ → Type 0
+WritesAtLeast before now bytes = (more : List ℕ) × Appends before now (bytes ++ more)
 
 -- The count of failed writes of a sink: it rose if the call returned `WriteFault`, else it is unchanged.
 abbrev pub FaultsAfter : {T : Type 0} → ℕ → ℕ → Result T Stop → Type 0

@@ -1,5 +1,5 @@
 -- Internal: how the state of a run in memory represents the state of the definitions, and what was written.
-use Rattle.std.specs.Prelude.{◌≡◌, ◌≢◌, ◌⊎◌, ◌<◌, ◌≤◌, ◌+◌, ℕ, List, [], ◌∷◌, ◌++◌, All, true, false, length, map, Option, Some, None, Result, OnOk}
+use Rattle.std.specs.Prelude.{◌≡◌, ◌≢◌, ◌⊎◌, ◌<◌, ◌≤◌, ◌+◌, ℕ, List, [], ◌∷◌, ◌++◌, All, true, false, length, map, Option, Some, None, Result, OnOk, OnErr}
 use Rattle.std.specs.List.{flat_map}
 use Rattle.rt_values.specs.Maps.{Map}
 use Rattle.rt_values.specs.Views.{Grew}
@@ -24,7 +24,7 @@ use Rattle.script_lang.specs.StepCalls.{Part, Take, BeginFrame, EndFrame, ActorP
 use Rattle.script_lang.specs.declared.flags.Flags.{Flags}
 use Rattle.script_lang.specs.Lines.{LineStyle}
 use Rattle.node_tree.specs.FrameOps.{frame_ops}
-use Rattle.play_run.specs.RunPromise.{WritesBytes}
+use Rattle.play_run.specs.RunPromise.{WritesBytes, WritesAtLeast}
 use Rattle.script_lang.specs.PrintedCalls.{printed_calls}
 use Rattle.play_run.specs.RunLog.{frames_in, ReadsOwed}
 use Rattle.play_run.specs.RunOutput.{Run, parts_lines, parts_after}
@@ -81,10 +81,25 @@ abbrev pub IsLogged : List Func → Run → Option (List Entry) → Option (List
 IsLogged functions r None now = now ≡ None
 IsLogged functions r (Some old) now = LogSoFar functions r old now
 
+-- What the log `now` says of a run that stopped: it grew from `old` by a legal history whose printed calls are `r.made`.
+pub record LogAtStop (r : Run) (old : List Entry) (now : Option (List Entry)) : Type 0 where
+  pub more : History
+  pub log_is : now ≡ Some (old ++ more)
+  pub legal : IsLegal table r.first.world more
+  pub printed_is : printed_calls r.first.frames more ≡ r.made
+
+abbrev pub IsLoggedAtStop : Run → Option (List Entry) → Option (List Entry) → Type 0
+IsLoggedAtStop r None now = now ≡ None
+IsLoggedAtStop r (Some old) now = LogAtStop r old now
+
 -- A log, if there is one, grew by one call.
 abbrev pub AddsEntry : Option (List Entry) → Option (List Entry) → Entry → Type 0
 AddsEntry None new e = new ≡ None
 AddsEntry (Some old) new e = new ≡ Some (old ++ e ∷ [])
+
+-- A log is unchanged, or grew by one call.
+abbrev pub MayAddEntry : Option (List Entry) → Option (List Entry) → Entry → Type 0
+MayAddEntry old new e = (new ≡ old) ⊎ AddsEntry old new e
 
 -- The list of reads grew by all reads that a good frame owes, or by a first part of them if the frame was refused.
 abbrev pub HasAsked : List ℕ → List ℕ → List ℕ → Option Report → Type 0
@@ -136,13 +151,26 @@ KeepsNames BeginFrame = ⊥
 KeepsNames EndFrame = ⊥
 KeepsNames _ = Unit {0}
 
+-- The run of the parts after the state `r` stopped. The log grew by the calls of the parts `whole` and of at most one part
+-- more, and then by no call that is printed. The lines of the parts `whole` were written.
+pub record StopsAt (style : LineStyle) (functions : List Func) (parts : List ActorPart) (now : Option (List Entry))
+    (written written' : Option (List ℕ)) (r : Run) : Type 0 where
+  pub whole : List ActorPart
+  pub last : List ActorPart
+  pub rest : List ActorPart
+  pub split : whole ++ (last ++ rest) ≡ parts
+  pub one : length last ≤ 1
+  pub logged : IsLoggedAtStop (parts_after functions r (whole ++ last)) r.log now
+  pub wrote : WritesAtLeast written written' (flat (parts_lines style functions r whole))
+
 -- The lines of the parts after the state `r` were written, and the state after them is represented. `frame` is the open
--- frame before the parts, and `frame'` the one after them.
+-- frame before the parts, and `frame'` the one after them. After an error the run of the parts stopped.
 pub record RunsAt {V T : Type 0} (style : LineStyle) (functions : List Func) (stands : V → World BuiltIn → Type 0)
     (log : V → Option (List Entry)) (actor : ℕ) (parts : List ActorPart) (world' : V) (memory' : RunMemory)
     (frame' : Option ℕ) (written written' : Option (List ℕ)) (r : Run) (result : Result T Stop) : Type 0 where
   pub says : WritesBytes written written' (flat (parts_lines style functions r parts)) result
   pub left : OnOk result (IsRun functions stands log world' memory' actor frame' (parts_after functions r parts))
+  pub stops : OnErr result (StopsAt style functions parts (log world') written written' r)
 
 -- `RunsAt` holds for every state that `world` and `memory` represent before the parts.
 abbrev pub RunsParts : {V T : Type 0} (style : LineStyle) (functions : List Func) (stands : V → World BuiltIn → Type 0)

@@ -1,5 +1,5 @@
 // The calls of steps, with their lines.
-ghost use Rattle.std.specs.Prelude.{◌≡◌, ◌≤◌, ◌++◌, List, ℕ, [], ◌∷◌, Option, Some, Err, IfOk, OnOk};
+ghost use Rattle.std.specs.Prelude.{◌≡◌, ◌≤◌, ◌++◌, List, ℕ, [], ◌∷◌, Option, Some, Err, IfOk, OnOk, OnErr};
 ghost use Rattle.snap_policy.specs.declared.policy.BuiltIn.{BuiltIn as built_in};
 ghost use Rattle.snap_policy.specs.Table.{table};
 ghost use Rattle.snap_api.specs.World.{World, call};
@@ -11,7 +11,7 @@ ghost use Rattle.script_lang.specs.StepCalls.{Part, Take, Read, WriteSum, reques
 ghost use Rattle.script_lang.specs.Lines.{call_text, reply_text, line, entry_line};
 ghost use Rattle.play_run.specs.RunOutput.{Run, parts_of};
 ghost use Rattle.play_run.specs.RunPromise.{job_titles, style_of, job_functions};
-ghost use Rattle.play_run.specs.RunState.{KeepsNames, AddsEntry, IsRun, RunsAt, RunsParts};
+ghost use Rattle.play_run.specs.RunState.{KeepsNames, AddsEntry, MayAddEntry, IsRun, RunsAt, RunsParts};
 ghost use Rattle.play_run.specs.RunPromise.{WritesBytes, FaultsAfter};
 
 use crate::job::Job;
@@ -97,6 +97,8 @@ pub fn make_call<V: Versions<P = BuiltIn>, K: Sink>(
         OnOk result (V.stands world.new (call table w actor.entry.number request).0) }
     ensures log { (w : World built_in) → V.stands world.old w →
         OnOk result (AddsEntry (V.log world.old) (V.log world.new) (entry w actor.entry.number request)) }
+    ensures stops { (w : World built_in) → V.stands world.old w →
+        OnErr result (MayAddEntry (V.log world.old) (V.log world.new) (entry w actor.entry.number request)) }
     ensures faults { FaultsAfter (K.faults sink.old) (K.faults sink.new) result }
 {
     let Ok(()) = begin_line(actor.job, actor.number, &request, text) else {

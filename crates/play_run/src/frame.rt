@@ -15,6 +15,7 @@ ghost use Rattle.snap_policy.specs.Table.{table};
 ghost use Rattle.snap_api.specs.World.{World};
 ghost use Rattle.snap_api.specs.ShownMap.{ShownMap};
 ghost use Rattle.snap_api.specs.Desks.{FollowsLast};
+ghost use Rattle.snap_api.specs.DeskReads.{LogsReadsIn, AreLegal};
 ghost use Rattle.snap_api.specs.declared.data.Reply.TheVariants as reply_data;
 ghost use Rattle.script_lang.specs.StepCalls.{BeginFrame, EndFrame, calls_parts, frame_begun};
 ghost use Rattle.script_lang.specs.Lines.{line, report_line, op_line, frame_lines};
@@ -22,7 +23,7 @@ ghost use Rattle.script_lang.specs.GroupLines.{group_lines, open_after, group_li
 ghost use Rattle.script_lang.specs.GroupJson.{group_json, json_after_group};
 ghost use Rattle.play_run.specs.RunOutput.{Run, parts_of, parts_lines, parts_after, shown_ops, json_line, shown_groups};
 ghost use Rattle.play_run.specs.RunPromise.{style_of, job_functions};
-ghost use Rattle.play_run.specs.RunState.{HasAsked, IsRun, MadeCalls, LogsFrameReads, RunsParts, flat};
+ghost use Rattle.play_run.specs.RunState.{HasAsked, IsRun, MadeCalls, LogsFrameReads, RunsParts, StopsAt, flat};
 ghost use Rattle.play_run.specs.RunPromise.{WritesBytes, FaultsAfter};
 
 use crate::calls::{JobActor, make_call, run_calls};
@@ -147,6 +148,8 @@ pub fn compose<V: Versions<P = BuiltIn>, L: Ledger>(
         let functions = functions_of memory.old.composition.program.now in
         OnOk result
         (LogsFrameReads functions (V.stands world.old) caller name k m (V.log world.old) (V.log world.new)) }
+    ensures reads { (xs : List ℕ) × LogsReadsIn (V.log world.old) (V.log world.new) caller (Some name) xs }
+    ensures legal { AreLegal table (V.stands world.old) (V.log world.old) (V.log world.new) }
     ensures program { memory.new.composition.program ≡ memory.old.composition.program }
     ensures names { memory.new.names ≡ memory.old.names }
     ensures fault { result ≢ Err Stop.WriteFault }
@@ -437,6 +440,10 @@ fn begin_frame<V: Versions<P = BuiltIn>, K: Sink>(
         IfOk result (λ o. IsRun (job_functions actor.entry.job.now) V.stands V.log world.new memory.new
         actor.entry.number o
         (parts_after (job_functions actor.entry.job.now) r (parts_of actor.entry.number (BeginFrame ∷ [])))) }
+    ensures stops { (r : Run) → IsRun (job_functions actor.entry.job.now) V.stands V.log world.old memory.old
+        actor.entry.number None r →
+        OnErr result (StopsAt (style_of actor.entry) (job_functions actor.entry.job.now)
+        (parts_of actor.entry.number (BeginFrame ∷ [])) (V.log world.new) (K.written sink.old) (K.written sink.new) r) }
     ensures faults { FaultsAfter (K.faults sink.old) (K.faults sink.new) result }
 {
     let request = Request::TakeFor { watcher: WATCHER };

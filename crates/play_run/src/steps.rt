@@ -1,5 +1,5 @@
 // The steps of a script, one after the other.
-ghost use Rattle.std.specs.Prelude.{◌≡◌, ◌≤◌, List, ℕ, Bool, true, Option, Some, None, Err, IfOk, OnOk, [], ◌∷◌, length};
+ghost use Rattle.std.specs.Prelude.{◌≡◌, ◌≤◌, List, ℕ, Bool, true, Option, Some, None, Err, IfOk, OnOk, OnErr, [], ◌∷◌, length};
 ghost use Rattle.snap_api.specs.World.{start};
 ghost use Rattle.lang_ast.specs.declared.program.State.{State as state_data};
 ghost use Rattle.script_lang.specs.Scripts.{index_of, written_out, times_of, repeated_steps};
@@ -7,7 +7,7 @@ ghost use Rattle.script_lang.specs.StepCalls.{step_parts, steps_parts, script_pa
 ghost use Rattle.script_lang.specs.Lines.{run_text};
 ghost use Rattle.play_run.specs.RunOutput.{Run, parts_of};
 ghost use Rattle.play_run.specs.RunPromise.{job_titles, job_style, style_of, job_functions};
-ghost use Rattle.play_run.specs.RunLog.{LogsRun};
+ghost use Rattle.play_run.specs.RunLog.{LogsRun, StopsRun};
 ghost use Rattle.play_run.specs.RunState.{RunsParts, flat};
 ghost use Rattle.play_run.specs.RunPromise.{WritesBytes, FaultsAfter};
 
@@ -207,6 +207,9 @@ pub fn run_script<V: Versions<P = BuiltIn>, K: Sink>(
         (run_text (job_style job.now flags) (job_functions job.now) parts) result }
     ensures log { let parts = script_parts job.now.script.actors.items job.now.script.forms.items in
         OnOk result (LogsRun (job_titles job.now) (job_functions job.now) parts (V.log world.old) (V.log world.new)) }
+    ensures stops { let parts = script_parts job.now.script.actors.items job.now.script.forms.items in
+        OnErr result (StopsRun (job_style job.now flags) (job_functions job.now) parts (V.log world.old)
+        (V.log world.new) (K.written sink.old) (K.written sink.new)) }
     ensures faults { FaultsAfter (K.faults sink.old) (K.faults sink.new) result }
 {
     let Ok(mut memory) = RunMemory::new(alloc, &job.program) else {

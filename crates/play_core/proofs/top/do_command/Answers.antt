@@ -4,7 +4,7 @@ use Rattle.sexp_text.specs.View.{forest_view}
 use Rattle.play_core.specs.CommandOutput.{SaysOutput}
 use Rattle.play_core.specs.Texts.{run_output, check_output}
 use Rattle.play_core.proofs.TreeLines.{check-is}
-use Rattle.play_core.proofs.Plays.{run-is, logs-is}
+use Rattle.play_core.proofs.Plays.{run-is, logs-is, stops-is}
 use Rattle.play_run.proofs.Written.{says_same}
 use Rattle.play_core.proofs.top.do_command.Goals as goal
 
@@ -21,3 +21,9 @@ returns-in-Check-clause-says g c bytes p read text =
 pub returns-in-Run-clause-log : goal.returns-in-Run-clause-log
 returns-in-Run-clause-log g c bytes p flags run read text =
     logs-is read.read p text c.run_script.result (g.V.Versions.log c.args.world.now) (g.V.Versions.log c.run_script.new.world) c.run_script.ensures.log
+
+pub returns-in-Run-clause-stops : goal.returns-in-Run-clause-stops
+returns-in-Run-clause-stops g c bytes p flags run read text =
+    let same : c.in-Run.flags ≡ flags = (let e : Run c.in-Run.flags ≡ Run flags = sym c.in-Run.is ∙ run in cc) in
+    stops-is flags read.read p text c.run_script.result (g.V.Versions.log c.args.world.now) (g.V.Versions.log c.run_script.new.world) (g.K.Sink.written c.args.sink.now) (g.K.Sink.written c.run_script.new.sink)
+    (subst (λ (f : Flags). OnErr c.run_script.result (StopsRun (job_style c.deref.result.now f) (job_functions c.deref.result.now) _ (g.V.Versions.log c.args.world.now) (g.V.Versions.log c.run_script.new.world) (g.K.Sink.written c.args.sink.now) (g.K.Sink.written c.run_script.new.sink))) same c.run_script.ensures.stops)

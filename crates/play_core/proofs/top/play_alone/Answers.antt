@@ -2,7 +2,7 @@ use Rattle.std.proofs.Common.{Some, sym, ap, ◌∙◌, arith, refl, inr}
 use Rattle.rt_streams.proofs.Parts.{part-none}
 use Rattle.play_args.specs.CommandWords.{command_of_args, texts}
 use Rattle.play_core.specs.Promise.{streams}
-use Rattle.play_core.proofs.Plays.{memory-meets, generated-meets, keeps-same}
+use Rattle.play_core.proofs.Plays.{memory-meets, generated-meets, keeps-same, each-text, unlogged-text}
 use Rattle.play_core.proofs.Sizes.{size_fits}
 use Rattle.play_core.proofs.top.play_alone.Goals as goal
 
@@ -33,3 +33,6 @@ returns-in-Ok-Some-Gen-clause-meets g c =
     generated-meets (texts c.args.words.now.items) (shown c.args.source.now c.args.sink.now) (shown c.args.source.now c.write_summary.new.sink) c.write_summary.result made.number made.size
     (ap (λ ws. command_of_args (texts ws)) (sym c.deref.ensures.value) ∙ sym made.ensures ∙ made.field-0-is ∙ ap Some made.field-0-0-is)
     (record { answers = told.answers; done = told.all; part = told.part; write_fault = told.write_fault }) (λ e. refl) told.clean
+
+pub returns-in-Err-clause-stops : goal.returns-in-Err-clause-stops
+returns-in-Err-clause-stops g c flags run e = each-text _ (λ bytes t text. unlogged-text flags t _ _ _)

@@ -1,10 +1,11 @@
-use Rattle.std.proofs.Common.{ℕ, List, ◌∙◌, ap, Err, sym, subst, false}
+use Rattle.std.proofs.Common.{◌≡◌, ◌⊎◌, ℕ, List, Option, ◌∙◌, ap, Err, sym, subst, false}
 use Rattle.std.proofs.KnownBytes.{Consumes-whole}
 use Rattle.lang_forms.specs.Sources.{Source}
-use Rattle.play_core.specs.Promise.{streams, CommandMeets, LogsText}
+use Rattle.play_core.specs.Promise.{streams, CommandMeets, LogsText, StopsText}
 use Rattle.play_core.specs.Texts.{IsText}
 use Rattle.play_core.specs.declared.top.Status.{Status}
-use Rattle.play_core.proofs.Plays.{parsed-meets, done-after}
+use Rattle.play_core.specs.declared.top.Status.TheVariants as status
+use Rattle.play_core.proofs.Plays.{parsed-meets, done-after, stopped-after, each-text, unlogged-text}
 use Rattle.play_core.proofs.top.play_input.Goals as goal
 
 pub returns-in-Ok-clause-meets : goal.returns-in-Ok-clause-meets
@@ -24,3 +25,17 @@ returns-in-Ok-clause-log g c flags run e =
 
 pub returns-in-Err-clause-log : goal.returns-in-Err-clause-log
 returns-in-Err-clause-log g c flags run e = absurd (c.in-Err.ensures.undone (ap Err e))
+
+pub returns-in-Ok-clause-stops : goal.returns-in-Ok-clause-stops
+returns-in-Ok-clause-stops g c flags run e =
+    let read = c.in-Ok.ensures.parsed in
+    let old = g.V.Versions.log c.args.world.now in
+    let new = g.V.Versions.log c.do_command.new.world in
+    let now = g.K.Sink.written c.do_command.new.sink in
+    let Stopped : List ℕ → Type 0 = λ bs. (t : Source) → IsText false bs t → StopsText flags t old new (g.K.Sink.written c.args.sink.now) now in
+    let stopped = subst (λ (s : Status). (s ≡ status.WriteFault) ⊎ (s ≡ status.NoMemory)) c.status_of.ensures e in
+    Consumes-whole _ _ read.bytes Stopped read.consumed read.end (λ t text. subst (λ (b : Option (List ℕ)). StopsText flags t old new b now) read.written
+    (stopped-after c.do_command.result stopped (c.do_command.ensures.stops read.bytes t flags run read.parsed text)))
+
+pub returns-in-Err-clause-stops : goal.returns-in-Err-clause-stops
+returns-in-Err-clause-stops g c flags run e = each-text _ (λ bytes t text. unlogged-text flags t _ _ _)

@@ -16,4 +16,4 @@ returns-in-Ok-put-clause-runs g c frame r kind parent h is =
 pub returns-clause-runs : goal.returns-clause-runs
 returns-clause-runs g c frame r kind parent h is =
     stopped_take (job_style c.args.actor.job.now c.args.actor.flags) (job_functions c.args.actor.job.now) c.args.actor.number frame r c.args.name.now kind parent c.args.request _ _ c.in-Err.stop h is
-    (c.in-Err.ensures.says r.standing.world h.facts.world_stands).part
+    (c.in-Err.ensures.says r.standing.world h.facts.world_stands).part (c.in-Err.ensures.stops r.standing.world h.facts.world_stands)

@@ -1,6 +1,7 @@
 use Rattle.std.proofs.Common.{refl, sym, subst, append-nil}
 use Rattle.rt_streams.specs.Streams.{AppendsPart}
-use Rattle.play_run.proofs.FrameParts.{begun_run}
+use Rattle.play_run.proofs.FrameParts.{begun_run, begin_stops}
+use Rattle.play_run.specs.RunPromise.{job_style, job_functions}
 use Rattle.play_run.proofs.frame.begin_frame.Goals as goal
 
 pub returns-in-Ok-clause-left : goal.returns-in-Ok-clause-left
@@ -12,3 +13,8 @@ returns-in-Ok-clause-left g c r h =
 pub returns-in-Err-clause-says : goal.returns-in-Err-clause-says
 returns-in-Err-clause-says g c r h =
     record { all = tt; part = subst (AppendsPart _ _) (sym (append-nil _)) (c.in-Err.ensures.says r.standing.world h.facts.world_stands).part }
+
+pub returns-in-Err-clause-stops : goal.returns-in-Err-clause-stops
+returns-in-Err-clause-stops g c r h =
+    begin_stops (job_style c.args.actor.job.now c.args.actor.flags) (job_functions c.args.actor.job.now) c.args.actor.number r _ _ _ _ h.logged
+    (c.in-Err.ensures.stops r.standing.world h.facts.world_stands) (c.in-Err.ensures.says r.standing.world h.facts.world_stands).part

@@ -1,4 +1,4 @@
-use Rattle.std.proofs.Common.{sym, subst, ap, ◌∙◌, Option, Some}
+use Rattle.std.proofs.Common.{inr, [], sym, subst, ap, ◌∙◌, Option, Some}
 use Rattle.std.specs.Option.{option_map}
 use Rattle.compose_model.specs.Frame.{FrameResult, kept_after}
 use Rattle.recomposer.specs.Compositions.{IsAt}
@@ -8,8 +8,8 @@ use Rattle.script_lang.specs.StepCalls.{EndFrame, of_actor}
 use Rattle.play_run.specs.RunOutput.{part_after}
 use Rattle.play_run.specs.RunState.{MadeCalls, LogsFrameReads}
 use Rattle.play_run.specs.RunPromise.{job_style, job_functions}
-use Rattle.play_run.proofs.FrameParts.{frame_map, outcome, frame_shows, frame_at, frame_is, end_facts, end_logged, end_names, end_bytes}
-use Rattle.play_run.proofs.Written.{says_behind, says_same, anyway}
+use Rattle.play_run.proofs.FrameParts.{frame_map, outcome, frame_shows, frame_at, frame_is, end_facts, end_logged, end_stops, end_names, end_bytes}
+use Rattle.play_run.proofs.Written.{says_behind, says_same, anyway, after_error}
 use Rattle.play_run.proofs.frame.finish_frame.Goals as goal
 
 pub returns-in-Ok-composed-clause-runs : goal.returns-in-Ok-composed-clause-runs
@@ -23,12 +23,14 @@ returns-in-Ok-composed-clause-runs g c r h =
     let stood = c.compose-composed.ensures.same r.standing.world h.facts.world_stands in
     let left = c.in-Ok-composed.ensures.left k m shows at in
     let good = frame_is a c.args.name r h.facts in
+    let bytes = end_bytes a c.args.name r h.facts (job_style c.args.actor.job.now c.args.actor.flags) in
+    let says = says_same c.write_frame.result _ _ _ _ (sym bytes)
+        (says_behind c.write_frame.result _ _ _ _ _ (c.in-Ok.ensures.says r.standing.world stood).all (c.write_frame.ensures.says k (Some m) (outcome fs r c.args.name)
+        (c.in-Ok-composed.ensures.told k m shows at ∙ ap (λ (o : Option FrameResult). option_map (λ (f : FrameResult). f.told) o) good)
+        (subst (λ (o : Option FrameResult). IsAt c.compose-composed.new.memory.composition (kept_after k o) (Some m)) good left)
+        (subst (λ (o : Option FrameResult). MadeCalls c.args.actor.flags k o c.compose-composed.new.memory.composition.ops) good (c.in-Ok-composed.ensures.calls k m shows at)))) in
     record {
-      says = says_same c.write_frame.result _ _ _ _ (sym (end_bytes a c.args.name r h.facts (job_style c.args.actor.job.now c.args.actor.flags)))
-          (says_behind c.write_frame.result _ _ _ _ _ (c.in-Ok.ensures.says r.standing.world stood).all (c.write_frame.ensures.says k (Some m) (outcome fs r c.args.name)
-          (c.in-Ok-composed.ensures.told k m shows at ∙ ap (λ (o : Option FrameResult). option_map (λ (f : FrameResult). f.told) o) good)
-          (subst (λ (o : Option FrameResult). IsAt c.compose-composed.new.memory.composition (kept_after k o) (Some m)) good left)
-          (subst (λ (o : Option FrameResult). MadeCalls c.args.actor.flags k o c.compose-composed.new.memory.composition.ops) good (c.in-Ok-composed.ensures.calls k m shows at))));
+      says = says;
       left = anyway c.write_frame.result (record {
         facts = end_facts a c.args.name r h.facts (c.in-Ok.ensures.left r.standing.world stood) left c.compose-composed.ensures.program;
         named = subst (λ n. Holds n (part_after fs r (of_actor a EndFrame)).notes.names) (sym c.compose-composed.ensures.names)
@@ -37,6 +39,8 @@ returns-in-Ok-composed-clause-runs g c r h =
             (subst (λ f. LogsFrameReads f (g.V.Versions.stands c.args.world.now) a c.args.name k m (g.V.Versions.log c.args.world.now) (g.V.Versions.log c.compose-composed.new.world)) h.facts.same_program (c.in-Ok-composed.ensures.log k m shows at))
             (c.in-Ok.ensures.log r.standing.world stood);
       });
+      stops = after_error c.write_frame.result (λ part. end_stops a c.args.name r h.facts (job_style c.args.actor.job.now c.args.actor.flags) c.compose-composed.ensures.reads.0 (g.V.Versions.log c.args.world.now) (g.V.Versions.log c.compose-composed.new.world) (g.V.Versions.log c.make_call.new.world) _ _
+          h.logged c.compose-composed.ensures.reads.1 c.compose-composed.ensures.legal (inr (c.in-Ok.ensures.log r.standing.world stood)) part) says.part;
     }
 
 pub returns-in-Ok-clause-runs : goal.returns-in-Ok-clause-runs
@@ -46,6 +50,8 @@ returns-in-Ok-clause-runs g c r h =
       says = says_same _ _ _ _ _ (sym (end_bytes c.args.actor.number c.args.name r h.facts (job_style c.args.actor.job.now c.args.actor.flags)))
           (record { all = tt; part = part-all _ _ _ _ (c.in-Ok.ensures.says r.standing.world stood).all });
       left = tt;
+      stops = end_stops c.args.actor.number c.args.name r h.facts (job_style c.args.actor.job.now c.args.actor.flags) c.compose-composed.ensures.reads.0 (g.V.Versions.log c.args.world.now) (g.V.Versions.log c.compose-composed.new.world) (g.V.Versions.log c.make_call.new.world) _ _
+          h.logged c.compose-composed.ensures.reads.1 c.compose-composed.ensures.legal (inr (c.in-Ok.ensures.log r.standing.world stood)) (part-all _ _ _ [] (c.in-Ok.ensures.says r.standing.world stood).all);
     }
 
 pub returns-clause-runs : goal.returns-clause-runs
@@ -55,4 +61,6 @@ returns-clause-runs g c r h =
       says = says_same _ _ _ _ _ (sym (end_bytes c.args.actor.number c.args.name r h.facts (job_style c.args.actor.job.now c.args.actor.flags)))
           (record { all = tt; part = part-front _ _ _ _ (c.in-Err.ensures.says r.standing.world stood).part });
       left = tt;
+      stops = end_stops c.args.actor.number c.args.name r h.facts (job_style c.args.actor.job.now c.args.actor.flags) c.compose-composed.ensures.reads.0 (g.V.Versions.log c.args.world.now) (g.V.Versions.log c.compose-composed.new.world) (g.V.Versions.log c.make_call.new.world) _ _
+          h.logged c.compose-composed.ensures.reads.1 c.compose-composed.ensures.legal (c.in-Err.ensures.stops r.standing.world stood) (c.in-Err.ensures.says r.standing.world stood).part;
     }

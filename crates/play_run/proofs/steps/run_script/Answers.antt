@@ -8,7 +8,8 @@ use Rattle.play_run.specs.RunState.{IsRun}
 use Rattle.play_run.proofs.Openings.{program-fits, opened}
 use Rattle.play_run.proofs.RunLines.{run_text_is}
 use Rattle.play_run.proofs.RunLogs.{logged_after, run_logged}
-use Rattle.play_run.proofs.Written.{says_same}
+use Rattle.play_run.proofs.Stops.{script_stopped, unlogged_stop}
+use Rattle.play_run.proofs.Written.{says_same, after_error}
 use Rattle.play_run.proofs.steps.run_script.Goals as goal
 
 pub returns-clause-says : goal.returns-clause-says
@@ -27,3 +28,12 @@ returns-clause-log g c =
     let fit = program-fits p.header p.states.items (functions_view p.functions.items) c.args.job.now.fine in
     let ran = (c.run_do_forms.ensures.runs (first_run p.states.items log) (opened 0 p.states.items log fit c.set_up_world.ensures.log c.in-Ok-set_up_world.ensures.opened c.in-Ok.ensures.composition (ap functions_of c.in-Ok.ensures.program) c.in-Ok.ensures.names)).left in
     logged_after (λ (h : IsRun (job_functions c.args.job.now) g.V.Versions.stands g.V.Versions.log c.run_do_forms.new.world c.run_do_forms.new.memory 0 None (parts_after (job_functions c.args.job.now) (first_run p.states.items log) parts)). run_logged (job_titles c.args.job.now) (job_functions c.args.job.now) parts log (g.V.Versions.log c.run_do_forms.new.world) h.logged) c.run_do_forms.result ran
+
+pub returns-clause-stops : goal.returns-clause-stops
+returns-clause-stops g c =
+    let p = c.args.job.now.program in
+    let parts = script_parts c.args.job.now.script.actors.items c.args.job.now.script.forms.items in
+    let log = g.V.Versions.log c.args.world.now in
+    let fit = program-fits p.header p.states.items (functions_view p.functions.items) c.args.job.now.fine in
+    let ran = (c.run_do_forms.ensures.runs (first_run p.states.items log) (opened 0 p.states.items log fit c.set_up_world.ensures.log c.in-Ok-set_up_world.ensures.opened c.in-Ok.ensures.composition (ap functions_of c.in-Ok.ensures.program) c.in-Ok.ensures.names)).stops in
+    after_error c.run_do_forms.result (script_stopped (job_style c.args.job.now c.args.flags) (job_functions c.args.job.now) parts log (g.V.Versions.log c.run_do_forms.new.world) _ _) ran
