@@ -20,11 +20,13 @@ PartsAreFine p scope (Node at site name attributes body) =
     (values_faults (plain p.states scope) attributes ≡ []) × (stmts_faults p scope body ≡ [])
 PartsAreFine p scope (Call at site name function arguments) =
     (exprs_faults (plain p.states scope) arguments ≡ [])
-    × (call_faults p.me at (types_of (plain p.states scope) arguments) (named_function p.functions name.text function) ≡ [])
+    × (call_faults p.me at (types_of (plain p.states scope) arguments) (named_function p.functions name.text function)
+    ≡ [])
 PartsAreFine p scope (Key at site key body) =
     (expr_faults (plain p.states scope) key ≡ []) × (stmts_faults p scope body ≡ [])
 PartsAreFine p scope (If at site condition then_branch else_branch) =
-    (expr_faults (plain p.states scope) condition ≡ []) × (stmts_faults p scope then_branch ≡ []) × (stmts_faults p scope else_branch ≡ [])
+    (expr_faults (plain p.states scope) condition ≡ []) × (stmts_faults p scope then_branch ≡ [])
+    × (stmts_faults p scope else_branch ≡ [])
 PartsAreFine p scope (For at site name list body) =
     (expr_faults (plain p.states scope) list ≡ []) × (stmts_faults p (scope ++ typed_name name ty.Int ∷ []) body ≡ [])
 PartsAreFine p scope (Let at site name value body) =
@@ -34,7 +36,8 @@ PartsAreFine p scope (Remember at site name keys value body) =
     (values_faults (plain p.states scope) keys ≡ []) × (expr_faults (inside p.states scope keys) value ≡ [])
     × (stmts_faults p (scope ++ typed_name name (type (inside p.states scope keys) value) ∷ []) body ≡ [])
 
-pub parts : (p : StatementContext) (scope : List TypedName) (s : Stmt) → stmt_faults p scope s ≡ [] → PartsAreFine p scope s
+pub parts : (p : StatementContext) (scope : List TypedName) (s : Stmt) → stmt_faults p scope s ≡ []
+    → PartsAreFine p scope s
 parts p scope (Node at site name attributes body) h = none_in _ _ (none_in _ _ h).1
 parts p scope (Call at site name function arguments) h = none_in _ _ h
 parts p scope (Key at site key body) h = none_in _ _ h
@@ -57,10 +60,12 @@ parts p scope (Remember at site name keys value body) h =
 abbrev pub BodiesAreFine : List State → List Func → ℕ → List Func → Type 0
 BodiesAreFine states functions me [] = Unit {0}
 BodiesAreFine states functions me (f ∷ fs) =
-    (stmts_faults (record { states = states; functions = functions; me = me }) (bound_parameters f.parameters) f.body ≡ [])
+    (stmts_faults (record { states = states; functions = functions; me = me }) (bound_parameters f.parameters) f.body
+    ≡ [])
     × BodiesAreFine states functions (me + 1) fs
 
-bodies_from : (states : List State) (functions : List Func) (me : ℕ) (fs : List Func) → functions_faults states functions me fs ≡ [] → BodiesAreFine states functions me fs
+bodies_from : (states : List State) (functions : List Func) (me : ℕ) (fs : List Func)
+    → functions_faults states functions me fs ≡ [] → BodiesAreFine states functions me fs
 bodies_from states functions me [] h = tt
 bodies_from states functions me (f ∷ fs) h =
     let rest = none_in _ _ h in
@@ -71,8 +76,11 @@ bodies p h =
     let functions = functions_faults p.states p.functions 0 p.functions ++ chains_faults [] p.functions in
     let states = states_faults p.states ++ functions in
     let root = fault_unless (nat_lt (root_number p.functions) (length p.functions)) kind.Unknown p.header ++ states in
-    let after_states = none_in (duplicate_faults [] (map (λ s. s.name) p.states)) (duplicate_faults [] (map (λ f. f.name) p.functions) ++ root) h in
+    let after_states = none_in (duplicate_faults [] (map (λ s. s.name) p.states))
+    (duplicate_faults [] (map (λ f. f.name) p.functions) ++ root) h in
     let after_names = none_in (duplicate_faults [] (map (λ f. f.name) p.functions)) root after_states.1 in
-    let after_root = none_in (fault_unless (nat_lt (root_number p.functions) (length p.functions)) kind.Unknown p.header) states after_names.1 in
+    let after_root = none_in (fault_unless (nat_lt (root_number p.functions) (length p.functions)) kind.Unknown
+    p.header) states after_names.1 in
     let after_types = none_in (states_faults p.states) functions after_root.1 in
-    bodies_from p.states p.functions 0 p.functions (none_in (functions_faults p.states p.functions 0 p.functions) (chains_faults [] p.functions) after_types.1).0
+    bodies_from p.states p.functions 0 p.functions
+    (none_in (functions_faults p.states p.functions 0 p.functions) (chains_faults [] p.functions) after_types.1).0

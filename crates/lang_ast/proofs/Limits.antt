@@ -26,11 +26,14 @@ none-too-many places h = by (slice_get places most_forms) refl
 module _ (states : List State) (functions : List Func) (small : oversized_parts states functions ≡ []) where
   forms : (first_excess (map state_place states) ≡ []) × (first_excess (map function_place functions) ≡ [])
   forms =
-      let counts = (none_in (first_excess (map state_place states) ++ first_excess (map function_place functions)) (states_sizes states ++ functions_sizes functions) small).0 in
+      let counts = (none_in (first_excess (map state_place states) ++ first_excess (map function_place functions))
+      (states_sizes states ++ functions_sizes functions) small).0 in
       none_in (first_excess (map state_place states)) (first_excess (map function_place functions)) counts
 
   pub few_states : length states ≤ most_forms
-  few_states = subst (λ n. n ≤ most_forms) (length-map states state_place) (few (map state_place states) most_forms (none-too-many (map state_place states) forms.0))
+  few_states = subst (λ n. n ≤ most_forms) (length-map states state_place)
+      (few (map state_place states) most_forms (none-too-many (map state_place states) forms.0))
 
   pub few_functions : length functions ≤ most_forms
-  few_functions = subst (λ n. n ≤ most_forms) (length-map functions function_place) (few (map function_place functions) most_forms (none-too-many (map function_place functions) forms.1))
+  few_functions = subst (λ n. n ≤ most_forms) (length-map functions function_place)
+      (few (map function_place functions) most_forms (none-too-many (map function_place functions) forms.1))

@@ -18,22 +18,26 @@ view-Variable name = search (rules, the_lemmas)
 pub view-Get : (at : ℕ) (name : Ident) (number : ℕ) → expr_view (GetOf at name number) ≡ Get at name number
 view-Get at name number = search (rules, the_lemmas)
 
-pub view-Apply : (at : ℕ) (operator : Operator) (operands : Vec Expression Global) → expr_view (ApplyOf at operator operands) ≡ Apply at operator (exprs_view operands.items)
+pub view-Apply : (at : ℕ) (operator : Operator) (operands : Vec Expression Global)
+    → expr_view (ApplyOf at operator operands) ≡ Apply at operator (exprs_view operands.items)
 view-Apply at operator operands = search (rules, the_lemmas)
 
 pub view-Node : (at site : ℕ) (kind : Ident) (attributes : Vec Named Global) (body : Vec Statement Global) →
-    stmt_view (NodeOf at site kind attributes body) ≡ Node at site kind (nameds_view attributes.items) (stmts_view body.items)
+    stmt_view (NodeOf at site kind attributes body)
+    ≡ Node at site kind (nameds_view attributes.items) (stmts_view body.items)
 view-Node at site kind attributes body = search (rules, stmt_lemmas)
 
 pub view-Call : (at site : ℕ) (name : Ident) (function : ℕ) (arguments : Vec Expression Global) →
     stmt_view (CallOf at site name function arguments) ≡ Call at site name function (exprs_view arguments.items)
 view-Call at site name function arguments = search (rules, stmt_lemmas)
 
-pub view-Key : (at site : ℕ) (key : Expression) (body : Vec Statement Global) → stmt_view (KeyOf at site key body) ≡ Key at site (expr_view key) (stmts_view body.items)
+pub view-Key : (at site : ℕ) (key : Expression) (body : Vec Statement Global)
+    → stmt_view (KeyOf at site key body) ≡ Key at site (expr_view key) (stmts_view body.items)
 view-Key at site key body = search (rules, stmt_lemmas)
 
 pub view-If : (at site : ℕ) (condition : Expression) (then_branch else_branch : Vec Statement Global) →
-    stmt_view (IfOf at site condition then_branch else_branch) ≡ If at site (expr_view condition) (stmts_view then_branch.items) (stmts_view else_branch.items)
+    stmt_view (IfOf at site condition then_branch else_branch)
+    ≡ If at site (expr_view condition) (stmts_view then_branch.items) (stmts_view else_branch.items)
 view-If at site condition then_branch else_branch = search (rules, stmt_lemmas)
 
 pub view-For : (at site : ℕ) (name : Ident) (list : Expression) (body : Vec Statement Global) →
@@ -44,9 +48,23 @@ pub view-Let : (at site : ℕ) (name : Ident) (value : Expression) (body : Vec S
     stmt_view (LetOf at site name value body) ≡ Let at site name (expr_view value) (stmts_view body.items)
 view-Let at site name value body = search (rules, stmt_lemmas)
 
-pub view-Remember : (at site : ℕ) (name : Ident) (keys : Vec Named Global) (value : Expression) (body : Vec Statement Global) →
-    stmt_view (RememberOf at site name keys value body) ≡ Remember at site name (nameds_view keys.items) (expr_view value) (stmts_view body.items)
+pub view-Remember : (at site : ℕ) (name : Ident) (keys : Vec Named Global) (value : Expression)
+    (body : Vec Statement Global) →
+    stmt_view (RememberOf at site name keys value body)
+    ≡ Remember at site name (nameds_view keys.items) (expr_view value) (stmts_view body.items)
 view-Remember at site name keys value body = search (rules, stmt_lemmas)
 
 -- The view of each form in memory.
-pub ruleset views = (view-Literal, view-Variable, view-Get, view-Apply, view-Node, view-Call, view-Key, view-If, view-For, view-Let, view-Remember)
+pub ruleset views = (
+  view-Literal,
+  view-Variable,
+  view-Get,
+  view-Apply,
+  view-Node,
+  view-Call,
+  view-Key,
+  view-If,
+  view-For,
+  view-Let,
+  view-Remember,
+)

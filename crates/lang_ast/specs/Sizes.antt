@@ -74,9 +74,9 @@ abbrev pub named_sizes : List Named → List ℕ
 named_sizes [] = []
 named_sizes (n ∷ ns) = name_sizes n.name ++ expr_sizes n.value ++ named_sizes ns
 
--- The offsets of the oversized parts of statements in d blocks: of a name that is too long, of a statement that is nested
--- too deep, of a node with too many attributes and of a remember with too many keys, and of the expressions. The body of
--- a statement is in one block more.
+-- The offsets of the oversized parts of statements in d blocks: of a name that is too long, of a statement that is
+-- nested too deep, of a node with too many attributes and of a remember with too many keys, and of the expressions. The
+-- body of a statement is in one block more.
 abbrev mutual
   pub stmt_sizes : ℕ → Stmt → List ℕ
   stmt_sizes d (Node at site n ns body) =

@@ -18,8 +18,8 @@ pub struct State {
     pub initial: Value,
 }
 
-/// A program within the limits of size: the offset of its header, its states, and its functions. The first function with
-/// the name `root` is the content of the composition (`setContent`). The type keeps that no part is oversized.
+/// A program within the limits of size: the offset of its header, its states, and its functions. The first function
+/// with the name `root` is the content of the composition (`setContent`). The type keeps that no part is oversized.
 #[derive(Drop)]
 pub struct Program {
     pub header: usize,

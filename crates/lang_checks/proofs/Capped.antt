@@ -28,7 +28,8 @@ mutual
   longest_cap ds (Call at site name f arguments) = get_or-map cap ds f 0
   longest_cap ds (Key at site key body) = longest_in_cap ds body
   longest_cap ds (If at site condition a b) =
-      ap (λ (n : ℕ). max n (longest_in (map cap ds) b)) (longest_in_cap ds a) ∙ ap (max (cap (longest_in ds a))) (longest_in_cap ds b)
+      ap (λ (n : ℕ). max n (longest_in (map cap ds) b)) (longest_in_cap ds a)
+      ∙ ap (max (cap (longest_in ds a))) (longest_in_cap ds b)
       ∙ max_cap (longest_in ds a) (longest_in ds b)
   longest_cap ds (For at site name list body) = longest_in_cap ds body
   longest_cap ds (Let at site name value body) = longest_in_cap ds body
@@ -37,7 +38,8 @@ mutual
   longest_in_cap : (ds : List ℕ) (ss : Stmts) → longest_in (map cap ds) ss ≡ cap (longest_in ds ss)
   longest_in_cap ds done = refl
   longest_in_cap ds (next s ss) =
-      ap (λ (n : ℕ). max n (longest_in (map cap ds) ss)) (longest_cap ds s) ∙ ap (max (cap (longest ds s))) (longest_in_cap ds ss)
+      ap (λ (n : ℕ). max n (longest_in (map cap ds) ss)) (longest_cap ds s)
+      ∙ ap (max (cap (longest ds s))) (longest_in_cap ds ss)
       ∙ max_cap (longest ds s) (longest_in ds ss)
 
 chain_cap : (ds : List ℕ) (f : Func) → capped_chain (map cap ds) f ≡ cap (chain ds f)
@@ -46,10 +48,14 @@ chain_cap ds f = ap extended_chain (longest_in_cap ds f.body) ∙ longer_cap (lo
 faults_cap : (ds : List ℕ) (fs : List Func) → capped_faults (map cap ds) fs ≡ chains_faults ds fs
 faults_cap ds [] = refl
 faults_cap ds (f ∷ fs) =
-    ap (λ (n : ℕ). fault_unless (nat_le n most_chain) kind.Order f.at ++ capped_faults (map cap ds ++ n ∷ []) fs) (chain_cap ds f)
-    ∙ ap (λ b. fault_unless b kind.Order f.at ++ capped_faults (map cap ds ++ cap (chain ds f) ∷ []) fs) (le_cap (chain ds f))
-    ∙ ap (λ (l : List ℕ). fault_unless (nat_le (chain ds f) most_chain) kind.Order f.at ++ capped_faults l fs) (sym (map-append cap ds (chain ds f ∷ [])))
-    ∙ ap (λ (l : List ProgramFault). fault_unless (nat_le (chain ds f) most_chain) kind.Order f.at ++ l) (faults_cap (ds ++ chain ds f ∷ []) fs)
+    ap (λ (n : ℕ). fault_unless (nat_le n most_chain) kind.Order f.at ++ capped_faults (map cap ds ++ n ∷ []) fs)
+    (chain_cap ds f)
+    ∙ ap (λ b. fault_unless b kind.Order f.at ++ capped_faults (map cap ds ++ cap (chain ds f) ∷ []) fs)
+    (le_cap (chain ds f))
+    ∙ ap (λ (l : List ℕ). fault_unless (nat_le (chain ds f) most_chain) kind.Order f.at ++ capped_faults l fs)
+    (sym (map-append cap ds (chain ds f ∷ [])))
+    ∙ ap (λ (l : List ProgramFault). fault_unless (nat_le (chain ds f) most_chain) kind.Order f.at ++ l)
+    (faults_cap (ds ++ chain ds f ∷ []) fs)
 
 pub capped_is : (fs : List Func) → capped_faults [] fs ≡ chains_faults [] fs
 capped_is fs = faults_cap [] fs

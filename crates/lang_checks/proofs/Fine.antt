@@ -19,6 +19,7 @@ held true k at h = refl
 held false k at h = absurd (cc)
 
 pub root_is_there : (header : ℕ) (states : List State) (fs : List Function) →
-    program_faults (record { header = header; states = states; functions = functions_view fs }) ≡ [] → root_number (functions_view fs) < length fs
+    program_faults (record { header = header; states = states; functions = functions_view fs }) ≡ []
+    → root_number (functions_view fs) < length fs
 root_is_there header states fs h =
     rw (← length-map fs function_view) (ltb-true _ _ (held _ _ _ (none_in _ _ (none_in _ _ (none_in _ _ h).1).1).0))

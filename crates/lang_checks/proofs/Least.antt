@@ -9,7 +9,8 @@ use Rattle.lang_checks.specs.Laws.{NoAnswerNoFault, AnswerIsLeast}
 Kept : ProgramFault → List ProgramFault → Type 0
 Kept g fs = (h : ProgramFault) × (least_fault_from (Some g) fs ≡ Some h)
 
-kept_one : (f g : ProgramFault) (fs : List ProgramFault) (b : Bool) → before f g ≡ b → Kept f fs → Kept g fs → (h : ProgramFault) × (least_fault_from (least_fault_with (Some g) f) fs ≡ Some h)
+kept_one : (f g : ProgramFault) (fs : List ProgramFault) (b : Bool) → before f g ≡ b → Kept f fs → Kept g fs
+    → (h : ProgramFault) × (least_fault_from (least_fault_with (Some g) f) fs ≡ Some h)
 unfolding least_fault_with Kept
 kept_one f g fs true e k l = (k.0, rw e k.1)
 kept_one f g fs false e k l = (l.0, rw e l.1)
@@ -51,32 +52,46 @@ there g f fs has = (suc has.0, omega (arith, has.1), has.2)
 Least : List ProgramFault → ProgramFault → ProgramFault → Type 0
 Least fs g f = ((g ≡ f) ⊎ Contains fs f) × (before g f ≡ false) × NoneBefore f fs
 
-least_step : (x g f : ProgramFault) (fs : List ProgramFault) (b : Bool) → before x g ≡ b → ((k : ProgramFault) → least_fault_from (Some k) fs ≡ Some f → Least fs k f) → least_fault_from (least_fault_with (Some g) x) fs ≡ Some f → Least (x ∷ fs) g f
+least_step : (x g f : ProgramFault) (fs : List ProgramFault) (b : Bool) → before x g ≡ b
+    → ((k : ProgramFault) → least_fault_from (Some k) fs ≡ Some f → Least fs k f)
+    → least_fault_from (least_fault_with (Some g) x) fs ≡ Some f → Least (x ∷ fs) g f
 unfolding least_fault_with Least NoneBefore
 least_step x g f fs true e go h =
     let is : least_fault_with (Some g) x ≡ Some x = rw e refl in
-    let l = go x (rw is at h) in
-    (elim l.0 [ inl y ↦ inr (here x f fs y) | inr y ↦ inr (there x f fs y) ], before_down x g f e l.1, All-cons (λ (k : ProgramFault). before k f ≡ false) x fs l.1 l.2)
+    let l = go x (rw is at h) in (
+      elim l.0 [ inl y ↦ inr (here x f fs y) | inr y ↦ inr (there x f fs y) ],
+      before_down x g f e l.1,
+      All-cons (λ (k : ProgramFault). before k f ≡ false) x fs l.1 l.2,
+    )
 least_step x g f fs false e go h =
     let is : least_fault_with (Some g) x ≡ Some g = rw e refl in
-    let l = go g (rw is at h) in
-    (elim l.0 [ inl y ↦ inl y | inr y ↦ inr (there x f fs y) ], l.1, All-cons (λ (k : ProgramFault). before k f ≡ false) x fs (before_up x g f e l.1) l.2)
+    let l = go g (rw is at h) in (
+      elim l.0 [ inl y ↦ inl y | inr y ↦ inr (there x f fs y) ],
+      l.1,
+      All-cons (λ (k : ProgramFault). before k f ≡ false) x fs (before_up x g f e l.1) l.2,
+    )
 
 least_from : (fs : List ProgramFault) (g f : ProgramFault) → least_fault_from (Some g) fs ≡ Some f → Least fs g f
 unfolding Least NoneBefore
 least_from [] g f h =
-    let is : g ≡ f = inject h in
-    (inl is, ap (λ (x : ProgramFault). before x f) is ∙ before_self f, All-nil (λ (k : ProgramFault). before k f ≡ false))
+    let is : g ≡ f = inject h in (
+      inl is,
+      ap (λ (x : ProgramFault). before x f) is ∙ before_self f,
+      All-nil (λ (k : ProgramFault). before k f ≡ false),
+    )
 least_from (x ∷ fs) g f h = least_step x g f fs (before x g) refl (λ k. least_from fs k f) h
 
 pub answer_is_least : AnswerIsLeast
 unfolding least_fault_with Least NoneBefore
 answer_is_least [] f h = absurd (cc)
 answer_is_least (g ∷ fs) f h =
-    let l = least_from fs g f h in
-    (elim l.0 [ inl y ↦ here g f fs y | inr y ↦ there g f fs y ], All-cons (λ (k : ProgramFault). before k f ≡ false) g fs l.1 l.2)
+    let l = least_from fs g f h in (
+      elim l.0 [ inl y ↦ here g f fs y | inr y ↦ there g f fs y ],
+      All-cons (λ (k : ProgramFault). before k f ≡ false) g fs l.1 l.2,
+    )
 
-pub least_append : (o : Option ProgramFault) (xs ys : List ProgramFault) → least_fault_from o (xs ++ ys) ≡ least_fault_from (least_fault_from o xs) ys
+pub least_append : (o : Option ProgramFault) (xs ys : List ProgramFault)
+    → least_fault_from o (xs ++ ys) ≡ least_fault_from (least_fault_from o xs) ys
 least_append o [] ys = refl
 least_append o (x ∷ xs) ys = least_append (least_fault_with o x) xs ys
 

@@ -8,17 +8,23 @@ use Rattle.lang_ast.specs.declared.syntax.Named.{Named}
 use Rattle.lang_ast.specs.declared.syntax.Function.{Function}
 
 -- The item at an index, and those after it.
-pub drop_item : {A : Type 0} (xs : List A) (i : ℕ) (x : A) → i < length xs → x ≡ get_or xs i x → drop i xs ≡ x ∷ drop (i + 1) xs
-drop_item {A} xs i x h is = drop-cons xs i x h ∙ ap (λ (y : A). y ∷ drop (suc i) xs) (sym is) ∙ ap (λ (k : ℕ). x ∷ drop k xs) (sym (add-one i))
+pub drop_item : {A : Type 0} (xs : List A) (i : ℕ) (x : A) → i < length xs → x ≡ get_or xs i x
+    → drop i xs ≡ x ∷ drop (i + 1) xs
+drop_item {A} xs i x h is =
+    drop-cons xs i x h ∙ ap (λ (y : A). y ∷ drop (suc i) xs) (sym is) ∙ ap (λ (k : ℕ). x ∷ drop k xs) (sym (add-one i))
 
-pub exprs_drop : (es : List Expression) (i : ℕ) (e : Expression) → i < length es → e ≡ get_or es i e → exprs_view (drop i es) ≡ more (expr_view e) (exprs_view (drop (i + 1) es))
+pub exprs_drop : (es : List Expression) (i : ℕ) (e : Expression) → i < length es → e ≡ get_or es i e
+    → exprs_view (drop i es) ≡ more (expr_view e) (exprs_view (drop (i + 1) es))
 exprs_drop es i e h is = ap exprs_view (drop_item es i e h is)
 
-pub stmts_drop : (ss : List Statement) (i : ℕ) (s : Statement) → i < length ss → s ≡ get_or ss i s → stmts_view (drop i ss) ≡ next (stmt_view s) (stmts_view (drop (i + 1) ss))
+pub stmts_drop : (ss : List Statement) (i : ℕ) (s : Statement) → i < length ss → s ≡ get_or ss i s
+    → stmts_view (drop i ss) ≡ next (stmt_view s) (stmts_view (drop (i + 1) ss))
 stmts_drop ss i s h is = ap stmts_view (drop_item ss i s h is)
 
-pub nameds_drop : (ns : List Named) (i : ℕ) (n : Named) → i < length ns → n ≡ get_or ns i n → nameds_view (drop i ns) ≡ named_view n ∷ nameds_view (drop (i + 1) ns)
+pub nameds_drop : (ns : List Named) (i : ℕ) (n : Named) → i < length ns → n ≡ get_or ns i n
+    → nameds_view (drop i ns) ≡ named_view n ∷ nameds_view (drop (i + 1) ns)
 nameds_drop ns i n h is = ap nameds_view (drop_item ns i n h is)
 
-pub functions_drop : (fs : List Function) (i : ℕ) (f : Function) → i < length fs → f ≡ get_or fs i f → functions_view (drop i fs) ≡ function_view f ∷ functions_view (drop (i + 1) fs)
+pub functions_drop : (fs : List Function) (i : ℕ) (f : Function) → i < length fs → f ≡ get_or fs i f
+    → functions_view (drop i fs) ≡ function_view f ∷ functions_view (drop (i + 1) fs)
 functions_drop fs i f h is = ap functions_view (drop_item fs i f h is)

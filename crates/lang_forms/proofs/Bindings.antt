@@ -13,38 +13,55 @@ with_pairs n ns = Some ((n.0, ns.0), ns.1)
 
 -- A name and an expression, and what follows.
 bound : {A : Type 0} (m : List (List ℕ)) (o : Option (Ident × List Seen)) (f : Ident → Expr × List Seen → Option A) →
-    (o >>= λ n. expr_of m n.1 >>= λ e. f n.0 e) ≡ ((o >>= λ n. expr_of m n.1 >>= λ e. with_value n e) >>= λ x. f x.0.0 (x.0.1, x.1))
+    (o >>= λ n. expr_of m n.1 >>= λ e. f n.0 e)
+    ≡ ((o >>= λ n. expr_of m n.1 >>= λ e. with_value n e) >>= λ x. f x.0.0 (x.0.1, x.1))
 bound m None f = refl
 bound {A = A} m (Some n) f = by (expr_of m n.1)
   where
-    by : (o : Option (Expr × List Seen)) → (o >>= λ e. f n.0 e) ≡ ((o >>= λ e. with_value n e) >>= λ x. f x.0.0 (x.0.1, x.1))
+    by : (o : Option (Expr × List Seen))
+        → (o >>= λ e. f n.0 e) ≡ ((o >>= λ e. with_value n e) >>= λ x. f x.0.0 (x.0.1, x.1))
     by None = refl
     by (Some e) = refl
 
 -- A name and a list of pairs, and what follows.
-paired : {A : Type 0} (m : List (List ℕ)) (o : Option (Ident × List Seen)) (f : Ident → List Named × List Seen → Option A) →
-    (o >>= λ n. pairs_of m n.1 >>= λ ns. f n.0 ns) ≡ ((o >>= λ n. pairs_of m n.1 >>= λ ns. with_pairs n ns) >>= λ x. f x.0.0 (x.0.1, x.1))
+paired : {A : Type 0} (m : List (List ℕ)) (o : Option (Ident × List Seen))
+    (f : Ident → List Named × List Seen → Option A) →
+    (o >>= λ n. pairs_of m n.1 >>= λ ns. f n.0 ns)
+    ≡ ((o >>= λ n. pairs_of m n.1 >>= λ ns. with_pairs n ns) >>= λ x. f x.0.0 (x.0.1, x.1))
 paired m None f = refl
 paired {A = A} m (Some n) f = by (pairs_of m n.1)
   where
-    by : (o : Option (List Named × List Seen)) → (o >>= λ ns. f n.0 ns) ≡ ((o >>= λ ns. with_pairs n ns) >>= λ x. f x.0.0 (x.0.1, x.1))
+    by : (o : Option (List Named × List Seen))
+        → (o >>= λ ns. f n.0 ns) ≡ ((o >>= λ ns. with_pairs n ns) >>= λ x. f x.0.0 (x.0.1, x.1))
     by None = refl
     by (Some ns) = refl
 
-pub for_is : (m : KnownNames) (k at : ℕ) (ss : List Seen) → (name_of ss >>= λ n. expr_of m.states n.1 >>= λ e. stmts_of m (k + 1) e.1 >>= λ b. Some (For at k n.0 e.0 (stmts b.0), b.1)) ≡ for_form m k at ss
+pub for_is : (m : KnownNames) (k at : ℕ) (ss : List Seen)
+    → (name_of ss >>= λ n. expr_of m.states n.1 >>= λ e. stmts_of m (k + 1)
+    e.1 >>= λ b. Some (For at k n.0 e.0 (stmts b.0), b.1)) ≡ for_form m k at ss
 unfolding for_form binding_of
-for_is m k at ss = bound m.states (name_of ss) (λ n e. stmts_of m (k + 1) e.1 >>= λ b. Some (For at k n e.0 (stmts b.0), b.1))
+for_is m k at ss =
+    bound m.states (name_of ss) (λ n e. stmts_of m (k + 1) e.1 >>= λ b. Some (For at k n e.0 (stmts b.0), b.1))
 
-pub let_is : (m : KnownNames) (k at : ℕ) (ss : List Seen) → (name_of ss >>= λ n. expr_of m.states n.1 >>= λ e. stmts_of m (k + 1) e.1 >>= λ b. Some (Let at k n.0 e.0 (stmts b.0), b.1)) ≡ let_form m k at ss
+pub let_is : (m : KnownNames) (k at : ℕ) (ss : List Seen)
+    → (name_of ss >>= λ n. expr_of m.states n.1 >>= λ e. stmts_of m (k + 1)
+    e.1 >>= λ b. Some (Let at k n.0 e.0 (stmts b.0), b.1)) ≡ let_form m k at ss
 unfolding let_form binding_of
-let_is m k at ss = bound m.states (name_of ss) (λ n e. stmts_of m (k + 1) e.1 >>= λ b. Some (Let at k n e.0 (stmts b.0), b.1))
+let_is m k at ss =
+    bound m.states (name_of ss) (λ n e. stmts_of m (k + 1) e.1 >>= λ b. Some (Let at k n e.0 (stmts b.0), b.1))
 
-pub node_is : (m : KnownNames) (k at : ℕ) (ss : List Seen) → (name_of ss >>= λ n. pairs_of m.states n.1 >>= λ ns. stmts_of m (k + 1) ns.1 >>= λ b. Some (Node at k n.0 ns.0 (stmts b.0), b.1)) ≡ node_form m k at ss
+pub node_is : (m : KnownNames) (k at : ℕ) (ss : List Seen)
+    → (name_of ss >>= λ n. pairs_of m.states n.1 >>= λ ns. stmts_of m (k + 1)
+    ns.1 >>= λ b. Some (Node at k n.0 ns.0 (stmts b.0), b.1)) ≡ node_form m k at ss
 unfolding node_form named_pairs_of
-node_is m k at ss = paired m.states (name_of ss) (λ n ns. stmts_of m (k + 1) ns.1 >>= λ b. Some (Node at k n ns.0 (stmts b.0), b.1))
+node_is m k at ss =
+    paired m.states (name_of ss) (λ n ns. stmts_of m (k + 1) ns.1 >>= λ b. Some (Node at k n ns.0 (stmts b.0), b.1))
 
 pub remember_is : (m : KnownNames) (k at : ℕ) (ss : List Seen) →
-    (name_of ss >>= λ n. pairs_of m.states n.1 >>= λ ks. expr_of m.states ks.1 >>= λ e. stmts_of m (k + 1) e.1 >>= λ b. Some (Remember at k n.0 ks.0 e.0 (stmts b.0), b.1)) ≡ remember_form m k at ss
+    (name_of ss >>= λ n. pairs_of m.states n.1 >>= λ ks. expr_of m.states ks.1 >>= λ e. stmts_of m (k + 1)
+    e.1 >>= λ b. Some (Remember at k n.0 ks.0 e.0 (stmts b.0), b.1)) ≡ remember_form m k at ss
 unfolding remember_form named_pairs_of
 remember_is m k at ss =
-    paired m.states (name_of ss) (λ n ks. expr_of m.states ks.1 >>= λ e. stmts_of m (k + 1) e.1 >>= λ b. Some (Remember at k n ks.0 e.0 (stmts b.0), b.1))
+    paired m.states (name_of ss)
+    (λ n ks. expr_of m.states ks.1 >>= λ e. stmts_of m (k + 1)
+    e.1 >>= λ b. Some (Remember at k n ks.0 e.0 (stmts b.0), b.1))

@@ -30,52 +30,63 @@ unfolding tops_of
 go_on [] ys p q h = ap (λ (x : PartialSource). tops_of x ys) (front_same p q h)
 go_on (s ∷ xs) ys p q h = by (λ r. go_on xs ys r q) (source_with_tree p s) refl h
   where
-    by : ((r : PartialSource) → tops_of r xs ≡ Ok q → tops_of r (xs ++ ys) ≡ tops_of q ys) → (o : Option PartialSource) → source_with_tree p s ≡ o
-        → source_with_rest (place s) o (λ r. tops_of r xs) ≡ Ok q → source_with_rest (place s) (source_with_tree p s) (λ r. tops_of r (xs ++ ys)) ≡ tops_of q ys
+    by : ((r : PartialSource) → tops_of r xs ≡ Ok q → tops_of r (xs ++ ys) ≡ tops_of q ys) → (o : Option PartialSource)
+        → source_with_tree p s ≡ o
+        → source_with_rest (place s) o (λ r. tops_of r xs) ≡ Ok q
+        → source_with_rest (place s) (source_with_tree p s) (λ r. tops_of r (xs ++ ys)) ≡ tops_of q ys
     by go None e k = absurd (cc)
-    by go (Some r) e k = ap (λ (o : Option PartialSource). source_with_rest (place s) o (λ r. tops_of r (xs ++ ys))) e ∙ go r k
+    by go (Some r) e k =
+        ap (λ (o : Option PartialSource). source_with_rest (place s) o (λ r. tops_of r (xs ++ ys))) e ∙ go r k
 
-text_on : (end : ℕ) (xs ys : List Seen) (q : PartialSource) → text_of end xs ≡ Ok q → text_of end (xs ++ ys) ≡ tops_of q ys
+text_on : (end : ℕ) (xs ys : List Seen) (q : PartialSource) → text_of end xs ≡ Ok q
+    → text_of end (xs ++ ys) ≡ tops_of q ys
 unfolding text_of
 text_on end [] ys q h = absurd (cc)
 text_on end (s ∷ xs) ys q h = by (is_header s) refl h
   where
     by : (b : Bool) → is_header s ≡ b → cond b (tops_of (start (place s)) xs) (Err (place s)) ≡ Ok q
         → cond (is_header s) (tops_of (start (place s)) (xs ++ ys)) (Err (place s)) ≡ tops_of q ys
-    by true e k = ap (λ (b : Bool). cond b (tops_of (start (place s)) (xs ++ ys)) (Err (place s))) e ∙ go_on xs ys (start (place s)) q k
+    by true e k = ap (λ (b : Bool). cond b (tops_of (start (place s)) (xs ++ ys)) (Err (place s))) e
+        ∙ go_on xs ys (start (place s)) q k
     by false e k = absurd (cc)
 
 abbrev stop_at : ℕ → Result PartialSource ℕ
 stop_at at = Err at
 
 -- The first tree after the parsed ones stops the parser, if it is not taken with nothing after it.
-next_stop : (end : ℕ) (w : Forest) (q : PartialSource) → ((r : PartialSource) → tops_of q (seen_trees (only w)) ≡ Ok r → ⊥) → tops_of q (seen_trees w) ≡ stop_at (first_place end w)
+next_stop : (end : ℕ) (w : Forest) (q : PartialSource)
+    → ((r : PartialSource) → tops_of q (seen_trees (only w)) ≡ Ok r → ⊥)
+    → tops_of q (seen_trees w) ≡ stop_at (first_place end w)
 unfolding tops_of
 next_stop end empty q never = absurd (never q refl)
 next_stop end (atom x a f) q never = refl
 next_stop end (text x s f) q never = refl
 next_stop end (list x i f) q never = by (source_with_tree q (listed x i)) refl
   where
-    by : (o : Option PartialSource) → source_with_tree q (listed x i) ≡ o → source_with_rest x (source_with_tree q (listed x i)) (λ r. tops_of r (seen_trees f)) ≡ stop_at x
+    by : (o : Option PartialSource) → source_with_tree q (listed x i) ≡ o
+        → source_with_rest x (source_with_tree q (listed x i)) (λ r. tops_of r (seen_trees f)) ≡ stop_at x
     by None e = ap (λ (o : Option PartialSource). source_with_rest x o (λ r. tops_of r (seen_trees f))) e
     by (Some r) e = absurd (never r (ap (λ (o : Option PartialSource). source_with_rest x o (λ r. tops_of r [])) e))
 
 -- The first tree of all.
-first_stop : (end : ℕ) (w : Forest) → ((r : PartialSource) → text_of end (seen_trees (only w)) ≡ Ok r → ⊥) → text_of end (seen_trees w) ≡ stop_at (first_place end w)
+first_stop : (end : ℕ) (w : Forest) → ((r : PartialSource) → text_of end (seen_trees (only w)) ≡ Ok r → ⊥)
+    → text_of end (seen_trees w) ≡ stop_at (first_place end w)
 unfolding text_of tops_of
 first_stop end empty never = refl
 first_stop end (atom x a f) never = refl
 first_stop end (text x s f) never = refl
 first_stop end (list x i f) never = by (is_there (header_form (seen_trees i))) refl
   where
-    by : (b : Bool) → is_there (header_form (seen_trees i)) ≡ b → cond (is_there (header_form (seen_trees i))) (tops_of (start x) (seen_trees f)) (Err x) ≡ stop_at x
+    by : (b : Bool) → is_there (header_form (seen_trees i)) ≡ b
+        → cond (is_there (header_form (seen_trees i))) (tops_of (start x) (seen_trees f)) (Err x) ≡ stop_at x
     by true e = absurd (never (start x) (ap (λ (b : Bool). cond b (tops_of (start x) []) (Err x)) e))
     by false e = ap (λ (b : Bool). cond b (tops_of (start x) (seen_trees f)) (Err x)) e
 
 abbrev read_as : Source → Result Source ℕ
 read_as t = Ok t
 
-front_read : (r : Result PartialSource ℕ) (t : Source) → source_or_offset r ≡ read_as t → (q : PartialSource) × (r ≡ taken_as q)
+front_read : (r : Result PartialSource ℕ) (t : Source) → source_or_offset r ≡ read_as t
+    → (q : PartialSource) × (r ≡ taken_as q)
 front_read (Ok q) t h = (q, refl)
 front_read (Err x) t h = absurd (cc)
 
@@ -84,15 +95,21 @@ pub wrong_read : (end at : ℕ) (f : Forest) → IsFirstWrong end f at → text_
 wrong_read end at f h = elim h.before [
   | inl none ↦
       let here : f ≡ h.wrong = h.is ∙ ap (λ (x : Forest). joined_trees x h.wrong) none in
-      let alone : joined_trees h.front (only h.wrong) ≡ only h.wrong = ap (λ (x : Forest). joined_trees x (only h.wrong)) none in
+      let alone : joined_trees h.front (only h.wrong) ≡ only h.wrong =
+      ap (λ (x : Forest). joined_trees x (only h.wrong)) none in
       ap (λ (x : Forest). text_of end (seen_trees x)) here
-      ∙ first_stop end h.wrong (λ r k. h.none (source r) (source_found end (joined_trees h.front (only h.wrong)) (source r) (ap (λ (x : Forest). source_of end (seen_trees x)) alone ∙ ap source_or_offset k)))
+      ∙ first_stop end h.wrong (λ r k. h.none (source r)
+      (source_found end (joined_trees h.front (only h.wrong)) (source r)
+      (ap (λ (x : Forest). source_of end (seen_trees x)) alone ∙ ap source_or_offset k)))
       ∙ ap stop_at (sym h.place)
   | inr some ↦
       let q = front_read (text_of end (seen_trees h.front)) some.0 (text_read end h.front some.0 some.1) in
-      let site_after = λ (w : Forest). ap (text_of end) (seen-behind h.front w) ∙ text_on end (seen_trees h.front) (seen_trees w) q.0 q.1 in
+      let site_after = λ (w : Forest). ap (text_of end) (seen-behind h.front w)
+      ∙ text_on end (seen_trees h.front) (seen_trees w) q.0 q.1 in
       ap (λ (x : Forest). text_of end (seen_trees x)) h.is ∙ site_after h.wrong
-      ∙ next_stop end h.wrong q.0 (λ r k. h.none (source r) (source_found end (joined_trees h.front (only h.wrong)) (source r) (ap source_or_offset (site_after (only h.wrong) ∙ k))))
+      ∙ next_stop end h.wrong q.0 (λ r k. h.none (source r)
+      (source_found end (joined_trees h.front (only h.wrong)) (source r)
+      (ap source_or_offset (site_after (only h.wrong) ∙ k))))
       ∙ ap stop_at (sym h.place)
 ]
 
@@ -100,7 +117,8 @@ wrong_read end at f h = elim h.before [
 pub answer_is : (end : ℕ) (f : Forest) → IsAnswerFor end f (text_answer end f)
 answer_is end f = by (source_of end (seen_trees (within f))) refl
   where
-    limits : (t : Source) → HasForms (within f) t → (o : Option ℕ) → least (program_limits f t.program) ≡ o → IsAnswerFor end f (unless_beyond o t)
+    limits : (t : Source) → HasForms (within f) t → (o : Option ℕ) → least (program_limits f t.program) ≡ o
+        → IsAnswerFor end f (unless_beyond o t)
     limits t has None e = (has, e)
     limits t has (Some at) e = (t, has, e)
 
@@ -113,7 +131,9 @@ answer a = a
 
 -- No other answer is one of the forms.
 pub answer_one : (end : ℕ) (f : Forest) (a : Result Source FormStop) → IsAnswerFor end f a → a ≡ text_answer end f
-answer_one end f (Ok t) h = sym (ap (parsed_answer f) (text_read end (within f) t h.0) ∙ ap (λ (o : Option ℕ). unless_beyond o t) h.1)
+answer_one end f (Ok t) h =
+    sym (ap (parsed_answer f) (text_read end (within f) t h.0) ∙ ap (λ (o : Option ℕ). unless_beyond o t) h.1)
 answer_one end f (Err (Form at)) h = sym (ap (parsed_answer f) (ap source_or_offset (wrong_read end at (within f) h)))
-answer_one end f (Err (Limit at)) h = sym (ap (parsed_answer f) (text_read end (within f) h.0 h.1) ∙ ap (λ (o : Option ℕ). unless_beyond o h.0) h.2)
+answer_one end f (Err (Limit at)) h =
+    sym (ap (parsed_answer f) (text_read end (within f) h.0 h.1) ∙ ap (λ (o : Option ℕ). unless_beyond o h.0) h.2)
 answer_one end f (Err NoMemory) h = absurd h

@@ -25,12 +25,16 @@ wrong_at y = Err y
 err_is : (a b : ℕ) → wrong_at a ≡ wrong_at b → a ≡ b
 err_is a b e = cc
 
-err_same : (p : PartialSource) (s : Seen) (at x : ℕ) (go : PartialSource → Result PartialSource ℕ) → source_with_tree p s ≡ None → source_with_rest x (source_with_tree p s) go ≡ Err at → at ≡ x
+err_same : (p : PartialSource) (s : Seen) (at x : ℕ) (go : PartialSource → Result PartialSource ℕ)
+    → source_with_tree p s ≡ None → source_with_rest x (source_with_tree p s) go ≡ Err at → at ≡ x
 err_same p s at x go none h = err_is at x (sym h ∙ ap (λ o. source_with_rest x o go) none)
 
 -- A first tree that the parser does not take.
-stuck_here : (end at x : ℕ) (f g : Forest) (s : Seen) (p : PartialSource) → seen_trees f ≡ s ∷ seen_trees g → seen_trees (only f) ≡ s ∷ seen_trees empty → first_place end f ≡ x → source_with_tree p s ≡ None → source_with_rest x (source_with_tree p s) (λ q. tops_of q (seen_trees g)) ≡ Err at
-    → tops_of p (s ∷ seen_trees empty) ≡ source_with_rest x (source_with_tree p s) (λ q. tops_of q (seen_trees empty)) → Stopped end f p at
+stuck_here : (end at x : ℕ) (f g : Forest) (s : Seen) (p : PartialSource) → seen_trees f ≡ s ∷ seen_trees g
+    → seen_trees (only f) ≡ s ∷ seen_trees empty → first_place end f ≡ x → source_with_tree p s ≡ None
+    → source_with_rest x (source_with_tree p s) (λ q. tops_of q (seen_trees g)) ≡ Err at
+    → tops_of p (s ∷ seen_trees empty) ≡ source_with_rest x (source_with_tree p s) (λ q. tops_of q (seen_trees empty))
+    → Stopped end f p at
 unfolding tops_of
 stuck_here end at x f g s p is alone place none h step =
     let here : at ≡ x = err_same p s at x (λ q. tops_of q (seen_trees g)) none h in
@@ -41,7 +45,8 @@ stuck_here end at x f g s p is alone place none h step =
       place = here ∙ sym place;
       last = p;
       before = refl;
-      stuck = ap (tops_of p) alone ∙ step ∙ ap (λ o. source_with_rest x o (λ q. tops_of q (seen_trees empty))) none ∙ ap (λ (y : ℕ). Err y) (sym here);
+      stuck = ap (tops_of p) alone ∙ step ∙ ap (λ o. source_with_rest x o (λ q. tops_of q (seen_trees empty))) none
+          ∙ ap (λ (y : ℕ). Err y) (sym here);
     }
 
 -- A list, with what it can be parsed as.
@@ -55,7 +60,8 @@ stopped end at (atom x a f) p h = stuck_here end at x (atom x a f) f _ p refl re
 stopped end at (text x s f) p h = stuck_here end at x (text x s f) f _ p refl refl refl refl h refl
 stopped end at (list x i f) p h = by (λ q. stopped end at f q) (source_with_tree p (listed x i)) refl
   where
-    by : ((q : PartialSource) → tops_of q (seen_trees f) ≡ Err at → Stopped end f q at) → (o : Option PartialSource) → source_with_tree p (listed x i) ≡ o → Stopped end (list x i f) p at
+    by : ((q : PartialSource) → tops_of q (seen_trees f) ≡ Err at → Stopped end f q at) → (o : Option PartialSource)
+        → source_with_tree p (listed x i) ≡ o → Stopped end (list x i f) p at
     by go None e = stuck_here end at x (list x i f) f (listed x i) p refl refl refl e h refl
     by go (Some q) e =
         let more = go q (sym (ap (λ o. source_with_rest x o (λ r. tops_of r (seen_trees f))) e) ∙ h) in
@@ -66,7 +72,8 @@ stopped end at (list x i f) p h = by (λ q. stopped end at f q) (source_with_tre
           place = more.place;
           last = more.last;
           before = ap (λ o. source_with_rest x o (λ r. tops_of r (seen_trees more.front))) e ∙ more.before;
-          stuck = ap (λ o. source_with_rest x o (λ r. tops_of r (seen_trees (joined_trees more.front (only more.wrong))))) e ∙ more.stuck;
+          stuck = ap (λ o. source_with_rest x o
+              (λ r. tops_of r (seen_trees (joined_trees more.front (only more.wrong))))) e ∙ more.stuck;
         }
 
 abbrev refusal : ℕ → Result Source ℕ
@@ -79,7 +86,8 @@ refused end at f t h has = apart (sym (ap source_or_offset h) ∙ text_read end 
     apart e = cc
 
 -- A first tree that is no header.
-no_header : (end at : ℕ) (f : Forest) → text_of end (seen_trees f) ≡ Err at → at ≡ first_place end f → ((x : ℕ) × (text_of end (seen_trees (only f)) ≡ Err x)) → IsFirstWrong end f at
+no_header : (end at : ℕ) (f : Forest) → text_of end (seen_trees f) ≡ Err at → at ≡ first_place end f
+    → ((x : ℕ) × (text_of end (seen_trees (only f)) ≡ Err x)) → IsFirstWrong end f at
 no_header end at f h place alone = record {
   front = empty;
   wrong = f;
@@ -97,12 +105,17 @@ first_wrong end at (atom x a f) h = no_header end at (atom x a f) h (err_is at x
 first_wrong end at (text x s f) h = no_header end at (text x s f) h (err_is at x (sym h)) (x, refl)
 first_wrong end at (list x i f) h = by (is_there (header_form (seen_trees i))) refl h
   where
-    by : (b : Bool) → is_there (header_form (seen_trees i)) ≡ b → cond b (tops_of (start x) (seen_trees f)) (Err x) ≡ Err at → IsFirstWrong end (list x i f) at
-    by false e k = no_header end at (list x i f) h (err_is at x (sym k)) (x, ap (λ (b : Bool). cond b (tops_of (start x) (seen_trees empty)) (Err x)) e)
+    by : (b : Bool) → is_there (header_form (seen_trees i)) ≡ b
+        → cond b (tops_of (start x) (seen_trees f)) (Err x) ≡ Err at → IsFirstWrong end (list x i f) at
+    by false e k = no_header end at (list x i f) h (err_is at x (sym k))
+        (x, ap (λ (b : Bool). cond b (tops_of (start x) (seen_trees empty)) (Err x)) e)
     by true e k =
         let s = stopped end at f (start x) k in
-        let front : text_of end (seen_trees (list x i s.front)) ≡ Ok s.last = ap (λ (b : Bool). cond b (tops_of (start x) (seen_trees s.front)) (Err x)) e ∙ s.before in
-        let stuck : text_of end (seen_trees (list x i (joined_trees s.front (only s.wrong)))) ≡ Err at = ap (λ (b : Bool). cond b (tops_of (start x) (seen_trees (joined_trees s.front (only s.wrong)))) (Err x)) e ∙ s.stuck in
+        let front : text_of end (seen_trees (list x i s.front)) ≡ Ok s.last =
+        ap (λ (b : Bool). cond b (tops_of (start x) (seen_trees s.front)) (Err x)) e ∙ s.before in
+        let stuck : text_of end (seen_trees (list x i (joined_trees s.front (only s.wrong)))) ≡ Err at =
+        ap (λ (b : Bool). cond b (tops_of (start x) (seen_trees (joined_trees s.front (only s.wrong)))) (Err x)) e
+        ∙ s.stuck in
         record {
           front = list x i s.front;
           wrong = s.wrong;

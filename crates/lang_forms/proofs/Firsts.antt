@@ -12,9 +12,12 @@ use Rattle.lang_forms.specs.Views.{state_names}
 firsts : {A : Type 0} (xs : List A) (k : ℕ) → k ≡ min (length xs) most_forms → take k xs ≡ take most_forms xs
 firsts xs k e = ap (λ (n : ℕ). take n xs) (e ∙ min_comm (length xs) most_forms) ∙ take_min most_forms xs
 
-pub first_states : (ss : List State) (k : ℕ) → k ≡ min (length ss) most_forms → state_names (take k ss) ≡ take most_forms (state_names ss)
+pub first_states : (ss : List State) (k : ℕ) → k ≡ min (length ss) most_forms
+    → state_names (take k ss) ≡ take most_forms (state_names ss)
 first_states ss k e = ap state_names (firsts ss k e) ∙ sym (take-map state_name most_forms ss)
 
-pub first_functions : (fs : List Function) (k : ℕ) → k ≡ min (length fs) most_forms → map function_name (functions_view (take k fs)) ≡ take most_forms (map function_name (functions_view fs))
+pub first_functions : (fs : List Function) (k : ℕ) → k ≡ min (length fs) most_forms
+    → map function_name (functions_view (take k fs)) ≡ take most_forms (map function_name (functions_view fs))
 first_functions fs k e =
-    ap (map function_name) (ap functions_view (firsts fs k e) ∙ sym (take-map function_view most_forms fs)) ∙ sym (take-map function_name most_forms (functions_view fs))
+    ap (map function_name) (ap functions_view (firsts fs k e) ∙ sym (take-map function_view most_forms fs))
+    ∙ sym (take-map function_name most_forms (functions_view fs))

@@ -33,21 +33,46 @@ pub record First {A : Type 0} (f : Forest) (read : Seen → Option A) (a : A) (g
   pub behind : Fits rest g
 
 -- A first tree that is a list of these trees.
-pub one_list : {A : Type 0} (read : Seen → Option A) (at p : ℕ) (f i r : Forest) (a : A) (g : Sketch) → f ≡ list at i r → at ≡ p → read (form p (roles p (seen_trees i))) ≡ Some a → Fits r g → First f read a g
+pub one_list : {A : Type 0} (read : Seen → Option A) (at p : ℕ) (f i r : Forest) (a : A) (g : Sketch) → f ≡ list at i r
+    → at ≡ p → read (form p (roles p (seen_trees i))) ≡ Some a → Fits r g → First f read a g
 one_list read at p f i r a g is told h rest =
-    subst (λ (x : Forest). First x read a g) (sym is) (record { tree = form at (roles at (seen_trees i)); rest = r; is = refl; as_read = ap (λ (q : ℕ). read (form q (roles q (seen_trees i)))) told ∙ h; behind = rest })
+    subst (λ (x : Forest). First x read a g) (sym is)
+    (record {
+      tree = form at (roles at (seen_trees i));
+      rest = r;
+      is = refl;
+      as_read = ap (λ (q : ℕ). read (form q (roles q (seen_trees i)))) told ∙ h;
+      behind = rest;
+    })
 
 -- A first tree that is an atom.
-one_atom : {A : Type 0} (read : Seen → Option A) (at p : ℕ) (f r : Forest) (w : List ℕ) (a : A) (g : Sketch) → f ≡ atom at w r → at ≡ p → read (Seen.word p w) ≡ Some a → Fits r g → First f read a g
+one_atom : {A : Type 0} (read : Seen → Option A) (at p : ℕ) (f r : Forest) (w : List ℕ) (a : A) (g : Sketch)
+    → f ≡ atom at w r → at ≡ p → read (Seen.word p w) ≡ Some a → Fits r g → First f read a g
 one_atom read at p f r w a g is told h rest =
-    subst (λ (x : Forest). First x read a g) (sym is) (record { tree = Seen.word at w; rest = r; is = refl; as_read = ap (λ (q : ℕ). read (Seen.word q w)) told ∙ h; behind = rest })
+    subst (λ (x : Forest). First x read a g) (sym is)
+    (record {
+      tree = Seen.word at w;
+      rest = r;
+      is = refl;
+      as_read = ap (λ (q : ℕ). read (Seen.word q w)) told ∙ h;
+      behind = rest;
+    })
 
 -- A first tree that is a string.
-one_string : {A : Type 0} (read : Seen → Option A) (at p : ℕ) (f r : Forest) (s : List ℕ) (a : A) (g : Sketch) → f ≡ text at s r → at ≡ p → read (Seen.chars p s) ≡ Some a → Fits r g → First f read a g
+one_string : {A : Type 0} (read : Seen → Option A) (at p : ℕ) (f r : Forest) (s : List ℕ) (a : A) (g : Sketch)
+    → f ≡ text at s r → at ≡ p → read (Seen.chars p s) ≡ Some a → Fits r g → First f read a g
 one_string read at p f r s a g is told h rest =
-    subst (λ (x : Forest). First x read a g) (sym is) (record { tree = Seen.chars at s; rest = r; is = refl; as_read = ap (λ (q : ℕ). read (Seen.chars q s)) told ∙ h; behind = rest })
+    subst (λ (x : Forest). First x read a g) (sym is)
+    (record {
+      tree = Seen.chars at s;
+      rest = r;
+      is = refl;
+      as_read = ap (λ (q : ℕ). read (Seen.chars q s)) told ∙ h;
+      behind = rest;
+    })
 
-pub name_there : (n : Ident) (r : Forest) → is_name n.text ≡ true → name_of (seen_trees (atom n.at n.text r)) ≡ Some (n, seen_trees r)
+pub name_there : (n : Ident) (r : Forest) → is_name n.text ≡ true
+    → name_of (seen_trees (atom n.at n.text r)) ≡ Some (n, seen_trees r)
 unfolding name_of
 name_there n r h = rw h
 
@@ -58,7 +83,8 @@ type_there ty.Bool a r = refl
 type_there ty.Text a r = refl
 type_there ty.Ints a r = refl
 
-pub policy_there : (p : BuiltIn) (a : ℕ) (r : Forest) → policy_of (seen_trees (atom a (policy_word p) r)) ≡ Some (p, seen_trees r)
+pub policy_there : (p : BuiltIn) (a : ℕ) (r : Forest)
+    → policy_of (seen_trees (atom a (policy_word p) r)) ≡ Some (p, seen_trees r)
 unfolding policy_of policy_for_word
 policy_there policy.Structural a r = refl
 policy_there policy.Never a r = refl
@@ -66,12 +92,14 @@ policy_there policy.Counter a r = refl
 policy_there policy.Largest a r = refl
 policy_there policy.Append a r = refl
 
-pub kind_there : (k : Kind) (a : ℕ) (r : Forest) → kind_of (seen_trees (atom a (kind_word k) r)) ≡ Some (k, seen_trees r)
+pub kind_there : (k : Kind) (a : ℕ) (r : Forest)
+    → kind_of (seen_trees (atom a (kind_word k) r)) ≡ Some (k, seen_trees r)
 unfolding kind_of kind_for_word
 kind_there kind.Mutable a r = refl
 kind_there kind.Readonly a r = refl
 
-operator_there : (o : Operator) (a : ℕ) (r : Forest) → operator_of (seen_trees (atom a (operator_word o) r)) ≡ Some (o, seen_trees r)
+operator_there : (o : Operator) (a : ℕ) (r : Forest)
+    → operator_of (seen_trees (atom a (operator_word o) r)) ≡ Some (o, seen_trees r)
 unfolding operator_of operator_for_word number_operator truth_operator list_operator
 operator_there operator.Add a r = refl
 operator_there operator.Subtract a r = refl
@@ -122,7 +150,8 @@ unfolding plain_of
 int_read z h = rw (int-decimal z h)
 
 -- A first tree that is a number.
-pub number_there : (z : ℤ) (a : ℕ) (r : Forest) → fits z ≡ true → number_of_first (seen_trees (atom a (signed_decimal z) r)) ≡ Some (z, seen_trees r)
+pub number_there : (z : ℤ) (a : ℕ) (r : Forest) → fits z ≡ true
+    → number_of_first (seen_trees (atom a (signed_decimal z) r)) ≡ Some (z, seen_trees r)
 number_there z a r h = rw (int-decimal z h)
 
 truth_read : (b : Bool) → plain_of (truth_text b) ≡ Some (value.Bool b)
@@ -146,17 +175,22 @@ unfolding literal_form word_of
 list_read zs a f h r = rw (r, h)
 
 -- A first tree that is a literal, at any offset.
-pub literal_read : (v : Value) (f : Forest) (g : Sketch) → literal_fits v ≡ true → Fits f (literal None v g) → First f literal_at v g
+pub literal_read : (v : Value) (f : Forest) (g : Sketch) → literal_fits v ≡ true → Fits f (literal None v g)
+    → First f literal_at v g
 literal_read (value.Int z) f g s h = one_atom literal_at h.0 h.0 f h.1 _ (value.Int z) g h.2 refl (int_read z s) h.4
 literal_read (value.Bool b) f g s h = one_atom literal_at h.0 h.0 f h.1 _ (value.Bool b) g h.2 refl (truth_read b) h.4
-literal_read (value.Text cs) f g s h = one_string literal_at h.0 h.0 f h.1 cs (value.Text cs) g h.2 refl (string_read cs s) h.4
+literal_read (value.Text cs) f g s h =
+    one_string literal_at h.0 h.0 f h.1 cs (value.Text cs) g h.2 refl (string_read cs s) h.4
 literal_read (value.Ints zs) f g s h =
     let fit = and_parts (is_list_long (length zs)) (all_fit zs) s in
     let w = h.5 in
-    let read : literal_form (seen_trees h.1) ≡ Some (value.Ints zs) = ap (λ (i : Forest). literal_form (seen_trees i)) w.2 ∙ list_read zs w.0 w.1 fit.0 (ints_read zs w.1 fit.1 w.4) in
+    let read : literal_form (seen_trees h.1) ≡ Some (value.Ints zs) =
+    ap (λ (i : Forest). literal_form (seen_trees i)) w.2
+    ∙ list_read zs w.0 w.1 fit.0 (ints_read zs w.1 fit.1 w.4) in
     one_list literal_at h.0 h.0 f h.1 h.2 (value.Ints zs) g h.3 refl read h.6
 
-pub literal_there : (v : Value) (f : Forest) (g : Sketch) → (one : First f literal_at v g) → literal_of (seen_trees f) ≡ Some (v, seen_trees one.rest)
+pub literal_there : (v : Value) (f : Forest) (g : Sketch) → (one : First f literal_at v g)
+    → literal_of (seen_trees f) ≡ Some (v, seen_trees one.rest)
 literal_there v f g one = ap literal_of one.is ∙ rw one.as_read
 
 -- Expressions.
@@ -187,7 +221,8 @@ count_is : (es : List Expr) → operand_count (exprs es) ≡ length es
 count_is [] = refl
 count_is (e ∷ es) = ap suc (count_is es)
 
-apply_read : (m : List (List ℕ)) (at a : ℕ) (o : Operator) (es : Exprs) (f : Forest) → takes o (operand_count es) ≡ true → ReadsAll m f es → expr_form m at (seen_trees (atom a (operator_word o) f)) ≡ Some (Apply at o es)
+apply_read : (m : List (List ℕ)) (at a : ℕ) (o : Operator) (es : Exprs) (f : Forest) → takes o (operand_count es) ≡ true
+    → ReadsAll m f es → expr_form m at (seen_trees (atom a (operator_word o) f)) ≡ Some (Apply at o es)
 unfolding expr_form apply_form
 apply_read m at a o es f h r =
     let enough : takes o (length r.found) ≡ true = ap (takes o) (sym (count_is r.found) ∙ ap operand_count r.is) ∙ h in
@@ -197,7 +232,8 @@ none_read : (m : List (List ℕ)) (f : Forest) → f ≡ empty → ReadsAll m f 
 unfolding exprs_of
 none_read m f h = subst (λ (x : Forest). ReadsAll m x none) (sym h) (record { found = []; read = refl; is = refl })
 
-more_read : (m : List (List ℕ)) (f : Forest) (e : Expr) (es : Exprs) → (one : First f (expr_at m) e (exprs_forms es)) → ReadsAll m one.rest es → ReadsAll m f (more e es)
+more_read : (m : List (List ℕ)) (f : Forest) (e : Expr) (es : Exprs) → (one : First f (expr_at m) e (exprs_forms es))
+    → ReadsAll m one.rest es → ReadsAll m f (more e es)
 unfolding exprs_of
 more_read m f e es one r = record {
   found = e ∷ r.found;
@@ -206,47 +242,64 @@ more_read m f e es one r = record {
 }
 
 -- The keyword and the name at the beginning of a form.
-pub list_with_word : (i j r : Forest) (a b : ℕ) (w : List ℕ) (n : Ident) → i ≡ atom a w j → j ≡ atom b n.text r → b ≡ n.at → i ≡ atom a w (atom n.at n.text r)
+pub list_with_word : (i j r : Forest) (a b : ℕ) (w : List ℕ) (n : Ident) → i ≡ atom a w j → j ≡ atom b n.text r
+    → b ≡ n.at → i ≡ atom a w (atom n.at n.text r)
 list_with_word i j r a b w n e f g = e ∙ ap (atom a w) (f ∙ ap (λ (p : ℕ). atom p n.text r) g)
 
 mutual
-  expr_read : (m : List (List ℕ)) (e : Expr) (f : Forest) (g : Sketch) → Spelled m e → Fits f (expr_forms e g) → First f (expr_at m) e g
-  expr_read m (Literal at (value.Int z)) f g s h = one_atom (expr_at m) h.0 at f h.1 _ (Literal at (value.Int z)) g h.2 h.3 (int_leaf at z s) h.4
-  expr_read m (Literal at (value.Bool b)) f g s h = one_atom (expr_at m) h.0 at f h.1 _ (Literal at (value.Bool b)) g h.2 h.3 (truth_leaf at b) h.4
-  expr_read m (Literal at (value.Text cs)) f g s h = one_string (expr_at m) h.0 at f h.1 cs (Literal at (value.Text cs)) g h.2 h.3 (rw (string_read cs s)) h.4
+  expr_read : (m : List (List ℕ)) (e : Expr) (f : Forest) (g : Sketch) → Spelled m e → Fits f (expr_forms e g)
+      → First f (expr_at m) e g
+  expr_read m (Literal at (value.Int z)) f g s h =
+      one_atom (expr_at m) h.0 at f h.1 _ (Literal at (value.Int z)) g h.2 h.3 (int_leaf at z s) h.4
+  expr_read m (Literal at (value.Bool b)) f g s h =
+      one_atom (expr_at m) h.0 at f h.1 _ (Literal at (value.Bool b)) g h.2 h.3 (truth_leaf at b) h.4
+  expr_read m (Literal at (value.Text cs)) f g s h =
+      one_string (expr_at m) h.0 at f h.1 cs (Literal at (value.Text cs)) g h.2 h.3 (rw (string_read cs s)) h.4
   expr_read m (Literal at (value.Ints zs)) f g s h = absurd (true≢false (sym s))
-  expr_read m (Variable n) f g s h = one_atom (expr_at m) h.0 n.at f h.1 n.text (Variable n) g h.2 h.3 (variable_read n s) h.4
+  expr_read m (Variable n) f g s h =
+      one_atom (expr_at m) h.0 n.at f h.1 n.text (Variable n) g h.2 h.3 (variable_read n s) h.4
   expr_read m (Get at n number) f g s h =
       let w = h.5 in
       let k = w.4 in
       let is : h.1 ≡ atom w.0 (codes "get") (atom n.at n.text empty) = list_with_word h.1 w.1 k.1 w.0 k.0 (codes "get") n w.2 k.2 k.3 ∙ ap (λ (x : Forest). atom w.0 (codes "get") (atom n.at n.text x)) k.4 in
-      let read : expr_form m at (seen_trees h.1) ≡ Some (Get at n number) = ap (λ (i : Forest). expr_form m at (seen_trees i)) is ∙ get_read m at w.0 n s.0 ∙ ap (λ (x : ℕ). Some (Get at n x)) (sym s.1) in
+      let read : expr_form m at (seen_trees h.1) ≡ Some (Get at n number) =
+      ap (λ (i : Forest). expr_form m at (seen_trees i)) is ∙ get_read m at w.0 n s.0
+      ∙ ap (λ (x : ℕ). Some (Get at n x)) (sym s.1) in
       one_list (expr_at m) h.0 at f h.1 h.2 (Get at n number) g h.3 h.4 read h.6
   expr_read m (Apply at o es) f g s h =
       let w = h.5 in
-      let read : expr_form m at (seen_trees h.1) ≡ Some (Apply at o es) = ap (λ (i : Forest). expr_form m at (seen_trees i)) w.2 ∙ apply_read m at w.0 o es w.1 s.0 (exprs_read m es w.1 s.1 w.4) in
+      let read : expr_form m at (seen_trees h.1) ≡ Some (Apply at o es) =
+      ap (λ (i : Forest). expr_form m at (seen_trees i)) w.2
+      ∙ apply_read m at w.0 o es w.1 s.0 (exprs_read m es w.1 s.1 w.4) in
       one_list (expr_at m) h.0 at f h.1 h.2 (Apply at o es) g h.3 h.4 read h.6
 
-  exprs_read : (m : List (List ℕ)) (es : Exprs) (f : Forest) → AllSpelled m es → Fits f (exprs_forms es) → ReadsAll m f es
+  exprs_read : (m : List (List ℕ)) (es : Exprs) (f : Forest) → AllSpelled m es → Fits f (exprs_forms es)
+      → ReadsAll m f es
   exprs_read m none f s h = none_read m f h
   exprs_read m (more e es) f s h =
       let one = expr_read m e f (exprs_forms es) s.0 h in
       more_read m f e es one (exprs_read m es one.rest s.1 one.behind)
 
-expr_there : (m : List (List ℕ)) (f : Forest) (e : Expr) (g : Sketch) → (one : First f (expr_at m) e g) → expr_of m (seen_trees f) ≡ Some (e, seen_trees one.rest)
+expr_there : (m : List (List ℕ)) (f : Forest) (e : Expr) (g : Sketch) → (one : First f (expr_at m) e g)
+    → expr_of m (seen_trees f) ≡ Some (e, seen_trees one.rest)
 expr_there m f e g one = ap (expr_of m) one.is ∙ rw one.as_read
 
-pair_read : (m : List (List ℕ)) (n : Ident) (e : Expr) (f : Forest) → is_name n.text ≡ true → First f (expr_at m) e nothing → pair_form m (seen_trees (atom n.at n.text f)) ≡ Some (record { name = n; value = e })
+pair_read : (m : List (List ℕ)) (n : Ident) (e : Expr) (f : Forest) → is_name n.text ≡ true
+    → First f (expr_at m) e nothing
+    → pair_form m (seen_trees (atom n.at n.text f)) ≡ Some (record { name = n; value = e })
 unfolding pair_form
 pair_read m n e f h one = rw (name_there n f h, expr_there m f e nothing one, one.behind)
 
-pairs_read : (m : List (List ℕ)) (ks : List Named) (f : Forest) → SpelledPairs m ks → Fits f (pairs_forms ks) → pairs_form m (seen_trees f) ≡ Some ks
+pairs_read : (m : List (List ℕ)) (ks : List Named) (f : Forest) → SpelledPairs m ks → Fits f (pairs_forms ks)
+    → pairs_form m (seen_trees f) ≡ Some ks
 unfolding pairs_form
 pairs_read m [] f s h = rw h
 pairs_read m (k ∷ ks) f s h =
     let n = h.5 in
     let one = expr_read m k.value n.1 nothing s.1 n.4 in
-    let read : pair_form m (seen_trees h.1) ≡ Some k = ap (λ (i : Forest). pair_form m (seen_trees i)) (n.2 ∙ ap (λ (p : ℕ). atom p k.name.text n.1) n.3) ∙ pair_read m k.name k.value n.1 s.0 one in
+    let read : pair_form m (seen_trees h.1) ≡ Some k =
+    ap (λ (i : Forest). pair_form m (seen_trees i)) (n.2 ∙ ap (λ (p : ℕ). atom p k.name.text n.1) n.3)
+    ∙ pair_read m k.name k.value n.1 s.0 one in
     ap (λ (x : Forest). pairs_form m (seen_trees x)) h.3 ∙ rw (read, pairs_read m ks h.2 s.2 h.6)
 
 -- Statements.
@@ -264,7 +317,8 @@ done_read : (m : KnownNames) (k : ℕ) (f : Forest) → f ≡ empty → ReadsBod
 unfolding stmts_of
 done_read m k f h = subst (λ (x : Forest). ReadsBody m k x done) (sym h) (record { found = []; read = refl; is = refl })
 
-next_read : (m : KnownNames) (k : ℕ) (f : Forest) (t : Stmt) (ts : Stmts) → (one : ReadsStmt m k f t (stmts_forms ts)) → ReadsBody m (site_after k t) one.rest ts → ReadsBody m k f (next t ts)
+next_read : (m : KnownNames) (k : ℕ) (f : Forest) (t : Stmt) (ts : Stmts) → (one : ReadsStmt m k f t (stmts_forms ts))
+    → ReadsBody m (site_after k t) one.rest ts → ReadsBody m k f (next t ts)
 unfolding stmts_of
 next_read m k f t ts one r = record {
   found = t ∷ r.found;
@@ -272,73 +326,96 @@ next_read m k f t ts one r = record {
   is = ap (next t) r.is;
 }
 
-node_read : (m : KnownNames) (k at a p : ℕ) (n : Ident) (ns : List Named) (b : Stmts) (i f : Forest) → is_name n.text ≡ true → pairs_form m.states (seen_trees i) ≡ Some ns → ReadsBody m (k + 1) f b →
+node_read : (m : KnownNames) (k at a p : ℕ) (n : Ident) (ns : List Named) (b : Stmts) (i f : Forest)
+    → is_name n.text ≡ true → pairs_form m.states (seen_trees i) ≡ Some ns → ReadsBody m (k + 1) f b →
     stmt_form m k at (seen_trees (atom a (codes "node") (atom n.at n.text (list p i f)))) ≡ Some (Node at k n ns b, site_after_all (k + 1) b)
 unfolding stmt_form node_form named_pairs_of word_of
 node_read m k at a p n ns b i f h read r = rw (name_there n (list p i f) h, read, r.read, r.is)
 
-call_read : (m : KnownNames) (k at a : ℕ) (n : Ident) (es : Exprs) (f : Forest) → is_name n.text ≡ true → ReadsAll m.states f es →
+call_read : (m : KnownNames) (k at a : ℕ) (n : Ident) (es : Exprs) (f : Forest) → is_name n.text ≡ true
+    → ReadsAll m.states f es →
     stmt_form m k at (seen_trees (atom a (codes "call") (atom n.at n.text f))) ≡ Some (Call at k n (number_of n.text m.functions) es, k + 1)
 unfolding stmt_form call_form word_of
 call_read m k at a n es f h r = rw (name_there n f h, r.read, r.is)
 
-key_read : (m : KnownNames) (k at a : ℕ) (e : Expr) (b : Stmts) (f : Forest) (g : Sketch) → (one : First f (expr_at m.states) e g) → ReadsBody m (k + 1) one.rest b →
+key_read : (m : KnownNames) (k at a : ℕ) (e : Expr) (b : Stmts) (f : Forest) (g : Sketch)
+    → (one : First f (expr_at m.states) e g) → ReadsBody m (k + 1) one.rest b →
     stmt_form m k at (seen_trees (atom a (codes "key") f)) ≡ Some (Key at k e b, site_after_all (k + 1) b)
 unfolding stmt_form key_form word_of
 key_read m k at a e b f g one r = rw (expr_there m.states f e g one, r.read, r.is)
 
 -- The statements of a first tree that is a list.
-block_there : (m : KnownNames) (k p : ℕ) (f i r : Forest) (b : Stmts) → f ≡ list p i r → (all : ReadsBody m k i b) → block_of m k (seen_trees f) ≡ Some ((all.found, site_after_all k b), seen_trees r)
+block_there : (m : KnownNames) (k p : ℕ) (f i r : Forest) (b : Stmts) → f ≡ list p i r → (all : ReadsBody m k i b)
+    → block_of m k (seen_trees f) ≡ Some ((all.found, site_after_all k b), seen_trees r)
 block_there m k p f i r b is all = ap (λ (x : Forest). block_of m k (seen_trees x)) is ∙ rw all.read
 
-if_read : (m : KnownNames) (k at w p q : ℕ) (e : Expr) (a b : Stmts) (f i j r : Forest) (g : Sketch) → (one : First f (expr_at m.states) e g) → one.rest ≡ list p i r → r ≡ list q j empty →
+if_read : (m : KnownNames) (k at w p q : ℕ) (e : Expr) (a b : Stmts) (f i j r : Forest) (g : Sketch)
+    → (one : First f (expr_at m.states) e g) → one.rest ≡ list p i r → r ≡ list q j empty →
     ReadsBody m (k + 1) i a → ReadsBody m (site_after_all (k + 1) a) j b →
     stmt_form m k at (seen_trees (atom w (codes "if") f)) ≡ Some (If at k e a b, site_after_all (site_after_all (k + 1) a) b)
 unfolding stmt_form if_form word_of
 if_read m k at w p q e a b f i j r g one x y s t =
-    rw (expr_there m.states f e g one, block_there m (k + 1) p one.rest i r a x s, block_there m (site_after_all (k + 1) a) q r j empty b y t, s.is, t.is)
+    rw (
+      expr_there m.states f e g one,
+      block_there m (k + 1) p one.rest i r a x s,
+      block_there m (site_after_all (k + 1) a) q r j empty b y t,
+      s.is,
+      t.is,
+    )
 
-for_read : (m : KnownNames) (k at a : ℕ) (n : Ident) (e : Expr) (b : Stmts) (f : Forest) (g : Sketch) → is_name n.text ≡ true → (one : First f (expr_at m.states) e g) → ReadsBody m (k + 1) one.rest b →
+for_read : (m : KnownNames) (k at a : ℕ) (n : Ident) (e : Expr) (b : Stmts) (f : Forest) (g : Sketch)
+    → is_name n.text ≡ true → (one : First f (expr_at m.states) e g) → ReadsBody m (k + 1) one.rest b →
     stmt_form m k at (seen_trees (atom a (codes "for") (atom n.at n.text f))) ≡ Some (For at k n e b, site_after_all (k + 1) b)
 unfolding stmt_form for_form binding_of word_of
 for_read m k at a n e b f g h one r = rw (name_there n f h, expr_there m.states f e g one, r.read, r.is)
 
-let_read : (m : KnownNames) (k at a : ℕ) (n : Ident) (e : Expr) (b : Stmts) (f : Forest) (g : Sketch) → is_name n.text ≡ true → (one : First f (expr_at m.states) e g) → ReadsBody m (k + 1) one.rest b →
+let_read : (m : KnownNames) (k at a : ℕ) (n : Ident) (e : Expr) (b : Stmts) (f : Forest) (g : Sketch)
+    → is_name n.text ≡ true → (one : First f (expr_at m.states) e g) → ReadsBody m (k + 1) one.rest b →
     stmt_form m k at (seen_trees (atom a (codes "let") (atom n.at n.text f))) ≡ Some (Let at k n e b, site_after_all (k + 1) b)
 unfolding stmt_form let_form binding_of word_of
 let_read m k at a n e b f g h one r = rw (name_there n f h, expr_there m.states f e g one, r.read, r.is)
 
-remember_read : (m : KnownNames) (k at a p : ℕ) (n : Ident) (ks : List Named) (e : Expr) (b : Stmts) (i f : Forest) (g : Sketch) → is_name n.text ≡ true → pairs_form m.states (seen_trees i) ≡ Some ks →
+remember_read : (m : KnownNames) (k at a p : ℕ) (n : Ident) (ks : List Named) (e : Expr) (b : Stmts) (i f : Forest)
+    (g : Sketch) → is_name n.text ≡ true → pairs_form m.states (seen_trees i) ≡ Some ks →
     (one : First f (expr_at m.states) e g) → ReadsBody m (k + 1) one.rest b →
     stmt_form m k at (seen_trees (atom a (codes "remember") (atom n.at n.text (list p i f)))) ≡ Some (Remember at k n ks e b, site_after_all (k + 1) b)
 unfolding stmt_form remember_form named_pairs_of word_of
-remember_read m k at a p n ks e b i f g h read one r = rw (name_there n (list p i f) h, read, expr_there m.states f e g one, r.read, r.is)
+remember_read m k at a p n ks e b i f g h read one r =
+    rw (name_there n (list p i f) h, read, expr_there m.states f e g one, r.read, r.is)
 
 -- A list that is parsed as a statement, with its number.
-one_stmt : (m : KnownNames) (k site at p x : ℕ) (f i r : Forest) (t : ℕ → Stmt) (g : Sketch) → site ≡ k → f ≡ list at i r → at ≡ p → stmt_form m k p (seen_trees i) ≡ Some (t k, x) → Fits r g → First f (stmt_at m k) (t site, x) g
+one_stmt : (m : KnownNames) (k site at p x : ℕ) (f i r : Forest) (t : ℕ → Stmt) (g : Sketch) → site ≡ k
+    → f ≡ list at i r → at ≡ p → stmt_form m k p (seen_trees i) ≡ Some (t k, x) → Fits r g
+    → First f (stmt_at m k) (t site, x) g
 one_stmt m k site at p x f i r t g same is told h rest =
     one_list (stmt_at m k) at p f i r (t site, x) g is told (h ∙ ap (λ (j : ℕ). Some (t j, x)) (sym same)) rest
 
 mutual
-  stmt_read : (m : KnownNames) (k : ℕ) (t : Stmt) (f : Forest) (g : Sketch) → SpelledStmt m k t → Fits f (stmt_forms t g) → ReadsStmt m k f t g
+  stmt_read : (m : KnownNames) (k : ℕ) (t : Stmt) (f : Forest) (g : Sketch) → SpelledStmt m k t
+      → Fits f (stmt_forms t g) → ReadsStmt m k f t g
   stmt_read m k (Node at site n ns b) f g s h =
       let w = h.5 in
       let v = w.4 in
       let l = v.4 in
       let is = list_with_word h.1 w.1 v.1 w.0 v.0 (codes "node") n w.2 v.2 v.3 ∙ ap (λ (i : Forest). atom w.0 (codes "node") (atom n.at n.text i)) l.3 in
       one_stmt m k site h.0 at _ f h.1 h.2 (λ j. Node at j n ns b) g s.0 h.3 h.4
-      (ap (λ (i : Forest). stmt_form m k at (seen_trees i)) is ∙ node_read m k at w.0 l.0 n ns b l.1 l.2 s.1 (pairs_read m.states ns l.1 s.2 l.5) (stmts_read m (k + 1) b l.2 s.3 l.6)) h.6
+      (ap (λ (i : Forest). stmt_form m k at (seen_trees i)) is
+      ∙ node_read m k at w.0 l.0 n ns b l.1 l.2 s.1 (pairs_read m.states ns l.1 s.2 l.5)
+      (stmts_read m (k + 1) b l.2 s.3 l.6)) h.6
   stmt_read m k (Call at site n function es) f g s h =
       let w = h.5 in
       let v = w.4 in
       let is = list_with_word h.1 w.1 v.1 w.0 v.0 (codes "call") n w.2 v.2 v.3 in
       one_stmt m k site h.0 at _ f h.1 h.2 (λ j. Call at j n function es) g s.0 h.3 h.4
-      (ap (λ (i : Forest). stmt_form m k at (seen_trees i)) is ∙ call_read m k at w.0 n es v.1 s.1 (exprs_read m.states es v.1 s.3 v.4) ∙ ap (λ (c : ℕ). Some (Call at k n c es, k + 1)) (sym s.2)) h.6
+      (ap (λ (i : Forest). stmt_form m k at (seen_trees i)) is
+      ∙ call_read m k at w.0 n es v.1 s.1 (exprs_read m.states es v.1 s.3 v.4)
+      ∙ ap (λ (c : ℕ). Some (Call at k n c es, k + 1)) (sym s.2)) h.6
   stmt_read m k (Key at site e b) f g s h =
       let w = h.5 in
       let one = expr_read m.states e w.1 (stmts_forms b) s.1 w.4 in
       one_stmt m k site h.0 at _ f h.1 h.2 (λ j. Key at j e b) g s.0 h.3 h.4
-      (ap (λ (i : Forest). stmt_form m k at (seen_trees i)) w.2 ∙ key_read m k at w.0 e b w.1 (stmts_forms b) one (stmts_read m (k + 1) b one.rest s.2 one.behind)) h.6
+      (ap (λ (i : Forest). stmt_form m k at (seen_trees i)) w.2
+      ∙ key_read m k at w.0 e b w.1 (stmts_forms b) one (stmts_read m (k + 1) b one.rest s.2 one.behind)) h.6
   stmt_read m k (If at site e a b) f g s h =
       let w = h.5 in
       let one = expr_read m.states e w.1 _ s.1 w.4 in
@@ -346,21 +423,24 @@ mutual
       let y = x.6 in
       one_stmt m k site h.0 at _ f h.1 h.2 (λ j. If at j e a b) g s.0 h.3 h.4
       (ap (λ (i : Forest). stmt_form m k at (seen_trees i)) w.2
-      ∙ if_read m k at w.0 x.0 y.0 e a b w.1 x.1 y.1 x.2 _ one x.3 (y.3 ∙ ap (list y.0 y.1) y.6) (stmts_read m (k + 1) a x.1 s.2 x.5) (stmts_read m (site_after_all (k + 1) a) b y.1 s.3 y.5)) h.6
+      ∙ if_read m k at w.0 x.0 y.0 e a b w.1 x.1 y.1 x.2 _ one x.3 (y.3 ∙ ap (list y.0 y.1) y.6)
+      (stmts_read m (k + 1) a x.1 s.2 x.5) (stmts_read m (site_after_all (k + 1) a) b y.1 s.3 y.5)) h.6
   stmt_read m k (For at site n e b) f g s h =
       let w = h.5 in
       let v = w.4 in
       let is = list_with_word h.1 w.1 v.1 w.0 v.0 (codes "for") n w.2 v.2 v.3 in
       let one = expr_read m.states e v.1 (stmts_forms b) s.2 v.4 in
       one_stmt m k site h.0 at _ f h.1 h.2 (λ j. For at j n e b) g s.0 h.3 h.4
-      (ap (λ (i : Forest). stmt_form m k at (seen_trees i)) is ∙ for_read m k at w.0 n e b v.1 (stmts_forms b) s.1 one (stmts_read m (k + 1) b one.rest s.3 one.behind)) h.6
+      (ap (λ (i : Forest). stmt_form m k at (seen_trees i)) is
+      ∙ for_read m k at w.0 n e b v.1 (stmts_forms b) s.1 one (stmts_read m (k + 1) b one.rest s.3 one.behind)) h.6
   stmt_read m k (Let at site n e b) f g s h =
       let w = h.5 in
       let v = w.4 in
       let is = list_with_word h.1 w.1 v.1 w.0 v.0 (codes "let") n w.2 v.2 v.3 in
       let one = expr_read m.states e v.1 (stmts_forms b) s.2 v.4 in
       one_stmt m k site h.0 at _ f h.1 h.2 (λ j. Let at j n e b) g s.0 h.3 h.4
-      (ap (λ (i : Forest). stmt_form m k at (seen_trees i)) is ∙ let_read m k at w.0 n e b v.1 (stmts_forms b) s.1 one (stmts_read m (k + 1) b one.rest s.3 one.behind)) h.6
+      (ap (λ (i : Forest). stmt_form m k at (seen_trees i)) is
+      ∙ let_read m k at w.0 n e b v.1 (stmts_forms b) s.1 one (stmts_read m (k + 1) b one.rest s.3 one.behind)) h.6
   stmt_read m k (Remember at site n ks e b) f g s h =
       let w = h.5 in
       let v = w.4 in
@@ -369,9 +449,11 @@ mutual
       let one = expr_read m.states e l.2 (stmts_forms b) s.3 l.6 in
       one_stmt m k site h.0 at _ f h.1 h.2 (λ j. Remember at j n ks e b) g s.0 h.3 h.4
       (ap (λ (i : Forest). stmt_form m k at (seen_trees i)) is
-      ∙ remember_read m k at w.0 l.0 n ks e b l.1 l.2 (stmts_forms b) s.1 (pairs_read m.states ks l.1 s.2 l.5) one (stmts_read m (k + 1) b one.rest s.4 one.behind)) h.6
+      ∙ remember_read m k at w.0 l.0 n ks e b l.1 l.2 (stmts_forms b) s.1 (pairs_read m.states ks l.1 s.2 l.5) one
+      (stmts_read m (k + 1) b one.rest s.4 one.behind)) h.6
 
-  pub stmts_read : (m : KnownNames) (k : ℕ) (b : Stmts) (f : Forest) → SpelledStmts m k b → Fits f (stmts_forms b) → ReadsBody m k f b
+  pub stmts_read : (m : KnownNames) (k : ℕ) (b : Stmts) (f : Forest) → SpelledStmts m k b → Fits f (stmts_forms b)
+      → ReadsBody m k f b
   stmts_read m k done f s h = done_read m k f h
   stmts_read m k (next t ts) f s h =
       let one = stmt_read m k t f (stmts_forms ts) s.0 h in

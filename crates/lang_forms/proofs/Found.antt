@@ -30,15 +30,18 @@ use Rattle.lang_forms.proofs.Ints.{decimal-int}
 pub inject : {A : Type 0} {a b : A} → Some a ≡ Some b → a ≡ b
 inject h = cc
 
-pub bind_some : {A B : Type 0} (o : Option A) (f : A → Option B) (y : B) → (o >>= f) ≡ Some y → (x : A) × (o ≡ Some x) × (f x ≡ Some y)
+pub bind_some : {A B : Type 0} (o : Option A) (f : A → Option B) (y : B) → (o >>= f) ≡ Some y
+    → (x : A) × (o ≡ Some x) × (f x ≡ Some y)
 bind_some None f y h = absurd (cc)
 bind_some (Some x) f y h = (x, refl, h)
 
-pub map_some : {A B : Type 0} (o : Option A) (f : A → B) (y : B) → option_map f o ≡ Some y → (x : A) × (o ≡ Some x) × (f x ≡ y)
+pub map_some : {A B : Type 0} (o : Option A) (f : A → B) (y : B) → option_map f o ≡ Some y
+    → (x : A) × (o ≡ Some x) × (f x ≡ y)
 map_some None f y h = absurd (cc)
 map_some (Some x) f y h = (x, refl, cc)
 
-pub choose_some : {A B : Type 0} (o : Option A) (f : A → Option B) (other : Option B) (y : B) → choose o f other ≡ Some y → ((x : A) × (o ≡ Some x) × (f x ≡ Some y)) ⊎ ((o ≡ None) × (other ≡ Some y))
+pub choose_some : {A B : Type 0} (o : Option A) (f : A → Option B) (other : Option B) (y : B)
+    → choose o f other ≡ Some y → ((x : A) × (o ≡ Some x) × (f x ≡ Some y)) ⊎ ((o ≡ None) × (other ≡ Some y))
 choose_some None f other y h = inr (refl, h)
 choose_some (Some x) f other y h = inl (x, refl, h)
 
@@ -64,7 +67,8 @@ word_found w (text b v r) ss h = absurd (cc)
 word_found w (list b j r) ss h = absurd (cc)
 
 -- The keyword of trees that are seen already.
-pub word_next : (w : List ℕ) (i : Forest) (rs ss : List Seen) → rs ≡ seen_trees i → word_of w rs ≡ Some ss → Worded i w ss
+pub word_next : (w : List ℕ) (i : Forest) (rs ss : List Seen) → rs ≡ seen_trees i → word_of w rs ≡ Some ss
+    → Worded i w ss
 word_next w i rs ss is h = word_found w i ss (ap (word_of w) (sym is) ∙ h)
 
 -- A first tree that is a name, and the trees after it.
@@ -79,15 +83,18 @@ unfolding name_of
 name_found empty n h = absurd (cc)
 name_found (atom b v r) n h =
     let c = cond_some (is_name v) (record { at = b; text = v }, seen_trees r) n h in
-    subst (λ (m : Ident × List Seen). NamedBy (atom b v r) m) c.1 (record { rest = r; is = refl; behind = refl; good = c.0 })
+    subst (λ (m : Ident × List Seen). NamedBy (atom b v r) m) c.1
+    (record { rest = r; is = refl; behind = refl; good = c.0 })
 name_found (text b v r) n h = absurd (cc)
 name_found (list b j r) n h = absurd (cc)
 
-pub name_next : (i : Forest) (rs : List Seen) (n : Ident × List Seen) → rs ≡ seen_trees i → name_of rs ≡ Some n → NamedBy i n
+pub name_next : (i : Forest) (rs : List Seen) (n : Ident × List Seen) → rs ≡ seen_trees i → name_of rs ≡ Some n
+    → NamedBy i n
 name_next i rs n is h = name_found i n (ap name_of (sym is) ∙ h)
 
 -- The keyword of one value, or of another.
-named_some : {A : Type 0} (word : A → List ℕ) (a b : A) (w : List ℕ) (other : Option A) → (other ≡ Some b → w ≡ word b) → if_word (word a) a w other ≡ Some b → w ≡ word b
+named_some : {A : Type 0} (word : A → List ℕ) (a b : A) (w : List ℕ) (other : Option A) → (other ≡ Some b → w ≡ word b)
+    → if_word (word a) a w other ≡ Some b → w ≡ word b
 named_some word a b w other rest h = by (bytes_eq w (word a)) refl h
   where
     by : (t : Bool) → bytes_eq w (word a) ≡ t → cond t (Some a) other ≡ Some b → w ≡ word b
@@ -99,38 +106,52 @@ no_word word b w h = absurd (cc)
 
 type_found : (w : List ℕ) (t : Ty) → type_for_word w ≡ Some t → w ≡ type_word t
 unfolding type_for_word
-type_found w t = named_some type_word ty.Int t w _ (named_some type_word ty.Bool t w _ (named_some type_word ty.Text t w _ (named_some type_word ty.Ints t w _ (no_word type_word t w))))
+type_found w t = named_some type_word ty.Int t w _
+    (named_some type_word ty.Bool t w _
+    (named_some type_word ty.Text t w _ (named_some type_word ty.Ints t w _ (no_word type_word t w))))
 
 policy_found : (w : List ℕ) (p : BuiltIn) → policy_for_word w ≡ Some p → w ≡ policy_word p
 unfolding policy_for_word
 policy_found w p =
-    named_some policy_word policy.Structural p w _ (named_some policy_word policy.Never p w _ (named_some policy_word policy.Counter p w _ (
-    named_some policy_word policy.Largest p w _ (named_some policy_word policy.Append p w _ (no_word policy_word p w)))))
+    named_some policy_word policy.Structural p w _
+    (named_some policy_word policy.Never p w _ (named_some policy_word policy.Counter p w _ (
+    named_some policy_word policy.Largest p w _
+    (named_some policy_word policy.Append p w _ (no_word policy_word p w)))))
 
 kind_found : (w : List ℕ) (k : Kind) → kind_for_word w ≡ Some k → w ≡ kind_word k
 unfolding kind_for_word
-kind_found w k = named_some kind_word kind.Mutable k w _ (named_some kind_word kind.Readonly k w _ (no_word kind_word k w))
+kind_found w k =
+    named_some kind_word kind.Mutable k w _ (named_some kind_word kind.Readonly k w _ (no_word kind_word k w))
 
 number_operator_found : (w : List ℕ) (o : Operator) → number_operator w ≡ Some o → w ≡ operator_word o
 unfolding number_operator
 number_operator_found w o =
-    named_some operator_word operator.Add o w _ (named_some operator_word operator.Subtract o w _ (named_some operator_word operator.Multiply o w _ (
-    named_some operator_word operator.Divide o w _ (named_some operator_word operator.Remainder o w _ (no_word operator_word o w)))))
+    named_some operator_word operator.Add o w _
+    (named_some operator_word operator.Subtract o w _ (named_some operator_word operator.Multiply o w _ (
+    named_some operator_word operator.Divide o w _
+    (named_some operator_word operator.Remainder o w _ (no_word operator_word o w)))))
 
 truth_operator_found : (w : List ℕ) (o : Operator) → truth_operator w ≡ Some o → w ≡ operator_word o
 unfolding truth_operator
 truth_operator_found w o =
-    named_some operator_word operator.Equal o w _ (named_some operator_word operator.Less o w _ (named_some operator_word operator.Not o w _ (
-    named_some operator_word operator.And o w _ (named_some operator_word operator.Or o w _ (named_some operator_word operator.Pick o w _ (no_word operator_word o w))))))
+    named_some operator_word operator.Equal o w _
+    (named_some operator_word operator.Less o w _ (named_some operator_word operator.Not o w _ (
+    named_some operator_word operator.And o w _
+    (named_some operator_word operator.Or o w _
+    (named_some operator_word operator.Pick o w _ (no_word operator_word o w))))))
 
 list_operator_found : (w : List ℕ) (o : Operator) → list_operator w ≡ Some o → w ≡ operator_word o
 unfolding list_operator
 list_operator_found w o =
-    named_some operator_word operator.Join o w _ (named_some operator_word operator.Text o w _ (named_some operator_word operator.Ints o w _ (
-    named_some operator_word operator.Range o w _ (named_some operator_word operator.Push o w _ (named_some operator_word operator.Concat o w _ (
-    named_some operator_word operator.Length o w _ (named_some operator_word operator.At o w _ (no_word operator_word o w))))))))
+    named_some operator_word operator.Join o w _
+    (named_some operator_word operator.Text o w _ (named_some operator_word operator.Ints o w _ (
+    named_some operator_word operator.Range o w _
+    (named_some operator_word operator.Push o w _ (named_some operator_word operator.Concat o w _ (
+    named_some operator_word operator.Length o w _
+    (named_some operator_word operator.At o w _ (no_word operator_word o w))))))))
 
-option_or_some : {A : Type 0} (o other : Option A) (a : A) → option_or o other ≡ Some a → (o ≡ Some a) ⊎ (other ≡ Some a)
+option_or_some : {A : Type 0} (o other : Option A) (a : A) → option_or o other ≡ Some a
+    → (o ≡ Some a) ⊎ (other ≡ Some a)
 option_or_some None other a h = inr h
 option_or_some (Some b) other a h = inl h
 
@@ -157,7 +178,8 @@ type_next empty rs t is h = absurd (cc (ap type_of (sym is) ∙ h))
 type_next (atom b v r) rs t is h =
     let c = bind_some (type_for_word v) (λ x. Some (x, seen_trees r)) t (ap type_of (sym is) ∙ h) in
     let same : (c.0, seen_trees r) ≡ t = inject c.2 in
-    subst (λ (m : Ty × List Seen). Typed (atom b v r) m) same (record { at = b; rest = r; is = ap (λ (x : List ℕ). atom b x r) (type_found v c.0 c.1); behind = refl })
+    subst (λ (m : Ty × List Seen). Typed (atom b v r) m) same
+    (record { at = b; rest = r; is = ap (λ (x : List ℕ). atom b x r) (type_found v c.0 c.1); behind = refl })
 type_next (text b v r) rs t is h = absurd (cc (ap type_of (sym is) ∙ h))
 type_next (list b j r) rs t is h = absurd (cc (ap type_of (sym is) ∙ h))
 
@@ -168,13 +190,15 @@ pub record Policied (i : Forest) (p : BuiltIn × List Seen) : Type 0 where
   pub is : i ≡ atom at (policy_word p.0) rest
   pub behind : p.1 ≡ seen_trees rest
 
-pub policy_next : (i : Forest) (rs : List Seen) (p : BuiltIn × List Seen) → rs ≡ seen_trees i → policy_of rs ≡ Some p → Policied i p
+pub policy_next : (i : Forest) (rs : List Seen) (p : BuiltIn × List Seen) → rs ≡ seen_trees i → policy_of rs ≡ Some p
+    → Policied i p
 unfolding policy_of
 policy_next empty rs p is h = absurd (cc (ap policy_of (sym is) ∙ h))
 policy_next (atom b v r) rs p is h =
     let c = bind_some (policy_for_word v) (λ x. Some (x, seen_trees r)) p (ap policy_of (sym is) ∙ h) in
     let same : (c.0, seen_trees r) ≡ p = inject c.2 in
-    subst (λ (m : BuiltIn × List Seen). Policied (atom b v r) m) same (record { at = b; rest = r; is = ap (λ (x : List ℕ). atom b x r) (policy_found v c.0 c.1); behind = refl })
+    subst (λ (m : BuiltIn × List Seen). Policied (atom b v r) m) same
+    (record { at = b; rest = r; is = ap (λ (x : List ℕ). atom b x r) (policy_found v c.0 c.1); behind = refl })
 policy_next (text b v r) rs p is h = absurd (cc (ap policy_of (sym is) ∙ h))
 policy_next (list b j r) rs p is h = absurd (cc (ap policy_of (sym is) ∙ h))
 
@@ -185,13 +209,15 @@ pub record Kinded (i : Forest) (k : Kind × List Seen) : Type 0 where
   pub is : i ≡ atom at (kind_word k.0) rest
   pub behind : k.1 ≡ seen_trees rest
 
-pub kind_next : (i : Forest) (rs : List Seen) (k : Kind × List Seen) → rs ≡ seen_trees i → kind_of rs ≡ Some k → Kinded i k
+pub kind_next : (i : Forest) (rs : List Seen) (k : Kind × List Seen) → rs ≡ seen_trees i → kind_of rs ≡ Some k
+    → Kinded i k
 unfolding kind_of
 kind_next empty rs k is h = absurd (cc (ap kind_of (sym is) ∙ h))
 kind_next (atom b v r) rs k is h =
     let c = bind_some (kind_for_word v) (λ x. Some (x, seen_trees r)) k (ap kind_of (sym is) ∙ h) in
     let same : (c.0, seen_trees r) ≡ k = inject c.2 in
-    subst (λ (m : Kind × List Seen). Kinded (atom b v r) m) same (record { at = b; rest = r; is = ap (λ (x : List ℕ). atom b x r) (kind_found v c.0 c.1); behind = refl })
+    subst (λ (m : Kind × List Seen). Kinded (atom b v r) m) same
+    (record { at = b; rest = r; is = ap (λ (x : List ℕ). atom b x r) (kind_found v c.0 c.1); behind = refl })
 kind_next (text b v r) rs k is h = absurd (cc (ap kind_of (sym is) ∙ h))
 kind_next (list b j r) rs k is h = absurd (cc (ap kind_of (sym is) ∙ h))
 
@@ -208,7 +234,13 @@ operator_found empty o h = absurd (cc)
 operator_found (atom b v r) o h =
     let c = bind_some (operator_for_word v) (λ x. Some (x, seen_trees r)) o h in
     let same : (c.0, seen_trees r) ≡ o = inject c.2 in
-    subst (λ (m : Operator × List Seen). Operated (atom b v r) m) same (record { at = b; rest = r; is = ap (λ (x : List ℕ). atom b x r) (operator_word_found v c.0 c.1); behind = refl })
+    subst (λ (m : Operator × List Seen). Operated (atom b v r) m) same
+    (record {
+      at = b;
+      rest = r;
+      is = ap (λ (x : List ℕ). atom b x r) (operator_word_found v c.0 c.1);
+      behind = refl;
+    })
 operator_found (text b v r) o h = absurd (cc)
 operator_found (list b j r) o h = absurd (cc)
 
@@ -225,7 +257,8 @@ end_next i rs is h = end_found i (ap is_end (sym is) ∙ h)
 
 -- An atom that is a literal.
 pub record Plain (a : List ℕ) (v : Value) : Type 0 where
-  pub fit : (p : Option ℕ) (at : ℕ) (r : Forest) (g : Sketch) → IsAtOffset p at → Fits r g → Fits (atom at a r) (literal p v g)
+  pub fit : (p : Option ℕ) (at : ℕ) (r : Forest) (g : Sketch) → IsAtOffset p at → Fits r g
+      → Fits (atom at a r) (literal p v g)
   pub plain : plain_fits v ≡ true
   pub whole : literal_fits v ≡ true
 
@@ -234,7 +267,12 @@ unfolding truth_of
 truth_found a v h = by (bytes_eq a (codes "true")) (bytes_eq a (codes "false")) refl refl h
   where
     is_truth : (b : Bool) → a ≡ truth_text b → value.Bool b ≡ v → Plain a v
-    is_truth b e i = subst (λ (x : Value). Plain a x) i (record { fit = λ p at r g told rest. (at, r, ap (λ (x : List ℕ). atom at x r) e, told, rest); plain = refl; whole = refl })
+    is_truth b e i = subst (λ (x : Value). Plain a x) i
+        (record {
+          fit = λ p at r g told rest. (at, r, ap (λ (x : List ℕ). atom at x r) e, told, rest);
+          plain = refl;
+          whole = refl;
+        })
 
     by : (t u : Bool) → bytes_eq a (codes "true") ≡ t → bytes_eq a (codes "false") ≡ u → cond t (Some (value.Bool true)) (cond u (Some (value.Bool false)) None) ≡ Some v → Plain a v
     by true u x y i = is_truth true (bytes_same a _ x) (inject i)
@@ -247,7 +285,12 @@ plain_found a v h = elim (choose_some (int_of a) (λ z. Some (value.Int z)) (tru
   | inl x ↦
       let d = decimal-int a x.0 x.1 in
       let is : value.Int x.0 ≡ v = inject x.2 in
-      subst (λ (y : Value). Plain a y) is (record { fit = λ p at r g told rest. (at, r, ap (λ (y : List ℕ). atom at y r) d.0, told, rest); plain = d.1; whole = d.1 })
+      subst (λ (y : Value). Plain a y) is
+      (record {
+        fit = λ p at r g told rest. (at, r, ap (λ (y : List ℕ). atom at y r) d.0, told, rest);
+        plain = d.1;
+        whole = d.1;
+      })
   | inr x ↦ truth_found a v x.1
 ]
 
@@ -273,11 +316,13 @@ number_found empty z h = absurd (cc)
 number_found (atom b v r) z h =
     let x = map_some (int_of v) (λ (y : ℤ). (y, seen_trees r)) z h in
     let d = decimal-int v x.0 x.1 in
-    subst (λ (m : ℤ × List Seen). Numbered (atom b v r) m) x.2 (record { at = b; rest = r; is = ap (λ (y : List ℕ). atom b y r) d.0; behind = refl; good = d.1 })
+    subst (λ (m : ℤ × List Seen). Numbered (atom b v r) m) x.2
+    (record { at = b; rest = r; is = ap (λ (y : List ℕ). atom b y r) d.0; behind = refl; good = d.1 })
 number_found (text b v r) z h = absurd (cc)
 number_found (list b j r) z h = absurd (cc)
 
-pub number_next : (i : Forest) (rs : List Seen) (z : ℤ × List Seen) → rs ≡ seen_trees i → number_of_first rs ≡ Some z → Numbered i z
+pub number_next : (i : Forest) (rs : List Seen) (z : ℤ × List Seen) → rs ≡ seen_trees i → number_of_first rs ≡ Some z
+    → Numbered i z
 number_next i rs z is h = number_found i z (ap number_of_first (sym is) ∙ h)
 
 ints_found : (f : Forest) (zs : List ℤ) → ints_of (seen_trees f) ≡ Some zs → Fits f (numbers zs) × (all_fit zs ≡ true)
@@ -288,7 +333,8 @@ ints_found (atom at a f) zs h =
     let rest = map_some (ints_of (seen_trees f)) (λ (ys : List ℤ). z.0 ∷ ys) zs z.2 in
     let d = decimal-int a z.0 z.1 in
     let all = ints_found f rest.0 rest.1 in
-    subst (λ (l : List ℤ). Fits (atom at a f) (numbers l) × (all_fit l ≡ true)) rest.2 ((at, f, ap (λ (y : List ℕ). atom at y f) d.0, tt, all.0), and_from (fits z.0) (all_fit rest.0) d.1 all.1)
+    subst (λ (l : List ℤ). Fits (atom at a f) (numbers l) × (all_fit l ≡ true)) rest.2
+    ((at, f, ap (λ (y : List ℕ). atom at y f) d.0, tt, all.0), and_from (fits z.0) (all_fit rest.0) d.1 all.1)
 ints_found (text at s f) zs h = absurd (cc)
 ints_found (list at i f) zs h = absurd (cc)
 
@@ -306,7 +352,10 @@ list_found i v h =
     let word = word_found (codes "ints") i w.0 w.1 in
     let all = ints_found word.rest zs.0 (ap ints_of (sym word.behind) ∙ zs.1) in
     subst (λ (x : Value). Listed i x) c.1
-    (record { fit = λ at r g rest. (at, i, r, refl, tt, (word.at, word.rest, word.is, tt, all.0), rest); whole = and_from (is_list_long (length zs.0)) (all_fit zs.0) c.0 all.1 })
+    (record {
+      fit = λ at r g rest. (at, i, r, refl, tt, (word.at, word.rest, word.is, tt, all.0), rest);
+      whole = and_from (is_list_long (length zs.0)) (all_fit zs.0) c.0 all.1;
+    })
 
 -- The trees after the first.
 abbrev pub tail : Forest → Forest
@@ -326,15 +375,19 @@ literal_found empty v h = absurd (cc)
 literal_found (atom at a f) v h =
     let x = map_some (plain_of a) (λ (y : Value). (y, seen_trees f)) v h in
     let p = plain_found a x.0 x.1 in
-    subst (λ (y : Value × List Seen). LiteralFirst (atom at a f) y) x.2 (record { behind = refl; fit = λ g rest. p.fit None at f g tt rest; whole = p.whole })
+    subst (λ (y : Value × List Seen). LiteralFirst (atom at a f) y) x.2
+    (record { behind = refl; fit = λ g rest. p.fit None at f g tt rest; whole = p.whole })
 literal_found (text at s f) v h =
     let x = map_some (string_of s) (λ (y : Value). (y, seen_trees f)) v h in
     let q = string_found s x.0 x.1 in
-    subst (λ (y : Value × List Seen). LiteralFirst (text at s f) y) (ap (λ (y : Value). (y, seen_trees f)) q.is ∙ x.2) (record { behind = refl; fit = λ g rest. (at, f, refl, tt, rest); whole = q.good })
+    subst (λ (y : Value × List Seen). LiteralFirst (text at s f) y) (ap (λ (y : Value). (y, seen_trees f)) q.is ∙ x.2)
+    (record { behind = refl; fit = λ g rest. (at, f, refl, tt, rest); whole = q.good })
 literal_found (list at i f) v h =
     let x = map_some (literal_form (seen_trees i)) (λ (y : Value). (y, seen_trees f)) v h in
     let l = list_found i x.0 x.1 in
-    subst (λ (y : Value × List Seen). LiteralFirst (list at i f) y) x.2 (record { behind = refl; fit = λ g rest. l.fit at f g rest; whole = l.whole })
+    subst (λ (y : Value × List Seen). LiteralFirst (list at i f) y) x.2
+    (record { behind = refl; fit = λ g rest. l.fit at f g rest; whole = l.whole })
 
-pub literal_next : (f : Forest) (rs : List Seen) (v : Value × List Seen) → rs ≡ seen_trees f → literal_of rs ≡ Some v → LiteralFirst f v
+pub literal_next : (f : Forest) (rs : List Seen) (v : Value × List Seen) → rs ≡ seen_trees f → literal_of rs ≡ Some v
+    → LiteralFirst f v
 literal_next f rs v is h = literal_found f v (ap literal_of (sym is) ∙ h)

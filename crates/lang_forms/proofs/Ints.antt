@@ -21,9 +21,11 @@ use Rattle.lang_forms.specs.Readings.{int_of, when}
 -- An atom that is not the decimals of a number is no number.
 pub no_int : (a : List ℕ) → ((z : ℤ) → FitsSigned w64 z → signed_decimal z ≡ a → ⊥) → int_of a ≡ None
 unfolding int_of
-no_int a never = cases (bytes_eq (signed_decimal (signed_digits_value 10 a)) a) (fits (signed_digits_value 10 a)) refl refl
+no_int a never =
+    cases (bytes_eq (signed_decimal (signed_digits_value 10 a)) a) (fits (signed_digits_value 10 a)) refl refl
   where
-    cases : (b c : Bool) → bytes_eq (signed_decimal (signed_digits_value 10 a)) a ≡ b → fits (signed_digits_value 10 a) ≡ c → when (b && c) (signed_digits_value 10 a) ≡ None
+    cases : (b c : Bool) → bytes_eq (signed_decimal (signed_digits_value 10 a)) a ≡ b
+        → fits (signed_digits_value 10 a) ≡ c → when (b && c) (signed_digits_value 10 a) ≡ None
     cases true true e f = absurd (never _ (fits-true _ f) ((bytes_eq-Decides _ _).0 e))
     cases true false e f = refl
     cases false true e f = refl

@@ -23,8 +23,10 @@ pub record BodyFits (m : KnownNames) (k : ℕ) (f : Forest) (b : List Stmt × �
 
 -- The forms of all trees of a forest.
 pub record Claims (f : Forest) : Type 0 where
-  pub exprs_fit : (m : List (List ℕ)) (es : List Expr) → exprs_of m (seen_trees f) ≡ Some es → Fits f (exprs_forms (exprs es)) × AllSpelled m (exprs es)
-  pub pairs_fit : (m : List (List ℕ)) (ks : List Named) → pairs_form m (seen_trees f) ≡ Some ks → Fits f (pairs_forms ks) × SpelledPairs m ks
+  pub exprs_fit : (m : List (List ℕ)) (es : List Expr) → exprs_of m (seen_trees f) ≡ Some es
+      → Fits f (exprs_forms (exprs es)) × AllSpelled m (exprs es)
+  pub pairs_fit : (m : List (List ℕ)) (ks : List Named) → pairs_form m (seen_trees f) ≡ Some ks
+      → Fits f (pairs_forms ks) × SpelledPairs m ks
   pub stmts_fit : (m : KnownNames) (k : ℕ) (b : List Stmt × ℕ) → stmts_of m k (seen_trees f) ≡ Some b → BodyFits m k f b
 
 -- The forms of the trees after each tree and of those inside it.
@@ -34,19 +36,22 @@ Good (atom at a f) = Claims f × Good f
 Good (text at s f) = Claims f × Good f
 Good (list at i f) = Claims i × Good i × Claims f × Good f
 
-no_exprs : (m : List (List ℕ)) (es : List Expr) → exprs_of m [] ≡ Some es → Fits empty (exprs_forms (exprs es)) × AllSpelled m (exprs es)
+no_exprs : (m : List (List ℕ)) (es : List Expr) → exprs_of m [] ≡ Some es
+    → Fits empty (exprs_forms (exprs es)) × AllSpelled m (exprs es)
 unfolding exprs_of
 no_exprs m [] h = (refl, tt)
 no_exprs m (e ∷ es) h = absurd (cc)
 
-no_pairs : (m : List (List ℕ)) (ks : List Named) → pairs_form m [] ≡ Some ks → Fits empty (pairs_forms ks) × SpelledPairs m ks
+no_pairs : (m : List (List ℕ)) (ks : List Named) → pairs_form m [] ≡ Some ks
+    → Fits empty (pairs_forms ks) × SpelledPairs m ks
 unfolding pairs_form
 no_pairs m [] h = (refl, tt)
 no_pairs m (k ∷ ks) h = absurd (cc)
 
 no_stmts : (m : KnownNames) (k : ℕ) (b : List Stmt × ℕ) → stmts_of m k [] ≡ Some b → BodyFits m k empty b
 unfolding stmts_of
-no_stmts m k b h = subst (λ (c : List Stmt × ℕ). BodyFits m k empty c) (inject h) (record { fits = refl; spelled = tt; next = refl })
+no_stmts m k b h =
+    subst (λ (c : List Stmt × ℕ). BodyFits m k empty c) (inject h) (record { fits = refl; spelled = tt; next = refl })
 
 nothing_claimed : Claims empty
 nothing_claimed = record { exprs_fit = no_exprs; pairs_fit = no_pairs; stmts_fit = no_stmts }
@@ -101,12 +106,16 @@ leaf_found : (m : List (List ℕ)) (at : ℕ) (a : List ℕ) (e : Expr) → leaf
 unfolding leaf_of
 leaf_found m at a e h = by (is_name a) refl h
   where
-    by : (b : Bool) → is_name a ≡ b → cond b (Some (Variable (record { at = at; text = a }))) (option_map (Literal at) (plain_of a)) ≡ Some e → AtomExpr m at a e
-    by true good i = subst (λ (x : Expr). AtomExpr m at a x) (inject i) (record { fit = λ r g rest. (at, r, refl, refl, rest); spelled = good })
+    by : (b : Bool) → is_name a ≡ b
+        → cond b (Some (Variable (record { at = at; text = a }))) (option_map (Literal at) (plain_of a)) ≡ Some e
+        → AtomExpr m at a e
+    by true good i = subst (λ (x : Expr). AtomExpr m at a x) (inject i)
+        (record { fit = λ r g rest. (at, r, refl, refl, rest); spelled = good })
     by false bad i =
         let v = map_some (plain_of a) (Literal at) e i in
         let p = plain_found a v.0 v.1 in
-        subst (λ (x : Expr). AtomExpr m at a x) v.2 (record { fit = λ r g rest. p.fit (Some at) at r g refl rest; spelled = literal_spelled m at v.0 p.plain })
+        subst (λ (x : Expr). AtomExpr m at a x) v.2
+        (record { fit = λ r g rest. p.fit (Some at) at r g refl rest; spelled = literal_spelled m at v.0 p.plain })
 
 get_found : (m : List (List ℕ)) (at : ℕ) (i : Forest) (e : Expr) (ss : List Seen) → Worded i (codes "get") ss → get_form m at ss ≡ Some e → ListExpr m at i e
 unfolding get_form
@@ -116,9 +125,21 @@ get_found m at i e ss w h =
     let x = name_next w.rest ss n.0 w.behind n.1 in
     let over = end_next x.rest n.0.1 x.behind c.0 in
     subst (λ (d : Expr). ListExpr m at i d) c.1
-    (record { fit = λ r g rest. (at, i, r, refl, refl, (w.at, w.rest, w.is, tt, (n.0.0.at, x.rest, x.is, refl, over)), rest); spelled = (x.good, refl) })
+    (record {
+      fit = λ r g rest. (
+        at,
+        i,
+        r,
+        refl,
+        refl,
+        (w.at, w.rest, w.is, tt, (n.0.0.at, x.rest, x.is, refl, over)),
+        rest,
+      );
+      spelled = (x.good, refl);
+    })
 
-apply_found : (m : List (List ℕ)) (at : ℕ) (i : Forest) (e : Expr) → Good i → apply_form m at (seen_trees i) ≡ Some e → ListExpr m at i e
+apply_found : (m : List (List ℕ)) (at : ℕ) (i : Forest) (e : Expr) → Good i → apply_form m at (seen_trees i) ≡ Some e
+    → ListExpr m at i e
 unfolding apply_form
 apply_found m at i e good h =
     let o = bind_some (operator_of (seen_trees i)) _ e h in
@@ -127,45 +148,61 @@ apply_found m at i e good h =
     let c = cond_some (takes o.0.0 (length es.0)) (Apply at o.0.0 (exprs es.0)) e es.2 in
     let all = (behind_claims i _ _ w.rest w.is good).exprs_fit m es.0 (ap (exprs_of m) (sym w.behind) ∙ es.1) in
     subst (λ (d : Expr). ListExpr m at i d) c.1
-    (record { fit = λ r g rest. (at, i, r, refl, refl, (w.at, w.rest, w.is, tt, all.0), rest); spelled = (ap (takes o.0.0) (count_is es.0) ∙ c.0, all.1) })
+    (record {
+      fit = λ r g rest. (at, i, r, refl, refl, (w.at, w.rest, w.is, tt, all.0), rest);
+      spelled = (ap (takes o.0.0) (count_is es.0) ∙ c.0, all.1);
+    })
 
-list_found : (m : List (List ℕ)) (at : ℕ) (i : Forest) (e : Expr) → Good i → expr_form m at (seen_trees i) ≡ Some e → ListExpr m at i e
+list_found : (m : List (List ℕ)) (at : ℕ) (i : Forest) (e : Expr) → Good i → expr_form m at (seen_trees i) ≡ Some e
+    → ListExpr m at i e
 unfolding expr_form
 list_found m at i e good h = elim (choose_some (word_of (codes "get") (seen_trees i)) (get_form m at) (apply_form m at (seen_trees i)) e h) [
   | inl x ↦ get_found m at i e x.0 (word_found (codes "get") i x.0 x.1) x.2
   | inr x ↦ apply_found m at i e good x.1
 ]
 
-expr_found : (m : List (List ℕ)) (f : Forest) (e : Expr × List Seen) → Good f → expr_of m (seen_trees f) ≡ Some e → ExprFirst m f e
+expr_found : (m : List (List ℕ)) (f : Forest) (e : Expr × List Seen) → Good f → expr_of m (seen_trees f) ≡ Some e
+    → ExprFirst m f e
 expr_found m empty e good h = absurd (cc)
 expr_found m (atom at a f) e good h =
     let x = map_some (leaf_of at a) (λ (d : Expr). (d, seen_trees f)) e h in
     let l = leaf_found m at a x.0 x.1 in
-    subst (λ (p : Expr × List Seen). ExprFirst m (atom at a f) p) x.2 (record { behind = refl; fit = λ g rest. l.fit f g rest; spelled = l.spelled })
+    subst (λ (p : Expr × List Seen). ExprFirst m (atom at a f) p) x.2
+    (record { behind = refl; fit = λ g rest. l.fit f g rest; spelled = l.spelled })
 expr_found m (text at s f) e good h =
     let x = map_some (option_map (Literal at) (string_of s)) (λ (d : Expr). (d, seen_trees f)) e h in
     let v = map_some (string_of s) (Literal at) x.0 x.1 in
     let q = string_found s v.0 v.1 in
-    let is : (Literal at (value.Text s), seen_trees f) ≡ e = ap (λ (y : Value). (Literal at y, seen_trees f)) q.is ∙ ap (λ (y : Expr). (y, seen_trees f)) v.2 ∙ x.2 in
-    subst (λ (p : Expr × List Seen). ExprFirst m (text at s f) p) is (record { behind = refl; fit = λ g rest. (at, f, refl, refl, rest); spelled = q.good })
+    let is : (Literal at (value.Text s), seen_trees f) ≡ e = ap (λ (y : Value). (Literal at y, seen_trees f)) q.is
+    ∙ ap (λ (y : Expr). (y, seen_trees f)) v.2 ∙ x.2 in
+    subst (λ (p : Expr × List Seen). ExprFirst m (text at s f) p) is
+    (record { behind = refl; fit = λ g rest. (at, f, refl, refl, rest); spelled = q.good })
 expr_found m (list at i f) e good h =
     let x = map_some (expr_form m at (seen_trees i)) (λ (d : Expr). (d, seen_trees f)) e h in
     let l = list_found m at i x.0 good.1 x.1 in
-    subst (λ (p : Expr × List Seen). ExprFirst m (list at i f) p) x.2 (record { behind = refl; fit = λ g rest. l.fit f g rest; spelled = l.spelled })
+    subst (λ (p : Expr × List Seen). ExprFirst m (list at i f) p) x.2
+    (record { behind = refl; fit = λ g rest. l.fit f g rest; spelled = l.spelled })
 
-expr_next : (m : List (List ℕ)) (f : Forest) (rs : List Seen) (e : Expr × List Seen) → Good f → rs ≡ seen_trees f → expr_of m rs ≡ Some e → ExprFirst m f e
+expr_next : (m : List (List ℕ)) (f : Forest) (rs : List Seen) (e : Expr × List Seen) → Good f → rs ≡ seen_trees f
+    → expr_of m rs ≡ Some e → ExprFirst m f e
 expr_next m f rs e good is h = expr_found m f e good (ap (expr_of m) (sym is) ∙ h)
 
-exprs_step : (m : List (List ℕ)) (f : Forest) (s : Seen) → seen_trees f ≡ s ∷ seen_trees (tail f) → Good f → (es : List Expr) → exprs_of m (seen_trees f) ≡ Some es → Fits f (exprs_forms (exprs es)) × AllSpelled m (exprs es)
+exprs_step : (m : List (List ℕ)) (f : Forest) (s : Seen) → seen_trees f ≡ s ∷ seen_trees (tail f) → Good f
+    → (es : List Expr) → exprs_of m (seen_trees f) ≡ Some es → Fits f (exprs_forms (exprs es)) × AllSpelled m (exprs es)
 unfolding exprs_of
 exprs_step m f s is good es h =
-    let e = bind_some (expr_at m s) (λ (e : Expr). option_map (λ (es : List Expr). e ∷ es) (exprs_of m (seen_trees (tail f)))) es (ap (exprs_of m) (sym is) ∙ h) in
+    let e = bind_some (expr_at m s)
+    (λ (e : Expr). option_map (λ (es : List Expr). e ∷ es) (exprs_of m (seen_trees (tail f)))) es
+    (ap (exprs_of m) (sym is) ∙ h) in
     let rest = map_some (exprs_of m (seen_trees (tail f))) (λ (es : List Expr). e.0 ∷ es) es e.2 in
-    let first = expr_found m f (e.0, seen_trees (tail f)) good (ap (expr_of m) is ∙ ap (option_map (λ (d : Expr). (d, seen_trees (tail f)))) e.1) in
+    let first = expr_found m f (e.0, seen_trees (tail f)) good
+    (ap (expr_of m) is ∙ ap (option_map (λ (d : Expr). (d, seen_trees (tail f)))) e.1) in
     let all = (tail_claims f good).exprs_fit m rest.0 rest.1 in
-    subst (λ (l : List Expr). Fits f (exprs_forms (exprs l)) × AllSpelled m (exprs l)) rest.2 (first.fit (exprs_forms (exprs rest.0)) all.0, (first.spelled, all.1))
+    subst (λ (l : List Expr). Fits f (exprs_forms (exprs l)) × AllSpelled m (exprs l)) rest.2
+    (first.fit (exprs_forms (exprs rest.0)) all.0, (first.spelled, all.1))
 
-exprs_claim : (f : Forest) → Good f → (m : List (List ℕ)) (es : List Expr) → exprs_of m (seen_trees f) ≡ Some es → Fits f (exprs_forms (exprs es)) × AllSpelled m (exprs es)
+exprs_claim : (f : Forest) → Good f → (m : List (List ℕ)) (es : List Expr) → exprs_of m (seen_trees f) ≡ Some es
+    → Fits f (exprs_forms (exprs es)) × AllSpelled m (exprs es)
 exprs_claim empty good m es h = no_exprs m es h
 exprs_claim (atom at a f) good m es h = exprs_step m (atom at a f) _ refl good es h
 exprs_claim (text at a f) good m es h = exprs_step m (text at a f) _ refl good es h
@@ -177,7 +214,8 @@ record PairFits (m : List (List ℕ)) (i : Forest) (k : Named) : Type 0 where
   good : is_name k.name.text ≡ true
   spelled : Spelled m k.value
 
-pair_found : (m : List (List ℕ)) (i : Forest) (k : Named) → Good i → pair_form m (seen_trees i) ≡ Some k → PairFits m i k
+pair_found : (m : List (List ℕ)) (i : Forest) (k : Named) → Good i → pair_form m (seen_trees i) ≡ Some k
+    → PairFits m i k
 unfolding pair_form
 pair_found m i k good h =
     let n = bind_some (name_of (seen_trees i)) _ k h in
@@ -187,9 +225,15 @@ pair_found m i k good h =
     let made : Named = record { name = n.0.0; value = e.0.0 } in
     let c = cond_some (is_end e.0.1) made k e.2 in
     let over = end_next (tail x.rest) e.0.1 first.behind c.0 in
-    subst (λ (y : Named). PairFits m i y) c.1 (record { fits = (n.0.0.at, x.rest, x.is, refl, first.fit nothing over); good = x.good; spelled = first.spelled })
+    subst (λ (y : Named). PairFits m i y) c.1
+    (record {
+      fits = (n.0.0.at, x.rest, x.is, refl, first.fit nothing over);
+      good = x.good;
+      spelled = first.spelled;
+    })
 
-pairs_claim : (f : Forest) → Good f → (m : List (List ℕ)) (ks : List Named) → pairs_form m (seen_trees f) ≡ Some ks → Fits f (pairs_forms ks) × SpelledPairs m ks
+pairs_claim : (f : Forest) → Good f → (m : List (List ℕ)) (ks : List Named) → pairs_form m (seen_trees f) ≡ Some ks
+    → Fits f (pairs_forms ks) × SpelledPairs m ks
 unfolding pairs_form
 pairs_claim empty good m ks h = no_pairs m ks h
 pairs_claim (atom at a f) good m ks h = absurd (cc)
@@ -199,7 +243,8 @@ pairs_claim (list at i f) good m ks h =
     let rest = map_some (pairs_form m (seen_trees f)) (λ (l : List Named). k.0 ∷ l) ks k.2 in
     let all = good.2.pairs_fit m rest.0 rest.1 in
     let one = pair_found m i k.0 good.1 k.1 in
-    subst (λ (l : List Named). Fits (list at i f) (pairs_forms l) × SpelledPairs m l) rest.2 ((at, i, f, refl, tt, one.fits, all.0), (one.good, one.spelled, all.1))
+    subst (λ (l : List Named). Fits (list at i f) (pairs_forms l) × SpelledPairs m l) rest.2
+    ((at, i, f, refl, tt, one.fits, all.0), (one.good, one.spelled, all.1))
 
 -- A first tree that is a list of pairs.
 record PairsFirst (m : List (List ℕ)) (f : Forest) (k : List Named × List Seen) : Type 0 where
@@ -213,7 +258,8 @@ record PairsFirst (m : List (List ℕ)) (f : Forest) (k : List Named × List See
   good : Good rest
   claims : Claims rest
 
-pairs_found : (m : List (List ℕ)) (f : Forest) (k : List Named × List Seen) → Good f → pairs_of m (seen_trees f) ≡ Some k → PairsFirst m f k
+pairs_found : (m : List (List ℕ)) (f : Forest) (k : List Named × List Seen) → Good f
+    → pairs_of m (seen_trees f) ≡ Some k → PairsFirst m f k
 pairs_found m empty k good h = absurd (cc)
 pairs_found m (atom at a f) k good h = absurd (cc)
 pairs_found m (text at a f) k good h = absurd (cc)
@@ -221,15 +267,27 @@ pairs_found m (list at i f) k good h =
     let x = map_some (pairs_form m (seen_trees i)) (λ (ns : List Named). (ns, seen_trees f)) k h in
     let all = good.0.pairs_fit m x.0 x.1 in
     subst (λ (p : List Named × List Seen). PairsFirst m (list at i f) p) x.2
-    (record { at = at; inner = i; rest = f; is = refl; behind = refl; fits = all.0; spelled = all.1; good = good.3; claims = good.2 })
+    (record {
+      at = at;
+      inner = i;
+      rest = f;
+      is = refl;
+      behind = refl;
+      fits = all.0;
+      spelled = all.1;
+      good = good.3;
+      claims = good.2;
+    })
 
-pairs_next : (m : List (List ℕ)) (f : Forest) (rs : List Seen) (k : List Named × List Seen) → Good f → rs ≡ seen_trees f → pairs_of m rs ≡ Some k → PairsFirst m f k
+pairs_next : (m : List (List ℕ)) (f : Forest) (rs : List Seen) (k : List Named × List Seen) → Good f → rs ≡ seen_trees f
+    → pairs_of m rs ≡ Some k → PairsFirst m f k
 pairs_next m f rs k good is h = pairs_found m f k good (ap (pairs_of m) (sym is) ∙ h)
 
 -- Statements.
 
 -- Statements after the parsed trees.
-body_next : (m : KnownNames) (k : ℕ) (f : Forest) (rs : List Seen) (b : List Stmt × ℕ) → Claims f → rs ≡ seen_trees f → stmts_of m k rs ≡ Some b → BodyFits m k f b
+body_next : (m : KnownNames) (k : ℕ) (f : Forest) (rs : List Seen) (b : List Stmt × ℕ) → Claims f → rs ≡ seen_trees f
+    → stmts_of m k rs ≡ Some b → BodyFits m k f b
 body_next m k f rs b claims is h = claims.stmts_fit m k b (ap (stmts_of m k) (sym is) ∙ h)
 
 -- A list that is a statement.
@@ -244,11 +302,32 @@ node_found m k at i t ss good w h =
     let n = bind_some (name_of ss) _ t long in
     let x = name_next w.rest ss n.0 w.behind n.1 in
     let ns = bind_some (pairs_of m.states n.0.1) _ t n.2 in
-    let l = pairs_next m.states x.rest n.0.1 ns.0 (behind_good w.rest _ _ x.rest x.is (behind_good i _ _ w.rest w.is good)) x.behind ns.1 in
+    let l = pairs_next m.states x.rest n.0.1 ns.0
+    (behind_good w.rest _ _ x.rest x.is (behind_good i _ _ w.rest w.is good)) x.behind ns.1 in
     let b = bind_some (stmts_of m (k + 1) ns.0.1) _ t ns.2 in
     let body = body_next m (k + 1) l.rest ns.0.1 b.0 l.claims l.behind b.1 in
     subst (λ (d : Stmt × ℕ). StmtFits m k at i d) (inject b.2) (record {
-      fit = λ r g y. (at, i, r, refl, refl, (w.at, w.rest, w.is, tt, (n.0.0.at, x.rest, x.is, refl, (l.at, l.inner, l.rest, l.is, tt, l.fits, body.fits))), y);
+      fit = λ r g y. (
+        at,
+        i,
+        r,
+        refl,
+        refl,
+        (
+          w.at,
+          w.rest,
+          w.is,
+          tt,
+          (
+            n.0.0.at,
+            x.rest,
+            x.is,
+            refl,
+            (l.at, l.inner, l.rest, l.is, tt, l.fits, body.fits),
+          ),
+        ),
+        y,
+      );
       spelled = (refl, x.good, l.spelled, body.spelled);
       next = body.next;
     })
@@ -259,7 +338,8 @@ call_found m k at i t ss good w h =
     let n = bind_some (name_of ss) _ t h in
     let x = name_next w.rest ss n.0 w.behind n.1 in
     let es = bind_some (exprs_of m.states n.0.1) _ t n.2 in
-    let all = (behind_claims w.rest _ _ x.rest x.is (behind_good i _ _ w.rest w.is good)).exprs_fit m.states es.0 (ap (exprs_of m.states) (sym x.behind) ∙ es.1) in
+    let all = (behind_claims w.rest _ _ x.rest x.is (behind_good i _ _ w.rest w.is good)).exprs_fit m.states es.0
+    (ap (exprs_of m.states) (sym x.behind) ∙ es.1) in
     subst (λ (d : Stmt × ℕ). StmtFits m k at i d) (inject es.2) (record {
       fit = λ r g y. (at, i, r, refl, refl, (w.at, w.rest, w.is, tt, (n.0.0.at, x.rest, x.is, refl, all.0)), y);
       spelled = (refl, x.good, refl, all.1);
@@ -275,7 +355,8 @@ key_found m k at i t ss good w h =
     let b = bind_some (stmts_of m (k + 1) e.0.1) _ t e.2 in
     let body = body_next m (k + 1) (tail w.rest) e.0.1 b.0 (tail_claims w.rest inside) first.behind b.1 in
     subst (λ (d : Stmt × ℕ). StmtFits m k at i d) (inject b.2) (record {
-      fit = λ r g y. (at, i, r, refl, refl, (w.at, w.rest, w.is, tt, first.fit (stmts_forms (stmts b.0.0)) body.fits), y);
+      fit =
+          λ r g y. (at, i, r, refl, refl, (w.at, w.rest, w.is, tt, first.fit (stmts_forms (stmts b.0.0)) body.fits), y);
       spelled = (refl, first.spelled, body.spelled);
       next = body.next;
     })
@@ -290,16 +371,26 @@ record BlockFirst (m : KnownNames) (k : ℕ) (f : Forest) (b : (List Stmt × ℕ
   body : BodyFits m k inner b.0
   good : Good rest
 
-block_found : (m : KnownNames) (k : ℕ) (f : Forest) (b : (List Stmt × ℕ) × List Seen) → Good f → block_of m k (seen_trees f) ≡ Some b → BlockFirst m k f b
+block_found : (m : KnownNames) (k : ℕ) (f : Forest) (b : (List Stmt × ℕ) × List Seen) → Good f
+    → block_of m k (seen_trees f) ≡ Some b → BlockFirst m k f b
 block_found m k empty b good h = absurd (cc)
 block_found m k (atom at a f) b good h = absurd (cc)
 block_found m k (text at a f) b good h = absurd (cc)
 block_found m k (list at i f) b good h =
     let x = map_some (stmts_of m k (seen_trees i)) (λ (c : List Stmt × ℕ). (c, seen_trees f)) b h in
     subst (λ (p : (List Stmt × ℕ) × List Seen). BlockFirst m k (list at i f) p) x.2
-    (record { at = at; inner = i; rest = f; is = refl; behind = refl; body = good.0.stmts_fit m k x.0 x.1; good = good.3 })
+    (record {
+      at = at;
+      inner = i;
+      rest = f;
+      is = refl;
+      behind = refl;
+      body = good.0.stmts_fit m k x.0 x.1;
+      good = good.3;
+    })
 
-block_next : (m : KnownNames) (k : ℕ) (f : Forest) (rs : List Seen) (b : (List Stmt × ℕ) × List Seen) → Good f → rs ≡ seen_trees f → block_of m k rs ≡ Some b → BlockFirst m k f b
+block_next : (m : KnownNames) (k : ℕ) (f : Forest) (rs : List Seen) (b : (List Stmt × ℕ) × List Seen) → Good f
+    → rs ≡ seen_trees f → block_of m k rs ≡ Some b → BlockFirst m k f b
 block_next m k f rs b good is h = block_found m k f b good (ap (block_of m k) (sym is) ∙ h)
 
 if_found : (m : KnownNames) (k at : ℕ) (i : Forest) (t : Stmt × ℕ) (ss : List Seen) → Good i → Worded i (codes "if") ss → if_form m k at ss ≡ Some t → StmtFits m k at i t
@@ -315,8 +406,35 @@ if_found m k at i t ss good w h =
     let c = cond_some (is_end b.0.1) (If at k e.0.0 (stmts a.0.0.0) (stmts b.0.0.0), b.0.0.1) t b.2 in
     let over = end_next other.rest b.0.1 other.behind c.0 in
     subst (λ (d : Stmt × ℕ). StmtFits m k at i d) c.1 (record {
-      fit = λ r g y. (at, i, r, refl, refl, (w.at, w.rest, w.is, tt, first.fit _ (yes.at, yes.inner, yes.rest, yes.is, tt, yes.body.fits, (other.at, other.inner, other.rest, other.is, tt, other.body.fits, over))), y);
-      spelled = (refl, first.spelled, yes.body.spelled, subst (λ (j : ℕ). SpelledStmts m j (stmts b.0.0.0)) yes.body.next other.body.spelled);
+      fit = λ r g y. (
+        at,
+        i,
+        r,
+        refl,
+        refl,
+        (
+          w.at,
+          w.rest,
+          w.is,
+          tt,
+          first.fit _ (
+            yes.at,
+            yes.inner,
+            yes.rest,
+            yes.is,
+            tt,
+            yes.body.fits,
+            (other.at, other.inner, other.rest, other.is, tt, other.body.fits, over),
+          ),
+        ),
+        y,
+      );
+      spelled = (
+        refl,
+        first.spelled,
+        yes.body.spelled,
+        subst (λ (j : ℕ). SpelledStmts m j (stmts b.0.0.0)) yes.body.next other.body.spelled,
+      );
       next = other.body.next ∙ ap (λ (j : ℕ). site_after_all j (stmts b.0.0.0)) yes.body.next;
     })
 
@@ -328,14 +446,22 @@ record BindingFits (m : KnownNames) (k : ℕ) (f : Forest) (n : Ident) (e : Expr
   body : SpelledStmts m (k + 1) (stmts b.0)
   next : b.1 ≡ site_after_all (k + 1) (stmts b.0)
 
-binding_found : (m : KnownNames) (k : ℕ) (f : Forest) (ss : List Seen) (n : Ident × List Seen) (e : Expr × List Seen) (b : List Stmt × ℕ) → Good f → ss ≡ seen_trees f
-    → name_of ss ≡ Some n → expr_of m.states n.1 ≡ Some e → stmts_of m (k + 1) e.1 ≡ Some b → BindingFits m k f n.0 e.0 b
+binding_found : (m : KnownNames) (k : ℕ) (f : Forest) (ss : List Seen) (n : Ident × List Seen) (e : Expr × List Seen)
+    (b : List Stmt × ℕ) → Good f → ss ≡ seen_trees f
+    → name_of ss ≡ Some n → expr_of m.states n.1 ≡ Some e → stmts_of m (k + 1) e.1 ≡ Some b
+    → BindingFits m k f n.0 e.0 b
 binding_found m k f ss n e b good is hn he hb =
     let x = name_next f ss n is hn in
     let inside = behind_good f _ _ x.rest x.is good in
     let first = expr_next m.states x.rest n.1 e inside x.behind he in
     let body = body_next m (k + 1) (tail x.rest) e.1 b (tail_claims x.rest inside) first.behind hb in
-    record { fits = (n.0.at, x.rest, x.is, refl, first.fit (stmts_forms (stmts b.0)) body.fits); good = x.good; spelled = first.spelled; body = body.spelled; next = body.next }
+    record {
+      fits = (n.0.at, x.rest, x.is, refl, first.fit (stmts_forms (stmts b.0)) body.fits);
+      good = x.good;
+      spelled = first.spelled;
+      body = body.spelled;
+      next = body.next;
+    }
 
 for_found : (m : KnownNames) (k at : ℕ) (i : Forest) (t : Stmt × ℕ) (ss : List Seen) → Good i → Worded i (codes "for") ss → for_form m k at ss ≡ Some t → StmtFits m k at i t
 for_found m k at i t ss good w h =
@@ -345,7 +471,11 @@ for_found m k at i t ss good w h =
     let b = bind_some (stmts_of m (k + 1) e.0.1) _ t e.2 in
     let all = binding_found m k w.rest ss n.0 e.0 b.0 (behind_good i _ _ w.rest w.is good) w.behind n.1 e.1 b.1 in
     subst (λ (d : Stmt × ℕ). StmtFits m k at i d) (inject b.2)
-    (record { fit = λ r g y. (at, i, r, refl, refl, (w.at, w.rest, w.is, tt, all.fits), y); spelled = (refl, all.good, all.spelled, all.body); next = all.next })
+    (record {
+      fit = λ r g y. (at, i, r, refl, refl, (w.at, w.rest, w.is, tt, all.fits), y);
+      spelled = (refl, all.good, all.spelled, all.body);
+      next = all.next;
+    })
 
 let_found : (m : KnownNames) (k at : ℕ) (i : Forest) (t : Stmt × ℕ) (ss : List Seen) → Good i → Worded i (codes "let") ss → let_form m k at ss ≡ Some t → StmtFits m k at i t
 let_found m k at i t ss good w h =
@@ -355,7 +485,11 @@ let_found m k at i t ss good w h =
     let b = bind_some (stmts_of m (k + 1) e.0.1) _ t e.2 in
     let all = binding_found m k w.rest ss n.0 e.0 b.0 (behind_good i _ _ w.rest w.is good) w.behind n.1 e.1 b.1 in
     subst (λ (d : Stmt × ℕ). StmtFits m k at i d) (inject b.2)
-    (record { fit = λ r g y. (at, i, r, refl, refl, (w.at, w.rest, w.is, tt, all.fits), y); spelled = (refl, all.good, all.spelled, all.body); next = all.next })
+    (record {
+      fit = λ r g y. (at, i, r, refl, refl, (w.at, w.rest, w.is, tt, all.fits), y);
+      spelled = (refl, all.good, all.spelled, all.body);
+      next = all.next;
+    })
 
 remember_found : (m : KnownNames) (k at : ℕ) (i : Forest) (t : Stmt × ℕ) (ss : List Seen) → Good i → Worded i (codes "remember") ss → remember_form m k at ss ≡ Some t → StmtFits m k at i t
 remember_found m k at i t ss good w h =
@@ -363,23 +497,46 @@ remember_found m k at i t ss good w h =
     let n = bind_some (name_of ss) _ t long in
     let x = name_next w.rest ss n.0 w.behind n.1 in
     let ks = bind_some (pairs_of m.states n.0.1) _ t n.2 in
-    let l = pairs_next m.states x.rest n.0.1 ks.0 (behind_good w.rest _ _ x.rest x.is (behind_good i _ _ w.rest w.is good)) x.behind ks.1 in
+    let l = pairs_next m.states x.rest n.0.1 ks.0
+    (behind_good w.rest _ _ x.rest x.is (behind_good i _ _ w.rest w.is good)) x.behind ks.1 in
     let e = bind_some (expr_of m.states ks.0.1) _ t ks.2 in
     let first = expr_next m.states l.rest ks.0.1 e.0 l.good l.behind e.1 in
     let b = bind_some (stmts_of m (k + 1) e.0.1) _ t e.2 in
     let body = body_next m (k + 1) (tail l.rest) e.0.1 b.0 (tail_claims l.rest l.good) first.behind b.1 in
     subst (λ (d : Stmt × ℕ). StmtFits m k at i d) (inject b.2) (record {
-      fit = λ r g y. (at, i, r, refl, refl, (w.at, w.rest, w.is, tt, (n.0.0.at, x.rest, x.is, refl, (l.at, l.inner, l.rest, l.is, tt, l.fits, first.fit (stmts_forms (stmts b.0.0)) body.fits))), y);
+      fit = λ r g y. (
+        at,
+        i,
+        r,
+        refl,
+        refl,
+        (
+          w.at,
+          w.rest,
+          w.is,
+          tt,
+          (
+            n.0.0.at,
+            x.rest,
+            x.is,
+            refl,
+            (l.at, l.inner, l.rest, l.is, tt, l.fits, first.fit (stmts_forms (stmts b.0.0)) body.fits),
+          ),
+        ),
+        y,
+      );
       spelled = (refl, x.good, l.spelled, first.spelled, body.spelled);
       next = body.next;
     })
 
 -- One of two readings.
-pub either : {A B : Type 0} (C : Type 0) (o : Option A) (f : A → Option B) (other : Option B) (y : B) → choose o f other ≡ Some y → ((x : A) → o ≡ Some x → f x ≡ Some y → C) → (other ≡ Some y → C) → C
+pub either : {A B : Type 0} (C : Type 0) (o : Option A) (f : A → Option B) (other : Option B) (y : B)
+    → choose o f other ≡ Some y → ((x : A) → o ≡ Some x → f x ≡ Some y → C) → (other ≡ Some y → C) → C
 either C None f other y h one two = two h
 either C (Some x) f other y h one two = one x refl h
 
-stmt_found : (m : KnownNames) (k at : ℕ) (i : Forest) (t : Stmt × ℕ) → Good i → stmt_form m k at (seen_trees i) ≡ Some t → StmtFits m k at i t
+stmt_found : (m : KnownNames) (k at : ℕ) (i : Forest) (t : Stmt × ℕ) → Good i → stmt_form m k at (seen_trees i) ≡ Some t
+    → StmtFits m k at i t
 unfolding stmt_form
 stmt_found m k at i t good h =
     let C = StmtFits m k at i t in
@@ -392,7 +549,8 @@ stmt_found m k at i t good h =
     either C (word_of (codes "remember") (seen_trees i)) (remember_form m k at) None t h6 (λ ss w x. remember_found m k at i t ss good (word_found (codes "remember") i ss w) x) (λ h7.
     absurd (cc (h7)))))))))
 
-stmts_claim : (f : Forest) → Good f → (m : KnownNames) (k : ℕ) (b : List Stmt × ℕ) → stmts_of m k (seen_trees f) ≡ Some b → BodyFits m k f b
+stmts_claim : (f : Forest) → Good f → (m : KnownNames) (k : ℕ) (b : List Stmt × ℕ)
+    → stmts_of m k (seen_trees f) ≡ Some b → BodyFits m k f b
 unfolding stmts_of
 stmts_claim empty good m k b h = no_stmts m k b h
 stmts_claim (atom at a f) good m k b h = absurd (cc)
@@ -409,7 +567,8 @@ stmts_claim (list at i f) good m k b h =
     })
 
 claims : (f : Forest) → Good f → Claims f
-claims f good = record { exprs_fit = exprs_claim f good; pairs_fit = pairs_claim f good; stmts_fit = stmts_claim f good }
+claims f good =
+    record { exprs_fit = exprs_claim f good; pairs_fit = pairs_claim f good; stmts_fit = stmts_claim f good }
 
 pub all_good : (f : Forest) → Good f
 all_good empty = tt
@@ -418,5 +577,6 @@ all_good (text at a f) = (claims f (all_good f), all_good f)
 all_good (list at i f) = (claims i (all_good i), all_good i, claims f (all_good f), all_good f)
 
 -- Trees that are parsed as a body have its forms.
-pub body_found : (m : KnownNames) (k : ℕ) (f : Forest) (rs : List Seen) (b : List Stmt × ℕ) → rs ≡ seen_trees f → stmts_of m k rs ≡ Some b → BodyFits m k f b
+pub body_found : (m : KnownNames) (k : ℕ) (f : Forest) (rs : List Seen) (b : List Stmt × ℕ) → rs ≡ seen_trees f
+    → stmts_of m k rs ≡ Some b → BodyFits m k f b
 body_found m k f rs b is h = body_next m k f rs b (claims f (all_good f)) is h

@@ -18,14 +18,19 @@ abbrev One : Tree → Type 0
 One t = seen_trees (tree_view t) ≡ seen_tree t ∷ []
 
 -- Trees, each with its proof.
-rows : (ts : List ((t : Tree) × One t)) → seen_trees (forest_concat (map tree_view (map (λ e. e.0) ts))) ≡ map seen_tree (map (λ e. e.0) ts)
+rows : (ts : List ((t : Tree) × One t))
+    → seen_trees (forest_concat (map tree_view (map (λ e. e.0) ts))) ≡ map seen_tree (map (λ e. e.0) ts)
 rows [] = refl
-rows (e ∷ ts) = seen-behind (tree_view e.0) _ ∙ ap (λ l. l ++ seen_trees (forest_concat (map tree_view (map (λ e. e.0) ts)))) e.1 ∙ ap (λ l. seen_tree e.0 ∷ l) (rows ts)
+rows (e ∷ ts) = seen-behind (tree_view e.0) _
+    ∙ ap (λ l. l ++ seen_trees (forest_concat (map tree_view (map (λ e. e.0) ts)))) e.1
+    ∙ ap (λ l. seen_tree e.0 ∷ l) (rows ts)
 
 abbrev Proved : Type 0
 Proved = (t : Tree) × One t
 
-layer : (y : Tree-F Proved) → seen_trees (view_step (map-Tree Tree Forest tree_view (map-Tree Proved Tree (λ e. e.0) y))) ≡ seen_step (map-Tree Tree Seen seen_tree (map-Tree Proved Tree (λ e. e.0) y)) ∷ []
+layer : (y : Tree-F Proved) → seen_trees (view_step (map-Tree Tree Forest tree_view
+    (map-Tree Proved Tree (λ e. e.0) y)))
+    ≡ seen_step (map-Tree Tree Seen seen_tree (map-Tree Proved Tree (λ e. e.0) y)) ∷ []
 layer (Tree-F.Atom at name) = refl
 layer (Tree-F.Text at codes) = refl
 layer (Tree-F.List at trees) = ap (λ l. form at (roles at l) ∷ []) (rows trees.items)
@@ -33,9 +38,11 @@ layer (Tree-F.List at trees) = ap (λ l. form at (roles at l) ∷ []) (rows tree
 one : (t : Tree) → One t
 one = ind-Tree One (λ x y is.
     ap seen_trees (fold-roll-Tree Forest view_step x)
-    ∙ subst (λ (z : Tree-F Tree). seen_trees (view_step (map-Tree Tree Forest tree_view z)) ≡ seen_step (map-Tree Tree Seen seen_tree z) ∷ []) is (layer y)
+    ∙ subst (λ (z : Tree-F Tree). seen_trees (view_step (map-Tree Tree Forest tree_view z))
+    ≡ seen_step (map-Tree Tree Seen seen_tree z) ∷ []) is (layer y)
     ∙ ap (λ s. s ∷ []) (sym (fold-roll-Tree Seen seen_step x)))
 
 pub seen_is : (ts : List Tree) → seen_trees (forest_view ts) ≡ seen_all ts
 seen_is [] = refl
-seen_is (t ∷ ts) = seen-behind (tree_view t) (forest_view ts) ∙ ap (λ l. l ++ seen_trees (forest_view ts)) (one t) ∙ ap (λ l. seen_tree t ∷ l) (seen_is ts)
+seen_is (t ∷ ts) = seen-behind (tree_view t) (forest_view ts) ∙ ap (λ l. l ++ seen_trees (forest_view ts)) (one t)
+    ∙ ap (λ l. seen_tree t ∷ l) (seen_is ts)

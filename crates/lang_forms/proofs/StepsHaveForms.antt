@@ -34,14 +34,17 @@ snapshot_found i s h = elim (choose_some (word_of (codes "global") (seen_trees i
   | inl x ↦
       let w = word_found (codes "global") i x.0 x.1 in
       let same : (Global, x.0) ≡ s = inject x.2 in
-      subst (λ (y : SnapshotRef × List Seen). SnapshotFits i y) same (record { rest = w.rest; behind = w.behind; fit = λ g r. (w.at, w.rest, w.is, tt, r); good = refl })
+      subst (λ (y : SnapshotRef × List Seen). SnapshotFits i y) same
+      (record { rest = w.rest; behind = w.behind; fit = λ g r. (w.at, w.rest, w.is, tt, r); good = refl })
   | inr x ↦
       let n = map_some (name_of (seen_trees i)) (λ (n : Ident × List Seen). (NamedSnapshot n.0, n.1)) s x.1 in
       let y = name_next i (seen_trees i) n.0 refl n.1 in
-      subst (λ (y : SnapshotRef × List Seen). SnapshotFits i y) n.2 (record { rest = y.rest; behind = y.behind; fit = λ g r. (n.0.0.at, y.rest, y.is, refl, r); good = y.good })
+      subst (λ (y : SnapshotRef × List Seen). SnapshotFits i y) n.2
+      (record { rest = y.rest; behind = y.behind; fit = λ g r. (n.0.0.at, y.rest, y.is, refl, r); good = y.good })
 ]
 
-snapshot_next : (i : Forest) (rs : List Seen) (s : SnapshotRef × List Seen) → rs ≡ seen_trees i → snapshot_of rs ≡ Some s → SnapshotFits i s
+snapshot_next : (i : Forest) (rs : List Seen) (s : SnapshotRef × List Seen) → rs ≡ seen_trees i
+    → snapshot_of rs ≡ Some s → SnapshotFits i s
 snapshot_next i rs s is h = snapshot_found i s (ap snapshot_of (sym is) ∙ h)
 
 -- A first tree that is a snapshot, the name after it, and the trees after both.
@@ -52,7 +55,8 @@ record InSnapshot (i : Forest) (x : (SnapshotRef × Ident) × List Seen) : Type 
   good : is_snapshot x.0.0 ≡ true
   named : is_name x.0.1.text ≡ true
 
-in_snapshot : (i : Forest) (rs : List Seen) (x : (SnapshotRef × Ident) × List Seen) → rs ≡ seen_trees i → state_in_snapshot rs ≡ Some x → InSnapshot i x
+in_snapshot : (i : Forest) (rs : List Seen) (x : (SnapshotRef × Ident) × List Seen) → rs ≡ seen_trees i
+    → state_in_snapshot rs ≡ Some x → InSnapshot i x
 unfolding state_in_snapshot
 in_snapshot i rs x is h =
     let s = bind_some (snapshot_of rs) _ x h in
@@ -61,7 +65,13 @@ in_snapshot i rs x is h =
     let z = name_next y.rest s.0.1 n.0 y.behind n.1 in
     let same : ((s.0.0, n.0.0), n.0.1) ≡ x = inject n.2 in
     subst (λ (p : (SnapshotRef × Ident) × List Seen). InSnapshot i p) same
-    (record { rest = z.rest; behind = z.behind; fit = λ g r. y.fit (name n.0.0 g) (n.0.0.at, z.rest, z.is, refl, r); good = y.good; named = z.good })
+    (record {
+      rest = z.rest;
+      behind = z.behind;
+      fit = λ g r. y.fit (name n.0.0 g) (n.0.0.at, z.rest, z.is, refl, r);
+      good = y.good;
+      named = z.good;
+    })
 
 -- Steps without inner steps.
 
@@ -82,7 +92,15 @@ take_found m at i c ss w h =
     let d = cond_some (is_end s.0.1) made c s.2 in
     let over = end_next z.rest s.0.1 z.behind d.0 in
     subst (λ (q : CallForm). CallFits m at i q) d.1 (record {
-      fits = λ f g rest. (at, i, f, refl, refl, (w.at, w.rest, w.is, tt, (n.0.0.at, x.rest, x.is, refl, (y.at, y.rest, y.is, tt, z.fit nothing over))), rest);
+      fits = λ f g rest. (
+        at,
+        i,
+        f,
+        refl,
+        refl,
+        (w.at, w.rest, w.is, tt, (n.0.0.at, x.rest, x.is, refl, (y.at, y.rest, y.is, tt, z.fit nothing over))),
+        rest,
+      );
       spelled = (x.good, z.good);
     })
 
@@ -134,7 +152,8 @@ record OnlySnapshot (i : Forest) (s : SnapshotRef) : Type 0 where
   fits : Fits i (snapshot_forms s nothing)
   good : is_snapshot s ≡ true
 
-only_found : (i : Forest) (ss : List Seen) (s : SnapshotRef) → ss ≡ seen_trees i → only_snapshot ss ≡ Some s → OnlySnapshot i s
+only_found : (i : Forest) (ss : List Seen) (s : SnapshotRef) → ss ≡ seen_trees i → only_snapshot ss ≡ Some s
+    → OnlySnapshot i s
 unfolding only_snapshot
 only_found i ss s is h =
     let x = bind_some (snapshot_of ss) _ s h in
@@ -147,15 +166,18 @@ apply_found : (m : List (List ℕ)) (at : ℕ) (i : Forest) (c : CallForm) (ss :
 apply_found m at i c ss w h =
     let s = map_some (only_snapshot ss) (call.Apply at) c h in
     let y = only_found w.rest ss s.0 w.behind s.1 in
-    subst (λ (q : CallForm). CallFits m at i q) s.2 (record { fits = λ f g rest. (at, i, f, refl, refl, (w.at, w.rest, w.is, tt, y.fits), rest); spelled = y.good })
+    subst (λ (q : CallForm). CallFits m at i q) s.2
+    (record { fits = λ f g rest. (at, i, f, refl, refl, (w.at, w.rest, w.is, tt, y.fits), rest); spelled = y.good })
 
 dispose_found : (m : List (List ℕ)) (at : ℕ) (i : Forest) (c : CallForm) (ss : List Seen) → Worded i (codes "dispose") ss → option_map (call.Dispose at) (only_snapshot ss) ≡ Some c → CallFits m at i c
 dispose_found m at i c ss w h =
     let s = map_some (only_snapshot ss) (call.Dispose at) c h in
     let y = only_found w.rest ss s.0 w.behind s.1 in
-    subst (λ (q : CallForm). CallFits m at i q) s.2 (record { fits = λ f g rest. (at, i, f, refl, refl, (w.at, w.rest, w.is, tt, y.fits), rest); spelled = y.good })
+    subst (λ (q : CallForm). CallFits m at i q) s.2
+    (record { fits = λ f g rest. (at, i, f, refl, refl, (w.at, w.rest, w.is, tt, y.fits), rest); spelled = y.good })
 
-call_found : (m : List (List ℕ)) (at : ℕ) (i : Forest) (c : CallForm) → plain_step_form m at (seen_trees i) ≡ Some c → CallFits m at i c
+call_found : (m : List (List ℕ)) (at : ℕ) (i : Forest) (c : CallForm) → plain_step_form m at (seen_trees i) ≡ Some c
+    → CallFits m at i c
 unfolding plain_step_form
 call_found m at i c h =
     let C = CallFits m at i c in
@@ -167,7 +189,8 @@ call_found m at i c h =
     either C (word_of (codes "dispose") (seen_trees i)) (λ r. option_map (call.Dispose at) (only_snapshot r)) None c h5 (λ ss w x. dispose_found m at i c ss (word_found (codes "dispose") i ss w) x) (λ h6.
     absurd (cc (h6))))))))
 
-calls_found : (m : List (List ℕ)) (f : Forest) (cs : List CallForm) → plain_steps_of m (seen_trees f) ≡ Some cs → Fits f (calls_forms cs) × SpelledCalls m cs
+calls_found : (m : List (List ℕ)) (f : Forest) (cs : List CallForm) → plain_steps_of m (seen_trees f) ≡ Some cs
+    → Fits f (calls_forms cs) × SpelledCalls m cs
 unfolding plain_steps_of
 calls_found m empty cs h = rw (← inject h) (refl, tt)
 calls_found m (atom at a f) cs h = absurd (cc)
@@ -177,7 +200,8 @@ calls_found m (list at i f) cs h =
     let rest = map_some (plain_steps_of m (seen_trees f)) (λ (l : List CallForm). c.0 ∷ l) cs c.2 in
     let all = calls_found m f rest.0 rest.1 in
     let one = call_found m at i c.0 c.1 in
-    subst (λ (l : List CallForm). Fits (list at i f) (calls_forms l) × SpelledCalls m l) rest.2 (one.fits f (calls_forms rest.0) all.0, (one.spelled, all.1))
+    subst (λ (l : List CallForm). Fits (list at i f) (calls_forms l) × SpelledCalls m l) rest.2
+    (one.fits f (calls_forms rest.0) all.0, (one.spelled, all.1))
 
 -- Frames.
 
@@ -196,7 +220,8 @@ record DuringFirst (m : List (List ℕ)) (f : Forest) (d : List CallForm × List
   fits : Fits inner (calls_forms d.0)
   spelled : SpelledCalls m d.0
 
-during_found : (m : List (List ℕ)) (f : Forest) (d : List CallForm × List Seen) → during_of m (seen_trees f) ≡ Some d → DuringFirst m f d
+during_found : (m : List (List ℕ)) (f : Forest) (d : List CallForm × List Seen) → during_of m (seen_trees f) ≡ Some d
+    → DuringFirst m f d
 unfolding during_form
 during_found m empty d h = absurd (cc)
 during_found m (atom at a f) d h = absurd (cc)
@@ -207,16 +232,28 @@ during_found m (list at i f) d h =
     let y = word_found (codes "during") i w.0 w.1 in
     let all = calls_found m y.rest x.0 (ap (plain_steps_of m) (sym y.behind) ∙ w.2) in
     subst (λ (p : List CallForm × List Seen). DuringFirst m (list at i f) p) x.2
-    (record { at = at; word = y.at; inner = y.rest; rest = f; is = ap (λ (j : Forest). list at j f) y.is; behind = refl; fits = all.0; spelled = all.1 })
+    (record {
+      at = at;
+      word = y.at;
+      inner = y.rest;
+      rest = f;
+      is = ap (λ (j : Forest). list at j f) y.is;
+      behind = refl;
+      fits = all.0;
+      spelled = all.1;
+    })
 
 frame_found : (m : List (List ℕ)) (at : ℕ) (i : Forest) (t : StepForm) (ss : List Seen) → Worded i (codes "frame") ss → frame_form m at ss ≡ Some t → StepFits m at i t
 unfolding frame_form
 frame_found m at i t ss w h = by (is_end ss) refl h
   where
-    by : (b : Bool) → is_end ss ≡ b → cond b (Some (step.Frame at)) (during_of m ss >>= λ d. when (is_end d.1) (step.FrameDuring at d.0)) ≡ Some t → StepFits m at i t
+    by : (b : Bool) → is_end ss ≡ b
+        → cond b (Some (step.Frame at)) (during_of m ss >>= λ d. when (is_end d.1) (step.FrameDuring at d.0)) ≡ Some t
+        → StepFits m at i t
     by true e k =
         let over = end_next w.rest ss w.behind e in
-        subst (λ (q : StepForm). StepFits m at i q) (inject k) (record { fits = λ f g rest. (at, i, f, refl, refl, (w.at, w.rest, w.is, tt, over), rest); spelled = tt })
+        subst (λ (q : StepForm). StepFits m at i q) (inject k)
+        (record { fits = λ f g rest. (at, i, f, refl, refl, (w.at, w.rest, w.is, tt, over), rest); spelled = tt })
     by false e k =
         let d = bind_some (during_of m ss) _ t k in
         let x = during_found m w.rest d.0 (ap (during_of m) (sym w.behind) ∙ d.1) in
@@ -228,7 +265,8 @@ frame_found m at i t ss w h = by (is_end ss) refl h
           spelled = x.spelled;
         })
 
-step_found : (m : List (List ℕ)) (at : ℕ) (i : Forest) (t : StepForm) → step_form m at (seen_trees i) ≡ Some t → StepFits m at i t
+step_found : (m : List (List ℕ)) (at : ℕ) (i : Forest) (t : StepForm) → step_form m at (seen_trees i) ≡ Some t
+    → StepFits m at i t
 unfolding step_form
 step_found m at i t h =
     either (StepFits m at i t) (word_of (codes "frame") (seen_trees i)) (frame_form m at) _ t h (λ ss w x. frame_found m at i t ss (word_found (codes "frame") i ss w) x) (λ h1.
@@ -236,7 +274,8 @@ step_found m at i t h =
     let one = call_found m at i c.0 c.1 in
     subst (λ (q : StepForm). StepFits m at i q) c.2 (record { fits = one.fits; spelled = one.spelled }))
 
-steps_found : (m : List (List ℕ)) (f : Forest) (ts : List StepForm) → steps_of m (seen_trees f) ≡ Some ts → Fits f (steps_forms ts) × SpelledSteps m ts
+steps_found : (m : List (List ℕ)) (f : Forest) (ts : List StepForm) → steps_of m (seen_trees f) ≡ Some ts
+    → Fits f (steps_forms ts) × SpelledSteps m ts
 unfolding steps_of
 steps_found m empty ts h = rw (← inject h) (refl, tt)
 steps_found m (atom at a f) ts h = absurd (cc)
@@ -246,7 +285,8 @@ steps_found m (list at i f) ts h =
     let rest = map_some (steps_of m (seen_trees f)) (λ (l : List StepForm). t.0 ∷ l) ts t.2 in
     let all = steps_found m f rest.0 rest.1 in
     let one = step_found m at i t.0 t.1 in
-    subst (λ (l : List StepForm). Fits (list at i f) (steps_forms l) × SpelledSteps m l) rest.2 (one.fits f (steps_forms rest.0) all.0, (one.spelled, all.1))
+    subst (λ (l : List StepForm). Fits (list at i f) (steps_forms l) × SpelledSteps m l) rest.2
+    (one.fits f (steps_forms rest.0) all.0, (one.spelled, all.1))
 
 -- Repeats, and the steps of an actor.
 
@@ -262,9 +302,21 @@ repeat_found m at i t ss w h =
     let ts = bind_some (steps_of m z.0.1) _ t z.2 in
     let all = steps_found m x.rest ts.0 (ap (steps_of m) (sym x.behind) ∙ ts.1) in
     subst (λ (q : ScriptForm). ScriptFits m at i q) (inject ts.2)
-    (record { fits = λ f g rest. (at, i, f, refl, refl, (w.at, w.rest, w.is, tt, (x.at, x.rest, x.is, tt, all.0)), rest); spelled = (x.good, all.1) })
+    (record {
+      fits = λ f g rest. (
+        at,
+        i,
+        f,
+        refl,
+        refl,
+        (w.at, w.rest, w.is, tt, (x.at, x.rest, x.is, tt, all.0)),
+        rest,
+      );
+      spelled = (x.good, all.1);
+    })
 
-script_found : (m : List (List ℕ)) (at : ℕ) (i : Forest) (t : ScriptForm) → actor_step_form m at (seen_trees i) ≡ Some t → ScriptFits m at i t
+script_found : (m : List (List ℕ)) (at : ℕ) (i : Forest) (t : ScriptForm) → actor_step_form m at (seen_trees i) ≡ Some t
+    → ScriptFits m at i t
 unfolding actor_step_form
 script_found m at i t h =
     either (ScriptFits m at i t) (word_of (codes "repeat") (seen_trees i)) (repeat_form m at) _ t h (λ ss w x. repeat_found m at i t ss (word_found (codes "repeat") i ss w) x) (λ h1.
@@ -273,7 +325,8 @@ script_found m at i t h =
     subst (λ (q : ScriptForm). ScriptFits m at i q) s.2 (record { fits = one.fits; spelled = one.spelled }))
 
 -- Trees that are parsed as the steps of an actor have their forms.
-pub actor_found : (m : List (List ℕ)) (f : Forest) (ts : List ScriptForm) → actor_steps_of m (seen_trees f) ≡ Some ts → Fits f (actor_forms ts) × SpelledActor m ts
+pub actor_found : (m : List (List ℕ)) (f : Forest) (ts : List ScriptForm) → actor_steps_of m (seen_trees f) ≡ Some ts
+    → Fits f (actor_forms ts) × SpelledActor m ts
 unfolding actor_steps_of
 actor_found m empty ts h = rw (← inject h) (refl, tt)
 actor_found m (atom at a f) ts h = absurd (cc)
@@ -283,4 +336,5 @@ actor_found m (list at i f) ts h =
     let rest = map_some (actor_steps_of m (seen_trees f)) (λ (l : List ScriptForm). t.0 ∷ l) ts t.2 in
     let all = actor_found m f rest.0 rest.1 in
     let one = script_found m at i t.0 t.1 in
-    subst (λ (l : List ScriptForm). Fits (list at i f) (actor_forms l) × SpelledActor m l) rest.2 (one.fits f (actor_forms rest.0) all.0, (one.spelled, all.1))
+    subst (λ (l : List ScriptForm). Fits (list at i f) (actor_forms l) × SpelledActor m l) rest.2
+    (one.fits f (actor_forms rest.0) all.0, (one.spelled, all.1))

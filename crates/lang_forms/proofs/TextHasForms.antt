@@ -23,7 +23,8 @@ use Rattle.lang_forms.proofs.StepsHaveForms.{actor_found}
 
 -- NAME TYPE
 record ParameterFits (i : Forest) (p : Parameter) : Type 0 where
-  fits : (at : ℕ) (f : Forest) (ps : List Parameter) → Fits f (parameters_forms ps) → Fits (list at i f) (parameters_forms (p ∷ ps))
+  fits : (at : ℕ) (f : Forest) (ps : List Parameter) → Fits f (parameters_forms ps)
+      → Fits (list at i f) (parameters_forms (p ∷ ps))
   good : is_name p.name.text ≡ true
 
 parameter_found : (i : Forest) (p : Parameter) → parameter_form (seen_trees i) ≡ Some p → ParameterFits i p
@@ -37,9 +38,21 @@ parameter_found i p h =
     let c = cond_some (is_end t.0.1) made p t.2 in
     let over = end_next y.rest t.0.1 y.behind c.0 in
     subst (λ (q : Parameter). ParameterFits i q) c.1
-    (record { fits = λ at f ps rest. (at, i, f, refl, tt, (n.0.0.at, x.rest, x.is, refl, (y.at, y.rest, y.is, tt, over)), rest); good = x.good })
+    (record {
+      fits = λ at f ps rest. (
+        at,
+        i,
+        f,
+        refl,
+        tt,
+        (n.0.0.at, x.rest, x.is, refl, (y.at, y.rest, y.is, tt, over)),
+        rest,
+      );
+      good = x.good;
+    })
 
-parameters_found : (f : Forest) (ps : List Parameter) → parameters_form (seen_trees f) ≡ Some ps → Fits f (parameters_forms ps) × SpelledParameters ps
+parameters_found : (f : Forest) (ps : List Parameter) → parameters_form (seen_trees f) ≡ Some ps
+    → Fits f (parameters_forms ps) × SpelledParameters ps
 unfolding parameters_form
 parameters_found empty ps h = rw (← inject h) (refl, tt)
 parameters_found (atom at a f) ps h = absurd (cc)
@@ -49,7 +62,8 @@ parameters_found (list at i f) ps h =
     let rest = map_some (parameters_form (seen_trees f)) (λ (l : List Parameter). p.0 ∷ l) ps p.2 in
     let all = parameters_found f rest.0 rest.1 in
     let one = parameter_found i p.0 p.1 in
-    subst (λ (l : List Parameter). Fits (list at i f) (parameters_forms l) × SpelledParameters l) rest.2 (one.fits at f rest.0 all.0, (one.good, all.1))
+    subst (λ (l : List Parameter). Fits (list at i f) (parameters_forms l) × SpelledParameters l) rest.2
+    (one.fits at f rest.0 all.0, (one.good, all.1))
 
 -- A first tree that is a list of parameters.
 record ParametersFirst (f : Forest) (ps : List Parameter × List Seen) : Type 0 where
@@ -61,7 +75,8 @@ record ParametersFirst (f : Forest) (ps : List Parameter × List Seen) : Type 0 
   fits : Fits inner (parameters_forms ps.0)
   spelled : SpelledParameters ps.0
 
-parameters_first : (f : Forest) (ps : List Parameter × List Seen) → parameters_of (seen_trees f) ≡ Some ps → ParametersFirst f ps
+parameters_first : (f : Forest) (ps : List Parameter × List Seen) → parameters_of (seen_trees f) ≡ Some ps
+    → ParametersFirst f ps
 parameters_first empty ps h = absurd (cc)
 parameters_first (atom at a f) ps h = absurd (cc)
 parameters_first (text at s f) ps h = absurd (cc)
@@ -75,10 +90,13 @@ parameters_first (list at i f) ps h =
 
 -- The forms of a state, a function and a script, with the number of the next statement.
 abbrev TopFits : KnownNames → ℕ → ℕ → Forest → Top → ℕ → Type 0
-TopFits m k at i (StateTop s) x = ((f : Forest) (g : Sketch) → Fits f g → Fits (list at i f) (state_forms s g)) × (is_name s.name.text ≡ true) × (literal_fits s.initial ≡ true) × (x ≡ k)
+TopFits m k at i (StateTop s) x = ((f : Forest) (g : Sketch) → Fits f g → Fits (list at i f) (state_forms s g))
+    × (is_name s.name.text ≡ true) × (literal_fits s.initial ≡ true) × (x ≡ k)
 TopFits m k at i (FunctionTop c) x =
-    ((f : Forest) (g : Sketch) → Fits f g → Fits (list at i f) (function_forms c g)) × (is_name c.name.text ≡ true) × SpelledParameters c.parameters × SpelledStmts m k c.body × (x ≡ site_after_all k c.body)
-TopFits m k at i (DoTop d) x = ((f : Forest) (g : Sketch) → Fits f g → Fits (list at i f) (do_forms d g)) × (is_name d.actor.text ≡ true) × SpelledActor m.states d.steps × (x ≡ k)
+    ((f : Forest) (g : Sketch) → Fits f g → Fits (list at i f) (function_forms c g)) × (is_name c.name.text ≡ true)
+    × SpelledParameters c.parameters × SpelledStmts m k c.body × (x ≡ site_after_all k c.body)
+TopFits m k at i (DoTop d) x = ((f : Forest) (g : Sketch) → Fits f g → Fits (list at i f) (do_forms d g))
+    × (is_name d.actor.text ≡ true) × SpelledActor m.states d.steps × (x ≡ k)
 
 abbrev Topped : KnownNames → ℕ → ℕ → Forest → Top × ℕ → Type 0
 Topped m k at i t = TopFits m k at i t.0 t.1
@@ -97,8 +115,32 @@ state_found m k at i s ss w h =
     let made : State = record { at = at; name = n.0.0; ty = t.0.0; policy = o.0.0; initial = v.0.0 } in
     let c = cond_some (is_end v.0.1) made s v.2 in
     let over = end_next (tail p.rest) v.0.1 z.behind c.0 in
-    subst (λ (q : State). TopFits m k at i (StateTop q) k) c.1
-    ((λ f g rest. (at, i, f, refl, refl, (w.at, w.rest, w.is, tt, (n.0.0.at, x.rest, x.is, refl, (y.at, y.rest, y.is, tt, (p.at, p.rest, p.is, tt, z.fit nothing over)))), rest)), x.good, z.whole, refl)
+    subst (λ (q : State). TopFits m k at i (StateTop q) k) c.1 (
+      (λ f g rest. (
+        at,
+        i,
+        f,
+        refl,
+        refl,
+        (
+          w.at,
+          w.rest,
+          w.is,
+          tt,
+          (
+            n.0.0.at,
+            x.rest,
+            x.is,
+            refl,
+            (y.at, y.rest, y.is, tt, (p.at, p.rest, p.is, tt, z.fit nothing over)),
+          ),
+        ),
+        rest,
+      )),
+      x.good,
+      z.whole,
+      refl,
+    )
 
 function_found : (m : KnownNames) (k at : ℕ) (i : Forest) (c : Func × ℕ) (ss : List Seen) → Worded i (codes "fun") ss → function_form m k at ss ≡ Some c → TopFits m k at i (FunctionTop c.0) c.1
 unfolding function_form
@@ -109,8 +151,21 @@ function_found m k at i c ss w h =
     let l = parameters_first x.rest ps.0 (ap parameters_of (sym x.behind) ∙ ps.1) in
     let b = bind_some (stmts_of m k ps.0.1) _ c ps.2 in
     let body = body_found m k l.rest ps.0.1 b.0 l.behind b.1 in
-    subst (λ (q : Func × ℕ). TopFits m k at i (FunctionTop q.0) q.1) (inject b.2)
-    ((λ f g rest. (at, i, f, refl, refl, (w.at, w.rest, w.is, tt, (n.0.0.at, x.rest, x.is, refl, (l.at, l.inner, l.rest, l.is, tt, l.fits, body.fits))), rest)), x.good, l.spelled, body.spelled, body.next)
+    subst (λ (q : Func × ℕ). TopFits m k at i (FunctionTop q.0) q.1) (inject b.2) (
+      (λ f g rest. (
+        at,
+        i,
+        f,
+        refl,
+        refl,
+        (w.at, w.rest, w.is, tt, (n.0.0.at, x.rest, x.is, refl, (l.at, l.inner, l.rest, l.is, tt, l.fits, body.fits))),
+        rest,
+      )),
+      x.good,
+      l.spelled,
+      body.spelled,
+      body.next,
+    )
 
 do_found : (m : KnownNames) (k at : ℕ) (i : Forest) (d : DoForm) (ss : List Seen) → Worded i (codes "do") ss → do_form m.states at ss ≡ Some d → TopFits m k at i (DoTop d) k
 unfolding do_form
@@ -119,10 +174,15 @@ do_found m k at i d ss w h =
     let x = name_next w.rest ss n.0 w.behind n.1 in
     let ts = bind_some (actor_steps_of m.states n.0.1) _ d n.2 in
     let all = actor_found m.states x.rest ts.0 (ap (actor_steps_of m.states) (sym x.behind) ∙ ts.1) in
-    subst (λ (q : DoForm). TopFits m k at i (DoTop q) k) (inject ts.2)
-    ((λ f g rest. (at, i, f, refl, refl, (w.at, w.rest, w.is, tt, (n.0.0.at, x.rest, x.is, refl, all.0)), rest)), x.good, all.1, refl)
+    subst (λ (q : DoForm). TopFits m k at i (DoTop q) k) (inject ts.2) (
+      (λ f g rest. (at, i, f, refl, refl, (w.at, w.rest, w.is, tt, (n.0.0.at, x.rest, x.is, refl, all.0)), rest)),
+      x.good,
+      all.1,
+      refl,
+    )
 
-top_found : (m : KnownNames) (k at : ℕ) (i : Forest) (t : Top × ℕ) → top_form m k at (seen_trees i) ≡ Some t → Topped m k at i t
+top_found : (m : KnownNames) (k at : ℕ) (i : Forest) (t : Top × ℕ) → top_form m k at (seen_trees i) ≡ Some t
+    → Topped m k at i t
 unfolding top_form
 top_found m k at i t h =
     let C = Topped m k at i t in
@@ -147,7 +207,10 @@ record Leads (f : Forest) (p q : PartialSource) : Type 0 where
   all_script : p.script ++ script ≡ q.script
   fits : Fits f (top_forms states functions script)
   good_states : SpelledStates states
-  good_functions : SpelledFunctions (record { states = map state_name q.states; functions = map function_name p.functions }) p.site functions
+  good_functions : SpelledFunctions (record {
+    states = map state_name q.states;
+    functions = map function_name p.functions;
+  }) p.site functions
   good_script : SpelledScripts (map state_name q.states) script
   no_states : is_none p.functions && is_none p.script ≡ false → states ≡ []
   no_functions : is_none p.script ≡ false → functions ≡ []
@@ -181,9 +244,17 @@ no_more b c x y h = true≢false (sym (and_true b c x y) ∙ h)
     and_true false c x y = absurd (cc)
 
 -- A state, and the trees after it.
-state_leads : (at : ℕ) (i f : Forest) (p q r : PartialSource) (s : State) (k : ℕ) → TopFits (known p) p.site at i (StateTop s) k → source_with_form p (StateTop s) k ≡ Some r → Leads f r q → Leads (list at i f) p q
+state_leads : (at : ℕ) (i f : Forest) (p q r : PartialSource) (s : State) (k : ℕ)
+    → TopFits (known p) p.site at i (StateTop s) k → source_with_form p (StateTop s) k ≡ Some r → Leads f r q
+    → Leads (list at i f) p q
 state_leads at i f p q r s k top put more =
-    let made : PartialSource = record { header = p.header; states = p.states ++ s ∷ []; functions = p.functions; script = p.script; site = k } in
+    let made : PartialSource = record {
+      header = p.header;
+      states = p.states ++ s ∷ [];
+      functions = p.functions;
+      script = p.script;
+      site = k;
+    } in
     let c = cond_some (is_none p.functions && is_none p.script) made r put in
     let early = and_parts (is_none p.functions) (is_none p.script) c.0 in
     let rest : Leads f made q = subst (λ (x : PartialSource). Leads f x q) (sym c.1) more in
@@ -197,25 +268,47 @@ state_leads at i f p q r s k top put more =
       all_script = rest.all_script;
       fits = top.0 f (top_forms rest.states rest.functions rest.script) rest.fits;
       good_states = (top.1, top.2, rest.good_states);
-      good_functions = subst (λ (j : ℕ). SpelledFunctions (record { states = map state_name q.states; functions = map function_name p.functions }) j rest.functions) top.3 rest.good_functions;
+      good_functions =
+          subst (λ (j : ℕ). SpelledFunctions (record {
+            states = map state_name q.states;
+            functions = map function_name p.functions;
+          }) j rest.functions) top.3 rest.good_functions;
       good_script = rest.good_script;
       no_states = λ h. absurd (no_more (is_none p.functions) (is_none p.script) early.0 early.1 h);
       no_functions = rest.no_functions;
     }
 
 -- A function, and the trees after it.
-function_leads : (at : ℕ) (i f : Forest) (p q r : PartialSource) (c : Func) (k : ℕ) → TopFits (known p) p.site at i (FunctionTop c) k → source_with_form p (FunctionTop c) k ≡ Some r → Leads f r q → Leads (list at i f) p q
+function_leads : (at : ℕ) (i f : Forest) (p q r : PartialSource) (c : Func) (k : ℕ)
+    → TopFits (known p) p.site at i (FunctionTop c) k → source_with_form p (FunctionTop c) k ≡ Some r → Leads f r q
+    → Leads (list at i f) p q
 function_leads at i f p q r c k top put more =
-    let made : PartialSource = record { header = p.header; states = p.states; functions = p.functions ++ c ∷ []; script = p.script; site = k } in
+    let made : PartialSource = record {
+      header = p.header;
+      states = p.states;
+      functions = p.functions ++ c ∷ [];
+      script = p.script;
+      site = k;
+    } in
     let t = cond_some (is_none p.script) made r put in
     let rest : Leads f made q = subst (λ (x : PartialSource). Leads f x q) (sym t.1) more in
-    let alone : rest.states ≡ [] = rest.no_states (ap (λ (b : Bool). b && is_none p.script) (some_there p.functions c)) in
-    let same_states : p.states ≡ q.states = sym (append-nil p.states) ∙ ap (λ (l : List State). p.states ++ l) (sym alone) ∙ rest.all_states in
+    let alone : rest.states ≡ [] =
+    rest.no_states (ap (λ (b : Bool). b && is_none p.script) (some_there p.functions c)) in
+    let same_states : p.states ≡ q.states = sym (append-nil p.states)
+    ∙ ap (λ (l : List State). p.states ++ l) (sym alone) ∙ rest.all_states in
     let m : KnownNames = record { states = map state_name q.states; functions = map function_name p.functions } in
-    let body : SpelledStmts m p.site c.body = subst (λ (l : List State). SpelledStmts (record { states = map state_name l; functions = map function_name p.functions }) p.site c.body) same_states top.3 in
+    let body : SpelledStmts m p.site c.body =
+    subst (λ (l : List State). SpelledStmts (record {
+      states = map state_name l;
+      functions = map function_name p.functions;
+    }) p.site c.body) same_states top.3 in
     let behind : SpelledFunctions (record { states = map state_name q.states; functions = map function_name p.functions ++ function_name c ∷ [] }) (site_after_all p.site c.body) rest.functions =
-    subst (λ (j : ℕ). SpelledFunctions (record { states = map state_name q.states; functions = map function_name p.functions ++ function_name c ∷ [] }) j rest.functions) top.4
-    (subst (λ (ns : List (List ℕ)). SpelledFunctions (record { states = map state_name q.states; functions = ns }) k rest.functions) (map-append function_name p.functions (c ∷ [])) rest.good_functions) in
+    subst (λ (j : ℕ). SpelledFunctions (record {
+      states = map state_name q.states;
+      functions = map function_name p.functions ++ function_name c ∷ [];
+    }) j rest.functions) top.4
+    (subst (λ (ns : List (List ℕ)). SpelledFunctions (record { states = map state_name q.states; functions = ns }) k
+    rest.functions) (map-append function_name p.functions (c ∷ [])) rest.good_functions) in
     record {
       states = [];
       functions = c ∷ rest.functions;
@@ -224,7 +317,8 @@ function_leads at i f p q r c k top put more =
       all_states = append-nil p.states ∙ same_states;
       all_functions = sym (append_assoc p.functions (c ∷ []) rest.functions) ∙ rest.all_functions;
       all_script = rest.all_script;
-      fits = top.0 f (top_forms [] rest.functions rest.script) (subst (λ (l : List State). Fits f (top_forms l rest.functions rest.script)) alone rest.fits);
+      fits = top.0 f (top_forms [] rest.functions rest.script)
+          (subst (λ (l : List State). Fits f (top_forms l rest.functions rest.script)) alone rest.fits);
       good_states = tt;
       good_functions = (top.1, top.2, body, behind);
       good_script = rest.good_script;
@@ -233,17 +327,28 @@ function_leads at i f p q r c k top put more =
     }
 
 -- A script, and the trees after it.
-do_leads : (at : ℕ) (i f : Forest) (p q r : PartialSource) (d : DoForm) (k : ℕ) → TopFits (known p) p.site at i (DoTop d) k → source_with_form p (DoTop d) k ≡ Some r → Leads f r q → Leads (list at i f) p q
+do_leads : (at : ℕ) (i f : Forest) (p q r : PartialSource) (d : DoForm) (k : ℕ)
+    → TopFits (known p) p.site at i (DoTop d) k → source_with_form p (DoTop d) k ≡ Some r → Leads f r q
+    → Leads (list at i f) p q
 do_leads at i f p q r d k top put more =
-    let made : PartialSource = record { header = p.header; states = p.states; functions = p.functions; script = p.script ++ d ∷ []; site = k } in
+    let made : PartialSource = record {
+      header = p.header;
+      states = p.states;
+      functions = p.functions;
+      script = p.script ++ d ∷ [];
+      site = k;
+    } in
     let rest : Leads f made q = subst (λ (x : PartialSource). Leads f x q) (sym (inject put)) more in
     let late : is_none (p.script ++ d ∷ []) ≡ false = some_there p.script d in
     let no_states : rest.states ≡ [] = rest.no_states (and_false (is_none p.functions) _ late) in
     let no_functions : rest.functions ≡ [] = rest.no_functions late in
-    let same_states : p.states ≡ q.states = sym (append-nil p.states) ∙ ap (λ (l : List State). p.states ++ l) (sym no_states) ∙ rest.all_states in
-    let same_functions : p.functions ≡ q.functions = sym (append-nil p.functions) ∙ ap (λ (l : List Func). p.functions ++ l) (sym no_functions) ∙ rest.all_functions in
+    let same_states : p.states ≡ q.states = sym (append-nil p.states)
+    ∙ ap (λ (l : List State). p.states ++ l) (sym no_states) ∙ rest.all_states in
+    let same_functions : p.functions ≡ q.functions = sym (append-nil p.functions)
+    ∙ ap (λ (l : List Func). p.functions ++ l) (sym no_functions) ∙ rest.all_functions in
     let fits : Fits f (top_forms [] [] rest.script) =
-    subst (λ (l : List Func). Fits f (top_forms [] l rest.script)) no_functions (subst (λ (l : List State). Fits f (top_forms l rest.functions rest.script)) no_states rest.fits) in
+    subst (λ (l : List Func). Fits f (top_forms [] l rest.script)) no_functions
+    (subst (λ (l : List State). Fits f (top_forms l rest.functions rest.script)) no_states rest.fits) in
     record {
       states = [];
       functions = [];
@@ -255,7 +360,11 @@ do_leads at i f p q r d k top put more =
       fits = top.0 f (top_forms [] [] rest.script) fits;
       good_states = tt;
       good_functions = tt;
-      good_script = (top.1, subst (λ (l : List State). SpelledActor (map state_name l) d.steps) same_states top.2, rest.good_script);
+      good_script = (
+        top.1,
+        subst (λ (l : List State). SpelledActor (map state_name l) d.steps) same_states top.2,
+        rest.good_script,
+      );
       no_states = λ h. refl;
       no_functions = λ h. refl;
     }
@@ -264,12 +373,14 @@ do_leads at i f p q r d k top put more =
     and_false true c h = h
     and_false false c h = refl
 
-top_leads : (at : ℕ) (i f : Forest) (p q r : PartialSource) (t : Top) (k : ℕ) → TopFits (known p) p.site at i t k → source_with_form p t k ≡ Some r → Leads f r q → Leads (list at i f) p q
+top_leads : (at : ℕ) (i f : Forest) (p q r : PartialSource) (t : Top) (k : ℕ) → TopFits (known p) p.site at i t k
+    → source_with_form p t k ≡ Some r → Leads f r q → Leads (list at i f) p q
 top_leads at i f p q r (StateTop s) k top put more = state_leads at i f p q r s k top put more
 top_leads at i f p q r (FunctionTop c) k top put more = function_leads at i f p q r c k top put more
 top_leads at i f p q r (DoTop d) k top put more = do_leads at i f p q r d k top put more
 
-followed_ok : (at : ℕ) (o : Option PartialSource) (go : PartialSource → Result PartialSource ℕ) (q : PartialSource) → source_with_rest at o go ≡ Ok q → (r : PartialSource) × (o ≡ Some r) × (go r ≡ Ok q)
+followed_ok : (at : ℕ) (o : Option PartialSource) (go : PartialSource → Result PartialSource ℕ) (q : PartialSource)
+    → source_with_rest at o go ≡ Ok q → (r : PartialSource) × (o ≡ Some r) × (go r ≡ Ok q)
 followed_ok at None go q h = absurd (cc)
 followed_ok at (Some r) go q h = (r, refl, h)
 
@@ -311,16 +422,23 @@ header_found i h = by (header_form (seen_trees i)) refl h
         let d = cond_some (is_end o.0) o.0 ss o.2 in
         record { at = w.at; rest = w.rest; is = w.is; one = v.at; one_is = v.is ∙ ap (atom v.at (codes "1")) (end_next v.rest o.0 v.behind d.0) }
 
-whole : (at : ℕ) (i f : Forest) (q : PartialSource) → Headed i → Leads f (start at) q → HasForms (list at i f) (source q)
+whole : (at : ℕ) (i f : Forest) (q : PartialSource) → Headed i → Leads f (start at) q
+    → HasForms (list at i f) (source q)
 whole at i f q head all =
-    let t : Source = record { program = record { header = at; states = all.states; functions = all.functions }; script = all.script } in
+    let t : Source = record {
+      program = record { header = at; states = all.states; functions = all.functions };
+      script = all.script;
+    } in
     let is : source q ≡ t = rw (all.header, ← all.all_states, ← all.all_functions, ← all.all_script) in
     subst (λ (s : Source). HasForms (list at i f) s) (sym is) (record {
-      fits = (at, i, f, refl, refl, (head.at, head.rest, head.is, tt, (head.one, empty, head.one_is, tt, refl)), all.fits);
+      fits =
+          (at, i, f, refl, refl, (head.at, head.rest, head.is, tt, (head.one, empty, head.one_is, tt, refl)), all.fits);
       spelled = record {
         states = all.good_states;
-        functions = subst (λ (l : List State). SpelledFunctions (record { states = map state_name l; functions = [] }) 1 all.functions) (sym all.all_states) all.good_functions;
-        script = subst (λ (l : List State). SpelledScripts (map state_name l) all.script) (sym all.all_states) all.good_script;
+        functions = subst (λ (l : List State). SpelledFunctions (record { states = map state_name l; functions = [] }) 1
+            all.functions) (sym all.all_states) all.good_functions;
+        script = subst (λ (l : List State). SpelledScripts (map state_name l) all.script) (sym all.all_states)
+            all.good_script;
       };
     })
 
@@ -331,7 +449,8 @@ text_found end (atom at a f) q h = absurd (cc)
 text_found end (text at s f) q h = absurd (cc)
 text_found end (list at i f) q h = by (is_there (header_form (seen_trees i))) refl h
   where
-    by : (b : Bool) → is_there (header_form (seen_trees i)) ≡ b → cond b (tops_of (start at) (seen_trees f)) (Err at) ≡ Ok q → HasForms (list at i f) (source q)
+    by : (b : Bool) → is_there (header_form (seen_trees i)) ≡ b
+        → cond b (tops_of (start at) (seen_trees f)) (Err at) ≡ Ok q → HasForms (list at i f) (source q)
     by true e k = whole at i f q (header_found i e) (tops_found f (start at) q k)
     by false e k = absurd (cc)
 

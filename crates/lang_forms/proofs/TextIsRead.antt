@@ -18,46 +18,63 @@ use Rattle.lang_forms.proofs.StepsAreRead.{actor_read}
 
 -- Parameters, states, functions and scripts.
 
-parameter_read : (p : Parameter) (b : ℕ) → is_name p.name.text ≡ true → parameter_form (seen_trees (atom p.name.at p.name.text (atom b (type_word p.ty) empty))) ≡ Some p
+parameter_read : (p : Parameter) (b : ℕ) → is_name p.name.text ≡ true
+    → parameter_form (seen_trees (atom p.name.at p.name.text (atom b (type_word p.ty) empty))) ≡ Some p
 unfolding parameter_form
 parameter_read p b h = rw (name_there p.name _ h, type_there p.ty b empty)
 
-parameters_read : (ps : List Parameter) (f : Forest) → SpelledParameters ps → Fits f (parameters_forms ps) → parameters_form (seen_trees f) ≡ Some ps
+parameters_read : (ps : List Parameter) (f : Forest) → SpelledParameters ps → Fits f (parameters_forms ps)
+    → parameters_form (seen_trees f) ≡ Some ps
 unfolding parameters_form
 parameters_read [] f s h = rw h
 parameters_read (p ∷ ps) f s h =
     let n = h.5 in
     let t = n.4 in
     let is : h.1 ≡ atom p.name.at p.name.text (atom t.0 (type_word p.ty) empty) =
-    n.2 ∙ ap (λ (q : ℕ). atom q p.name.text n.1) n.3 ∙ ap (atom p.name.at p.name.text) (t.2 ∙ ap (atom t.0 (type_word p.ty)) t.4) in
-    let read : parameter_form (seen_trees h.1) ≡ Some p = ap (λ (i : Forest). parameter_form (seen_trees i)) is ∙ parameter_read p t.0 s.0 in
+    n.2 ∙ ap (λ (q : ℕ). atom q p.name.text n.1) n.3
+    ∙ ap (atom p.name.at p.name.text) (t.2 ∙ ap (atom t.0 (type_word p.ty)) t.4) in
+    let read : parameter_form (seen_trees h.1) ≡ Some p = ap (λ (i : Forest). parameter_form (seen_trees i)) is
+    ∙ parameter_read p t.0 s.0 in
     ap (λ (x : Forest). parameters_form (seen_trees x)) h.3 ∙ rw (read, parameters_read ps h.2 s.1 h.6)
 
 state_inside : (b c : ℕ) (s : State) (f : Forest) → is_name s.name.text ≡ true → First f literal_at s.initial nothing →
-    state_form s.at (seen_trees (atom s.name.at s.name.text (atom b (type_word s.ty) (atom c (policy_word s.policy) f)))) ≡ Some s
+    state_form s.at (seen_trees (atom s.name.at s.name.text
+    (atom b (type_word s.ty) (atom c (policy_word s.policy) f)))) ≡ Some s
 unfolding state_form word_of
-state_inside b c s f h one = rw (name_there s.name _ h, type_there s.ty b _, policy_there s.policy c _, literal_there s.initial f nothing one, one.behind)
+state_inside b c s f h one = rw (
+  name_there s.name _ h,
+  type_there s.ty b _,
+  policy_there s.policy c _,
+  literal_there s.initial f nothing one,
+  one.behind,
+)
 
-state_read : (m : KnownNames) (k a b c : ℕ) (s : State) (f : Forest) → is_name s.name.text ≡ true → First f literal_at s.initial nothing →
+state_read : (m : KnownNames) (k a b c : ℕ) (s : State) (f : Forest) → is_name s.name.text ≡ true
+    → First f literal_at s.initial nothing →
     top_form m k s.at (seen_trees (atom a (codes "state") (atom s.name.at s.name.text (atom b (type_word s.ty) (atom c (policy_word s.policy) f))))) ≡ Some (StateTop s, k)
 unfolding top_form word_of
 state_read m k a b c s f h one = rw (state_inside b c s f h one)
 
-function_inside : (m : KnownNames) (k q : ℕ) (c : Func) (i f : Forest) → is_name c.name.text ≡ true → parameters_form (seen_trees i) ≡ Some c.parameters → ReadsBody m k f c.body →
+function_inside : (m : KnownNames) (k q : ℕ) (c : Func) (i f : Forest) → is_name c.name.text ≡ true
+    → parameters_form (seen_trees i) ≡ Some c.parameters → ReadsBody m k f c.body →
     function_form m k c.at (seen_trees (atom c.name.at c.name.text (list q i f))) ≡ Some (c, site_after_all k c.body)
 unfolding function_form
 function_inside m k q c i f h ps r = rw (name_there c.name _ h, ps, r.read, r.is)
 
-function_read : (m : KnownNames) (k a q : ℕ) (c : Func) (i f : Forest) → is_name c.name.text ≡ true → parameters_form (seen_trees i) ≡ Some c.parameters → ReadsBody m k f c.body →
+function_read : (m : KnownNames) (k a q : ℕ) (c : Func) (i f : Forest) → is_name c.name.text ≡ true
+    → parameters_form (seen_trees i) ≡ Some c.parameters → ReadsBody m k f c.body →
     top_form m k c.at (seen_trees (atom a (codes "fun") (atom c.name.at c.name.text (list q i f)))) ≡ Some (FunctionTop c, site_after_all k c.body)
 unfolding top_form word_of
 function_read m k a q c i f h ps r = rw (function_inside m k q c i f h ps r)
 
-do_inside : (m : List (List ℕ)) (d : DoForm) (f : Forest) → is_name d.actor.text ≡ true → actor_steps_of m (seen_trees f) ≡ Some d.steps → do_form m d.at (seen_trees (atom d.actor.at d.actor.text f)) ≡ Some d
+do_inside : (m : List (List ℕ)) (d : DoForm) (f : Forest) → is_name d.actor.text ≡ true
+    → actor_steps_of m (seen_trees f) ≡ Some d.steps
+    → do_form m d.at (seen_trees (atom d.actor.at d.actor.text f)) ≡ Some d
 unfolding do_form
 do_inside m d f h r = rw (name_there d.actor _ h, r)
 
-do_read : (m : KnownNames) (k a : ℕ) (d : DoForm) (f : Forest) → is_name d.actor.text ≡ true → actor_steps_of m.states (seen_trees f) ≡ Some d.steps →
+do_read : (m : KnownNames) (k a : ℕ) (d : DoForm) (f : Forest) → is_name d.actor.text ≡ true
+    → actor_steps_of m.states (seen_trees f) ≡ Some d.steps →
     top_form m k d.at (seen_trees (atom a (codes "do") (atom d.actor.at d.actor.text f))) ≡ Some (DoTop d, k)
 unfolding top_form word_of
 do_read m k a d f h r = rw (do_inside m.states d f h r)
@@ -71,19 +88,26 @@ record GoesOn (f : Forest) (p q : PartialSource) (g : Sketch) : Type 0 where
   same : tops_of p (seen_trees f) ≡ tops_of q (seen_trees rest)
 
 -- A list that is a top form is taken.
-one_top : (f i r : Forest) (at x : ℕ) (p q : PartialSource) (t : Top) (k : ℕ) → f ≡ list at i r → at ≡ x → top_form (known p) p.site x (seen_trees i) ≡ Some (t, k) → source_with_form p t k ≡ Some q →
+one_top : (f i r : Forest) (at x : ℕ) (p q : PartialSource) (t : Top) (k : ℕ) → f ≡ list at i r → at ≡ x
+    → top_form (known p) p.site x (seen_trees i) ≡ Some (t, k) → source_with_form p t k ≡ Some q →
     tops_of p (seen_trees f) ≡ tops_of q (seen_trees r)
 unfolding tops_of
 one_top f i r at x p q t k is told read put =
-    let here : top_form (known p) p.site at (seen_trees i) ≡ Some (t, k) = ap (λ (y : ℕ). top_form (known p) p.site y (seen_trees i)) told ∙ read in
+    let here : top_form (known p) p.site at (seen_trees i) ≡ Some (t, k) =
+    ap (λ (y : ℕ). top_form (known p) p.site y (seen_trees i)) told ∙ read in
     ap (λ (y : Forest). tops_of p (seen_trees y)) is ∙ rw (here, put)
 
 -- The parsed part.
 abbrev so_far : ℕ → List State → List Func → List DoForm → ℕ → PartialSource
 so_far at ss cs ds k = record { header = at; states = ss; functions = cs; script = ds; site = k }
 
-states_read : (at k : ℕ) (front ss : List State) (f : Forest) (g : Sketch) → SpelledStates ss → Fits f (states_forms ss g) → GoesOn f (so_far at front [] [] k) (so_far at (front ++ ss) [] [] k) g
-states_read at k front [] f g s h = record { rest = f; fits = h; same = ap (λ (l : List State). tops_of (so_far at l [] [] k) (seen_trees f)) (sym (append-nil front)) }
+states_read : (at k : ℕ) (front ss : List State) (f : Forest) (g : Sketch) → SpelledStates ss
+    → Fits f (states_forms ss g) → GoesOn f (so_far at front [] [] k) (so_far at (front ++ ss) [] [] k) g
+states_read at k front [] f g s h = record {
+  rest = f;
+  fits = h;
+  same = ap (λ (l : List State). tops_of (so_far at l [] [] k) (seen_trees f)) (sym (append-nil front));
+}
 states_read at k front (t ∷ ss) f g s h =
     let w = h.5 in
     let n = w.4 in
@@ -93,14 +117,17 @@ states_read at k front (t ∷ ss) f g s h =
     let is : h.1 ≡ atom w.0 (codes "state") (atom t.name.at t.name.text (atom y.0 (type_word t.ty) (atom p.0 (policy_word t.policy) p.1))) =
     list_with_word h.1 w.1 n.1 w.0 n.0 (codes "state") t.name w.2 n.2 n.3 ∙ ap (λ (x : Forest). atom w.0 (codes "state") (atom t.name.at t.name.text x)) (y.2 ∙ ap (atom y.0 (type_word t.ty)) p.2) in
     let before = so_far at front [] [] k in
-    let read : top_form (known before) k t.at (seen_trees h.1) ≡ Some (StateTop t, k) = ap (λ (i : Forest). top_form (known before) k t.at (seen_trees i)) is ∙ state_read (known before) k w.0 y.0 p.0 t p.1 s.0 one in
+    let read : top_form (known before) k t.at (seen_trees h.1) ≡ Some (StateTop t, k) =
+    ap (λ (i : Forest). top_form (known before) k t.at (seen_trees i)) is
+    ∙ state_read (known before) k w.0 y.0 p.0 t p.1 s.0 one in
     let next = so_far at (front ++ t ∷ []) [] [] k in
     let more = states_read at k (front ++ t ∷ []) ss h.2 g s.2 h.6 in
     record {
       rest = more.rest;
       fits = more.fits;
       same = one_top f h.1 h.2 h.0 t.at before next (StateTop t) k h.3 h.4 read refl ∙ more.same
-          ∙ ap (λ (l : List State). tops_of (so_far at l [] [] k) (seen_trees more.rest)) (append_assoc front (t ∷ []) ss);
+          ∙ ap (λ (l : List State). tops_of (so_far at l [] [] k) (seen_trees more.rest))
+          (append_assoc front (t ∷ []) ss);
     }
 
 -- The number of the statement after those of functions.
@@ -109,9 +136,14 @@ behind_all k [] = k
 behind_all k (c ∷ cs) = behind_all (site_after_all k c.body) cs
 
 functions_read : (at k : ℕ) (ss : List State) (front cs : List Func) (f : Forest) (g : Sketch)
-    → SpelledFunctions (record { states = map state_name ss; functions = map function_name front }) k cs → Fits f (functions_forms cs g)
+    → SpelledFunctions (record { states = map state_name ss; functions = map function_name front }) k cs
+    → Fits f (functions_forms cs g)
     → GoesOn f (so_far at ss front [] k) (so_far at ss (front ++ cs) [] (behind_all k cs)) g
-functions_read at k ss front [] f g s h = record { rest = f; fits = h; same = ap (λ (l : List Func). tops_of (so_far at ss l [] k) (seen_trees f)) (sym (append-nil front)) }
+functions_read at k ss front [] f g s h = record {
+  rest = f;
+  fits = h;
+  same = ap (λ (l : List Func). tops_of (so_far at ss l [] k) (seen_trees f)) (sym (append-nil front));
+}
 functions_read at k ss front (c ∷ cs) f g s h =
     let w = h.5 in
     let n = w.4 in
@@ -121,31 +153,39 @@ functions_read at k ss front (c ∷ cs) f g s h =
     list_with_word h.1 w.1 n.1 w.0 n.0 (codes "fun") c.name w.2 n.2 n.3 ∙ ap (λ (x : Forest). atom w.0 (codes "fun") (atom c.name.at c.name.text x)) l.3 in
     let read : top_form (known before) k c.at (seen_trees h.1) ≡ Some (FunctionTop c, site_after_all k c.body) =
     ap (λ (i : Forest). top_form (known before) k c.at (seen_trees i)) is
-    ∙ function_read (known before) k w.0 l.0 c l.1 l.2 s.0 (parameters_read c.parameters l.1 s.1 l.5) (stmts_read (known before) k c.body l.2 s.2 l.6) in
+    ∙ function_read (known before) k w.0 l.0 c l.1 l.2 s.0 (parameters_read c.parameters l.1 s.1 l.5)
+    (stmts_read (known before) k c.body l.2 s.2 l.6) in
     let next = so_far at ss (front ++ c ∷ []) [] (site_after_all k c.body) in
     let spelled : SpelledFunctions (known next) (site_after_all k c.body) cs =
-    subst (λ (ns : List (List ℕ)). SpelledFunctions (record { states = map state_name ss; functions = ns }) (site_after_all k c.body) cs) (sym (map-append function_name front (c ∷ []))) s.3 in
+    subst (λ (ns : List (List ℕ)). SpelledFunctions (record { states = map state_name ss; functions = ns })
+    (site_after_all k c.body) cs) (sym (map-append function_name front (c ∷ []))) s.3 in
     let more = functions_read at (site_after_all k c.body) ss (front ++ c ∷ []) cs h.2 g spelled h.6 in
     record {
       rest = more.rest;
       fits = more.fits;
-      same = one_top f h.1 h.2 h.0 c.at before next (FunctionTop c) (site_after_all k c.body) h.3 h.4 read refl ∙ more.same
-          ∙ ap (λ (x : List Func). tops_of (so_far at ss x [] (behind_all (site_after_all k c.body) cs)) (seen_trees more.rest)) (append_assoc front (c ∷ []) cs);
+      same =
+          one_top f h.1 h.2 h.0 c.at before next (FunctionTop c) (site_after_all k c.body) h.3 h.4 read refl ∙ more.same
+          ∙ ap (λ (x : List Func). tops_of (so_far at ss x [] (behind_all (site_after_all k c.body) cs))
+          (seen_trees more.rest)) (append_assoc front (c ∷ []) cs);
     }
 
-scripts_read : (at k : ℕ) (ss : List State) (cs : List Func) (front ds : List DoForm) (f : Forest) → SpelledScripts (map state_name ss) ds → Fits f (scripts_forms ds)
+scripts_read : (at k : ℕ) (ss : List State) (cs : List Func) (front ds : List DoForm) (f : Forest)
+    → SpelledScripts (map state_name ss) ds → Fits f (scripts_forms ds)
     → tops_of (so_far at ss cs front k) (seen_trees f) ≡ Ok (so_far at ss cs (front ++ ds) k)
 unfolding tops_of
-scripts_read at k ss cs front [] f s h = ap (λ (x : Forest). tops_of (so_far at ss cs front k) (seen_trees x)) h ∙ ap (λ (l : List DoForm). Ok (so_far at ss cs l k)) (sym (append-nil front))
+scripts_read at k ss cs front [] f s h = ap (λ (x : Forest). tops_of (so_far at ss cs front k) (seen_trees x)) h
+    ∙ ap (λ (l : List DoForm). Ok (so_far at ss cs l k)) (sym (append-nil front))
 scripts_read at k ss cs front (d ∷ ds) f s h =
     let w = h.5 in
     let n = w.4 in
     let before = so_far at ss cs front k in
     let is = list_with_word h.1 w.1 n.1 w.0 n.0 (codes "do") d.actor w.2 n.2 n.3 in
     let read : top_form (known before) k d.at (seen_trees h.1) ≡ Some (DoTop d, k) =
-    ap (λ (i : Forest). top_form (known before) k d.at (seen_trees i)) is ∙ do_read (known before) k w.0 d n.1 s.0 (actor_read (map state_name ss) d.steps n.1 s.1 n.4) in
+    ap (λ (i : Forest). top_form (known before) k d.at (seen_trees i)) is
+    ∙ do_read (known before) k w.0 d n.1 s.0 (actor_read (map state_name ss) d.steps n.1 s.1 n.4) in
     one_top f h.1 h.2 h.0 d.at before (so_far at ss cs (front ++ d ∷ []) k) (DoTop d) k h.3 h.4 read refl
-    ∙ scripts_read at k ss cs (front ++ d ∷ []) ds h.2 s.2 h.6 ∙ ap (λ (l : List DoForm). Ok (so_far at ss cs l k)) (append_assoc front (d ∷ []) ds)
+    ∙ scripts_read at k ss cs (front ++ d ∷ []) ds h.2 s.2 h.6
+    ∙ ap (λ (l : List DoForm). Ok (so_far at ss cs l k)) (append_assoc front (d ∷ []) ds)
 
 header_read : (end at x a b : ℕ) (f i r : Forest) → f ≡ list at i r → at ≡ x → i ≡ atom a (codes "compose") (atom b (codes "1") empty) → text_of end (seen_trees f) ≡ tops_of (start x) (seen_trees r)
 unfolding text_of header_form word_of
@@ -161,5 +201,6 @@ text_read end f t h =
     let head = header_read end g.0 p.header w.0 o.0 f g.1 g.2 g.3 g.4 (w.2 ∙ ap (atom w.0 (codes "compose")) (o.2 ∙ ap (atom o.0 (codes "1")) o.4)) in
     let ss = states_read p.header 1 [] p.states g.2 _ h.spelled.states g.6 in
     let cs = functions_read p.header 1 p.states [] p.functions ss.rest _ h.spelled.functions ss.fits in
-    let ds = scripts_read p.header (behind_all 1 p.functions) p.states p.functions [] t.script cs.rest h.spelled.script cs.fits in
+    let ds = scripts_read p.header (behind_all 1 p.functions) p.states p.functions [] t.script cs.rest h.spelled.script
+    cs.fits in
     ap source_or_offset (head ∙ ss.same ∙ cs.same ∙ ds)

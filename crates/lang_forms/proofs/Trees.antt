@@ -11,11 +11,24 @@ seen-Atom at name = search (rules, the_lemmas)
 pub seen-Text : (at : ℕ) (codes : Vec ℕ Global) → seen_tree (Text at codes) ≡ chars at codes.items
 seen-Text at codes = search (rules, the_lemmas)
 
-pub seen-List : (at : ℕ) (trees : Vec Tree Global) → seen_tree (TreeList at trees) ≡ form at (roles at (seen_all trees.items))
+pub seen-List : (at : ℕ) (trees : Vec Tree Global)
+    → seen_tree (TreeList at trees) ≡ form at (roles at (seen_all trees.items))
 seen-List at trees = search (rules, the_lemmas)
 
 -- The view of each kind of tree.
 pub ruleset trees = (seen-Atom, seen-Text, seen-List)
 
 -- The view of each form in memory.
-pub ruleset syntax = (view-Literal, view-Variable, view-Get, view-Apply, view-Node, view-Call, view-Key, view-If, view-For, view-Let, view-Remember)
+pub ruleset syntax = (
+  view-Literal,
+  view-Variable,
+  view-Get,
+  view-Apply,
+  view-Node,
+  view-Call,
+  view-Key,
+  view-If,
+  view-For,
+  view-Let,
+  view-Remember,
+)

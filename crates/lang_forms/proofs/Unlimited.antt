@@ -82,7 +82,8 @@ word_within a = by (is_oversized_int a) (bytes_eq a (codes "ints")) refl refl
 
 ints_within : (f : Forest) → are_ints (within f) ≡ are_ints f
 ints_within empty = refl
-ints_within (atom at a f) = ap (λ (b : Bool). b && are_ints (within f)) (int_within a) ∙ ap (λ (b : Bool). is_int a && b) (ints_within f)
+ints_within (atom at a f) =
+    ap (λ (b : Bool). b && are_ints (within f)) (int_within a) ∙ ap (λ (b : Bool). is_int a && b) (ints_within f)
 ints_within (text at s f) = refl
 ints_within (list at i f) = refl
 
@@ -97,7 +98,8 @@ cut_within (list at i f) = refl
 
 -- A list is cut before or after its trees are clamped.
 list_same : (j : Forest) → clamped_list (within j) ≡ within (clamped_list j)
-list_same j = ap (λ (b : Bool). if b then first_trees 3 (within j) else within j) (cut_within j) ∙ by (is_oversized_ints j)
+list_same j =
+    ap (λ (b : Bool). if b then first_trees 3 (within j) else within j) (cut_within j) ∙ by (is_oversized_ints j)
   where
     by : (b : Bool) → (if b then first_trees 3 (within j) else within j) ≡ within (if b then first_trees 3 j else j)
     by true = sym (first_within 3 j)
@@ -223,7 +225,8 @@ uncut j i h plain = by (is_oversized_ints j) refl
   where
     by : (b : Bool) → is_oversized_ints j ≡ b → b ≡ false
     by true e =
-        let three : Fits (first_trees 3 j) i = subst (λ (f : Forest). Fits f i) (ap (λ (b : Bool). if b then first_trees 3 j else j) e) h in
+        let three : Fits (first_trees 3 j) i =
+        subst (λ (f : Forest). Fits f i) (ap (λ (b : Bool). if b then first_trees 3 j else j) e) h in
         absurd (true≢false (sym (shown (first_trees 3 j) i three (begins_first j (cut_begins j e))) ∙ plain))
     by false e = refl
 
@@ -259,14 +262,20 @@ leaf_back b a tok h = by (is_oversized_int b) refl
     by false e = sym (ap (clamped b) e) ∙ h
 
 leaf_stays : (a : List ℕ) → is_token a ≡ true → clamped_atom a ≡ a
-leaf_stays a tok = let parts = and_parts (not (is_nearest a)) _ tok in ap (clamped a) (not_true (is_oversized_int a) parts.1)
+leaf_stays a tok =
+    let parts = and_parts (not (is_nearest a)) _ tok in ap (clamped a) (not_true (is_oversized_int a) parts.1)
 
 -- Clamped trees that have the forms of a sketch have them without the limits of literals.
 unlimited : (g : Sketch) (f : Forest) → Clean g → Fits (within f) g → FitsUnlimited f g
 unlimited nothing f c h = from_empty f h
 unlimited (leaf p a g) f c h =
-    let w = from_atom f h.0 a h.1 h.2 in
-    (h.0, w.1, w.2 ∙ ap (λ (x : List ℕ). atom h.0 x w.1) (leaf_back w.0 a c.0 w.3), h.3, unlimited g w.1 c.1 (subst (λ (x : Forest). Fits x g) (sym w.4) h.4))
+    let w = from_atom f h.0 a h.1 h.2 in (
+      h.0,
+      w.1,
+      w.2 ∙ ap (λ (x : List ℕ). atom h.0 x w.1) (leaf_back w.0 a c.0 w.3),
+      h.3,
+      unlimited g w.1 c.1 (subst (λ (x : Forest). Fits x g) (sym w.4) h.4),
+    )
 unlimited (numeral p z g) f c h =
     let w = from_atom f h.0 _ h.1 h.2 in
     (h.0, w.0, w.1, w.2, w.3, h.3, unlimited g w.1 c (subst (λ (x : Forest). Fits x g) (sym w.4) h.4))
@@ -276,26 +285,64 @@ unlimited (string p s g) f c h =
 unlimited (group p i g) f c h =
     let w = from_list f h.0 h.1 h.2 h.3 in
     let inner : Fits (clamped_list (within w.0)) i = subst (λ (x : Forest). Fits x i) (sym w.3) h.5 in
-    let plain : Fits (within w.0) i = subst (λ (x : Forest). Fits x i) (list_uncut (within w.0) (uncut (within w.0) i inner c.0)) inner in
-    (h.0, w.0, w.1, w.2, h.4, unlimited i w.0 c.1 plain, unlimited g w.1 c.2 (subst (λ (x : Forest). Fits x g) (sym w.4) h.6))
+    let plain : Fits (within w.0) i =
+    subst (λ (x : Forest). Fits x i) (list_uncut (within w.0) (uncut (within w.0) i inner c.0)) inner in (
+      h.0,
+      w.0,
+      w.1,
+      w.2,
+      h.4,
+      unlimited i w.0 c.1 plain,
+      unlimited g w.1 c.2 (subst (λ (x : Forest). Fits x g) (sym w.4) h.6),
+    )
 unlimited (sequence p i g) f c h =
     let w = from_list f h.0 h.1 h.2 h.3 in
-    let inner : Fits (within (clamped_list w.0)) i = subst (λ (x : Forest). Fits x i) (sym w.3 ∙ list_same w.0) h.5 in
-    (h.0, w.0, w.1, w.2, h.4, unlimited i (clamped_list w.0) c.0 inner, unlimited g w.1 c.1 (subst (λ (x : Forest). Fits x g) (sym w.4) h.6))
+    let inner : Fits (within (clamped_list w.0)) i = subst (λ (x : Forest). Fits x i) (sym w.3 ∙ list_same w.0) h.5 in (
+      h.0,
+      w.0,
+      w.1,
+      w.2,
+      h.4,
+      unlimited i (clamped_list w.0) c.0 inner,
+      unlimited g w.1 c.1 (subst (λ (x : Forest). Fits x g) (sym w.4) h.6),
+    )
 
 -- Forests that have the forms of a sketch without the limits of literals have them when they are clamped.
 limited : (g : Sketch) (f : Forest) → Clean g → FitsUnlimited f g → Fits (within f) g
 limited nothing f c h = ap within h
-limited (leaf p a g) f c h = (h.0, within h.1, ap within h.2 ∙ ap (λ (x : List ℕ). atom h.0 x (within h.1)) (leaf_stays a c.0), h.3, limited g h.1 c.1 h.4)
-limited (numeral p z g) f c h = (h.0, within h.2, ap within h.3 ∙ ap (λ (x : List ℕ). atom h.0 x (within h.2)) h.4, h.5, limited g h.2 c h.6)
-limited (string p s g) f c h = (h.0, within h.2, ap within h.3 ∙ ap (λ (x : List ℕ). text h.0 x (within h.2)) h.4, h.5, limited g h.2 c h.6)
+limited (leaf p a g) f c h = (
+  h.0,
+  within h.1,
+  ap within h.2
+      ∙ ap (λ (x : List ℕ). atom h.0 x (within h.1)) (leaf_stays a c.0),
+  h.3,
+  limited g h.1 c.1 h.4,
+)
+limited (numeral p z g) f c h =
+    (h.0, within h.2, ap within h.3 ∙ ap (λ (x : List ℕ). atom h.0 x (within h.2)) h.4, h.5, limited g h.2 c h.6)
+limited (string p s g) f c h =
+    (h.0, within h.2, ap within h.3 ∙ ap (λ (x : List ℕ). text h.0 x (within h.2)) h.4, h.5, limited g h.2 c h.6)
 limited (group p i g) f c h =
     let inner = limited i h.1 c.1 h.5 in
-    let same = list_uncut (within h.1) (whole (within h.1) i inner c.0) in
-    (h.0, clamped_list (within h.1), within h.2, ap within h.3, h.4, subst (λ (x : Forest). Fits x i) (sym same) inner, limited g h.2 c.2 h.6)
+    let same = list_uncut (within h.1) (whole (within h.1) i inner c.0) in (
+      h.0,
+      clamped_list (within h.1),
+      within h.2,
+      ap within h.3,
+      h.4,
+      subst (λ (x : Forest). Fits x i) (sym same) inner,
+      limited g h.2 c.2 h.6,
+    )
 limited (sequence p i g) f c h =
-    let inner = limited i (clamped_list h.1) c.0 h.5 in
-    (h.0, clamped_list (within h.1), within h.2, ap within h.3, h.4, subst (λ (x : Forest). Fits x i) (sym (list_same h.1)) inner, limited g h.2 c.1 h.6)
+    let inner = limited i (clamped_list h.1) c.0 h.5 in (
+      h.0,
+      clamped_list (within h.1),
+      within h.2,
+      ap within h.3,
+      h.4,
+      subst (λ (x : Forest). Fits x i) (sym (list_same h.1)) inner,
+      limited g h.2 c.1 h.6,
+    )
 
 -- The forms of a text are such a sketch.
 
@@ -414,7 +461,11 @@ pair_whole a n e = ap (λ (x : ℕ). bytes_eq a (codes "ints") && nat_le 2 x) e 
 
 clean_pairs : (m : List (List ℕ)) (ks : List Named) → SpelledPairs m ks → Clean (pairs_forms ks)
 clean_pairs m [] s = tt
-clean_pairs m (k ∷ ks) s = (pair_whole k.name.text _ (one_expr k.value), (name_token k.name.text s.0, clean_expr m k.value nothing s.1 tt), clean_pairs m ks s.2)
+clean_pairs m (k ∷ ks) s = (
+  pair_whole k.name.text _ (one_expr k.value),
+  (name_token k.name.text s.0, clean_expr m k.value nothing s.1 tt),
+  clean_pairs m ks s.2,
+)
 
 pairs_whole : (ks : List Named) → shows_ints (pairs_forms ks) ≡ false
 pairs_whole [] = refl
@@ -432,15 +483,37 @@ stmts_whole (next (Remember at site n ks e body) ss) = refl
 
 mutual
   clean_stmt : (m : KnownNames) (k : ℕ) (t : Stmt) (g : Sketch) → SpelledStmt m k t → Clean g → Clean (stmt_forms t g)
-  clean_stmt m k (Node at site n ns body) g s c = (refl, (refl, (name_token n.text s.1, (pairs_whole ns, clean_pairs m.states ns s.2, clean_stmts m _ body s.3))), c)
+  clean_stmt m k (Node at site n ns body) g s c = (
+    refl,
+    (refl, (name_token n.text s.1, (pairs_whole ns, clean_pairs m.states ns s.2, clean_stmts m _ body s.3))),
+    c,
+  )
   clean_stmt m k (Call at site n f es) g s c = (refl, (refl, (name_token n.text s.1, clean_exprs m.states es s.3)), c)
   clean_stmt m k (Key at site e body) g s c = (refl, (refl, clean_expr m.states e _ s.1 (clean_stmts m _ body s.2)), c)
-  clean_stmt m k (If at site e a b) g s c =
-      (refl, (refl, clean_expr m.states e _ s.1 (stmts_whole a, clean_stmts m _ a s.2, (stmts_whole b, clean_stmts m _ b s.3, tt))), c)
-  clean_stmt m k (For at site n e body) g s c = (refl, (refl, (name_token n.text s.1, clean_expr m.states e _ s.2 (clean_stmts m _ body s.3))), c)
-  clean_stmt m k (Let at site n e body) g s c = (refl, (refl, (name_token n.text s.1, clean_expr m.states e _ s.2 (clean_stmts m _ body s.3))), c)
-  clean_stmt m k (Remember at site n ks e body) g s c =
-      (refl, (refl, (name_token n.text s.1, (pairs_whole ks, clean_pairs m.states ks s.2, clean_expr m.states e _ s.3 (clean_stmts m _ body s.4)))), c)
+  clean_stmt m k (If at site e a b) g s c = (
+    refl,
+    (
+      refl,
+      clean_expr m.states e _ s.1
+          (stmts_whole a, clean_stmts m _ a s.2, (stmts_whole b, clean_stmts m _ b s.3, tt)),
+    ),
+    c,
+  )
+  clean_stmt m k (For at site n e body) g s c =
+      (refl, (refl, (name_token n.text s.1, clean_expr m.states e _ s.2 (clean_stmts m _ body s.3))), c)
+  clean_stmt m k (Let at site n e body) g s c =
+      (refl, (refl, (name_token n.text s.1, clean_expr m.states e _ s.2 (clean_stmts m _ body s.3))), c)
+  clean_stmt m k (Remember at site n ks e body) g s c = (
+    refl,
+    (
+      refl,
+      (
+        name_token n.text s.1,
+        (pairs_whole ks, clean_pairs m.states ks s.2, clean_expr m.states e _ s.3 (clean_stmts m _ body s.4)),
+      ),
+    ),
+    c,
+  )
 
   clean_stmts : (m : KnownNames) (k : ℕ) (ss : Stmts) → SpelledStmts m k ss → Clean (stmts_forms ss)
   clean_stmts m k done s = tt
@@ -448,7 +521,8 @@ mutual
 
 clean_parameters : (ps : List Parameter) → SpelledParameters ps → Clean (parameters_forms ps)
 clean_parameters [] s = tt
-clean_parameters (p ∷ ps) s = (pair_whole p.name.text 1 refl, (name_token p.name.text s.0, (type_token p.ty, tt)), clean_parameters ps s.1)
+clean_parameters (p ∷ ps) s =
+    (pair_whole p.name.text 1 refl, (name_token p.name.text s.0, (type_token p.ty, tt)), clean_parameters ps s.1)
 
 parameters_whole : (ps : List Parameter) → shows_ints (parameters_forms ps) ≡ false
 parameters_whole [] = refl
@@ -456,23 +530,46 @@ parameters_whole (p ∷ ps) = refl
 
 clean_states : (ss : List State) (g : Sketch) → SpelledStates ss → Clean g → Clean (states_forms ss g)
 clean_states [] g s c = c
-clean_states (t ∷ ss) g s c =
-    (refl, (refl, (name_token t.name.text s.0, (type_token t.ty, (policy_token t.policy, clean_literal None t.initial nothing tt)))), clean_states ss g s.2 c)
+clean_states (t ∷ ss) g s c = (
+  refl,
+  (
+    refl,
+    (
+      name_token t.name.text s.0,
+      (type_token t.ty, (policy_token t.policy, clean_literal None t.initial nothing tt)),
+    ),
+  ),
+  clean_states ss g s.2 c,
+)
 
-clean_functions : (m : KnownNames) (k : ℕ) (cs : List Func) (g : Sketch) → SpelledFunctions m k cs → Clean g → Clean (functions_forms cs g)
+clean_functions : (m : KnownNames) (k : ℕ) (cs : List Func) (g : Sketch) → SpelledFunctions m k cs → Clean g
+    → Clean (functions_forms cs g)
 clean_functions m k [] g s c = c
-clean_functions m k (f ∷ cs) g s c =
-    (refl, (refl, (name_token f.name.text s.0, (parameters_whole f.parameters, clean_parameters f.parameters s.1, clean_stmts m k f.body s.2))), clean_functions (record { states = m.states; functions = m.functions ++ function_name f ∷ [] }) (site_after_all k f.body) cs g s.3 c)
+clean_functions m k (f ∷ cs) g s c = (
+  refl,
+  (
+    refl,
+    (
+      name_token f.name.text s.0,
+      (parameters_whole f.parameters, clean_parameters f.parameters s.1, clean_stmts m k f.body s.2),
+    ),
+  ),
+  clean_functions (record { states = m.states; functions = m.functions ++ function_name f ∷ [] })
+      (site_after_all k f.body) cs g s.3 c,
+)
 
 clean_snapshot : (s : SnapshotRef) (g : Sketch) → is_snapshot s ≡ true → Clean g → Clean (snapshot_forms s g)
 clean_snapshot Global g s c = (refl, c)
 clean_snapshot (NamedSnapshot n) g s c = (name_token n.text s, c)
 
 clean_call : (m : List (List ℕ)) (t : CallForm) (g : Sketch) → SpelledCall m t → Clean g → Clean (call_forms t g)
-clean_call m (call.Take at n k parent) g s c = (refl, (refl, (name_token n.text s.0, (kind_token k, clean_snapshot parent nothing s.1 tt))), c)
+clean_call m (call.Take at n k parent) g s c =
+    (refl, (refl, (name_token n.text s.0, (kind_token k, clean_snapshot parent nothing s.1 tt))), c)
 clean_call m (call.Read at x n object) g s c = (refl, (refl, clean_snapshot x _ s.0 (name_token n.text s.1, tt)), c)
-clean_call m (call.Write at x n object v) g s c = (refl, (refl, clean_snapshot x _ s.0 (name_token n.text s.1, clean_literal None v nothing tt)), c)
-clean_call m (call.Add at x n object amount) g s c = (refl, (refl, clean_snapshot x _ s.0 (name_token n.text s.1, tt)), c)
+clean_call m (call.Write at x n object v) g s c =
+    (refl, (refl, clean_snapshot x _ s.0 (name_token n.text s.1, clean_literal None v nothing tt)), c)
+clean_call m (call.Add at x n object amount) g s c =
+    (refl, (refl, clean_snapshot x _ s.0 (name_token n.text s.1, tt)), c)
 clean_call m (call.Apply at x) g s c = (refl, (refl, clean_snapshot x nothing s tt), c)
 clean_call m (call.Dispose at x) g s c = (refl, (refl, clean_snapshot x nothing s tt), c)
 
@@ -489,7 +586,8 @@ clean_steps : (m : List (List ℕ)) (ts : List StepForm) → SpelledSteps m ts �
 clean_steps m [] s = tt
 clean_steps m (t ∷ ts) s = clean_step m t (steps_forms ts) s.0 (clean_steps m ts s.1)
 
-clean_script : (m : List (List ℕ)) (t : ScriptForm) (g : Sketch) → SpelledActorStep m t → Clean g → Clean (actor_step_forms t g)
+clean_script : (m : List (List ℕ)) (t : ScriptForm) (g : Sketch) → SpelledActorStep m t → Clean g
+    → Clean (actor_step_forms t g)
 clean_script m (Once t) g s c = clean_step m t g s c
 clean_script m (Repeat at times steps) g s c = (refl, (refl, clean_steps m steps s.1), c)
 
@@ -499,14 +597,20 @@ clean_actor m (t ∷ ts) s = clean_script m t (actor_forms ts) s.0 (clean_actor 
 
 clean_scripts : (m : List (List ℕ)) (ds : List DoForm) → SpelledScripts m ds → Clean (scripts_forms ds)
 clean_scripts m [] s = tt
-clean_scripts m (d ∷ ds) s = (refl, (refl, (name_token d.actor.text s.0, clean_actor m d.steps s.1)), clean_scripts m ds s.2)
+clean_scripts m (d ∷ ds) s =
+    (refl, (refl, (name_token d.actor.text s.0, clean_actor m d.steps s.1)), clean_scripts m ds s.2)
 
 clean_text : (t : Source) → SpelledSource t → Clean (text_forms t)
-clean_text t s =
-    (refl, (refl, (refl, tt)), clean_states t.program.states _ s.states (clean_functions _ 1 t.program.functions _ s.functions (clean_scripts _ t.script s.script)))
+clean_text t s = (
+  refl,
+  (refl, (refl, tt)),
+  clean_states t.program.states _ s.states
+      (clean_functions _ 1 t.program.functions _ s.functions (clean_scripts _ t.script s.script)),
+)
 
 pub unlimited_forms : (f : Forest) (t : Source) → HasForms (within f) t → HasUnlimitedForms f t
-unlimited_forms f t h = record { fits = unlimited (text_forms t) f (clean_text t h.spelled) h.fits; spelled = h.spelled }
+unlimited_forms f t h =
+    record { fits = unlimited (text_forms t) f (clean_text t h.spelled) h.fits; spelled = h.spelled }
 
 pub clamped_forms : (f : Forest) (t : Source) → HasUnlimitedForms f t → HasForms (within f) t
 clamped_forms f t h = record { fits = limited (text_forms t) f (clean_text t h.spelled) h.fits; spelled = h.spelled }

@@ -27,7 +27,8 @@ are_ints-behind (text at s f) g = refl
 are_ints-behind (list at i f) g = refl
 
 -- The first trees of a tree and those after it.
-one_and_first : (n : ℕ) (f g : Forest) → OneTree f → first_trees (suc n) (joined_trees f g) ≡ joined_trees f (first_trees n g)
+one_and_first : (n : ℕ) (f g : Forest) → OneTree f
+    → first_trees (suc n) (joined_trees f g) ≡ joined_trees f (first_trees n g)
 one_and_first n f g (one_atom at name) = refl
 one_and_first n f g (one_text at chars) = refl
 one_and_first n f g (one_list at inner) = refl
@@ -36,7 +37,8 @@ one_and_first n f g (one_list at inner) = refl
 pub first_view : (n : ℕ) (ts : List Tree) → forest_view (take n ts) ≡ first_trees n (forest_view ts)
 first_view zero ts = refl
 first_view (suc n) [] = refl
-first_view (suc n) (t ∷ ts) = ap (joined_trees (tree_view t)) (first_view n ts) ∙ sym (one_and_first n (tree_view t) (forest_view ts) (one_tree t))
+first_view (suc n) (t ∷ ts) = ap (joined_trees (tree_view t)) (first_view n ts)
+    ∙ sym (one_and_first n (tree_view t) (forest_view ts) (one_tree t))
 
 -- The first three trees in memory.
 pub three_view : (ts : List Tree) → forest_view (take 3 ts) ≡ first_trees 3 (forest_view ts)
@@ -77,10 +79,12 @@ pub within_is : (f : Forest) → beyond f ≡ [] → within f ≡ f
 within_is empty h = refl
 within_is (atom at a f) h =
     let n = none_in (offset_if (is_oversized_atom a) at) (beyond f) h in
-    ap (λ (b : List ℕ). atom at b (within f)) (atom_stays a (not_over (is_oversized_atom a) at n.0)) ∙ ap (atom at a) (within_is f n.1)
+    ap (λ (b : List ℕ). atom at b (within f)) (atom_stays a (not_over (is_oversized_atom a) at n.0))
+    ∙ ap (atom at a) (within_is f n.1)
 within_is (text at s f) h =
     let n = none_in (offset_if (is_oversized_string s) at) (beyond f) h in
-    ap (λ (b : List ℕ). text at b (within f)) (string_stays s (not_over (is_oversized_string s) at n.0)) ∙ ap (text at s) (within_is f n.1)
+    ap (λ (b : List ℕ). text at b (within f)) (string_stays s (not_over (is_oversized_string s) at n.0))
+    ∙ ap (text at s) (within_is f n.1)
 within_is (list at i f) h =
     let n = none_in (offset_if (is_oversized_list i) at ++ beyond i) (beyond f) h in
     let m = none_in (offset_if (is_oversized_list i) at) (beyond i) n.0 in
@@ -102,7 +106,8 @@ none_beyond (text at s f) h k =
     both (offset_if (is_oversized_string s) at) (beyond f) n.0 (none_beyond f n.1 k)
 none_beyond (list at i f) h k = by (is_do i) (none_beyond f) h k
   where
-    by : (b : Bool) → (beyond (program_trees f) ≡ [] → beyond (script_trees f) ≡ [] → beyond f ≡ []) → beyond (if b then empty else list at i (program_trees f)) ≡ []
+    by : (b : Bool) → (beyond (program_trees f) ≡ [] → beyond (script_trees f) ≡ [] → beyond f ≡ [])
+        → beyond (if b then empty else list at i (program_trees f)) ≡ []
         → beyond (if b then list at i f else script_trees f) ≡ [] → beyond (list at i f) ≡ []
     by true more h k = k
     by false more h k =
@@ -114,7 +119,8 @@ within_stays f h k = within_is f (none_beyond f h k)
 
 -- The copy of one tree, and of those after it.
 pub within_step : (ts : List Tree) (i : ℕ) (t : Tree) (out : Forest) → i < length ts → t ≡ get_or ts i t →
-    joined_trees out (within (forest_view (drop i ts))) ≡ joined_trees (joined_trees out (within (tree_view t))) (within (forest_view (drop (i + 1) ts)))
+    joined_trees out (within (forest_view (drop i ts)))
+    ≡ joined_trees (joined_trees out (within (tree_view t))) (within (forest_view (drop (i + 1) ts)))
 within_step ts i t out lt e =
     ap (λ (f : Forest). joined_trees out (within f)) (view_drop ts i t lt e)
     ∙ ap (joined_trees out) (within-behind (tree_view t) (forest_view (drop (i + 1) ts)))

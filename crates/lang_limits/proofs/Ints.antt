@@ -38,8 +38,10 @@ counting (b ∷ bs) h =
 
 digits_ascii : (bs : List ℕ) → list_all is_ascii_digit bs ≡ true → IsAscii bs
 digits_ascii [] h i = omega arith
-digits_ascii (b ∷ bs) h zero = let p = and_parts (is_ascii_digit b) (list_all is_ascii_digit bs) h in omega (arith, (digit_of b p.0).1)
-digits_ascii (b ∷ bs) h (suc i) = let p = and_parts (is_ascii_digit b) (list_all is_ascii_digit bs) h in digits_ascii bs p.1 i
+digits_ascii (b ∷ bs) h zero =
+    let p = and_parts (is_ascii_digit b) (list_all is_ascii_digit bs) h in omega (arith, (digit_of b p.0).1)
+digits_ascii (b ∷ bs) h (suc i) =
+    let p = and_parts (is_ascii_digit b) (list_all is_ascii_digit bs) h in digits_ascii bs p.1 i
 
 counting_digits : (bs : List ℕ) → is_counting bs ≡ true → list_all is_ascii_digit bs ≡ true
 counting_digits [] h = refl
@@ -71,7 +73,8 @@ written (b ∷ bs) h = by (b == 45) refl h
     two false e ne h = plain_one b bs ne (counting_digits (b ∷ bs) h)
 
     by : (m : Bool) → (b == 45) ≡ m → (if m then is_counting bs else bytes_eq (b ∷ bs) (codes "0") || is_counting (b ∷ bs)) ≡ true → Written (b ∷ bs)
-    by true e h = subst (λ (x : ℕ). Written (x ∷ bs)) (sym (eqb-true b 45 e)) (negative bs (counting bs h) (digits_ascii bs (counting_digits bs h)))
+    by true e h = subst (λ (x : ℕ). Written (x ∷ bs)) (sym (eqb-true b 45 e))
+        (negative bs (counting bs h) (digits_ascii bs (counting_digits bs h)))
     by false e h = two (bytes_eq (b ∷ bs) (codes "0")) refl (λ is. absurd (true≢false (sym (eq-eqb b 45 is) ∙ e))) h
 
 written_ascii : (a : List ℕ) → Written a → IsAscii a
@@ -95,6 +98,7 @@ fits_from (pos n) f = let lt : n < 2 ^ 63 = omega (arith, ints) in lt-ltb n (2 ^
 fits_from (negsuc n) f = let lt : n < 2 ^ 63 = omega (arith, ints) in lt-ltb n (2 ^ 63) lt
 
 -- A number is parsed exactly if it fits.
-pub parsed : {E : Type 0} (a : List ℕ) (r : Result ℤ E) → is_int a ≡ true → ParsesSigned w64 10 a r → is_ok r ≡ fits (signed_digits_value 10 a)
+pub parsed : {E : Type 0} (a : List ℕ) (r : Result ℤ E) → is_int a ≡ true → ParsesSigned w64 10 a r
+    → is_ok r ≡ fits (signed_digits_value 10 a)
 parsed a (Ok z) h p = sym (fits_from _ p.0.1)
 parsed a (Err e) h p = sym (false_from_ne_true _ (λ t. p (written_numeral a (written a h), fits-true _ t)))

@@ -5,7 +5,8 @@ use Rattle.std.proofs.lemmas.List.Elements.{All-cons, All-nil}
 use Rattle.lang_limits.specs.LeastOffset.{lesser_offset, least_offset_from}
 use Rattle.lang_limits.specs.Laws.{LeastIsLeast, NoLeastNoPlace}
 
-pub least_append : (o : Option ℕ) (xs ys : List ℕ) → least_offset_from o (xs ++ ys) ≡ least_offset_from (least_offset_from o xs) ys
+pub least_append : (o : Option ℕ) (xs ys : List ℕ)
+    → least_offset_from o (xs ++ ys) ≡ least_offset_from (least_offset_from o xs) ys
 least_append o [] ys = refl
 least_append o (x ∷ xs) ys = least_append (lesser_offset o x) xs ys
 
@@ -38,7 +39,10 @@ least_from (p ∷ ps) kept at h = by (least_from ps (min kept p) at h) (lesser_i
   where
     by : Least ps (min kept p) at → (min kept p ≡ kept) ⊎ (min kept p ≡ p) → Least (p ∷ ps) kept at
     by l is = (
-      elim l.0 [ inl m ↦ elim is [ inl k ↦ inl (cc) | inr q ↦ inr (here p at ps (cc)) ] | inr has ↦ inr (there p at ps has) ],
+      elim l.0 [
+        | inl m ↦ elim is [ inl k ↦ inl (cc) | inr q ↦ inr (here p at ps (cc)) ]
+        | inr has ↦ inr (there p at ps has)
+      ],
       omega (arith, l.1),
       All-cons (λ (other : ℕ). nat_lt other at ≡ false) p ps (not_before p at (omega (arith, l.1))) l.2,
     )

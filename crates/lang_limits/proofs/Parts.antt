@@ -17,24 +17,44 @@ use Rattle.lang_ast.specs.Sizes.{most_parts, nesting, deepest, name_sizes, expr_
 use Rattle.lang_limits.proofs.Lesser.{least_append}
 
 -- The view of each form in memory, and the least of one list after another.
-pub ruleset parts = (view-Literal, view-Variable, view-Get, view-Apply, view-Node, view-Call, view-Key, view-If, view-For, view-Let, view-Remember, least_append, append-nil)
+pub ruleset parts = (
+  view-Literal,
+  view-Variable,
+  view-Get,
+  view-Apply,
+  view-Node,
+  view-Call,
+  view-Key,
+  view-If,
+  view-For,
+  view-Let,
+  view-Remember,
+  least_append,
+  append-nil,
+)
 
 -- The item at an index, and those after it.
-drop_item : {A : Type 0} (xs : List A) (i : ℕ) (x : A) → i < length xs → x ≡ get_or xs i x → drop i xs ≡ x ∷ drop (i + 1) xs
-drop_item {A} xs i x h is = drop-cons xs i x h ∙ ap (λ (y : A). y ∷ drop (suc i) xs) (sym is) ∙ ap (λ (k : ℕ). x ∷ drop k xs) (sym (add-one i))
+drop_item : {A : Type 0} (xs : List A) (i : ℕ) (x : A) → i < length xs → x ≡ get_or xs i x
+    → drop i xs ≡ x ∷ drop (i + 1) xs
+drop_item {A} xs i x h is =
+    drop-cons xs i x h ∙ ap (λ (y : A). y ∷ drop (suc i) xs) (sym is) ∙ ap (λ (k : ℕ). x ∷ drop k xs) (sym (add-one i))
 
 pub deepest_step : (es : List Expression) (i : ℕ) (e : Expression) → i < length es → e ≡ get_or es i e →
     deepest (exprs_view (drop i es)) ≡ max (nesting (expr_view e)) (deepest (exprs_view (drop (i + 1) es)))
 deepest_step es i e h is = ap (λ (l : List Expression). deepest (exprs_view l)) (drop_item es i e h is)
 
 pub exprs_step : (es : List Expression) (i : ℕ) (e : Expression) (o : Option ℕ) → i < length es → e ≡ get_or es i e →
-    least_offset_from o (exprs_sizes (exprs_view (drop i es))) ≡ least_offset_from (least_offset_from o (expr_sizes (expr_view e))) (exprs_sizes (exprs_view (drop (i + 1) es)))
+    least_offset_from o (exprs_sizes (exprs_view (drop i es)))
+    ≡ least_offset_from (least_offset_from o (expr_sizes (expr_view e)))
+    (exprs_sizes (exprs_view (drop (i + 1) es)))
 exprs_step es i e o h is =
     ap (λ (l : List Expression). least_offset_from o (exprs_sizes (exprs_view l))) (drop_item es i e h is)
     ∙ least_append o (expr_sizes (expr_view e)) (exprs_sizes (exprs_view (drop (i + 1) es)))
 
 pub lengths_step : (es : List Expression) (i : ℕ) (e : Expression) (o : Option ℕ) → i < length es → e ≡ get_or es i e →
-    least_offset_from o (exprs_lengths (exprs_view (drop i es))) ≡ least_offset_from (least_offset_from o (expr_lengths (expr_view e))) (exprs_lengths (exprs_view (drop (i + 1) es)))
+    least_offset_from o (exprs_lengths (exprs_view (drop i es)))
+    ≡ least_offset_from (least_offset_from o (expr_lengths (expr_view e)))
+    (exprs_lengths (exprs_view (drop (i + 1) es)))
 lengths_step es i e o h is =
     ap (λ (l : List Expression). least_offset_from o (exprs_lengths (exprs_view l))) (drop_item es i e h is)
     ∙ least_append o (expr_lengths (expr_view e)) (exprs_lengths (exprs_view (drop (i + 1) es)))
@@ -45,33 +65,42 @@ operands_counted [] = refl
 operands_counted (e ∷ es) = ap suc (operands_counted es)
 
 pub parameters_step : (ps : List Parameter) (i : ℕ) (p : Parameter) (o : Option ℕ) → i < length ps → p ≡ get_or ps i p →
-    least_offset_from o (parameters_sizes (drop i ps)) ≡ least_offset_from (least_offset_from o (name_sizes p.name)) (parameters_sizes (drop (i + 1) ps))
+    least_offset_from o (parameters_sizes (drop i ps))
+    ≡ least_offset_from (least_offset_from o (name_sizes p.name)) (parameters_sizes (drop (i + 1) ps))
 parameters_step ps i p o h is =
     ap (λ (l : List Parameter). least_offset_from o (parameters_sizes l)) (drop_item ps i p h is)
     ∙ least_append o (name_sizes p.name) (parameters_sizes (drop (i + 1) ps))
 
 pub states_step : (ss : List State) (i : ℕ) (s : State) (o : Option ℕ) → i < length ss → s ≡ get_or ss i s →
-    least_offset_from o (states_sizes (drop i ss)) ≡ least_offset_from (least_offset_from o (name_sizes s.name)) (states_sizes (drop (i + 1) ss))
+    least_offset_from o (states_sizes (drop i ss))
+    ≡ least_offset_from (least_offset_from o (name_sizes s.name)) (states_sizes (drop (i + 1) ss))
 states_step ss i s o h is =
     ap (λ (l : List State). least_offset_from o (states_sizes l)) (drop_item ss i s h is)
     ∙ least_append o (name_sizes s.name) (states_sizes (drop (i + 1) ss))
 
 pub named_step : (ns : List named.Named) (i : ℕ) (n : named.Named) (o : Option ℕ) → i < length ns → n ≡ get_or ns i n →
     least_offset_from o (named_sizes (nameds_view (drop i ns)))
-    ≡ least_offset_from (least_offset_from (least_offset_from o (name_sizes n.name)) (expr_sizes (expr_view n.value))) (named_sizes (nameds_view (drop (i + 1) ns)))
+    ≡ least_offset_from (least_offset_from (least_offset_from o (name_sizes n.name)) (expr_sizes (expr_view n.value)))
+    (named_sizes (nameds_view (drop (i + 1) ns)))
 named_step ns i n o h is =
     ap (λ (l : List named.Named). least_offset_from o (named_sizes (nameds_view l))) (drop_item ns i n h is)
     ∙ least_append o (name_sizes n.name ++ expr_sizes (expr_view n.value)) (named_sizes (nameds_view (drop (i + 1) ns)))
-    ∙ ap (λ (p : Option ℕ). least_offset_from p (named_sizes (nameds_view (drop (i + 1) ns)))) (least_append o (name_sizes n.name) (expr_sizes (expr_view n.value)))
+    ∙ ap (λ (p : Option ℕ). least_offset_from p (named_sizes (nameds_view (drop (i + 1) ns))))
+    (least_append o (name_sizes n.name) (expr_sizes (expr_view n.value)))
 
-pub stmts_step : (d : ℕ) (ss : List Statement) (i : ℕ) (s : Statement) (o : Option ℕ) → i < length ss → s ≡ get_or ss i s →
-    least_offset_from o (stmts_sizes d (stmts_view (drop i ss))) ≡ least_offset_from (least_offset_from o (stmt_sizes d (stmt_view s))) (stmts_sizes d (stmts_view (drop (i + 1) ss)))
+pub stmts_step : (d : ℕ) (ss : List Statement) (i : ℕ) (s : Statement) (o : Option ℕ) → i < length ss
+    → s ≡ get_or ss i s →
+    least_offset_from o (stmts_sizes d (stmts_view (drop i ss)))
+    ≡ least_offset_from (least_offset_from o (stmt_sizes d (stmt_view s)))
+    (stmts_sizes d (stmts_view (drop (i + 1) ss)))
 stmts_step d ss i s o h is =
     ap (λ (l : List Statement). least_offset_from o (stmts_sizes d (stmts_view l))) (drop_item ss i s h is)
     ∙ least_append o (stmt_sizes d (stmt_view s)) (stmts_sizes d (stmts_view (drop (i + 1) ss)))
 
 pub functions_step : (fs : List Function) (i : ℕ) (f : Function) (o : Option ℕ) → i < length fs → f ≡ get_or fs i f →
-    least_offset_from o (functions_sizes (functions_view (drop i fs))) ≡ least_offset_from (least_offset_from o (function_sizes (function_view f))) (functions_sizes (functions_view (drop (i + 1) fs)))
+    least_offset_from o (functions_sizes (functions_view (drop i fs)))
+    ≡ least_offset_from (least_offset_from o (function_sizes (function_view f)))
+    (functions_sizes (functions_view (drop (i + 1) fs)))
 functions_step fs i f o h is =
     ap (λ (l : List Function). least_offset_from o (functions_sizes (functions_view l))) (drop_item fs i f h is)
     ∙ least_append o (function_sizes (function_view f)) (functions_sizes (functions_view (drop (i + 1) fs)))
@@ -84,10 +113,12 @@ pub function_places : (fs : List Function) → map function_place (functions_vie
 function_places [] = refl
 function_places (f ∷ fs) = ap (λ (rest : List ℕ). f.at ∷ rest) (function_places fs)
 
-pub function_at : (fs : List Function) (i : ℕ) → slice_get (map (λ (f : Function). f.at) fs) i ≡ option_map (λ (f : Function). f.at) (slice_get fs i)
+pub function_at : (fs : List Function) (i : ℕ)
+    → slice_get (map (λ (f : Function). f.at) fs) i ≡ option_map (λ (f : Function). f.at) (slice_get fs i)
 function_at fs i = slice_get-map (λ (f : Function). f.at) fs i
 
-over_same : (d e at : ℕ) → most_parts < d → most_parts < e → offset_if (nat_lt most_parts d) at ≡ offset_if (nat_lt most_parts e) at
+over_same : (d e at : ℕ) → most_parts < d → most_parts < e
+    → offset_if (nat_lt most_parts d) at ≡ offset_if (nat_lt most_parts e) at
 over_same d e at h k = rw (lt-ltb most_parts d h, lt-ltb most_parts e k) refl
 
 deeper : (d : ℕ) → most_parts < d → most_parts < d + 1
@@ -96,14 +127,23 @@ deeper d h = omega arith
 -- Statements that are nested too deep have the same oversized parts at each depth.
 mutual
   stmt_same : (s : Stmt) (d e : ℕ) → most_parts < d → most_parts < e → stmt_sizes d s ≡ stmt_sizes e s
-  stmt_same (Node at site n ns body) d e h k = rw (over_same d e at h k, stmts_same body (d + 1) (e + 1) (deeper d h) (deeper e k)) refl
+  stmt_same (Node at site n ns body) d e h k =
+      rw (over_same d e at h k, stmts_same body (d + 1) (e + 1) (deeper d h) (deeper e k)) refl
   stmt_same (Call at site n f es) d e h k = rw (over_same d e at h k) refl
-  stmt_same (Key at site x body) d e h k = rw (over_same d e at h k, stmts_same body (d + 1) (e + 1) (deeper d h) (deeper e k)) refl
+  stmt_same (Key at site x body) d e h k =
+      rw (over_same d e at h k, stmts_same body (d + 1) (e + 1) (deeper d h) (deeper e k)) refl
   stmt_same (If at site x a b) d e h k =
-      rw (over_same d e at h k, stmts_same a (d + 1) (e + 1) (deeper d h) (deeper e k), stmts_same b (d + 1) (e + 1) (deeper d h) (deeper e k)) refl
-  stmt_same (For at site n x body) d e h k = rw (over_same d e at h k, stmts_same body (d + 1) (e + 1) (deeper d h) (deeper e k)) refl
-  stmt_same (Let at site n x body) d e h k = rw (over_same d e at h k, stmts_same body (d + 1) (e + 1) (deeper d h) (deeper e k)) refl
-  stmt_same (Remember at site n ks x body) d e h k = rw (over_same d e at h k, stmts_same body (d + 1) (e + 1) (deeper d h) (deeper e k)) refl
+      rw (
+        over_same d e at h k,
+        stmts_same a (d + 1) (e + 1) (deeper d h) (deeper e k),
+        stmts_same b (d + 1) (e + 1) (deeper d h) (deeper e k),
+      ) refl
+  stmt_same (For at site n x body) d e h k =
+      rw (over_same d e at h k, stmts_same body (d + 1) (e + 1) (deeper d h) (deeper e k)) refl
+  stmt_same (Let at site n x body) d e h k =
+      rw (over_same d e at h k, stmts_same body (d + 1) (e + 1) (deeper d h) (deeper e k)) refl
+  stmt_same (Remember at site n ks x body) d e h k =
+      rw (over_same d e at h k, stmts_same body (d + 1) (e + 1) (deeper d h) (deeper e k)) refl
 
   stmts_same : (ss : Stmts) (d e : ℕ) → most_parts < d → most_parts < e → stmts_sizes d ss ≡ stmts_sizes e ss
   stmts_same done d e h k = refl

@@ -23,40 +23,50 @@ tree_count-view (t ∷ ts) = one_more (tree_view t) (forest_view ts) (one_tree t
 pub ruleset walks = (view-Atom, view-Text, view-List, tree_count-view, least_append, append-nil)
 
 -- The tree at an index, and those after it.
-pub view_drop : (ts : List Tree) (i : ℕ) (t : Tree) → i < length ts → t ≡ get_or ts i t → forest_view (drop i ts) ≡ joined_trees (tree_view t) (forest_view (drop (i + 1) ts))
+pub view_drop : (ts : List Tree) (i : ℕ) (t : Tree) → i < length ts → t ≡ get_or ts i t
+    → forest_view (drop i ts) ≡ joined_trees (tree_view t) (forest_view (drop (i + 1) ts))
 view_drop ts i t lt e =
     ap forest_view (drop-cons ts i t lt) ∙ ap (λ u. joined_trees (tree_view u) (forest_view (drop (suc i) ts))) (sym e)
     ∙ ap (λ n. joined_trees (tree_view t) (forest_view (drop n ts))) (sym (add-one i))
 
 pub beyond-behind : (f g : Forest) → beyond (joined_trees f g) ≡ beyond f ++ beyond g
 beyond-behind empty g = refl
-beyond-behind (atom at a f) g = ap (λ l. offset_if (is_oversized_atom a) at ++ l) (beyond-behind f g) ∙ sym (append_assoc (offset_if (is_oversized_atom a) at) (beyond f) (beyond g))
-beyond-behind (text at s f) g = ap (λ l. offset_if (is_oversized_string s) at ++ l) (beyond-behind f g) ∙ sym (append_assoc (offset_if (is_oversized_string s) at) (beyond f) (beyond g))
+beyond-behind (atom at a f) g = ap (λ l. offset_if (is_oversized_atom a) at ++ l) (beyond-behind f g)
+    ∙ sym (append_assoc (offset_if (is_oversized_atom a) at) (beyond f) (beyond g))
+beyond-behind (text at s f) g = ap (λ l. offset_if (is_oversized_string s) at ++ l) (beyond-behind f g)
+    ∙ sym (append_assoc (offset_if (is_oversized_string s) at) (beyond f) (beyond g))
 beyond-behind (list at i f) g = rw (beyond-behind f g) (simp append_assoc)
 
 -- The oversized tokens of one tree, and of those after it.
 pub beyond_step : (ts : List Tree) (i : ℕ) (t : Tree) (o : Option ℕ) → i < length ts → t ≡ get_or ts i t →
-    least_offset_from o (beyond (forest_view (drop i ts))) ≡ least_offset_from (least_offset_from o (beyond (tree_view t))) (beyond (forest_view (drop (i + 1) ts)))
+    least_offset_from o (beyond (forest_view (drop i ts)))
+    ≡ least_offset_from (least_offset_from o (beyond (tree_view t))) (beyond (forest_view (drop (i + 1) ts)))
 beyond_step ts i t o lt e =
     ap (λ (f : Forest). least_offset_from o (beyond f)) (view_drop ts i t lt e)
     ∙ ap (least_offset_from o) (beyond-behind (tree_view t) (forest_view (drop (i + 1) ts)))
     ∙ least_append o (beyond (tree_view t)) (beyond (forest_view (drop (i + 1) ts)))
 
-program_one : (f g : Forest) → OneTree f → program_trees (joined_trees f g) ≡ (if is_script f then empty else joined_trees f (program_trees g))
+program_one : (f g : Forest) → OneTree f
+    → program_trees (joined_trees f g) ≡ (if is_script f then empty else joined_trees f (program_trees g))
 program_one f g (one_atom at name) = refl
 program_one f g (one_text at chars) = refl
 program_one f g (one_list at inner) = refl
 
-script_one : (f g : Forest) → OneTree f → script_trees (joined_trees f g) ≡ (if is_script f then joined_trees f g else script_trees g)
+script_one : (f g : Forest) → OneTree f
+    → script_trees (joined_trees f g) ≡ (if is_script f then joined_trees f g else script_trees g)
 script_one f g (one_atom at name) = refl
 script_one f g (one_text at chars) = refl
 script_one f g (one_list at inner) = refl
 
 -- The program and the script after one tree.
-pub program_step : (t : Tree) (ts : List Tree) → program_trees (forest_view (t ∷ ts)) ≡ (if is_script (tree_view t) then empty else joined_trees (tree_view t) (program_trees (forest_view ts)))
+pub program_step : (t : Tree) (ts : List Tree)
+    → program_trees (forest_view (t ∷ ts))
+    ≡ (if is_script (tree_view t) then empty else joined_trees (tree_view t) (program_trees (forest_view ts)))
 program_step t ts = program_one (tree_view t) (forest_view ts) (one_tree t)
 
-pub script_step : (t : Tree) (ts : List Tree) → script_trees (forest_view (t ∷ ts)) ≡ (if is_script (tree_view t) then forest_view (t ∷ ts) else script_trees (forest_view ts))
+pub script_step : (t : Tree) (ts : List Tree)
+    → script_trees (forest_view (t ∷ ts))
+    ≡ (if is_script (tree_view t) then forest_view (t ∷ ts) else script_trees (forest_view ts))
 script_step t ts = script_one (tree_view t) (forest_view ts) (one_tree t)
 
 -- What separates the program from the script.

@@ -47,8 +47,8 @@ fn has_deeper(most: usize, es: &[Expression]) -> bool
     false
 }
 
-// Updates `least` with the offset of an outermost expression if it nests too deep, and with those of what is too long in
-// it.
+// Updates `least` with the offset of an outermost expression if it nests too deep, and with those of what is too long
+// in it.
 #[tactic(auto, using(crate::proofs::Parts::parts))]
 fn expression(e: &Expression, least: Option<usize>) -> Option<usize>
     ensures { result ≡ least_offset_from least (expr_sizes (expr_view e.now)) }
@@ -288,8 +288,8 @@ fn functions_too_many(functions: &[Function], least: Option<usize>) -> Option<us
 
 /// Returns the least of `least` and the offsets of the oversized parts of a program with these states and functions.
 ///
-/// Those are too many states, functions, parameters, attributes or keys, names that are too long, lists of too many numbers,
-/// and expressions or statements that nest too deep. A rule of this project.
+/// Those are too many states, functions, parameters, attributes or keys, names that are too long, lists of too many
+/// numbers, and expressions or statements that nest too deep. A rule of this project.
 #[tactic(auto, using(crate::proofs::Parts::parts, crate::proofs::Parts::function_places))]
 pub fn size_limit(states: &[State], all: &[Function], least: Option<usize>) -> Option<usize>
     ensures { result ≡ least_offset_from least (oversized_parts states.now (functions_view all.now)) }

@@ -17,7 +17,8 @@ use Rattle.play_run.proofs.Openings.{makes-state}
 use Rattle.play_run.specs.Opening.{StatesFit}
 use Rattle.play_actors.specs.ActorSteps.{CountsSnapshots}
 
-states_count : (w : World BuiltIn) (ss : List State) → StatesFit ss → CountsSnapshots w → CountsSnapshots (with_states w ss)
+states_count : (w : World BuiltIn) (ss : List State) → StatesFit ss → CountsSnapshots w
+    → CountsSnapshots (with_states w ss)
 states_count w [] fit c = c
 states_count w (s ∷ more) fit c =
     let e : StampedValue = record { value = s.initial; stamp = 0 } in
@@ -27,17 +28,20 @@ states_count w (s ∷ more) fit c =
     states_count (world_after_make w (type_of s.initial) s.policy s.initial) more fit.1 (record {
       some = omega (arith, some, same);
       few = omega (arith, few, same);
-      valid = valid_made c.valid (type_of s.initial) s.policy s.initial (makeable table (type_of s.initial) s.policy s.initial (makes-state s.initial s.policy fit.0));
+      valid = valid_made c.valid (type_of s.initial) s.policy s.initial
+          (makeable table (type_of s.initial) s.policy s.initial (makes-state s.initial s.policy fit.0));
     })
 
 pub opening_counts : (ss : List State) → StatesFit ss → CountsSnapshots (opening_world ss)
 opening_counts ss fit =
-    let c = states_count (start 0) ss fit (record { some = omega arith; few = omega arith; valid = valid_start table 0 (omega arith) }) in
+    let c = states_count (start 0) ss fit
+    (record { some = omega arith; few = omega arith; valid = valid_start table 0 (omega arith) }) in
     record { some = c.some; few = c.few; valid = valid_watched c.valid }
 
 states_shaped : (w : World BuiltIn) (ss : List State) → IsShaped w → IsShaped (with_states w ss)
 states_shaped w [] v = v
-states_shaped w (s ∷ more) v = states_shaped (world_after_make w (type_of s.initial) s.policy s.initial) more (shaped_made w (type_of s.initial) s.policy s.initial v)
+states_shaped w (s ∷ more) v = states_shaped (world_after_make w (type_of s.initial) s.policy s.initial) more
+    (shaped_made w (type_of s.initial) s.policy s.initial v)
 
 pub opening_shaped : (ss : List State) → IsShaped (opening_world ss)
 opening_shaped ss = shaped_watched (with_states (start 0) ss) (states_shaped (start 0) ss (shaped_start 0))
@@ -45,7 +49,8 @@ opening_shaped ss = shaped_watched (with_states (start 0) ss) (states_shaped (st
 states_one : (w : World BuiltIn) (ss : List State) → length (with_states w ss).snapshots ≡ length w.snapshots
 states_one w [] = refl
 states_one w (s ∷ more) =
-    states_one (world_after_make w (type_of s.initial) s.policy s.initial) more ∙ length-map w.snapshots (with_object (record { value = s.initial; stamp = 0 }))
+    states_one (world_after_make w (type_of s.initial) s.policy s.initial) more
+    ∙ length-map w.snapshots (with_object (record { value = s.initial; stamp = 0 }))
 
 pub opening_global : (ss : List State) → OnlyGlobalIsLive (opening_world ss)
 opening_global ss n inner = by (is_closed (opening_world ss) n) refl where

@@ -25,13 +25,19 @@ counts_after w [] c = c
 counts_after w (e ∷ es) c = counts_after (call table w e.caller e.request).0 es (counts_call w e.caller e.request c)
 
 -- A longer history has no fewer snapshots.
-pub longer : (o : World BuiltIn) (h more : History) → length (world_after table o h).snapshots ≤ length (world_after table o (h ++ more)).snapshots
+pub longer : (o : World BuiltIn) (h more : History)
+    → length (world_after table o h).snapshots ≤ length (world_after table o (h ++ more)).snapshots
 longer o h more =
-    subst (λ (v : World BuiltIn). length (world_after table o h).snapshots ≤ length v.snapshots) (sym (after_append table o h more)) (count_grows table (world_after table o h) more)
+    subst (λ (v : World BuiltIn). length (world_after table o h).snapshots ≤ length v.snapshots)
+    (sym (after_append table o h more)) (count_grows table (world_after table o h) more)
 
-pub known_on : (w v : World BuiltIn) (names : List NamedNumber) → length w.snapshots ≤ length v.snapshots → AreKnown w names → AreKnown v names
-known_on w v names more known other n found = elim (known other n found) [ inl below ↦ inl (omega (arith, below, more)) | inr never ↦ inr never ]
+pub known_on : (w v : World BuiltIn) (names : List NamedNumber) → length w.snapshots ≤ length v.snapshots
+    → AreKnown w names → AreKnown v names
+known_on w v names more known other n found =
+    elim (known other n found) [ inl below ↦ inl (omega (arith, below, more)) | inr never ↦ inr never ]
 
-pub apart_on : (w v : World BuiltIn) (names : List NamedNumber) (frame : Option ℕ) → length w.snapshots ≤ length v.snapshots → FrameIsApart w names frame → FrameIsApart v names frame
+pub apart_on : (w v : World BuiltIn) (names : List NamedNumber) (frame : Option ℕ)
+    → length w.snapshots ≤ length v.snapshots → FrameIsApart w names frame → FrameIsApart v names frame
 apart_on w v names None more apart = tt
-apart_on w v names (Some f) more apart = record { inner = apart.inner; within = omega (arith, apart.within, more); below = apart.below; apart = apart.apart }
+apart_on w v names (Some f) more apart =
+    record { inner = apart.inner; within = omega (arith, apart.within, more); below = apart.below; apart = apart.apart }

@@ -169,8 +169,8 @@ fn wait_for_all(started: &AtomicUsize, actors: usize) {
     }
 }
 
-// Lets all actors make their steps at once, each on a thread of its own. They wait for each other before the first step,
-// since a thread takes longer to start than a short actor to end.
+// Lets all actors make their steps at once, each on a thread of its own. They wait for each other before the first
+// step, since a thread takes longer to start than a short actor to end.
 //
 // Takes no memory itself. An actor that is not short has made all its steps when the call returns, so no steps are left
 // for the caller to make. An actor works by value, since the desk of a frame owns the seat.

@@ -4,8 +4,8 @@
 //! gate before each call. The layer above prints the calls of the history. In Compose this is the work of a test driver
 //! that calls `Snapshot` and `Recomposer` from several threads. Scripts are rules of this project.
 //! Promises: the history that is returned is legal on the world of the program's states. If no actor ran out of memory
-//! its printed calls are woven: each actor's calls are those that its steps make, in order. In any case the printed calls
-//! can be continued to a legal and woven history.
+//! its printed calls are woven: each actor's calls are those that its steps make, in order. In any case the printed
+//! calls can be continued to a legal and woven history.
 #![tactic(auto)]
 
 mod actors;

@@ -13,8 +13,9 @@ use script_lang::NameTable;
 use snap_api::{Reply, Request};
 use std::alloc::Global;
 
-/// The machine that makes the calls of an actor's steps from the replies. It writes nothing. It keeps the composition, the numbers of its snapshot names, the value of the last
-/// read if it was not refused, and the snapshot of the open frame.
+/// The machine that makes the calls of an actor's steps from the replies. It writes nothing. It keeps the composition,
+/// the numbers of its snapshot names, the value of the last read if it was not refused, and the snapshot of the open
+/// frame.
 #[derive(Drop)]
 pub struct ActorMemory<'p> {
     pub(crate) composition: Composition<'p>,
@@ -140,12 +141,7 @@ impl<'p> ActorMemory<'p> {
     }
 
     /// Notes the reply to the call of a part.
-    pub fn note(
-        &mut self,
-        alloc: Global,
-        part: &StepPart<'_>,
-        reply: Reply,
-    ) -> Result<(), NoMemory>
+    pub fn note(&mut self, alloc: Global, part: &StepPart<'_>, reply: Reply) -> Result<(), NoMemory>
         ensures { (n : Notes) → IsNoted self.old n →
             OnOk result (IsNoted self.new (notes_after n (part_of part.now) reply)) }
     {

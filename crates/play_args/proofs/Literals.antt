@@ -48,7 +48,8 @@ unfolding clap_on_literals match_subcommand
 gen_met = refl
 
 -- Two mappings in a row are one mapping.
-both : {A B C : Type 0} (f : A → B) (g : B → C) (o : Option A) → option_map (λ a. g (f a)) o ≡ option_map g (option_map f o)
+both : {A B C : Type 0} (f : A → B) (g : B → C) (o : Option A)
+    → option_map (λ a. g (f a)) o ≡ option_map g (option_map f o)
 both f g None = refl
 both f g (Some a) = refl
 
@@ -58,7 +59,8 @@ unfolding match_subcommand
 named m = both _ (λ (p : Text × List Row). p.0) (out-ArgMatches m).subcommand
 
 -- Equal command lines and equal arguments have the same matches.
-pub moved : (a : App) (ws vs : List Text) (m : ArgMatches) → a ≡ command_app → ws ≡ vs → HasMatchesOf a ws m → HasMatchesOf command_app vs m
+pub moved : (a : App) (ws vs : List Text) (m : ArgMatches) → a ≡ command_app → ws ≡ vs → HasMatchesOf a ws m
+    → HasMatchesOf command_app vs m
 moved a ws vs m e f h = subst (λ (x : App). HasMatchesOf x vs m) e (subst (λ (y : List Text). HasMatchesOf a y m) f h)
 
 pub run_named : (m : ArgMatches) → HasMatchesOf command_app (codes "run" ∷ []) m → subcommand_name_of m ≡ Some (codes "run")

@@ -138,8 +138,8 @@ fn command_named(word: &str, more: &[String]) -> Option<Command>
     None
 }
 
-/// Returns the command that the arguments after the program name ask for, or `None`. The first argument is the name of a
-/// command, which `clap` finds. The others are its flags, each at most once, or the number and the size of `gen`.
+/// Returns the command that the arguments after the program name ask for, or `None`. The first argument is the name of
+/// a command, which `clap` finds. The others are its flags, each at most once, or the number and the size of `gen`.
 ///
 /// A rule of this project. Returns `NoMemory` if the process is out of memory.
 pub fn parse_args(alloc: Global, words: &[String]) -> Result<Option<Command>, NoMemory>

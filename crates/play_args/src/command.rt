@@ -11,7 +11,7 @@ pub enum Command {
     Threads(Flags),
     /// `check`: writes the canonical text of the input's program and script.
     Check,
-    /// `gen`: runs the program and the script that are generated from `number` with `size` rows, and writes a summary. The
-    /// size is from 1 to 1,000.
+    /// `gen`: runs the program and the script that are generated from `number` with `size` rows, and writes a summary.
+    /// The size is from 1 to 1,000.
     Gen { number: u32, size: u32 },
 }

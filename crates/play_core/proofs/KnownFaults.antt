@@ -39,16 +39,19 @@ known-oversized (Some at) = ((λ e. absurd cc), tt)
 
 known-long : (left : ℕ) (forms : List DoForm) → AreKnown (long_forms left forms)
 known-long left [] = known-none
-known-long left (d ∷ more) = known-append (fault_if (nat_lt left (forms_count d.steps)) (script.Limit d.at)) _ (known-if _ _ (λ e. absurd cc)) (known-long (left - forms_count d.steps) more)
+known-long left (d ∷ more) = known-append (fault_if (nat_lt left (forms_count d.steps)) (script.Limit d.at)) _
+    (known-if _ _ (λ e. absurd cc)) (known-long (left - forms_count d.steps) more)
 
 known-actors : (actors : List (List ℕ)) (forms : List DoForm) → AreKnown (further_actors actors forms)
 known-actors actors [] = known-none
-known-actors actors (d ∷ more) = known-append (fault_if (not (is_among d.actor.text actors)) (script.Limit d.at)) _ (known-if _ _ (λ e. absurd cc)) (known-actors actors more)
+known-actors actors (d ∷ more) = known-append (fault_if (not (is_among d.actor.text actors)) (script.Limit d.at)) _
+    (known-if _ _ (λ e. absurd cc)) (known-actors actors more)
 
 known-repeats : (steps : List ScriptForm) → AreKnown (wrong_repeats steps)
 known-repeats [] = known-none
 known-repeats (Once s ∷ more) = known-repeats more
-known-repeats (Repeat at times steps ∷ more) = known-append (fault_if (not (may_repeat times)) (script.Limit at)) _ (known-if _ _ (λ e. absurd cc)) (known-repeats more)
+known-repeats (Repeat at times steps ∷ more) = known-append (fault_if (not (may_repeat times)) (script.Limit at)) _
+    (known-if _ _ (λ e. absurd cc)) (known-repeats more)
 
 known-all-repeats : (forms : List DoForm) → AreKnown (forms_wrong_repeats forms)
 known-all-repeats [] = known-none
@@ -68,11 +71,13 @@ known-either : (threads : Bool) (fs : List ScriptStop) → AreKnown fs → AreKn
 known-either true fs h = h
 known-either false fs h = known-none
 
-known-snapshot : (threads : Bool) (u : FirstUses) (actor at : ℕ) (s : SnapshotRef) → AreKnown (snapshot_faults threads u actor at s)
+known-snapshot : (threads : Bool) (u : FirstUses) (actor at : ℕ) (s : SnapshotRef)
+    → AreKnown (snapshot_faults threads u actor at s)
 known-snapshot threads u actor at Global = known-none
 known-snapshot threads u actor at (Named name) =
     let taker = latest u.takers name.text in
-    known-append (unknown_name at taker) _ (known-name at taker) (known-either threads (foreign_name at actor taker) (known-foreign at actor taker))
+    known-append (unknown_name at taker) _ (known-name at taker)
+    (known-either threads (foreign_name at actor taker) (known-foreign at actor taker))
 
 known-state : (states : List State) (at x : ℕ) → AreKnown (state_faults states at x)
 known-state states at x = known-if (not (nat_lt x (length states))) (script.Unknown at) (λ e. absurd cc)
@@ -85,22 +90,30 @@ module _ (threads : Bool) (states : List State) where
   known-call : (u : FirstUses) (actor : ℕ) (c : CallForm) → AreKnown (call_faults threads states u actor c)
   known-call u actor (Take at name kind parent) =
       let taker = latest u.takers name.text in
-      known-append (snapshot_faults threads u actor at parent) _ (known-snapshot threads u actor at parent) (known-either threads (foreign_name at actor taker) (known-foreign at actor taker))
-  known-call u actor (Read at s state x) = known-append (snapshot_faults threads u actor at s) _ (known-snapshot threads u actor at s) (known-state states at x)
-  known-call u actor (Write at s state x value) = known-append (snapshot_faults threads u actor at s) _ (known-snapshot threads u actor at s) (known-state states at x)
-  known-call u actor (Add at s state x amount) = known-append (snapshot_faults threads u actor at s) _ (known-snapshot threads u actor at s) (known-append (state_faults states at x) _ (known-state states at x) (known-add at (slice_get states x)))
+      known-append (snapshot_faults threads u actor at parent) _ (known-snapshot threads u actor at parent)
+      (known-either threads (foreign_name at actor taker) (known-foreign at actor taker))
+  known-call u actor (Read at s state x) = known-append (snapshot_faults threads u actor at s) _
+      (known-snapshot threads u actor at s) (known-state states at x)
+  known-call u actor (Write at s state x value) = known-append (snapshot_faults threads u actor at s) _
+      (known-snapshot threads u actor at s) (known-state states at x)
+  known-call u actor (Add at s state x amount) = known-append (snapshot_faults threads u actor at s) _
+      (known-snapshot threads u actor at s)
+      (known-append (state_faults states at x) _ (known-state states at x) (known-add at (slice_get states x)))
   known-call u actor (Apply at s) = known-snapshot threads u actor at s
   known-call u actor (Dispose at s) = known-snapshot threads u actor at s
 
   known-step : (u : FirstUses) (s : TextStep) → AreKnown (step_faults threads states u s)
   known-step u (CallStep actor c) = known-call u actor c
-  known-step u (FrameStep actor at) = known-either threads (foreign_name at actor u.framer) (known-foreign at actor u.framer)
+  known-step u (FrameStep actor at) =
+      known-either threads (foreign_name at actor u.framer) (known-foreign at actor u.framer)
 
   known-steps : (u : FirstUses) (ss : List TextStep) → AreKnown (steps_faults threads states u ss)
   known-steps u [] = known-none
-  known-steps u (s ∷ more) = known-append (step_faults threads states u s) _ (known-step u s) (known-steps (uses_after u s) more)
+  known-steps u (s ∷ more) =
+      known-append (step_faults threads states u s) _ (known-step u s) (known-steps (uses_after u s) more)
 
-known-first : (g f : ScriptStop) → g ≢ script.NoMemory → f ≢ script.NoMemory → first_fault (Some g) f ≢ Some script.NoMemory
+known-first : (g f : ScriptStop) → g ≢ script.NoMemory → f ≢ script.NoMemory
+    → first_fault (Some g) f ≢ Some script.NoMemory
 unfolding first_fault
 known-first g f h k = by (goes_before f g)
   where
@@ -108,7 +121,8 @@ known-first g f h k = by (goes_before f g)
     by true e = k cc
     by false e = h cc
 
-known-all : (o : Option ScriptStop) (fs : List ScriptStop) → o ≢ Some script.NoMemory → AreKnown fs → first_of_faults o fs ≢ Some script.NoMemory
+known-all : (o : Option ScriptStop) (fs : List ScriptStop) → o ≢ Some script.NoMemory → AreKnown fs
+    → first_of_faults o fs ≢ Some script.NoMemory
 unfolding AreKnown first_fault
 known-all o [] h k = h
 known-all o (f ∷ fs) h k = known-all (first_fault o f) fs (one o h) k.1
@@ -117,12 +131,16 @@ known-all o (f ∷ fs) h k = known-all (first_fault o f) fs (one o h) k.1
     one None i e = k.0 cc
     one (Some g) i e = known-first g f (λ is. i (ap (λ x. Some x) is)) k.0 e
 
-known-faults : (threads : Bool) (states : List State) (beyond : Option ℕ) (forms : List DoForm) → AreKnown (script_faults threads states beyond forms)
+known-faults : (threads : Bool) (states : List State) (beyond : Option ℕ) (forms : List DoForm)
+    → AreKnown (script_faults threads states beyond forms)
 known-faults threads states beyond forms =
     known-append (oversized_faults beyond) _ (known-oversized beyond) (
     known-append (long_forms most_steps forms) _ (known-long most_steps forms) (
     known-append (further_actors (actors_of forms) forms) _ (known-actors (actors_of forms) forms) (
-    known-append (forms_wrong_repeats forms) _ (known-all-repeats forms) (known-steps threads states no_uses (text_script (actors_of forms) forms)))))
+    known-append (forms_wrong_repeats forms) _ (known-all-repeats forms)
+    (known-steps threads states no_uses (text_script (actors_of forms) forms)))))
 
-pub known_refusal : (threads : Bool) (states : List State) (beyond : Option ℕ) (forms : List DoForm) → script_refusal threads states beyond forms ≢ Some script.NoMemory
-known_refusal threads states beyond forms = known-all None (script_faults threads states beyond forms) (λ e. absurd cc) (known-faults threads states beyond forms)
+pub known_refusal : (threads : Bool) (states : List State) (beyond : Option ℕ) (forms : List DoForm)
+    → script_refusal threads states beyond forms ≢ Some script.NoMemory
+known_refusal threads states beyond forms = known-all None (script_faults threads states beyond forms) (λ e. absurd cc)
+    (known-faults threads states beyond forms)

@@ -38,21 +38,26 @@ mutual
   stmt_has_sites m k (Call at site n function es) h = first_site site k _ [] h.0 (tt, omega arith)
   stmt_has_sites m k (Key at site e body) h = first_site site k _ _ h.0 (stmts_have_sites m (k + 1) body h.2)
   stmt_has_sites m k (If at site e a b) h =
-      first_site site k _ _ h.0 (joined_sites (stmts_sites a) (stmts_sites b) (k + 1) (site_after_all (k + 1) a) _ (stmts_have_sites m (k + 1) a h.2) (stmts_have_sites m (site_after_all (k + 1) a) b h.3))
+      first_site site k _ _ h.0 (joined_sites (stmts_sites a) (stmts_sites b) (k + 1) (site_after_all (k + 1) a) _
+      (stmts_have_sites m (k + 1) a h.2) (stmts_have_sites m (site_after_all (k + 1) a) b h.3))
   stmt_has_sites m k (For at site n e body) h = first_site site k _ _ h.0 (stmts_have_sites m (k + 1) body h.3)
   stmt_has_sites m k (Let at site n e body) h = first_site site k _ _ h.0 (stmts_have_sites m (k + 1) body h.3)
   stmt_has_sites m k (Remember at site n ks e body) h = first_site site k _ _ h.0 (stmts_have_sites m (k + 1) body h.4)
 
-  stmts_have_sites : (m : KnownNames) (k : ℕ) (ss : Stmts) → SpelledStmts m k ss → AreSites (stmts_sites ss) k (site_after_all k ss)
+  stmts_have_sites : (m : KnownNames) (k : ℕ) (ss : Stmts) → SpelledStmts m k ss
+      → AreSites (stmts_sites ss) k (site_after_all k ss)
   stmts_have_sites m k done h = (tt, omega arith)
   stmts_have_sites m k (next s ss) h =
-      joined_sites (stmt_sites s) (stmts_sites ss) k (site_after k s) _ (stmt_has_sites m k s h.0) (stmts_have_sites m (site_after k s) ss h.1)
+      joined_sites (stmt_sites s) (stmts_sites ss) k (site_after k s) _ (stmt_has_sites m k s h.0)
+      (stmts_have_sites m (site_after k s) ss h.1)
 
 functions_count : (m : KnownNames) (k : ℕ) (fs : List Func) → SpelledFunctions m k fs → Counts k (functions_sites fs)
 functions_count m k [] h = tt
 functions_count m k (f ∷ fs) h =
     let here = stmts_have_sites m k f.body h.2 in
-    counts_on k (site_after_all k f.body) (stmts_sites f.body) (functions_sites fs) here.0 here.1 (functions_count (record { states = m.states; functions = m.functions ++ function_name f ∷ [] }) (site_after_all k f.body) fs h.3)
+    counts_on k (site_after_all k f.body) (stmts_sites f.body) (functions_sites fs) here.0 here.1
+    (functions_count (record { states = m.states; functions = m.functions ++ function_name f ∷ [] })
+    (site_after_all k f.body) fs h.3)
 
 abbrev number_found : Option (ℕ × Func) → ℕ
 number_found None = 0
@@ -70,59 +75,85 @@ not_before (c ∷ cs) name j i f h = by (λ g. not_before cs name (j + 1) i f g)
     by more false e = let on = more (rw e at h) in omega (arith, on)
 
 -- If the first function with a name is among those before a call, the parser finds its number.
-found_before : (before rest : List Func) (name : List ℕ) (j i : ℕ) (f : Func) → first_named (before ++ rest) name j ≡ Some (i, f) → i < j + length before → j + number_in name (map function_name before) ≡ i
+found_before : (before rest : List Func) (name : List ℕ) (j i : ℕ) (f : Func)
+    → first_named (before ++ rest) name j ≡ Some (i, f) → i < j + length before
+    → j + number_in name (map function_name before) ≡ i
 found_before [] rest name j i f h lt = let on = not_before rest name j i f h in absurd (omega (arith, on, lt))
 found_before (c ∷ cs) rest name j i f h lt =
     by (λ g. found_before cs rest name (j + 1) i f g (omega (arith, lt))) (bytes_eq c.name.text name) refl
   where
-    by : (first_named (cs ++ rest) name (j + 1) ≡ Some (i, f) → j + 1 + number_in name (map function_name cs) ≡ i) → (b : Bool) → bytes_eq c.name.text name ≡ b → j + number_in name (map function_name (c ∷ cs)) ≡ i
+    by : (first_named (cs ++ rest) name (j + 1) ≡ Some (i, f) → j + 1 + number_in name (map function_name cs) ≡ i)
+        → (b : Bool) → bytes_eq c.name.text name ≡ b → j + number_in name (map function_name (c ∷ cs)) ≡ i
     by more true e = let is = same_number (j, c) (i, f) (rw e at h) in rw e (omega (arith, is))
     by more false e = let on = more (rw e at h) in rw e (omega (arith, on))
 
-named_before : (functions before rest : List Func) (m : KnownNames) (name : List ℕ) → functions ≡ before ++ rest → m.functions ≡ map function_name before → length before ≤ most_forms → HasItsNumber functions (length before) name (number_of name m.functions)
+named_before : (functions before rest : List Func) (m : KnownNames) (name : List ℕ) → functions ≡ before ++ rest
+    → m.functions ≡ map function_name before → length before ≤ most_forms
+    → HasItsNumber functions (length before) name (number_of name m.functions)
 named_before functions before rest m name all names few i f h lt =
-    let many : length (map function_name before) ≤ most_forms = subst (λ n. n ≤ most_forms) (sym (length-map before function_name)) few in
-    let found = found_before before rest name 0 i f (subst (λ fs. first_named fs name 0 ≡ Some (i, f)) all h) (omega (arith, lt)) in
+    let many : length (map function_name before) ≤ most_forms =
+    subst (λ n. n ≤ most_forms) (sym (length-map before function_name)) few in
+    let found = found_before before rest name 0 i f (subst (λ fs. first_named fs name 0 ≡ Some (i, f)) all h)
+    (omega (arith, lt)) in
     ap (λ l. number_of name l) names
     ∙ ap (λ l. number_in name l) (take_all most_forms (map function_name before) many)
     ∙ omega (arith, found)
 
 mutual
-  stmt_calls : (functions : List Func) (me : ℕ) (m : KnownNames) (k : ℕ) (s : Stmt) → ((name : List ℕ) → HasItsNumber functions me name (number_of name m.functions)) → SpelledStmt m k s → StmtCalls functions me s
+  stmt_calls : (functions : List Func) (me : ℕ) (m : KnownNames) (k : ℕ) (s : Stmt)
+      → ((name : List ℕ) → HasItsNumber functions me name (number_of name m.functions)) → SpelledStmt m k s
+      → StmtCalls functions me s
   stmt_calls functions me m k (Node at site n ns body) named h = stmts_calls functions me m (k + 1) body named h.3
   stmt_calls functions me m k (Call at site n function es) named h = λ i f e lt. h.2 ∙ named n.text i f e lt
   stmt_calls functions me m k (Key at site e body) named h = stmts_calls functions me m (k + 1) body named h.2
-  stmt_calls functions me m k (If at site e a b) named h = (stmts_calls functions me m (k + 1) a named h.2, stmts_calls functions me m (site_after_all (k + 1) a) b named h.3)
+  stmt_calls functions me m k (If at site e a b) named h = (
+    stmts_calls functions me m (k + 1) a named h.2,
+    stmts_calls functions me m (site_after_all (k + 1) a) b named h.3,
+  )
   stmt_calls functions me m k (For at site n e body) named h = stmts_calls functions me m (k + 1) body named h.3
   stmt_calls functions me m k (Let at site n e body) named h = stmts_calls functions me m (k + 1) body named h.3
   stmt_calls functions me m k (Remember at site n ks e body) named h = stmts_calls functions me m (k + 1) body named h.4
 
-  stmts_calls : (functions : List Func) (me : ℕ) (m : KnownNames) (k : ℕ) (ss : Stmts) → ((name : List ℕ) → HasItsNumber functions me name (number_of name m.functions)) → SpelledStmts m k ss → StmtsCalls functions me ss
+  stmts_calls : (functions : List Func) (me : ℕ) (m : KnownNames) (k : ℕ) (ss : Stmts)
+      → ((name : List ℕ) → HasItsNumber functions me name (number_of name m.functions)) → SpelledStmts m k ss
+      → StmtsCalls functions me ss
   stmts_calls functions me m k done named h = tt
-  stmts_calls functions me m k (next s ss) named h = (stmt_calls functions me m k s named h.0, stmts_calls functions me m (site_after k s) ss named h.1)
+  stmts_calls functions me m k (next s ss) named h =
+      (stmt_calls functions me m k s named h.0, stmts_calls functions me m (site_after k s) ss named h.1)
 
-functions_calls : (functions before fs : List Func) (m : KnownNames) (me k : ℕ) → functions ≡ before ++ fs → m.functions ≡ map function_name before → me ≡ length before → length functions ≤ most_forms → SpelledFunctions m k fs → FunctionsCalls functions me fs
+functions_calls : (functions before fs : List Func) (m : KnownNames) (me k : ℕ) → functions ≡ before ++ fs
+    → m.functions ≡ map function_name before → me ≡ length before → length functions ≤ most_forms
+    → SpelledFunctions m k fs → FunctionsCalls functions me fs
 functions_calls functions before [] m me k all names here few h = tt
 functions_calls functions before (f ∷ fs) m me k all names here few h =
-    let many : length before ≤ most_forms = let sum = ap length all ∙ length-append before (f ∷ fs) in omega (arith, sum, few) in
-    let named : (name : List ℕ) → HasItsNumber functions me name (number_of name m.functions) = λ name. subst (λ n. HasItsNumber functions n name (number_of name m.functions)) (sym here) (named_before functions before (f ∷ fs) m name all names many) in (
+    let many : length before ≤ most_forms = let sum = ap length all ∙ length-append before (f ∷ fs) in
+    omega (arith, sum, few) in
+    let named : (name : List ℕ) → HasItsNumber functions me name (number_of name m.functions) =
+    λ name. subst (λ n. HasItsNumber functions n name (number_of name m.functions)) (sym here)
+    (named_before functions before (f ∷ fs) m name all names many) in (
       stmts_calls functions me m k f.body named h.2,
-      functions_calls functions (before ++ f ∷ []) fs (record { states = m.states; functions = m.functions ++ function_name f ∷ [] }) (me + 1) (site_after_all k f.body)
+      functions_calls functions (before ++ f ∷ []) fs
+          (record { states = m.states; functions = m.functions ++ function_name f ∷ [] }) (me + 1)
+          (site_after_all k f.body)
           (all ∙ sym (append_assoc before (f ∷ []) fs))
           (ap (λ l. l ++ function_name f ∷ []) names ∙ sym (map-append function_name before (f ∷ [])))
           (let one = length-append before (f ∷ []) in omega (arith, one, here)) few h.3,
     )
 
 -- The program of a text within the limits is numbered.
-pub numbered : (f g : Forest) (t : Source) → HasForms f t → program_limits g t.program ≡ [] → IsNumberedProgram t.program
+pub numbered : (f g : Forest) (t : Source) → HasForms f t → program_limits g t.program ≡ []
+    → IsNumberedProgram t.program
 numbered f g t forms small =
     let known : KnownNames = record { states = map state_name t.program.states; functions = [] } in
     record {
       sites = functions_count known 1 t.program.functions forms.spelled.functions;
-      calls = functions_calls t.program.functions [] t.program.functions known 0 1 refl refl refl (few_functions g t.program small) forms.spelled.functions;
+      calls = functions_calls t.program.functions [] t.program.functions known 0 1 refl refl refl
+          (few_functions g t.program small) forms.spelled.functions;
     }
 
 -- A parsed program within the limits is numbered.
-pub parsed_is_numbered : {E : Type 0} (f : Forest) (r : Result (memory.Program × Rest) E) → IfOk r (λ p. HasForms (within f) (parsed_source_view p)) → IfOk r (λ p. program_limits f (program_view p.0) ≡ []) → IfOk r (λ p. IsNumberedProgram (program_view p.0))
+pub parsed_is_numbered : {E : Type 0} (f : Forest) (r : Result (memory.Program × Rest) E)
+    → IfOk r (λ p. HasForms (within f) (parsed_source_view p)) → IfOk r (λ p. program_limits f (program_view p.0) ≡ [])
+    → IfOk r (λ p. IsNumberedProgram (program_view p.0))
 parsed_is_numbered f (Ok p) forms small = numbered (within f) f (parsed_source_view p) forms small
 parsed_is_numbered f (Err e) forms small = tt

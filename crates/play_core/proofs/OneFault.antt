@@ -25,7 +25,8 @@ record Stops (bytes : List ℕ) (fault : Fault) : Type 0 where
 
 module _ (threads : Bool) where
   -- A fault is one of the tree parser, or one of the forest.
-  split : (bytes : List ℕ) (kind : FaultKind) (at : ℕ) → IsFaultAt threads bytes at kind → Stops bytes (record { kind = kind; at = at }) ⊎ IsRefused threads bytes (record { kind = kind; at = at })
+  split : (bytes : List ℕ) (kind : FaultKind) (at : ℕ) → IsFaultAt threads bytes at kind
+      → Stops bytes (record { kind = kind; at = at }) ⊎ IsRefused threads bytes (record { kind = kind; at = at })
   split bytes Utf8 at h = inl (record { stopped = stop.NotUtf8 at; cause = h; known = λ e. absurd cc; reports = refl })
   split bytes Text at h = inl (record { stopped = stop.Bad at; cause = h; known = λ e. absurd cc; reports = refl })
   split bytes Deep at h = inl (record { stopped = stop.TooDeep at; cause = h; known = λ e. absurd cc; reports = refl })
@@ -47,7 +48,9 @@ same-stop bytes f g a b =
 module _ (threads : Bool) where
   same-refused : (bytes : List ℕ) (f g : Fault) → IsRefused threads bytes f → IsRefused threads bytes g → f ≡ g
   same-refused bytes f g a b =
-      let e : Some (Bad f) ≡ Some (Bad g) = sym (refused_is threads bytes f a) ∙ ap (refusal threads (length bytes)) (spells_one bytes a.forest b.forest a.spelled b.spelled) ∙ refused_is threads bytes g b in
+      let e : Some (Bad f) ≡ Some (Bad g) = sym (refused_is threads bytes f a)
+      ∙ ap (refusal threads (length bytes)) (spells_one bytes a.forest b.forest a.spelled b.spelled)
+      ∙ refused_is threads bytes g b in
       cc
 
   -- The tree parser does not stop at bytes that it parses.
@@ -57,7 +60,10 @@ module _ (threads : Bool) where
   pub one_fault : (bytes : List ℕ) (f g : Fault) → IsFault threads bytes f → IsFault threads bytes g → f ≡ g
   one_fault bytes f g a b = elim (split threads bytes f.kind f.at a) [
     | inl s ↦ elim (split threads bytes g.kind g.at b) [ inl t ↦ same-stop bytes f g s t | inr t ↦ apart bytes f g s t ]
-    | inr s ↦ elim (split threads bytes g.kind g.at b) [ inl t ↦ apart bytes g f t s | inr t ↦ same-refused bytes f g s t ]
+    | inr s ↦ elim (split threads bytes g.kind g.at b) [
+      | inl t ↦ apart bytes g f t s
+      | inr t ↦ same-refused bytes f g s t
+    ]
   ]
 
   pub faulty_is_no_text : (bytes : List ℕ) (fault : Fault) → IsFault threads bytes fault → IsNoText threads bytes

@@ -37,7 +37,8 @@ unfolding Opens
 step-opens gap os f at b = start-opens at b os f
 step-opens in_comment os f at b = same-opens b os
 step-opens (in_word from name) os f at b =
-    tested (λ (o : Option State). IfSome o (Opens b os)) (is_atom_byte b) _ _ (λ _. same-opens b os) (λ _. start-opens at b os (joined_trees f (atom from name empty)))
+    tested (λ (o : Option State). IfSome o (Opens b os)) (is_atom_byte b) _ _ (λ _. same-opens b os)
+    (λ _. start-opens at b os (joined_trees f (atom from name empty)))
 step-opens (in_text from chars) os f at b =
     let P = (λ (o : Option State). IfSome o (Opens b os)) in
     tested P (b == 34) _ _ (λ _. same-opens b os)
@@ -54,13 +55,16 @@ next-opens s t at b e = subst (λ (o : Option State). IfSome o (Opens b s.1)) e 
 
 -- The bytes give a shallow forest, or the machine stops at them.
 abbrev pub Parsed : List ℕ → Type 0
-Parsed bytes = ((f : Forest) × (whole bytes ≡ Some f) × (nesting f ≤ 100)) ⊎ ((e : TextStop) × (e ≢ stop.NoMemory) × Refuses bytes e)
+Parsed bytes = ((f : Forest) × (whole bytes ≡ Some f) × (nesting f ≤ 100))
+    ⊎ ((e : TextStop) × (e ≢ stop.NoMemory) × Refuses bytes e)
 
 le_or_lt : (p q : ℕ) → (p ≤ q) ⊎ (q < p)
 le_or_lt p q = grind arith
 
-at-end : (bytes : List ℕ) (i : ℕ) (s : State) → i ≡ length bytes → state_at bytes i ≡ Some s → IsShallow s → (o : Option Forest) → forest_at_end s ≡ o → Parsed bytes
-at-end bytes i s end here shallow (Some f) e = inl (f, whole_is bytes i s (omega (arith, end)) here ∙ e, omega (arith, finish_reaches s.0 s.1 s.2 f e, shallow))
+at-end : (bytes : List ℕ) (i : ℕ) (s : State) → i ≡ length bytes → state_at bytes i ≡ Some s → IsShallow s
+    → (o : Option Forest) → forest_at_end s ≡ o → Parsed bytes
+at-end bytes i s end here shallow (Some f) e =
+    inl (f, whole_is bytes i s (omega (arith, end)) here ∙ e, omega (arith, finish_reaches s.0 s.1 s.2 f e, shallow))
 at-end bytes i s end here shallow None e = inr (
   stop.Bad i,
   (λ e. absurd cc),
@@ -72,20 +76,28 @@ at-end bytes i s end here shallow None e = inr (
   },
 )
 
-walk : (k i : ℕ) (bytes : List ℕ) (s : State) → i + k ≡ length bytes → state_at bytes i ≡ Some s → IsShallow s → Parsed bytes
+walk : (k i : ℕ) (bytes : List ℕ) (s : State) → i + k ≡ length bytes → state_at bytes i ≡ Some s → IsShallow s
+    → Parsed bytes
 unfolding Opens
 walk zero i bytes s e here shallow = at-end bytes i s (omega (arith, e)) here shallow (forest_at_end s) refl
-walk (suc k) i bytes s e here shallow = by (λ t. walk k (suc i) bytes t (omega (arith, e))) (next s i (get_or bytes i 0)) refl
+walk (suc k) i bytes s e here shallow =
+    by (λ t. walk k (suc i) bytes t (omega (arith, e))) (next s i (get_or bytes i 0)) refl
   where
     lt : i < length bytes
     lt = omega (arith, e)
 
-    by : ((t : State) → state_at bytes (suc i) ≡ Some t → IsShallow t → Parsed bytes) → (o : Option State) → next s i (get_or bytes i 0) ≡ o → Parsed bytes
+    by : ((t : State) → state_at bytes (suc i) ≡ Some t → IsShallow t → Parsed bytes) → (o : Option State)
+        → next s i (get_or bytes i 0) ≡ o → Parsed bytes
     by on None n = inr (stop.Bad i, (λ e. absurd cc), stops_refuses bytes i s (stop.Bad i) lt here shallow (refl, n))
     by on (Some t) n = elim (le_or_lt (length t.1) 100) [
-      | inl few ↦ on t (walk_on bytes i s (Some t) lt here n) (omega (arith, next_deepens s t i (get_or bytes i 0) n, shallow, few))
+      | inl few ↦ on t (walk_on bytes i s (Some t) lt here n)
+          (omega (arith, next_deepens s t i (get_or bytes i 0) n, shallow, few))
       | inr many ↦ elim (next-opens s t i (get_or bytes i 0) n) [
-        | inl opens ↦ inr (stop.TooDeep i, (λ e. absurd cc), stops_refuses bytes i s (stop.TooDeep i) lt here shallow (refl, opens, rw n many))
+        | inl opens ↦ inr (
+          stop.TooDeep i,
+          (λ e. absurd cc),
+          stops_refuses bytes i s (stop.TooDeep i) lt here shallow (refl, opens, rw n many),
+        )
         | inr less ↦ absurd (omega (arith, less, many, length_le-depth_reached s.1 s.2, shallow))
       ]
     ]

@@ -24,7 +24,8 @@ no_byte c h e = let not_colon : false ≡ true = sym (ap is_name_byte e) ∙ h i
 
 no_colon : (cs : List ℕ) → list_all is_name_byte cs ≡ true → HasNoColon cs
 no_colon [] h = tt
-no_colon (c ∷ cs) h = let parts = both (is_name_byte c) (list_all is_name_byte cs) h in (no_byte c parts.0, no_colon cs parts.1)
+no_colon (c ∷ cs) h =
+    let parts = both (is_name_byte c) (list_all is_name_byte cs) h in (no_byte c parts.0, no_colon cs parts.1)
 
 plain_name : (a : List ℕ) → is_name a ≡ true → HasNoColon a
 plain_name a h =
@@ -46,20 +47,24 @@ plain_with xs x h k = by (is_among x xs) (nat_lt (length xs) most_actors) where
   by false true = plain_snoc xs x h k
   by false false = h
 
-plain_from : (m : List (List ℕ)) (ds : List DoForm) (xs : List (List ℕ)) → SpelledScripts m ds → ArePlain xs → ArePlain (actors_from xs ds)
+plain_from : (m : List (List ℕ)) (ds : List DoForm) (xs : List (List ℕ)) → SpelledScripts m ds → ArePlain xs
+    → ArePlain (actors_from xs ds)
 plain_from m [] xs s h = h
-plain_from m (d ∷ ds) xs s h = plain_from m ds (with_actor xs d.actor.text) s.2 (plain_with xs d.actor.text h (plain_name d.actor.text s.0))
+plain_from m (d ∷ ds) xs s h =
+    plain_from m ds (with_actor xs d.actor.text) s.2 (plain_with xs d.actor.text h (plain_name d.actor.text s.0))
 
 plain_at : (xs : List (List ℕ)) (a : ℕ) → ArePlain xs → HasNoColon (actor_name xs a)
 plain_at [] a h = tt
 plain_at (x ∷ xs) zero h = h.0
 plain_at (x ∷ xs) (suc a) h = plain_at xs a h.1
 
-pub are_actor_names : (bytes : List ℕ) (t : Source) → IsText true bytes t → AreActorNames (length (actors_of t.script)) (actor_name (actors_of t.script))
+pub are_actor_names : (bytes : List ℕ) (t : Source) → IsText true bytes t
+    → AreActorNames (length (actors_of t.script)) (actor_name (actors_of t.script))
 are_actor_names bytes t text = record {
   plain = λ a below. plain_at (actors_of t.script) a (plain_from _ t.script [] text.forms.spelled.script tt);
   distinct = λ a b ha hb e. actor_names_are_distinct t.script a b ha hb e;
 }
 
 pub output_tells : OutputTellsItsHistory
-output_tells flags bytes t h k text one other e = text_tells (style t flags) t.program.functions t.script h k (are_actor_names bytes t text) one other e
+output_tells flags bytes t h k text one other e =
+    text_tells (style t flags) t.program.functions t.script h k (are_actor_names bytes t text) one other e

@@ -44,23 +44,33 @@ abbrev line_style : List State → List (List ℕ) → Flags → LineStyle
 line_style states actors flags = record { titles = record { states = states; actors = actors }; flags = flags }
 
 -- The parsed program and script give the output of the source text.
-pub run-is : {threads : Bool} {bytes : List ℕ} {states : List State} {functions : List Func} {actors : List (List ℕ)} {forms : List DoForm} (flags : Flags) (h : IsRead threads bytes states functions actors forms) (p : Source) → IsText threads bytes p →
+pub run-is : {threads : Bool} {bytes : List ℕ} {states : List State} {functions : List Func} {actors : List (List ℕ)}
+    {forms : List DoForm} (flags : Flags) (h : IsRead threads bytes states functions actors forms) (p : Source)
+    → IsText threads bytes p →
     run_text (line_style states actors flags) functions (script_parts actors forms) ≡ run_output flags p
 unfolding run_output
 run-is {bytes = bytes} {functions = functions} {actors = actors} {forms = forms} flags h p t =
     ap (λ ss. run_text (line_style ss actors flags) functions (script_parts actors forms)) h.states_are
     ∙ ap (λ l. run_text (line_style h.source.program.states l flags) functions (script_parts l forms)) h.actors_are
-    ∙ ap (λ l. run_text (line_style h.source.program.states (actors_of h.source.script) flags) l (script_parts (actors_of h.source.script) forms)) h.functions_are
-    ∙ ap (λ l. run_text (line_style h.source.program.states (actors_of h.source.script) flags) h.source.program.functions (script_parts (actors_of h.source.script) l)) h.forms_are
+    ∙ ap (λ l. run_text (line_style h.source.program.states (actors_of h.source.script) flags) l
+    (script_parts (actors_of h.source.script) forms)) h.functions_are
+    ∙ ap (λ l. run_text (line_style h.source.program.states (actors_of h.source.script) flags)
+    h.source.program.functions (script_parts (actors_of h.source.script) l)) h.forms_are
     ∙ ap (run_output flags) (text_one bytes h.source p h.text t)
 
 -- Lines of a history of the parsed script are an output of the source text.
-pub woven-is : {bytes : List ℕ} {states : List State} {functions : List Func} {actors : List (List ℕ)} {forms : List DoForm} (flags : Flags) (h : IsRead true bytes states functions actors forms) (p : Source) → IsText true bytes p →
-    (out : List ℕ) → IsWovenText (line_style states actors flags) functions forms out → IsWovenText (style p flags) p.program.functions p.script out
+pub woven-is : {bytes : List ℕ} {states : List State} {functions : List Func} {actors : List (List ℕ)}
+    {forms : List DoForm} (flags : Flags) (h : IsRead true bytes states functions actors forms) (p : Source)
+    → IsText true bytes p →
+    (out : List ℕ) → IsWovenText (line_style states actors flags) functions forms out
+    → IsWovenText (style p flags) p.program.functions p.script out
 woven-is {bytes = bytes} {functions = functions} {actors = actors} {forms = forms} flags h p t out w =
-    subst (λ (q : Source). IsWovenText (style q flags) q.program.functions q.script out) (text_one bytes h.source p h.text t)
-    (subst (λ l. IsWovenText (line_style h.source.program.states (actors_of h.source.script) flags) h.source.program.functions l out) h.forms_are
-    (subst (λ l. IsWovenText (line_style h.source.program.states (actors_of h.source.script) flags) l forms out) h.functions_are
+    subst (λ (q : Source). IsWovenText (style q flags) q.program.functions q.script out)
+    (text_one bytes h.source p h.text t)
+    (subst (λ l. IsWovenText (line_style h.source.program.states (actors_of h.source.script) flags)
+    h.source.program.functions l out) h.forms_are
+    (subst (λ l. IsWovenText (line_style h.source.program.states (actors_of h.source.script) flags) l forms out)
+    h.functions_are
     (subst (λ l. IsWovenText (line_style h.source.program.states l flags) functions forms out) h.actors_are
     (subst (λ ss. IsWovenText (line_style ss actors flags) functions forms out) h.states_are w))))
 
@@ -70,40 +80,74 @@ job-fine {bytes} {input} b threads ok =
     let h : IsInput true bytes input = subst (λ c. IsInput c bytes input) threads ok in
     record {
       actors = h.read.actors_are ∙ ap actors_of (sym h.read.forms_are);
-      fine = ap (λ ss. script_faults true ss None input.job.script.forms.items) h.read.states_are ∙ ap (λ fs. script_faults true h.read.source.program.states None fs) h.read.forms_are ∙ h.read.text.runs;
+      fine = ap (λ ss. script_faults true ss None input.job.script.forms.items) h.read.states_are
+          ∙ ap (λ fs. script_faults true h.read.source.program.states None fs) h.read.forms_are ∙ h.read.text.runs;
     }
 
 -- The summary in memory is the output of `gen`.
-pub gen-is : (number size : ℕ) (t : Tally) (text : List ℕ) → t ≡ generated_counts number size → text ≡ summary_text t → text ≡ gen_output number size
+pub gen-is : (number size : ℕ) (t : Tally) (text : List ℕ) → t ≡ generated_counts number size → text ≡ summary_text t
+    → text ≡ gen_output number size
 unfolding gen_output
 gen-is number size t text counted is = is ∙ ap summary_text counted
 
 -- The log of the parsed program and script is that of the source text.
-pub logs-is : {threads : Bool} {bytes : List ℕ} {states : List State} {functions : List Func} {actors : List (List ℕ)} {forms : List DoForm} {T : Type 0} (h : IsRead threads bytes states functions actors forms) (p : Source) → IsText threads bytes p → (r : Result T Stop) (old new : Option (List Entry)) →
-    OnOk r (LogsRun (record { states = states; actors = actors }) functions (script_parts actors forms) old new) → OnOk r (LogsText p old new)
+pub logs-is : {threads : Bool} {bytes : List ℕ} {states : List State} {functions : List Func} {actors : List (List ℕ)}
+    {forms : List DoForm} {T : Type 0} (h : IsRead threads bytes states functions actors forms) (p : Source)
+    → IsText threads bytes p → (r : Result T Stop) (old new : Option (List Entry)) →
+    OnOk r (LogsRun (record { states = states; actors = actors }) functions (script_parts actors forms) old new)
+    → OnOk r (LogsText p old new)
 logs-is {bytes = bytes} {functions = functions} {actors = actors} {forms = forms} h p t r old new x =
     subst (λ (q : Source). OnOk r (LogsText q old new)) (text_one bytes h.source p h.text t)
-    (subst (λ l. OnOk r (LogsRun (record { states = h.source.program.states; actors = actors_of h.source.script }) h.source.program.functions (script_parts (actors_of h.source.script) l) old new)) h.forms_are
-    (subst (λ l. OnOk r (LogsRun (record { states = h.source.program.states; actors = actors_of h.source.script }) l (script_parts (actors_of h.source.script) forms) old new)) h.functions_are
-    (subst (λ l. OnOk r (LogsRun (record { states = h.source.program.states; actors = l }) functions (script_parts l forms) old new)) h.actors_are
-    (subst (λ ss. OnOk r (LogsRun (record { states = ss; actors = actors }) functions (script_parts actors forms) old new)) h.states_are x))))
+    (subst (λ l. OnOk r (LogsRun (record { states = h.source.program.states; actors = actors_of h.source.script })
+    h.source.program.functions (script_parts (actors_of h.source.script) l) old new)) h.forms_are
+    (subst (λ l. OnOk r (LogsRun (record { states = h.source.program.states; actors = actors_of h.source.script }) l
+    (script_parts (actors_of h.source.script) forms) old new)) h.functions_are
+    (subst (λ l. OnOk r (LogsRun (record { states = h.source.program.states; actors = l }) functions
+    (script_parts l forms) old new)) h.actors_are
+    (subst (λ ss. OnOk r (LogsRun (record { states = ss; actors = actors }) functions (script_parts actors forms) old
+    new)) h.states_are x))))
 
 -- The log of a run that stopped, likewise.
-pub stops-is : {threads : Bool} {bytes : List ℕ} {states : List State} {functions : List Func} {actors : List (List ℕ)} {forms : List DoForm} {T : Type 0} (flags : Flags) (h : IsRead threads bytes states functions actors forms) (p : Source) → IsText threads bytes p → (r : Result T Stop) (old new : Option (List Entry)) (a z : Option (List ℕ)) →
-    OnErr r (StopsRun (record { titles = record { states = states; actors = actors }; flags = flags }) functions (script_parts actors forms) old new a z) → OnErr r (StopsText flags p old new a z)
+pub stops-is : {threads : Bool} {bytes : List ℕ} {states : List State} {functions : List Func} {actors : List (List ℕ)}
+    {forms : List DoForm} {T : Type 0} (flags : Flags) (h : IsRead threads bytes states functions actors forms)
+    (p : Source) → IsText threads bytes p
+    → (r : Result T Stop) (old new : Option (List Entry)) (a z : Option (List ℕ)) →
+    OnErr r (StopsRun (record { titles = record { states = states; actors = actors }; flags = flags }) functions
+    (script_parts actors forms) old new a z) → OnErr r (StopsText flags p old new a z)
 stops-is {bytes = bytes} {functions = functions} {actors = actors} {forms = forms} flags h p t r old new a z x =
     subst (λ (q : Source). OnErr r (StopsText flags q old new a z)) (text_one bytes h.source p h.text t)
-    (subst (λ l. OnErr r (StopsRun (record { titles = record { states = h.source.program.states; actors = actors_of h.source.script }; flags = flags }) h.source.program.functions (script_parts (actors_of h.source.script) l) old new a z)) h.forms_are
-    (subst (λ l. OnErr r (StopsRun (record { titles = record { states = h.source.program.states; actors = actors_of h.source.script }; flags = flags }) l (script_parts (actors_of h.source.script) forms) old new a z)) h.functions_are
-    (subst (λ l. OnErr r (StopsRun (record { titles = record { states = h.source.program.states; actors = l }; flags = flags }) functions (script_parts l forms) old new a z)) h.actors_are
-    (subst (λ ss. OnErr r (StopsRun (record { titles = record { states = ss; actors = actors }; flags = flags }) functions (script_parts actors forms) old new a z)) h.states_are x))))
+    (subst (λ l. OnErr r (StopsRun (record {
+      titles = record {
+        states = h.source.program.states;
+        actors = actors_of h.source.script;
+      };
+      flags = flags;
+    }) h.source.program.functions
+    (script_parts (actors_of h.source.script) l) old new a z)) h.forms_are
+    (subst (λ l. OnErr r (StopsRun (record {
+      titles = record {
+        states = h.source.program.states;
+        actors = actors_of h.source.script;
+      };
+      flags = flags;
+    }) l (script_parts (actors_of h.source.script) forms) old
+    new a z)) h.functions_are
+    (subst (λ l. OnErr r (StopsRun (record {
+      titles = record { states = h.source.program.states; actors = l };
+      flags = flags;
+    }) functions (script_parts l forms) old new a z)) h.actors_are
+    (subst (λ ss. OnErr r (StopsRun (record { titles = record { states = ss; actors = actors }; flags = flags })
+    functions (script_parts actors forms) old new a z)) h.states_are x))))
 
 -- Nothing was logged.
-pub unlogged-text : (flags : Flags) (p : Source) (old : Option (List Entry)) (a z : Option (List ℕ)) → StopsText flags p old old a z
-unlogged-text flags p old a z = unlogged_stop (style p flags) p.program.functions (script_parts (actors_of p.script) p.script) old old a z refl
+pub unlogged-text : (flags : Flags) (p : Source) (old : Option (List Entry)) (a z : Option (List ℕ))
+    → StopsText flags p old old a z
+unlogged-text flags p old a z =
+    unlogged_stop (style p flags) p.program.functions (script_parts (actors_of p.script) p.script) old old a z refl
 
 -- What is true after a command that stopped.
-pub stopped-after : {T P : Type 0} (r : Result T Stop) → (run_status r ≡ status.WriteFault) ⊎ (run_status r ≡ status.NoMemory) → OnErr r P → P
+pub stopped-after : {T P : Type 0} (r : Result T Stop)
+    → (run_status r ≡ status.WriteFault) ⊎ (run_status r ≡ status.NoMemory) → OnErr r P → P
 stopped-after (Ok x) (inl e) h = absurd cc
 stopped-after (Ok x) (inr e) h = absurd cc
 stopped-after (Err e) stopped h = h
@@ -120,7 +164,10 @@ done-after (Err stop.WriteFault) e h = absurd cc
 done-after (Err stop.NoMemory) e h = absurd cc
 
 -- A part of the output of a source text, which has no fault.
-pub text-part : (command : Command) (bytes : List ℕ) (a z : Option (List ℕ)) → ((fault : Fault) → IsFault (has_threads command) bytes fault → ⊥) → ((p : Source) → IsText (has_threads command) bytes p → (out : List ℕ) × IsOutput command (Some p) out × AppendsPart a z out) → WritesPart command bytes a z
+pub text-part : (command : Command) (bytes : List ℕ) (a z : Option (List ℕ))
+    → ((fault : Fault) → IsFault (has_threads command) bytes fault → ⊥)
+    → ((p : Source) → IsText (has_threads command) bytes p
+    → (out : List ℕ) × IsOutput command (Some p) out × AppendsPart a z out) → WritesPart command bytes a z
 text-part command bytes a z good part = record { lines = part; refusal = λ fault f. absurd (good fault f) }
 
 le_or_lt : (p q : ℕ) → (p ≤ q) ⊎ (q < p)
@@ -131,7 +178,10 @@ pub one-command : (o : Option Command) (a b : Command) → o ≡ Some a → o �
 one-command o a b e f = cc
 
 -- A part of the line of the one fault of rejected bytes.
-pub refused-part : (command : Command) (bytes : List ℕ) (fault : Fault) (a z : Option (List ℕ)) → IsNoText (has_threads command) bytes → ((other : Fault) → IsFault (has_threads command) bytes other → other ≡ fault) → AppendsPart a z (fault_line fault) → WritesPart command bytes a z
+pub refused-part : (command : Command) (bytes : List ℕ) (fault : Fault) (a z : Option (List ℕ))
+    → IsNoText (has_threads command) bytes
+    → ((other : Fault) → IsFault (has_threads command) bytes other → other ≡ fault) → AppendsPart a z (fault_line fault)
+    → WritesPart command bytes a z
 refused-part command bytes fault a z none one part = record {
   lines = λ p t. absurd (none p t);
   refusal = λ other f. subst (λ g. AppendsPart a z (fault_line g)) (sym (one other f)) part;
@@ -153,50 +203,80 @@ nothing-part command (Some bytes) a = record {
 }
 
 -- Every status has its cause, so a source text is done unless the call failed.
-pub text-answers : (threads : Bool) (r : Status) (left : Option (List ℕ)) {B C D E : Type 0} (P : List ℕ → Type 0) (taken limit : ℕ) (bytes : List ℕ) (p : Source) → ((bs : List ℕ) → P bs → IsNoText threads bs) → left ≡ Some bytes → taken ≤ limit → IsText threads bytes p →
-    r ≢ status.Usage → (r ≡ status.BadInput → IfSome left P) → (r ≡ status.TooLong → (limit < taken) × B) → (r ≡ status.ReadFault → C × D) → (r ≡ status.WriteFault → E) →
+pub text-answers : (threads : Bool) (r : Status) (left : Option (List ℕ)) {B C D E : Type 0} (P : List ℕ → Type 0)
+    (taken limit : ℕ) (bytes : List ℕ) (p : Source) → ((bs : List ℕ) → P bs → IsNoText threads bs) → left ≡ Some bytes
+    → taken ≤ limit → IsText threads bytes p →
+    r ≢ status.Usage → (r ≡ status.BadInput → IfSome left P) → (r ≡ status.TooLong → (limit < taken) × B)
+    → (r ≡ status.ReadFault → C × D) → (r ≡ status.WriteFault → E) →
     (r ≡ status.Done) ⊎ ((r ≡ status.NoMemory) ⊎ (((r ≡ status.ReadFault) × C) ⊎ ((r ≡ status.WriteFault) × E)))
 text-answers threads status.Done left P taken limit bytes p out e few t usage bad long fault write = inl refl
-text-answers threads status.Usage left P taken limit bytes p out e few t usage bad long fault write = absurd (usage refl)
-text-answers threads status.BadInput left P taken limit bytes p out e few t usage bad long fault write = absurd (out bytes (subst (λ o. IfSome o P) e (bad refl)) p t)
-text-answers threads status.ReadFault left P taken limit bytes p out e few t usage bad long fault write = inr (inr (inl (refl, (fault refl).0)))
-text-answers threads status.WriteFault left P taken limit bytes p out e few t usage bad long fault write = inr (inr (inr (refl, write refl)))
+text-answers threads status.Usage left P taken limit bytes p out e few t usage bad long fault write =
+    absurd (usage refl)
+text-answers threads status.BadInput left P taken limit bytes p out e few t usage bad long fault write =
+    absurd (out bytes (subst (λ o. IfSome o P) e (bad refl)) p t)
+text-answers threads status.ReadFault left P taken limit bytes p out e few t usage bad long fault write =
+    inr (inr (inl (refl, (fault refl).0)))
+text-answers threads status.WriteFault left P taken limit bytes p out e few t usage bad long fault write =
+    inr (inr (inr (refl, write refl)))
 text-answers threads status.NoMemory left P taken limit bytes p out e few t usage bad long fault write = inr (inl refl)
-text-answers threads status.TooLong left P taken limit bytes p out e few t usage bad long fault write = absurd (let more = (long refl).0 in omega (arith, more, few))
+text-answers threads status.TooLong left P taken limit bytes p out e few t usage bad long fault write =
+    absurd (let more = (long refl).0 in omega (arith, more, few))
 
 -- Every status has its cause, so other bytes are rejected unless the call failed.
-pub other-answers : (threads : Bool) (r : Status) (left : Option (List ℕ)) {B C D E : Type 0} (P : List ℕ → Type 0) (taken limit : ℕ) (bytes : List ℕ) → ((bs : List ℕ) → P bs → (p : Source) × IsText threads bs p) → left ≡ Some bytes → taken ≤ limit → IsNoText threads bytes →
-    r ≢ status.Usage → (r ≡ status.Done → IfSome left P) → (r ≡ status.TooLong → (limit < taken) × B) → (r ≡ status.ReadFault → C × D) → (r ≡ status.WriteFault → E) →
+pub other-answers : (threads : Bool) (r : Status) (left : Option (List ℕ)) {B C D E : Type 0} (P : List ℕ → Type 0)
+    (taken limit : ℕ) (bytes : List ℕ) → ((bs : List ℕ) → P bs → (p : Source) × IsText threads bs p) → left ≡ Some bytes
+    → taken ≤ limit → IsNoText threads bytes →
+    r ≢ status.Usage → (r ≡ status.Done → IfSome left P) → (r ≡ status.TooLong → (limit < taken) × B)
+    → (r ≡ status.ReadFault → C × D) → (r ≡ status.WriteFault → E) →
     (r ≡ status.BadInput) ⊎ ((r ≡ status.NoMemory) ⊎ (((r ≡ status.ReadFault) × C) ⊎ ((r ≡ status.WriteFault) × E)))
-other-answers threads status.Done left P taken limit bytes out e few none usage done long fault write = let d = out bytes (subst (λ o. IfSome o P) e (done refl)) in absurd (none d.0 d.1)
-other-answers threads status.Usage left P taken limit bytes out e few none usage done long fault write = absurd (usage refl)
+other-answers threads status.Done left P taken limit bytes out e few none usage done long fault write =
+    let d = out bytes (subst (λ o. IfSome o P) e (done refl)) in absurd (none d.0 d.1)
+other-answers threads status.Usage left P taken limit bytes out e few none usage done long fault write =
+    absurd (usage refl)
 other-answers threads status.BadInput left P taken limit bytes out e few none usage done long fault write = inl refl
-other-answers threads status.ReadFault left P taken limit bytes out e few none usage done long fault write = inr (inr (inl (refl, (fault refl).0)))
-other-answers threads status.WriteFault left P taken limit bytes out e few none usage done long fault write = inr (inr (inr (refl, write refl)))
-other-answers threads status.NoMemory left P taken limit bytes out e few none usage done long fault write = inr (inl refl)
-other-answers threads status.TooLong left P taken limit bytes out e few none usage done long fault write = absurd (let more = (long refl).0 in omega (arith, more, few))
+other-answers threads status.ReadFault left P taken limit bytes out e few none usage done long fault write =
+    inr (inr (inl (refl, (fault refl).0)))
+other-answers threads status.WriteFault left P taken limit bytes out e few none usage done long fault write =
+    inr (inr (inr (refl, write refl)))
+other-answers threads status.NoMemory left P taken limit bytes out e few none usage done long fault write =
+    inr (inl refl)
+other-answers threads status.TooLong left P taken limit bytes out e few none usage done long fault write =
+    absurd (let more = (long refl).0 in omega (arith, more, few))
 
 -- Rejected bytes that have a fault are rejected with the line of that fault.
-pub fault-answers : (threads : Bool) (r : Status) (left : Option (List ℕ)) {F : Type 0} (P : List ℕ → Type 0) (a z : Option (List ℕ)) (bytes : List ℕ) (fault : Fault) →
-    ((bs : List ℕ) → P bs → (g : Fault) × IsFault threads bs g × Appends a z (fault_line g)) → left ≡ Some bytes → IsFault threads bytes fault → (r ≡ status.BadInput → IfSome left P) →
+pub fault-answers : (threads : Bool) (r : Status) (left : Option (List ℕ)) {F : Type 0} (P : List ℕ → Type 0)
+    (a z : Option (List ℕ)) (bytes : List ℕ) (fault : Fault) →
+    ((bs : List ℕ) → P bs → (g : Fault) × IsFault threads bs g × Appends a z (fault_line g)) → left ≡ Some bytes
+    → IsFault threads bytes fault → (r ≡ status.BadInput → IfSome left P) →
     (r ≡ status.BadInput) ⊎ F → ((r ≡ status.BadInput) × Appends a z (fault_line fault)) ⊎ F
 fault-answers threads r left P a z bytes fault out e f bad h = elim h [
-  | inl is ↦ let w = out bytes (subst (λ o. IfSome o P) e (bad is)) in inl (is, subst (λ (g : Fault). Appends a z (fault_line g)) (one_fault threads bytes w.0 fault w.1 f) w.2)
+  | inl is ↦ let w = out bytes (subst (λ o. IfSome o P) e (bad is)) in
+      inl (is, subst (λ (g : Fault). Appends a z (fault_line g)) (one_fault threads bytes w.0 fault w.1 f) w.2)
   | inr failed ↦ inr failed
 ]
 
 -- The promise for one command.
-pub command-same : {before after : Streams} {result : Status} (a b : Command) → a ≡ b → CommandMeets a before after result → CommandMeets b before after result
-command-same {before = before} {after = after} {result = result} a b e h = subst (λ (c : Command). CommandMeets c before after result) e h
+pub command-same : {before after : Streams} {result : Status} (a b : Command) → a ≡ b
+    → CommandMeets a before after result → CommandMeets b before after result
+command-same {before = before} {after = after} {result = result} a b e h =
+    subst (λ (c : Command). CommandMeets c before after result) e h
 
 pub keeps-same : (o : Option (List ℕ)) → Keeps o o
 keeps-same None = tt
 keeps-same (Some bytes) = refl
 
 -- The promise for a command that ran out of memory before anything was written.
-pub memory-meets : (c : Command) (left left' : Option (List ℕ)) (taken taken' faults faults' : ℕ) (written : Option (List ℕ)) (write_faults : ℕ) → rise taken taken' ≤ input_limit →
-    CommandMeets c (record { left = left; taken = taken; read_faults = faults; written = written; write_faults = write_faults })
-    (record { left = left'; taken = taken'; read_faults = faults'; written = written; write_faults = write_faults }) status.NoMemory
+pub memory-meets : (c : Command) (left left' : Option (List ℕ)) (taken taken' faults faults' : ℕ)
+    (written : Option (List ℕ)) (write_faults : ℕ) → rise taken taken' ≤ input_limit →
+    CommandMeets c (record {
+      left = left;
+      taken = taken;
+      read_faults = faults;
+      written = written;
+      write_faults = write_faults;
+    })
+    (record { left = left'; taken = taken'; read_faults = faults'; written = written; write_faults = write_faults })
+    status.NoMemory
 memory-meets c left left' taken taken' faults faults' written write_faults short = record {
   not_usage = λ e. absurd cc;
   done = λ e. absurd cc;
@@ -213,9 +293,17 @@ memory-meets c left left' taken taken' faults faults' written write_faults short
 }
 
 -- The promise for a command whose read failed.
-pub read-fault-meets : (c : Command) (left left' : Option (List ℕ)) (taken taken' faults faults' : ℕ) (written : Option (List ℕ)) (write_faults : ℕ) → rise taken taken' ≤ input_limit → Rose faults faults' →
-    CommandMeets c (record { left = left; taken = taken; read_faults = faults; written = written; write_faults = write_faults })
-    (record { left = left'; taken = taken'; read_faults = faults'; written = written; write_faults = write_faults }) status.ReadFault
+pub read-fault-meets : (c : Command) (left left' : Option (List ℕ)) (taken taken' faults faults' : ℕ)
+    (written : Option (List ℕ)) (write_faults : ℕ) → rise taken taken' ≤ input_limit → Rose faults faults' →
+    CommandMeets c (record {
+      left = left;
+      taken = taken;
+      read_faults = faults;
+      written = written;
+      write_faults = write_faults;
+    })
+    (record { left = left'; taken = taken'; read_faults = faults'; written = written; write_faults = write_faults })
+    status.ReadFault
 read-fault-meets c left left' taken taken' faults faults' written write_faults short rose = record {
   not_usage = λ e. absurd cc;
   done = λ e. absurd cc;
@@ -233,12 +321,17 @@ read-fault-meets c left left' taken taken' faults faults' written write_faults s
 
 -- The promise for a command whose input is too long.
 pub long-meets : (c : Command) (before after : Streams) (r : Status) → (r ≡ status.TooLong) ⊎ (r ≡ status.WriteFault) →
-    (r ≡ status.TooLong → Appends before.written after.written long_line) → (r ≡ status.WriteFault → AppendsPart before.written after.written long_line) →
-    (r ≡ status.WriteFault → Rose before.write_faults after.write_faults) → input_limit < rise before.taken after.taken → rise before.taken after.taken ≤ input_limit + 1 →
-    ((bytes : List ℕ) → before.left ≡ Some bytes → rise before.taken after.taken ≤ length bytes) → CommandMeets c before after r
+    (r ≡ status.TooLong → Appends before.written after.written long_line)
+    → (r ≡ status.WriteFault → AppendsPart before.written after.written long_line) →
+    (r ≡ status.WriteFault → Rose before.write_faults after.write_faults) → input_limit < rise before.taken after.taken
+    → rise before.taken after.taken ≤ input_limit + 1 →
+    ((bytes : List ℕ) → before.left ≡ Some bytes → rise before.taken after.taken ≤ length bytes)
+    → CommandMeets c before after r
 long-meets c before after r answers all part rose long most told =
-    let not : (s : Status) → (status.TooLong ≡ s → ⊥) → (status.WriteFault ≡ s → ⊥) → r ≡ s → ⊥ = λ s one other e. elim answers [ inl is ↦ one (sym is ∙ e) | inr is ↦ other (sym is ∙ e) ] in
-    let short : (bytes : List ℕ) → before.left ≡ Some bytes → length bytes ≤ input_limit → ⊥ = λ bytes given few. (let taken = told bytes given in omega (arith, taken, few, long)) in
+    let not : (s : Status) → (status.TooLong ≡ s → ⊥) → (status.WriteFault ≡ s → ⊥) → r ≡ s → ⊥ =
+    λ s one other e. elim answers [ inl is ↦ one (sym is ∙ e) | inr is ↦ other (sym is ∙ e) ] in
+    let short : (bytes : List ℕ) → before.left ≡ Some bytes → length bytes ≤ input_limit → ⊥ =
+    λ bytes given few. (let taken = told bytes given in omega (arith, taken, few, long)) in
     record {
       not_usage = not status.Usage (λ e. absurd cc) (λ e. absurd cc);
       done = λ e. absurd (not status.Done (λ e. absurd cc) (λ e. absurd cc) e);
@@ -255,20 +348,27 @@ long-meets c before after r answers all part rose long most told =
     }
 
 -- The promise for a command that read the whole input.
-pub read-meets : (c : Command) (before after : Streams) (r : Status) (bytes : List ℕ) → Consumes before.left after.left bytes → IsAtEnd after.left → length bytes ≤ input_limit →
-    rise before.taken after.taken ≡ length bytes → (r ≡ status.Done → WritesOutput c before after bytes) → (r ≡ status.BadInput → WritesFault c before after bytes) →
-    ((r ≡ status.WriteFault) ⊎ (r ≡ status.NoMemory) → WritesPart c bytes before.written after.written) → (r ≡ status.WriteFault → Rose before.write_faults after.write_faults) →
+pub read-meets : (c : Command) (before after : Streams) (r : Status) (bytes : List ℕ)
+    → Consumes before.left after.left bytes → IsAtEnd after.left → length bytes ≤ input_limit →
+    rise before.taken after.taken ≡ length bytes → (r ≡ status.Done → WritesOutput c before after bytes)
+    → (r ≡ status.BadInput → WritesFault c before after bytes) →
+    ((r ≡ status.WriteFault) ⊎ (r ≡ status.NoMemory) → WritesPart c bytes before.written after.written)
+    → (r ≡ status.WriteFault → Rose before.write_faults after.write_faults) →
     (r ≢ status.Usage) × (r ≢ status.ReadFault) × (r ≢ status.TooLong) → CommandMeets c before after r
 read-meets c before after r bytes consumed end few taken done bad part rose others =
-    let Done' : List ℕ → Type 0 = λ bs. IsAtEnd after.left × (length bs ≤ input_limit) × WritesOutput c before after bs in
+    let Done' : List ℕ → Type 0 = λ bs. IsAtEnd after.left × (length bs ≤ input_limit)
+    × WritesOutput c before after bs in
     let Bad' : List ℕ → Type 0 = λ bs. IsAtEnd after.left × (length bs ≤ input_limit) × WritesFault c before after bs in
-    let is_done : r ≡ status.Done → IfSome before.left Done' = λ e. Consumes-whole _ _ bytes Done' consumed end (end, few, done e) in
-    let is_bad : r ≡ status.BadInput → IfSome before.left Bad' = λ e. Consumes-whole _ _ bytes Bad' consumed end (end, few, bad e) in
+    let is_done : r ≡ status.Done → IfSome before.left Done' =
+    λ e. Consumes-whole _ _ bytes Done' consumed end (end, few, done e) in
+    let is_bad : r ≡ status.BadInput → IfSome before.left Bad' =
+    λ e. Consumes-whole _ _ bytes Bad' consumed end (end, few, bad e) in
     let is_long : r ≡ status.TooLong → (input_limit < rise before.taken after.taken) × ⊥ = λ e. absurd (others.2 e) in
     let is_read : r ≡ status.ReadFault → Rose before.read_faults after.read_faults × ⊥ = λ e. absurd (others.1 e) in
     let short : rise before.taken after.taken ≤ input_limit = omega (arith, taken, few) in
     let refuses : (bs : List ℕ) → before.left ≡ Some bs → IsNoText (has_threads c) bs → (r ≡ status.BadInput) ⊎ HasFailed before after r = λ bs given none.
-    other-answers (has_threads c) r before.left Done' (rise before.taken after.taken) input_limit bs (λ xs h. (h.2.0, h.2.1)) given short none others.0 is_done is_long is_read rose in
+    other-answers (has_threads c) r before.left Done' (rise before.taken after.taken) input_limit bs
+    (λ xs h. (h.2.0, h.2.1)) given short none others.0 is_done is_long is_read rose in
     record {
       not_usage = others.0;
       done = is_done;
@@ -277,53 +377,67 @@ read-meets c before after r bytes consumed end few taken done bad part rose othe
       long_told = λ more. absurd (omega (arith, more, short));
       read_fault = λ e. absurd (others.1 e);
       write_fault = rose;
-      part = λ s stopped. Consumes-whole _ _ bytes (λ bs. WritesPart c bs before.written after.written) consumed end (part stopped);
-      complete = λ bs t given s text. text-answers (has_threads c) r before.left Bad' (rise before.taken after.taken) input_limit bs t (λ xs h. h.2.0) given short text others.0 is_bad is_long is_read rose;
+      part = λ s stopped. Consumes-whole _ _ bytes (λ bs. WritesPart c bs before.written after.written) consumed end
+          (part stopped);
+      complete = λ bs t given s text. text-answers (has_threads c) r before.left Bad' (rise before.taken after.taken)
+          input_limit bs t (λ xs h. h.2.0) given short text others.0 is_bad is_long is_read rose;
       refused = λ bs given s none. refuses bs given none;
-      faulty = λ bs fault given s f. fault-answers (has_threads c) r before.left Bad' before.written after.written bs fault (λ xs h. h.2.1) given f is_bad (refuses bs given (faulty_is_no_text (has_threads c) bs fault f));
+      faulty = λ bs fault given s f. fault-answers (has_threads c) r before.left Bad' before.written after.written bs
+          fault (λ xs h. h.2.1) given f is_bad (refuses bs given (faulty_is_no_text (has_threads c) bs fault f));
       at_most = omega (arith, short);
     }
 
 -- The count of bytes taken, if the input is not too long.
-pub not-long : {T E : Type 0} (r : Result T E) (e long : E) (n : ℕ) → r ≡ Err e → (long ≡ e → ⊥) → (input_limit < n → r ≡ Err long) → n ≤ input_limit
-not-long r e long n is other more = elim (le_or_lt n input_limit) [ inl le ↦ le | inr lt ↦ absurd (other (let m = more lt in cc)) ]
+pub not-long : {T E : Type 0} (r : Result T E) (e long : E) (n : ℕ) → r ≡ Err e → (long ≡ e → ⊥)
+    → (input_limit < n → r ≡ Err long) → n ≤ input_limit
+not-long r e long n is other more =
+    elim (le_or_lt n input_limit) [ inl le ↦ le | inr lt ↦ absurd (other (let m = more lt in cc)) ]
 
 -- The output of a command that is done.
-pub done-says : {T : Type 0} (r : Result T Stop) (a z : Option (List ℕ)) (c : Command) (t : Source) → run_status r ≡ status.Done → SaysOutput a z c t r →
+pub done-says : {T : Type 0} (r : Result T Stop) (a z : Option (List ℕ)) (c : Command) (t : Source)
+    → run_status r ≡ status.Done → SaysOutput a z c t r →
     (out : List ℕ) × IsOutput c (Some t) out × Appends a z out
 done-says (Ok x) a z c t e says = (says.0, says.1, says.2.all)
 done-says (Err stop.WriteFault) a z c t e says = absurd cc
 done-says (Err stop.NoMemory) a z c t e says = absurd cc
 
 -- A part of the output of a command that stopped.
-pub stopped-says : {T : Type 0} (r : Result T Stop) (a z : Option (List ℕ)) (c : Command) (t : Source) → (run_status r ≡ status.WriteFault) ⊎ (run_status r ≡ status.NoMemory) → SaysOutput a z c t r →
+pub stopped-says : {T : Type 0} (r : Result T Stop) (a z : Option (List ℕ)) (c : Command) (t : Source)
+    → (run_status r ≡ status.WriteFault) ⊎ (run_status r ≡ status.NoMemory) → SaysOutput a z c t r →
     (out : List ℕ) × IsOutput c (Some t) out × AppendsPart a z out
 stopped-says (Ok x) a z c t e says = elim e [ inl e ↦ absurd cc | inr e ↦ absurd cc ]
 stopped-says (Err s) a z c t e says = (says.0, says.1, says.2.part)
 
 -- The count of failed writes of a command.
-pub rose-after : {T : Type 0} (r : Result T Stop) (before now : ℕ) → run_status r ≡ status.WriteFault → FaultsAfter before now r → Rose before now
+pub rose-after : {T : Type 0} (r : Result T Stop) (before now : ℕ) → run_status r ≡ status.WriteFault
+    → FaultsAfter before now r → Rose before now
 rose-after (Ok x) before now e h = absurd cc
 rose-after (Err stop.WriteFault) before now e h = h
 rose-after (Err stop.NoMemory) before now e h = absurd cc
 
-pub clean-after : {T : Type 0} (r : Result T Stop) (before now : ℕ) → run_status r ≢ status.WriteFault → FaultsAfter before now r → now ≡ before
+pub clean-after : {T : Type 0} (r : Result T Stop) (before now : ℕ) → run_status r ≢ status.WriteFault
+    → FaultsAfter before now r → now ≡ before
 clean-after (Ok x) before now e h = h
 clean-after (Err stop.WriteFault) before now e h = absurd (e refl)
 clean-after (Err stop.NoMemory) before now e h = h
 
 -- A command on a source text is not answered with these statuses.
-pub run-others : {T : Type 0} (r : Result T Stop) → (run_status r ≢ status.Usage) × (run_status r ≢ status.ReadFault) × (run_status r ≢ status.TooLong) × (run_status r ≢ status.BadInput)
+pub run-others : {T : Type 0} (r : Result T Stop)
+    → (run_status r ≢ status.Usage) × (run_status r ≢ status.ReadFault) × (run_status r ≢ status.TooLong)
+    × (run_status r ≢ status.BadInput)
 run-others (Ok x) = ((λ e. absurd cc), (λ e. absurd cc), (λ e. absurd cc), λ e. absurd cc)
 run-others (Err stop.WriteFault) = ((λ e. absurd cc), (λ e. absurd cc), (λ e. absurd cc), λ e. absurd cc)
 run-others (Err stop.NoMemory) = ((λ e. absurd cc), (λ e. absurd cc), (λ e. absurd cc), λ e. absurd cc)
 
 -- After a failed write the first count is the one before the first of two calls.
-pub faults-after : {T : Type 0} (r : Result T Stop) (before middle now : ℕ) → middle ≡ before → FaultsAfter middle now r → FaultsAfter before now r
+pub faults-after : {T : Type 0} (r : Result T Stop) (before middle now : ℕ) → middle ≡ before → FaultsAfter middle now r
+    → FaultsAfter before now r
 faults-after r before middle now e h = subst (λ n. FaultsAfter n now r) e h
 
 -- A command leaves the world where it makes no call on it.
-pub leaves : {P : Type 0} (o : Option Command) (c : Command) (r : Status) → o ≡ Some c → (KeepsWorld c → P) → ((r ≡ status.BadInput) ⊎ ((r ≡ status.TooLong) ⊎ (r ≡ status.ReadFault)) → P) → r ≢ status.Usage → LeavesWorld o r → P
+pub leaves : {P : Type 0} (o : Option Command) (c : Command) (r : Status) → o ≡ Some c → (KeepsWorld c → P)
+    → ((r ≡ status.BadInput) ⊎ ((r ≡ status.TooLong) ⊎ (r ≡ status.ReadFault)) → P) → r ≢ status.Usage → LeavesWorld o r
+    → P
 leaves o c r asks keeps refused not_usage h = elim h [
   | inl none ↦ absurd cc
   | inr more ↦ elim more [
@@ -340,36 +454,68 @@ is_threads Check h = absurd cc
 is_threads (Gen number size) h = absurd cc
 
 -- The promise for a command whose input was parsed.
-pub parsed-meets : {T : Type 0} (c : Command) (threads : Bool) → has_threads c ≡ threads → (before middle : Streams) (input : Input) (r : Result T Stop) (written : Option (List ℕ)) (faults : ℕ) → (h : ReadsInput threads before middle input) →
-    ((t : Source) → IsText threads h.bytes t → SaysOutput middle.written written c t r) → FaultsAfter middle.write_faults faults r →
-    CommandMeets c before (record { left = middle.left; taken = middle.taken; read_faults = middle.read_faults; written = written; write_faults = faults }) (run_status r)
+pub parsed-meets : {T : Type 0} (c : Command) (threads : Bool) → has_threads c ≡ threads
+    → (before middle : Streams) (input : Input) (r : Result T Stop) (written : Option (List ℕ)) (faults : ℕ)
+    → (h : ReadsInput threads before middle input) →
+    ((t : Source) → IsText threads h.bytes t → SaysOutput middle.written written c t r)
+    → FaultsAfter middle.write_faults faults r →
+    CommandMeets c before (record {
+      left = middle.left;
+      taken = middle.taken;
+      read_faults = middle.read_faults;
+      written = written;
+      write_faults = faults;
+    }) (run_status r)
 parsed-meets c threads kind before middle input r written faults h says counted =
-    let said : (t : Source) → IsText threads h.bytes t → SaysOutput before.written written c t r = λ t text. subst (λ o. SaysOutput o written c t r) h.written (says t text) in
-    let after : Streams = record { left = middle.left; taken = middle.taken; read_faults = middle.read_faults; written = written; write_faults = faults } in
+    let said : (t : Source) → IsText threads h.bytes t → SaysOutput before.written written c t r =
+    λ t text. subst (λ o. SaysOutput o written c t r) h.written (says t text) in
+    let after : Streams = record {
+      left = middle.left;
+      taken = middle.taken;
+      read_faults = middle.read_faults;
+      written = written;
+      write_faults = faults;
+    } in
     let others = run-others r in
     let read = h.parsed.read in
     read-meets c before after (run_status r) h.bytes h.consumed h.end h.few h.taken
-    (λ e. (read.source, subst (λ b. IsText b h.bytes read.source) (sym kind) read.text, done-says r before.written written c read.source e (said read.source read.text)))
+    (λ e. (
+      read.source,
+      subst (λ b. IsText b h.bytes read.source) (sym kind) read.text,
+      done-says r before.written written c read.source e (said read.source read.text),
+    ))
     (λ e. absurd (others.3 e))
-    (λ e. text-part c h.bytes before.written written (λ fault f. h.good fault (subst (λ b. IsFault b h.bytes fault) kind f)) (λ p t. stopped-says r before.written written c p e (said p (subst (λ b. IsText b h.bytes p) kind t))))
+    (λ e. text-part c h.bytes before.written written
+    (λ fault f. h.good fault (subst (λ b. IsFault b h.bytes fault) kind f))
+    (λ p t. stopped-says r before.written written c p e (said p (subst (λ b. IsText b h.bytes p) kind t))))
     (λ e. rose-after r before.write_faults faults e (subst (λ n. FaultsAfter n faults r) h.faults counted))
     (others.0, others.1, others.2)
 
 -- The promise for a command whose input was read but not parsed.
-pub refused-meets : (c : Command) (before after : Streams) (r : Result Input Status) (bytes items : List ℕ) → bytes ≡ items → Consumes before.left after.left items → IsAtEnd after.left → length items ≤ input_limit →
+pub refused-meets : (c : Command) (before after : Streams) (r : Result Input Status) (bytes items : List ℕ)
+    → bytes ≡ items → Consumes before.left after.left items → IsAtEnd after.left → length items ≤ input_limit →
     rise before.taken after.taken ≡ length items → (r ≡ Err status.BadInput → WritesFault c before after bytes) →
-    ((r ≡ Err status.WriteFault) ⊎ (r ≡ Err status.NoMemory) → WritesPart c bytes before.written after.written) → (r ≡ Err status.WriteFault → Rose before.write_faults after.write_faults) →
+    ((r ≡ Err status.WriteFault) ⊎ (r ≡ Err status.NoMemory) → WritesPart c bytes before.written after.written)
+    → (r ≡ Err status.WriteFault → Rose before.write_faults after.write_faults) →
     IfErr r IsRefusal → IfErr r (CommandMeets c before after)
 refused-meets c before after (Ok x) bytes items same consumed end few taken bad part rose others = tt
 refused-meets c before after (Err s) bytes items same consumed end few taken bad part rose others =
-    read-meets c before after s bytes (subst (Consumes before.left after.left) (sym same) consumed) end (subst (λ l. length l ≤ input_limit) (sym same) few) (taken ∙ ap (λ l. length l) (sym same))
-    (λ e. absurd (subst IsRefusal e others)) (λ e. bad (ap Err e)) (λ e. part (elim e [ inl a ↦ inl (ap Err a) | inr b ↦ inr (ap Err b) ])) (λ e. rose (ap Err e))
-    ((λ e. absurd (subst IsRefusal e others)), (λ e. absurd (subst IsRefusal e others)), λ e. absurd (subst IsRefusal e others))
+    read-meets c before after s bytes (subst (Consumes before.left after.left) (sym same) consumed) end
+    (subst (λ l. length l ≤ input_limit) (sym same) few) (taken ∙ ap (λ l. length l) (sym same))
+    (λ e. absurd (subst IsRefusal e others)) (λ e. bad (ap Err e))
+    (λ e. part (elim e [ inl a ↦ inl (ap Err a) | inr b ↦ inr (ap Err b) ])) (λ e. rose (ap Err e)) (
+      (λ e. absurd (subst IsRefusal e others)),
+      (λ e. absurd (subst IsRefusal e others)),
+      λ e. absurd (subst IsRefusal e others),
+    )
 
 -- The input that was parsed.
-pub parsed-input : (threads : Bool) (before after : Streams) (r : Result Input Status) (bytes items : List ℕ) → bytes ≡ items → Consumes before.left after.left items → IsAtEnd after.left → length items ≤ input_limit →
-    rise before.taken after.taken ≡ length items → IfOk r (λ input. IsInput threads bytes input) → OnOk r ((fault : Fault) → IsFault threads bytes fault → ⊥) →
-    OnOk r ((after.written ≡ before.written) × (after.write_faults ≡ before.write_faults)) → IfOk r (ReadsInput threads before after)
+pub parsed-input : (threads : Bool) (before after : Streams) (r : Result Input Status) (bytes items : List ℕ)
+    → bytes ≡ items → Consumes before.left after.left items → IsAtEnd after.left → length items ≤ input_limit →
+    rise before.taken after.taken ≡ length items → IfOk r (λ input. IsInput threads bytes input)
+    → OnOk r ((fault : Fault) → IsFault threads bytes fault → ⊥) →
+    OnOk r ((after.written ≡ before.written) × (after.write_faults ≡ before.write_faults))
+    → IfOk r (ReadsInput threads before after)
 parsed-input threads before after (Err s) bytes items same consumed end few taken parsed good still = tt
 parsed-input threads before after (Ok input) bytes items same consumed end few taken parsed good still = record {
   bytes = bytes;
@@ -395,13 +541,18 @@ GeneratedMeets Check before after r = Unit {0}
 GeneratedMeets (Gen number size) before after r = GenMeets number size before after r
 
 -- The promise for the arguments of `gen`.
-pub generated-meets : (words : List (List ℕ)) (before after : Streams) (r : Status) (number size : ℕ) → command_of_args words ≡ Some (Gen number size) → GenMeets number size before after r →
-    (r ≢ status.ReadFault → after.read_faults ≡ before.read_faults) → (r ≢ status.WriteFault → after.write_faults ≡ before.write_faults) → PlayMeets words before after r
+pub generated-meets : (words : List (List ℕ)) (before after : Streams) (r : Status) (number size : ℕ)
+    → command_of_args words ≡ Some (Gen number size) → GenMeets number size before after r →
+    (r ≢ status.ReadFault → after.read_faults ≡ before.read_faults)
+    → (r ≢ status.WriteFault → after.write_faults ≡ before.write_faults) → PlayMeets words before after r
 unfolding GeneratedMeets
 generated-meets words before after r number size asks meets reads writes = record {
   no_command = λ none. absurd (let e : None ≡ Some (Gen number size) = sym none ∙ asks in cc);
-  command = λ k told needs. absurd (let e : has_input (Gen number size) ≡ true = subst (λ c. has_input c ≡ true) (one-command (command_of_args words) k (Gen number size) told asks) needs in cc);
-  generated = λ n s told. subst (λ c. GeneratedMeets c before after r) (one-command (command_of_args words) (Gen number size) (Gen n s) asks told) meets;
+  command = λ k told needs. absurd (let e : has_input (Gen number size)
+      ≡ true = subst (λ c. has_input c ≡ true) (one-command (command_of_args words) k (Gen number size) told asks)
+      needs in cc);
+  generated = λ n s told. subst (λ c. GeneratedMeets c before after r)
+      (one-command (command_of_args words) (Gen number size) (Gen n s) asks told) meets;
   reads = reads;
   writes = writes;
 }

@@ -42,15 +42,23 @@ ended stop.NoMemory never = refl
 
 module _ (threads : Bool) where
   -- The cause of a stop is the fault that it reports.
-  pub cause-fault : (bytes : List ℕ) (t : TextStop) → Cause bytes t → (fault : Fault) → text_end t ≡ Bad fault → IsFault threads bytes fault
-  cause-fault bytes (stop.NotUtf8 at) cause fault e = let same : record { kind = Utf8; at = at } ≡ fault = cc in subst (IsFault threads bytes) same cause
-  cause-fault bytes (stop.Bad at) cause fault e = let same : record { kind = Text; at = at } ≡ fault = cc in subst (IsFault threads bytes) same cause
-  cause-fault bytes (stop.TooDeep at) cause fault e = let same : record { kind = Deep; at = at } ≡ fault = cc in subst (IsFault threads bytes) same cause
+  pub cause-fault : (bytes : List ℕ) (t : TextStop) → Cause bytes t → (fault : Fault) → text_end t ≡ Bad fault
+      → IsFault threads bytes fault
+  cause-fault bytes (stop.NotUtf8 at) cause fault e =
+      let same : record { kind = Utf8; at = at } ≡ fault = cc in subst (IsFault threads bytes) same cause
+  cause-fault bytes (stop.Bad at) cause fault e =
+      let same : record { kind = Text; at = at } ≡ fault = cc in subst (IsFault threads bytes) same cause
+  cause-fault bytes (stop.TooDeep at) cause fault e =
+      let same : record { kind = Deep; at = at } ≡ fault = cc in subst (IsFault threads bytes) same cause
   cause-fault bytes stop.NoMemory cause fault e = absurd cc
 
   -- Bytes that the tree parser rejects are not a source text.
-  pub stop-none : (bytes : List ℕ) (t : TextStop) → (t ≢ stop.NoMemory → (f : Forest) → Spells bytes f → nesting f ≤ 100 → ⊥) → (fault : Fault) → text_end t ≡ Bad fault → IsNoText threads bytes
-  stop-none bytes t never fault e p text = never (λ (same : t ≡ stop.NoMemory). let memory : NoMemory ≡ Bad fault = subst (λ s. text_end s ≡ Bad fault) same e in absurd cc) text.forest text.spelled text.shallow
+  pub stop-none : (bytes : List ℕ) (t : TextStop)
+      → (t ≢ stop.NoMemory → (f : Forest) → Spells bytes f → nesting f ≤ 100 → ⊥) → (fault : Fault)
+      → text_end t ≡ Bad fault → IsNoText threads bytes
+  stop-none bytes t never fault e p text =
+      never (λ (same : t ≡ stop.NoMemory). let memory : NoMemory ≡ Bad fault =
+      subst (λ s. text_end s ≡ Bad fault) same e in absurd cc) text.forest text.spelled text.shallow
 
 -- Whether the tree parser reports faults of a kind.
 abbrev is_texts : FaultKind → Bool
@@ -88,18 +96,21 @@ later-script (Some (script.Type at)) fault e = later-bad (record { kind = «Type
 later-script (Some (script.Actor at)) fault e = later-bad (record { kind = Actor; at = at }) fault refl e
 later-script (Some script.NoMemory) fault e = absurd cc
 
-later-check : (o : Option checks.ProgramFault) (p : Option ScriptStop) → IsLater (option_or (option_map (λ f. check_end (check.ProgramFault f)) o) (option_map script_end p))
+later-check : (o : Option checks.ProgramFault) (p : Option ScriptStop)
+    → IsLater (option_or (option_map (λ f. check_end (check.ProgramFault f)) o) (option_map script_end p))
 later-check None p fault e = later-script p fault e
 later-check (Some f) p fault e = later-bad (record { kind = check_kind f.kind; at = f.at }) fault (later-kind f.kind) e
 
 module _ (threads : Bool) where
   later-reading : (beyond : Option ℕ) (r : Result Source FormStop) → IsLater (reading_refusal threads beyond r)
-  later-reading beyond (Ok t) fault e = later-check (least_fault (program_faults t.program)) (script_refusal threads t.program.states beyond t.script) fault e
+  later-reading beyond (Ok t) fault e = later-check (least_fault (program_faults t.program))
+      (script_refusal threads t.program.states beyond t.script) fault e
   later-reading beyond (Err (form.Form at)) fault e = later-bad (record { kind = Form; at = at }) fault refl e
   later-reading beyond (Err (form.Limit at)) fault e = later-bad (record { kind = Limit; at = at }) fault refl e
   later-reading beyond (Err form.NoMemory) fault e = absurd cc
 
-  later-at : (bytes : List ℕ) (kind : FaultKind) (at : ℕ) → is_texts kind ≡ false → IsRefused threads bytes (record { kind = kind; at = at }) → IsFaultAt threads bytes at kind
+  later-at : (bytes : List ℕ) (kind : FaultKind) (at : ℕ) → is_texts kind ≡ false
+      → IsRefused threads bytes (record { kind = kind; at = at }) → IsFaultAt threads bytes at kind
   later-at bytes Utf8 at e h = absurd cc
   later-at bytes Text at e h = absurd cc
   later-at bytes Deep at e h = absurd cc
@@ -113,25 +124,41 @@ module _ (threads : Bool) where
   later-at bytes Actor at e h = h
 
   -- The refusal of a refused forest, as the parser computes it.
-  pub refused_is : (bytes : List ℕ) (fault : Fault) (h : IsRefused threads bytes fault) → refusal threads (length bytes) h.forest ≡ Some (Bad fault)
-  refused_is bytes fault h = ap (reading_refusal threads (least (oversized_script_offsets h.forest))) (sym (answer_one (length bytes) h.forest h.answer h.by_forms)) ∙ h.refused
+  pub refused_is : (bytes : List ℕ) (fault : Fault) (h : IsRefused threads bytes fault)
+      → refusal threads (length bytes) h.forest ≡ Some (Bad fault)
+  refused_is bytes fault h = ap (reading_refusal threads (least (oversized_script_offsets h.forest)))
+      (sym (answer_one (length bytes) h.forest h.answer h.by_forms)) ∙ h.refused
 
   -- A rejected forest is rejected with a fault of the bytes.
-  pub refused-fault : (bytes : List ℕ) (f : Forest) (fault : Fault) → Spells bytes f → nesting f ≤ 100 → refusal threads (length bytes) f ≡ Some (Bad fault) → IsFault threads bytes fault
+  pub refused-fault : (bytes : List ℕ) (f : Forest) (fault : Fault) → Spells bytes f → nesting f ≤ 100
+      → refusal threads (length bytes) f ≡ Some (Bad fault) → IsFault threads bytes fault
   refused-fault bytes f fault spelled shallow e =
-      later-at bytes fault.kind fault.at (later-reading (least (oversized_script_offsets f)) (text_answer (length bytes) f) fault e) (record { forest = f; spelled = spelled; shallow = shallow; answer = text_answer (length bytes) f; by_forms = answer_is (length bytes) f; refused = e })
+      later-at bytes fault.kind fault.at
+      (later-reading (least (oversized_script_offsets f)) (text_answer (length bytes) f) fault e)
+      (record {
+        forest = f;
+        spelled = spelled;
+        shallow = shallow;
+        answer = text_answer (length bytes) f;
+        by_forms = answer_is (length bytes) f;
+        refused = e;
+      })
 
-module _ {T : Type 0} (threads : Bool) (bytes : List ℕ) (r : Result T TextStop) (told : (s : TextStop) → s ≢ stop.NoMemory → Cause bytes s → (r ≡ Err s) ⊎ (r ≡ Err stop.NoMemory)) where
-  told-as : (t s : TextStop) → r ≡ Err t → s ≢ stop.NoMemory → Cause bytes s → (text_end t ≡ text_end s) ⊎ (text_end t ≡ NoMemory)
+module _ {T : Type 0} (threads : Bool) (bytes : List ℕ) (r : Result T TextStop)
+    (told : (s : TextStop) → s ≢ stop.NoMemory → Cause bytes s → (r ≡ Err s) ⊎ (r ≡ Err stop.NoMemory)) where
+  told-as : (t s : TextStop) → r ≡ Err t → s ≢ stop.NoMemory → Cause bytes s
+      → (text_end t ≡ text_end s) ⊎ (text_end t ≡ NoMemory)
   told-as t s is other cause = elim (told s other cause) [
     | inl e ↦ let same : t ≡ s = cc in inl (ap text_end same)
     | inr e ↦ let same : t ≡ stop.NoMemory = cc in inr (ap text_end same)
   ]
 
-  unread : (t : TextStop) (fault : Fault) → (t ≢ stop.NoMemory → (f : Forest) → Spells bytes f → nesting f ≤ 100 → ⊥) → IsRefused threads bytes fault → (text_end t ≡ Bad fault) ⊎ (text_end t ≡ NoMemory)
+  unread : (t : TextStop) (fault : Fault) → (t ≢ stop.NoMemory → (f : Forest) → Spells bytes f → nesting f ≤ 100 → ⊥)
+      → IsRefused threads bytes fault → (text_end t ≡ Bad fault) ⊎ (text_end t ≡ NoMemory)
   unread t fault never h = inr (ended t (λ other. never other h.forest h.spelled h.shallow))
 
-  stopped-at : (t : TextStop) → r ≡ Err t → (t ≢ stop.NoMemory → (f : Forest) → Spells bytes f → nesting f ≤ 100 → ⊥) → (kind : FaultKind) (at : ℕ) → IsFaultAt threads bytes at kind →
+  stopped-at : (t : TextStop) → r ≡ Err t → (t ≢ stop.NoMemory → (f : Forest) → Spells bytes f → nesting f ≤ 100 → ⊥)
+      → (kind : FaultKind) (at : ℕ) → IsFaultAt threads bytes at kind →
       (text_end t ≡ Bad (record { kind = kind; at = at })) ⊎ (text_end t ≡ NoMemory)
   stopped-at t is never Utf8 at cause = told-as t (stop.NotUtf8 at) is (λ e. absurd cc) cause
   stopped-at t is never Text at cause = told-as t (stop.Bad at) is (λ e. absurd cc) cause
@@ -146,14 +173,19 @@ module _ {T : Type 0} (threads : Bool) (bytes : List ℕ) (r : Result T TextStop
   stopped-at t is never Actor at h = unread t _ never h
 
   -- If the tree parser stopped, any fault is the one that it reports, unless it is out of memory.
-  pub stopped : (t : TextStop) → r ≡ Err t → (t ≢ stop.NoMemory → (f : Forest) → Spells bytes f → nesting f ≤ 100 → ⊥) → (fault : Fault) → IsFault threads bytes fault →
+  pub stopped : (t : TextStop) → r ≡ Err t → (t ≢ stop.NoMemory → (f : Forest) → Spells bytes f → nesting f ≤ 100 → ⊥)
+      → (fault : Fault) → IsFault threads bytes fault →
       (text_end t ≡ Bad fault) ⊎ (text_end t ≡ NoMemory)
   stopped t is never fault h = stopped-at t is never fault.kind fault.at h
 
-  read-at : (x : T) → r ≡ Ok x → (kind : FaultKind) (at : ℕ) → IsFaultAt threads bytes at kind → IsRefused threads bytes (record { kind = kind; at = at })
-  read-at x is Utf8 at cause = elim (told (stop.NotUtf8 at) (λ e. absurd cc) cause) [ inl e ↦ absurd cc | inr e ↦ absurd cc ]
-  read-at x is Text at cause = elim (told (stop.Bad at) (λ e. absurd cc) cause) [ inl e ↦ absurd cc | inr e ↦ absurd cc ]
-  read-at x is Deep at cause = elim (told (stop.TooDeep at) (λ e. absurd cc) cause) [ inl e ↦ absurd cc | inr e ↦ absurd cc ]
+  read-at : (x : T) → r ≡ Ok x → (kind : FaultKind) (at : ℕ) → IsFaultAt threads bytes at kind
+      → IsRefused threads bytes (record { kind = kind; at = at })
+  read-at x is Utf8 at cause =
+      elim (told (stop.NotUtf8 at) (λ e. absurd cc) cause) [ inl e ↦ absurd cc | inr e ↦ absurd cc ]
+  read-at x is Text at cause =
+      elim (told (stop.Bad at) (λ e. absurd cc) cause) [ inl e ↦ absurd cc | inr e ↦ absurd cc ]
+  read-at x is Deep at cause =
+      elim (told (stop.TooDeep at) (λ e. absurd cc) cause) [ inl e ↦ absurd cc | inr e ↦ absurd cc ]
   read-at x is Form at h = h
   read-at x is Limit at h = h
   read-at x is Double at h = h
@@ -164,14 +196,18 @@ module _ {T : Type 0} (threads : Bool) (bytes : List ℕ) (r : Result T TextStop
   read-at x is Actor at h = h
 
   -- If the bytes were parsed into trees, any fault is that of their forest.
-  pub read-fault : (x : T) → r ≡ Ok x → (f : Forest) → Spells bytes f → (fault : Fault) → IsFault threads bytes fault → refusal threads (length bytes) f ≡ Some (Bad fault)
+  pub read-fault : (x : T) → r ≡ Ok x → (f : Forest) → Spells bytes f → (fault : Fault) → IsFault threads bytes fault
+      → refusal threads (length bytes) f ≡ Some (Bad fault)
   read-fault x is f spelled fault h =
       let refused = read-at x is fault.kind fault.at h in
-      ap (refusal threads (length bytes)) (spells_one bytes f refused.forest spelled refused.spelled) ∙ refused_is threads bytes fault refused
+      ap (refusal threads (length bytes)) (spells_one bytes f refused.forest spelled refused.spelled)
+      ∙ refused_is threads bytes fault refused
 
 -- The reported fault is the fault of the forest, unless the process is out of memory.
-pub answered : {T : Type 0} (r : Result T TextEnd) (o : Option TextEnd) (fault : Fault) → OnOk r (o ≡ None) → ((g : Fault) → r ≡ Err (Bad g) → o ≡ Some (Bad g)) → o ≡ Some (Bad fault) →
+pub answered : {T : Type 0} (r : Result T TextEnd) (o : Option TextEnd) (fault : Fault) → OnOk r (o ≡ None)
+    → ((g : Fault) → r ≡ Err (Bad g) → o ≡ Some (Bad g)) → o ≡ Some (Bad fault) →
     (r ≡ Err (Bad fault)) ⊎ (r ≡ Err NoMemory)
 answered (Ok x) o fault fine bad e = absurd cc
-answered (Err (Bad g)) o fault fine bad e = let told = bad g refl in let same : g ≡ fault = cc in inl (ap (λ (f : Fault). Err (Bad f)) same)
+answered (Err (Bad g)) o fault fine bad e =
+    let told = bad g refl in let same : g ≡ fault = cc in inl (ap (λ (f : Fault). Err (Bad f)) same)
 answered (Err NoMemory) o fault fine bad e = inr refl

@@ -62,29 +62,45 @@ module _ (threads : Bool) (bytes : List ℕ) (f : Forest) (spelled : Spells byte
   beyond = least (oversized_script_offsets f)
 
   -- The script's part of a refusal, if the program has no fault.
-  later : (t : Source) → text_answer (length bytes) f ≡ Ok t → least_fault (program_faults t.program) ≡ None → (p : Option ScriptStop) →
-      script_refusal threads t.program.states beyond t.script ≡ p → refusal threads (length bytes) f ≡ option_map script_end p
+  later : (t : Source) → text_answer (length bytes) f ≡ Ok t → least_fault (program_faults t.program) ≡ None
+      → (p : Option ScriptStop) →
+      script_refusal threads t.program.states beyond t.script ≡ p
+      → refusal threads (length bytes) f ≡ option_map script_end p
   later t e h p k =
       ap (reading_refusal threads beyond) e
-      ∙ ap (λ o. option_or (option_map (λ x. check_end (check.ProgramFault x)) o) (option_map script_end (script_refusal threads t.program.states beyond t.script))) h
+      ∙ ap (λ o. option_or (option_map (λ x. check_end (check.ProgramFault x)) o)
+      (option_map script_end (script_refusal threads t.program.states beyond t.script))) h
       ∙ ap (option_map script_end) k
 
   rejected : (fault : Fault) → refusal threads (length bytes) f ≡ Some (Bad fault) → Answer threads bytes
   rejected fault e = inr (fault, refused-fault threads bytes f fault spelled shallow e)
 
-  checked : (t : Source) → text_answer (length bytes) f ≡ Ok t → (o : Option checks.ProgramFault) → least_fault (program_faults t.program) ≡ o →
+  checked : (t : Source) → text_answer (length bytes) f ≡ Ok t → (o : Option checks.ProgramFault)
+      → least_fault (program_faults t.program) ≡ o →
       (p : Option ScriptStop) → script_refusal threads t.program.states beyond t.script ≡ p → Answer threads bytes
-  checked t e (Some g) h p k = rejected (check_fault g) (ap (reading_refusal threads beyond) e ∙ ap (λ o. option_or (option_map (λ x. check_end (check.ProgramFault x)) o) (option_map script_end (script_refusal threads t.program.states beyond t.script))) h)
+  checked t e (Some g) h p k = rejected (check_fault g)
+      (ap (reading_refusal threads beyond) e
+      ∙ ap (λ o. option_or (option_map (λ x. check_end (check.ProgramFault x)) o)
+      (option_map script_end (script_refusal threads t.program.states beyond t.script))) h)
   checked t e None h None k =
-      inl (t, is_text threads bytes f t beyond spelled shallow (forms_answer (λ s. s) (length bytes) f (Ok t) e) (small_answers (λ s. s) (length bytes) f (Ok t) e) refl (no_answer _ h) k)
-  checked t e None h (Some (script.Limit at)) k = rejected (record { kind = Limit; at = at }) (later t e h (Some (script.Limit at)) k)
-  checked t e None h (Some (script.Unknown at)) k = rejected (record { kind = Unknown; at = at }) (later t e h (Some (script.Unknown at)) k)
-  checked t e None h (Some (script.Type at)) k = rejected (record { kind = «Type»; at = at }) (later t e h (Some (script.Type at)) k)
-  checked t e None h (Some (script.Actor at)) k = rejected (record { kind = Actor; at = at }) (later t e h (Some (script.Actor at)) k)
+      inl (
+        t,
+        is_text threads bytes f t beyond spelled shallow (forms_answer (λ s. s) (length bytes) f (Ok t) e)
+            (small_answers (λ s. s) (length bytes) f (Ok t) e) refl (no_answer _ h) k,
+      )
+  checked t e None h (Some (script.Limit at)) k =
+      rejected (record { kind = Limit; at = at }) (later t e h (Some (script.Limit at)) k)
+  checked t e None h (Some (script.Unknown at)) k =
+      rejected (record { kind = Unknown; at = at }) (later t e h (Some (script.Unknown at)) k)
+  checked t e None h (Some (script.Type at)) k =
+      rejected (record { kind = «Type»; at = at }) (later t e h (Some (script.Type at)) k)
+  checked t e None h (Some (script.Actor at)) k =
+      rejected (record { kind = Actor; at = at }) (later t e h (Some (script.Actor at)) k)
   checked t e None h (Some script.NoMemory) k = absurd (known_refusal threads t.program.states beyond t.script k)
 
   by-forms : (r : Result Source FormStop) → text_answer (length bytes) f ≡ r → Answer threads bytes
-  by-forms (Ok t) e = checked t e (least_fault (program_faults t.program)) refl (script_refusal threads t.program.states beyond t.script) refl
+  by-forms (Ok t) e = checked t e (least_fault (program_faults t.program)) refl
+      (script_refusal threads t.program.states beyond t.script) refl
   by-forms (Err (form.Form at)) e = rejected (record { kind = Form; at = at }) (ap (reading_refusal threads beyond) e)
   by-forms (Err (form.Limit at)) e = rejected (record { kind = Limit; at = at }) (ap (reading_refusal threads beyond) e)
   by-forms (Err form.NoMemory) e = absurd (never f _ e)
@@ -94,10 +110,12 @@ module _ (threads : Bool) where
   text_or_fault bytes = by (is_utf8 bytes) refl
     where
       by : (b : Bool) → is_utf8 bytes ≡ b → Answer threads bytes
-      by false e = stopped threads bytes (stop.NotUtf8 _) (λ k. absurd cc) ((λ utf8. let is = is_utf8-from_IsUtf8 bytes utf8 in absurd cc), refl)
+      by false e = stopped threads bytes (stop.NotUtf8 _) (λ k. absurd cc)
+          ((λ utf8. let is = is_utf8-from_IsUtf8 bytes utf8 in absurd cc), refl)
       by true e =
           let utf8 = IsUtf8-from_is_utf8 bytes e in
           elim (parsed bytes) [
-            | inl p ↦ by-forms threads bytes p.0 (spells-whole bytes p.0 utf8 p.1) p.2 (text_answer (length bytes) p.0) refl
+            | inl p ↦ by-forms threads bytes p.0 (spells-whole bytes p.0 utf8 p.1) p.2 (text_answer (length bytes) p.0)
+                refl
             | inr p ↦ stopped threads bytes p.0 p.1 (caused {V = Source} bytes (Err p.0) utf8 p.2)
           ]

@@ -27,9 +27,9 @@ use Rattle.play_core.specs.declared.fault.FaultKind.TheVariants.{Utf8, Text, Dee
 use Rattle.play_core.specs.declared.text.TextEnd.{TextEnd}
 use Rattle.play_core.specs.declared.text.TextEnd.TheVariants as end
 
--- Why a program with a script is rejected: the first fault of the program, else that of the script. `first_oversized` is
--- the offset of the first token of the script that exceeds its limit. `threads`: whether each actor has snapshot names of
--- its own.
+-- Why a program with a script is rejected: the first fault of the program, else that of the script. `first_oversized`
+-- is the offset of the first token of the script that exceeds its limit. `threads`: whether each actor has snapshot
+-- names of its own.
 abbrev pub source_refusal : Bool → Option ℕ → Source → Option TextEnd
 source_refusal threads first_oversized t =
     option_or (option_map (λ f. check_end (check.ProgramFault f)) (least_fault (program_faults t.program)))

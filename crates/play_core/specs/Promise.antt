@@ -151,8 +151,8 @@ LogsCommand o result left old new =
     (flags : Flags) → o ≡ Some (Run flags) → result ≡ status.Done →
     IfSome left (λ bytes. (t : Source) → IsText false bytes t → LogsText t old new)
 
--- A run of this source text with these flags stopped before its end. The log of the world, if there is one, grew by the calls
--- of a first part of the run, and the lines of all these calls but the last were written.
+-- A run of this source text with these flags stopped before its end. The log of the world, if there is one, grew by the
+-- calls of a first part of the run, and the lines of all these calls but the last were written.
 abbrev pub StopsText : Flags → Source → Option (List Entry) → Option (List Entry) → Option (List ℕ) → Option (List ℕ)
     → Type 0
 StopsText flags t old new before now =

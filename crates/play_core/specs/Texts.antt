@@ -45,8 +45,8 @@ titles t = record { states = t.program.states; actors = actors_of t.script }
 abbrev pub style : Source → Flags → LineStyle
 style t flags = record { titles = titles t; flags = flags }
 
--- The output of `run` with these flags: the lines of the history that the steps of all actors make in the plain world, in
--- source order.
+-- The output of `run` with these flags: the lines of the history that the steps of all actors make in the plain world,
+-- in source order.
 unfoldable pub run_output : Flags → Source → List ℕ
 run_output flags t = run_text (style t flags) t.program.functions (script_parts (actors_of t.script) t.script)
 

@@ -1,4 +1,5 @@
-// Laws of the faults of an input, of its program and of what is written for it, each the contract of a function without a body.
+// Laws of the faults of an input, of its program and of what is written for it, each the contract of a function without
+// a body.
 ghost use Rattle.std.specs.Prelude.{◌≡◌, ◌⊎◌, ℕ, Bool, List, []};
 ghost use Rattle.sexp_text.specs.Forest.{Forest};
 ghost use Rattle.lang_limits.specs.Sizes.{program_limits};
@@ -28,8 +29,8 @@ pub fn bytes_are_a_text_or_have_a_fault()
         ⊎ ((fault : fault_data) × IsFault threads bytes fault) }
 {}
 
-/// Law: an output of `threads` tells its history: no other history of the input in which the actors take turns has the same
-/// lines.
+/// Law: an output of `threads` tells its history: no other history of the input in which the actors take turns has the
+/// same lines.
 pub fn threads_output_tells_its_history()
     ensures { OutputTellsItsHistory }
 {}

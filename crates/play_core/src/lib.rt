@@ -1,6 +1,6 @@
-//! The program `compose_play` as a library. `play` reads a program with its script from a source. The command
-//! `run` makes the steps of the script's actors on a world of snapshots, composes each frame in its snapshot, and writes
-//! each line. The command `threads` lets the actors do so on threads of their own, and writes the lines afterwards. The
+//! The program `compose_play` as a library. `play` reads a program with its script from a source. The command `run`
+//! makes the steps of the script's actors on a world of snapshots, composes each frame in its snapshot, and writes each
+//! line. The command `threads` lets the actors do so on threads of their own, and writes the lines afterwards. The
 //! command `check` writes the canonical text of the input. The command `gen` reads nothing and writes the summary of a
 //! generated run.
 //!
@@ -8,8 +8,8 @@
 //! it, dispose it, and keep what the next frame owes. `compose_play` passes the world and the real streams.
 //! Promises: `run` writes exactly the lines that plain copied maps and composing from scratch give; `threads` writes
 //! such lines of a history in which the actors take turns in some order; `check` writes the trees of the forms of the
-//! program and the script, one a line; `gen` writes the counts of the history that its definition gives; each status has
-//! its cause; after a fault, or out of memory, what was written is a first part of this.
+//! program and the script, one a line; `gen` writes the counts of the history that its definition gives; each status
+//! has its cause; after a fault, or out of memory, what was written is a first part of this.
 #![tactic(auto)]
 
 mod canonical;

@@ -273,9 +273,9 @@ fn write_usage<K: Sink>(sink: &mut K) -> Status
 ///
 /// Reads a program with its script from `source`, and writes to `sink` line by line, each line with its LF as one
 /// piece. `run` makes the script's steps on `world`, which must be new, and writes the line of each call and of each
-/// frame when it is made, as its flags say. `check` writes the canonical text of the program and the script. `gen` reads
-/// nothing: it makes the steps of a generated script on `world`, which must be new, and writes the summary as one piece.
-/// Never blocks.
+/// frame when it is made, as its flags say. `check` writes the canonical text of the program and the script. `gen`
+/// reads nothing: it makes the steps of a generated script on `world`, which must be new, and writes the summary as one
+/// piece. Never blocks.
 ///
 /// `specs/Promise.antt` says what each status means: what was written, and what was taken from the source. In Compose
 /// this is the work of `Recomposer` and a test driver; the program and its lines are rules of this project.
@@ -312,9 +312,9 @@ pub fn play_alone<V: Versions<P = BuiltIn>, S: Source, K: Sink>(
 
 /// Runs the command that the arguments ask for, as `play_alone` does, and `threads` too.
 ///
-/// `threads` makes the steps of each actor on a thread of its own, all on one new world, and then writes the lines of all
-/// calls in the order in which they were made. Each thread calls `gate` before each of its calls on the world, with the
-/// number of its actor and the number of the call. While it waits for the turn on the shared world a thread blocks.
+/// `threads` makes the steps of each actor on a thread of its own, all on one new world, and then writes the lines of
+/// all calls in the order in which they were made. Each thread calls `gate` before each of its calls on the world, with
+/// the number of its actor and the number of the call. While it waits for the turn on the shared world a thread blocks.
 pub fn play<R: Threads + Wait + Sync, V: Versions<P = BuiltIn>, S: Source, K: Sink, G: Gate + Sync>(
     rt: &R,
     alloc: Global,

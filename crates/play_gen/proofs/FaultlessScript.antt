@@ -13,7 +13,8 @@ use Rattle.play_gen.specs.GeneratedProgram.{first_items, generated_states}
 use Rattle.play_gen.specs.GeneratedScript.{frame_step, change_steps, items_after, round_change, rounds, generated_script}
 
 -- No round has a repeat.
-change-repeats : (size : ℕ) (c : Change) (x : ℕ) (items : List ℤ) (more : List ScriptForm) → wrong_repeats (change_steps size c x items ++ more) ≡ wrong_repeats more
+change-repeats : (size : ℕ) (c : Change) (x : ℕ) (items : List ℤ) (more : List ScriptForm)
+    → wrong_repeats (change_steps size c x items ++ more) ≡ wrong_repeats more
 change-repeats size change.AddToTotal x items more = refl
 change-repeats size change.RaiseBest x items more = refl
 change-repeats size change.SetScale x items more = refl
@@ -22,11 +23,14 @@ change-repeats size change.RotateItems x items more = refl
 rounds-repeats : (size left x : ℕ) (items : List ℤ) → wrong_repeats (rounds size left x items) ≡ []
 rounds-repeats size zero x items = refl
 rounds-repeats size (suc left) x items =
-    change-repeats size (round_change x) (next_state x) items (frame_step ∷ rounds size left (next_state (next_state x)) (items_after size (round_change x) (next_state x) items))
+    change-repeats size (round_change x) (next_state x) items
+    (frame_step ∷ rounds size left (next_state (next_state x))
+    (items_after size (round_change x) (next_state x) items))
     ∙ rounds-repeats size left (next_state (next_state x)) (items_after size (round_change x) (next_state x) items)
 
 -- A round has at most four steps.
-change-count : (size : ℕ) (c : Change) (x : ℕ) (items : List ℤ) (more : List ScriptForm) → forms_count (change_steps size c x items ++ more) ≤ 3 + forms_count more
+change-count : (size : ℕ) (c : Change) (x : ℕ) (items : List ℤ) (more : List ScriptForm)
+    → forms_count (change_steps size c x items ++ more) ≤ 3 + forms_count more
 change-count size change.AddToTotal x items more = omega arith
 change-count size change.RaiseBest x items more = omega arith
 change-count size change.SetScale x items more = omega arith
@@ -36,7 +40,8 @@ rounds-count : (size left x : ℕ) (items : List ℤ) → forms_count (rounds si
 rounds-count size zero x items = omega arith
 rounds-count size (suc left) x items =
     let rest = rounds size left (next_state (next_state x)) (items_after size (round_change x) (next_state x) items) in
-    let few = rounds-count size left (next_state (next_state x)) (items_after size (round_change x) (next_state x) items) in
+    let few = rounds-count size left (next_state (next_state x))
+    (items_after size (round_change x) (next_state x) items) in
     let more = change-count size (round_change x) (next_state x) items (frame_step ∷ rest) in
     omega (arith, few, more)
 
@@ -44,7 +49,8 @@ abbrev g_name : List ℕ
 g_name = codes "g"
 
 -- After a take of `g` the name is known.
-known : (takers : List NamedNumber) (o : Option ℕ) → latest takers g_name ≡ o → unknown_name 0 (latest (with_taker takers g_name 0 o) g_name) ≡ []
+known : (takers : List NamedNumber) (o : Option ℕ) → latest takers g_name ≡ o
+    → unknown_name 0 (latest (with_taker takers g_name 0 o) g_name) ≡ []
 known takers None is = refl
 known takers (Some n) is = ap (unknown_name 0) is
 
@@ -52,7 +58,8 @@ module _ (size : ℕ) where
   abbrev faults : FirstUses → List ScriptForm → List ScriptStop
   faults u forms = steps_faults false (generated_states size) u (text_forms 0 forms)
 
-  change-faults : (c : Change) (x : ℕ) (items : List ℤ) (more : List ScriptForm) → ((u : FirstUses) → faults u more ≡ []) → (u : FirstUses) → faults u (change_steps size c x items ++ more) ≡ []
+  change-faults : (c : Change) (x : ℕ) (items : List ℤ) (more : List ScriptForm)
+      → ((u : FirstUses) → faults u more ≡ []) → (u : FirstUses) → faults u (change_steps size c x items ++ more) ≡ []
   change-faults change.AddToTotal x items more none u = none u
   change-faults change.RaiseBest x items more none u =
       let is = known u.takers (latest u.takers g_name) refl in
@@ -64,16 +71,23 @@ module _ (size : ℕ) where
   rounds-faults zero x items u = refl
   rounds-faults (suc left) x items u =
       change-faults (round_change x) (next_state x) items
-      (frame_step ∷ rounds size left (next_state (next_state x)) (items_after size (round_change x) (next_state x) items))
-      (λ v. rounds-faults left (next_state (next_state x)) (items_after size (round_change x) (next_state x) items) (record { takers = v.takers; framer = with_framer v.framer 0 })) u
+      (frame_step ∷ rounds size left (next_state (next_state x))
+      (items_after size (round_change x) (next_state x) items))
+      (λ v. rounds-faults left (next_state (next_state x)) (items_after size (round_change x) (next_state x) items)
+      (record { takers = v.takers; framer = with_framer v.framer 0 })) u
 
-long : (size number : ℕ) → size ≤ 1000 → nat_lt most_steps (forms_count (frame_step ∷ rounds size size (initial_state number) (first_items size))) ≡ false
-long size number few = let most = rounds-count size size (initial_state number) (first_items size) in grind (arith, few, most)
+long : (size number : ℕ) → size ≤ 1000
+    → nat_lt most_steps (forms_count (frame_step ∷ rounds size size (initial_state number) (first_items size))) ≡ false
+long size number few =
+    let most = rounds-count size size (initial_state number) (first_items size) in grind (arith, few, most)
 
-pub no_script_fault : (number size : ℕ) → size ≤ 1000 → script_faults false (generated_states size) None (generated_script number size) ≡ []
+pub no_script_fault : (number size : ℕ) → size ≤ 1000
+    → script_faults false (generated_states size) None (generated_script number size) ≡ []
 no_script_fault number size few =
     let forms = rounds size size (initial_state number) (first_items size) in
     let short = long size number few in
     let repeats = rounds-repeats size size (initial_state number) (first_items size) in
-    let names = rounds-faults size size (initial_state number) (first_items size) (record { takers = []; framer = Some 0 }) in
-    rw short (rw repeats (ap (λ l. steps_faults false (generated_states size) no_uses l) (append-nil (text_forms 0 (frame_step ∷ forms))) ∙ names))
+    let names = rounds-faults size size (initial_state number) (first_items size)
+    (record { takers = []; framer = Some 0 }) in
+    rw short (rw repeats (ap (λ l. steps_faults false (generated_states size) no_uses l)
+    (append-nil (text_forms 0 (frame_step ∷ forms))) ∙ names))

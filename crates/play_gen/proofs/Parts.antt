@@ -2,7 +2,19 @@
 use Rattle.std.proofs.Common.{append_assoc, append-nil}
 use Rattle.lang_ast.proofs.Views.{view-Literal, view-Variable, view-Get, view-Apply, view-Node, view-Call, view-Key, view-If, view-For, view-Let, view-Remember}
 
-pub ruleset parts = (view-Literal, view-Variable, view-Get, view-Apply, view-Node, view-Call, view-Key, view-If, view-For, view-Let, view-Remember)
+pub ruleset parts = (
+  view-Literal,
+  view-Variable,
+  view-Get,
+  view-Apply,
+  view-Node,
+  view-Call,
+  view-Key,
+  view-If,
+  view-For,
+  view-Let,
+  view-Remember,
+)
 
 -- Texts that grow at their end.
 pub ruleset joins = (append_assoc, append-nil)

@@ -3,8 +3,8 @@
 //! The command `gen` runs such an input, so that a large run needs no large text. `generate` returns a program whose
 //! rows, totals and lists depend on each other, and a script whose steps are drawn from the number. A rule of this
 //! project: Compose has no such part.
-//! Promises: program and script are those of `specs/GeneratedProgram.antt` and `specs/GeneratedScript.antt`, and neither
-//! has a fault.
+//! Promises: program and script are those of `specs/GeneratedProgram.antt` and `specs/GeneratedScript.antt`, and
+//! neither has a fault.
 #![tactic(auto)]
 
 mod counting;

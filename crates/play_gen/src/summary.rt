@@ -122,8 +122,8 @@ fn count_steps<V: Versions<P = BuiltIn>>(
     )
 }
 
-/// Makes the steps of the generated script on the generated program in a new world, draw by draw, and returns the counts
-/// of their history.
+/// Makes the steps of the generated script on the generated program in a new world, draw by draw, and returns the
+/// counts of their history.
 ///
 /// A rule of this project. Nothing is printed. Fails only if the process is out of memory.
 pub fn count_input<V: Versions<P = BuiltIn>>(

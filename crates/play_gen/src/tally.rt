@@ -5,8 +5,8 @@ ghost use Rattle.play_gen.specs.Tallies.{no_counts, refusal_counted, reply_count
 use rt_groups::Report;
 use snap_api::{Refusal, Reply};
 
-/// The counts of a run: the replies to the calls outside frames, the frames, and what their reports say. Each count stops
-/// at 2^64 - 1.
+/// The counts of a run: the replies to the calls outside frames, the frames, and what their reports say. Each count
+/// stops at 2^64 - 1.
 #[derive(Clone, Copy, Debug, PartialEq, Eq)]
 pub struct Tally {
     /// The snapshots taken.

@@ -25,31 +25,39 @@ use Rattle.play_run.specs.RunState.{MadeCalls, flat}
 shown : (flags : Flags) (t : GroupForest) → shown_groups flags (groups.preorder 0 t) ≡ flat (shown_tree flags (nodes t))
 shown flags t = by flags.json
   where
-    by : (b : Bool) → (if b then json_line (groups.preorder 0 t) else group_lines [] (groups.preorder 0 t)) ≡ flat (if b then line (tree_json (nodes t)) ∷ [] else tree_lines 0 (nodes t))
+    by : (b : Bool) → (if b then json_line (groups.preorder 0 t) else group_lines [] (groups.preorder 0 t))
+        ≡ flat (if b then line (tree_json (nodes t)) ∷ [] else tree_lines 0 (nodes t))
     by true =
         sym (append_assoc (91 ∷ groups_json initial_json (groups.preorder 0 t)) (93 ∷ []) (10 ∷ []))
         ∙ ap line (groups_tell_the_json t) ∙ sym (append-nil (line (tree_json (nodes t))))
     by false = groups_tell_the_tree t
 
 -- The lines of calls on an applier.
-shown_calls : (flags : Flags) (k : LastFrame) (trail : GroupForest) (calls : List Op) → (flags.ops ≡ true → calls ≡ frame_ops k trail) → shown_ops flags calls ≡ flat (ops_lines flags k trail)
+shown_calls : (flags : Flags) (k : LastFrame) (trail : GroupForest) (calls : List Op)
+    → (flags.ops ≡ true → calls ≡ frame_ops k trail) → shown_ops flags calls ≡ flat (ops_lines flags k trail)
 shown_calls flags k trail calls made = by flags.ops made
   where
     mapped : (xs : List Op) → flat_map op_line xs ≡ flat (map op_line xs)
     mapped [] = refl
     mapped (x ∷ xs) = ap (λ l. op_line x ++ l) (mapped xs)
 
-    by : (b : Bool) → (b ≡ true → calls ≡ frame_ops k trail) → (if b then flat_map op_line calls else []) ≡ flat (if b then map op_line (frame_ops k trail) else [])
+    by : (b : Bool) → (b ≡ true → calls ≡ frame_ops k trail)
+        → (if b then flat_map op_line calls else []) ≡ flat (if b then map op_line (frame_ops k trail) else [])
     by true is = ap (flat_map op_line) (is refl) ∙ mapped (frame_ops k trail)
     by false is = refl
 
 -- The lines of a good frame are those of its report, of its calls on an applier and of its groups.
-pub good_lines : (flags : Flags) (good : Option FrameResult) (k : LastFrame) (r : Report) (calls : List Op) → Some r ≡ option_map (λ g. g.told) good → MadeCalls flags k good calls →
-    report_line r ++ (shown_ops flags calls ++ shown_groups flags (groups.preorder 0 (kept_after k good).trail)) ≡ flat (frame_lines flags k good)
+pub good_lines : (flags : Flags) (good : Option FrameResult) (k : LastFrame) (r : Report) (calls : List Op)
+    → Some r ≡ option_map (λ g. g.told) good → MadeCalls flags k good calls →
+    report_line r ++ (shown_ops flags calls ++ shown_groups flags (groups.preorder 0 (kept_after k good).trail))
+    ≡ flat (frame_lines flags k good)
 good_lines flags None k r calls e made = absurd cc
 good_lines flags (Some good) k r calls e made =
     let trail = good.left.trail in
-    ap (λ t. report_line t ++ (shown_ops flags calls ++ shown_groups flags (groups.preorder 0 trail))) (ap (λ o. unwrap_or o r) e)
-    ∙ ap (λ l. report_line good.told ++ (l ++ shown_groups flags (groups.preorder 0 trail))) (shown_calls flags k trail calls made)
+    ap (λ t. report_line t ++ (shown_ops flags calls ++ shown_groups flags (groups.preorder 0 trail)))
+    (ap (λ o. unwrap_or o r) e)
+    ∙ ap (λ l. report_line good.told ++ (l ++ shown_groups flags (groups.preorder 0 trail)))
+    (shown_calls flags k trail calls made)
     ∙ ap (λ l. report_line good.told ++ (flat (ops_lines flags k trail) ++ l)) (shown flags trail)
-    ∙ ap (λ l. report_line good.told ++ l) (sym (flat_map-append (λ l. l) (ops_lines flags k trail) (shown_tree flags (nodes trail))))
+    ∙ ap (λ l. report_line good.told ++ l)
+    (sym (flat_map-append (λ l. l) (ops_lines flags k trail) (shown_tree flags (nodes trail))))

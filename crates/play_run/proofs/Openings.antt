@@ -44,14 +44,16 @@ same-itself ty.Text = refl
 same-itself ty.Ints = refl
 
 -- A state's value has its own type, and its policy fits.
-pub makes-state : (v : Value) (p : BuiltIn) → table_fits p (type_of v) ≡ true → make_refusal table (type_of v) p v ≡ None
+pub makes-state : (v : Value) (p : BuiltIn) → table_fits p (type_of v) ≡ true
+    → make_refusal table (type_of v) p v ≡ None
 makes-state v p fits = rw (same-itself (type_of v)) (rw fits refl)
 
 valid-states : (w : World BuiltIn) (ss : List State) → StatesFit ss → IsValid table w → IsValid table (with_states w ss)
 valid-states w [] fit h = h
 valid-states w (s ∷ more) fit h =
     valid-states (world_after_make w (type_of s.initial) s.policy s.initial) more fit.1
-    (valid_made h (type_of s.initial) s.policy s.initial (makeable table (type_of s.initial) s.policy s.initial (makes-state s.initial s.policy fit.0)))
+    (valid_made h (type_of s.initial) s.policy s.initial
+    (makeable table (type_of s.initial) s.policy s.initial (makes-state s.initial s.policy fit.0)))
 
 -- The opening world is valid.
 pub valid_opening : (states : List State) → StatesFit states → IsValid table (opening_world states)
@@ -60,17 +62,22 @@ valid_opening states fit = valid_watched (valid-states (start 0) states fit (val
 -- Making states takes no snapshot.
 count-states : (w : World BuiltIn) (ss : List State) → length (with_states w ss).snapshots ≡ length w.snapshots
 count-states w [] = refl
-count-states w (s ∷ more) = count-states (world_after_make w (type_of s.initial) s.policy s.initial) more ∙ length-map w.snapshots (with_object (record { value = s.initial; stamp = 0 }))
+count-states w (s ∷ more) = count-states (world_after_make w (type_of s.initial) s.policy s.initial) more
+    ∙ length-map w.snapshots (with_object (record { value = s.initial; stamp = 0 }))
 
 clock-states : (w : World BuiltIn) (ss : List State) → (with_states w ss).clock ≡ w.clock
 clock-states w [] = refl
 clock-states w (s ∷ more) = clock-states (world_after_make w (type_of s.initial) s.policy s.initial) more
 
-pub opened_facts : {functions : List Func} {V : Type 0} {stands : V → World BuiltIn → Type 0} {world : V} {kept : Composition} (actor : ℕ) (states : List State) (began : Option (List Entry)) → StatesFit states →
-    stands world (opening_world states) → IsAt kept no_last_frame None → functions_of kept.program.now ≡ functions → RunFacts functions stands world kept actor None (first_run states began)
+pub opened_facts : {functions : List Func} {V : Type 0} {stands : V → World BuiltIn → Type 0} {world : V}
+    {kept : Composition} (actor : ℕ) (states : List State) (began : Option (List Entry)) → StatesFit states →
+    stands world (opening_world states) → IsAt kept no_last_frame None → functions_of kept.program.now ≡ functions
+    → RunFacts functions stands world kept actor None (first_run states began)
 opened_facts {kept = kept} actor states began fit stood at same =
     let counted = count-states (start 0) states in
-    let last : last_of (opening_world states) watcher_number ≡ None = ap (λ (ls : List (Option Map)). slice_index_or (ls ++ None ∷ []) watcher_number None) (lasts-states (start 0) states) in
+    let last : last_of (opening_world states) watcher_number ≡ None =
+    ap (λ (ls : List (Option Map)). slice_index_or (ls ++ None ∷ []) watcher_number None)
+    (lasts-states (start 0) states) in
     record {
       world_stands = stood;
       valid = valid_opening states fit;
@@ -82,13 +89,17 @@ opened_facts {kept = kept} actor states began fit stood at same =
       at_frame = refl;
     }
 
-pub opened : {functions : List Func} {V : Type 0} {stands : V → World BuiltIn → Type 0} {log : V → Option (List Entry)} {world : V} {memory : RunMemory} (actor : ℕ) (states : List State) (began : Option (List Entry)) → StatesFit states → log world ≡ began →
-    stands world (opening_world states) → IsAt memory.composition no_last_frame None → functions_of memory.composition.program.now ≡ functions → Holds memory.names [] →
+pub opened : {functions : List Func} {V : Type 0} {stands : V → World BuiltIn → Type 0} {log : V → Option (List Entry)}
+    {world : V} {memory : RunMemory} (actor : ℕ) (states : List State) (began : Option (List Entry)) → StatesFit states
+    → log world ≡ began →
+    stands world (opening_world states) → IsAt memory.composition no_last_frame None
+    → functions_of memory.composition.program.now ≡ functions → Holds memory.names [] →
     IsRun functions stands log world memory actor None (first_run states began)
 opened {functions = functions} actor states began fit untold stood at same holds = record {
   facts = opened_facts actor states began fit stood at same;
   named = holds;
-  logged = subst (λ l. IsLogged functions (first_run states began) began l) (sym untold) (logged_first functions states began);
+  logged = subst (λ l. IsLogged functions (first_run states began) began l) (sym untold)
+      (logged_first functions states began);
 }
 
 -- The states of a program without faults fit.
@@ -127,8 +138,11 @@ states-fit : (ss : List State) → states_faults ss ≡ [] → StatesFit ss
 states-fit [] h = tt
 states-fit (s ∷ more) h =
     let parts = none_in (fault_unless (is_well_typed s) _ s.at) (states_faults more) h in
-    let typed = both (same_type (type_of s.initial) s.ty) (table_fits s.policy s.ty) (held (is_well_typed s) _ s.at parts.0) in
-    (subst (λ t. table_fits s.policy t ≡ true) (sym (same_types (type_of s.initial) s.ty typed.0)) typed.1, states-fit more parts.1)
+    let typed = both (same_type (type_of s.initial) s.ty) (table_fits s.policy s.ty)
+    (held (is_well_typed s) _ s.at parts.0) in (
+      subst (λ t. table_fits s.policy t ≡ true) (sym (same_types (type_of s.initial) s.ty typed.0)) typed.1,
+      states-fit more parts.1,
+    )
 
 fourth : {A : Type 0} (a b c d e : List A) → a ++ (b ++ (c ++ (d ++ e))) ≡ [] → d ≡ []
 fourth a b c d e h =
@@ -137,7 +151,9 @@ fourth a b c d e h =
     let three = none_in c (d ++ e) two.1 in
     (none_in d e three.1).0
 
-pub program-fits : (header : ℕ) (states : List State) (functions : List Func) → program_faults (record { header = header; states = states; functions = functions }) ≡ [] → StatesFit states
+pub program-fits : (header : ℕ) (states : List State) (functions : List Func)
+    → program_faults (record { header = header; states = states; functions = functions }) ≡ [] → StatesFit states
 program-fits header states functions h =
-    states-fit states (fourth (duplicate_faults [] (map (λ s. s.name) states)) (duplicate_faults [] (map (λ f. f.name) functions))
+    states-fit states (fourth (duplicate_faults [] (map (λ s. s.name) states))
+    (duplicate_faults [] (map (λ f. f.name) functions))
     (fault_unless (nat_lt (root_number functions) (length functions)) kind.Unknown header) (states_faults states) _ h)

@@ -13,30 +13,45 @@ use Rattle.play_run.proofs.RunLogs.{next_world}
 
 module _ (t : LineStyle) (functions : List Func) where
   step_lines : (r : Run) (p : ActorPart) (ps : List ActorPart) (o : Option Request) →
-      ((r' : Run) → lines t functions r'.standing (sequential r'.standing.world r'.notes ps) ≡ parts_lines t functions r' ps) →
-      lines t functions r.standing (elim o [ None ↦ sequential r.standing.world r.notes ps | Some q ↦ entry r.standing.world p.actor q ∷ sequential (call table r.standing.world p.actor q).0 (notes_after r.notes p.part (call table r.standing.world p.actor q).1) ps ])
+      ((r' : Run) → lines t functions r'.standing (sequential r'.standing.world r'.notes ps)
+      ≡ parts_lines t functions r' ps) →
+      lines t functions r.standing
+      (elim o [
+        | None ↦ sequential r.standing.world r.notes ps
+        | Some q ↦ entry r.standing.world p.actor
+            q ∷ sequential (call table r.standing.world p.actor q).0 (notes_after r.notes p.part
+            (call table r.standing.world p.actor q).1) ps
+      ])
       ≡ request_lines t functions r p.actor o ++ parts_lines t functions (run_after_request functions r p o) ps
   step_lines r p ps None rest = rest r
   step_lines r p ps (Some q) rest =
       let e = entry r.standing.world p.actor q in
       let notes = notes_after r.notes p.part (call table r.standing.world p.actor q).1 in
-      ap (λ l. lines_at t functions r.standing e ++ l) (ap (λ w. lines t functions (next functions r.standing e) (sequential w notes ps)) (sym (next_world functions r.standing e)) ∙ rest (run_after_request functions r p (Some q)))
+      ap (λ l. lines_at t functions r.standing e ++ l)
+      (ap (λ w. lines t functions (next functions r.standing e) (sequential w notes ps))
+      (sym (next_world functions r.standing e)) ∙ rest (run_after_request functions r p (Some q)))
 
-  pub run_lines : (r : Run) (ps : List ActorPart) → lines t functions r.standing (sequential r.standing.world r.notes ps) ≡ parts_lines t functions r ps
+  pub run_lines : (r : Run) (ps : List ActorPart)
+      → lines t functions r.standing (sequential r.standing.world r.notes ps) ≡ parts_lines t functions r ps
   run_lines r [] = refl
   run_lines r (p ∷ ps) = step_lines r p ps (request_of r.notes p.part) (λ r'. run_lines r' ps)
 
 -- All that a run prints.
-pub run_text_is : (t : LineStyle) (functions : List Func) (log : Option (List Entry)) (ps : List ActorPart) → run_text t functions ps ≡ flat (parts_lines t functions (first_run t.titles.states log) ps)
+pub run_text_is : (t : LineStyle) (functions : List Func) (log : Option (List Entry)) (ps : List ActorPart)
+    → run_text t functions ps ≡ flat (parts_lines t functions (first_run t.titles.states log) ps)
 unfolding run_text
 run_text_is t functions log ps = ap flat (run_lines t functions (first_run t.titles.states log) ps)
 
 -- The parts of two lists, one after the other.
 module _ (t : LineStyle) (functions : List Func) where
-  pub lines_append : (r : Run) (ps qs : List ActorPart) → parts_lines t functions r (ps ++ qs) ≡ parts_lines t functions r ps ++ parts_lines t functions (parts_after functions r ps) qs
+  pub lines_append : (r : Run) (ps qs : List ActorPart)
+      → parts_lines t functions r (ps ++ qs)
+      ≡ parts_lines t functions r ps ++ parts_lines t functions (parts_after functions r ps) qs
   lines_append r [] qs = refl
-  lines_append r (p ∷ ps) qs = ap (λ l. part_lines t functions r p ++ l) (lines_append (part_after functions r p) ps qs) ∙ sym (append_assoc (part_lines t functions r p) _ _)
+  lines_append r (p ∷ ps) qs = ap (λ l. part_lines t functions r p ++ l) (lines_append (part_after functions r p) ps qs)
+      ∙ sym (append_assoc (part_lines t functions r p) _ _)
 
-  pub after_append : (r : Run) (ps qs : List ActorPart) → parts_after functions r (ps ++ qs) ≡ parts_after functions (parts_after functions r ps) qs
+  pub after_append : (r : Run) (ps qs : List ActorPart)
+      → parts_after functions r (ps ++ qs) ≡ parts_after functions (parts_after functions r ps) qs
   after_append r [] qs = refl
   after_append r (p ∷ ps) qs = after_append (part_after functions r p) ps qs

@@ -29,97 +29,152 @@ parts_append actor (p ∷ ps) qs = ap (λ l. of_actor actor p ∷ l) (parts_appe
 
 pub steps_append : (xs ys : List StepForm) → steps_parts (xs ++ ys) ≡ steps_parts xs ++ steps_parts ys
 steps_append [] ys = refl
-steps_append (x ∷ xs) ys = ap (λ l. step_parts x ++ l) (steps_append xs ys) ∙ sym (append_assoc (step_parts x) (steps_parts xs) (steps_parts ys))
+steps_append (x ∷ xs) ys = ap (λ l. step_parts x ++ l) (steps_append xs ys)
+    ∙ sym (append_assoc (step_parts x) (steps_parts xs) (steps_parts ys))
 
 -- The first form of an actor, then the others.
-pub form_first : (f : ScriptForm) (more : List ScriptForm) → written_out (f ∷ more) ≡ written_out (f ∷ []) ++ written_out more
+pub form_first : (f : ScriptForm) (more : List ScriptForm)
+    → written_out (f ∷ more) ≡ written_out (f ∷ []) ++ written_out more
 form_first (Once s) more = refl
-form_first (Repeat at times steps) more = sym (append_assoc (repeated_steps (times_of times) steps) [] (written_out more))
+form_first (Repeat at times steps) more =
+    sym (append_assoc (repeated_steps (times_of times) steps) [] (written_out more))
 
-module _ {V : Type 0} {stands : V → World BuiltIn → Type 0} {log : V → Option (List Entry)} (t : LineStyle) (functions : List Func) (actor : ℕ) where
+module _ {V : Type 0} {stands : V → World BuiltIn → Type 0} {log : V → Option (List Entry)} (t : LineStyle)
+    (functions : List Func) (actor : ℕ) where
   -- Nothing was run yet.
-  pub runs_none : {T : Type 0} {world : V} {memory : RunMemory} (frame : Option ℕ) (written : Option (List ℕ)) (r : Run) (x : T) → IsRun functions stands log world memory actor frame r →
-      WritesBytes {T = T} {E = Stop} written written [] (Ok x) → RunsAt {T = T} t functions stands log actor [] world memory frame written written r (Ok x)
+  pub runs_none : {T : Type 0} {world : V} {memory : RunMemory} (frame : Option ℕ) (written : Option (List ℕ)) (r : Run)
+      (x : T) → IsRun functions stands log world memory actor frame r →
+      WritesBytes {T = T} {E = Stop} written written [] (Ok x)
+      → RunsAt {T = T} t functions stands log actor [] world memory frame written written r (Ok x)
   runs_none frame written r x h says = record { says = says; left = h; stops = tt }
 
   -- Parts were run, and then more parts.
-  pub runs_then : {T U : Type 0} {world' world'' : V} {memory' memory'' : RunMemory} (frame' frame'' : Option ℕ) (written written' written'' : Option (List ℕ)) (r : Run) (x : T) (result : Result U Stop) (ps qs : List ActorPart) →
+  pub runs_then : {T U : Type 0} {world' world'' : V} {memory' memory'' : RunMemory} (frame' frame'' : Option ℕ)
+      (written written' written'' : Option (List ℕ)) (r : Run) (x : T) (result : Result U Stop)
+      (ps qs : List ActorPart) →
       RunsAt {T = T} t functions stands log actor ps world' memory' frame' written written' r (Ok x) →
-      RunsAt t functions stands log actor qs world'' memory'' frame'' written' written'' (parts_after functions r ps) result →
+      RunsAt t functions stands log actor qs world'' memory'' frame'' written' written'' (parts_after functions r ps)
+      result →
       RunsAt t functions stands log actor (ps ++ qs) world'' memory'' frame'' written written'' r result
   runs_then {world'' = world''} {memory'' = memory''} frame' frame'' written written' written'' r x result ps qs one two = record {
     says = says_same result written written'' _ _
-        (sym (flat_map-append (λ l. l) (parts_lines t functions r ps) (parts_lines t functions (parts_after functions r ps) qs)) ∙ ap flat (sym (lines_append t functions r ps qs)))
+        (sym (flat_map-append (λ l. l) (parts_lines t functions r ps)
+        (parts_lines t functions (parts_after functions r ps) qs))
+        ∙ ap flat (sym (lines_append t functions r ps qs)))
         (says_behind result written written' written'' _ _ one.says.all two.says);
-    left = subst (λ s. OnOk result (IsRun functions stands log world'' memory'' actor frame'' s)) (sym (after_append t functions r ps qs)) two.left;
+    left = subst (λ s. OnOk result (IsRun functions stands log world'' memory'' actor frame'' s))
+        (sym (after_append t functions r ps qs)) two.left;
     stops = stops_then t functions r ps qs (log world'') result written written' written'' one.says.all two.stops;
   }
 
   -- Parts were run up to an error.
-  pub runs_stopped : {T U : Type 0} {world' : V} {memory' memory'' : RunMemory} (frame' frame'' : Option ℕ) (written written' : Option (List ℕ)) (r : Run) (e f : Stop) (ps qs : List ActorPart) →
+  pub runs_stopped : {T U : Type 0} {world' : V} {memory' memory'' : RunMemory} (frame' frame'' : Option ℕ)
+      (written written' : Option (List ℕ)) (r : Run) (e f : Stop) (ps qs : List ActorPart) →
       RunsAt {T = T} t functions stands log actor ps world' memory' frame' written written' r (Err e) →
       RunsAt {T = U} t functions stands log actor (ps ++ qs) world' memory'' frame'' written written' r (Err f)
   runs_stopped {world' = world'} frame' frame'' written written' r e f ps qs one = record {
     says = says_same _ written written' _ _
-        (sym (flat_map-append (λ l. l) (parts_lines t functions r ps) (parts_lines t functions (parts_after functions r ps) qs)) ∙ ap flat (sym (lines_append t functions r ps qs)))
+        (sym (flat_map-append (λ l. l) (parts_lines t functions r ps)
+        (parts_lines t functions (parts_after functions r ps) qs))
+        ∙ ap flat (sym (lines_append t functions r ps qs)))
         (says_front e f written written' _ _ one.says);
     left = tt;
     stops = stops_front t functions r ps qs (log world') written written' one.stops;
   }
 
   -- The same parts in another form.
-  pub runs_same : {U : Type 0} {world' : V} {memory' : RunMemory} (frame' : Option ℕ) (written written' : Option (List ℕ)) (r : Run) (result : Result U Stop) (ps qs : List ActorPart) → ps ≡ qs →
-      RunsAt t functions stands log actor ps world' memory' frame' written written' r result → RunsAt t functions stands log actor qs world' memory' frame' written written' r result
-  runs_same {world' = world'} {memory' = memory'} frame' written written' r result ps qs e h = subst (λ l. RunsAt t functions stands log actor l world' memory' frame' written written' r result) e h
+  pub runs_same : {U : Type 0} {world' : V} {memory' : RunMemory} (frame' : Option ℕ)
+      (written written' : Option (List ℕ)) (r : Run) (result : Result U Stop) (ps qs : List ActorPart) → ps ≡ qs →
+      RunsAt t functions stands log actor ps world' memory' frame' written written' r result
+      → RunsAt t functions stands log actor qs world' memory' frame' written written' r result
+  runs_same {world' = world'} {memory' = memory'} frame' written written' r result ps qs e h =
+      subst (λ l. RunsAt t functions stands log actor l world' memory' frame' written written' r result) e h
 
 -- While no frame is open, the actor does not matter.
-pub facts_as : {functions : List Func} {V : Type 0} {stands : V → World BuiltIn → Type 0} {world : V} {kept : Composition} {r : Run} (a b : ℕ) → RunFacts functions stands world kept a None r → RunFacts functions stands world kept b None r
-facts_as a b h = record { world_stands = h.world_stands; valid = h.valid; few = h.few; known = h.known; is_at = h.is_at; same_program = h.same_program; noted = h.noted; at_frame = h.at_frame }
+pub facts_as : {functions : List Func} {V : Type 0} {stands : V → World BuiltIn → Type 0} {world : V}
+    {kept : Composition} {r : Run} (a b : ℕ) → RunFacts functions stands world kept a None r
+    → RunFacts functions stands world kept b None r
+facts_as a b h = record {
+  world_stands = h.world_stands;
+  valid = h.valid;
+  few = h.few;
+  known = h.known;
+  is_at = h.is_at;
+  same_program = h.same_program;
+  noted = h.noted;
+  at_frame = h.at_frame;
+}
 
-pub run_as : {V : Type 0} {stands : V → World BuiltIn → Type 0} {log : V → Option (List Entry)} {functions : List Func} {world : V} {memory : RunMemory} {r : Run} (a b : ℕ) → IsRun functions stands log world memory a None r → IsRun functions stands log world memory b None r
+pub run_as : {V : Type 0} {stands : V → World BuiltIn → Type 0} {log : V → Option (List Entry)} {functions : List Func}
+    {world : V} {memory : RunMemory} {r : Run} (a b : ℕ) → IsRun functions stands log world memory a None r
+    → IsRun functions stands log world memory b None r
 run_as a b h = record { facts = facts_as a b h.facts; named = h.named; logged = h.logged }
 
-pub runs_as : {V T : Type 0} {stands : V → World BuiltIn → Type 0} {log : V → Option (List Entry)} {t : LineStyle} {functions : List Func} {world : V} {memory : RunMemory} {r : Run} (a b : ℕ) (ps : List ActorPart) (written written' : Option (List ℕ)) (result : Result T Stop) →
-    RunsAt t functions stands log a ps world memory None written written' r result → RunsAt t functions stands log b ps world memory None written written' r result
+pub runs_as : {V T : Type 0} {stands : V → World BuiltIn → Type 0} {log : V → Option (List Entry)} {t : LineStyle}
+    {functions : List Func} {world : V} {memory : RunMemory} {r : Run} (a b : ℕ) (ps : List ActorPart)
+    (written written' : Option (List ℕ)) (result : Result T Stop) →
+    RunsAt t functions stands log a ps world memory None written written' r result
+    → RunsAt t functions stands log b ps world memory None written written' r result
 runs_as a b ps written written' (Ok x) h = record { says = h.says; left = run_as a b h.left; stops = tt }
 runs_as a b ps written written' (Err e) h = record { says = h.says; left = tt; stops = h.stops }
 
 -- The same outcome with another value.
-pub runs_ok : {V T U : Type 0} {stands : V → World BuiltIn → Type 0} {log : V → Option (List Entry)} {t : LineStyle} {functions : List Func} {world : V} {memory : RunMemory} {r : Run} {actor : ℕ} {frame : Option ℕ} {ps : List ActorPart} {written written' : Option (List ℕ)} (a : Result T Stop) (x : T) (b : Result U Stop) (y : U) → a ≡ Ok x → b ≡ Ok y →
-    RunsAt t functions stands log actor ps world memory frame written written' r a → RunsAt t functions stands log actor ps world memory frame written written' r b
+pub runs_ok : {V T U : Type 0} {stands : V → World BuiltIn → Type 0} {log : V → Option (List Entry)} {t : LineStyle}
+    {functions : List Func} {world : V} {memory : RunMemory} {r : Run} {actor : ℕ} {frame : Option ℕ}
+    {ps : List ActorPart} {written written' : Option (List ℕ)} (a : Result T Stop) (x : T) (b : Result U Stop) (y : U)
+    → a ≡ Ok x → b ≡ Ok y →
+    RunsAt t functions stands log actor ps world memory frame written written' r a
+    → RunsAt t functions stands log actor ps world memory frame written written' r b
 runs_ok {stands = stands} {log = log} {t = t} {functions = functions} {world = world} {memory = memory} {r = r} {actor = actor} {frame = frame} {ps = ps} {written = written} {written' = written'} a x b y is same h =
     subst (λ c. RunsAt t functions stands log actor ps world memory frame written written' r c) (sym same)
     (let at = subst (λ c. RunsAt t functions stands log actor ps world memory frame written written' r c) is h in
     record { says = record { all = at.says.all; part = tt }; left = at.left; stops = tt })
 
-pub runs_err : {V T U : Type 0} {stands : V → World BuiltIn → Type 0} {log : V → Option (List Entry)} {t : LineStyle} {functions : List Func} {world : V} {memory : RunMemory} {r : Run} {actor : ℕ} {frame : Option ℕ} {ps : List ActorPart} {written written' : Option (List ℕ)} (a : Result T Stop) (e : Stop) (b : Result U Stop) (f : Stop) → a ≡ Err e → b ≡ Err f →
-    RunsAt t functions stands log actor ps world memory frame written written' r a → RunsAt t functions stands log actor ps world memory frame written written' r b
+pub runs_err : {V T U : Type 0} {stands : V → World BuiltIn → Type 0} {log : V → Option (List Entry)} {t : LineStyle}
+    {functions : List Func} {world : V} {memory : RunMemory} {r : Run} {actor : ℕ} {frame : Option ℕ}
+    {ps : List ActorPart} {written written' : Option (List ℕ)} (a : Result T Stop) (e : Stop) (b : Result U Stop)
+    (f : Stop) → a ≡ Err e → b ≡ Err f →
+    RunsAt t functions stands log actor ps world memory frame written written' r a
+    → RunsAt t functions stands log actor ps world memory frame written written' r b
 runs_err {stands = stands} {log = log} {t = t} {functions = functions} {world = world} {memory = memory} {r = r} {actor = actor} {frame = frame} {ps = ps} {written = written} {written' = written'} a e b f is same h =
     subst (λ c. RunsAt t functions stands log actor ps world memory frame written written' r c) (sym same)
     (let at = subst (λ c. RunsAt t functions stands log actor ps world memory frame written written' r c) is h in
     record { says = record { all = tt; part = at.says.part }; left = tt; stops = at.stops })
 
 -- A loop over parts: those that were run, those that are run next, and the rest.
-module _ {V : Type 0} {stands : V → World BuiltIn → Type 0} {log : V → Option (List Entry)} (t : LineStyle) (functions : List Func) (actor : ℕ) (frame : Option ℕ) (written written' written'' : Option (List ℕ)) (r : Run) (done here rest left all : List ActorPart) where
+module _ {V : Type 0} {stands : V → World BuiltIn → Type 0} {log : V → Option (List Entry)} (t : LineStyle)
+    (functions : List Func) (actor : ℕ) (frame : Option ℕ) (written written' written'' : Option (List ℕ)) (r : Run)
+    (done here rest left all : List ActorPart) where
   pub loop_next : {world' world'' : V} {memory' memory'' : RunMemory} → left ≡ here ++ rest → done ++ left ≡ all →
       RunsAt {T = Unit {0}} t functions stands log actor done world' memory' frame written written' r (Ok tt) →
-      RunsAt {T = Unit {0}} t functions stands log actor here world'' memory'' frame written' written'' (parts_after functions r done) (Ok tt) →
-      ((done ++ here) ++ rest ≡ all) × RunsAt {T = Unit {0}} t functions stands log actor (done ++ here) world'' memory'' frame written written'' r (Ok tt)
+      RunsAt {T = Unit {0}} t functions stands log actor here world'' memory'' frame written' written''
+      (parts_after functions r done) (Ok tt) →
+      ((done ++ here) ++ rest ≡ all)
+      × RunsAt {T = Unit {0}} t functions stands log actor (done ++ here) world'' memory'' frame written written'' r
+      (Ok tt)
   loop_next {world' = world'} {world'' = world''} {memory' = memory'} {memory'' = memory''} split is one two = (
     append_assoc done here rest ∙ ap (λ l. done ++ l) (sym split) ∙ is,
-    runs_then t functions actor {world' = world'} {world'' = world''} {memory' = memory'} {memory'' = memory''} frame frame written written' written'' r tt (Ok tt) done here one two,
+    runs_then t functions actor {world' = world'} {world'' = world''} {memory' = memory'} {memory'' = memory''} frame
+        frame written written' written'' r tt (Ok tt) done here one two,
   )
 
-  pub loop_stopped : {world' world'' : V} {memory' memory'' : RunMemory} (e : Stop) → left ≡ here ++ rest → done ++ left ≡ all →
+  pub loop_stopped : {world' world'' : V} {memory' memory'' : RunMemory} (e : Stop) → left ≡ here ++ rest
+      → done ++ left ≡ all →
       RunsAt {T = Unit {0}} t functions stands log actor done world' memory' frame written written' r (Ok tt) →
-      RunsAt {T = Unit {0}} t functions stands log actor here world'' memory'' frame written' written'' (parts_after functions r done) (Err e) →
+      RunsAt {T = Unit {0}} t functions stands log actor here world'' memory'' frame written' written''
+      (parts_after functions r done) (Err e) →
       RunsAt {T = Unit {0}} t functions stands log actor all world'' memory'' frame written written'' r (Err e)
   loop_stopped {world' = world'} {world'' = world''} {memory' = memory'} {memory'' = memory''} e split is one two =
-      runs_same t functions actor frame written written'' r (Err e) (done ++ (here ++ rest)) all (ap (λ l. done ++ l) (sym split) ∙ is)
-      (runs_then t functions actor {world' = world'} {world'' = world''} {memory' = memory'} {memory'' = memory''} frame frame written written' written'' r tt (Err e) done (here ++ rest) one
-      (runs_stopped t functions actor {world' = world''} {memory' = memory''} {memory'' = memory''} frame frame written' written'' (parts_after functions r done) e e here rest two))
+      runs_same t functions actor frame written written'' r (Err e) (done ++ (here ++ rest)) all
+      (ap (λ l. done ++ l) (sym split) ∙ is)
+      (runs_then t functions actor {world' = world'} {world'' = world''} {memory' = memory'} {memory'' = memory''} frame
+      frame written written' written'' r tt (Err e) done (here ++ rest) one
+      (runs_stopped t functions actor {world' = world''} {memory' = memory''} {memory'' = memory''} frame frame written'
+      written'' (parts_after functions r done) e e here rest two))
 
 -- The steps of a repeat that is made once more.
-pub repeated_first : (n : ℕ) (steps : List StepForm) → 0 < n → repeated_steps n steps ≡ steps ++ repeated_steps (n - 1) steps
+pub repeated_first : (n : ℕ) (steps : List StepForm) → 0 < n
+    → repeated_steps n steps ≡ steps ++ repeated_steps (n - 1) steps
 repeated_first zero steps h = absurd (omega (arith, h))
-repeated_first (suc n) steps h = let e : suc n - 1 ≡ n = omega arith in ap (λ k. steps ++ repeated_steps k steps) (sym e)
+repeated_first (suc n) steps h =
+    let e : suc n - 1 ≡ n = omega arith in ap (λ k. steps ++ repeated_steps k steps) (sym e)

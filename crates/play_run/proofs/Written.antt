@@ -17,24 +17,30 @@ use Rattle.script_lang.specs.GroupJson.{JsonState, groups_json, group_json, json
 use Rattle.play_run.specs.RunPromise.{WritesBytes}
 
 -- Some bytes were written, then a part of the next piece.
-pub part_next : (a b c : Option (List ℕ)) (said piece more all : List ℕ) → said ++ (piece ++ more) ≡ all → Appends a b said → AppendsPart b c piece → AppendsPart a c all
-part_next a b c said piece more all e done part = subst (AppendsPart a c) e (part-behind a b c said (piece ++ more) done (part-front b c piece more part))
+pub part_next : (a b c : Option (List ℕ)) (said piece more all : List ℕ) → said ++ (piece ++ more) ≡ all
+    → Appends a b said → AppendsPart b c piece → AppendsPart a c all
+part_next a b c said piece more all e done part =
+    subst (AppendsPart a c) e (part-behind a b c said (piece ++ more) done (part-front b c piece more part))
 
 -- Some bytes were written, then the next piece.
 pub record Next (a c : Option (List ℕ)) (said piece more all : List ℕ) : Type 0 where
   pub split : (said ++ piece) ++ more ≡ all
   pub wrote : Appends a c (said ++ piece)
 
-pub all_next : (a b c : Option (List ℕ)) (said piece more all : List ℕ) → said ++ (piece ++ more) ≡ all → Appends a b said → Appends b c piece → Next a c said piece more all
-all_next a b c said piece more all e done whole = record { split = append_assoc said piece more ∙ e; wrote = Appends-trans a b c said piece done whole }
+pub all_next : (a b c : Option (List ℕ)) (said piece more all : List ℕ) → said ++ (piece ++ more) ≡ all
+    → Appends a b said → Appends b c piece → Next a c said piece more all
+all_next a b c said piece more all e done whole =
+    record { split = append_assoc said piece more ∙ e; wrote = Appends-trans a b c said piece done whole }
 
 -- One piece was written, then the rest as `Says` states it.
-pub says_behind : {T E : Type 0} (r : Result T E) (a b c : Option (List ℕ)) (xs ys : List ℕ) → Appends a b xs → WritesBytes b c ys r → WritesBytes a c (xs ++ ys) r
+pub says_behind : {T E : Type 0} (r : Result T E) (a b c : Option (List ℕ)) (xs ys : List ℕ) → Appends a b xs
+    → WritesBytes b c ys r → WritesBytes a c (xs ++ ys) r
 says_behind (Ok x) a b c xs ys done says = record { all = Appends-trans a b c xs ys done says.all; part = tt }
 says_behind (Err e) a b c xs ys done says = record { all = tt; part = part-behind a b c xs ys done says.part }
 
 -- A part of the first bytes is a part of all bytes.
-pub says_front : {T U E F : Type 0} (e : E) (f : F) (a b : Option (List ℕ)) (xs ys : List ℕ) → WritesBytes {T = T} {E = E} a b xs (Err e) → WritesBytes {T = U} {E = F} a b (xs ++ ys) (Err f)
+pub says_front : {T U E F : Type 0} (e : E) (f : F) (a b : Option (List ℕ)) (xs ys : List ℕ)
+    → WritesBytes {T = T} {E = E} a b xs (Err e) → WritesBytes {T = U} {E = F} a b (xs ++ ys) (Err f)
 says_front e f a b xs ys says = record { all = tt; part = part-front a b xs ys says.part }
 
 -- A fact that is always true is true after Ok.
@@ -51,7 +57,8 @@ after_error (Err e) f p = f p
 pub appends_same : (a b : Option (List ℕ)) (xs ys : List ℕ) → xs ≡ ys → Appends a b xs → Appends a b ys
 appends_same a b xs ys e h = subst (Appends a b) e h
 
-pub says_same : {T E : Type 0} (r : Result T E) (a b : Option (List ℕ)) (xs ys : List ℕ) → xs ≡ ys → WritesBytes a b xs r → WritesBytes a b ys r
+pub says_same : {T E : Type 0} (r : Result T E) (a b : Option (List ℕ)) (xs ys : List ℕ) → xs ≡ ys
+    → WritesBytes a b xs r → WritesBytes a b ys r
 says_same r a b xs ys e h = subst (λ l. WritesBytes a b l r) e h
 
 -- A consequence of three facts after Ok.
@@ -60,11 +67,14 @@ three_ok (Ok x) f p q s = f p q s
 three_ok (Err e) f p q s = tt
 
 -- The line of the group at an index, then those of the groups after it.
-pub group_lines_at : (before : List Bool) (gs : List Group) (i : ℕ) → i < length gs → group_lines before (drop i gs) ≡ group_line before (group_at gs i) ++ group_lines (open_after before (group_at gs i)) (drop (i + 1) gs)
+pub group_lines_at : (before : List Bool) (gs : List Group) (i : ℕ) → i < length gs
+    → group_lines before (drop i gs)
+    ≡ group_line before (group_at gs i) ++ group_lines (open_after before (group_at gs i)) (drop (i + 1) gs)
 group_lines_at before gs i h = ap (group_lines before) (drop_more gs i (flat_group 0 0 0 (what.Key no_value) []) h)
 
 -- No group follows the last one.
-pub no_lines_after : (before : List Bool) (gs : List Group) (i : ℕ) → length gs ≤ i → group_lines before (drop i gs) ≡ []
+pub no_lines_after : (before : List Bool) (gs : List Group) (i : ℕ) → length gs ≤ i
+    → group_lines before (drop i gs) ≡ []
 no_lines_after before gs i h = ap (group_lines before) (drop_of_length-le gs h)
 
 -- Nothing was written, and nothing had to be.
@@ -80,9 +90,12 @@ pub nothing_after : (xs : List ℕ) → xs ++ [] ≡ xs
 nothing_after xs = append-nil xs
 
 -- The JSON of the group at an index, then that of the groups after it.
-pub groups_json_at : (s : JsonState) (gs : List Group) (i : ℕ) → i < length gs → groups_json s (drop i gs) ≡ group_json s (group_at gs i) ++ groups_json (json_after_group s (group_at gs i)) (drop (i + 1) gs)
+pub groups_json_at : (s : JsonState) (gs : List Group) (i : ℕ) → i < length gs
+    → groups_json s (drop i gs) ≡ group_json s (group_at gs i)
+    ++ groups_json (json_after_group s (group_at gs i)) (drop (i + 1) gs)
 groups_json_at s gs i h = ap (groups_json s) (drop_more gs i (flat_group 0 0 0 (what.Key no_value) []) h)
 
 -- The ends after the last group.
-pub no_json_after : (s : JsonState) (gs : List Group) (i : ℕ) → length gs ≤ i → groups_json s (drop i gs) ≡ groups_json s []
+pub no_json_after : (s : JsonState) (gs : List Group) (i : ℕ) → length gs ≤ i
+    → groups_json s (drop i gs) ≡ groups_json s []
 no_json_after s gs i h = ap (groups_json s) (drop_of_length-le gs h)

@@ -21,7 +21,8 @@ abbrev pub object_read : Request → ℕ
 object_read (request.Read name x) = x
 object_read _ = 0
 
--- A frame that a history ends: what was kept before it, the map of its snapshot, and the objects that it read, in order.
+-- A frame that a history ends: what was kept before it, the map of its snapshot, and the objects that it read, in
+-- order.
 pub record FrameReads : Type 0 where
   pub kept : LastFrame
   pub map : Map
@@ -50,8 +51,8 @@ ReadsForResult (Some good) all xs = xs ≡ all
 abbrev pub ReadsOwed : List Func → FrameReads → Type 0
 ReadsOwed functions f = ReadsForResult (frame functions f.kept f.map) (owed_reads functions f.kept f.map) f.reads
 
--- A log grew by the calls of these parts. Each reply is the plain world's. The printed calls are those that the steps make
--- one after the other, and each frame read what it owes.
+-- A log grew by the calls of these parts. Each reply is the plain world's. The printed calls are those that the steps
+-- make one after the other, and each frame read what it owes.
 pub record RunLogged (t : Titles) (functions : List Func) (parts : List ActorPart) (old : List Entry)
     (new : Option (List Entry)) : Type 0 where
   pub more : History
@@ -65,8 +66,8 @@ abbrev pub LogsRun : Titles → List Func → List ActorPart → Option (List En
 LogsRun t functions parts None new = new ≡ None
 LogsRun t functions parts (Some old) new = RunLogged t functions parts old new
 
--- A run stopped before its end. A log grew by the calls of the parts `whole` and of at most one part more, and then by no
--- call that is printed. Each reply is the plain world's, and the lines of the parts `whole` were written.
+-- A run stopped before its end. A log grew by the calls of the parts `whole` and of at most one part more, and then by
+-- no call that is printed. Each reply is the plain world's, and the lines of the parts `whole` were written.
 pub record RunStopped (style : LineStyle) (functions : List Func) (parts : List ActorPart) (old : List Entry)
     (new : Option (List Entry)) (before now : Option (List ℕ)) : Type 0 where
   pub whole : List ActorPart

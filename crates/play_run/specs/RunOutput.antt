@@ -15,8 +15,8 @@ use Rattle.script_lang.specs.GroupLines.{group_lines}
 use Rattle.script_lang.specs.GroupJson.{groups_json, initial_json}
 use Rattle.script_lang.specs.Lines.{LineStyle, Standing, initial_standing, lines_at, next, op_line}
 
--- The state of a run between two parts: what its lines depend on, what its calls depend on, and the calls so far that are
--- printed. `first` is the state of the walk before the first part, and `log` the log of the world then.
+-- The state of a run between two parts: what its lines depend on, what its calls depend on, and the calls so far that
+-- are printed. `first` is the state of the walk before the first part, and `log` the log of the world then.
 pub record Run : Type 0 where
   pub standing : Standing
   pub notes : Notes

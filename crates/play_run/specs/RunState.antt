@@ -52,8 +52,8 @@ abbrev pub IsAtFrame : ℕ → Option ℕ → Run → Type 0
 IsAtFrame actor None r = r.standing.frames ≡ []
 IsAtFrame actor (Some name) r = InFrame actor name r
 
--- The world represents the plain world of the state, which is valid. The composition of these functions has kept the last
--- good frame, and owes what changed from then to the watcher's last map.
+-- The world represents the plain world of the state, which is valid. The composition of these functions has kept the
+-- last good frame, and owes what changed from then to the watcher's last map.
 pub record RunFacts {V : Type 0} (functions : List Func) (stands : V → World BuiltIn → Type 0) (world : V)
     (kept : Composition) (actor : ℕ) (frame : Option ℕ) (r : Run) : Type 0 where
   pub world_stands : stands world r.standing.world
@@ -66,8 +66,8 @@ pub record RunFacts {V : Type 0} (functions : List Func) (stands : V → World B
   pub at_frame : IsAtFrame actor frame r
 
 -- What the log `now` says of the calls so far: it grew from `old` by these calls, each reply is the plain world's, the
--- printed calls are `r.made`, and each frame that ended read what it owes. The last three facts are stated for every history
--- `es` that may follow.
+-- printed calls are `r.made`, and each frame that ended read what it owes. The last three facts are stated for every
+-- history `es` that may follow.
 pub record LogSoFar (functions : List Func) (r : Run) (old : List Entry) (now : Option (List Entry)) : Type 0 where
   pub more : History
   pub log_is : now ≡ Some (old ++ more)
@@ -81,7 +81,8 @@ abbrev pub IsLogged : List Func → Run → Option (List Entry) → Option (List
 IsLogged functions r None now = now ≡ None
 IsLogged functions r (Some old) now = LogSoFar functions r old now
 
--- What the log `now` says of a run that stopped: it grew from `old` by a legal history whose printed calls are `r.made`.
+-- What the log `now` says of a run that stopped: it grew from `old` by a legal history whose printed calls are
+-- `r.made`.
 pub record LogAtStop (r : Run) (old : List Entry) (now : Option (List Entry)) : Type 0 where
   pub more : History
   pub log_is : now ≡ Some (old ++ more)
@@ -106,8 +107,8 @@ abbrev pub HasAsked : List ℕ → List ℕ → List ℕ → Option Report → T
 HasAsked asked asked' reads (Some told) = asked' ≡ asked ++ reads
 HasAsked asked asked' reads None = Grew asked asked' reads
 
--- A log grew by the reads of a frame after the kept state `k` in the map `m`. Their replies are those of each represented
--- plain world, which they do not change, and the frame read what it owes.
+-- A log grew by the reads of a frame after the kept state `k` in the map `m`. Their replies are those of each
+-- represented plain world, which they do not change, and the frame read what it owes.
 pub record FrameReadsLogged (functions : List Func) (stands : World BuiltIn → Type 0) (caller name : ℕ)
     (k : LastFrame) (m : Map) (old : List Entry) (new : Option (List Entry)) : Type 0 where
   pub more : History
@@ -151,8 +152,8 @@ KeepsNames BeginFrame = ⊥
 KeepsNames EndFrame = ⊥
 KeepsNames _ = Unit {0}
 
--- The run of the parts after the state `r` stopped. The log grew by the calls of the parts `whole` and of at most one part
--- more, and then by no call that is printed. The lines of the parts `whole` were written.
+-- The run of the parts after the state `r` stopped. The log grew by the calls of the parts `whole` and of at most one
+-- part more, and then by no call that is printed. The lines of the parts `whole` were written.
 pub record StopsAt (style : LineStyle) (functions : List Func) (parts : List ActorPart) (now : Option (List Entry))
     (written written' : Option (List ℕ)) (r : Run) : Type 0 where
   pub whole : List ActorPart

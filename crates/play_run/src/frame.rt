@@ -116,8 +116,8 @@ pub fn compose_in<V: View, L: Ledger>(
 }
 
 /// Composes the program in the caller's open snapshot `name` (`Recomposer.recompose`). Returns the report of a good
-/// frame, or `None` if there are too many groups. In that case everything kept stays, and the objects stay owed. `blank`
-/// is the ledger of the steps, which nothing reads.
+/// frame, or `None` if there are too many groups. In that case everything kept stays, and the objects stay owed.
+/// `blank` is the ledger of the steps, which nothing reads.
 pub fn compose<V: Versions<P = BuiltIn>, L: Ledger>(
     alloc: Global,
     flags: Flags,
@@ -380,8 +380,8 @@ fn write_good_frame<K: Sink>(
     }
 }
 
-/// Writes what a frame prints: the report, the calls on an applier and the tree of a good frame, or the line of a refused
-/// one.
+/// Writes what a frame prints: the report, the calls on an applier and the tree of a good frame, or the line of a
+/// refused one.
 pub fn write_frame<K: Sink>(
     alloc: Global,
     flags: Flags,

@@ -1,11 +1,11 @@
 //! Runs the script of a checked program: makes the calls of its steps in a world of snapshots, composes each frame in a
 //! snapshot of its own, and writes the line of each call and the lines of each frame to a sink.
 //!
-//! In Compose this is the work of `Recomposer` (`composeInitial`, `recompose`) and of a test driver. Scripts and lines are
-//! rules of this project.
-//! Promises: the bytes written are those of `run_text`, the lines of the history that the steps make in the plain world,
-//! or a first part of them after an error. The log of the world, if it has one, grows by that history and by the reads
-//! that each frame owes. `replay` writes the lines of a history from its calls and their replies.
+//! In Compose this is the work of `Recomposer` (`composeInitial`, `recompose`) and of a test driver. Scripts and lines
+//! are rules of this project.
+//! Promises: the bytes written are those of `run_text`, the lines of the history that the steps make in the plain
+//! world, or a first part of them after an error. The log of the world, if it has one, grows by that history and by the
+//! reads that each frame owes. `replay` writes the lines of a history from its calls and their replies.
 #![tactic(auto)]
 
 mod calls;

@@ -37,8 +37,10 @@ completed style forms h c = record { legal = c.1; woven = c.2 }
 
 -- The lines of that history, and those of the calls before it goes on.
 pub whole_text : (style : LineStyle) (functions : List Func) (forms : List DoForm) (h : History) →
-    CanBeCompleted (length style.titles.actors) (script_parts style.titles.actors forms) (opening_world style.titles.states) h →
-    (more : List ℕ) × IsWovenText style functions forms (text_of style functions (initial_standing style.titles.states) h ++ more)
+    CanBeCompleted (length style.titles.actors) (script_parts style.titles.actors forms)
+    (opening_world style.titles.states) h →
+    (more : List ℕ) × IsWovenText style functions forms
+    (text_of style functions (initial_standing style.titles.states) h ++ more)
 whole_text style functions forms h c =
     let standing = initial_standing style.titles.states in (
       text_of style functions (standing_after functions standing h) c.0,
@@ -50,29 +52,36 @@ whole_text style functions forms h c =
     )
 
 -- Each script has such lines.
-pub some_text : (style : LineStyle) (functions : List Func) (forms : List DoForm) → (out : List ℕ) × IsWovenText style functions forms out
+pub some_text : (style : LineStyle) (functions : List Func) (forms : List DoForm)
+    → (out : List ℕ) × IsWovenText style functions forms out
 some_text style functions forms =
     let parts = script_parts style.titles.actors forms in
-    let whole = whole_text style functions forms [] (part_is_completed (length style.titles.actors) parts (opening_world style.titles.states) [] tt (λ a below. (nothing_is_spelled (initial_actor parts a)).0) (λ a far. refl)) in
+    let whole = whole_text style functions forms []
+    (part_is_completed (length style.titles.actors) parts (opening_world style.titles.states) [] tt
+    (λ a below. (nothing_is_spelled (initial_actor parts a)).0) (λ a far. refl)) in
     (_, whole.1)
 
 -- Frames are in turn in a first part of a history in which they are.
 pub in_turn_part : (o : Option OpenFrame) (h more : History) → AreInTurn o (h ++ more) → AreInTurn o h
 in_turn_part o [] more t = tt
 in_turn_part None (e ∷ es) more t = in_turn_part (frame_opened e.caller (frame_taken e.request e.reply)) es more t
-in_turn_part (Some f) (e ∷ es) more t = by (ends_frame (f.name ∷ []) e.request) t (in_turn_part None es more) (in_turn_part (Some f) es more) where
-  by : (b : Bool) → Turn b ((e.caller ≡ f.caller) × AreInTurn None (es ++ more)) ((frame_taken e.request e.reply ≡ []) × AreInTurn (Some f) (es ++ more)) →
-      (AreInTurn None (es ++ more) → AreInTurn None es) → (AreInTurn (Some f) (es ++ more) → AreInTurn (Some f) es) →
-      Turn b ((e.caller ≡ f.caller) × AreInTurn None es) ((frame_taken e.request e.reply ≡ []) × AreInTurn (Some f) es)
-  by true t ended going = (t.0, ended t.1)
-  by false t ended going = (t.0, going t.1)
+in_turn_part (Some f) (e ∷ es) more t =
+    by (ends_frame (f.name ∷ []) e.request) t (in_turn_part None es more) (in_turn_part (Some f) es more) where
+      by : (b : Bool) → Turn b ((e.caller ≡ f.caller) × AreInTurn None (es ++ more))
+          ((frame_taken e.request e.reply ≡ []) × AreInTurn (Some f) (es ++ more)) →
+          (AreInTurn None (es ++ more) → AreInTurn None es) → (AreInTurn (Some f) (es ++ more) → AreInTurn (Some f) es) →
+          Turn b ((e.caller ≡ f.caller) × AreInTurn None es) ((frame_taken e.request e.reply ≡ []) × AreInTurn (Some f) es)
+      by true t ended going = (t.0, ended t.1)
+      by false t ended going = (t.0, going t.1)
 
 pub text_tells : TextTellsItsHistory
 text_tells style functions forms h k names a b e =
-    lines_tell_the_history style functions (length style.titles.actors) names (initial_standing style.titles.states) (initial_actor (script_parts style.titles.actors forms)) h k a.legal b.legal a.woven b.woven e
+    lines_tell_the_history style functions (length style.titles.actors) names (initial_standing style.titles.states)
+    (initial_actor (script_parts style.titles.actors forms)) h k a.legal b.legal a.woven b.woven e
 
 -- Frames are in turn in the printed calls of the actors of a job.
-pub calls_in_turn : (job : Job) (end : ActorsEnd) → StatesFit job.program.states.items → HasNoFault job → AreActorsCalls job end → AreInTurn None (printed_history end.calls.items)
+pub calls_in_turn : (job : Job) (end : ActorsEnd) → StatesFit job.program.states.items → HasNoFault job
+    → AreActorsCalls job end → AreInTurn None (printed_history end.calls.items)
 calls_in_turn job end fit fault made =
     let states = job.program.states.items in
     let forms = job.script.forms.items in
@@ -80,25 +89,38 @@ calls_in_turn job end fit fault made =
     let more = made.part.0 in
     in_turn_part None h more
     (frames_are_in_turn states None forms (h ++ more) (valid_opening states fit) fault.fine made.part.1
-    (subst (λ (actors : List (List ℕ)). IsWoven (length actors) (initial_actor (script_parts actors forms)) (h ++ more)) fault.actors made.part.2))
+    (subst (λ (actors : List (List ℕ)). IsWoven (length actors) (initial_actor (script_parts actors forms)) (h ++ more))
+    fault.actors made.part.2))
 
 -- A first part of the lines of the calls, or all of them.
 module _ (job : Job) (flags : Flags) (end : ActorsEnd) (made : AreActorsCalls job end) where
   abbrev made_text : List ℕ
-  made_text = text_of (job_style job flags) (job_functions job) (initial_standing job.program.states.items) (printed_history end.calls.items)
+  made_text = text_of (job_style job flags) (job_functions job) (initial_standing job.program.states.items)
+      (printed_history end.calls.items)
 
-  pub part_is_written : {T E : Type 0} (e : E) (before now : Option (List ℕ)) → AppendsPart before now made_text → WritesWovenText {T = T} before now flags job (Err e)
+  pub part_is_written : {T E : Type 0} (e : E) (before now : Option (List ℕ)) → AppendsPart before now made_text
+      → WritesWovenText {T = T} before now flags job (Err e)
   part_is_written e before now part =
-      let whole = whole_text (job_style job flags) (job_functions job) job.script.forms.items (printed_history end.calls.items) made.part in
+      let whole = whole_text (job_style job flags) (job_functions job) job.script.forms.items
+      (printed_history end.calls.items) made.part in
       (made_text ++ whole.0, whole.1, record { all = tt; part = part-front before now made_text whole.0 part })
 
-  pub all_is_written : {T E : Type 0} (t : T) (before now : Option (List ℕ)) → end.short ≡ false → Appends before now made_text → WritesWovenText {T = T} {E = E} before now flags job (Ok t)
+  pub all_is_written : {T E : Type 0} (t : T) (before now : Option (List ℕ)) → end.short ≡ false
+      → Appends before now made_text → WritesWovenText {T = T} {E = E} before now flags job (Ok t)
   all_is_written t before now whole done =
-      let legal = (printed_is_legal table (opening_world job.program.states.items) end.calls.items made.legal).0 in
-      (made_text, record { history = printed_history end.calls.items; possible = record { legal = legal; woven = made.woven whole }; is = refl }, record { all = done; part = tt })
+      let legal = (printed_is_legal table (opening_world job.program.states.items) end.calls.items made.legal).0 in (
+        made_text,
+        record {
+          history = printed_history end.calls.items;
+          possible = record { legal = legal; woven = made.woven whole };
+          is = refl;
+        },
+        record { all = done; part = tt },
+      )
 
 -- If nothing was made, nothing is written.
-pub none_is_written : {T E : Type 0} (e : E) (job : Job) (flags : Flags) (written : Option (List ℕ)) → WritesWovenText {T = T} written written flags job (Err e)
+pub none_is_written : {T E : Type 0} (e : E) (job : Job) (flags : Flags) (written : Option (List ℕ))
+    → WritesWovenText {T = T} written written flags job (Err e)
 none_is_written e job flags written =
     let some = some_text (job_style job flags) (job_functions job) job.script.forms.items in
     (some.0, some.1, record { all = tt; part = part-none written some.0 })

@@ -9,8 +9,8 @@ use Rattle.woven_laws.specs.Woven.{initial_actor, IsWoven}
 use Rattle.play_actors.specs.declared.actors.ActorsEnd.{ActorsEnd}
 use Rattle.play_run.specs.declared.job.Job.{Job}
 
--- The history is legal. Its printed calls can be continued to a legal and woven history, and are one if no actor ran out
--- of memory.
+-- The history is legal. Its printed calls can be continued to a legal and woven history, and are one if no actor ran
+-- out of memory.
 pub record AreActorsCalls (job : Job) (end : ActorsEnd) : Type 0 where
   pub part : CanBeCompleted (length job.script.actors.items)
       (script_parts job.script.actors.items job.script.forms.items) (opening_world job.program.states.items)

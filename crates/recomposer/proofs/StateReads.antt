@@ -41,33 +41,46 @@ module _ (n : ℕ) where
   own_below (Read x rest) h = (h.0, own_below rest h.1)
   own_below (Group site number (Call f vs) inside rest) h = own_below rest (back_below (asks inside) (asks rest) h)
   own_below (Group site number (Node kind attributes) inside rest) h =
-      both_below (asks (own_part inside)) (asks (own_part rest)) (own_below inside (front_below (asks inside) (asks rest) h)) (own_below rest (back_below (asks inside) (asks rest) h))
+      both_below (asks (own_part inside)) (asks (own_part rest))
+      (own_below inside (front_below (asks inside) (asks rest) h))
+      (own_below rest (back_below (asks inside) (asks rest) h))
   own_below (Group site number (Key v) inside rest) h =
-      both_below (asks (own_part inside)) (asks (own_part rest)) (own_below inside (front_below (asks inside) (asks rest) h)) (own_below rest (back_below (asks inside) (asks rest) h))
+      both_below (asks (own_part inside)) (asks (own_part rest))
+      (own_below inside (front_below (asks inside) (asks rest) h))
+      (own_below rest (back_below (asks inside) (asks rest) h))
   own_below (Group site number (Cell ks v) inside rest) h =
-      both_below (asks (own_part inside)) (asks (own_part rest)) (own_below inside (front_below (asks inside) (asks rest) h)) (own_below rest (back_below (asks inside) (asks rest) h))
+      both_below (asks (own_part inside)) (asks (own_part rest))
+      (own_below inside (front_below (asks inside) (asks rest) h))
+      (own_below rest (back_below (asks inside) (asks rest) h))
 
-  choice_below : (s : GroupKey) (b : Bool) (k : ℕ) (found : Found) (rest : GroupForest) → AreBelow n (asks found.inside) → ((i : ℕ) → AreBelow n (asks (inside_of (matching_sibling s i rest)))) →
-      AreBelow n (asks (inside_of (if b then nth k found (λ i. matching_sibling s i rest) else matching_sibling s k rest)))
+  choice_below : (s : GroupKey) (b : Bool) (k : ℕ) (found : Found) (rest : GroupForest) → AreBelow n (asks found.inside)
+      → ((i : ℕ) → AreBelow n (asks (inside_of (matching_sibling s i rest)))) →
+      AreBelow n (asks (inside_of (if b then nth k found (λ i. matching_sibling s i rest)
+      else matching_sibling s k rest)))
   choice_below s true zero found rest here later = here
   choice_below s true (suc k) found rest here later = later k
   choice_below s false k found rest here later = later k
 
-  found_below : (s : GroupKey) (k : ℕ) (t : GroupForest) → AreBelow n (asks t) → AreBelow n (asks (inside_of (matching_sibling s k t)))
+  found_below : (s : GroupKey) (k : ℕ) (t : GroupForest) → AreBelow n (asks t)
+      → AreBelow n (asks (inside_of (matching_sibling s k t)))
   found_below s k End h = tt
   found_below s k (Read x rest) h = found_below s k rest h.1
   found_below s k (Group site number what inside rest) h =
-      choice_below s (same_sibling (sibling site what) s) k (record { number = number; what = what; inside = inside }) rest (front_below (asks inside) (asks rest) h)
+      choice_below s (same_sibling (sibling site what) s) k (record { number = number; what = what; inside = inside })
+      rest (front_below (asks inside) (asks rest) h)
       (λ i. found_below s i rest (back_below (asks inside) (asks rest) h))
 
   -- The reads inside the group at a path are among all reads.
-  pub path_below : (path : Path) (t : GroupForest) → AreBelow n (asks t) → AreBelow n (asks (inside_of (at_path path t)))
+  pub path_below : (path : Path) (t : GroupForest) → AreBelow n (asks t)
+      → AreBelow n (asks (inside_of (at_path path t)))
   path_below [] t h = tt
   path_below (s ∷ []) t h = found_below s.of s.occurrence t h
-  path_below (s ∷ (r ∷ path)) t h = path_below (r ∷ path) (inside_of (matching_sibling s.of s.occurrence t)) (found_below s.of s.occurrence t h)
+  path_below (s ∷ (r ∷ path)) t h =
+      path_below (r ∷ path) (inside_of (matching_sibling s.of s.occurrence t)) (found_below s.of s.occurrence t h)
 
 -- The reads of a forest that a checked program made are of its states.
-pub kept_below : (p : Program) (m : Map) (t : GroupForest) → IsChecked (program_view p) → without_numbers t ≡ forest (functions_of p) (root_of p) m → AreBelow (length p.states.items) (asks t)
+pub kept_below : (p : Program) (m : Map) (t : GroupForest) → IsChecked (program_view p)
+    → without_numbers t ≡ forest (functions_of p) (root_of p) m → AreBelow (length p.states.items) (asks t)
 kept_below p m t checked made =
     subst (λ (xs : List ℕ). AreBelow (length p.states.items) xs) (sym (sym (asks-without_numbers t) ∙ ap asks made))
     (all_below (length p.states.items) (asks (forest (functions_of p) (root_of p) m))

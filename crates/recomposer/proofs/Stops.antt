@@ -33,31 +33,42 @@ pub no_cause : {U : Type 0} (n : ℕ) (r : Result U FrameStop) → (r ≡ Err Ap
 no_cause n r none = record { later = omega arith; failed = λ e. absurd (none e) }
 
 -- An applier may still be called.
-pub may_be_called : (t : Option CursorTree) (at at' : LastFrame → Type 0) → MayCall t at → ((k : LastFrame) → at k → at' k) → MayCall t at'
+pub may_be_called : (t : Option CursorTree) (at at' : LastFrame → Type 0) → MayCall t at
+    → ((k : LastFrame) → at k → at' k) → MayCall t at'
 may_be_called None at at' may go = tt
 may_be_called (Some t) at at' may go = record { kept = may.kept; is_at = go may.kept may.is_at; mirrors = may.mirrors }
 
 -- What is so unless the applier failed.
-unfaulted : {U X : Type 0} (stop : FrameStop) (r : Result U FrameStop) → r ≡ Err stop → (stop ≡ ApplierFault → ⊥) → UnlessFault X r → X
+unfaulted : {U X : Type 0} (stop : FrameStop) (r : Result U FrameStop) → r ≡ Err stop → (stop ≡ ApplierFault → ⊥)
+    → UnlessFault X r → X
 unfaulted ApplierFault r is none x = absurd (none refl)
 unfaulted {X = X} TooManyGroups r is none x = subst (λ (q : Result _ FrameStop). UnlessFault X q) is x
 unfaulted {X = X} Spent r is none x = subst (λ (q : Result _ FrameStop). UnlessFault X q) is x
 unfaulted {X = X} NoMemory r is none x = subst (λ (q : Result _ FrameStop). UnlessFault X q) is x
 
 -- What is kept after a frame that stopped.
-pub stopped_at : {U : Type 0} (c c' : Composition) (k : LastFrame) (m : Map) (stop : FrameStop) (r : Result U FrameStop) → r ≡ Err stop → UnlessFault (c' ≡ c) r
-    → (r ≡ Err ApplierFault → IsAt c' (kept_after_fault k (frame (functions_of c.program.now) k m)) (Some m)) → IsAt c k (Some m) → IsAt c' (kept_after_stop c.program.now k (Some m) stop) (Some m)
+pub stopped_at : {U : Type 0} (c c' : Composition) (k : LastFrame) (m : Map) (stop : FrameStop) (r : Result U FrameStop)
+    → r ≡ Err stop → UnlessFault (c' ≡ c) r
+    → (r ≡ Err ApplierFault → IsAt c' (kept_after_fault k (frame (functions_of c.program.now) k m)) (Some m))
+    → IsAt c k (Some m) → IsAt c' (kept_after_stop c.program.now k (Some m) stop) (Some m)
 stopped_at c c' k m ApplierFault r is same fault h = fault is
-stopped_at c c' k m TooManyGroups r is same fault h = subst (λ (s : Composition). IsAt s k (Some m)) (sym (unfaulted TooManyGroups r is (λ e. absurd cc) same)) h
-stopped_at c c' k m Spent r is same fault h = subst (λ (s : Composition). IsAt s k (Some m)) (sym (unfaulted Spent r is (λ e. absurd cc) same)) h
-stopped_at c c' k m NoMemory r is same fault h = subst (λ (s : Composition). IsAt s k (Some m)) (sym (unfaulted NoMemory r is (λ e. absurd cc) same)) h
+stopped_at c c' k m TooManyGroups r is same fault h =
+    subst (λ (s : Composition). IsAt s k (Some m)) (sym (unfaulted TooManyGroups r is (λ e. absurd cc) same)) h
+stopped_at c c' k m Spent r is same fault h =
+    subst (λ (s : Composition). IsAt s k (Some m)) (sym (unfaulted Spent r is (λ e. absurd cc) same)) h
+stopped_at c c' k m NoMemory r is same fault h =
+    subst (λ (s : Composition). IsAt s k (Some m)) (sym (unfaulted NoMemory r is (λ e. absurd cc) same)) h
 
 -- After a fault of the applier the composition is detached.
-pub stopped_detached : (p : Program) (k : LastFrame) (m : Map) (stop : FrameStop) → stop ≡ ApplierFault → is_detached (kept_after_fault k (frame (functions_of p) k m)) ≡ true → is_detached (kept_after_stop p k (Some m) stop) ≡ true
-stopped_detached p k m stop e detached = ap (λ (s : FrameStop). is_detached (kept_after_stop p k (Some m) s)) e ∙ detached
+pub stopped_detached : (p : Program) (k : LastFrame) (m : Map) (stop : FrameStop) → stop ≡ ApplierFault
+    → is_detached (kept_after_fault k (frame (functions_of p) k m)) ≡ true
+    → is_detached (kept_after_stop p k (Some m) stop) ≡ true
+stopped_detached p k m stop e detached =
+    ap (λ (s : FrameStop). is_detached (kept_after_stop p k (Some m) s)) e ∙ detached
 
 -- A frame that did not begin keeps everything.
-pub stopped_before : (p : Program) (k : LastFrame) (l : Option Map) (stop : FrameStop) → (stop ≡ ApplierFault → ⊥) → kept_after_stop p k l stop ≡ k
+pub stopped_before : (p : Program) (k : LastFrame) (l : Option Map) (stop : FrameStop) → (stop ≡ ApplierFault → ⊥)
+    → kept_after_stop p k l stop ≡ k
 stopped_before p k None stop none = refl
 stopped_before p k (Some m) ApplierFault none = absurd (none refl)
 stopped_before p k (Some m) TooManyGroups none = refl

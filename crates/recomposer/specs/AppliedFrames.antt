@@ -23,8 +23,8 @@ abbrev pub kept_after_fault : LastFrame → Option FrameResult → LastFrame
 kept_after_fault k None = k
 kept_after_fault k (Some good) = record { seen = None; trail = End; next = good.left.next }
 
--- The tree that an applier knows is that of the kept groups, and its current node is the unseen root. A detached composition
--- says nothing of the tree.
+-- The tree that an applier knows is that of the kept groups, and its current node is the unseen root. A detached
+-- composition says nothing of the tree.
 abbrev pub Mirrors : Option CursorTree → LastFrame → Type 0
 Mirrors None k = Unit {0}
 Mirrors (Some t) k = is_detached k ≡ false → t ≡ tree_at_root (nodes k.trail)
@@ -40,14 +40,14 @@ abbrev pub MayCall : Option CursorTree → (LastFrame → Type 0) → Type 0
 MayCall None at = Unit {0}
 MayCall (Some t) at = IsReady at t
 
--- The tree that an applier knows after a good frame: that of the new groups, with the unseen root as the current node. A refused
--- frame leaves the tree.
+-- The tree that an applier knows after a good frame: that of the new groups, with the unseen root as the current node.
+-- A refused frame leaves the tree.
 abbrev pub tree_after_frame : Option CursorTree → Option FrameResult → Option CursorTree
 tree_after_frame tree None = tree
 tree_after_frame tree (Some good) = option_map (λ t. tree_at_root (nodes good.left.trail)) tree
 
--- A frame with this result after the kept state `k` made the calls that turn the kept tree into the new one. If the tree that
--- the applier knew was the kept one, it is the new one now.
+-- A frame with this result after the kept state `k` made the calls that turn the kept tree into the new one. If the
+-- tree that the applier knew was the kept one, it is the new one now.
 pub record Applies (before now : Option CursorTree) (made : List Op) (k : LastFrame)
     (good : Option FrameResult) : Type 0 where
   pub calls : made ≡ ops_of k good

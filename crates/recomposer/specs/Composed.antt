@@ -8,8 +8,8 @@ use Rattle.composer.specs.FrameDrafts.{DraftGroups, IsFrameDraft, root_of}
 use Rattle.lang_ast.specs.Programs.{functions_of}
 use Rattle.recomposer.specs.declared.composition.Composition.{Composition}
 
--- What the frame of the composition in the map `m` composed after the kept state `k`: nothing if nothing is owed, else the
--- draft of the frame, which has few enough groups.
+-- What the frame of the composition in the map `m` composed after the kept state `k`: nothing if nothing is owed, else
+-- the draft of the frame, which has few enough groups.
 abbrev pub IsComposed : Composition → LastFrame → Map → Option DraftGroups → Type 0
 IsComposed c k m None = (c.owed.all ≡ false) × (c.owed.objects ≡ [])
 IsComposed c k m (Some d) =

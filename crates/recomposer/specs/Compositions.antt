@@ -37,8 +37,9 @@ pub record IsKept (p : Program) (seen : Map) (trail : GroupForest) : Type 0 wher
   pub few : how_many (forest (functions_of p) (root_of p) seen) ≤ most_groups
   pub numbered : IsNumbered trail
 
--- Before the first good frame no group is kept and everything is owed. After it the forest of its map is kept, and of the
--- program's states those are owed whose stamps differ between that map and the watcher's last map `last`, which is later.
+-- Before the first good frame no group is kept and everything is owed. After it the forest of its map is kept, and of
+-- the program's states those are owed whose stamps differ between that map and the watcher's last map `last`, which is
+-- later.
 abbrev pub Owes : Program → Option Map → GroupForest → Option Map → OwedObjects → Type 0
 Owes p None trail last owed = (trail ≡ End) × (owed.all ≡ true)
 Owes p (Some seen) trail None owed = ⊥
@@ -51,8 +52,8 @@ Owes p (Some seen) trail (Some last) owed =
 abbrev pub CountsFromOne : LastFrame → Type 0
 CountsFromOne k = (1 ≤ k.next) × (how_often 0 k.trail ≡ 0)
 
--- The composition of a checked program has kept the state `k` of the last good frame: its groups, whose nodes have distinct
--- numbers from 1, the next node number, and what is owed. `last` is the watcher's last map.
+-- The composition of a checked program has kept the state `k` of the last good frame: its groups, whose nodes have
+-- distinct numbers from 1, the next node number, and what is owed. `last` is the watcher's last map.
 pub record IsAt (c : Composition) (k : LastFrame) (last : Option Map) : Type 0 where
   pub checked : IsChecked (program_view c.program.now)
   pub holds : Holds c.held k
@@ -63,8 +64,8 @@ pub record IsAt (c : Composition) (k : LastFrame) (last : Option Map) : Type 0 w
   pub groups : c.groups ≡ how_many k.trail
   pub nodes : c.nodes ≡ how_many_nodes k.trail
 
--- What is kept after a frame that was refused, where `last` is the watcher's last map: the same, except after a fault of the
--- applier.
+-- What is kept after a frame that was refused, where `last` is the watcher's last map: the same, except after a fault
+-- of the applier.
 abbrev pub kept_after_stop : Program → LastFrame → Option Map → FrameStop → LastFrame
 kept_after_stop p k None stop = k
 kept_after_stop p k (Some m) ApplierFault = kept_after_fault k (frame (functions_of p) k m)
@@ -72,8 +73,8 @@ kept_after_stop p k (Some m) TooManyGroups = k
 kept_after_stop p k (Some m) Spent = k
 kept_after_stop p k (Some m) NoMemory = k
 
--- No frame begins if the clock `k` is at its limit, and the clock is at its limit if the frame stops as `Spent`. A frame with
--- too many groups or with a fault of the applier has begun.
+-- No frame begins if the clock `k` is at its limit, and the clock is at its limit if the frame stops as `Spent`. A
+-- frame with too many groups or with a fault of the applier has begun.
 abbrev pub StopsAtEnd : (ℕ → Type 0) → ℕ → {U : Type 0} → Result U FrameStop → Type 0
 StopsAtEnd clock k (Ok u) = k ≡ clock_limit → ⊥
 StopsAtEnd clock k (Err Spent) = clock clock_limit
@@ -92,8 +93,8 @@ refused_take ApplierFault = reply.Refused refusal.NoMemory
 abbrev pub frame_reads : Program → LastFrame → Map → List ℕ
 frame_reads p k m = reads (differ k.seen m) k.trail (forest (functions_of p) (root_of p) m)
 
--- There was a good frame, and no call of the kept groups has among its own reads an object that changed between the map of
--- that frame and the map `m`.
+-- There was a good frame, and no call of the kept groups has among its own reads an object that changed between the map
+-- of that frame and the map `m`.
 abbrev pub OwesNoCall : LastFrame → Map → Type 0
 OwesNoCall k m = (is_none k.seen ≡ false) × IsQuiet (differ k.seen m) k.trail
 
@@ -108,8 +109,8 @@ pub record ChangesNothing (p : Program) (k : LastFrame) (m : Map) : Type 0 where
   pub reads_none : frame_reads p k m ≡ []
   pub calls_none : ops_of k (frame (functions_of p) k m) ≡ []
 
--- A frame begins well: a map is shown, which is the watcher's last map from now on, and `changed` lists what changed since
--- the watcher's last map before.
+-- A frame begins well: a map is shown, which is the watcher's last map from now on, and `changed` lists what changed
+-- since the watcher's last map before.
 pub record BeginsFrame (at_map : Option Map → Type 0) (shows : Map → Type 0) (last : Option Map → Type 0)
     (l : Option Map) (name : ℕ) (changed : List ℕ) : Type 0 where
   pub map : Map
@@ -137,9 +138,9 @@ pub record EndsPart (old new : Option (List Entry)) (caller name : ℕ) (all : L
   pub is : xs ++ rest ≡ all
   pub ends : EndsFrame old new caller name xs
 
--- What the end of a frame adds to a log, whatever its result: the list of reads and the log grew by the same reads of the
--- frame's snapshot, and then came the dispose with some reply. The snapshot was disposed if the frame is good, and whenever
--- the desk showed it and it is not global.
+-- What the end of a frame adds to a log, whatever its result: the list of reads and the log grew by the same reads of
+-- the frame's snapshot, and then came the dispose with some reply. The snapshot was disposed if the frame is good, and
+-- whenever the desk showed it and it is not global.
 pub record ClosesFrame {U : Type 0} (shows : Map → Type 0) (asked asked' : List ℕ) (old new : Option (List Entry))
     (caller name : ℕ) (result : Result U FrameStop) : Type 0 where
   pub xs : List ℕ
@@ -196,17 +197,17 @@ pub record PartOfFrame (old new : Option (List Entry)) (caller watcher : ℕ) (a
   pub is : xs ++ rest ≡ all
   pub logs : LogsFrame old new caller watcher xs
 
--- What a frame that was not made adds to a log, `last` being the watcher's last map then: the refusal of its take, or the
--- take, a first part of the reads that the frame owes in this map, and the dispose.
+-- What a frame that was not made adds to a log, `last` being the watcher's last map then: the refusal of its take, or
+-- the take, a first part of the reads that the frame owes in this map, and the dispose.
 abbrev pub LogsNoFrame : Program → LastFrame → Option (List Entry) → Option (List Entry) → ℕ → ℕ → FrameStop
     → Option Map → Type 0
 LogsNoFrame p k old new caller watcher stop last =
     Logs old new caller (TakeFor watcher) (refused_take stop)
     ⊎ ((m : Map) × (last ≡ Some m) × PartOfFrame old new caller watcher (frame_reads p k m))
 
--- A frame was made in the map `map` after the kept state `k`: `at_frame` and `last` say what is kept and which map is the
--- watcher's last one, `told` is the report, `does` says what the frame's reads did, and `applies` what the applier did. If no
--- call is owed, the frame changes nothing.
+-- A frame was made in the map `map` after the kept state `k`: `at_frame` and `last` say what is kept and which map is
+-- the watcher's last one, `told` is the report, `does` says what the frame's reads did, and `applies` what the applier
+-- did. If no call is owed, the frame changes nothing.
 pub record MakesFrame (p : Program) (k : LastFrame) (at_frame : LastFrame → Option Map → Type 0)
     (last : Option Map → Type 0) (does : List ℕ → Type 0) (applies : Option FrameResult → Type 0)
     (told : Report) : Type 0 where
@@ -218,9 +219,9 @@ pub record MakesFrame (p : Program) (k : LastFrame) (at_frame : LastFrame → Op
   pub applied : applies (frame (functions_of p) k map)
   pub quiet : OwesNoCall k map → ChangesNothing p k map
 
--- A frame was not made: the kept state stays, except after a fault of the applier, and what changed up to the watcher's last
--- map is owed. `logs` says what the log is then. If there are too many groups, the frame of that map has no result. A frame
--- with a fault of the applier has begun, and the composition is detached after it.
+-- A frame was not made: the kept state stays, except after a fault of the applier, and what changed up to the watcher's
+-- last map is owed. `logs` says what the log is then. If there are too many groups, the frame of that map has no
+-- result. A frame with a fault of the applier has begun, and the composition is detached after it.
 pub record MakesNoFrame (p : Program) (k : LastFrame) (at_frame : LastFrame → Option Map → Type 0)
     (last : Option Map → Type 0) (logs : FrameStop → Option Map → Type 0) (stop : FrameStop) : Type 0 where
   pub map : Option Map

@@ -26,8 +26,8 @@ use snap_api::{Desk, Refusal, Reply, Request};
 use std::alloc::Global;
 use std::sync::ledger::Ledger;
 
-/// A frame that has begun: the number of its snapshot, and the objects that changed since the last frame of its watcher,
-/// in ascending order.
+/// A frame that has begun: the number of its snapshot, and the objects that changed since the last frame of its
+/// watcher, in ascending order.
 #[derive(Drop)]
 pub struct Begun {
     pub name: Name,
@@ -39,8 +39,8 @@ pub struct Begun {
 pub enum FrameStop {
     /// The composition would have more than 1,000,000 groups.
     TooManyGroups,
-    /// A call on the applier failed. The composition has kept nothing then: the next frame clears the applier's tree and
-    /// makes all nodes again, with new numbers.
+    /// A call on the applier failed. The composition has kept nothing then: the next frame clears the applier's tree
+    /// and makes all nodes again, with new numbers.
     ApplierFault,
     /// The world's clock is at its limit.
     Spent,
@@ -60,8 +60,8 @@ fn frame_stop(stop: ComposeStop) -> FrameStop
     }
 }
 
-// Takes all memory for calls on the applier: copies the calls, because the applier takes them by value, and reserves its
-// nodes.
+// Takes all memory for calls on the applier: copies the calls, because the applier takes them by value, and reserves
+// its nodes.
 fn take_memory<A: Applier>(alloc: Global, ops: &Ops, applier: &mut A) -> Result<Ops, NoMemory>
     ensures same { IfOk result (λ calls. calls ≡ ops.now) }
     ensures room { IfOk result (λ calls. insert_count calls ≤ A.spare applier.new) }
@@ -73,8 +73,8 @@ fn take_memory<A: Applier>(alloc: Global, ops: &Ops, applier: &mut A) -> Result<
     Ok(calls)
 }
 
-/// A composition of one program (`CompositionImpl` with what `Recomposer` knows of it): the groups of the last good frame
-/// with the calls that it made on the applier, and what is owed since then. It takes its snapshots as a watcher.
+/// A composition of one program (`CompositionImpl` with what `Recomposer` knows of it): the groups of the last good
+/// frame with the calls that it made on the applier, and what is owed since then. It takes its snapshots as a watcher.
 #[derive(Drop)]
 pub struct Composition<'p> {
     program: &'p Checked,
@@ -121,8 +121,8 @@ impl<'p> Composition<'p> {
         self.held.next()
     }
 
-    /// Returns the calls on the applier that the last good frame made (`ChangeList`). There are none before a good frame and
-    /// after one without an applier.
+    /// Returns the calls on the applier that the last good frame made (`ChangeList`). There are none before a good
+    /// frame and after one without an applier.
     pub fn ops(&self) -> &Ops
         ensures { result.now ≡ self.now.ops }
     {
@@ -244,8 +244,8 @@ impl<'p> Composition<'p> {
         draft.report().ran == 0
     }
 
-    // Lists the calls on the applier that turn the kept node tree into that of the draft. The nodes are not compared if the
-    // frame keeps all groups.
+    // Lists the calls on the applier that turn the kept node tree into that of the draft. The nodes are not compared if
+    // the frame keeps all groups.
     fn list_calls(&self, alloc: Global, draft: &Draft) -> Result<Ops, NoMemory>
         ensures { (k : LastFrame) (m : Map) → IsAt self.now k (Some m) → IsComposed self.now k m (Some draft.now) →
             IfOk result (λ ops. ops ≡ ops_of k (frame_of (functions_of self.now.program.now) k m)) }
@@ -281,7 +281,8 @@ impl<'p> Composition<'p> {
         report
     }
 
-    // Keeps nothing of the frame whose applier failed, except that the numbers of its nodes are used. Everything is owed.
+    // Keeps nothing of the frame whose applier failed, except that the numbers of its nodes are used. Everything is
+    // owed.
     fn detach(&mut self, alloc: Global, draft: Draft)
         ensures program { self.new.program ≡ self.old.program }
         ensures watcher { self.new.watcher ≡ self.old.watcher }
@@ -384,8 +385,9 @@ impl<'p> Composition<'p> {
     }
 
     /// Composes what the frame owes in the open snapshot that the view shows, and keeps the new groups (`recompose`,
-    /// `applyChanges`). For callers that take and dispose the snapshot themselves and keep no node tree. A frame that owes
-    /// nothing composes nothing. A frame in which no kept call read a changed state runs no call and reads nothing.
+    /// `applyChanges`). For callers that take and dispose the snapshot themselves and keep no node tree. A frame that
+    /// owes nothing composes nothing. A frame in which no kept call read a changed state runs no call and reads
+    /// nothing.
     ///
     /// Fails with `TooManyGroups` exactly if the program makes more than 1,000,000 groups in the snapshot, or out of
     /// memory. The composition is then unchanged, and what is owed stays owed.
@@ -423,15 +425,15 @@ impl<'p> Composition<'p> {
         }
     }
 
-    /// Composes what the frame owes in the open snapshot that the view shows, changes the applier's tree, and keeps the new
-    /// groups (`recompose`, `applyChanges`). For callers that take and dispose the snapshot themselves. A frame that owes
-    /// nothing composes nothing. A frame in which no kept call read a changed state runs no call and reads nothing. Neither
-    /// calls the applier. All memory is taken before the first call on the applier.
+    /// Composes what the frame owes in the open snapshot that the view shows, changes the applier's tree, and keeps the
+    /// new groups (`recompose`, `applyChanges`). For callers that take and dispose the snapshot themselves. A frame
+    /// that owes nothing composes nothing. A frame in which no kept call read a changed state runs no call and reads
+    /// nothing. Neither calls the applier. All memory is taken before the first call on the applier.
     ///
     /// Fails with `TooManyGroups` exactly if the program makes more than 1,000,000 groups in the snapshot, or out of
     /// memory. The composition and the applier's tree are then unchanged, and what is owed stays owed. Fails with
-    /// `ApplierFault` only if a call on the applier failed. Nothing is kept then except the number of the next new node,
-    /// and the next frame clears the applier's tree and makes all nodes again.
+    /// `ApplierFault` only if a call on the applier failed. Nothing is kept then except the number of the next new
+    /// node, and the next frame clears the applier's tree and makes all nodes again.
     pub fn recompose_with<V: View, A: Applier, L: Ledger>(
         &mut self,
         alloc: Global,
@@ -482,10 +484,10 @@ impl<'p> Composition<'p> {
         }
     }
 
-    /// Ends a frame that has begun: composes the program in the frame's snapshot, disposes the snapshot, changes the applier's
-    /// tree, and keeps the new groups (`recompose`, `applyChanges`). A frame that owes nothing composes nothing. A frame in
-    /// which no kept call read a changed state runs no call and reads nothing. Neither calls the applier. All memory is
-    /// taken before the first call on the applier. The snapshot is disposed after a failure too.
+    /// Ends a frame that has begun: composes the program in the frame's snapshot, disposes the snapshot, changes the
+    /// applier's tree, and keeps the new groups (`recompose`, `applyChanges`). A frame that owes nothing composes
+    /// nothing. A frame in which no kept call read a changed state runs no call and reads nothing. Neither calls the
+    /// applier. All memory is taken before the first call on the applier. The snapshot is disposed after a failure too.
     ///
     /// Fails like `recompose_with`.
     pub fn finish<D: Desk, A: Applier, L: Ledger>(
@@ -561,9 +563,9 @@ impl<'p> Composition<'p> {
 
     /// Makes a frame: begins it and ends it (`recompose`).
     ///
-    /// Fails like `begin` and `finish`, with `Spent` exactly if the world's clock is at its limit. What is kept stays then
-    /// except after `ApplierFault`, and what is owed stays owed. An applier that knows its tree needs a desk on which no one
-    /// else takes for the watcher, as one over a borrowed world.
+    /// Fails like `begin` and `finish`, with `Spent` exactly if the world's clock is at its limit. What is kept stays
+    /// then except after `ApplierFault`, and what is owed stays owed. An applier that knows its tree needs a desk on
+    /// which no one else takes for the watcher, as one over a borrowed world.
     pub fn frame<D: Desk, A: Applier, L: Ledger>(
         &mut self,
         alloc: Global,

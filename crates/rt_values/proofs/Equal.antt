@@ -13,9 +13,12 @@ same_items_decides xs ys = slice_eq-Decides Decides-int_eq xs ys (same_items xs 
 
 pub same_value_decides : (v w : Value) → Decides (same_value v w) (v ≡ w)
 same_value_decides (value.Int a) (value.Int b) = let h = Decides-int_eq a b in (λ e. ap value.Int (h.0 e), λ e. h.1 cc)
-same_value_decides (value.Bool a) (value.Bool b) = let h = booleans_Decides a b in (λ e. ap value.Bool (h.0 e), λ e. h.1 cc)
-same_value_decides (value.Text a) (value.Text b) = let h = bytes_eq-Decides a b in (λ e. ap value.Text (h.0 e), λ e. h.1 cc)
-same_value_decides (value.Ints a) (value.Ints b) = let h = same_items_decides a b in (λ e. ap value.Ints (h.0 e), λ e. h.1 cc)
+same_value_decides (value.Bool a) (value.Bool b) =
+    let h = booleans_Decides a b in (λ e. ap value.Bool (h.0 e), λ e. h.1 cc)
+same_value_decides (value.Text a) (value.Text b) =
+    let h = bytes_eq-Decides a b in (λ e. ap value.Text (h.0 e), λ e. h.1 cc)
+same_value_decides (value.Ints a) (value.Ints b) =
+    let h = same_items_decides a b in (λ e. ap value.Ints (h.0 e), λ e. h.1 cc)
 same_value_decides (value.Int a) (value.Bool b) = (λ e. absurd cc, λ e. absurd cc)
 same_value_decides (value.Int a) (value.Text b) = (λ e. absurd cc, λ e. absurd cc)
 same_value_decides (value.Int a) (value.Ints b) = (λ e. absurd cc, λ e. absurd cc)

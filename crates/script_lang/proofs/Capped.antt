@@ -10,7 +10,8 @@ le_or_lt p q = grind arith
 pub capped_sum : (cap a b : ℕ) → min (min a cap + b) cap ≡ min (a + b) cap
 capped_sum cap a b = elim (le_or_lt a cap) [
   | inl le ↦ ap (λ n. min (n + b) cap) (min-eq_left le)
-  | inr lt ↦ ap (λ n. min (n + b) cap) (min-eq_right (omega (arith, lt))) ∙ min-eq_right (omega arith) ∙ sym (min-eq_right (omega (arith, lt)))
+  | inr lt ↦ ap (λ n. min (n + b) cap) (min-eq_right (omega (arith, lt))) ∙ min-eq_right (omega arith)
+      ∙ sym (min-eq_right (omega (arith, lt)))
 ]
 
 -- So many times a capped number.
@@ -18,7 +19,8 @@ pub capped_product : (cap t a : ℕ) → min (t * min a cap) cap ≡ min (t * a)
 capped_product cap zero a = ap (λ n. min n cap) (omega arith)
 capped_product cap (suc t) a = elim (le_or_lt a cap) [
   | inl le ↦ ap (λ n. min (suc t * n) cap) (min-eq_left le)
-  | inr lt ↦ ap (λ n. min (suc t * n) cap) (min-eq_right (omega (arith, lt))) ∙ min-eq_right (omega arith) ∙ sym (min-eq_right (omega (arith, lt)))
+  | inr lt ↦ ap (λ n. min (suc t * n) cap) (min-eq_right (omega (arith, lt))) ∙ min-eq_right (omega arith)
+      ∙ sym (min-eq_right (omega (arith, lt)))
 ]
 
 -- A number up to a limit, compared with a capped one and reduced by it.
@@ -35,5 +37,7 @@ capped_difference cap left a below = elim (le_or_lt a cap) [
 ]
 
 -- A count that is complete.
-pub capped_here : (count rest all : ℕ) → rest ≡ 0 → count < 2 ^ 64 → min (count + rest) (2 ^ 64 - 1) ≡ min all (2 ^ 64 - 1) → count ≡ min all (2 ^ 64 - 1)
-capped_here count rest all none fits is = sym (min-eq_left (omega (arith, fits))) ∙ ap (λ n. min n (2 ^ 64 - 1)) (omega (arith, none)) ∙ is
+pub capped_here : (count rest all : ℕ) → rest ≡ 0 → count < 2 ^ 64
+    → min (count + rest) (2 ^ 64 - 1) ≡ min all (2 ^ 64 - 1) → count ≡ min all (2 ^ 64 - 1)
+capped_here count rest all none fits is =
+    sym (min-eq_left (omega (arith, fits))) ∙ ap (λ n. min n (2 ^ 64 - 1)) (omega (arith, none)) ∙ is

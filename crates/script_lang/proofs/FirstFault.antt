@@ -3,7 +3,8 @@ use Rattle.std.proofs.Common.{◌≡◌, List, [], ◌∷◌, ◌++◌, Bool, tr
 use Rattle.script_lang.specs.declared.faults.ScriptStop.{ScriptStop}
 use Rattle.script_lang.specs.ScriptFaults.{goes_before, first_fault, first_of_faults}
 
-pub first_append : (o : Option ScriptStop) (xs ys : List ScriptStop) → first_of_faults o (xs ++ ys) ≡ first_of_faults (first_of_faults o xs) ys
+pub first_append : (o : Option ScriptStop) (xs ys : List ScriptStop)
+    → first_of_faults o (xs ++ ys) ≡ first_of_faults (first_of_faults o xs) ys
 first_append o [] ys = refl
 first_append o (x ∷ xs) ys = first_append (first_fault o x) xs ys
 

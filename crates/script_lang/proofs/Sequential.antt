@@ -13,7 +13,8 @@ module _ (w : World BuiltIn) (n : Notes) (p : ActorPart) (more : List ActorPart)
   abbrev then : Option Request → History
   then o = elim o [
     | None ↦ sequential w n more
-    | Some q ↦ entry w p.actor q ∷ sequential (call table w p.actor q).0 (notes_after n p.part (call table w p.actor q).1) more
+    | Some q ↦ entry w p.actor q ∷ sequential (call table w p.actor q).0 (notes_after n p.part
+        (call table w p.actor q).1) more
   ]
 
   -- What such a history must begin with.
@@ -28,20 +29,27 @@ module _ (w : World BuiltIn) (n : Notes) (p : ActorPart) (more : List ActorPart)
       IsLegal table w (then o) × Then o (then o)
   then_spelled None here next = here
   then_spelled (Some q) here next =
-      let s = next (call table w p.actor q).0 (notes_after n p.part (call table w p.actor q).1) in ((refl, s.0), (refl, refl, s.1))
+      let s = next (call table w p.actor q).0 (notes_after n p.part (call table w p.actor q).1) in
+      ((refl, s.0), (refl, refl, s.1))
 
   -- A history that begins with a request of an actor.
-  first_is : (q : Request) (es : History) (a : ℕ) (r : Request) (y : Reply) → a ≡ p.actor → r ≡ q → (call table w a r).1 ≡ y →
+  first_is : (q : Request) (es : History) (a : ℕ) (r : Request) (y : Reply) → a ≡ p.actor → r ≡ q
+      → (call table w a r).1 ≡ y →
       es ≡ sequential (call table w a r).0 (notes_after n p.part y) more →
-      record { caller = a; request = r; reply = y } ∷ es ≡ entry w p.actor q ∷ sequential (call table w p.actor q).0 (notes_after n p.part (call table w p.actor q).1) more
-  first_is q es a r y here asked answered rest = rw (sym here) (rw (sym asked) (rw answered (ap (λ t. record { caller = a; request = r; reply = y } ∷ t) rest)))
+      record { caller = a; request = r; reply = y } ∷ es
+      ≡ entry w p.actor q ∷ sequential (call table w p.actor q).0 (notes_after n p.part (call table w p.actor q).1)
+      more
+  first_is q es a r y here asked answered rest =
+      rw (sym here) (rw (sym asked) (rw answered (ap (λ t. record { caller = a; request = r; reply = y } ∷ t) rest)))
 
   then_only : (o : Option Request) (h : History) → IsLegal table w h → Then o h →
-      ((v : World BuiltIn) (m : Notes) (es : History) → IsLegal table v es → Spells m more es → es ≡ sequential v m more) → h ≡ then o
+      ((v : World BuiltIn) (m : Notes) (es : History) → IsLegal table v es → Spells m more es
+      → es ≡ sequential v m more) → h ≡ then o
   then_only None h legal spells rest = rest w n h legal spells
   then_only (Some q) [] legal spells rest = absurd spells
   then_only (Some q) (e ∷ es) legal spells rest =
-      first_is q es e.caller e.request e.reply spells.0 spells.1 legal.0 (rest (call table w e.caller e.request).0 (notes_after n p.part e.reply) es legal.1 spells.2)
+      first_is q es e.caller e.request e.reply spells.0 spells.1 legal.0
+      (rest (call table w e.caller e.request).0 (notes_after n p.part e.reply) es legal.1 spells.2)
 
 pub spelled : SequentialIsSpelled
 spelled w n [] = (tt, refl)
@@ -49,4 +57,5 @@ spelled w n (p ∷ more) = then_spelled w n p more (request_of n p.part) (spelle
 
 pub only : SequentialIsTheOnly
 only w n [] h legal spells = spells
-only w n (p ∷ more) h legal spells = then_only w n p more (request_of n p.part) h legal spells (λ v m es l s. only v m more es l s)
+only w n (p ∷ more) h legal spells =
+    then_only w n p more (request_of n p.part) h legal spells (λ v m es l s. only v m more es l s)

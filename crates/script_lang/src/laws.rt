@@ -14,8 +14,8 @@ pub fn groups_tell_the_json()
     ensures { GroupsTellTheJson }
 {}
 
-/// Law: the history of a run has the plain world's replies, its calls are those that the script's steps make given these
-/// replies, and no other history has both properties.
+/// Law: the history of a run has the plain world's replies, its calls are those that the script's steps make given
+/// these replies, and no other history has both properties.
 pub fn sequential_is_spelled()
     ensures spelled { SequentialIsSpelled }
     ensures only { SequentialIsTheOnly }

@@ -1,9 +1,9 @@
 //! Scripts, which say what actors do to a world and which frames they ask for, and the lines that a run prints.
 //!
-//! `specs/ScriptFaults.antt` defines the faults of scripts. `specs/StepCalls.antt` defines the calls that the steps of a
-//! script make, given the replies to earlier calls, and the history of a run. `specs/Lines.antt` defines what is printed
-//! of such a history, with the reports and trees of frames. Scripts and lines are rules of this project; they replace
-//! test code over `Snapshot` and `Recomposer`.
+//! `specs/ScriptFaults.antt` defines the faults of scripts. `specs/StepCalls.antt` defines the calls that the steps of
+//! a script make, given the replies to earlier calls, and the history of a run. `specs/Lines.antt` defines what is
+//! printed of such a history, with the reports and trees of frames. Scripts and lines are rules of this project; they
+//! replace test code over `Snapshot` and `Recomposer`.
 //! Promises: `script_of` accepts exactly the scripts without a fault, and each function that appends a line appends the
 //! bytes of its definition.
 #![tactic(auto)]

@@ -363,8 +363,8 @@ fn append_line(
     )
 }
 
-/// Appends the first part of the line of a call: the actor, the request and what precedes the reply. If the process is out
-/// of memory, `text` is empty afterwards.
+/// Appends the first part of the line of a call: the actor, the request and what precedes the reply. If the process is
+/// out of memory, `text` is empty afterwards.
 pub fn add_request_line(
     text: &mut Vec<u8>,
     program: &Checked,
@@ -380,7 +380,8 @@ pub fn add_request_line(
     or_empty(text, done)
 }
 
-/// Appends the rest of the line of a call: the reply, and LF. If the process is out of memory, `text` is empty afterwards.
+/// Appends the rest of the line of a call: the reply, and LF. If the process is out of memory, `text` is empty
+/// afterwards.
 pub fn add_reply_line(
     text: &mut Vec<u8>,
     program: &Checked,
@@ -395,8 +396,8 @@ pub fn add_reply_line(
     or_empty(text, done)
 }
 
-/// Appends the line of a call and its reply: the actor, the request and the reply, with LF at the end. If the process is
-/// out of memory, `text` is empty afterwards.
+/// Appends the line of a call and its reply: the actor, the request and the reply, with LF at the end. If the process
+/// is out of memory, `text` is empty afterwards.
 pub fn add_line(
     text: &mut Vec<u8>,
     program: &Checked,

@@ -65,8 +65,8 @@ pub fn add_report(text: &mut Vec<u8>, report: &Report) -> Result<(), NoMemory>
     or_empty(text, done)
 }
 
-/// Appends the line of a frame that was refused because it has too many groups. If the process is out of memory, `text` is
-/// empty afterwards.
+/// Appends the line of a frame that was refused because it has too many groups. If the process is out of memory, `text`
+/// is empty afterwards.
 pub fn add_refused(text: &mut Vec<u8>) -> Result<(), NoMemory>
     ensures ok { OnOk result (text.new.items ≡ text.old.items ++ line (codes "refused: too many groups")) }
     ensures err { OnErr result (text.new.items ≡ []) }

@@ -240,8 +240,8 @@ impl<'g> Model for OpenJsonNode<'g> {
     ghost view = { λ n. open_node n.depth n.number n.kind.now };
 }
 
-/// The JSON of a node tree, written group by group: the state between two groups of a composition in preorder. Each byte
-/// is written once, and no second tree is made. A rule of this project.
+/// The JSON of a node tree, written group by group: the state between two groups of a composition in preorder. Each
+/// byte is written once, and no second tree is made. A rule of this project.
 #[derive(Drop)]
 pub struct TreeWriter<'g> {
     open_nodes: Vec<OpenJsonNode<'g>>,
@@ -302,8 +302,8 @@ impl<'g> TreeWriter<'g> {
         Ok(())
     }
 
-    /// Appends the text of the next group in preorder, which has this depth, number and kind: the ends of the nodes before
-    /// it, and its own start if it is a node. If the process is out of memory, `text` is empty afterwards.
+    /// Appends the text of the next group in preorder, which has this depth, number and kind: the ends of the nodes
+    /// before it, and its own start if it is a node. If the process is out of memory, `text` is empty afterwards.
     pub fn add_group(
         &mut self,
         text: &mut Vec<u8>,

@@ -19,8 +19,8 @@ use Rattle.snap_shared.specs.SharedCalls.{own_calls}
 use Rattle.snap_shared.specs.declared.shared.Seat.{Seat}
 use Rattle.snap_shared.specs.declared.shared.Shared.{Shared}
 
--- The caller's take for the watcher is located in the history directly after the caller's earlier calls `mine`, and `m` is
--- what global shows in a world that is possible after all entries before the take.
+-- The caller's take for the watcher is located in the history directly after the caller's earlier calls `mine`, and `m`
+-- is what global shows in a world that is possible after all entries before the take.
 pub record IsMapAtTake {P : Type 0} (rules : Rules P) (opens : World P → Type 0) (seen mine : List Entry)
     (number watcher : ℕ) (m : Map) : Type 0 where
   pub before : List Entry
@@ -54,8 +54,8 @@ module _ {W P : Type 0} (rules : Rules P) (stands : W → World P → Type 0) (s
       HasLast seat watcher types (Some m)
       × IsMapAtTake rules (stands (opening_of shared)) (seen_by seat) (mine_of before) (number_of before) watcher m
 
-  -- The composition has kept the state `k` of its last good frame, its watcher's last map is `l` before the frame, and no
-  -- other caller has taken for the watcher until after the frame.
+  -- The composition has kept the state `k` of its last good frame, its watcher's last map is `l` before the frame, and
+  -- no other caller has taken for the watcher until after the frame.
   abbrev pub MayCompose : Composition → LastFrame → Seat W → Seat W → List Ty → Option Map → Type 0
   MayCompose c k before after types l =
       IsAt c k l × HasLast before c.watcher types l × IsOnlyTaker (number_of after) c.watcher (seen_by after)
@@ -69,8 +69,9 @@ module _ {W P : Type 0} (rules : Rules P) (stands : W → World P → Type 0) (s
   BeginsThrough c k before after types l name changed =
       BeginsFrame (IsAt c k) (ShowsIn after name) (HasTaken before after c.watcher types) l name changed
 
-  -- A frame is made between the two states of the seat: its map is the one at its take, the objects that the caller has read
-  -- grow by the frame's reads, and the caller's own calls by the frame's calls. `applies` says what the applier did.
+  -- A frame is made between the two states of the seat: its map is the one at its take, the objects that the caller has
+  -- read grow by the frame's reads, and the caller's own calls by the frame's calls. `applies` says what the applier
+  -- did.
   abbrev pub MakesThrough : Composition → LastFrame → Seat W → Seat W → List Ty
       → (Option FrameResult → Type 0) → Report → Type 0
   MakesThrough c k before after types applies =

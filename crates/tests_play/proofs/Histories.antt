@@ -14,12 +14,15 @@ abbrev pub seen : Option (ℕ × ℕ) → Option OpenFrame
 seen frame = option_map (λ f. record { caller = f.0; name = f.1 }) frame
 
 -- Calls with the replies to them are legal.
-legal_entries : {P : Type 0} (rules : Rules P) (w : World P) (cs : List (ℕ × Request)) → IsLegal rules w (entries_of cs (replies_to rules w cs))
+legal_entries : {P : Type 0} (rules : Rules P) (w : World P) (cs : List (ℕ × Request))
+    → IsLegal rules w (entries_of cs (replies_to rules w cs))
 legal_entries rules w [] = tt
 legal_entries rules w (c ∷ cs) = (refl, legal_entries rules (call rules w c.0 c.1).0 cs)
 
 -- The log of calls that were made is legal.
-pub made_legal : {P : Type 0} {rules : Rules P} {stands stands' : World P → Type 0} {old new : Option (List Entry)} {cs : List (ℕ × Request)} {rs : List Reply} {items : List Entry} (w : World P) → WereMade rules stands stands' old new cs rs → old ≡ Some [] → new ≡ Some items → stands w → IsLegal rules w items
+pub made_legal : {P : Type 0} {rules : Rules P} {stands stands' : World P → Type 0} {old new : Option (List Entry)}
+    {cs : List (ℕ × Request)} {rs : List Reply} {items : List Entry} (w : World P)
+    → WereMade rules stands stands' old new cs rs → old ≡ Some [] → new ≡ Some items → stands w → IsLegal rules w items
 made_legal {rules = rules} {new = new} {cs = cs} {rs = rs} {items = items} w made began left at =
     let logged : new ≡ Some (entries_of cs rs) = subst (λ o. LogGrew o new (entries_of cs rs)) began made.logged in
     let same : items ≡ entries_of cs rs = ap (λ o. unwrap_or o items) (sym left ∙ logged) in

@@ -114,7 +114,8 @@ fn failing_list(alloc: Global, failing: u64) -> FailingList {
     }
 }
 
-// Composes what the frame owes, and makes its calls on the applier. `blank` is the ledger of the steps, which no test reads.
+// Composes what the frame owes, and makes its calls on the applier. `blank` is the ledger of the steps, which no test
+// reads.
 fn recompose_counting<L: Ledger>(
     alloc: Global,
     composition: &mut Composition,

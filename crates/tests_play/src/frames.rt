@@ -10,8 +10,8 @@ use std::alloc::Global;
 use std::process::Abort;
 use std::test::Fail;
 
-// A row shows its number plus state `more`. The root has a row under a key for each item, and a remembered copy of state
-// `kept` with a node that shows it.
+// A row shows its number plus state `more`. The root has a row under a key for each item, and a remembered copy of
+// state `kept` with a node that shows it.
 const PROGRAM: &str = "(compose 1)
 (state list Ints Structural (ints))
 (state more Int Structural 0)
@@ -21,8 +21,8 @@ const PROGRAM: &str = "(compose 1)
   (for i (get list) (key i (call row i)))
   (remember v ((k (get kept))) k (node Foot ((value v)))))";
 
-// A frame: the values of the states, the objects that changed, the report (ran, calculated, reads, groups, nodes), and the
-// numbers of the nodes in preorder.
+// A frame: the values of the states, the objects that changed, the report (ran, calculated, reads, groups, nodes), and
+// the numbers of the nodes in preorder.
 struct Frame {
     states: (&'static [i64], i64, i64),
     owed: &'static [ObjectNo],

@@ -1,5 +1,5 @@
-//! Tests of `snap_policy`, `snap_api` and `snap_plain` from outside. `reader` is a small composition over any desk, proved
-//! against the clauses of `Desk`.
+//! Tests of `snap_policy`, `snap_api` and `snap_plain` from outside. `reader` is a small composition over any desk,
+//! proved against the clauses of `Desk`.
 #![tactic(auto)]
 
 #[cfg(test)]

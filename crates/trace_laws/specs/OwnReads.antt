@@ -17,8 +17,8 @@ same_path = pointwise same_step
 abbrev pub reads_at : Path → List (CallAtPath × ℕ) → List ℕ
 reads_at p rs = map (λ r. r.1) (filter (λ r. same_path r.0.path p) rs)
 
--- Law: if the group at path `p` of a forest is a call, the reads of the forest whose innermost call is at `p` are the own
--- reads of this call, in order.
+-- Law: if the group at path `p` of a forest is a call, the reads of the forest whose innermost call is at `p` are the
+-- own reads of this call, in order.
 abbrev pub OwnReadsAreTraced : Type 0
 OwnReadsAreTraced = (t : GroupForest) (p : Path) (g : Found) → at_path p t ≡ Some g → is_call g.what ≡ true →
     reads_at p (trace nobody [] [] t) ≡ asks (own_part g.inside)

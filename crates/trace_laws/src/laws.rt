@@ -2,8 +2,8 @@
 ghost use Rattle.trace_laws.specs.NodeSites.{NodesAreAtSitesOfPrograms};
 ghost use Rattle.trace_laws.specs.OwnReads.{OwnReadsAreTraced};
 
-/// Law: in each composition of a checked program a group is a node exactly if a node statement is at its site. In Compose
-/// the compiler gives each call of a composable a positional key.
+/// Law: in each composition of a checked program a group is a node exactly if a node statement is at its site. In
+/// Compose the compiler gives each call of a composable a positional key.
 pub fn nodes_are_at_sites_of_programs()
     ensures { NodesAreAtSitesOfPrograms }
 {}

@@ -14,13 +14,15 @@ use Rattle.tree_laws.specs.FollowingTrees.{KeptTreeIsDistinct}
 -- The count of nodes with the number.
 abbrev nodes_often : ℕ → Nodes → ℕ
 nodes_often x tree.None = 0
-nodes_often x (Branch n kind attributes children rest) = (if n == x then 1 else 0) + (nodes_often x children + nodes_often x rest)
+nodes_often x (Branch n kind attributes children rest) =
+    (if n == x then 1 else 0) + (nodes_often x children + nodes_often x rest)
 
 often_joined : (x : ℕ) (s t : Nodes) → nodes_often x (joined_nodes s t) ≡ nodes_often x s + nodes_often x t
 often_joined x tree.None t = omega arith
 often_joined x (Branch n kind attributes children rest) t = let e = often_joined x rest t in omega (arith, e)
 
-group_often : (x n inner : ℕ) (what : GroupKind) (inside : Nodes) → nodes_often x inside ≡ inner → nodes_often x (group_nodes what n inside) ≡ has_group_number x n what + inner
+group_often : (x n inner : ℕ) (what : GroupKind) (inside : Nodes) → nodes_often x inside ≡ inner
+    → nodes_often x (group_nodes what n inside) ≡ has_group_number x n what + inner
 group_often x n inner (Call f vs) inside e = omega (arith, e)
 group_often x n inner (Node kind attributes) inside e = omega (arith, e)
 group_often x n inner (Key v) inside e = omega (arith, e)
@@ -40,7 +42,9 @@ has_occurs : (x : ℕ) (n : Nodes) → has_number x (node_list n) ≡ true → 1
 has_occurs x tree.None h = absurd (false≢true h)
 has_occurs x (Branch n kind attributes children rest) h = by (n == x) h (λ g. has_occurs x rest g)
   where
-    by : (b : Bool) → (b || has_number x (node_list rest)) ≡ true → (has_number x (node_list rest) ≡ true → 1 ≤ nodes_often x rest) → 1 ≤ (if b then 1 else 0) + (nodes_often x children + nodes_often x rest)
+    by : (b : Bool) → (b || has_number x (node_list rest)) ≡ true
+        → (has_number x (node_list rest) ≡ true → 1 ≤ nodes_often x rest)
+        → 1 ≤ (if b then 1 else 0) + (nodes_often x children + nodes_often x rest)
     by true h go = omega arith
     by false h go = let later = go h in omega (arith, later)
 
@@ -60,4 +64,5 @@ siblings_distinct (Branch n kind attributes children rest) h = (
 )
 
 pub kept_tree_is_distinct : KeptTreeIsDistinct
-kept_tree_is_distinct t next h = siblings_distinct (nodes t) (λ x. let same = often_same x t in let most = (h x).0 in omega (arith, same, most))
+kept_tree_is_distinct t next h =
+    siblings_distinct (nodes t) (λ x. let same = often_same x t in let most = (h x).0 in omega (arith, same, most))

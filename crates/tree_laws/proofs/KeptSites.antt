@@ -37,7 +37,8 @@ elsewhere_is_some x s (Group site n what inside rest) =
 abbrev pub IsOnlyAt : ℕ → ℕ → GroupForest → Type 0
 IsOnlyAt x s End = Unit {0}
 IsOnlyAt x s (Read y rest) = IsOnlyAt x s rest
-IsOnlyAt x s (Group site n what inside rest) = (is_node what ≡ true → n ≡ x → site ≡ s) × IsOnlyAt x s inside × IsOnlyAt x s rest
+IsOnlyAt x s (Group site n what inside rest) =
+    (is_node what ≡ true → n ≡ x → site ≡ s) × IsOnlyAt x s inside × IsOnlyAt x s rest
 
 stray_counts : (x s site n : ℕ) (what : GroupKind) → strays x s site n what ≡ 0 → is_node what ≡ true → n ≡ x → site ≡ s
 stray_counts x s site n what none node same = by (site == s) refl none
@@ -62,7 +63,8 @@ only_at x s (Group site n what inside rest) e = (
 abbrev pub IsPart : GroupForest → GroupForest → Type 0
 IsPart u w = (x s : ℕ) → how_often x u + elsewhere x s w ≤ how_often x w + elsewhere x s u
 
-inside_part : (w u : GroupForest) (site n : ℕ) (what : GroupKind) (inside rest : GroupForest) → u ≡ Group site n what inside rest → IsPart u w → IsPart inside w
+inside_part : (w u : GroupForest) (site n : ℕ) (what : GroupKind) (inside rest : GroupForest)
+    → u ≡ Group site n what inside rest → IsPart u w → IsPart inside w
 inside_part w u site n what inside rest e part x s =
     let whole = subst (λ (t : GroupForest). IsPart t w) e part x s in
     let here = stray_or_not (site == s) (has_number x n what) in
@@ -80,7 +82,8 @@ abbrev pub IsFound : (ℕ → Bool) → GroupKey → GroupForest → Option Foun
 IsFound at_site s u None = Unit {0}
 IsFound at_site s u (Some g) = FoundGroup at_site s u g
 
-later_found : (at_site : ℕ → Bool) (s : GroupKey) (site n : ℕ) (what : GroupKind) (inside rest : GroupForest) (o : Option Found) → IsFound at_site s rest o → IsFound at_site s (Group site n what inside rest) o
+later_found : (at_site : ℕ → Bool) (s : GroupKey) (site n : ℕ) (what : GroupKind) (inside rest : GroupForest)
+    (o : Option Found) → IsFound at_site s rest o → IsFound at_site s (Group site n what inside rest) o
 later_found at_site s site n what inside rest None h = tt
 later_found at_site s site n what inside rest (Some g) h = record {
   is_node_at = h.is_node_at;
@@ -101,10 +104,12 @@ both_true : (a b : Bool) → (a && b) ≡ true → (a ≡ true) × (b ≡ true)
 both_true true b e = (refl, e)
 both_true false b e = absurd (false≢true e)
 
-found_here : (at_site : ℕ → Bool) (s : GroupKey) (site n : ℕ) (what : GroupKind) (inside rest : GroupForest) → same_sibling (sibling site what) s ≡ true → NodesAt at_site (Group site n what inside rest)
+found_here : (at_site : ℕ → Bool) (s : GroupKey) (site n : ℕ) (what : GroupKind) (inside rest : GroupForest)
+    → same_sibling (sibling site what) s ≡ true → NodesAt at_site (Group site n what inside rest)
     → FoundGroup at_site s (Group site n what inside rest) (record { number = n; what = what; inside = inside })
 found_here at_site s site n what inside rest e h =
-    let at : (site == s.site) ≡ true = (both_true (site == s.site) (option_eq same_value (sibling site what).key s.key) e).0 in
+    let at : (site == s.site) ≡ true =
+    (both_true (site == s.site) (option_eq same_value (sibling site what).key s.key) e).0 in
     record {
       is_node_at = h.0 ∙ ap at_site (eqb-true site s.site at);
       sites = h.1;
@@ -116,28 +121,35 @@ found_here at_site s site n what inside rest e h =
       part = λ w part. inside_part w (Group site n what inside rest) site n what inside rest refl part;
     }
 
-pub found_in : (at_site : ℕ → Bool) (s : GroupKey) (k : ℕ) (u : GroupForest) → NodesAt at_site u → IsFound at_site s u (matching_sibling s k u)
+pub found_in : (at_site : ℕ → Bool) (s : GroupKey) (k : ℕ) (u : GroupForest) → NodesAt at_site u
+    → IsFound at_site s u (matching_sibling s k u)
 found_in at_site s k End h = tt
 found_in at_site s k (Read y rest) h = by (matching_sibling s k rest) (found_in at_site s k rest h)
   where
     by : (o : Option Found) → IsFound at_site s rest o → IsFound at_site s (Read y rest) o
     by None f = tt
     by (Some g) f = record { is_node_at = f.is_node_at; sites = f.sites; one = f.one; part = f.part }
-found_in at_site s k (Group site n what inside rest) h = by (same_sibling (sibling site what) s) refl k (λ i. found_in at_site s i rest h.2)
+found_in at_site s k (Group site n what inside rest) h =
+    by (same_sibling (sibling site what) s) refl k (λ i. found_in at_site s i rest h.2)
   where
     here : Found
     here = record { number = n; what = what; inside = inside }
 
-    by : (b : Bool) → same_sibling (sibling site what) s ≡ b → (i : ℕ) → ((i : ℕ) → IsFound at_site s rest (matching_sibling s i rest)) → IsFound at_site s (Group site n what inside rest) (if b then nth i here (λ j. matching_sibling s j rest) else matching_sibling s i rest)
+    by : (b : Bool) → same_sibling (sibling site what) s ≡ b → (i : ℕ)
+        → ((i : ℕ) → IsFound at_site s rest (matching_sibling s i rest))
+        → IsFound at_site s (Group site n what inside rest)
+        (if b then nth i here (λ j. matching_sibling s j rest) else matching_sibling s i rest)
     by true e zero go = found_here at_site s site n what inside rest e h
     by true e (suc i) go = later_found at_site s site n what inside rest (matching_sibling s i rest) (go i)
     by false e i go = later_found at_site s site n what inside rest (matching_sibling s i rest) (go i)
 
-found_inside : (at_site : ℕ → Bool) (s : GroupKey) (u w : GroupForest) (o : Option Found) → IsFound at_site s u o → IsPart u w → IsPart (inside_of o) w
+found_inside : (at_site : ℕ → Bool) (s : GroupKey) (u w : GroupForest) (o : Option Found) → IsFound at_site s u o
+    → IsPart u w → IsPart (inside_of o) w
 found_inside at_site s u w None f part = λ x q. let some = elsewhere_is_some x q w in omega (arith, some)
 found_inside at_site s u w (Some g) f part = f.part w part
 
-pub found_sites : (at_site : ℕ → Bool) (s : GroupKey) (u : GroupForest) (o : Option Found) → IsFound at_site s u o → NodesAt at_site (inside_of o)
+pub found_sites : (at_site : ℕ → Bool) (s : GroupKey) (u : GroupForest) (o : Option Found) → IsFound at_site s u o
+    → NodesAt at_site (inside_of o)
 found_sites at_site s u None f = tt
 found_sites at_site s u (Some g) f = f.sites
 
@@ -151,7 +163,8 @@ number_rises what o next = by (is_node what) o
     by true (Some g) = omega arith
     by false o = omega arith
 
-pub next_rises : (old : GroupForest) (seen : List GroupKey) (next : ℕ) (t : GroupForest) → next ≤ (numbered_by_siblings old seen next t).1
+pub next_rises : (old : GroupForest) (seen : List GroupKey) (next : ℕ) (t : GroupForest)
+    → next ≤ (numbered_by_siblings old seen next t).1
 next_rises old seen next End = omega arith
 next_rises old seen next (Read y rest) = next_rises old seen next rest
 next_rises old seen next (Group site n what inside rest) =
@@ -167,28 +180,35 @@ next_rises old seen next (Group site n what inside rest) =
 abbrev pub KeepSites : GroupForest → GroupForest → Type 0
 KeepSites w End = Unit {0}
 KeepSites w (Read y rest) = KeepSites w rest
-KeepSites w (Group site n what inside rest) = (is_node what ≡ true → IsOnlyAt n site w) × KeepSites w inside × KeepSites w rest
+KeepSites w (Group site n what inside rest) =
+    (is_node what ≡ true → IsOnlyAt n site w) × KeepSites w inside × KeepSites w rest
 
 module _ (at_site : ℕ → Bool) (w : GroupForest) (k : ℕ) (distinct : AreDistinct w k) where
   -- The number that a node gets is unused, or that of the old node at its site.
-  number_kept : (site : ℕ) (what : GroupKind) (s : GroupKey) (u : GroupForest) (o : Option Found) (next : ℕ) → s.site ≡ site → k ≤ next → is_node what ≡ at_site site → IsPart u w → IsFound at_site s u o
+  number_kept : (site : ℕ) (what : GroupKind) (s : GroupKey) (u : GroupForest) (o : Option Found) (next : ℕ)
+      → s.site ≡ site → k ≤ next → is_node what ≡ at_site site → IsPart u w → IsFound at_site s u o
       → is_node what ≡ true → IsOnlyAt (number_of what o next).0 site w
   number_kept site what s u None next same low at part f node =
-      let is : (number_of what None next).0 ≡ next = ap {B = ℕ} (λ b. (if b then number_for None next else (0, next)).0) node in
+      let is : (number_of what None next).0 ≡ next =
+      ap {B = ℕ} (λ b. (if b then number_for None next else (0, next)).0) node in
       let none = (distinct next).1 low in
       let few = elsewhere_is_some next site w in
       subst (λ (x : ℕ). IsOnlyAt x site w) (sym is) (only_at next site w (omega (arith, none, few)))
   number_kept site what s u (Some g) next same low at part f node =
       let x : ℕ = g.number in
-      let is : (number_of what (Some g) next).0 ≡ x = ap {B = ℕ} (λ b. (if b then number_for (Some g) next else (0, next)).0) node in
+      let is : (number_of what (Some g) next).0 ≡ x =
+      ap {B = ℕ} (λ b. (if b then number_for (Some g) next else (0, next)).0) node in
       let old_node : is_node g.what ≡ true = f.is_node_at ∙ ap at_site same ∙ sym at ∙ node in
-      let counts : has_number x g.number g.what ≡ 1 = ap {B = ℕ} (λ b. if b && (x == x) then 1 else 0) old_node ∙ ap {B = ℕ} (λ b. if b then 1 else 0) (eq-eqb x x refl) in
+      let counts : has_number x g.number g.what ≡ 1 = ap {B = ℕ} (λ b. if b && (x == x) then 1 else 0) old_node
+      ∙ ap {B = ℕ} (λ b. if b then 1 else 0) (eq-eqb x x refl) in
       let one = f.one x in
       let whole = part x s.site in
       let most = (distinct x).0 in
-      subst (λ (y : ℕ). IsOnlyAt y site w) (sym is) (subst (λ (q : ℕ). IsOnlyAt x q w) same (only_at x s.site w (omega (arith, counts, one, whole, most))))
+      subst (λ (y : ℕ). IsOnlyAt y site w) (sym is)
+      (subst (λ (q : ℕ). IsOnlyAt x q w) same (only_at x s.site w (omega (arith, counts, one, whole, most))))
 
-  sites_kept : (u : GroupForest) (seen : List GroupKey) (next : ℕ) (t : GroupForest) → k ≤ next → IsPart u w → NodesAt at_site u → NodesAt at_site t → KeepSites w (numbered_by_siblings u seen next t).0
+  sites_kept : (u : GroupForest) (seen : List GroupKey) (next : ℕ) (t : GroupForest) → k ≤ next → IsPart u w
+      → NodesAt at_site u → NodesAt at_site t → KeepSites w (numbered_by_siblings u seen next t).0
   sites_kept u seen next End low part g h = tt
   sites_kept u seen next (Read y rest) low part g h = sites_kept u seen next rest low part g h
   sites_kept u seen next (Group site n what inside rest) low part g h =
@@ -200,12 +220,14 @@ module _ (at_site : ℕ → Bool) (w : GroupForest) (k : ℕ) (distinct : AreDis
       let own = number_rises what found next in
       let deep = next_rises (inside_of found) [] first inside in (
         number_kept site what s u found next refl low h.0 part f,
-        sites_kept (inside_of found) [] first inside (omega (arith, low, own)) (found_inside at_site s u w found f part) (found_sites at_site s u found f) h.1,
+        sites_kept (inside_of found) [] first inside (omega (arith, low, own)) (found_inside at_site s u w found f part)
+            (found_sites at_site s u found f) h.1,
         sites_kept u (s ∷ seen) within rest (omega (arith, low, own, deep)) part g h.2,
       )
 
 -- In the numbered forest of a frame, kept nodes keep their sites.
-pub frame_keeps_sites : (at_site : ℕ → Bool) (old new : GroupForest) (k : ℕ) → NodesAt at_site old → NodesAt at_site new → AreDistinct old k → KeepSites old (numbered_forest old [] [] k new).0
+pub frame_keeps_sites : (at_site : ℕ → Bool) (old new : GroupForest) (k : ℕ) → NodesAt at_site old → NodesAt at_site new
+    → AreDistinct old k → KeepSites old (numbered_forest old [] [] k new).0
 frame_keeps_sites at_site old new k g h distinct =
     subst (λ (p : GroupForest × ℕ). KeepSites old p.0) (sym (path_numbers_are_sibling_numbers old new k))
     (sites_kept at_site old k distinct old [] k new (omega arith) (λ x s. omega arith) g h)

@@ -57,22 +57,26 @@ shape_of kind attributes = record { kind = kind; names = names_of attributes }
 -- A node has the shape of the statement at its site, and its attributes have distinct names.
 abbrev pub HasShape : (ℕ → Told) → ℕ → GroupKind → Type 0
 HasShape look site (trail.Call f vs) = Unit {0}
-HasShape look site (trail.Node kind attributes) = (look site ≡ Some (Some (shape_of kind attributes))) × HaveDistinctNames attributes
+HasShape look site (trail.Node kind attributes) =
+    (look site ≡ Some (Some (shape_of kind attributes))) × HaveDistinctNames attributes
 HasShape look site (trail.Key v) = Unit {0}
 HasShape look site (trail.Cell ks v) = Unit {0}
 
 abbrev pub HaveShapes : (ℕ → Told) → GroupForest → Type 0
 HaveShapes look End = Unit {0}
 HaveShapes look (Read x rest) = HaveShapes look rest
-HaveShapes look (Group site n what inside rest) = HasShape look site what × HaveShapes look inside × HaveShapes look rest
+HaveShapes look (Group site n what inside rest) =
+    HasShape look site what × HaveShapes look inside × HaveShapes look rest
 
 -- The attributes of a node that a statement makes.
 
-names_made : (m : Map) (ns : List Named) (env : Bindings) → names_of (map attribute (eval_named m ns env).value) ≡ texts ns
+names_made : (m : Map) (ns : List Named) (env : Bindings)
+    → names_of (map attribute (eval_named m ns env).value) ≡ texts ns
 names_made m [] env = refl
 names_made m (n ∷ ns) env = ap (λ l. n.name.text ∷ l) (names_made m ns env)
 
-any_name : (name : List ℕ) (attributes : List Attribute) → has_attribute name attributes ≡ list_any (λ m. bytes_eq m name) (names_of attributes)
+any_name : (name : List ℕ) (attributes : List Attribute)
+    → has_attribute name attributes ≡ list_any (λ m. bytes_eq m name) (names_of attributes)
 any_name name [] = refl
 any_name name (a ∷ rest) = ap (λ b. bytes_eq a.name name || b) (any_name name rest)
 
@@ -80,7 +84,9 @@ distinct_names : (attributes : List Attribute) → AreApart (names_of attributes
 distinct_names [] h = tt
 distinct_names (a ∷ rest) h = (any_name a.name rest ∙ h.0, distinct_names rest h.1)
 
-made_shape : (look : ℕ → Told) (site : ℕ) (kind : List ℕ) (ns : List Named) (attributes : List Attribute) → names_of attributes ≡ texts ns → look site ≡ Some (Some (record { kind = kind; names = texts ns })) → AreApart (texts ns)
+made_shape : (look : ℕ → Told) (site : ℕ) (kind : List ℕ) (ns : List Named) (attributes : List Attribute)
+    → names_of attributes ≡ texts ns → look site ≡ Some (Some (record { kind = kind; names = texts ns }))
+    → AreApart (texts ns)
     → (look site ≡ Some (Some (shape_of kind attributes))) × HaveDistinctNames attributes
 made_shape look site kind ns attributes same told apart = (
   told ∙ ap (λ (l : List (List ℕ)). Some (Some (record { kind = kind; names = l }))) (sym same),
@@ -94,7 +100,8 @@ module _ (look : ℕ → Told) where
   reads_shaped [] t h = h
   reads_shaped (x ∷ xs) t h = reads_shaped xs t h
 
-  after_shaped : {A : Type 0} (r : Reading A) (go : A → GroupForest) → HaveShapes look (go r.value) → HaveShapes look (forest_after r go)
+  after_shaped : {A : Type 0} (r : Reading A) (go : A → GroupForest) → HaveShapes look (go r.value)
+      → HaveShapes look (forest_after r go)
   unfolding forest_after
   after_shaped r go h = reads_shaped r.reads (go r.value) h
 
@@ -103,12 +110,14 @@ module _ (look : ℕ → Told) where
   joined_shaped (Read x rest) u f g = joined_shaped rest u f g
   joined_shaped (Group site n what inside rest) u f g = (f.0, f.1, joined_shaped rest u f.2 g)
 
-  turns_shaped : (go : ℤ → GroupForest) (is : List ℤ) → ((i : ℤ) → HaveShapes look (go i)) → HaveShapes look (turns go is)
+  turns_shaped : (go : ℤ → GroupForest) (is : List ℤ) → ((i : ℤ) → HaveShapes look (go i))
+      → HaveShapes look (turns go is)
   unfolding turns
   turns_shaped go [] h = tt
   turns_shaped go (i ∷ is) h = joined_shaped (go i) (turns go is) (h i) (turns_shaped go is h)
 
-  choice_shaped : (c : Bool) (x y : GroupForest) → HaveShapes look x → HaveShapes look y → HaveShapes look (if c then x else y)
+  choice_shaped : (c : Bool) (x y : GroupForest) → HaveShapes look x → HaveShapes look y
+      → HaveShapes look (if c then x else y)
   choice_shaped true x y f g = f
   choice_shaped false x y f g = g
 
@@ -116,41 +125,62 @@ module _ (look : ℕ → Told) where
   AllShaped fs = (n : ℕ) (vs : List Value) → HaveShapes look (meaning_at fs n vs)
 
   mutual
-    run_shaped : (m : Map) (fs : List Meaning) (s : Stmt) (env : Bindings) → AllShaped fs → IsTold look s → HaveShapes look (run m fs s env)
+    run_shaped : (m : Map) (fs : List Meaning) (s : Stmt) (env : Bindings) → AllShaped fs → IsTold look s
+        → HaveShapes look (run m fs s env)
     run_shaped m fs (Node at site kind attributes body) env calls h =
-        after_shaped (eval_named m attributes env) _
-        (made_shape look site kind.text attributes (map attribute (eval_named m attributes env).value) (names_made m attributes env) h.0 h.1, body_shaped m fs body env calls h.2, tt)
+        after_shaped (eval_named m attributes env) _ (
+          made_shape look site kind.text attributes (map attribute (eval_named m attributes env).value)
+              (names_made m attributes env) h.0 h.1,
+          body_shaped m fs body env calls h.2,
+          tt,
+        )
     run_shaped m fs (Call at site name function arguments) env calls h =
         after_shaped (eval_all m arguments env) _ (tt, calls function (eval_all m arguments env).value, tt)
-    run_shaped m fs (Key at site key body) env calls h = after_shaped (eval m key env) _ (tt, body_shaped m fs body env calls h.1, tt)
+    run_shaped m fs (Key at site key body) env calls h =
+        after_shaped (eval m key env) _ (tt, body_shaped m fs body env calls h.1, tt)
     run_shaped m fs (If at site condition then_branch else_branch) env calls h =
-        after_shaped (eval m condition env) _ (choice_shaped (is_true (eval m condition env).value) (run_all m fs then_branch env) (run_all m fs else_branch env)
+        after_shaped (eval m condition env) _
+        (choice_shaped (is_true (eval m condition env).value) (run_all m fs then_branch env)
+        (run_all m fs else_branch env)
         (body_shaped m fs then_branch env calls h.0) (body_shaped m fs else_branch env calls h.1))
     run_shaped m fs (For at site name list body) env calls h =
-        after_shaped (eval m list env) _ (turns_shaped (λ i. run_all m fs body (env ++ new_binding name.text (value.Int i) ∷ [])) (items_of (eval m list env).value)
+        after_shaped (eval m list env) _
+        (turns_shaped (λ i. run_all m fs body (env ++ new_binding name.text (value.Int i) ∷ []))
+        (items_of (eval m list env).value)
         (λ i. body_shaped m fs body (env ++ new_binding name.text (value.Int i) ∷ []) calls h))
     run_shaped m fs (Let at site name e body) env calls h =
-        after_shaped (eval m e env) _ (body_shaped m fs body (env ++ new_binding name.text (eval m e env).value ∷ []) calls h)
+        after_shaped (eval m e env) _
+        (body_shaped m fs body (env ++ new_binding name.text (eval m e env).value ∷ []) calls h)
     run_shaped m fs (Remember at site name keys e body) env calls h =
-        after_shaped (eval_named m keys env) _ (after_shaped (eval m e (eval_named m keys env).value) _
-        (tt, tt, body_shaped m fs body (env ++ new_binding name.text (eval m e (eval_named m keys env).value).value ∷ []) calls h.1))
+        after_shaped (eval_named m keys env) _ (after_shaped (eval m e (eval_named m keys env).value) _ (
+          tt,
+          tt,
+          body_shaped m fs body
+              (env ++ new_binding name.text (eval m e (eval_named m keys env).value).value ∷ []) calls h.1,
+        ))
 
-    body_shaped : (m : Map) (fs : List Meaning) (body : Stmts) (env : Bindings) → AllShaped fs → AreTold look body → HaveShapes look (run_all m fs body env)
+    body_shaped : (m : Map) (fs : List Meaning) (body : Stmts) (env : Bindings) → AllShaped fs → AreTold look body
+        → HaveShapes look (run_all m fs body env)
     body_shaped m fs done env calls h = tt
-    body_shaped m fs (next s ss) env calls h = joined_shaped (run m fs s env) (run_all m fs ss env) (run_shaped m fs s env calls h.0) (body_shaped m fs ss env calls h.1)
+    body_shaped m fs (next s ss) env calls h = joined_shaped (run m fs s env) (run_all m fs ss env)
+        (run_shaped m fs s env calls h.0) (body_shaped m fs ss env calls h.1)
 
-  behind_shaped : (fs : List Meaning) (f : Meaning) → AllShaped fs → ((vs : List Value) → HaveShapes look (f vs)) → AllShaped (fs ++ f ∷ [])
+  behind_shaped : (fs : List Meaning) (f : Meaning) → AllShaped fs → ((vs : List Value) → HaveShapes look (f vs))
+      → AllShaped (fs ++ f ∷ [])
   behind_shaped [] f calls h zero vs = h vs
   behind_shaped [] f calls h (suc n) vs = tt
   behind_shaped (g ∷ fs) f calls h zero vs = calls 0 vs
   behind_shaped (g ∷ fs) f calls h (suc n) vs = behind_shaped fs f (λ k ws. calls (suc k) ws) h n vs
 
-  from_shaped : (m : Map) (fs : List Meaning) (functions : List Func) → AllShaped fs → FunctionsAreTold look functions → AllShaped (meanings_from m fs functions)
+  from_shaped : (m : Map) (fs : List Meaning) (functions : List Func) → AllShaped fs → FunctionsAreTold look functions
+      → AllShaped (meanings_from m fs functions)
   from_shaped m fs [] calls h = calls
   from_shaped m fs (f ∷ more) calls h =
-      from_shaped m (fs ++ meaning m fs f ∷ []) more (behind_shaped fs (meaning m fs f) calls (λ vs. body_shaped m fs f.body (bind f.parameters vs) calls h.0)) h.1
+      from_shaped m (fs ++ meaning m fs f ∷ []) more
+      (behind_shaped fs (meaning m fs f) calls (λ vs. body_shaped m fs f.body (bind f.parameters vs) calls h.0)) h.1
 
-  forest_shaped : (functions : List Func) (root : ℕ) (m : Map) → FunctionsAreTold look functions → HaveShapes look (forest functions root m)
+  forest_shaped : (functions : List Func) (root : ℕ) (m : Map) → FunctionsAreTold look functions
+      → HaveShapes look (forest functions root m)
   forest_shaped functions root m h = (tt, from_shaped m [] functions (λ n vs. tt) h root [], tt)
 
   -- Node numbers change neither shapes nor sites.
@@ -176,18 +206,27 @@ root_is_no_node p h = by (look_up p.functions 0) refl
     by None e = refl
     by (Some v) e = absurd (none_at_root p v h e)
 
-pub composed_at_sites : (p : Program) (root : ℕ) (m : Map) → IsNumberedProgram p → program_faults p ≡ [] → NodesAt (at_node (look_up p.functions)) (forest p.functions root m)
+pub composed_at_sites : (p : Program) (root : ℕ) (m : Map) → IsNumberedProgram p → program_faults p ≡ []
+    → NodesAt (at_node (look_up p.functions)) (forest p.functions root m)
 composed_at_sites p root m h e =
-    nodes_are_at_node_sites (at_node (look_up p.functions)) p.functions root m (root_is_no_node p h) (functions_tell (look_up p.functions) p.functions (functions_are_told p h e))
+    nodes_are_at_node_sites (at_node (look_up p.functions)) p.functions root m (root_is_no_node p h)
+    (functions_tell (look_up p.functions) p.functions (functions_are_told p h e))
 
-pub composed_is_shaped : (p : Program) (root : ℕ) (m : Map) (t : GroupForest) → IsNumberedProgram p → program_faults p ≡ [] → without_numbers t ≡ forest p.functions root m → IsShaped (look_up p.functions) t
+pub composed_is_shaped : (p : Program) (root : ℕ) (m : Map) (t : GroupForest) → IsNumberedProgram p
+    → program_faults p ≡ [] → without_numbers t ≡ forest p.functions root m → IsShaped (look_up p.functions) t
 composed_is_shaped p root m t h e same =
     let told = functions_are_told p h e in
     record {
-      sites = at_anyway (at_node (look_up p.functions)) t (subst (λ (u : GroupForest). NodesAt (at_node (look_up p.functions)) u) (sym same) (composed_at_sites p root m h e));
-      shapes = shaped_anyway (look_up p.functions) t (subst (λ (u : GroupForest). HaveShapes (look_up p.functions) u) (sym same) (forest_shaped (look_up p.functions) p.functions root m told));
+      sites = at_anyway (at_node (look_up p.functions)) t
+          (subst (λ (u : GroupForest). NodesAt (at_node (look_up p.functions)) u) (sym same)
+          (composed_at_sites p root m h e));
+      shapes = shaped_anyway (look_up p.functions) t
+          (subst (λ (u : GroupForest). HaveShapes (look_up p.functions) u) (sym same)
+          (forest_shaped (look_up p.functions) p.functions root m told));
     }
 
-pub kept_is_shaped : (p : Program) (root : ℕ) (t : GroupForest) → IsNumberedProgram p → program_faults p ≡ [] → WasComposed p.functions root t → IsShaped (look_up p.functions) t
-kept_is_shaped p root t h e (inl none) = subst (λ (u : GroupForest). IsShaped (look_up p.functions) u) (sym none) (record { sites = tt; shapes = tt })
+pub kept_is_shaped : (p : Program) (root : ℕ) (t : GroupForest) → IsNumberedProgram p → program_faults p ≡ []
+    → WasComposed p.functions root t → IsShaped (look_up p.functions) t
+kept_is_shaped p root t h e (inl none) =
+    subst (λ (u : GroupForest). IsShaped (look_up p.functions) u) (sym none) (record { sites = tt; shapes = tt })
 kept_is_shaped p root t h e (inr made) = composed_is_shaped p root made.0 t h e made.1

@@ -19,10 +19,12 @@ differs x y ne = elim (cases_Bool (bytes_eq y x)) [
   | inr other ↦ other
 ]
 
-index_of-snoc : (x name : List ℕ) (xs : List (List ℕ)) → index_of x xs ≡ length xs → bytes_eq name x ≡ false → index_of x (xs ++ name ∷ []) ≡ length (xs ++ name ∷ [])
+index_of-snoc : (x name : List ℕ) (xs : List (List ℕ)) → index_of x xs ≡ length xs → bytes_eq name x ≡ false
+    → index_of x (xs ++ name ∷ []) ≡ length (xs ++ name ∷ [])
 index_of-snoc x name [] m ne = ap (λ b. cond b 0 1) ne
 index_of-snoc x name (y ∷ ys) m ne = by (bytes_eq y x) m (λ e. index_of-snoc x name ys e ne) where
-  by : (b : Bool) → cond b 0 (suc (index_of x ys)) ≡ suc (length ys) → (index_of x ys ≡ length ys → index_of x (ys ++ name ∷ []) ≡ length (ys ++ name ∷ [])) →
+  by : (b : Bool) → cond b 0 (suc (index_of x ys)) ≡ suc (length ys)
+      → (index_of x ys ≡ length ys → index_of x (ys ++ name ∷ []) ≡ length (ys ++ name ∷ [])) →
       cond b 0 (suc (index_of x (ys ++ name ∷ []))) ≡ suc (length (ys ++ name ∷ []))
   by true e rest = absurd (omega (arith, e))
   by false e rest = ap (λ k. suc k) (rest (omega (arith, e)))
@@ -30,7 +32,8 @@ index_of-snoc x name (y ∷ ys) m ne = by (bytes_eq y x) m (λ e. index_of-snoc 
 apart-snoc : (xs : List (List ℕ)) (name : List ℕ) → Apart xs → index_of name xs ≡ length xs → Apart (xs ++ name ∷ [])
 apart-snoc [] name m e = (refl, tt)
 apart-snoc (x ∷ xs) name m e = by (bytes_eq x name) refl e (apart-snoc xs name m.1) where
-  by : (b : Bool) → bytes_eq x name ≡ b → cond b 0 (suc (index_of name xs)) ≡ suc (length xs) → (index_of name xs ≡ length xs → Apart (xs ++ name ∷ [])) → Apart (x ∷ (xs ++ name ∷ []))
+  by : (b : Bool) → bytes_eq x name ≡ b → cond b 0 (suc (index_of name xs)) ≡ suc (length xs)
+      → (index_of name xs ≡ length xs → Apart (xs ++ name ∷ [])) → Apart (x ∷ (xs ++ name ∷ []))
   by true q e rest = absurd (omega (arith, e))
   by false q e rest = (index_of-snoc x name xs m.0 (differs x name q), rest (omega (arith, e)))
 
@@ -60,13 +63,15 @@ apart-from (d ∷ more) xs m = apart-from more (with_actor xs d.actor.text) (apa
 
 among : (xs : List (List ℕ)) (b : ℕ) (x : List ℕ) → b < length xs → actor_name xs b ≡ x → index_of x xs < length xs
 among [] b x h e = absurd (omega (arith, h))
-among (y ∷ ys) zero x h e = subst (λ (c : Bool). cond c 0 (suc (index_of x ys)) < suc (length ys)) (sym ((bytes_decides y x).1 e)) (omega (arith))
+among (y ∷ ys) zero x h e = subst (λ (c : Bool). cond c 0 (suc (index_of x ys)) < suc (length ys))
+    (sym ((bytes_decides y x).1 e)) (omega (arith))
 among (y ∷ ys) (suc b) x h e = by (bytes_eq y x) (among ys b x (omega (arith, h)) e) where
   by : (c : Bool) → index_of x ys < length ys → cond c 0 (suc (index_of x ys)) < suc (length ys)
   by true rest = omega (arith)
   by false rest = omega (arith, rest)
 
-distinct : (xs : List (List ℕ)) → Apart xs → (a b : ℕ) → a < length xs → b < length xs → actor_name xs a ≡ actor_name xs b → a ≡ b
+distinct : (xs : List (List ℕ)) → Apart xs → (a b : ℕ) → a < length xs → b < length xs
+    → actor_name xs a ≡ actor_name xs b → a ≡ b
 distinct [] m a b ha hb e = absurd (omega (arith, ha))
 distinct (x ∷ xs) m zero zero ha hb e = refl
 distinct (x ∷ xs) m zero (suc b) ha hb e =
@@ -75,7 +80,8 @@ distinct (x ∷ xs) m zero (suc b) ha hb e =
 distinct (x ∷ xs) m (suc a) zero ha hb e =
     let k = among xs a x (omega (arith, ha)) e in
     let no = m.0 in absurd (omega (arith, k, no))
-distinct (x ∷ xs) m (suc a) (suc b) ha hb e = ap (λ k. suc k) (distinct xs m.1 a b (omega (arith, ha)) (omega (arith, hb)) e)
+distinct (x ∷ xs) m (suc a) (suc b) ha hb e =
+    ap (λ k. suc k) (distinct xs m.1 a b (omega (arith, ha)) (omega (arith, hb)) e)
 
 pub actor_names_are_distinct : ActorNamesAreDistinct
 actor_names_are_distinct forms a b ha hb e = distinct (actors_of forms) (apart-from forms [] tt) a b ha hb e

@@ -29,7 +29,8 @@ module _ (a : ℕ) (rest : List ActorPart) where
   abbrev then : List Part → List ActorPart
   then ps = map (of_actor a) ps ++ rest
 
-  call_turns : (c : CallForm) (ps : List Part) (b : Bool) → Alternates (then ps) b → Alternates (then (call_parts c ++ ps)) b
+  call_turns : (c : CallForm) (ps : List Part) (b : Bool) → Alternates (then ps) b
+      → Alternates (then (call_parts c ++ ps)) b
   call_turns (form.Take at name kind parent) ps b h = h
   call_turns (form.Read at s state x) ps b h = h
   call_turns (form.Write at s state x v) ps b h = h
@@ -38,7 +39,8 @@ module _ (a : ℕ) (rest : List ActorPart) where
   call_turns (form.Dispose at s) ps b h = h
 
   -- The steps during a frame, and its end.
-  during_turns : (cs : List CallForm) (ps : List Part) → Alternates (then ps) false → Alternates (then ((calls_parts cs ++ EndFrame ∷ []) ++ ps)) true
+  during_turns : (cs : List CallForm) (ps : List Part) → Alternates (then ps) false
+      → Alternates (then ((calls_parts cs ++ EndFrame ∷ []) ++ ps)) true
   during_turns [] ps h = h
   during_turns (form.Take at name kind parent ∷ more) ps h = during_turns more ps h
   during_turns (form.Read at s state x ∷ more) ps h = during_turns more ps h
@@ -47,7 +49,8 @@ module _ (a : ℕ) (rest : List ActorPart) where
   during_turns (form.Apply at s ∷ more) ps h = during_turns more ps h
   during_turns (form.Dispose at s ∷ more) ps h = during_turns more ps h
 
-  step_turns : (s : StepForm) (ps : List Part) → Alternates (then ps) false → Alternates (then (step_parts s ++ ps)) false
+  step_turns : (s : StepForm) (ps : List Part) → Alternates (then ps) false
+      → Alternates (then (step_parts s ++ ps)) false
   step_turns (step.Call c) ps h = call_turns c ps false h
   step_turns (step.Frame at) ps h = (refl, h)
   step_turns (step.FrameDuring at during) ps h = (refl, during_turns during ps h)
@@ -59,7 +62,9 @@ module _ (a : ℕ) (rest : List ActorPart) where
 pub parts_turns : (a : ℕ) (actors : List (List ℕ)) (forms : List DoForm) → Alternates (actor_parts a actors forms) false
 parts_turns a actors [] = tt
 parts_turns a actors (d ∷ more) = by (index_of d.actor.text actors == a) (parts_turns a actors more) where
-  by : (b : Bool) → Alternates (actor_parts a actors more) false → Alternates (cond b (map (of_actor a) (steps_parts (written_out d.steps)) ++ actor_parts a actors more) (actor_parts a actors more)) false
+  by : (b : Bool) → Alternates (actor_parts a actors more) false
+      → Alternates (cond b (map (of_actor a) (steps_parts (written_out d.steps)) ++ actor_parts a actors more)
+      (actor_parts a actors more)) false
   by true rest = steps_turns a (actor_parts a actors more) (written_out d.steps) rest
   by false rest = rest
 
@@ -73,7 +78,8 @@ NoFrames [] = Unit {0}
 NoFrames (s ∷ more) = NoFrame s × NoFrames more
 
 module _ (a : ℕ) (rest : List ActorPart) (none : HaveNoFrame rest) where
-  call_none : (c : CallForm) (ps : List Part) → HaveNoFrame (then a rest ps) → HaveNoFrame (then a rest (call_parts c ++ ps))
+  call_none : (c : CallForm) (ps : List Part) → HaveNoFrame (then a rest ps)
+      → HaveNoFrame (then a rest (call_parts c ++ ps))
   call_none (form.Take at name kind parent) ps h = (tt, h)
   call_none (form.Read at s state x) ps h = (tt, h)
   call_none (form.Write at s state x v) ps h = (tt, h)
@@ -114,24 +120,32 @@ module _ (f a : ℕ) (other : a ≢ f) where
 
   steps_none_of : (ss : List StepForm) → OnlyFrames f (text_steps a ss) → NoFrames ss
   steps_none_of [] h = tt
-  steps_none_of (s ∷ more) h = let parts = only_append f (text_step a s) (text_steps a more) h in (step_none_of s parts.0, steps_none_of more parts.1)
+  steps_none_of (s ∷ more) h = let parts = only_append f (text_step a s) (text_steps a more) h in
+      (step_none_of s parts.0, steps_none_of more parts.1)
 
   written_none : (fs : List ScriptForm) → OnlyFrames f (text_forms a fs) → NoFrames (written_out fs)
   written_none [] h = tt
-  written_none (Once s ∷ more) h = let parts = only_append f (text_step a s) (text_forms a more) h in (step_none_of s parts.0, written_none more parts.1)
+  written_none (Once s ∷ more) h = let parts = only_append f (text_step a s) (text_forms a more) h in
+      (step_none_of s parts.0, written_none more parts.1)
   written_none (Repeat at times steps ∷ more) h =
       let parts = only_append f (text_steps a steps) (text_forms a more) h in
-      none_append (repeated_steps (times_of times) steps) (written_out more) (none_repeated (times_of times) steps (steps_none_of steps parts.0)) (written_none more parts.1)
+      none_append (repeated_steps (times_of times) steps) (written_out more)
+      (none_repeated (times_of times) steps (steps_none_of steps parts.0)) (written_none more parts.1)
 
-  pub parts_none : (actors : List (List ℕ)) (forms : List DoForm) → OnlyFrames f (text_script actors forms) → HaveNoFrame (actor_parts a actors forms)
+  pub parts_none : (actors : List (List ℕ)) (forms : List DoForm) → OnlyFrames f (text_script actors forms)
+      → HaveNoFrame (actor_parts a actors forms)
   parts_none actors [] h = tt
-  parts_none actors (d ∷ more) h = by (index_of d.actor.text actors == a) refl (parts_none actors more (only_append f (text_forms (index_of d.actor.text actors) d.steps) (text_script actors more) h).1) where
-    by : (b : Bool) → (index_of d.actor.text actors == a) ≡ b → HaveNoFrame (actor_parts a actors more) →
-        HaveNoFrame (cond b (map (of_actor a) (steps_parts (written_out d.steps)) ++ actor_parts a actors more) (actor_parts a actors more))
-    by true e rest =
-        let mine = subst (λ (i : ℕ). OnlyFrames f (text_forms i d.steps)) (eqb-true (index_of d.actor.text actors) a e) (only_append f (text_forms (index_of d.actor.text actors) d.steps) (text_script actors more) h).0 in
-        steps_none a (actor_parts a actors more) rest (written_out d.steps) (written_none d.steps mine)
-    by false e rest = rest
+  parts_none actors (d ∷ more) h = by (index_of d.actor.text actors == a) refl
+      (parts_none actors more (only_append f (text_forms (index_of d.actor.text actors) d.steps)
+      (text_script actors more) h).1) where
+        by : (b : Bool) → (index_of d.actor.text actors == a) ≡ b → HaveNoFrame (actor_parts a actors more) →
+            HaveNoFrame (cond b (map (of_actor a) (steps_parts (written_out d.steps)) ++ actor_parts a actors more)
+            (actor_parts a actors more))
+        by true e rest =
+            let mine = subst (λ (i : ℕ). OnlyFrames f (text_forms i d.steps)) (eqb-true (index_of d.actor.text actors) a e)
+            (only_append f (text_forms (index_of d.actor.text actors) d.steps) (text_script actors more) h).0 in
+            steps_none a (actor_parts a actors more) rest (written_out d.steps) (written_none d.steps mine)
+        by false e rest = rest
 
 -- The passes of a script without faults.
 none_in : {A : Type 0} (xs ys : List A) → xs ++ ys ≡ [] → (xs ≡ []) × (ys ≡ [])
@@ -161,28 +175,43 @@ module _ (states : List State) where
       let same : first ≡ f = cc in
       sym (eqb-true first actor (not_false (first == actor) (no_fault (not (first == actor)) (stop.Actor at) h))) ∙ same
 
-  known_framer : (f : ℕ) (ts : List TextStep) (u : FirstUses) → u.framer ≡ Some f → steps_faults true states u ts ≡ [] → OnlyFrames f ts
+  known_framer : (f : ℕ) (ts : List TextStep) (u : FirstUses) → u.framer ≡ Some f → steps_faults true states u ts ≡ []
+      → OnlyFrames f ts
   known_framer f [] u e h = tt
   known_framer f (CallStep actor c ∷ more) u e h =
-      let parts = none_in (step_faults true states u (CallStep actor c)) (steps_faults true states (uses_after u (CallStep actor c)) more) h in
+      let parts = none_in (step_faults true states u (CallStep actor c))
+      (steps_faults true states (uses_after u (CallStep actor c)) more) h in
       known_framer f more (uses_after u (CallStep actor c)) (framer_after u actor c ∙ e) parts.1
   known_framer f (FrameStep actor at ∷ more) u e h =
-      let parts = none_in (step_faults true states u (FrameStep actor at)) (steps_faults true states (uses_after u (FrameStep actor at)) more) h in
-      (same_framer actor at f u.framer e parts.0, known_framer f more (uses_after u (FrameStep actor at)) (kept u.framer e) parts.1) where
+      let parts = none_in (step_faults true states u (FrameStep actor at))
+      (steps_faults true states (uses_after u (FrameStep actor at)) more) h in (
+        same_framer actor at f u.framer e parts.0,
+        known_framer f more (uses_after u (FrameStep actor at)) (kept u.framer e) parts.1,
+      ) where
         kept : (o : Option ℕ) → o ≡ Some f → with_framer o actor ≡ Some f
         kept None e = absurd cc
         kept (Some first) e = e
 
-  first_framer : (ts : List TextStep) (u : FirstUses) → u.framer ≡ None → steps_faults true states u ts ≡ [] → (f : ℕ) × OnlyFrames f ts
+  first_framer : (ts : List TextStep) (u : FirstUses) → u.framer ≡ None → steps_faults true states u ts ≡ []
+      → (f : ℕ) × OnlyFrames f ts
   first_framer [] u e h = (0, tt)
   first_framer (CallStep actor c ∷ more) u e h =
-      let parts = none_in (step_faults true states u (CallStep actor c)) (steps_faults true states (uses_after u (CallStep actor c)) more) h in
+      let parts = none_in (step_faults true states u (CallStep actor c))
+      (steps_faults true states (uses_after u (CallStep actor c)) more) h in
       first_framer more (uses_after u (CallStep actor c)) (framer_after u actor c ∙ e) parts.1
   first_framer (FrameStep actor at ∷ more) u e h =
-      let parts = none_in (step_faults true states u (FrameStep actor at)) (steps_faults true states (uses_after u (FrameStep actor at)) more) h in
-      (actor, (refl, known_framer actor more (uses_after u (FrameStep actor at)) (ap (λ o. with_framer o actor) e) parts.1))
+      let parts = none_in (step_faults true states u (FrameStep actor at))
+      (steps_faults true states (uses_after u (FrameStep actor at)) more) h in (
+        actor,
+        (
+          refl,
+          known_framer actor more (uses_after u (FrameStep actor at)) (ap (λ o. with_framer o actor) e)
+              parts.1,
+        ),
+      )
 
-  pub one_framer : (first : Option ℕ) (forms : List DoForm) → script_faults true states first forms ≡ [] → (f : ℕ) × OnlyFrames f (text_script (actors_of forms) forms)
+  pub one_framer : (first : Option ℕ) (forms : List DoForm) → script_faults true states first forms ≡ []
+      → (f : ℕ) × OnlyFrames f (text_script (actors_of forms) forms)
   one_framer first forms h =
       let one = (none_in (oversized_faults first) _ h).1 in
       let two = (none_in (long_forms most_steps forms) _ one).1 in
@@ -193,7 +222,8 @@ module _ (states : List State) where
 -- Making states takes no snapshot.
 count-states : (w : World BuiltIn) (ss : List State) → length (with_states w ss).snapshots ≡ length w.snapshots
 count-states w [] = refl
-count-states w (s ∷ more) = count-states (world_after_make w (type_of s.initial) s.policy s.initial) more ∙ length-map w.snapshots (with_object (record { value = s.initial; stamp = 0 }))
+count-states w (s ∷ more) = count-states (world_after_make w (type_of s.initial) s.policy s.initial) more
+    ∙ length-map w.snapshots (with_object (record { value = s.initial; stamp = 0 }))
 
 pub frames_are_in_turn : FramesAreInTurn
 frames_are_in_turn states first forms h valid fine legal woven =
@@ -209,9 +239,11 @@ frames_are_in_turn states first forms h valid fine legal woven =
         apart = λ x k e o. absurd cc;
         frame = refl;
         inside = false;
-        turn = subst (λ (ps : List ActorPart). Alternates ps false) (sym (parts_are_of_script a actors forms)) (parts_turns a actors forms);
+        turn = subst (λ (ps : List ActorPart). Alternates ps false) (sym (parts_are_of_script a actors forms))
+            (parts_turns a actors forms);
         within = λ k e. absurd cc;
-        only = λ ne. subst HaveNoFrame (sym (parts_are_of_script a actors forms)) (parts_none framer.0 a ne actors forms framer.1);
+        only = λ ne. subst HaveNoFrame (sym (parts_are_of_script a actors forms))
+            (parts_none framer.0 a ne actors forms framer.1);
       };
       opened = λ g e. absurd cc;
     })

@@ -13,8 +13,8 @@ abbrev pub frame_opened : ℕ → List ℕ → Option OpenFrame
 frame_opened caller [] = None
 frame_opened caller (name ∷ more) = Some (record { caller = caller; name = name })
 
--- `AreInTurn frame h`: this frame, or no frame, is open before the history `h`. In `h` a frame begins only if no frame is
--- open, and the dispose of the snapshot of an open frame is a call of the caller that began the frame.
+-- `AreInTurn frame h`: this frame, or no frame, is open before the history `h`. In `h` a frame begins only if no frame
+-- is open, and the dispose of the snapshot of an open frame is a call of the caller that began the frame.
 abbrev pub AreInTurn : Option OpenFrame → History → Type 0
 AreInTurn frame [] = Unit {0}
 AreInTurn None (e ∷ es) = AreInTurn (frame_opened e.caller (frame_taken e.request e.reply)) es

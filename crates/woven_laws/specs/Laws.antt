@@ -145,8 +145,8 @@ abbrev pub PartsAreOfScript : Type 0
 PartsAreOfScript = (a : ℕ) (actors : List (List ℕ)) (forms : List DoForm) →
     parts_of a (script_parts actors forms) ≡ actor_parts a actors forms
 
--- In a script without the faults of `threads` frames are in turn, in each legal and woven history: one actor at most has
--- frames, and no other actor has a name for their snapshots.
+-- In a script without the faults of `threads` frames are in turn, in each legal and woven history: one actor at most
+-- has frames, and no other actor has a name for their snapshots.
 abbrev pub FramesAreInTurn : Type 0
 FramesAreInTurn = (states : List State) (first_oversized : Option ℕ) (forms : List DoForm) (h : History) →
     IsValid table (opening_world states) → script_faults true states first_oversized forms ≡ [] →

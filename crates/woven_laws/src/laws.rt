@@ -49,8 +49,8 @@ pub fn one_actor_is_sequential()
     ensures only { WovenIsSequential }
 {}
 
-/// Law: in a script that `threads` accepts, at most one frame is open at a time in a legal and woven history, and the actor
-/// that began it ends it.
+/// Law: in a script that `threads` accepts, at most one frame is open at a time in a legal and woven history, and the
+/// actor that began it ends it.
 pub fn frames_are_in_turn()
     ensures { FramesAreInTurn }
 {}

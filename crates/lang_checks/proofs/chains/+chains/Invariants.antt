@@ -4,4 +4,5 @@ use Rattle.lang_checks.specs.Chains.{longest_in}
 use Rattle.lang_checks.proofs.chains.+chains.Given as goal
 
 abbrev pub invariant-longest_in-loop-s : goal.invariant-longest_in-loop-s
-invariant-longest_in-loop-s l = max l.most (longest_in l.chains (stmts_view (drop l.s-index l.body))) ≡ longest_in l.chains (stmts_view l.body)
+invariant-longest_in-loop-s l =
+    max l.most (longest_in l.chains (stmts_view (drop l.s-index l.body))) ≡ longest_in l.chains (stmts_view l.body)

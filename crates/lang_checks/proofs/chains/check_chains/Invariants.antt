@@ -5,4 +5,6 @@ use Rattle.lang_checks.specs.CappedChains.{capped_faults}
 use Rattle.lang_checks.proofs.chains.check_chains.Given as goal
 
 abbrev pub invariant-loop-function : goal.invariant-loop-function
-invariant-loop-function l = least_fault_from l.least (capped_faults l.chains.items (functions_view (drop l.function-index l.functions))) ≡ least_fault_from l.initial.least (capped_faults [] (functions_view l.functions))
+invariant-loop-function l = least_fault_from l.least
+    (capped_faults l.chains.items (functions_view (drop l.function-index l.functions)))
+    ≡ least_fault_from l.initial.least (capped_faults [] (functions_view l.functions))

@@ -3,7 +3,8 @@ use Rattle.lang_checks.specs.Scopes.{is_among}
 use Rattle.lang_checks.proofs.duplicates.is_among.Given as goal
 
 abbrev pub invariant-loop-part : goal.invariant-loop-part
-invariant-loop-part g l = is_among l.name (map g.T.HasName.title l.rest) ≡ is_among l.name (map g.T.HasName.title l.parts)
+invariant-loop-part g l =
+    is_among l.name (map g.T.HasName.title l.rest) ≡ is_among l.name (map g.T.HasName.title l.parts)
 
 abbrev pub decreases-loop-part : goal.decreases-loop-part
 decreases-loop-part g l = length l.rest

@@ -8,6 +8,7 @@ expressions-loop-e-preserved t c =
     let i = c.loop-e.e-index in
     let step = expressions_step l c.args.es.now i c.e-item.result c.loop-e.least c.loop-e-test.true c.e-item.is in
     record {
-      types = one_more _ _ _ _ _ _ c.in_ok-least.ensures.types (types_step l c.args.es.now i c.e-item.result c.loop-e-test.true c.e-item.is) c.loop-e.invariant.types;
+      types = one_more _ _ _ _ _ _ c.in_ok-least.ensures.types
+          (types_step l c.args.es.now i c.e-item.result c.loop-e-test.true c.e-item.is) c.loop-e.invariant.types;
       least = rw (c.in_ok-least.ensures.least, ← step) c.loop-e.invariant.least;
     }

@@ -7,6 +7,8 @@ use Rattle.lang_checks.proofs.expression.+types.Given as goal
 
 abbrev pub invariant-expressions-loop-e : goal.invariant-expressions-loop-e
 invariant-expressions-loop-e l = record {
-  types : l.types.items ++ types_of (expression_scope_view l.look) (exprs_view (drop l.e-index l.es)) ≡ types_of (expression_scope_view l.look) (exprs_view l.es);
-  least : least_fault_from l.least (exprs_faults (expression_scope_view l.look) (exprs_view (drop l.e-index l.es))) ≡ least_fault_from l.initial.least (exprs_faults (expression_scope_view l.look) (exprs_view l.es));
+  types : l.types.items ++ types_of (expression_scope_view l.look) (exprs_view (drop l.e-index l.es))
+      ≡ types_of (expression_scope_view l.look) (exprs_view l.es);
+  least : least_fault_from l.least (exprs_faults (expression_scope_view l.look) (exprs_view (drop l.e-index l.es)))
+      ≡ least_fault_from l.initial.least (exprs_faults (expression_scope_view l.look) (exprs_view l.es));
 }

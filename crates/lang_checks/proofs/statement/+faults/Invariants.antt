@@ -10,7 +10,10 @@ use Rattle.lang_checks.proofs.statement.+faults.Given as goal
 abbrev pub invariant-statements-loop-s : goal.invariant-statements-loop-s
 invariant-statements-loop-s l = record {
   scope : l.scope ≡ l.initial.scope;
-  least : least_fault_from l.least (stmts_faults (statement_context_view l.around) l.initial.scope (stmts_view (drop l.s-index l.body))) ≡ least_fault_from l.initial.least (stmts_faults (statement_context_view l.around) l.initial.scope (stmts_view l.body));
+  least : least_fault_from l.least
+      (stmts_faults (statement_context_view l.around) l.initial.scope (stmts_view (drop l.s-index l.body)))
+      ≡ least_fault_from l.initial.least
+      (stmts_faults (statement_context_view l.around) l.initial.scope (stmts_view l.body));
 }
 
 abbrev pub decreases-statement : goal.decreases-statement

@@ -4,7 +4,8 @@ use Rattle.lang_checks.specs.Statements.{parameter_types}
 use Rattle.lang_checks.proofs.statement.takes.Given as goal
 
 abbrev pub invariant-loop-parameter : goal.invariant-loop-parameter
-invariant-loop-parameter l = same_types (parameter_types l.left) l.right ≡ same_types (parameter_types l.parameters) l.types
+invariant-loop-parameter l =
+    same_types (parameter_types l.left) l.right ≡ same_types (parameter_types l.parameters) l.types
 
 abbrev pub decreases-loop-parameter : goal.decreases-loop-parameter
 decreases-loop-parameter l = length l.left

@@ -7,7 +7,9 @@ use Rattle.lang_forms.specs.Readings.{exprs_of}
 use Rattle.lang_forms.proofs.expressions.+expressions.Given as goal
 
 abbrev pub invariant-parse_expressions-loop-tree : goal.invariant-parse_expressions-loop-tree
-invariant-parse_expressions-loop-tree l = option_map (λ more. map expr_view l.exprs.items ++ more) (exprs_of (state_names l.states) (seen_all (drop l.tree-index l.trees))) ≡ exprs_of (state_names l.states) (seen_all l.trees)
+invariant-parse_expressions-loop-tree l = option_map (λ more. map expr_view l.exprs.items ++ more)
+    (exprs_of (state_names l.states) (seen_all (drop l.tree-index l.trees)))
+    ≡ exprs_of (state_names l.states) (seen_all l.trees)
 
 abbrev pub decreases-parse_expression : goal.decreases-parse_expression
 decreases-parse_expression l = 4 * size-Tree l.tree.now

@@ -6,4 +6,6 @@ use Rattle.lang_forms.specs.Readings.{pairs_form}
 use Rattle.lang_forms.proofs.expressions.parse_pair_list.Given as goal
 
 abbrev pub invariant-loop-tree : goal.invariant-loop-tree
-invariant-loop-tree l = option_map (λ more. nameds_view l.pairs.items ++ more) (pairs_form (state_names l.states) (seen_all (drop l.tree-index l.trees))) ≡ pairs_form (state_names l.states) (seen_all l.trees)
+invariant-loop-tree l = option_map (λ more. nameds_view l.pairs.items ++ more)
+    (pairs_form (state_names l.states) (seen_all (drop l.tree-index l.trees)))
+    ≡ pairs_form (state_names l.states) (seen_all l.trees)

@@ -4,4 +4,5 @@ use Rattle.lang_forms.proofs.Firsts.{first_states}
 use Rattle.lang_forms.proofs.known_names.state_number.Goals as goal
 
 pub returns : goal.returns
-returns c = c.state_among.ensures ∙ ap (number_in c.args.name.now) (first_states c.args.states.now c.min.result c.min.ensures)
+returns c =
+    c.state_among.ensures ∙ ap (number_in c.args.name.now) (first_states c.args.states.now c.min.result c.min.ensures)

@@ -7,7 +7,10 @@ use Rattle.lang_forms.proofs.Ints.{no_int, small}
 use Rattle.lang_forms.proofs.literals.parse_int.Goals as goal
 
 pub returns-in_default : goal.returns-in_default
-returns-in_default c = sym (no_int c.args.digits.now (λ z f e. c.in_default.ensures.cases.0 (IsUtf8-from_ascii _ (subst IsAscii e (IsAscii-signed z (small z f))))))
+returns-in_default c = sym (no_int c.args.digits.now
+    (λ z f e. c.in_default.ensures.cases.0 (IsUtf8-from_ascii _ (subst IsAscii e (IsAscii-signed z (small z f))))))
 
 pub returns-in_default-parse : goal.returns-in_default-parse
-returns-in_default-parse c = sym (no_int c.args.digits.now (λ z f e. c.in_default-parse.not-Ok z (parse-signed_decimal w64 z _ _ f (small z f) (c.in-Ok.ensures.cases.0 ∙ sym e) c.parse.ensures.value.0)))
+returns-in_default-parse c = sym (no_int c.args.digits.now
+    (λ z f e. c.in_default-parse.not-Ok z
+    (parse-signed_decimal w64 z _ _ f (small z f) (c.in-Ok.ensures.cases.0 ∙ sym e) c.parse.ensures.value.0)))

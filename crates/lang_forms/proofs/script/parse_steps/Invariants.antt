@@ -5,4 +5,6 @@ use Rattle.lang_forms.specs.Readings.{steps_of}
 use Rattle.lang_forms.proofs.script.parse_steps.Given as goal
 
 abbrev pub invariant-loop-tree : goal.invariant-loop-tree
-invariant-loop-tree l = option_map (λ more. l.steps ++ more) (steps_of (state_names l.states) (seen_all (drop l.tree-index l.trees))) ≡ steps_of (state_names l.states) (seen_all l.trees)
+invariant-loop-tree l = option_map (λ more. l.steps ++ more)
+    (steps_of (state_names l.states) (seen_all (drop l.tree-index l.trees)))
+    ≡ steps_of (state_names l.states) (seen_all l.trees)

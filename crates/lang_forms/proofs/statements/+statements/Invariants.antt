@@ -7,7 +7,9 @@ use Rattle.lang_forms.specs.Readings.{stmts_of}
 use Rattle.lang_forms.proofs.statements.+statements.Given as goal
 
 abbrev pub invariant-parse_statements-loop-tree : goal.invariant-parse_statements-loop-tree
-invariant-parse_statements-loop-tree l = option_map (λ more. (map stmt_view l.stmts.items ++ more.0, more.1)) (stmts_of (known_names_view l.known) l.next (seen_all (drop l.tree-index l.trees))) ≡ stmts_of (known_names_view l.known) l.site (seen_all l.trees)
+invariant-parse_statements-loop-tree l = option_map (λ more. (map stmt_view l.stmts.items ++ more.0, more.1))
+    (stmts_of (known_names_view l.known) l.next (seen_all (drop l.tree-index l.trees)))
+    ≡ stmts_of (known_names_view l.known) l.site (seen_all l.trees)
 
 abbrev pub decreases-parse_statement : goal.decreases-parse_statement
 decreases-parse_statement l = 5 * size-Tree l.tree.now

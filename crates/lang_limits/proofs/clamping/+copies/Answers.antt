@@ -11,5 +11,6 @@ pub within-returns : goal.within-returns
 within-returns t c =
     let out = forest_view c.loop-tree.out.items in
     sym (joined_trees-empty out)
-    ∙ ap (λ (ts : List Tree). joined_trees out (within (forest_view ts))) (sym (drop_all c.loop-tree.tree-index c.args.trees.now c.loop-tree-test.false))
+    ∙ ap (λ (ts : List Tree). joined_trees out (within (forest_view ts)))
+    (sym (drop_all c.loop-tree.tree-index c.args.trees.now c.loop-tree-test.false))
     ∙ c.loop-tree.invariant

@@ -5,4 +5,5 @@ use Rattle.lang_limits.specs.Clamped.{within}
 use Rattle.lang_limits.proofs.clamping.+copies.Given as goal
 
 abbrev pub invariant-within-loop-tree : goal.invariant-within-loop-tree
-invariant-within-loop-tree l = joined_trees (forest_view l.out.items) (within (forest_view (drop l.tree-index l.trees))) ≡ within (forest_view l.trees)
+invariant-within-loop-tree l = joined_trees (forest_view l.out.items) (within (forest_view (drop l.tree-index l.trees)))
+    ≡ within (forest_view l.trees)

@@ -5,4 +5,5 @@ use Rattle.lang_ast.specs.Sizes.{exprs_lengths}
 use Rattle.lang_limits.proofs.lengths.+lengths.Given as goal
 
 abbrev pub invariant-lengths_of_all-loop-e : goal.invariant-lengths_of_all-loop-e
-invariant-lengths_of_all-loop-e l = least_offset_from l.least (exprs_lengths (exprs_view (drop l.e-index l.es))) ≡ least_offset_from l.initial.least (exprs_lengths (exprs_view l.es))
+invariant-lengths_of_all-loop-e l = least_offset_from l.least (exprs_lengths (exprs_view (drop l.e-index l.es)))
+    ≡ least_offset_from l.initial.least (exprs_lengths (exprs_view l.es))

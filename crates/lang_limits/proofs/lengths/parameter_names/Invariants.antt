@@ -4,4 +4,5 @@ use Rattle.lang_ast.specs.Sizes.{parameters_sizes}
 use Rattle.lang_limits.proofs.lengths.parameter_names.Given as goal
 
 abbrev pub invariant-loop-parameter : goal.invariant-loop-parameter
-invariant-loop-parameter l = least_offset_from l.least (parameters_sizes (drop l.parameter-index l.all)) ≡ least_offset_from l.initial.least (parameters_sizes l.all)
+invariant-loop-parameter l = least_offset_from l.least (parameters_sizes (drop l.parameter-index l.all))
+    ≡ least_offset_from l.initial.least (parameters_sizes l.all)

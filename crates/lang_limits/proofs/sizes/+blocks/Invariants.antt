@@ -7,7 +7,8 @@ use Rattle.lang_ast.specs.Sizes.{stmts_sizes}
 use Rattle.lang_limits.proofs.sizes.+blocks.Given as goal
 
 abbrev pub invariant-statements-loop-s : goal.invariant-statements-loop-s
-invariant-statements-loop-s l = least_offset_from l.least (stmts_sizes l.depth (stmts_view (drop l.s-index l.body))) ≡ least_offset_from l.initial.least (stmts_sizes l.depth (stmts_view l.body))
+invariant-statements-loop-s l = least_offset_from l.least (stmts_sizes l.depth (stmts_view (drop l.s-index l.body)))
+    ≡ least_offset_from l.initial.least (stmts_sizes l.depth (stmts_view l.body))
 
 abbrev pub decreases-statement : goal.decreases-statement
 decreases-statement l = 5 * the_size l.s.now

@@ -5,4 +5,5 @@ use Rattle.lang_ast.specs.Sizes.{exprs_sizes}
 use Rattle.lang_limits.proofs.sizes.expressions.Given as goal
 
 abbrev pub invariant-loop-e : goal.invariant-loop-e
-invariant-loop-e l = least_offset_from l.least (exprs_sizes (exprs_view (drop l.e-index l.es))) ≡ least_offset_from l.initial.least (exprs_sizes (exprs_view l.es))
+invariant-loop-e l = least_offset_from l.least (exprs_sizes (exprs_view (drop l.e-index l.es)))
+    ≡ least_offset_from l.initial.least (exprs_sizes (exprs_view l.es))

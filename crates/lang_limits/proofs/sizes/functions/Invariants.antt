@@ -5,4 +5,5 @@ use Rattle.lang_ast.specs.Sizes.{functions_sizes}
 use Rattle.lang_limits.proofs.sizes.functions.Given as goal
 
 abbrev pub invariant-loop-one : goal.invariant-loop-one
-invariant-loop-one l = least_offset_from l.least (functions_sizes (functions_view (drop l.one-index l.all))) ≡ least_offset_from l.initial.least (functions_sizes (functions_view l.all))
+invariant-loop-one l = least_offset_from l.least (functions_sizes (functions_view (drop l.one-index l.all)))
+    ≡ least_offset_from l.initial.least (functions_sizes (functions_view l.all))

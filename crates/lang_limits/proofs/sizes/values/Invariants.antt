@@ -5,4 +5,5 @@ use Rattle.lang_ast.specs.Sizes.{named_sizes}
 use Rattle.lang_limits.proofs.sizes.values.Given as goal
 
 abbrev pub invariant-loop-named : goal.invariant-loop-named
-invariant-loop-named l = least_offset_from l.least (named_sizes (nameds_view (drop l.named-index l.all))) ≡ least_offset_from l.initial.least (named_sizes (nameds_view l.all))
+invariant-loop-named l = least_offset_from l.least (named_sizes (nameds_view (drop l.named-index l.all)))
+    ≡ least_offset_from l.initial.least (named_sizes (nameds_view l.all))

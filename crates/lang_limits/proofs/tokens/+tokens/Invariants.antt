@@ -5,4 +5,5 @@ use Rattle.lang_limits.specs.Tokens.{beyond}
 use Rattle.lang_limits.proofs.tokens.+tokens.Given as goal
 
 abbrev pub invariant-trees_limit-loop-tree : goal.invariant-trees_limit-loop-tree
-invariant-trees_limit-loop-tree l = least_offset_from l.least (beyond (forest_view (drop l.tree-index l.trees))) ≡ least_offset_from l.initial.least (beyond (forest_view l.trees))
+invariant-trees_limit-loop-tree l = least_offset_from l.least (beyond (forest_view (drop l.tree-index l.trees)))
+    ≡ least_offset_from l.initial.least (beyond (forest_view l.trees))

@@ -6,7 +6,8 @@ use Rattle.lang_limits.proofs.tokens.before_script.Given as goal
 
 abbrev pub invariant-loop-tree : goal.invariant-loop-tree
 invariant-loop-tree l = record {
-  program : least_offset_from l.least (beyond (program_trees (forest_view l.rest))) ≡ least (beyond (program_trees (forest_view l.trees)));
+  program : least_offset_from l.least (beyond (program_trees (forest_view l.rest)))
+      ≡ least (beyond (program_trees (forest_view l.trees)));
   script : script_trees (forest_view l.rest) ≡ script_trees (forest_view l.trees);
 }
 

@@ -6,4 +6,5 @@ use Rattle.lang_write.proofs.Written.{all_there}
 use Rattle.lang_write.proofs.write_expressions.+expressions.Goals as goal
 
 pub put_exprs-returns : goal.put_exprs-returns
-put_exprs-returns t c = all_there (λ es. unplaced_sketch (exprs_forms (exprs_view es))) refl _ _ c.args.exprs.now c.loop-expr.expr-index c.loop-expr-test.false c.loop-expr.invariant
+put_exprs-returns t c = all_there (λ es. unplaced_sketch (exprs_forms (exprs_view es))) refl _ _ c.args.exprs.now
+    c.loop-expr.expr-index c.loop-expr-test.false c.loop-expr.invariant

@@ -9,7 +9,9 @@ use denote.Param.Weighed.{most}
 use Rattle.lang_write.proofs.write_expressions.+expressions.Given as goal
 
 abbrev pub invariant-put_exprs-loop-expr : goal.invariant-put_exprs-loop-expr
-invariant-put_exprs-loop-expr l = joined_trees (forest_view l.out.items) (unplaced_sketch (exprs_forms (exprs_view (drop l.expr-index l.exprs)))) ≡ joined_trees (forest_view l.initial.out.items) (unplaced_sketch (exprs_forms (exprs_view l.exprs)))
+invariant-put_exprs-loop-expr l = joined_trees (forest_view l.out.items)
+    (unplaced_sketch (exprs_forms (exprs_view (drop l.expr-index l.exprs))))
+    ≡ joined_trees (forest_view l.initial.out.items) (unplaced_sketch (exprs_forms (exprs_view l.exprs)))
 
 abbrev pub decreases-put_expr : goal.decreases-put_expr
 decreases-put_expr l = 2 * size-Expression l.expr.now

@@ -5,4 +5,5 @@ use Rattle.lang_write.proofs.Written.{none_left}
 use Rattle.lang_write.proofs.write_expressions.put_numbers.Goals as goal
 
 pub returns : goal.returns
-returns c = none_left (λ xs. unplaced_sketch (numbers xs)) refl _ _ c.loop-item.rest.now c.in_default.ensures.cases c.loop-item.invariant
+returns c = none_left (λ xs. unplaced_sketch (numbers xs)) refl _ _ c.loop-item.rest.now c.in_default.ensures.cases
+    c.loop-item.invariant

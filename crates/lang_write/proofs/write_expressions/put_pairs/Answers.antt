@@ -6,4 +6,5 @@ use Rattle.lang_write.proofs.Written.{none_left}
 use Rattle.lang_write.proofs.write_expressions.put_pairs.Goals as goal
 
 pub returns : goal.returns
-returns c = none_left (λ xs. unplaced_sketch (pairs_forms (nameds_view xs))) refl _ _ c.loop-pair.rest.now c.in_default.ensures.cases c.loop-pair.invariant
+returns c = none_left (λ xs. unplaced_sketch (pairs_forms (nameds_view xs))) refl _ _ c.loop-pair.rest.now
+    c.in_default.ensures.cases c.loop-pair.invariant

@@ -7,7 +7,8 @@ use Rattle.lang_forms.specs.Forms.{pairs_forms}
 use Rattle.lang_write.proofs.write_expressions.put_pairs.Given as goal
 
 abbrev pub invariant-loop-pair : goal.invariant-loop-pair
-invariant-loop-pair l = joined_trees (forest_view l.out.items) (unplaced_sketch (pairs_forms (nameds_view l.rest))) ≡ joined_trees (forest_view l.initial.out.items) (unplaced_sketch (pairs_forms (nameds_view l.pairs)))
+invariant-loop-pair l = joined_trees (forest_view l.out.items) (unplaced_sketch (pairs_forms (nameds_view l.rest)))
+    ≡ joined_trees (forest_view l.initial.out.items) (unplaced_sketch (pairs_forms (nameds_view l.pairs)))
 
 abbrev pub decreases-loop-pair : goal.decreases-loop-pair
 decreases-loop-pair l = length l.rest

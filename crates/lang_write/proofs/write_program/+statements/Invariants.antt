@@ -9,7 +9,9 @@ use denote.Param.Weighed.{most}
 use Rattle.lang_write.proofs.write_program.+statements.Given as goal
 
 abbrev pub invariant-put_stmts-loop-statement : goal.invariant-put_stmts-loop-statement
-invariant-put_stmts-loop-statement l = joined_trees (forest_view l.out.items) (unplaced_sketch (stmts_forms (stmts_view (drop l.statement-index l.statements)))) ≡ joined_trees (forest_view l.initial.out.items) (unplaced_sketch (stmts_forms (stmts_view l.statements)))
+invariant-put_stmts-loop-statement l = joined_trees (forest_view l.out.items)
+    (unplaced_sketch (stmts_forms (stmts_view (drop l.statement-index l.statements))))
+    ≡ joined_trees (forest_view l.initial.out.items) (unplaced_sketch (stmts_forms (stmts_view l.statements)))
 
 abbrev pub decreases-put_stmt : goal.decreases-put_stmt
 decreases-put_stmt l = 5 * size-Statement l.statement.now

@@ -5,4 +5,5 @@ use Rattle.lang_write.proofs.Written.{none_left}
 use Rattle.lang_write.proofs.write_script.put_steps.Goals as goal
 
 pub returns : goal.returns
-returns c = none_left (λ xs. unplaced_sketch (steps_forms xs)) refl _ _ c.loop-step.rest.now c.in_default.ensures.cases c.loop-step.invariant
+returns c = none_left (λ xs. unplaced_sketch (steps_forms xs)) refl _ _ c.loop-step.rest.now c.in_default.ensures.cases
+    c.loop-step.invariant

@@ -11,13 +11,17 @@ use Rattle.play_actors.proofs.actors.make_history.Goals as goal
 
 pub run_together-requires-clause-ready : goal.run_together-requires-clause-ready
 run_together-requires-clause-ready g c κs lives =
-    ready (λ x. x.seat) (λ x. x.number) c.in-Ok-actors_for.actors.items (λ x. IsNewSeat c.in-Ok.shared x) c.in-Ok.seats.items _
-    c.in-Ok-actors_for.ensures.seats c.in-Ok-actors_for.ensures.numbers c.in-Ok.ensures.numbers c.in-Ok.ensures.many c.in-Ok.ensures.seats
+    ready (λ x. x.seat) (λ x. x.number) c.in-Ok-actors_for.actors.items (λ x. IsNewSeat c.in-Ok.shared x)
+    c.in-Ok.seats.items _
+    c.in-Ok-actors_for.ensures.seats c.in-Ok-actors_for.ensures.numbers c.in-Ok.ensures.numbers c.in-Ok.ensures.many
+    c.in-Ok.ensures.seats
 
 pub into_parts-world-requires-clause-all : goal.into_parts-world-requires-clause-all
 into_parts-world-requires-clause-all g c =
-    all_fit (λ x. x.seat) (λ x. x.short) (λ x. x.number) _ c.in-Ok.shared (script_parts c.args.job.now.script.actors.items c.args.job.now.script.forms.items)
-    c.in-Ok-actors_for.actors.items c.run_together.new.actors.items c.run_together.ensures.many c.run_together.ensures.acts _ c.seats_of-seats.ensures.seats
+    all_fit (λ x. x.seat) (λ x. x.short) (λ x. x.number) _ c.in-Ok.shared
+    (script_parts c.args.job.now.script.actors.items c.args.job.now.script.forms.items)
+    c.in-Ok-actors_for.actors.items c.run_together.new.actors.items c.run_together.ensures.many
+    c.run_together.ensures.acts _ c.seats_of-seats.ensures.seats
 
 pub returns : goal.returns
 returns g c =
@@ -25,15 +29,21 @@ returns g c =
     let w = opening_world states in
     let parts = script_parts c.args.job.now.script.actors.items c.args.job.now.script.forms.items in
     let n = length c.args.job.now.script.actors.items in
-    let fit = program-fits c.args.job.now.program.header states (functions_view c.args.job.now.program.functions.items) c.args.job.now.fine in
+    let fit = program-fits c.args.job.now.program.header states (functions_view c.args.job.now.program.functions.items)
+    c.args.job.now.fine in
     let actors = c.in-Ok-actors_for.actors.items in
     let long : c.len.result ≡ n = search rules in
     let number : length c.in-Ok.seats.items ≡ n = search (rules, c.in-Ok.ensures.many) in
-    let count : length actors ≡ n = sym (length-map actors (λ x. x.seat)) ∙ ap (λ l. length l) c.in-Ok-actors_for.ensures.seats ∙ number in
+    let count : length actors ≡ n = sym (length-map actors (λ x. x.seat))
+    ∙ ap (λ l. length l) c.in-Ok-actors_for.ensures.seats ∙ number in
     let stood = c.in-Ok.ensures.stands w c.requires.opens (opening_shaped states) (opening_global states) in
     record {
       legal = (c.into_parts-world.ensures.legal w stood).0;
-      acted = all_acted (λ x. x.seat) (λ x. x.short) (λ x. x.number) _ c.in-Ok.shared parts actors c.run_together.new.actors.items c.run_together.ensures.many c.run_together.ensures.acts
-          w stood (opening_counts states fit) _ _ _ n count (c.in-Ok-actors_for.ensures.numbers ∙ ap numbers_below number) c.seats_of-seats.ensures.seats c.into_parts-world.ensures.seats c.seats_of-seats.ensures.short;
-      others = subst (λ k. HasOnlyCallersBelow k c.into_parts-world.result.1.items) (c.in-Ok.ensures.count ∙ long) c.into_parts-world.ensures.others;
+      acted = all_acted (λ x. x.seat) (λ x. x.short) (λ x. x.number) _ c.in-Ok.shared parts actors
+          c.run_together.new.actors.items c.run_together.ensures.many c.run_together.ensures.acts
+          w stood (opening_counts states fit) _ _ _ n count
+          (c.in-Ok-actors_for.ensures.numbers ∙ ap numbers_below number) c.seats_of-seats.ensures.seats
+          c.into_parts-world.ensures.seats c.seats_of-seats.ensures.short;
+      others = subst (λ k. HasOnlyCallersBelow k c.into_parts-world.result.1.items) (c.in-Ok.ensures.count ∙ long)
+          c.into_parts-world.ensures.others;
     }

@@ -16,7 +16,8 @@ returns-clause-legal g c =
     let w = opening_world c.args.job.now.program.states.items in
     let h = c.in-Ok.ensures in
     let part = c.cut_history-calls.ensures.part in
-    (legal_parts table w c.cut_history-calls.result.0.items part.0 (subst (λ l. IsLegal table w l) (sym part.1) h.legal)).0
+    (legal_parts table w c.cut_history-calls.result.0.items part.0
+    (subst (λ l. IsLegal table w l) (sym part.1) h.legal)).0
 
 pub returns-clause-woven : goal.returns-clause-woven
 returns-clause-woven g c short =

@@ -11,11 +11,13 @@ loop-actor-preserved g c =
     let x = c.in-Some.actor in
     let ys = c.loop-actor.yielded in (
       inv.0 ∙ ap (λ l. ys ++ l) c.in-Some.ensures.steps.0 ∙ sym (append_assoc ys (x ∷ []) c.next.new.self.rest.items),
-      c.push_reserved.ensures.items ∙ ap (λ l. l ++ x.seat ∷ []) inv.1 ∙ sym (map_push (λ (y : Actor g.row.V.Denot). y.seat) ys x),
+      c.push_reserved.ensures.items ∙ ap (λ l. l ++ x.seat ∷ []) inv.1
+          ∙ sym (map_push (λ (y : Actor g.row.V.Denot). y.seat) ys x),
       omega (arith, inv.2, c.push_reserved.ensures.capacity),
       λ none.
           let both : (c.loop-actor.any_short ≡ false) × (x.short ≡ false) = elim c.if-any_short.branch [
-            | then-any_short w ↦ (let e : true ≡ false = sym w.if-any_short.true ∙ sym w.any_short-is ∙ none in absurd cc)
+            | then-any_short w ↦ (let e : true ≡ false = sym w.if-any_short.true ∙ sym w.any_short-is ∙ none in
+                absurd cc)
             | else-any_short w ↦ (w.if-any_short.false, sym w.any_short-is ∙ none)
           ] in
           All-push (λ (y : Actor g.row.V.Denot). y.short ≡ false) ys x (inv.3 both.0) both.1,

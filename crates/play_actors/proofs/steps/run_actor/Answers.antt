@@ -29,6 +29,8 @@ returns g c =
         seated = c.run_script-seat.ensures.seated;
         acted = λ o stood counts. ended o parts a c.run_script-seat.result
             (c.run_script-seat.ensures.makes o stood counts (initial_actor parts a) []
-            (started o parts (actor_parts a actors forms ++ []) a (record { seat = c.args.seat; memory = c.in-Ok.memory; step = 0; short = false; failed = None }) same new.0.1 c.in-Ok.ensures));
+            (started o parts (actor_parts a actors forms ++ []) a
+            (record { seat = c.args.seat; memory = c.in-Ok.memory; step = 0; short = false; failed = None }) same
+            new.0.1 c.in-Ok.ensures));
       };
     }

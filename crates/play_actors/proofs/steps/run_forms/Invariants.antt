@@ -8,7 +8,8 @@ abbrev pub invariant-loop-form : goal.invariant-loop-form
 invariant-loop-form g l = record {
   seated : IsSeated l.run.shared.now l.run.number l.worker.seat;
   leads : Leads g.V.Versions.stands l.run.shared.now l.fn.worker l.worker None None
-      (by_actor l.run.number (steps_parts (written_out l.forms))) (by_actor l.run.number (steps_parts (written_out l.rest)));
+      (by_actor l.run.number (steps_parts (written_out l.forms)))
+      (by_actor l.run.number (steps_parts (written_out l.rest)));
 }
 
 abbrev pub decreases-loop-form : goal.decreases-loop-form

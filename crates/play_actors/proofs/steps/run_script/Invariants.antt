@@ -7,7 +7,8 @@ abbrev pub invariant-loop-form : goal.invariant-loop-form
 invariant-loop-form g l = record {
   seated : IsSeated l.run.shared.now l.run.number l.worker.seat;
   leads : Leads g.V.Versions.stands l.run.shared.now l.fn.worker l.worker None None
-      (actor_parts l.run.number l.script.actors.items l.script.forms.items) (actor_parts l.run.number l.script.actors.items l.rest);
+      (actor_parts l.run.number l.script.actors.items l.script.forms.items)
+      (actor_parts l.run.number l.script.actors.items l.rest);
 }
 
 abbrev pub decreases-loop-form : goal.decreases-loop-form

@@ -14,5 +14,7 @@ returns-clause-makes g c frame =
     let fits = to_z-of_z w64 c.args.amount (search rules) in
     let read = by_actor a (Read c.args.snapshot.now c.args.object ∷ []) in
     let write = by_actor a (WriteSum c.args.snapshot.now c.args.object c.args.amount ∷ []) in
-    makes_then stands shared c.args.worker.now c.make_part.new.worker c.make_part-2.new.worker frame frame frame read write (c.make_part.ensures.makes frame tt)
-    (subst (λ z. Makes stands shared c.make_part.new.worker c.make_part-2.new.worker frame frame (by_actor a (WriteSum c.args.snapshot.now c.args.object z ∷ []))) fits (c.make_part-2.ensures.makes frame tt))
+    makes_then stands shared c.args.worker.now c.make_part.new.worker c.make_part-2.new.worker frame frame frame read
+    write (c.make_part.ensures.makes frame tt)
+    (subst (λ z. Makes stands shared c.make_part.new.worker c.make_part-2.new.worker frame frame
+    (by_actor a (WriteSum c.args.snapshot.now c.args.object z ∷ []))) fits (c.make_part-2.ensures.makes frame tt))

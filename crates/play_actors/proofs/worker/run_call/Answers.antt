@@ -12,5 +12,8 @@ returns-in-Add-clause-makes g c frame =
     let shared = c.args.run.now.shared.now in
     let a = c.args.run.now.number in
     let fits = to_z-of_z w64 c.in-Add.amount (search rules) in
-    leads_as stands shared c.args.worker.now c.run_add.new.worker frame frame _ _ [] [] (ap (λ f. by_actor a (call_parts f)) (sym c.in-Add.is)) refl
-    (subst (λ z. Makes stands shared c.args.worker.now c.run_add.new.worker frame frame (by_actor a (Read c.in-Add.snapshot c.in-Add.object ∷ WriteSum c.in-Add.snapshot c.in-Add.object z ∷ []))) fits (c.run_add.ensures.makes frame))
+    leads_as stands shared c.args.worker.now c.run_add.new.worker frame frame _ _ [] []
+    (ap (λ f. by_actor a (call_parts f)) (sym c.in-Add.is)) refl
+    (subst (λ z. Makes stands shared c.args.worker.now c.run_add.new.worker frame frame
+    (by_actor a (Read c.in-Add.snapshot c.in-Add.object ∷ WriteSum c.in-Add.snapshot c.in-Add.object z ∷ []))) fits
+    (c.run_add.ensures.makes frame))

@@ -7,7 +7,8 @@ use Rattle.play_core.proofs.canonical.write_canonical.Given as goal
 abbrev pub invariant-loop-rest : goal.invariant-loop-rest
 invariant-loop-rest g l = record {
   faults : g.K.Sink.faults l.sink ≡ g.K.Sink.faults l.fn.sink;
-  wrote : (said : List ℕ) × (said ++ lines (forest_view l.rest) ≡ lines (forest_view l.trees)) × Appends (g.K.Sink.written l.fn.sink) (g.K.Sink.written l.sink) said;
+  wrote : (said : List ℕ) × (said ++ lines (forest_view l.rest) ≡ lines (forest_view l.trees))
+      × Appends (g.K.Sink.written l.fn.sink) (g.K.Sink.written l.sink) said;
 }
 
 abbrev pub decreases-loop-rest : goal.decreases-loop-rest

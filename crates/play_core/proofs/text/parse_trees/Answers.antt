@@ -7,4 +7,5 @@ pub returns-clause-read : goal.returns-clause-read
 returns-clause-read c = c.program.ensures.answer _ (answer_is _ _)
 
 pub returns-clause-numbered : goal.returns-clause-numbered
-returns-clause-numbered c = parsed_is_numbered (forest_view c.args.trees.now) c.program.result c.program.ensures.forms c.program.ensures.small
+returns-clause-numbered c =
+    parsed_is_numbered (forest_view c.args.trees.now) c.program.result c.program.ensures.forms c.program.ensures.small

@@ -10,20 +10,37 @@ use Rattle.play_core.proofs.top.do_command.Goals as goal
 
 pub returns-in-Run-clause-says : goal.returns-in-Run-clause-says
 returns-in-Run-clause-says g c bytes p read text =
-    subst (λ k. SaysOutput (g.K.Sink.written c.args.sink.now) (g.K.Sink.written c.run_script.new.sink) k p c.run_script.result) (sym c.in-Run.is)
-    (run_output c.in-Run.flags p, refl, says_same _ _ _ _ _ (run-is c.in-Run.flags read.read p text) c.run_script.ensures.says)
+    subst (λ k. SaysOutput (g.K.Sink.written c.args.sink.now) (g.K.Sink.written c.run_script.new.sink) k p
+    c.run_script.result) (sym c.in-Run.is) (
+      run_output c.in-Run.flags p,
+      refl,
+      says_same _ _ _ _ _ (run-is c.in-Run.flags read.read p text) c.run_script.ensures.says,
+    )
 
 pub returns-in-Check-clause-says : goal.returns-in-Check-clause-says
 returns-in-Check-clause-says g c bytes p read text =
-    subst (λ k. SaysOutput (g.K.Sink.written c.args.sink.now) (g.K.Sink.written c.write_canonical.new.sink) k p c.write_canonical.result) (sym c.in-Check.is)
-    (check_output p, refl, says_same _ _ _ _ _ (ap (λ ts. lines (forest_view ts)) c.deref.ensures.value ∙ check-is bytes c.args.input.trees.items p read.spelled text) c.write_canonical.ensures.says)
+    subst (λ k. SaysOutput (g.K.Sink.written c.args.sink.now) (g.K.Sink.written c.write_canonical.new.sink) k p
+    c.write_canonical.result) (sym c.in-Check.is) (
+      check_output p,
+      refl,
+      says_same _ _ _ _ _
+          (ap (λ ts. lines (forest_view ts)) c.deref.ensures.value
+          ∙ check-is bytes c.args.input.trees.items p read.spelled text) c.write_canonical.ensures.says,
+    )
 
 pub returns-in-Run-clause-log : goal.returns-in-Run-clause-log
 returns-in-Run-clause-log g c bytes p flags run read text =
-    logs-is read.read p text c.run_script.result (g.V.Versions.log c.args.world.now) (g.V.Versions.log c.run_script.new.world) c.run_script.ensures.log
+    logs-is read.read p text c.run_script.result (g.V.Versions.log c.args.world.now)
+    (g.V.Versions.log c.run_script.new.world) c.run_script.ensures.log
 
 pub returns-in-Run-clause-stops : goal.returns-in-Run-clause-stops
 returns-in-Run-clause-stops g c bytes p flags run read text =
     let same : c.in-Run.flags ≡ flags = (let e : Run c.in-Run.flags ≡ Run flags = sym c.in-Run.is ∙ run in cc) in
-    stops-is flags read.read p text c.run_script.result (g.V.Versions.log c.args.world.now) (g.V.Versions.log c.run_script.new.world) (g.K.Sink.written c.args.sink.now) (g.K.Sink.written c.run_script.new.sink)
-    (subst (λ (f : Flags). OnErr c.run_script.result (StopsRun (job_style c.deref.result.now f) (job_functions c.deref.result.now) _ (g.V.Versions.log c.args.world.now) (g.V.Versions.log c.run_script.new.world) (g.K.Sink.written c.args.sink.now) (g.K.Sink.written c.run_script.new.sink))) same c.run_script.ensures.stops)
+    stops-is flags read.read p text c.run_script.result (g.V.Versions.log c.args.world.now)
+    (g.V.Versions.log c.run_script.new.world) (g.K.Sink.written c.args.sink.now)
+    (g.K.Sink.written c.run_script.new.sink)
+    (subst (λ (f : Flags). OnErr c.run_script.result
+    (StopsRun (job_style c.deref.result.now f) (job_functions c.deref.result.now) _
+    (g.V.Versions.log c.args.world.now) (g.V.Versions.log c.run_script.new.world)
+    (g.K.Sink.written c.args.sink.now) (g.K.Sink.written c.run_script.new.sink))) same
+    c.run_script.ensures.stops)

@@ -19,9 +19,14 @@ pub returns-in-Err-Bad-clause-part : goal.returns-in-Err-Bad-clause-part
 returns-in-Err-Bad-clause-part g c k threads e =
     let why = c.in-Err-Bad.ensures.bad c.in-Err-Bad.fault (ap Err c.in-Err-Bad.field-0-is) in
     let one : (other : Fault) → IsFault (has_threads k) c.args.bytes.now other → other ≡ c.in-Err-Bad.fault = λ other f.
-    elim (c.in-Err-Bad.ensures.told other (subst (λ b. IsFault b c.args.bytes.now other) threads f)) [ inl a ↦ cc | inr b ↦ absurd cc ] in
-    let stopped : (c.refuse.result ≡ status.WriteFault) ⊎ (c.refuse.result ≡ status.NoMemory) = elim e [ inl a ↦ inl cc | inr b ↦ inr cc ] in
-    refused-part k c.args.bytes.now c.in-Err-Bad.fault _ _ (subst (λ b. IsNoText b c.args.bytes.now) (sym threads) why.0) one (c.refuse.ensures.part stopped)
+    elim (c.in-Err-Bad.ensures.told other (subst (λ b. IsFault b c.args.bytes.now other) threads f)) [
+      | inl a ↦ cc
+      | inr b ↦ absurd cc
+    ] in
+    let stopped : (c.refuse.result ≡ status.WriteFault) ⊎ (c.refuse.result ≡ status.NoMemory) =
+    elim e [ inl a ↦ inl cc | inr b ↦ inr cc ] in
+    refused-part k c.args.bytes.now c.in-Err-Bad.fault _ _
+    (subst (λ b. IsNoText b c.args.bytes.now) (sym threads) why.0) one (c.refuse.ensures.part stopped)
 
 pub returns-in-Err-NoMemory-clause-part : goal.returns-in-Err-NoMemory-clause-part
 returns-in-Err-NoMemory-clause-part g c k threads e = nothing-part k (Some c.args.bytes.now) _

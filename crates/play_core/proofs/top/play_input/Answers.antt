@@ -14,14 +14,19 @@ returns-in-Ok-clause-meets g c =
     let before = shown c.args.source.now c.args.sink.now in
     let middle = shown c.read_input.new.source c.read_input.new.sink in
     let read = c.in-Ok.ensures.parsed in
-    subst (λ (s : Status). CommandMeets c.args.command before (shown c.read_input.new.source c.do_command.new.sink) s) (sym c.status_of.ensures)
-    (parsed-meets c.args.command false c.requires.alone before middle c.in-Ok.input c.do_command.result _ _ read (λ t text. c.do_command.ensures.says read.bytes t read.parsed text) c.do_command.ensures.faults)
+    subst (λ (s : Status). CommandMeets c.args.command before (shown c.read_input.new.source c.do_command.new.sink) s)
+    (sym c.status_of.ensures)
+    (parsed-meets c.args.command false c.requires.alone before middle c.in-Ok.input c.do_command.result _ _ read
+    (λ t text. c.do_command.ensures.says read.bytes t read.parsed text) c.do_command.ensures.faults)
 
 pub returns-in-Ok-clause-log : goal.returns-in-Ok-clause-log
 returns-in-Ok-clause-log g c flags run e =
     let read = c.in-Ok.ensures.parsed in
-    let Logged : List ℕ → Type 0 = λ bs. (t : Source) → IsText false bs t → LogsText t (g.V.Versions.log c.args.world.now) (g.V.Versions.log c.do_command.new.world) in
-    Consumes-whole _ _ read.bytes Logged read.consumed read.end (λ t text. done-after c.do_command.result (sym c.status_of.ensures ∙ e) (c.do_command.ensures.log read.bytes t flags run read.parsed text))
+    let Logged : List ℕ → Type 0 = λ bs. (t : Source) → IsText false bs t
+    → LogsText t (g.V.Versions.log c.args.world.now) (g.V.Versions.log c.do_command.new.world) in
+    Consumes-whole _ _ read.bytes Logged read.consumed read.end
+    (λ t text. done-after c.do_command.result (sym c.status_of.ensures ∙ e)
+    (c.do_command.ensures.log read.bytes t flags run read.parsed text))
 
 pub returns-in-Err-clause-log : goal.returns-in-Err-clause-log
 returns-in-Err-clause-log g c flags run e = absurd (c.in-Err.ensures.undone (ap Err e))
@@ -32,9 +37,11 @@ returns-in-Ok-clause-stops g c flags run e =
     let old = g.V.Versions.log c.args.world.now in
     let new = g.V.Versions.log c.do_command.new.world in
     let now = g.K.Sink.written c.do_command.new.sink in
-    let Stopped : List ℕ → Type 0 = λ bs. (t : Source) → IsText false bs t → StopsText flags t old new (g.K.Sink.written c.args.sink.now) now in
+    let Stopped : List ℕ → Type 0 = λ bs. (t : Source) → IsText false bs t
+    → StopsText flags t old new (g.K.Sink.written c.args.sink.now) now in
     let stopped = subst (λ (s : Status). (s ≡ status.WriteFault) ⊎ (s ≡ status.NoMemory)) c.status_of.ensures e in
-    Consumes-whole _ _ read.bytes Stopped read.consumed read.end (λ t text. subst (λ (b : Option (List ℕ)). StopsText flags t old new b now) read.written
+    Consumes-whole _ _ read.bytes Stopped read.consumed read.end
+    (λ t text. subst (λ (b : Option (List ℕ)). StopsText flags t old new b now) read.written
     (stopped-after c.do_command.result stopped (c.do_command.ensures.stops read.bytes t flags run read.parsed text)))
 
 pub returns-in-Err-clause-stops : goal.returns-in-Err-clause-stops

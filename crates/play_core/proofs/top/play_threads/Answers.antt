@@ -12,8 +12,11 @@ returns-in-Ok-clause-meets g c =
     let middle = shown c.read_input.new.source c.read_input.new.sink in
     let read = c.in-Ok.ensures.parsed in
     let said = c.run_threads.ensures.says in
-    subst (λ (s : Status). CommandMeets (Threads c.args.flags) before (shown c.read_input.new.source c.run_threads.new.sink) s) (sym c.status_of.ensures)
-    (parsed-meets (Threads c.args.flags) true refl before middle c.in-Ok.input c.run_threads.result _ _ read (λ t text. (said.0, woven-is c.args.flags read.parsed.read t text said.0 said.1, said.2)) c.run_threads.ensures.faults)
+    subst (λ (s : Status). CommandMeets (Threads c.args.flags) before
+    (shown c.read_input.new.source c.run_threads.new.sink) s) (sym c.status_of.ensures)
+    (parsed-meets (Threads c.args.flags) true refl before middle c.in-Ok.input c.run_threads.result _ _ read
+    (λ t text. (said.0, woven-is c.args.flags read.parsed.read t text said.0 said.1, said.2))
+    c.run_threads.ensures.faults)
 
 pub returns-in-Err-clause-meets : goal.returns-in-Err-clause-meets
 returns-in-Err-clause-meets g c = c.in-Err.ensures.failed (Threads c.args.flags) refl

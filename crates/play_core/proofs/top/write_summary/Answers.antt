@@ -6,12 +6,17 @@ use Rattle.play_core.proofs.top.write_summary.Goals as goal
 
 pub returns-clause-all : goal.returns-clause-all
 returns-clause-all g c done =
-    let text = c.deref.ensures.value ∙ gen-is c.args.number c.args.size c.in-Ok.tally c.in-Ok-summary_text.text.items c.in-Ok.ensures c.in-Ok-summary_text.ensures in
-    subst (Appends (g.K.Sink.written c.args.sink.now) (g.K.Sink.written c.write_status_line.new.sink)) text (c.write_status_line.ensures.all done)
+    let text = c.deref.ensures.value
+    ∙ gen-is c.args.number c.args.size c.in-Ok.tally c.in-Ok-summary_text.text.items c.in-Ok.ensures
+    c.in-Ok-summary_text.ensures in
+    subst (Appends (g.K.Sink.written c.args.sink.now) (g.K.Sink.written c.write_status_line.new.sink)) text
+    (c.write_status_line.ensures.all done)
 
 pub returns-clause-part : goal.returns-clause-part
 returns-clause-part g c stopped =
-    let text = c.deref.ensures.value ∙ gen-is c.args.number c.args.size c.in-Ok.tally c.in-Ok-summary_text.text.items c.in-Ok.ensures c.in-Ok-summary_text.ensures in
+    let text = c.deref.ensures.value
+    ∙ gen-is c.args.number c.args.size c.in-Ok.tally c.in-Ok-summary_text.text.items c.in-Ok.ensures
+    c.in-Ok-summary_text.ensures in
     let says = c.write_status_line.ensures in
     subst (AppendsPart (g.K.Sink.written c.args.sink.now) (g.K.Sink.written c.write_status_line.new.sink)) text
     (elim stopped [

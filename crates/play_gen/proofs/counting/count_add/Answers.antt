@@ -11,9 +11,12 @@ returns-in-Some g c functions r h =
     let read : List ActorPart = of_actor 0 (Read Global c.args.object) ∷ [] in
     let sum : List ActorPart = of_actor 0 (WriteSum Global c.args.object c.args.amount) ∷ [] in
     let first = c.in_ok-reply.ensures.counts functions r (Read Global c.args.object) tt refl h in
-    let told : c.sum_request.result ≡ sum_request 0 c.args.object c.args.amount (value_read c.in_ok-reply.reply) = search rules in
-    let asks = ap (λ (y : Reply). sum_request 0 c.args.object c.args.amount (value_read y)) (sym (c.in_ok-reply.ensures.reply r.standing.world h.world_stands)) ∙ sym told ∙ c.in-Some.is in
-    let second = c.in_ok-count_call-in-Some.ensures.counts functions (parts_after functions r read) (WriteSum Global c.args.object c.args.amount) tt asks first.facts in
+    let told : c.sum_request.result ≡ sum_request 0 c.args.object c.args.amount (value_read c.in_ok-reply.reply) =
+    search rules in
+    let asks = ap (λ (y : Reply). sum_request 0 c.args.object c.args.amount (value_read y))
+    (sym (c.in_ok-reply.ensures.reply r.standing.world h.world_stands)) ∙ sym told ∙ c.in-Some.is in
+    let second = c.in_ok-count_call-in-Some.ensures.counts functions (parts_after functions r read)
+    (WriteSum Global c.args.object c.args.amount) tt asks first.facts in
     counts_then None None c.args.counting.now.tally r read sum first second
 
 pub returns : goal.returns
@@ -21,7 +24,10 @@ returns g c functions r h =
     let read : List ActorPart = of_actor 0 (Read Global c.args.object) ∷ [] in
     let sum : List ActorPart = of_actor 0 (WriteSum Global c.args.object c.args.amount) ∷ [] in
     let first = c.in_ok-reply.ensures.counts functions r (Read Global c.args.object) tt refl h in
-    let told : c.sum_request.result ≡ sum_request 0 c.args.object c.args.amount (value_read c.in_ok-reply.reply) = search rules in
-    let asks = ap (λ (y : Reply). sum_request 0 c.args.object c.args.amount (value_read y)) (sym (c.in_ok-reply.ensures.reply r.standing.world h.world_stands)) ∙ sym told ∙ c.in-None.is in
+    let told : c.sum_request.result ≡ sum_request 0 c.args.object c.args.amount (value_read c.in_ok-reply.reply) =
+    search rules in
+    let asks = ap (λ (y : Reply). sum_request 0 c.args.object c.args.amount (value_read y))
+    (sym (c.in_ok-reply.ensures.reply r.standing.world h.world_stands)) ∙ sym told ∙ c.in-None.is in
     counts_then None None c.args.counting.now.tally r read sum first
-    (counts_no_call c.count_call.new.counting None (parts_after functions r read) (WriteSum Global c.args.object c.args.amount) first.facts asks)
+    (counts_no_call c.count_call.new.counting None (parts_after functions r read)
+    (WriteSum Global c.args.object c.args.amount) first.facts asks)

@@ -4,4 +4,5 @@ use Rattle.script_lang.specs.StepCalls.{Write}
 use Rattle.play_gen.proofs.counting.count_write.Goals as goal
 
 pub returns : goal.returns
-returns g c functions r h = c.in_ok-count_call.ensures.counts functions r (Write Global c.args.object c.args.value) tt refl h
+returns g c functions r h =
+    c.in_ok-count_call.ensures.counts functions r (Write Global c.args.object c.args.value) tt refl h

@@ -22,8 +22,12 @@ returns g c =
     let parts = script_parts (actors_of script) script in
     let log = g.V.Versions.log c.args.world.now in
     let memory = c.in_ok-memory.ensures in
-    let fit = program-fits p.header states functions (subst (λ (q : declared). program_faults (program_view q) ≡ []) memory.program memory.composition.checked.fine) in
-    let run = opened {functions = functions} {stands = g.V.Versions.stands} {log = g.V.Versions.log} {world = c.set_up_world.new.world} {memory = c.in_ok-memory.memory} 0 states log fit c.set_up_world.ensures.log c.in_ok-set_up_world.ensures.opened memory.composition (ap functions_of memory.program) memory.names in
+    let fit = program-fits p.header states functions
+    (subst (λ (q : declared). program_faults (program_view q) ≡ []) memory.program
+    memory.composition.checked.fine) in
+    let run = opened {functions = functions} {stands = g.V.Versions.stands} {log = g.V.Versions.log}
+    {world = c.set_up_world.new.world} {memory = c.in_ok-memory.memory} 0 states log fit c.set_up_world.ensures.log
+    c.in_ok-set_up_world.ensures.opened memory.composition (ap functions_of memory.program) memory.names in
     let counts = c.in_ok-count_steps.ensures functions (first_run states log) run.facts in
     counts.counted
     ∙ ap (λ t. parts_counted functions t (first_run states log) parts) c.new-tally.ensures

@@ -13,5 +13,7 @@ count_rounds-requires-clause-rows g c = sym (ap length c.in_ok-items.ensures ∙
 pub returns : goal.returns
 returns g c functions r h =
     let first = c.in_ok-count_frame.ensures functions r h in
-    then_ok _ _ c.count_rounds.result None None c.args.counting.now.tally r frame_parts (forms_parts (rounds c.args.size c.args.size c.new.result c.in_ok-items.items)) _
-    (script_is c.args.number c.args.size c.new.result c.in_ok-items.items c.new.ensures c.in_ok-items.ensures) first (c.count_rounds.ensures functions (parts_after functions r frame_parts) first.facts)
+    then_ok _ _ c.count_rounds.result None None c.args.counting.now.tally r frame_parts
+    (forms_parts (rounds c.args.size c.args.size c.new.result c.in_ok-items.items)) _
+    (script_is c.args.number c.args.size c.new.result c.in_ok-items.items c.new.ensures c.in_ok-items.ensures) first
+    (c.count_rounds.ensures functions (parts_after functions r frame_parts) first.facts)

@@ -12,8 +12,10 @@ loop-form-preserved g c = record {
       let run = c.loop-form.invariant.runs frame r h in
       let here = parts_of c.args.actor.number (call_parts c.in-Some.form.now) in
       let rest = parts_of c.args.actor.number (calls_parts c.in-Some.more.now) in
-      let split = ap (λ l. parts_of c.args.actor.number (calls_parts l)) c.in-Some.ensures.cases.0 ∙ parts_append c.args.actor.number (call_parts c.in-Some.form.now) (calls_parts c.in-Some.more.now) in
-      let both = loop_next (job_style c.args.actor.job.now c.args.actor.flags) (job_functions c.args.actor.job.now) c.args.actor.number frame _ _ _ r run.0 here rest _ _ split run.1 run.2
+      let split = ap (λ l. parts_of c.args.actor.number (calls_parts l)) c.in-Some.ensures.cases.0
+      ∙ parts_append c.args.actor.number (call_parts c.in-Some.form.now) (calls_parts c.in-Some.more.now) in
+      let both = loop_next (job_style c.args.actor.job.now c.args.actor.flags) (job_functions c.args.actor.job.now)
+      c.args.actor.number frame _ _ _ r run.0 here rest _ _ split run.1 run.2
       (c.in-Ok.ensures.runs frame (parts_after (job_functions c.args.actor.job.now) r run.0) run.2.left) in
       (run.0 ++ here, both.0, both.1);
 }
@@ -23,6 +25,8 @@ returns-in-Err-clause-runs g c frame r h =
     let run = c.loop-form.invariant.runs frame r h in
     let here = parts_of c.args.actor.number (call_parts c.in-Some.form.now) in
     let rest = parts_of c.args.actor.number (calls_parts c.in-Some.more.now) in
-    let split = ap (λ l. parts_of c.args.actor.number (calls_parts l)) c.in-Some.ensures.cases.0 ∙ parts_append c.args.actor.number (call_parts c.in-Some.form.now) (calls_parts c.in-Some.more.now) in
-    loop_stopped (job_style c.args.actor.job.now c.args.actor.flags) (job_functions c.args.actor.job.now) c.args.actor.number frame _ _ _ r run.0 here rest _ _ c.in-Err.stop split run.1 run.2
+    let split = ap (λ l. parts_of c.args.actor.number (calls_parts l)) c.in-Some.ensures.cases.0
+    ∙ parts_append c.args.actor.number (call_parts c.in-Some.form.now) (calls_parts c.in-Some.more.now) in
+    loop_stopped (job_style c.args.actor.job.now c.args.actor.flags) (job_functions c.args.actor.job.now)
+    c.args.actor.number frame _ _ _ r run.0 here rest _ _ c.in-Err.stop split run.1 run.2
     (c.in-Err.ensures.runs frame (parts_after (job_functions c.args.actor.job.now) r run.0) run.2.left)

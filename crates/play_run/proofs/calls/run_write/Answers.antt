@@ -4,4 +4,5 @@ use Rattle.play_run.proofs.calls.run_write.Goals as goal
 
 pub returns-clause-runs : goal.returns-clause-runs
 returns-clause-runs g c frame r p keeps h is =
-    c.run_single.ensures.runs frame r p keeps h (is ∙ ap (λ v. Some (request.Write c.args.name c.args.object v)) (sym c.in-Ok.ensures.same))
+    c.run_single.ensures.runs frame r p keeps h
+    (is ∙ ap (λ v. Some (request.Write c.args.name c.args.object v)) (sym c.in-Ok.ensures.same))

@@ -24,27 +24,40 @@ returns-clause-log g c k m shows h =
     let a = c.args.caller in
     let name = c.args.name in
     let result = c.compose_in.result in
-    let told = subst (λ n. LogsReadsIn (g.V.Versions.log desk.world.now) (g.V.Versions.log ended.world.now) n (Some name) keeps.more) c.new-desk.ensures.rest.0
-    (subst (λ o. LogsReadsIn (g.V.Versions.log desk.world.now) (g.V.Versions.log ended.world.now) desk.caller o keeps.more) c.new-desk.ensures.rest.1 keeps.tells) in
+    let told = subst (λ n. LogsReadsIn (g.V.Versions.log desk.world.now) (g.V.Versions.log ended.world.now) n
+    (Some name) keeps.more) c.new-desk.ensures.rest.0
+    (subst (λ o. LogsReadsIn (g.V.Versions.log desk.world.now) (g.V.Versions.log ended.world.now) desk.caller o
+    keeps.more) c.new-desk.ensures.rest.1 keeps.tells) in
     let read : OnOk result (LogsFrameReads fs (g.V.Versions.stands desk.world.now) a name k m (g.V.Versions.log desk.world.now) (g.V.Versions.log ended.world.now)) =
-    result_logged fs (g.V.Versions.stands desk.world.now) a name k m result (g.V.Versions.log desk.world.now) (g.V.Versions.log ended.world.now) desk.asked.now ended.asked.now keeps.more keeps.asks told keeps.legal
+    result_logged fs (g.V.Versions.stands desk.world.now) a name k m result (g.V.Versions.log desk.world.now)
+    (g.V.Versions.log ended.world.now) desk.asked.now ended.asked.now keeps.more keeps.asks told keeps.legal
     (c.compose_in.ensures.asks k m h (search rules)) (c.compose_in.ensures.told k m h (search rules)) in
-    subst (λ l. OnOk result (LogsFrameReads fs (g.V.Versions.stands c.args.world.now) a name k m (g.V.Versions.log c.args.world.now) l)) (search rules)
-    (subst (λ w. OnOk result (LogsFrameReads fs (g.V.Versions.stands w) a name k m (g.V.Versions.log w) (g.V.Versions.log ended.world.now))) c.new-desk.ensures.world read)
+    subst (λ l. OnOk result (LogsFrameReads fs (g.V.Versions.stands c.args.world.now) a name k m
+    (g.V.Versions.log c.args.world.now) l)) (search rules)
+    (subst (λ w. OnOk result (LogsFrameReads fs (g.V.Versions.stands w) a name k m (g.V.Versions.log w)
+    (g.V.Versions.log ended.world.now))) c.new-desk.ensures.world read)
 
 pub returns-clause-reads : goal.returns-clause-reads
 returns-clause-reads g c =
     let keeps = c.compose_in.ensures.keeps in
     let desk = c.new-desk.result in
     let ended = c.compose_in.new.view in
-    let told = subst (λ n. LogsReadsIn (g.V.Versions.log desk.world.now) (g.V.Versions.log ended.world.now) n (Some c.args.name) keeps.more) c.new-desk.ensures.rest.0
-    (subst (λ o. LogsReadsIn (g.V.Versions.log desk.world.now) (g.V.Versions.log ended.world.now) desk.caller o keeps.more) c.new-desk.ensures.rest.1 keeps.tells) in
-    (keeps.more, subst (λ l. LogsReadsIn (g.V.Versions.log c.args.world.now) l c.args.caller (Some c.args.name) keeps.more) (search rules)
-    (subst (λ w. LogsReadsIn (g.V.Versions.log w) (g.V.Versions.log ended.world.now) c.args.caller (Some c.args.name) keeps.more) c.new-desk.ensures.world told))
+    let told = subst (λ n. LogsReadsIn (g.V.Versions.log desk.world.now) (g.V.Versions.log ended.world.now) n
+    (Some c.args.name) keeps.more) c.new-desk.ensures.rest.0
+    (subst (λ o. LogsReadsIn (g.V.Versions.log desk.world.now) (g.V.Versions.log ended.world.now) desk.caller o
+    keeps.more) c.new-desk.ensures.rest.1 keeps.tells) in (
+      keeps.more,
+      subst (λ l. LogsReadsIn (g.V.Versions.log c.args.world.now) l c.args.caller (Some c.args.name)
+          keeps.more) (search rules)
+          (subst (λ w. LogsReadsIn (g.V.Versions.log w) (g.V.Versions.log ended.world.now) c.args.caller (Some c.args.name)
+          keeps.more) c.new-desk.ensures.world told),
+    )
 
 pub returns-clause-legal : goal.returns-clause-legal
 returns-clause-legal g c =
     let desk = c.new-desk.result in
     let ended = c.compose_in.new.view in
-    subst (λ l. AreLegal table (g.V.Versions.stands c.args.world.now) (g.V.Versions.log c.args.world.now) l) (search rules)
-    (subst (λ w. AreLegal table (g.V.Versions.stands w) (g.V.Versions.log w) (g.V.Versions.log ended.world.now)) c.new-desk.ensures.world c.compose_in.ensures.keeps.legal)
+    subst (λ l. AreLegal table (g.V.Versions.stands c.args.world.now) (g.V.Versions.log c.args.world.now) l)
+    (search rules)
+    (subst (λ w. AreLegal table (g.V.Versions.stands w) (g.V.Versions.log w) (g.V.Versions.log ended.world.now))
+    c.new-desk.ensures.world c.compose_in.ensures.keeps.legal)

@@ -4,17 +4,20 @@ use Rattle.play_run.proofs.frame.recompose.Goals as goal
 
 pub returns-then-flags-clause-calls : goal.returns-then-flags-clause-calls
 returns-then-flags-clause-calls g c k m h shows =
-    calls_made c.args.flags k _ c.recompose_with.new.self.ops _ _ c.recompose_with.result (c.recompose_with.ensures.applied k m h shows)
+    calls_made c.args.flags k _ c.recompose_with.new.self.ops _ _ c.recompose_with.result
+    (c.recompose_with.ensures.applied k m h shows)
 
 pub returns-then-flags-clause-err : goal.returns-then-flags-clause-err
-returns-then-flags-clause-err g c = still_same (c.recompose_with.new.self ≡ c.args.composition.now) c.recompose_with.result c.recompose_with.ensures.cause c.recompose_with.ensures.err
+returns-then-flags-clause-err g c = still_same (c.recompose_with.new.self ≡ c.args.composition.now)
+    c.recompose_with.result c.recompose_with.ensures.cause c.recompose_with.ensures.err
 
 pub returns-then-flags-clause-no_fault : goal.returns-then-flags-clause-no_fault
 returns-then-flags-clause-no_fault g c on = no_fault c.recompose_with.result c.recompose_with.ensures.cause
 
 pub returns-clause-calls : goal.returns-clause-calls
 returns-clause-calls g c k m h shows =
-    calls_unseen c.args.flags k _ c.recompose.new.self.ops c.recompose.result (λ on. let e : true ≡ false = sym on ∙ c.if-flags.false in absurd cc)
+    calls_unseen c.args.flags k _ c.recompose.new.self.ops c.recompose.result
+    (λ on. let e : true ≡ false = sym on ∙ c.if-flags.false in absurd cc)
 
 pub returns-clause-no_fault : goal.returns-clause-no_fault
 returns-clause-no_fault g c on =

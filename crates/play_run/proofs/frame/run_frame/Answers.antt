@@ -7,8 +7,11 @@ use Rattle.play_run.proofs.frame.run_frame.Goals as goal
 
 pub returns-in-Err-clause-runs : goal.returns-in-Err-clause-runs
 returns-in-Err-clause-runs g c r h =
-    runs_stopped (job_style c.args.actor.job.now c.args.actor.flags) (job_functions c.args.actor.job.now) c.args.actor.number {world' = c.begin_frame.new.world} {memory' = c.begin_frame.new.memory} None None _ _ r c.in-Err.stop c.in-Err.stop
-    (parts_of c.args.actor.number (BeginFrame ∷ [])) (parts_of c.args.actor.number (calls_parts c.args.during.now ++ EndFrame ∷ []))
+    runs_stopped (job_style c.args.actor.job.now c.args.actor.flags) (job_functions c.args.actor.job.now)
+    c.args.actor.number {world' = c.begin_frame.new.world} {memory' = c.begin_frame.new.memory} None None _ _ r
+    c.in-Err.stop c.in-Err.stop
+    (parts_of c.args.actor.number (BeginFrame ∷ []))
+    (parts_of c.args.actor.number (calls_parts c.args.during.now ++ EndFrame ∷ []))
     (record { says = c.in-Err.ensures.says r h; left = tt; stops = c.in-Err.ensures.stops r h })
 
 pub returns-in-Ok-run_calls-clause-runs : goal.returns-in-Ok-run_calls-clause-runs
@@ -21,11 +24,16 @@ returns-in-Ok-run_calls-clause-runs g c r h =
     let after_take = parts_after fs r (parts_of a (BeginFrame ∷ [])) in
     let second = c.in-Ok-run_calls.ensures.runs c.in-Ok.frame after_take begun in
     let third = c.end_frame.ensures.runs (parts_after fs after_take calls) second.left in
-    runs_same t fs a None _ _ r c.end_frame.result (parts_of a (BeginFrame ∷ []) ++ (calls ++ parts_of a (EndFrame ∷ []))) _
+    runs_same t fs a None _ _ r c.end_frame.result
+    (parts_of a (BeginFrame ∷ []) ++ (calls ++ parts_of a (EndFrame ∷ []))) _
     (ap (λ l. parts_of a (BeginFrame ∷ []) ++ l) (sym (parts_append a (calls_parts c.args.during.now) (EndFrame ∷ []))))
-    (runs_then t fs a {world' = c.begin_frame.new.world} {memory' = c.begin_frame.new.memory} c.in-Ok.frame None _ (g.K.Sink.written c.begin_frame.new.sink) _ r (tt {0}) c.end_frame.result (parts_of a (BeginFrame ∷ [])) (calls ++ parts_of a (EndFrame ∷ []))
+    (runs_then t fs a {world' = c.begin_frame.new.world} {memory' = c.begin_frame.new.memory} c.in-Ok.frame None _
+    (g.K.Sink.written c.begin_frame.new.sink) _ r (tt {0}) c.end_frame.result (parts_of a (BeginFrame ∷ []))
+    (calls ++ parts_of a (EndFrame ∷ []))
     (record { says = record { all = (c.in-Ok.ensures.says r h).all; part = tt }; left = begun; stops = tt })
-    (runs_then t fs a {world' = c.run_calls.new.world} {memory' = c.run_calls.new.memory} c.in-Ok.frame None (g.K.Sink.written c.begin_frame.new.sink) (g.K.Sink.written c.run_calls.new.sink) _ after_take tt c.end_frame.result calls (parts_of a (EndFrame ∷ [])) second third))
+    (runs_then t fs a {world' = c.run_calls.new.world} {memory' = c.run_calls.new.memory} c.in-Ok.frame None
+    (g.K.Sink.written c.begin_frame.new.sink) (g.K.Sink.written c.run_calls.new.sink) _ after_take tt
+    c.end_frame.result calls (parts_of a (EndFrame ∷ [])) second third))
 
 pub returns-in-Err-run_calls-clause-runs : goal.returns-in-Err-run_calls-clause-runs
 returns-in-Err-run_calls-clause-runs g c r h =
@@ -36,8 +44,13 @@ returns-in-Err-run_calls-clause-runs g c r h =
     let begun = c.in-Ok.ensures.left r h in
     let after_take = parts_after fs r (parts_of a (BeginFrame ∷ [])) in
     let second = c.in-Err-run_calls.ensures.runs c.in-Ok.frame after_take begun in
-    runs_same t fs a None _ _ r (Err c.in-Err-run_calls.stop) (parts_of a (BeginFrame ∷ []) ++ (calls ++ parts_of a (EndFrame ∷ []))) _
+    runs_same t fs a None _ _ r (Err c.in-Err-run_calls.stop)
+    (parts_of a (BeginFrame ∷ []) ++ (calls ++ parts_of a (EndFrame ∷ []))) _
     (ap (λ l. parts_of a (BeginFrame ∷ []) ++ l) (sym (parts_append a (calls_parts c.args.during.now) (EndFrame ∷ []))))
-    (runs_then t fs a {world' = c.begin_frame.new.world} {memory' = c.begin_frame.new.memory} c.in-Ok.frame None _ (g.K.Sink.written c.begin_frame.new.sink) _ r (tt {0}) (Err c.in-Err-run_calls.stop) (parts_of a (BeginFrame ∷ [])) (calls ++ parts_of a (EndFrame ∷ []))
+    (runs_then t fs a {world' = c.begin_frame.new.world} {memory' = c.begin_frame.new.memory} c.in-Ok.frame None _
+    (g.K.Sink.written c.begin_frame.new.sink) _ r (tt {0}) (Err c.in-Err-run_calls.stop)
+    (parts_of a (BeginFrame ∷ [])) (calls ++ parts_of a (EndFrame ∷ []))
     (record { says = record { all = (c.in-Ok.ensures.says r h).all; part = tt }; left = begun; stops = tt })
-    (runs_stopped t fs a {world' = c.run_calls.new.world} {memory' = c.run_calls.new.memory} c.in-Ok.frame None (g.K.Sink.written c.begin_frame.new.sink) _ after_take c.in-Err-run_calls.stop c.in-Err-run_calls.stop calls (parts_of a (EndFrame ∷ [])) second))
+    (runs_stopped t fs a {world' = c.run_calls.new.world} {memory' = c.run_calls.new.memory} c.in-Ok.frame None
+    (g.K.Sink.written c.begin_frame.new.sink) _ after_take c.in-Err-run_calls.stop c.in-Err-run_calls.stop calls
+    (parts_of a (EndFrame ∷ [])) second))

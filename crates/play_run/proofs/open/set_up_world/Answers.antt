@@ -8,9 +8,11 @@ use Rattle.play_run.proofs.open.set_up_world.Goals as goal
 pub open_world-requires-clause-fit : goal.open_world-requires-clause-fit
 open_world-requires-clause-fit g c =
     subst StatesFit (sym c.states.ensures.states)
-    (program-fits c.args.program.now.header c.args.program.now.states.items (functions_view c.args.program.now.functions.items) c.states.ensures.checked.fine)
+    (program-fits c.args.program.now.header c.args.program.now.states.items
+    (functions_view c.args.program.now.functions.items) c.states.ensures.checked.fine)
 
 pub open_world-requires-clause-few : goal.open_world-requires-clause-few
 open_world-requires-clause-few g c =
     subst (λ ss. length ss ≤ 256) (sym c.states.ensures.states)
-    (few_states c.args.program.now.states.items (functions_view c.args.program.now.functions.items) c.args.program.now.small)
+    (few_states c.args.program.now.states.items (functions_view c.args.program.now.functions.items)
+    c.args.program.now.small)

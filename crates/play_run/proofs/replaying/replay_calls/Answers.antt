@@ -14,14 +14,18 @@ loop-call-preserved g c =
     let steps = c.in-Some.ensures.steps.0 in
     record {
       faults = c.in-Ok.ensures.faults ∙ c.loop-call.invariant.faults;
-      counted = (let was = c.loop-call.invariant.counted in let gone = c.in-Some.ensures.steps.1 in let short = ap length steps in omega arith);
-      plays = λ s at legal turn. replayed_next c.in-Some.call _ c.in-Ok.left steps (c.loop-call.invariant.plays s at legal turn) c.in-Ok.ensures.plays;
+      counted = (let was = c.loop-call.invariant.counted in let gone = c.in-Some.ensures.steps.1 in
+          let short = ap length steps in omega arith);
+      plays = λ s at legal turn. replayed_next c.in-Some.call _ c.in-Ok.left steps
+          (c.loop-call.invariant.plays s at legal turn) c.in-Ok.ensures.plays;
     }
 
 pub returns-in-Err-clause-says : goal.returns-in-Err-clause-says
 returns-in-Err-clause-says g c s at legal turn =
-    replayed_stopped c.in-Some.call _ c.in-Err.stop c.in-Some.ensures.steps.0 (c.loop-call.invariant.plays s at legal turn) c.in-Err.ensures.plays
+    replayed_stopped c.in-Some.call _ c.in-Err.stop c.in-Some.ensures.steps.0
+    (c.loop-call.invariant.plays s at legal turn) c.in-Err.ensures.plays
 
 pub returns-clause-says : goal.returns-clause-says
 returns-clause-says g c s at legal turn =
-    replayed_all _ (sym c.loop-call.invariant.counted ∙ c.in-None.ensures.steps.0) (c.loop-call.invariant.plays s at legal turn)
+    replayed_all _ (sym c.loop-call.invariant.counted ∙ c.in-None.ensures.steps.0)
+    (c.loop-call.invariant.plays s at legal turn)

@@ -15,7 +15,10 @@ abbrev pub invariant-loop-call : goal.invariant-loop-call
 invariant-loop-call g l = record {
   faults : g.K.Sink.faults l.sink ≡ g.K.Sink.faults l.fn.sink;
   counted : into_iter_len l.call-iterator ≡ length (into_iter_items l.call-iterator);
-  plays : (s : Standing) → IsReplay (job_functions l.job) l.fn.memory None s → IsLegal table s.world l.fn.calls.items → AreInTurn None (printed_history l.fn.calls.items) →
-      Replayed (job_style l.job l.flags) (job_functions l.job) l.memory l.frame (g.K.Sink.written l.fn.sink) (g.K.Sink.written l.sink)
-      (flat (lines (job_style l.job l.flags) (job_functions l.job) s (printed_history l.fn.calls.items))) (into_iter_items l.call-iterator);
+  plays : (s : Standing) → IsReplay (job_functions l.job) l.fn.memory None s → IsLegal table s.world l.fn.calls.items
+      → AreInTurn None (printed_history l.fn.calls.items) →
+      Replayed (job_style l.job l.flags) (job_functions l.job) l.memory l.frame (g.K.Sink.written l.fn.sink)
+      (g.K.Sink.written l.sink)
+      (flat (lines (job_style l.job l.flags) (job_functions l.job) s (printed_history l.fn.calls.items)))
+      (into_iter_items l.call-iterator);
 }

@@ -16,9 +16,12 @@ loop-left-preserved g c = record {
       let a = c.args.actor.number in
       let here = parts_of a (steps_parts c.args.steps.now) in
       let rest = parts_of a (steps_parts (repeated_steps (c.loop-left.left - 1) c.args.steps.now)) in
-      let split = ap (λ l. parts_of a (steps_parts l)) (repeated_first c.loop-left.left c.args.steps.now positive) ∙ ap (parts_of a) (steps_append c.args.steps.now (repeated_steps (c.loop-left.left - 1) c.args.steps.now))
-      ∙ parts_append a (steps_parts c.args.steps.now) (steps_parts (repeated_steps (c.loop-left.left - 1) c.args.steps.now)) in
-      let both = loop_next (job_style c.args.actor.job.now c.args.actor.flags) (job_functions c.args.actor.job.now) a None _ _ _ r run.0 here rest _ _ split run.1 run.2
+      let split = ap (λ l. parts_of a (steps_parts l)) (repeated_first c.loop-left.left c.args.steps.now positive)
+      ∙ ap (parts_of a) (steps_append c.args.steps.now (repeated_steps (c.loop-left.left - 1) c.args.steps.now))
+      ∙ parts_append a (steps_parts c.args.steps.now)
+      (steps_parts (repeated_steps (c.loop-left.left - 1) c.args.steps.now)) in
+      let both = loop_next (job_style c.args.actor.job.now c.args.actor.flags) (job_functions c.args.actor.job.now) a
+      None _ _ _ r run.0 here rest _ _ split run.1 run.2
       (c.in-Ok.ensures.runs (parts_after (job_functions c.args.actor.job.now) r run.0) run.2.left) in
       (run.0 ++ here, both.0, both.1);
 }
@@ -31,9 +34,12 @@ returns-in-Err-clause-runs g c r h =
     let a = c.args.actor.number in
     let here = parts_of a (steps_parts c.args.steps.now) in
     let rest = parts_of a (steps_parts (repeated_steps (c.loop-left.left - 1) c.args.steps.now)) in
-    let split = ap (λ l. parts_of a (steps_parts l)) (repeated_first c.loop-left.left c.args.steps.now positive) ∙ ap (parts_of a) (steps_append c.args.steps.now (repeated_steps (c.loop-left.left - 1) c.args.steps.now))
-    ∙ parts_append a (steps_parts c.args.steps.now) (steps_parts (repeated_steps (c.loop-left.left - 1) c.args.steps.now)) in
-    loop_stopped (job_style c.args.actor.job.now c.args.actor.flags) (job_functions c.args.actor.job.now) a None _ _ _ r run.0 here rest _ _ c.in-Err.stop split run.1 run.2
+    let split = ap (λ l. parts_of a (steps_parts l)) (repeated_first c.loop-left.left c.args.steps.now positive)
+    ∙ ap (parts_of a) (steps_append c.args.steps.now (repeated_steps (c.loop-left.left - 1) c.args.steps.now))
+    ∙ parts_append a (steps_parts c.args.steps.now)
+    (steps_parts (repeated_steps (c.loop-left.left - 1) c.args.steps.now)) in
+    loop_stopped (job_style c.args.actor.job.now c.args.actor.flags) (job_functions c.args.actor.job.now) a None _ _ _ r
+    run.0 here rest _ _ c.in-Err.stop split run.1 run.2
     (c.in-Err.ensures.runs (parts_after (job_functions c.args.actor.job.now) r run.0) run.2.left)
 
 pub returns-clause-runs : goal.returns-clause-runs
@@ -42,5 +48,7 @@ returns-clause-runs g c r h =
     let test = c.loop-left-test.false in
     let none : c.loop-left.left ≡ 0 = omega (arith, test) in
     let a = c.args.actor.number in
-    runs_same (job_style c.args.actor.job.now c.args.actor.flags) (job_functions c.args.actor.job.now) a None _ _ r (Ok (tt {0})) run.0 _
-    (sym (append-nil run.0) ∙ ap (λ n. run.0 ++ parts_of a (steps_parts (repeated_steps n c.args.steps.now))) (sym none) ∙ run.1) run.2
+    runs_same (job_style c.args.actor.job.now c.args.actor.flags) (job_functions c.args.actor.job.now) a None _ _ r
+    (Ok (tt {0})) run.0 _
+    (sym (append-nil run.0) ∙ ap (λ n. run.0 ++ parts_of a (steps_parts (repeated_steps n c.args.steps.now))) (sym none)
+    ∙ run.1) run.2

@@ -12,8 +12,10 @@ loop-step-preserved g c = record {
       let run = c.loop-step.invariant.runs r h in
       let here = parts_of c.args.actor.number (step_parts c.in-Some.step.now) in
       let rest = parts_of c.args.actor.number (steps_parts c.in-Some.more.now) in
-      let split = ap (λ l. parts_of c.args.actor.number (steps_parts l)) c.in-Some.ensures.cases.0 ∙ parts_append c.args.actor.number (step_parts c.in-Some.step.now) (steps_parts c.in-Some.more.now) in
-      let both = loop_next (job_style c.args.actor.job.now c.args.actor.flags) (job_functions c.args.actor.job.now) c.args.actor.number None _ _ _ r run.0 here rest _ _ split run.1 run.2
+      let split = ap (λ l. parts_of c.args.actor.number (steps_parts l)) c.in-Some.ensures.cases.0
+      ∙ parts_append c.args.actor.number (step_parts c.in-Some.step.now) (steps_parts c.in-Some.more.now) in
+      let both = loop_next (job_style c.args.actor.job.now c.args.actor.flags) (job_functions c.args.actor.job.now)
+      c.args.actor.number None _ _ _ r run.0 here rest _ _ split run.1 run.2
       (c.in-Ok.ensures.runs (parts_after (job_functions c.args.actor.job.now) r run.0) run.2.left) in
       (run.0 ++ here, both.0, both.1);
 }
@@ -23,6 +25,8 @@ returns-in-Err-clause-runs g c r h =
     let run = c.loop-step.invariant.runs r h in
     let here = parts_of c.args.actor.number (step_parts c.in-Some.step.now) in
     let rest = parts_of c.args.actor.number (steps_parts c.in-Some.more.now) in
-    let split = ap (λ l. parts_of c.args.actor.number (steps_parts l)) c.in-Some.ensures.cases.0 ∙ parts_append c.args.actor.number (step_parts c.in-Some.step.now) (steps_parts c.in-Some.more.now) in
-    loop_stopped (job_style c.args.actor.job.now c.args.actor.flags) (job_functions c.args.actor.job.now) c.args.actor.number None _ _ _ r run.0 here rest _ _ c.in-Err.stop split run.1 run.2
+    let split = ap (λ l. parts_of c.args.actor.number (steps_parts l)) c.in-Some.ensures.cases.0
+    ∙ parts_append c.args.actor.number (step_parts c.in-Some.step.now) (steps_parts c.in-Some.more.now) in
+    loop_stopped (job_style c.args.actor.job.now c.args.actor.flags) (job_functions c.args.actor.job.now)
+    c.args.actor.number None _ _ _ r run.0 here rest _ _ c.in-Err.stop split run.1 run.2
     (c.in-Err.ensures.runs (parts_after (job_functions c.args.actor.job.now) r run.0) run.2.left)

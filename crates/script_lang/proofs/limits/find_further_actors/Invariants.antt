@@ -3,7 +3,8 @@ use Rattle.script_lang.specs.ScriptFaults.{further_actors, first_of_faults}
 use Rattle.script_lang.proofs.limits.find_further_actors.Given as goal
 
 abbrev pub invariant-loop-form : goal.invariant-loop-form
-invariant-loop-form l = first_of_faults l.least (further_actors l.actors l.rest) ≡ first_of_faults l.initial.least (further_actors l.actors l.forms)
+invariant-loop-form l = first_of_faults l.least (further_actors l.actors l.rest)
+    ≡ first_of_faults l.initial.least (further_actors l.actors l.forms)
 
 abbrev pub decreases-loop-form : goal.decreases-loop-form
 decreases-loop-form l = length l.rest

@@ -3,7 +3,8 @@ use Rattle.script_lang.specs.Scripts.{forms_count}
 use Rattle.script_lang.proofs.limits.forms_count.Given as goal
 
 abbrev pub invariant-loop-form : goal.invariant-loop-form
-invariant-loop-form l = (l.count < 2 ^ 64) × (min (l.count + forms_count l.rest) (2 ^ 64 - 1) ≡ min (forms_count l.forms) (2 ^ 64 - 1))
+invariant-loop-form l =
+    (l.count < 2 ^ 64) × (min (l.count + forms_count l.rest) (2 ^ 64 - 1) ≡ min (forms_count l.forms) (2 ^ 64 - 1))
 
 abbrev pub decreases-loop-form : goal.decreases-loop-form
 decreases-loop-form l = length l.rest

@@ -3,7 +3,8 @@ use Rattle.script_lang.specs.Scripts.{index_of}
 use Rattle.script_lang.proofs.limits.index_of.Given as goal
 
 abbrev pub invariant-loop-other : goal.invariant-loop-other
-invariant-loop-other l = (l.index + length l.rest ≡ length l.names) × (l.index + index_of l.name l.rest ≡ index_of l.name l.names)
+invariant-loop-other l =
+    (l.index + length l.rest ≡ length l.names) × (l.index + index_of l.name l.rest ≡ index_of l.name l.names)
 
 abbrev pub decreases-loop-other : goal.decreases-loop-other
 decreases-loop-other l = length l.rest

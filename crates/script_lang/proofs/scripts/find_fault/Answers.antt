@@ -5,8 +5,14 @@ use Rattle.script_lang.proofs.scripts.find_fault.Goals as goal
 
 pub returns : goal.returns
 returns c named =
-    let at = c.in_ok-check_script.ensures c.args.threads c.args.states.now (record { uses = no_uses; least = c.find_all_wrong_repeats-least.result }) c.new-check.ensures in
+    let at = c.in_ok-check_script.ensures c.args.threads c.args.states.now
+    (record { uses = no_uses; least = c.find_all_wrong_repeats-least.result }) c.new-check.ensures in
     let steps = text_script c.args.actors.now c.args.forms.now in
-    let lists = five_lists (oversized_faults c.args.first_oversized) (long_forms most_steps c.args.forms.now) (further_actors c.args.actors.now c.args.forms.now) (forms_wrong_repeats c.args.forms.now) (steps_faults c.args.threads c.args.states.now no_uses steps) in
-    at.2 ∙ scanned c.args.threads c.args.states.now (record { uses = no_uses; least = c.find_all_wrong_repeats-least.result }) steps
-    ∙ rw c.find_all_wrong_repeats-least.ensures (rw c.find_further_actors-least.ensures (rw c.find_long_forms-least.ensures (rw c.oversized_fault-least.ensures (rw (sym named) lists))))
+    let lists = five_lists (oversized_faults c.args.first_oversized) (long_forms most_steps c.args.forms.now)
+    (further_actors c.args.actors.now c.args.forms.now) (forms_wrong_repeats c.args.forms.now)
+    (steps_faults c.args.threads c.args.states.now no_uses steps) in
+    at.2 ∙ scanned c.args.threads c.args.states.now
+    (record { uses = no_uses; least = c.find_all_wrong_repeats-least.result }) steps
+    ∙ rw c.find_all_wrong_repeats-least.ensures
+    (rw c.find_further_actors-least.ensures
+    (rw c.find_long_forms-least.ensures (rw c.oversized_fault-least.ensures (rw (sym named) lists))))

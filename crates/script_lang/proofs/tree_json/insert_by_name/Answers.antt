@@ -8,15 +8,19 @@ pub returns-in-Less : goal.returns-in-Less
 returns-in-Less c =
     let low : c.loop-index.index < length c.loop-index.sorted.items = search rules in
     ap sorted_members c.in_ok-insert-in-Less.ensures.items
-    ∙ put_less c.loop-index.sorted.items c.loop-index.index c.args.attribute c.index.result.now low c.index.ensures (sym c.compare_names.ensures ∙ c.in-Less.is)
+    ∙ put_less c.loop-index.sorted.items c.loop-index.index c.args.attribute c.index.result.now low c.index.ensures
+    (sym c.compare_names.ensures ∙ c.in-Less.is)
     ∙ c.loop-index.invariant.placed
 
 pub returns-in-Equal : goal.returns-in-Equal
 returns-in-Equal c =
     let low : c.loop-index.index < length c.loop-index.sorted.items = search rules in
     let next : suc c.loop-index.index ≡ c.loop-index.index + 1 = omega arith in
-    ap sorted_members (set_split c.loop-index.sorted.items c.loop-index.index c.args.attribute low ∙ ap (λ n. take c.loop-index.index c.loop-index.sorted.items ++ c.args.attribute ∷ drop n c.loop-index.sorted.items) next)
-    ∙ put_equal c.loop-index.sorted.items c.loop-index.index c.args.attribute c.index.result.now low c.index.ensures (sym c.compare_names.ensures ∙ c.in-Equal.is)
+    ap sorted_members (set_split c.loop-index.sorted.items c.loop-index.index c.args.attribute low
+    ∙ ap (λ n. take c.loop-index.index c.loop-index.sorted.items
+    ++ c.args.attribute ∷ drop n c.loop-index.sorted.items) next)
+    ∙ put_equal c.loop-index.sorted.items c.loop-index.index c.args.attribute c.index.result.now low c.index.ensures
+    (sym c.compare_names.ensures ∙ c.in-Equal.is)
     ∙ c.loop-index.invariant.placed
 
 pub loop-index-preserved : goal.loop-index-preserved
@@ -24,7 +28,8 @@ loop-index-preserved c =
     let low : c.loop-index.index < length c.loop-index.sorted.items = search rules in
     record {
       same = c.loop-index.invariant.same;
-      placed = put_greater c.loop-index.sorted.items c.loop-index.index c.args.attribute.now c.index.result.now low c.index.ensures (sym c.compare_names.ensures ∙ c.in-Greater.is) ∙ c.loop-index.invariant.placed;
+      placed = put_greater c.loop-index.sorted.items c.loop-index.index c.args.attribute.now c.index.result.now low
+          c.index.ensures (sym c.compare_names.ensures ∙ c.in-Greater.is) ∙ c.loop-index.invariant.placed;
     }
 
 pub returns : goal.returns

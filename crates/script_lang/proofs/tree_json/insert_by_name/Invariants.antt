@@ -7,6 +7,7 @@ use Rattle.script_lang.proofs.tree_json.insert_by_name.Given as goal
 abbrev pub invariant-loop-index : goal.invariant-loop-index
 invariant-loop-index l = record {
   same : l.sorted ≡ l.fn.sorted;
-  placed : members_then (take l.index l.sorted.items) (put l.attribute.name (value_data l.attribute.value) (sorted_members (drop l.index l.sorted.items)))
+  placed : members_then (take l.index l.sorted.items)
+      (put l.attribute.name (value_data l.attribute.value) (sorted_members (drop l.index l.sorted.items)))
       ≡ put l.attribute.name (value_data l.attribute.value) (sorted_members l.fn.sorted.items);
 }

@@ -6,7 +6,8 @@ use Rattle.script_lang.specs.SortedAttributes.{sorted_members}
 use Rattle.script_lang.proofs.tree_json.sort_by_name.Given as goal
 
 abbrev pub invariant-loop-attribute : goal.invariant-loop-attribute
-invariant-loop-attribute l = with_attributes (sorted_members l.sorted.items) (map plain_attribute l.rest) ≡ with_attributes no_members (map plain_attribute l.attributes)
+invariant-loop-attribute l = with_attributes (sorted_members l.sorted.items) (map plain_attribute l.rest)
+    ≡ with_attributes no_members (map plain_attribute l.attributes)
 
 abbrev pub decreases-loop-attribute : goal.decreases-loop-attribute
 decreases-loop-attribute l = length l.rest

@@ -13,7 +13,14 @@ returns-clause-good g c k types l may =
     let desk = c.begin-outcome.new.desk in
     let back = c.into_seat-seat.ensures.0 in
     let there = subst (λ (s : Seat g.row.W.Denot). IsOnlyTaker (number_of s) watcher (seen_by s)) back may.2 in
-    let begun = begun_ok g.W.P.Policy.rules g.W.Versions.stands c.args.view.shared.now desk.shared.now c.args.view.seat desk.seat c.into_seat-seat.result.0 watcher types c.begin-outcome.ensures.lends.0 back c.begin-outcome.ensures.caller may.2
-    (IsAt c.begin-outcome.new.self k) l desk.opened c.begin-outcome.result c.begin-outcome.ensures.name c.begin-outcome.ensures.log (c.begin-outcome.ensures.good k types l may.0 may.1 there) in
-    subst (λ (n : ℕ). IfOk c.begin-outcome.result (λ b. BeginsFrame (IsAt c.begin-outcome.new.self k) (λ m. ShowsIn g.W.P.Policy.rules g.W.Versions.stands c.args.view.shared.now c.into_seat-seat.result.0 b.name m)
-    (λ o. HasTaken g.W.P.Policy.rules g.W.Versions.stands c.args.view.shared.now c.args.view.seat c.into_seat-seat.result.0 n types o) l b.name b.changed)) (sym c.begin-outcome.ensures.watcher) begun
+    let begun = begun_ok g.W.P.Policy.rules g.W.Versions.stands c.args.view.shared.now desk.shared.now c.args.view.seat
+    desk.seat c.into_seat-seat.result.0 watcher types c.begin-outcome.ensures.lends.0 back
+    c.begin-outcome.ensures.caller may.2
+    (IsAt c.begin-outcome.new.self k) l desk.opened c.begin-outcome.result c.begin-outcome.ensures.name
+    c.begin-outcome.ensures.log (c.begin-outcome.ensures.good k types l may.0 may.1 there) in
+    subst (λ (n : ℕ). IfOk c.begin-outcome.result
+    (λ b. BeginsFrame (IsAt c.begin-outcome.new.self k)
+    (λ m. ShowsIn g.W.P.Policy.rules g.W.Versions.stands c.args.view.shared.now c.into_seat-seat.result.0 b.name
+    m)
+    (λ o. HasTaken g.W.P.Policy.rules g.W.Versions.stands c.args.view.shared.now c.args.view.seat
+    c.into_seat-seat.result.0 n types o) l b.name b.changed)) (sym c.begin-outcome.ensures.watcher) begun

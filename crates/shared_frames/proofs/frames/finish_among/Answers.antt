@@ -10,5 +10,6 @@ finish-outcome-requires-clause-tree g c =
     may_be_called _ _ _ c.requires.tree (λ k at. (
       at.0,
       at.1.0,
-      subst (λ (o : Option ℕ). SeesMap g.W.P.Policy.rules (g.W.Versions.stands (opening_of c.args.view.shared.now)) (seen_by seat) (number_of seat) o at.0) (sym c.requires.opened) at.1.1,
+      subst (λ (o : Option ℕ). SeesMap g.W.P.Policy.rules (g.W.Versions.stands (opening_of c.args.view.shared.now))
+          (seen_by seat) (number_of seat) o at.0) (sym c.requires.opened) at.1.1,
     ))

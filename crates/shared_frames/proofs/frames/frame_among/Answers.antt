@@ -15,8 +15,11 @@ returns-clause-good g c k types l may =
     let desk = c.frame-outcome.new.desk in
     let back = c.into_seat-seat.ensures.0 in
     let there = subst (λ (s : Seat g.row.W.Denot). IsOnlyTaker (number_of s) watcher (seen_by s)) back may.2 in
-    frame_ok g.W.P.Policy.rules g.W.Versions.stands c.args.view.shared.now desk.shared.now c.args.view.seat desk.seat c.into_seat-seat.result.0 watcher types c.frame-outcome.ensures.lends.0 back c.frame-outcome.ensures.caller may.2
-    c.args.composition.now c.frame-outcome.new.self c.frame-outcome.ensures.program c.frame-outcome.ensures.watcher refl k _ c.frame-outcome.result (c.frame-outcome.ensures.good k types l may.0 may.1 there)
+    frame_ok g.W.P.Policy.rules g.W.Versions.stands c.args.view.shared.now desk.shared.now c.args.view.seat desk.seat
+    c.into_seat-seat.result.0 watcher types c.frame-outcome.ensures.lends.0 back c.frame-outcome.ensures.caller
+    may.2
+    c.args.composition.now c.frame-outcome.new.self c.frame-outcome.ensures.program c.frame-outcome.ensures.watcher refl
+    k _ c.frame-outcome.result (c.frame-outcome.ensures.good k types l may.0 may.1 there)
 
 pub returns-clause-err : goal.returns-clause-err
 returns-clause-err g c k types l may =
@@ -24,5 +27,8 @@ returns-clause-err g c k types l may =
     let desk = c.frame-outcome.new.desk in
     let back = c.into_seat-seat.ensures.0 in
     let there = subst (λ (s : Seat g.row.W.Denot). IsOnlyTaker (number_of s) watcher (seen_by s)) back may.2 in
-    frame_err g.W.P.Policy.rules g.W.Versions.stands c.args.view.shared.now desk.shared.now c.args.view.seat desk.seat c.into_seat-seat.result.0 watcher types c.frame-outcome.ensures.lends.0 back c.frame-outcome.ensures.caller may.2
-    c.args.composition.now.program.now k (IsAt c.frame-outcome.new.self) c.frame-outcome.result (c.frame-outcome.ensures.err k types l may.0 may.1 there)
+    frame_err g.W.P.Policy.rules g.W.Versions.stands c.args.view.shared.now desk.shared.now c.args.view.seat desk.seat
+    c.into_seat-seat.result.0 watcher types c.frame-outcome.ensures.lends.0 back c.frame-outcome.ensures.caller
+    may.2
+    c.args.composition.now.program.now k (IsAt c.frame-outcome.new.self) c.frame-outcome.result
+    (c.frame-outcome.ensures.err k types l may.0 may.1 there)

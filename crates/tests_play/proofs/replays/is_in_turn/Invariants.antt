@@ -6,7 +6,8 @@ use Rattle.tests_play.proofs.Histories.{seen}
 use Rattle.tests_play.proofs.replays.is_in_turn.Given as goal
 
 abbrev pub invariant-loop-call : goal.invariant-loop-call
-invariant-loop-call l = AreInTurn (seen l.frame) (printed_from (frames_by (seen l.frame)) l.rest) → AreInTurn None (printed_history l.calls)
+invariant-loop-call l =
+    AreInTurn (seen l.frame) (printed_from (frames_by (seen l.frame)) l.rest) → AreInTurn None (printed_history l.calls)
 
 abbrev pub decreases-loop-call : goal.decreases-loop-call
 decreases-loop-call l = length l.rest

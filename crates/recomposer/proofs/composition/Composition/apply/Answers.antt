@@ -12,15 +12,19 @@ use Rattle.recomposer.proofs.composition.Composition.apply.Goals as goal
 pub returns-in_default-clause-applied : goal.returns-in_default-clause-applied
 returns-in_default-clause-applied g c k m h composed =
     let tree = g.A.Applier.tree c.args.applier.now in
-    let idle : IsComposed c.args.self.now k m None = subst (λ (o : Option DraftGroups). IsComposed c.args.self.now k m o) c.in_default.is composed in
-    subst (λ (l : List Op). Applies tree tree l k (frame (functions_of c.args.self.now.program.now) k m)) (sym c.keep_idle.ensures.ops) (idle_applies c.args.self.now k m h idle.0 idle.1 tree)
+    let idle : IsComposed c.args.self.now k m None =
+    subst (λ (o : Option DraftGroups). IsComposed c.args.self.now k m o) c.in_default.is composed in
+    subst (λ (l : List Op). Applies tree tree l k (frame (functions_of c.args.self.now.program.now) k m))
+    (sym c.keep_idle.ensures.ops) (idle_applies c.args.self.now k m h idle.0 idle.1 tree)
 
 -- There is no call to make.
 
 pub returns-then-len-eq0-clause-applied : goal.returns-then-len-eq0-clause-applied
 returns-then-len-eq0-clause-applied g c k m h composed =
-    let made : IsComposed c.args.self.now k m (Some c.in-Some.draft) = subst (λ (o : Option DraftGroups). IsComposed c.args.self.now k m o) c.in-Some.is composed in
-    none_applies c.args.self.now k m c.in-Some.draft h made.1 (g.A.Applier.tree c.args.applier.now) c.keep.new.self.ops c.in-Ok.ops c.keep.ensures.ops
+    let made : IsComposed c.args.self.now k m (Some c.in-Some.draft) =
+    subst (λ (o : Option DraftGroups). IsComposed c.args.self.now k m o) c.in-Some.is composed in
+    none_applies c.args.self.now k m c.in-Some.draft h made.1 (g.A.Applier.tree c.args.applier.now) c.keep.new.self.ops
+    c.in-Ok.ops c.keep.ensures.ops
     (sym c.len.ensures ∙ c.if-len-eq0.true) (c.in-Ok.ensures k m h made)
 
 pub returns-then-len-eq0-clause-unchanged : goal.returns-then-len-eq0-clause-unchanged
@@ -31,17 +35,27 @@ returns-then-len-eq0-clause-unchanged g c k m h composed none =
 
 pub carry-requires-clause-may : goal.carry-requires-clause-may
 carry-requires-clause-may g c =
-    may_carry (g.A.Applier.tree c.args.applier.now) (g.A.Applier.tree c.take_memory.new.applier) _ _ c.take_memory.ensures.tree c.requires.tree (λ k at t mirrors.
-    let made : IsComposed c.args.self.now k at.0 (Some c.in-Some.draft) = subst (λ (o : Option DraftGroups). IsComposed c.args.self.now k at.0 o) c.in-Some.is at.2 in
-    calls_may c.args.self.now k at.0 c.in-Some.draft at.1 made.1 _ t (c.in-Ok-take_memory.ensures.same ∙ c.in-Ok.ensures k at.0 at.1 made) mirrors)
+    may_carry (g.A.Applier.tree c.args.applier.now) (g.A.Applier.tree c.take_memory.new.applier) _ _
+    c.take_memory.ensures.tree c.requires.tree (λ k at t mirrors.
+    let made : IsComposed c.args.self.now k at.0 (Some c.in-Some.draft) =
+    subst (λ (o : Option DraftGroups). IsComposed c.args.self.now k at.0 o) c.in-Some.is at.2 in
+    calls_may c.args.self.now k at.0 c.in-Some.draft at.1 made.1 _ t
+    (c.in-Ok-take_memory.ensures.same ∙ c.in-Ok.ensures k at.0 at.1 made) mirrors)
 
 pub returns-in-Ok-carry-clause-applied : goal.returns-in-Ok-carry-clause-applied
 returns-in-Ok-carry-clause-applied g c k m h composed =
-    let made : IsComposed c.args.self.now k m (Some c.in-Some.draft) = subst (λ (o : Option DraftGroups). IsComposed c.args.self.now k m o) c.in-Some.is composed in
-    frame_applies c.args.self.now k m c.in-Some.draft h made.1 (g.A.Applier.tree c.args.applier.now) (g.A.Applier.tree c.take_memory.new.applier) (g.A.Applier.tree c.carry.new.applier) c.keep-in-Ok-carry.new.self.ops _
-    c.take_memory.ensures.tree c.in-Ok-carry.ensures.tree (c.in-Ok-take_memory.ensures.same ∙ sym c.keep-in-Ok-carry.ensures.ops) (c.keep-in-Ok-carry.ensures.ops ∙ c.in-Ok.ensures k m h made)
+    let made : IsComposed c.args.self.now k m (Some c.in-Some.draft) =
+    subst (λ (o : Option DraftGroups). IsComposed c.args.self.now k m o) c.in-Some.is composed in
+    frame_applies c.args.self.now k m c.in-Some.draft h made.1 (g.A.Applier.tree c.args.applier.now)
+    (g.A.Applier.tree c.take_memory.new.applier) (g.A.Applier.tree c.carry.new.applier)
+    c.keep-in-Ok-carry.new.self.ops _
+    c.take_memory.ensures.tree c.in-Ok-carry.ensures.tree
+    (c.in-Ok-take_memory.ensures.same ∙ sym c.keep-in-Ok-carry.ensures.ops)
+    (c.keep-in-Ok-carry.ensures.ops ∙ c.in-Ok.ensures k m h made)
 
 pub returns-in-Err-clause-detached : goal.returns-in-Err-clause-detached
 returns-in-Err-clause-detached g c k m h composed stop =
-    let made : IsComposed c.args.self.now k m (Some c.in-Some.draft) = subst (λ (o : Option DraftGroups). IsComposed c.args.self.now k m o) c.in-Some.is composed in
-    detached_after c.args.self.now k m c.in-Some.draft h made.1 c.in-Ok.ops (c.in-Ok.ensures k m h made) (λ none. c.if-len-eq0.false (c.len.ensures ∙ none))
+    let made : IsComposed c.args.self.now k m (Some c.in-Some.draft) =
+    subst (λ (o : Option DraftGroups). IsComposed c.args.self.now k m o) c.in-Some.is composed in
+    detached_after c.args.self.now k m c.in-Some.draft h made.1 c.in-Ok.ops (c.in-Ok.ensures k m h made)
+    (λ none. c.if-len-eq0.false (c.len.ensures ∙ none))

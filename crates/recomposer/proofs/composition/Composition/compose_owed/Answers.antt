@@ -12,7 +12,8 @@ returns-then-is_nothing-clause-made g c k m h shows =
 pub returns-then-is_nothing-clause-asks : goal.returns-then-is_nothing-clause-asks
 returns-then-is_nothing-clause-asks g c k m h shows =
     let nothing = sym c.is_nothing.ensures ∙ c.if-is_nothing.true in
-    idle_asks c.args.self.now k m h (all_of _ _ nothing) (none_of _ _ nothing) (g.V.View.asked c.args.view.now) (g.V.View.asked c.args.view.now) refl
+    idle_asks c.args.self.now k m h (all_of _ _ nothing) (none_of _ _ nothing) (g.V.View.asked c.args.view.now)
+    (g.V.View.asked c.args.view.now) refl
 
 pub returns-in-Ok-clause-made : goal.returns-in-Ok-clause-made
 returns-in-Ok-clause-made g c k m h shows =
@@ -21,16 +22,20 @@ returns-in-Ok-clause-made g c k m h shows =
 
 pub returns-in-Ok-clause-asks : goal.returns-in-Ok-clause-asks
 returns-in-Ok-clause-asks g c k m h shows =
-    (c.in-Ok.ensures.frame k m shows h.holds (owing_at c.args.self.now k m h)).came ∙ ap (λ l. g.V.View.asked c.args.view.now ++ l) (reads_at c.args.self.now k m h)
+    (c.in-Ok.ensures.frame k m shows h.holds (owing_at c.args.self.now k m h)).came
+    ∙ ap (λ l. g.V.View.asked c.args.view.now ++ l) (reads_at c.args.self.now k m h)
 
 pub returns-in-Err-clause-many : goal.returns-in-Err-clause-many
 returns-in-Err-clause-many g c k m h shows stop =
     let is : c.compose.result ≡ Err TooManyGroups = search rules in
-    refused_is c.args.self.now.program.now k m ((c.compose.ensures.frame k m shows h.holds (owing_at c.args.self.now k m h)).many is)
+    refused_is c.args.self.now.program.now k m
+    ((c.compose.ensures.frame k m shows h.holds (owing_at c.args.self.now k m h)).many is)
 
 pub returns-in-Err-clause-part : goal.returns-in-Err-clause-part
 returns-in-Err-clause-part g c k m h shows =
-    part_at c.args.self.now k m (g.V.View.asked c.args.view.now) (g.V.View.asked c.compose.new.view) (g.V.View.asked c.compose.new.view) h refl (c.in-Err.ensures.frame k m shows h.holds (owing_at c.args.self.now k m h)).part
+    part_at c.args.self.now k m (g.V.View.asked c.args.view.now) (g.V.View.asked c.compose.new.view)
+    (g.V.View.asked c.compose.new.view) h refl
+    (c.in-Err.ensures.frame k m shows h.holds (owing_at c.args.self.now k m h)).part
 
 pub returns-in-Ok-clause-idle : goal.returns-in-Ok-clause-idle
 returns-in-Ok-clause-idle g c h =

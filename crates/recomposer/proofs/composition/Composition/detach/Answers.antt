@@ -3,4 +3,5 @@ use Rattle.recomposer.proofs.Frames.{detached_at}
 use Rattle.recomposer.proofs.composition.Composition.detach.Goals as goal
 
 pub returns-clause-fault : goal.returns-clause-fault
-returns-clause-fault c k m h made = detached_at c.args.self.now _ k m c.args.draft h made.1 made.0 refl c.detach.ensures.groups c.detach.ensures.next refl refl c.owe_all.ensures
+returns-clause-fault c k m h made = detached_at c.args.self.now _ k m c.args.draft h made.1 made.0 refl
+    c.detach.ensures.groups c.detach.ensures.next refl refl c.owe_all.ensures

@@ -16,49 +16,74 @@ pub returns-in_default-clause-world : goal.returns-in_default-clause-world
 returns-in_default-clause-world g c m shows inner w behind =
     let kept = c.compose_owed-composed.ensures.keeps in
     let opened = g.met.D.Desk.opened_kept _ _ kept ∙ c.requires.opened in
-    always_disposed g.D.P.Policy.rules (g.D.Desk.behind c.args.desk.now) (g.D.Desk.behind c.compose_owed-composed.new.view) (g.D.Desk.behind c.dispose.new.self) (g.D.Desk.caller c.args.desk.now) (g.D.Desk.caller c.compose_owed-composed.new.view) c.args.begun.name c.dispose.result
-    (λ v. g.met.D.Desk.behind_kept _ _ v kept) (g.met.D.Desk.caller_kept _ _ kept) (c.dispose.ensures.disposed m c.args.begun.name (c.compose_owed-composed.ensures.same m shows) opened inner) (c.dispose.ensures.call c.args.begun.name opened) w behind
+    always_disposed g.D.P.Policy.rules (g.D.Desk.behind c.args.desk.now)
+    (g.D.Desk.behind c.compose_owed-composed.new.view) (g.D.Desk.behind c.dispose.new.self)
+    (g.D.Desk.caller c.args.desk.now) (g.D.Desk.caller c.compose_owed-composed.new.view) c.args.begun.name
+    c.dispose.result
+    (λ v. g.met.D.Desk.behind_kept _ _ v kept) (g.met.D.Desk.caller_kept _ _ kept)
+    (c.dispose.ensures.disposed m c.args.begun.name (c.compose_owed-composed.ensures.same m shows) opened inner)
+    (c.dispose.ensures.call c.args.begun.name opened) w behind
 
 pub returns-in_default-clause-lends : goal.returns-in_default-clause-lends
-returns-in_default-clause-lends g c = g.met.D.Desk.lends_on _ _ _ (g.met.D.Desk.lends_kept _ _ c.compose_owed-composed.ensures.keeps) c.dispose.ensures.lends
+returns-in_default-clause-lends g c = g.met.D.Desk.lends_on _ _ _
+    (g.met.D.Desk.lends_kept _ _ c.compose_owed-composed.ensures.keeps) c.dispose.ensures.lends
 
 pub returns-in_default-clause-caller : goal.returns-in_default-clause-caller
-returns-in_default-clause-caller g c = c.dispose.ensures.caller ∙ g.met.D.Desk.caller_kept _ _ c.compose_owed-composed.ensures.keeps
+returns-in_default-clause-caller g c =
+    c.dispose.ensures.caller ∙ g.met.D.Desk.caller_kept _ _ c.compose_owed-composed.ensures.keeps
 
 pub returns-in-Ok-composed-clause-world : goal.returns-in-Ok-composed-clause-world
 returns-in-Ok-composed-clause-world g c m shows inner w behind =
     let kept = c.compose_owed-composed.ensures.keeps in
     let opened = g.met.D.Desk.opened_kept _ _ kept ∙ c.requires.opened in
-    always_disposed g.D.P.Policy.rules (g.D.Desk.behind c.args.desk.now) (g.D.Desk.behind c.compose_owed-composed.new.view) (g.D.Desk.behind c.dispose.new.self) (g.D.Desk.caller c.args.desk.now) (g.D.Desk.caller c.compose_owed-composed.new.view) c.args.begun.name c.dispose.result
-    (λ v. g.met.D.Desk.behind_kept _ _ v kept) (g.met.D.Desk.caller_kept _ _ kept) (c.dispose.ensures.disposed m c.args.begun.name (c.compose_owed-composed.ensures.same m shows) opened inner) (c.dispose.ensures.call c.args.begun.name opened) w behind
+    always_disposed g.D.P.Policy.rules (g.D.Desk.behind c.args.desk.now)
+    (g.D.Desk.behind c.compose_owed-composed.new.view) (g.D.Desk.behind c.dispose.new.self)
+    (g.D.Desk.caller c.args.desk.now) (g.D.Desk.caller c.compose_owed-composed.new.view) c.args.begun.name
+    c.dispose.result
+    (λ v. g.met.D.Desk.behind_kept _ _ v kept) (g.met.D.Desk.caller_kept _ _ kept)
+    (c.dispose.ensures.disposed m c.args.begun.name (c.compose_owed-composed.ensures.same m shows) opened inner)
+    (c.dispose.ensures.call c.args.begun.name opened) w behind
 
 pub returns-in-Ok-composed-clause-lends : goal.returns-in-Ok-composed-clause-lends
-returns-in-Ok-composed-clause-lends g c = g.met.D.Desk.lends_on _ _ _ (g.met.D.Desk.lends_kept _ _ c.compose_owed-composed.ensures.keeps) c.dispose.ensures.lends
+returns-in-Ok-composed-clause-lends g c = g.met.D.Desk.lends_on _ _ _
+    (g.met.D.Desk.lends_kept _ _ c.compose_owed-composed.ensures.keeps) c.dispose.ensures.lends
 
 pub returns-in-Ok-composed-clause-caller : goal.returns-in-Ok-composed-clause-caller
-returns-in-Ok-composed-clause-caller g c = c.dispose.ensures.caller ∙ g.met.D.Desk.caller_kept _ _ c.compose_owed-composed.ensures.keeps
+returns-in-Ok-composed-clause-caller g c =
+    c.dispose.ensures.caller ∙ g.met.D.Desk.caller_kept _ _ c.compose_owed-composed.ensures.keeps
 
 pub returns-clause-world : goal.returns-clause-world
 returns-clause-world g c m shows inner w behind =
     let kept = c.compose_owed-composed.ensures.keeps in
     let opened = g.met.D.Desk.opened_kept _ _ kept ∙ c.requires.opened in
-    always_disposed g.D.P.Policy.rules (g.D.Desk.behind c.args.desk.now) (g.D.Desk.behind c.compose_owed-composed.new.view) (g.D.Desk.behind c.dispose.new.self) (g.D.Desk.caller c.args.desk.now) (g.D.Desk.caller c.compose_owed-composed.new.view) c.args.begun.name c.dispose.result
-    (λ v. g.met.D.Desk.behind_kept _ _ v kept) (g.met.D.Desk.caller_kept _ _ kept) (c.dispose.ensures.disposed m c.args.begun.name (c.compose_owed-composed.ensures.same m shows) opened inner) (c.dispose.ensures.call c.args.begun.name opened) w behind
+    always_disposed g.D.P.Policy.rules (g.D.Desk.behind c.args.desk.now)
+    (g.D.Desk.behind c.compose_owed-composed.new.view) (g.D.Desk.behind c.dispose.new.self)
+    (g.D.Desk.caller c.args.desk.now) (g.D.Desk.caller c.compose_owed-composed.new.view) c.args.begun.name
+    c.dispose.result
+    (λ v. g.met.D.Desk.behind_kept _ _ v kept) (g.met.D.Desk.caller_kept _ _ kept)
+    (c.dispose.ensures.disposed m c.args.begun.name (c.compose_owed-composed.ensures.same m shows) opened inner)
+    (c.dispose.ensures.call c.args.begun.name opened) w behind
 
 pub returns-clause-lends : goal.returns-clause-lends
-returns-clause-lends g c = g.met.D.Desk.lends_on _ _ _ (g.met.D.Desk.lends_kept _ _ c.compose_owed-composed.ensures.keeps) c.dispose.ensures.lends
+returns-clause-lends g c = g.met.D.Desk.lends_on _ _ _
+    (g.met.D.Desk.lends_kept _ _ c.compose_owed-composed.ensures.keeps) c.dispose.ensures.lends
 
 pub returns-clause-caller : goal.returns-clause-caller
-returns-clause-caller g c = c.dispose.ensures.caller ∙ g.met.D.Desk.caller_kept _ _ c.compose_owed-composed.ensures.keeps
+returns-clause-caller g c =
+    c.dispose.ensures.caller ∙ g.met.D.Desk.caller_kept _ _ c.compose_owed-composed.ensures.keeps
 
 pub returns-in_default-clause-part : goal.returns-in_default-clause-part
 returns-in_default-clause-part g c k m h shows =
-    grew_in_all c.compose_owed-composed.result (g.D.View.asked c.args.desk.now) (g.D.View.asked c.compose_owed-composed.new.view) (g.D.View.asked c.dispose.new.self) (frame_reads c.args.self.now.program.now k m)
-    c.dispose.ensures.asks (c.compose_owed-composed.ensures.asks k m h shows) (c.compose_owed-composed.ensures.part k m h shows)
+    grew_in_all c.compose_owed-composed.result (g.D.View.asked c.args.desk.now)
+    (g.D.View.asked c.compose_owed-composed.new.view) (g.D.View.asked c.dispose.new.self)
+    (frame_reads c.args.self.now.program.now k m)
+    c.dispose.ensures.asks (c.compose_owed-composed.ensures.asks k m h shows)
+    (c.compose_owed-composed.ensures.part k m h shows)
 
 pub returns-clause-part : goal.returns-clause-part
 returns-clause-part g c k m h shows =
-    subst (λ l. Grew (g.D.View.asked c.args.desk.now) l (frame_reads c.args.self.now.program.now k m)) (sym c.dispose.ensures.asks) (c.in-Err.ensures.part k m h shows)
+    subst (λ l. Grew (g.D.View.asked c.args.desk.now) l (frame_reads c.args.self.now.program.now k m))
+    (sym c.dispose.ensures.asks) (c.in-Err.ensures.part k m h shows)
 
 pub returns-clause-many : goal.returns-clause-many
 returns-clause-many g c k m h shows stop =
@@ -66,42 +91,60 @@ returns-clause-many g c k m h shows stop =
     c.compose_owed-composed.ensures.many k m h shows is
 
 pub returns-in-Ok-composed-clause-good : goal.returns-in-Ok-composed-clause-good
-returns-in-Ok-composed-clause-good g c k m h shows = c.apply.ensures.good k m h (c.in-Ok-composed.ensures.made k m h shows)
+returns-in-Ok-composed-clause-good g c k m h shows =
+    c.apply.ensures.good k m h (c.in-Ok-composed.ensures.made k m h shows)
 
 pub returns-in-Ok-composed-clause-report : goal.returns-in-Ok-composed-clause-report
-returns-in-Ok-composed-clause-report g c k m h shows = c.apply.ensures.report k m h (c.in-Ok-composed.ensures.made k m h shows)
+returns-in-Ok-composed-clause-report g c k m h shows =
+    c.apply.ensures.report k m h (c.in-Ok-composed.ensures.made k m h shows)
 
 pub returns-in-Ok-composed-clause-applied : goal.returns-in-Ok-composed-clause-applied
-returns-in-Ok-composed-clause-applied g c k m h shows = c.apply.ensures.applied k m h (c.in-Ok-composed.ensures.made k m h shows)
+returns-in-Ok-composed-clause-applied g c k m h shows =
+    c.apply.ensures.applied k m h (c.in-Ok-composed.ensures.made k m h shows)
 
 pub returns-in-Ok-composed-clause-fault : goal.returns-in-Ok-composed-clause-fault
-returns-in-Ok-composed-clause-fault g c k m h shows stop = c.apply.ensures.fault k m h (c.in-Ok-composed.ensures.made k m h shows) stop
+returns-in-Ok-composed-clause-fault g c k m h shows stop =
+    c.apply.ensures.fault k m h (c.in-Ok-composed.ensures.made k m h shows) stop
 
 pub returns-in-Ok-composed-clause-many : goal.returns-in-Ok-composed-clause-many
 returns-in-Ok-composed-clause-many g c k m h shows stop = absurd (c.apply.ensures.few stop)
 
 pub apply-requires : goal.apply-requires
-apply-requires g c = record { tree = may_be_called _ _ _ c.requires.tree (λ k at. (at.0, at.1, c.in-Ok-composed.ensures.made k at.0 at.1 at.2)) }
+apply-requires g c = record {
+  tree = may_be_called _ _ _ c.requires.tree
+      (λ k at. (at.0, at.1, c.in-Ok-composed.ensures.made k at.0 at.1 at.2));
+}
 
 pub returns-in-Ok-composed-clause-part : goal.returns-in-Ok-composed-clause-part
 returns-in-Ok-composed-clause-part g c k m h shows =
-    on_err c.apply.result (grew_in_all c.compose_owed-composed.result (g.D.View.asked c.args.desk.now) (g.D.View.asked c.compose_owed-composed.new.view) (g.D.View.asked c.dispose.new.self) (frame_reads c.args.self.now.program.now k m)
-    c.dispose.ensures.asks (c.compose_owed-composed.ensures.asks k m h shows) (c.compose_owed-composed.ensures.part k m h shows))
+    on_err c.apply.result (grew_in_all c.compose_owed-composed.result (g.D.View.asked c.args.desk.now)
+    (g.D.View.asked c.compose_owed-composed.new.view) (g.D.View.asked c.dispose.new.self)
+    (frame_reads c.args.self.now.program.now k m)
+    c.dispose.ensures.asks (c.compose_owed-composed.ensures.asks k m h shows)
+    (c.compose_owed-composed.ensures.part k m h shows))
 
 pub returns-in-Ok-composed-clause-refused : goal.returns-in-Ok-composed-clause-refused
 returns-in-Ok-composed-clause-refused g c k m h shows inner =
     let kept = c.compose_owed-composed.ensures.keeps in
     let opened = g.met.D.Desk.opened_kept _ _ kept ∙ c.requires.opened in
     let asked = g.D.View.asked c.compose_owed-composed.new.view in
-    on_err c.apply.result (ends_part (g.D.Desk.log c.args.desk.now) (g.D.Desk.log c.compose_owed-composed.new.view) (g.D.Desk.log c.dispose.new.self) (g.D.View.asked c.args.desk.now) asked (frame_reads c.args.self.now.program.now k m)
-    (g.D.Desk.caller c.args.desk.now) (g.D.Desk.caller c.compose_owed-composed.new.view) c.args.begun.name (g.D.Desk.opened c.args.desk.now) c.dispose.result (g.met.D.Desk.reads_told _ _ kept) c.requires.opened
-    (grew_in_all c.compose_owed-composed.result (g.D.View.asked c.args.desk.now) asked asked (frame_reads c.args.self.now.program.now k m) refl (c.compose_owed-composed.ensures.asks k m h shows) (c.compose_owed-composed.ensures.part k m h shows))
-    (g.met.D.Desk.caller_kept _ _ kept) (c.dispose.ensures.disposed m c.args.begun.name (c.compose_owed-composed.ensures.same m shows) opened inner) (c.dispose.ensures.log c.args.begun.name opened))
+    on_err c.apply.result (ends_part (g.D.Desk.log c.args.desk.now) (g.D.Desk.log c.compose_owed-composed.new.view)
+    (g.D.Desk.log c.dispose.new.self) (g.D.View.asked c.args.desk.now) asked
+    (frame_reads c.args.self.now.program.now k m)
+    (g.D.Desk.caller c.args.desk.now) (g.D.Desk.caller c.compose_owed-composed.new.view) c.args.begun.name
+    (g.D.Desk.opened c.args.desk.now) c.dispose.result (g.met.D.Desk.reads_told _ _ kept) c.requires.opened
+    (grew_in_all c.compose_owed-composed.result (g.D.View.asked c.args.desk.now) asked asked
+    (frame_reads c.args.self.now.program.now k m) refl (c.compose_owed-composed.ensures.asks k m h shows)
+    (c.compose_owed-composed.ensures.part k m h shows))
+    (g.met.D.Desk.caller_kept _ _ kept)
+    (c.dispose.ensures.disposed m c.args.begun.name (c.compose_owed-composed.ensures.same m shows) opened inner)
+    (c.dispose.ensures.log c.args.begun.name opened))
 
 pub returns-in-Ok-composed-clause-idle : goal.returns-in-Ok-composed-clause-idle
 returns-in-Ok-composed-clause-idle g c h =
     let idle = c.compose_owed-composed.ensures.idle h in
-    let none : c.in-Ok-composed.draft ≡ None = let both : Ok c.in-Ok-composed.draft ≡ Ok None = sym c.in-Ok-composed.is ∙ idle.0 in cc in
+    let none : c.in-Ok-composed.draft ≡ None =
+    let both : Ok c.in-Ok-composed.draft ≡ Ok None = sym c.in-Ok-composed.is ∙ idle.0 in cc in
     let calls = c.apply.ensures.idle none in
     (calls.0, c.dispose.ensures.asks ∙ ap (λ d. g.D.View.asked d) idle.1, idle.2, calls.1)
 
@@ -116,105 +159,159 @@ returns-clause-idle g c h =
     absurd cc
 
 pub returns-clause-fault : goal.returns-clause-fault
-returns-clause-fault g c k m h shows stop = absurd (c.frame_stop.ensures.no_fault (let e : c.frame_stop.result ≡ ApplierFault = cc in e))
+returns-clause-fault g c k m h shows stop =
+    absurd (c.frame_stop.ensures.no_fault (let e : c.frame_stop.result ≡ ApplierFault = cc in e))
 
 pub returns-clause-cause : goal.returns-clause-cause
-returns-clause-cause g c = no_cause _ _ (λ stop. c.frame_stop.ensures.no_fault (let e : c.frame_stop.result ≡ ApplierFault = cc in e))
+returns-clause-cause g c =
+    no_cause _ _ (λ stop. c.frame_stop.ensures.no_fault (let e : c.frame_stop.result ≡ ApplierFault = cc in e))
 
 pub returns-clause-err : goal.returns-clause-err
-returns-clause-err g c = unless_fault {U = Report} {X = c.args.self.now ≡ c.args.self.now} (Err c.frame_stop.result) refl
+returns-clause-err g c =
+    unless_fault {U = Report} {X = c.args.self.now ≡ c.args.self.now} (Err c.frame_stop.result) refl
 
 pub returns-clause-still : goal.returns-clause-still
-returns-clause-still g c = let tree = g.A.Applier.tree c.args.applier.now in unless_fault {U = Report} {X = tree ≡ tree} (Err c.frame_stop.result) refl
+returns-clause-still g c = let tree = g.A.Applier.tree c.args.applier.now in
+    unless_fault {U = Report} {X = tree ≡ tree} (Err c.frame_stop.result) refl
 
 pub returns-in-Ok-composed-clause-asks : goal.returns-in-Ok-composed-clause-asks
-returns-in-Ok-composed-clause-asks g c k m h shows = on_ok c.apply.result (c.dispose.ensures.asks ∙ c.in-Ok-composed.ensures.asks k m h shows)
+returns-in-Ok-composed-clause-asks g c k m h shows =
+    on_ok c.apply.result (c.dispose.ensures.asks ∙ c.in-Ok-composed.ensures.asks k m h shows)
 
 pub returns-in-Ok-composed-clause-log : goal.returns-in-Ok-composed-clause-log
 returns-in-Ok-composed-clause-log g c k m h shows =
     let kept = c.compose_owed-composed.ensures.keeps in
     let opened = g.met.D.Desk.opened_kept _ _ kept ∙ c.requires.opened in
-    on_ok c.apply.result (ends_of (g.D.Desk.log c.args.desk.now) (g.D.Desk.log c.compose_owed-composed.new.view) (g.D.Desk.log c.dispose.new.self) (g.D.View.asked c.args.desk.now) (g.D.View.asked c.compose_owed-composed.new.view) (frame_reads c.args.self.now.program.now k m)
-    (g.D.Desk.caller c.args.desk.now) (g.D.Desk.caller c.compose_owed-composed.new.view) c.args.begun.name (g.D.Desk.opened c.args.desk.now) (g.met.D.Desk.reads_told _ _ kept) c.requires.opened
-    (c.in-Ok-composed.ensures.asks k m h shows) (g.met.D.Desk.caller_kept _ _ kept) (c.in-Ok.ensures.log c.args.begun.name opened))
+    on_ok c.apply.result (ends_of (g.D.Desk.log c.args.desk.now) (g.D.Desk.log c.compose_owed-composed.new.view)
+    (g.D.Desk.log c.dispose.new.self) (g.D.View.asked c.args.desk.now)
+    (g.D.View.asked c.compose_owed-composed.new.view) (frame_reads c.args.self.now.program.now k m)
+    (g.D.Desk.caller c.args.desk.now) (g.D.Desk.caller c.compose_owed-composed.new.view) c.args.begun.name
+    (g.D.Desk.opened c.args.desk.now) (g.met.D.Desk.reads_told _ _ kept) c.requires.opened
+    (c.in-Ok-composed.ensures.asks k m h shows) (g.met.D.Desk.caller_kept _ _ kept)
+    (c.in-Ok.ensures.log c.args.begun.name opened))
 
 pub returns-in_default-clause-draws : goal.returns-in_default-clause-draws
 returns-in_default-clause-draws g c n =
     let kept = c.compose_owed-composed.ensures.keeps in
-    grows_finish n (g.D.Desk.log c.args.desk.now) (g.D.Desk.log c.compose_owed-composed.new.view) (g.D.Desk.log c.dispose.new.self) (g.D.View.asked c.args.desk.now) (g.D.View.asked c.compose_owed-composed.new.view)
-    (g.D.Desk.caller c.args.desk.now) (g.D.Desk.caller c.compose_owed-composed.new.view) c.args.begun.name (g.D.Desk.opened c.args.desk.now) (dispose_reply c.dispose.result) (g.met.D.Desk.reads_told _ _ kept)
+    grows_finish n (g.D.Desk.log c.args.desk.now) (g.D.Desk.log c.compose_owed-composed.new.view)
+    (g.D.Desk.log c.dispose.new.self) (g.D.View.asked c.args.desk.now)
+    (g.D.View.asked c.compose_owed-composed.new.view)
+    (g.D.Desk.caller c.args.desk.now) (g.D.Desk.caller c.compose_owed-composed.new.view) c.args.begun.name
+    (g.D.Desk.opened c.args.desk.now) (dispose_reply c.dispose.result) (g.met.D.Desk.reads_told _ _ kept)
     (c.dispose.ensures.log c.args.begun.name (g.met.D.Desk.opened_kept _ _ kept ∙ c.requires.opened))
 
 pub returns-in_default-clause-closed : goal.returns-in_default-clause-closed
 returns-in_default-clause-closed g c =
     let kept = c.compose_owed-composed.ensures.keeps in
     let opened = g.met.D.Desk.opened_kept _ _ kept ∙ c.requires.opened in
-    closes (g.D.View.shows c.args.desk.now) (g.D.Desk.log c.args.desk.now) (g.D.Desk.log c.compose_owed-composed.new.view) (g.D.Desk.log c.dispose.new.self) (g.D.View.asked c.args.desk.now) (g.D.View.asked c.compose_owed-composed.new.view) (g.D.View.asked c.dispose.new.self)
-    (g.D.Desk.caller c.args.desk.now) (g.D.Desk.caller c.compose_owed-composed.new.view) c.args.begun.name (g.D.Desk.opened c.args.desk.now) c.dispose.result _ (g.met.D.Desk.reads_told _ _ kept) c.requires.opened c.dispose.ensures.asks
+    closes (g.D.View.shows c.args.desk.now) (g.D.Desk.log c.args.desk.now)
+    (g.D.Desk.log c.compose_owed-composed.new.view) (g.D.Desk.log c.dispose.new.self)
+    (g.D.View.asked c.args.desk.now) (g.D.View.asked c.compose_owed-composed.new.view)
+    (g.D.View.asked c.dispose.new.self)
+    (g.D.Desk.caller c.args.desk.now) (g.D.Desk.caller c.compose_owed-composed.new.view) c.args.begun.name
+    (g.D.Desk.opened c.args.desk.now) c.dispose.result _ (g.met.D.Desk.reads_told _ _ kept) c.requires.opened
+    c.dispose.ensures.asks
     (g.met.D.Desk.caller_kept _ _ kept) (c.dispose.ensures.log c.args.begun.name opened) tt
-    (λ m shows inner. c.dispose.ensures.disposed m c.args.begun.name (c.compose_owed-composed.ensures.same m shows) opened inner)
+    (λ m shows inner. c.dispose.ensures.disposed m c.args.begun.name (c.compose_owed-composed.ensures.same m shows)
+    opened inner)
 
 pub returns-in_default-clause-refused : goal.returns-in_default-clause-refused
 returns-in_default-clause-refused g c k m h shows inner =
     let kept = c.compose_owed-composed.ensures.keeps in
     let opened = g.met.D.Desk.opened_kept _ _ kept ∙ c.requires.opened in
     let asked = g.D.View.asked c.compose_owed-composed.new.view in
-    ends_part (g.D.Desk.log c.args.desk.now) (g.D.Desk.log c.compose_owed-composed.new.view) (g.D.Desk.log c.dispose.new.self) (g.D.View.asked c.args.desk.now) asked (frame_reads c.args.self.now.program.now k m)
-    (g.D.Desk.caller c.args.desk.now) (g.D.Desk.caller c.compose_owed-composed.new.view) c.args.begun.name (g.D.Desk.opened c.args.desk.now) c.dispose.result (g.met.D.Desk.reads_told _ _ kept) c.requires.opened
-    (grew_in_all c.compose_owed-composed.result (g.D.View.asked c.args.desk.now) asked asked (frame_reads c.args.self.now.program.now k m) refl (c.compose_owed-composed.ensures.asks k m h shows) (c.compose_owed-composed.ensures.part k m h shows))
-    (g.met.D.Desk.caller_kept _ _ kept) (c.dispose.ensures.disposed m c.args.begun.name (c.compose_owed-composed.ensures.same m shows) opened inner) (c.dispose.ensures.log c.args.begun.name opened)
+    ends_part (g.D.Desk.log c.args.desk.now) (g.D.Desk.log c.compose_owed-composed.new.view)
+    (g.D.Desk.log c.dispose.new.self) (g.D.View.asked c.args.desk.now) asked
+    (frame_reads c.args.self.now.program.now k m)
+    (g.D.Desk.caller c.args.desk.now) (g.D.Desk.caller c.compose_owed-composed.new.view) c.args.begun.name
+    (g.D.Desk.opened c.args.desk.now) c.dispose.result (g.met.D.Desk.reads_told _ _ kept) c.requires.opened
+    (grew_in_all c.compose_owed-composed.result (g.D.View.asked c.args.desk.now) asked asked
+    (frame_reads c.args.self.now.program.now k m) refl (c.compose_owed-composed.ensures.asks k m h shows)
+    (c.compose_owed-composed.ensures.part k m h shows))
+    (g.met.D.Desk.caller_kept _ _ kept)
+    (c.dispose.ensures.disposed m c.args.begun.name (c.compose_owed-composed.ensures.same m shows) opened inner)
+    (c.dispose.ensures.log c.args.begun.name opened)
 
 pub returns-in-Ok-composed-clause-draws : goal.returns-in-Ok-composed-clause-draws
 returns-in-Ok-composed-clause-draws g c n =
     let kept = c.compose_owed-composed.ensures.keeps in
-    grows_finish n (g.D.Desk.log c.args.desk.now) (g.D.Desk.log c.compose_owed-composed.new.view) (g.D.Desk.log c.dispose.new.self) (g.D.View.asked c.args.desk.now) (g.D.View.asked c.compose_owed-composed.new.view)
-    (g.D.Desk.caller c.args.desk.now) (g.D.Desk.caller c.compose_owed-composed.new.view) c.args.begun.name (g.D.Desk.opened c.args.desk.now) (dispose_reply c.dispose.result) (g.met.D.Desk.reads_told _ _ kept)
+    grows_finish n (g.D.Desk.log c.args.desk.now) (g.D.Desk.log c.compose_owed-composed.new.view)
+    (g.D.Desk.log c.dispose.new.self) (g.D.View.asked c.args.desk.now)
+    (g.D.View.asked c.compose_owed-composed.new.view)
+    (g.D.Desk.caller c.args.desk.now) (g.D.Desk.caller c.compose_owed-composed.new.view) c.args.begun.name
+    (g.D.Desk.opened c.args.desk.now) (dispose_reply c.dispose.result) (g.met.D.Desk.reads_told _ _ kept)
     (c.dispose.ensures.log c.args.begun.name (g.met.D.Desk.opened_kept _ _ kept ∙ c.requires.opened))
 
 pub returns-in-Ok-composed-clause-closed : goal.returns-in-Ok-composed-clause-closed
 returns-in-Ok-composed-clause-closed g c =
     let kept = c.compose_owed-composed.ensures.keeps in
     let opened = g.met.D.Desk.opened_kept _ _ kept ∙ c.requires.opened in
-    closes (g.D.View.shows c.args.desk.now) (g.D.Desk.log c.args.desk.now) (g.D.Desk.log c.compose_owed-composed.new.view) (g.D.Desk.log c.dispose.new.self) (g.D.View.asked c.args.desk.now) (g.D.View.asked c.compose_owed-composed.new.view) (g.D.View.asked c.dispose.new.self)
-    (g.D.Desk.caller c.args.desk.now) (g.D.Desk.caller c.compose_owed-composed.new.view) c.args.begun.name (g.D.Desk.opened c.args.desk.now) c.dispose.result _ (g.met.D.Desk.reads_told _ _ kept) c.requires.opened c.dispose.ensures.asks
-    (g.met.D.Desk.caller_kept _ _ kept) (c.dispose.ensures.log c.args.begun.name opened) (on_ok c.apply.result (ap dispose_reply c.in-Ok.is))
-    (λ m shows inner. c.dispose.ensures.disposed m c.args.begun.name (c.compose_owed-composed.ensures.same m shows) opened inner)
+    closes (g.D.View.shows c.args.desk.now) (g.D.Desk.log c.args.desk.now)
+    (g.D.Desk.log c.compose_owed-composed.new.view) (g.D.Desk.log c.dispose.new.self)
+    (g.D.View.asked c.args.desk.now) (g.D.View.asked c.compose_owed-composed.new.view)
+    (g.D.View.asked c.dispose.new.self)
+    (g.D.Desk.caller c.args.desk.now) (g.D.Desk.caller c.compose_owed-composed.new.view) c.args.begun.name
+    (g.D.Desk.opened c.args.desk.now) c.dispose.result _ (g.met.D.Desk.reads_told _ _ kept) c.requires.opened
+    c.dispose.ensures.asks
+    (g.met.D.Desk.caller_kept _ _ kept) (c.dispose.ensures.log c.args.begun.name opened)
+    (on_ok c.apply.result (ap dispose_reply c.in-Ok.is))
+    (λ m shows inner. c.dispose.ensures.disposed m c.args.begun.name (c.compose_owed-composed.ensures.same m shows)
+    opened inner)
 
 pub returns-clause-draws : goal.returns-clause-draws
 returns-clause-draws g c n =
     let kept = c.compose_owed-composed.ensures.keeps in
-    grows_finish n (g.D.Desk.log c.args.desk.now) (g.D.Desk.log c.compose_owed-composed.new.view) (g.D.Desk.log c.dispose.new.self) (g.D.View.asked c.args.desk.now) (g.D.View.asked c.compose_owed-composed.new.view)
-    (g.D.Desk.caller c.args.desk.now) (g.D.Desk.caller c.compose_owed-composed.new.view) c.args.begun.name (g.D.Desk.opened c.args.desk.now) (dispose_reply c.dispose.result) (g.met.D.Desk.reads_told _ _ kept)
+    grows_finish n (g.D.Desk.log c.args.desk.now) (g.D.Desk.log c.compose_owed-composed.new.view)
+    (g.D.Desk.log c.dispose.new.self) (g.D.View.asked c.args.desk.now)
+    (g.D.View.asked c.compose_owed-composed.new.view)
+    (g.D.Desk.caller c.args.desk.now) (g.D.Desk.caller c.compose_owed-composed.new.view) c.args.begun.name
+    (g.D.Desk.opened c.args.desk.now) (dispose_reply c.dispose.result) (g.met.D.Desk.reads_told _ _ kept)
     (c.dispose.ensures.log c.args.begun.name (g.met.D.Desk.opened_kept _ _ kept ∙ c.requires.opened))
 
 pub returns-clause-closed : goal.returns-clause-closed
 returns-clause-closed g c =
     let kept = c.compose_owed-composed.ensures.keeps in
     let opened = g.met.D.Desk.opened_kept _ _ kept ∙ c.requires.opened in
-    closes (g.D.View.shows c.args.desk.now) (g.D.Desk.log c.args.desk.now) (g.D.Desk.log c.compose_owed-composed.new.view) (g.D.Desk.log c.dispose.new.self) (g.D.View.asked c.args.desk.now) (g.D.View.asked c.compose_owed-composed.new.view) (g.D.View.asked c.dispose.new.self)
-    (g.D.Desk.caller c.args.desk.now) (g.D.Desk.caller c.compose_owed-composed.new.view) c.args.begun.name (g.D.Desk.opened c.args.desk.now) c.dispose.result _ (g.met.D.Desk.reads_told _ _ kept) c.requires.opened c.dispose.ensures.asks
+    closes (g.D.View.shows c.args.desk.now) (g.D.Desk.log c.args.desk.now)
+    (g.D.Desk.log c.compose_owed-composed.new.view) (g.D.Desk.log c.dispose.new.self)
+    (g.D.View.asked c.args.desk.now) (g.D.View.asked c.compose_owed-composed.new.view)
+    (g.D.View.asked c.dispose.new.self)
+    (g.D.Desk.caller c.args.desk.now) (g.D.Desk.caller c.compose_owed-composed.new.view) c.args.begun.name
+    (g.D.Desk.opened c.args.desk.now) c.dispose.result _ (g.met.D.Desk.reads_told _ _ kept) c.requires.opened
+    c.dispose.ensures.asks
     (g.met.D.Desk.caller_kept _ _ kept) (c.dispose.ensures.log c.args.begun.name opened) tt
-    (λ m shows inner. c.dispose.ensures.disposed m c.args.begun.name (c.compose_owed-composed.ensures.same m shows) opened inner)
+    (λ m shows inner. c.dispose.ensures.disposed m c.args.begun.name (c.compose_owed-composed.ensures.same m shows)
+    opened inner)
 
 pub returns-clause-refused : goal.returns-clause-refused
 returns-clause-refused g c k m h shows inner =
     let kept = c.compose_owed-composed.ensures.keeps in
     let opened = g.met.D.Desk.opened_kept _ _ kept ∙ c.requires.opened in
     let asked = g.D.View.asked c.compose_owed-composed.new.view in
-    ends_part (g.D.Desk.log c.args.desk.now) (g.D.Desk.log c.compose_owed-composed.new.view) (g.D.Desk.log c.dispose.new.self) (g.D.View.asked c.args.desk.now) asked (frame_reads c.args.self.now.program.now k m)
-    (g.D.Desk.caller c.args.desk.now) (g.D.Desk.caller c.compose_owed-composed.new.view) c.args.begun.name (g.D.Desk.opened c.args.desk.now) c.dispose.result (g.met.D.Desk.reads_told _ _ kept) c.requires.opened
-    (grew_in_all c.compose_owed-composed.result (g.D.View.asked c.args.desk.now) asked asked (frame_reads c.args.self.now.program.now k m) refl (c.compose_owed-composed.ensures.asks k m h shows) (c.compose_owed-composed.ensures.part k m h shows))
-    (g.met.D.Desk.caller_kept _ _ kept) (c.dispose.ensures.disposed m c.args.begun.name (c.compose_owed-composed.ensures.same m shows) opened inner) (c.dispose.ensures.log c.args.begun.name opened)
+    ends_part (g.D.Desk.log c.args.desk.now) (g.D.Desk.log c.compose_owed-composed.new.view)
+    (g.D.Desk.log c.dispose.new.self) (g.D.View.asked c.args.desk.now) asked
+    (frame_reads c.args.self.now.program.now k m)
+    (g.D.Desk.caller c.args.desk.now) (g.D.Desk.caller c.compose_owed-composed.new.view) c.args.begun.name
+    (g.D.Desk.opened c.args.desk.now) c.dispose.result (g.met.D.Desk.reads_told _ _ kept) c.requires.opened
+    (grew_in_all c.compose_owed-composed.result (g.D.View.asked c.args.desk.now) asked asked
+    (frame_reads c.args.self.now.program.now k m) refl (c.compose_owed-composed.ensures.asks k m h shows)
+    (c.compose_owed-composed.ensures.part k m h shows))
+    (g.met.D.Desk.caller_kept _ _ kept)
+    (c.dispose.ensures.disposed m c.args.begun.name (c.compose_owed-composed.ensures.same m shows) opened inner)
+    (c.dispose.ensures.log c.args.begun.name opened)
 
 pub returns-in-Ok-composed-clause-detached : goal.returns-in-Ok-composed-clause-detached
-returns-in-Ok-composed-clause-detached g c k m h shows stop = c.apply.ensures.detached k m h (c.in-Ok-composed.ensures.made k m h shows) stop
+returns-in-Ok-composed-clause-detached g c k m h shows stop =
+    c.apply.ensures.detached k m h (c.in-Ok-composed.ensures.made k m h shows) stop
 
 pub returns-in-Ok-composed-clause-quiet : goal.returns-in-Ok-composed-clause-quiet
 returns-in-Ok-composed-clause-quiet g c k m h shows quiet =
     let made = c.in-Ok-composed.ensures.made k m h shows in
     let nothing = quiet_at c.args.self.now k m h quiet in
-    quiet_ends c.args.self.now.program.now k m nothing c.apply.new.self (g.D.View.asked c.args.desk.now) (g.D.View.asked c.dispose.new.self) c.apply.result (c.apply.ensures.unchanged k m h made nothing.calls_none)
+    quiet_ends c.args.self.now.program.now k m nothing c.apply.new.self (g.D.View.asked c.args.desk.now)
+    (g.D.View.asked c.dispose.new.self) c.apply.result (c.apply.ensures.unchanged k m h made nothing.calls_none)
     (c.dispose.ensures.asks ∙ c.in-Ok-composed.ensures.asks k m h shows) (c.apply.ensures.good k m h made)
 
 pub returns-clause-detached : goal.returns-clause-detached
-returns-clause-detached g c k m h shows stop = absurd (c.frame_stop.ensures.no_fault (let e : c.frame_stop.result ≡ ApplierFault = cc in e))
+returns-clause-detached g c k m h shows stop =
+    absurd (c.frame_stop.ensures.no_fault (let e : c.frame_stop.result ≡ ApplierFault = cc in e))

@@ -5,16 +5,20 @@ use Rattle.recomposer.proofs.composition.Composition.keep_composed.Goals as goal
 
 pub returns-in_default-clause-good : goal.returns-in_default-clause-good
 returns-in_default-clause-good c k m h composed =
-    c.keep_idle.ensures.good k m h (subst (λ (o : Option DraftGroups). IsComposed c.args.self.now k m o) c.in_default.is composed)
+    c.keep_idle.ensures.good k m h
+    (subst (λ (o : Option DraftGroups). IsComposed c.args.self.now k m o) c.in_default.is composed)
 
 pub returns-in_default-clause-report : goal.returns-in_default-clause-report
 returns-in_default-clause-report c k m h composed =
-    c.keep_idle.ensures.report k m h (subst (λ (o : Option DraftGroups). IsComposed c.args.self.now k m o) c.in_default.is composed)
+    c.keep_idle.ensures.report k m h
+    (subst (λ (o : Option DraftGroups). IsComposed c.args.self.now k m o) c.in_default.is composed)
 
 pub returns-clause-good : goal.returns-clause-good
 returns-clause-good c k m h composed =
-    c.keep.ensures.good k m h (subst (λ (o : Option DraftGroups). IsComposed c.args.self.now k m o) c.in-Some.is composed)
+    c.keep.ensures.good k m h (subst (λ (o : Option DraftGroups). IsComposed c.args.self.now k m o) c.in-Some.is
+    composed)
 
 pub returns-clause-report : goal.returns-clause-report
 returns-clause-report c k m h composed =
-    c.keep.ensures.report k m h (subst (λ (o : Option DraftGroups). IsComposed c.args.self.now k m o) c.in-Some.is composed)
+    c.keep.ensures.report k m h (subst (λ (o : Option DraftGroups). IsComposed c.args.self.now k m o) c.in-Some.is
+    composed)

@@ -6,7 +6,8 @@ pub returns-clause-noted : goal.returns-clause-noted
 returns-clause-noted c k l m h follows is = record {
   checked = h.checked;
   holds = h.holds;
-  owes = owes_more c.args.self.now.program.now k.seen k.trail l m c.args.self.now.owed c.mark.new.self c.args.changed.now h.owes follows is c.mark.ensures.all
+  owes = owes_more c.args.self.now.program.now k.seen k.trail l m c.args.self.now.owed c.mark.new.self
+      c.args.changed.now h.owes follows is c.mark.ensures.all
       (λ x low. c.mark.ensures.marked x (subst (λ n. x < n) (sym h.states) low));
   numbers = h.numbers;
   from_one = h.from_one;

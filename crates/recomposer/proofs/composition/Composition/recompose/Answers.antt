@@ -18,6 +18,8 @@ pub returns-in-Ok-clause-quiet : goal.returns-in-Ok-clause-quiet
 returns-in-Ok-clause-quiet g c k m h shows quiet =
     let p = c.args.self.now.program.now in
     let nothing = quiet_at c.args.self.now k m h quiet in (
-      quiet_reads p k m nothing (g.V.View.asked c.args.view.now) (g.V.View.asked c.compose_owed.new.view) (c.in-Ok.ensures.asks k m h shows),
-      quiet_kept p k m nothing c.keep_composed.new.self (c.keep_composed.ensures.good k m h (c.in-Ok.ensures.made k m h shows)),
+      quiet_reads p k m nothing (g.V.View.asked c.args.view.now) (g.V.View.asked c.compose_owed.new.view)
+          (c.in-Ok.ensures.asks k m h shows),
+      quiet_kept p k m nothing c.keep_composed.new.self
+          (c.keep_composed.ensures.good k m h (c.in-Ok.ensures.made k m h shows)),
     )

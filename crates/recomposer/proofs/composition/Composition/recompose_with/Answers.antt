@@ -8,7 +8,8 @@ use Rattle.recomposer.proofs.Stops.{on_ok, on_err, unless_fault, no_cause, may_b
 use Rattle.recomposer.proofs.composition.Composition.recompose_with.Goals as goal
 
 pub apply-requires : goal.apply-requires
-apply-requires g c = record { tree = may_be_called _ _ _ c.requires.tree (λ k at. (at.0, at.1, c.in-Ok.ensures.made k at.0 at.1 at.2)) }
+apply-requires g c =
+    record { tree = may_be_called _ _ _ c.requires.tree (λ k at. (at.0, at.1, c.in-Ok.ensures.made k at.0 at.1 at.2)) }
 
 pub returns-in-Ok-clause-good : goal.returns-in-Ok-clause-good
 returns-in-Ok-clause-good g c k m h shows = c.apply.ensures.good k m h (c.in-Ok.ensures.made k m h shows)
@@ -30,7 +31,8 @@ returns-in-Ok-clause-asks g c k m h shows = on_ok c.apply.result (c.in-Ok.ensure
 
 pub returns-in-Ok-clause-part : goal.returns-in-Ok-clause-part
 returns-in-Ok-clause-part g c k m h shows =
-    on_err c.apply.result (grew_in_all c.compose_owed.result _ _ _ _ refl (c.compose_owed.ensures.asks k m h shows) (c.compose_owed.ensures.part k m h shows))
+    on_err c.apply.result (grew_in_all c.compose_owed.result _ _ _ _ refl (c.compose_owed.ensures.asks k m h shows)
+    (c.compose_owed.ensures.part k m h shows))
 
 pub returns-in-Ok-clause-idle : goal.returns-in-Ok-clause-idle
 returns-in-Ok-clause-idle g c h =
@@ -45,16 +47,20 @@ returns-in-Err-clause-many g c k m h shows stop =
     c.compose_owed.ensures.many k m h shows is
 
 pub returns-in-Err-clause-fault : goal.returns-in-Err-clause-fault
-returns-in-Err-clause-fault g c k m h shows stop = absurd (c.frame_stop.ensures.no_fault (let e : c.frame_stop.result ≡ ApplierFault = cc in e))
+returns-in-Err-clause-fault g c k m h shows stop =
+    absurd (c.frame_stop.ensures.no_fault (let e : c.frame_stop.result ≡ ApplierFault = cc in e))
 
 pub returns-in-Err-clause-err : goal.returns-in-Err-clause-err
-returns-in-Err-clause-err g c = unless_fault {U = Report} {X = c.args.self.now ≡ c.args.self.now} (Err c.frame_stop.result) refl
+returns-in-Err-clause-err g c =
+    unless_fault {U = Report} {X = c.args.self.now ≡ c.args.self.now} (Err c.frame_stop.result) refl
 
 pub returns-in-Err-clause-still : goal.returns-in-Err-clause-still
-returns-in-Err-clause-still g c = let tree = g.A.Applier.tree c.args.applier.now in unless_fault {U = Report} {X = tree ≡ tree} (Err c.frame_stop.result) refl
+returns-in-Err-clause-still g c = let tree = g.A.Applier.tree c.args.applier.now in
+    unless_fault {U = Report} {X = tree ≡ tree} (Err c.frame_stop.result) refl
 
 pub returns-in-Err-clause-cause : goal.returns-in-Err-clause-cause
-returns-in-Err-clause-cause g c = no_cause _ _ (λ stop. c.frame_stop.ensures.no_fault (let e : c.frame_stop.result ≡ ApplierFault = cc in e))
+returns-in-Err-clause-cause g c =
+    no_cause _ _ (λ stop. c.frame_stop.ensures.no_fault (let e : c.frame_stop.result ≡ ApplierFault = cc in e))
 
 pub returns-in-Err-clause-idle : goal.returns-in-Err-clause-idle
 returns-in-Err-clause-idle g c h =
@@ -62,14 +68,18 @@ returns-in-Err-clause-idle g c h =
     absurd cc
 
 pub returns-in-Ok-clause-detached : goal.returns-in-Ok-clause-detached
-returns-in-Ok-clause-detached g c k m h shows stop = c.apply.ensures.detached k m h (c.in-Ok.ensures.made k m h shows) stop
+returns-in-Ok-clause-detached g c k m h shows stop =
+    c.apply.ensures.detached k m h (c.in-Ok.ensures.made k m h shows) stop
 
 pub returns-in-Ok-clause-quiet : goal.returns-in-Ok-clause-quiet
 returns-in-Ok-clause-quiet g c k m h shows quiet =
     let made = c.in-Ok.ensures.made k m h shows in
     let nothing = quiet_at c.args.self.now k m h quiet in
-    quiet_ends c.args.self.now.program.now k m nothing c.apply.new.self (g.V.View.asked c.args.view.now) (g.V.View.asked c.compose_owed.new.view) c.apply.result (c.apply.ensures.unchanged k m h made nothing.calls_none)
+    quiet_ends c.args.self.now.program.now k m nothing c.apply.new.self (g.V.View.asked c.args.view.now)
+    (g.V.View.asked c.compose_owed.new.view) c.apply.result
+    (c.apply.ensures.unchanged k m h made nothing.calls_none)
     (c.in-Ok.ensures.asks k m h shows) (c.apply.ensures.good k m h made)
 
 pub returns-in-Err-clause-detached : goal.returns-in-Err-clause-detached
-returns-in-Err-clause-detached g c k m h shows stop = absurd (c.frame_stop.ensures.no_fault (let e : c.frame_stop.result ≡ ApplierFault = cc in e))
+returns-in-Err-clause-detached g c k m h shows stop =
+    absurd (c.frame_stop.ensures.no_fault (let e : c.frame_stop.result ≡ ApplierFault = cc in e))

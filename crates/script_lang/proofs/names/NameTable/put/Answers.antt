@@ -8,11 +8,15 @@ use Rattle.script_lang.proofs.names.NameTable.put.Goals as goal
 pub returns-in-Some : goal.returns-in-Some
 returns-in-Some c =
     let some = subst (λ o. IsSome o) c.in-Some.ensures.value refl in
-    updates_names c.args.name.now c.args.self.now.numbers (c.get_mut.follows.lender c.args.number) (Some c.args.number) ((c.get_mut.follows.holds c.args.number).3 some)
+    updates_names c.args.name.now c.args.self.now.numbers (c.get_mut.follows.lender c.args.number) (Some c.args.number)
+    ((c.get_mut.follows.holds c.args.number).3 some)
 
 pub returns-in_ok-insert-in-None : goal.returns-in_ok-insert-in-None
 returns-in_ok-insert-in-None c = λ other.
     let same : c.in_ok-key-in-None.key.items ≡ c.args.name.now = search rules in
-    updates_names c.in_ok-key-in-None.key.items c.get_mut.follows.lender-at-none c.insert.new.self (Some c.args.number) c.in_ok-insert-in-None.ensures.updates other
-    ∙ ap (λ (l : List ℕ). cond (bytes_eq l other) (Some c.args.number) (get_by (λ k. bytes_eq other k.items) c.get_mut.follows.lender-at-none)) same
-    ∙ ap (λ m. cond (bytes_eq c.args.name.now other) (Some c.args.number) (get_by (λ k. bytes_eq other k.items) m)) c.get_mut.follows.holds-at-none
+    updates_names c.in_ok-key-in-None.key.items c.get_mut.follows.lender-at-none c.insert.new.self (Some c.args.number)
+    c.in_ok-insert-in-None.ensures.updates other
+    ∙ ap (λ (l : List ℕ). cond (bytes_eq l other) (Some c.args.number)
+    (get_by (λ k. bytes_eq other k.items) c.get_mut.follows.lender-at-none)) same
+    ∙ ap (λ m. cond (bytes_eq c.args.name.now other) (Some c.args.number) (get_by (λ k. bytes_eq other k.items) m))
+    c.get_mut.follows.holds-at-none

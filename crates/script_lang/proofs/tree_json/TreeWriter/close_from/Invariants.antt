@@ -4,7 +4,8 @@ use Rattle.script_lang.proofs.tree_json.TreeWriter.close_from.Given as goal
 
 abbrev pub invariant-loop-node : goal.invariant-loop-node
 invariant-loop-node l = record {
-  text : l.text.items ++ ends_from l.depth l.self.open_nodes ≡ l.fn.text.items ++ ends_from l.depth l.fn.self.open_nodes;
+  text : l.text.items ++ ends_from l.depth l.self.open_nodes
+      ≡ l.fn.text.items ++ ends_from l.depth l.fn.self.open_nodes;
   state : state_at l.depth l.self.open_nodes l.self.later ≡ state_at l.depth l.fn.self.open_nodes l.fn.self.later;
 }
 

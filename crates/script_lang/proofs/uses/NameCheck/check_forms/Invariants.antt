@@ -6,7 +6,8 @@ use Rattle.script_lang.proofs.uses.NameCheck.check_forms.Given as goal
 
 abbrev pub invariant-loop-form : goal.invariant-loop-form
 invariant-loop-form l = (threads : Bool) (states : List State) (s : Scan) → IsAt threads states l.fn.self s →
-    (now : Scan) × IsAt threads states l.self now × (scans threads states now (text_forms l.actor l.rest) ≡ scans threads states s (text_forms l.actor l.forms))
+    (now : Scan) × IsAt threads states l.self now
+    × (scans threads states now (text_forms l.actor l.rest) ≡ scans threads states s (text_forms l.actor l.forms))
 
 abbrev pub decreases-loop-form : goal.decreases-loop-form
 decreases-loop-form l = length l.rest

@@ -6,7 +6,8 @@ use Rattle.script_lang.proofs.uses.NameCheck.check_steps.Given as goal
 
 abbrev pub invariant-loop-step : goal.invariant-loop-step
 invariant-loop-step l = (threads : Bool) (states : List State) (s : Scan) → IsAt threads states l.fn.self s →
-    (now : Scan) × IsAt threads states l.self now × (scans threads states now (text_steps l.actor l.rest) ≡ scans threads states s (text_steps l.actor l.steps))
+    (now : Scan) × IsAt threads states l.self now
+    × (scans threads states now (text_steps l.actor l.rest) ≡ scans threads states s (text_steps l.actor l.steps))
 
 abbrev pub decreases-loop-step : goal.decreases-loop-step
 decreases-loop-step l = length l.rest
