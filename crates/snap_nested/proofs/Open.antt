@@ -1,14 +1,14 @@
 -- The open names after each change of the members.
-use Rattle.std.proofs.Common.{◌≡◌, ◌≢◌, ℕ, zero, suc, ◌<◌, List, [], ◌∷◌, length, refl, sym, ap, ◌∙◌, subst, Bool, true, false, ◌&&◌, ◌||◌, ◌==◌, arith, inl, inr, length-append, length-set}
-use Rattle.std.proofs.lemmas.Bool.Decides.{Decides-eqb}
+use Rattle.std.proofs.Common.{◌≡◌, ◌≢◌, ℕ, zero, suc, ◌<◌, ◌≤◌, ◌⊎◌, List, [], ◌∷◌, length, refl, sym, ap, ◌∙◌, subst, Bool, true, false, ◌&&◌, ◌||◌, ◌==◌, arith, inl, inr, length-append, length-set}
+use Rattle.std.proofs.lemmas.Bool.Decides.{Decides-eqb, eqb_tells}
 use Rattle.std.proofs.lemmas.List.{get_or-set_same, get_or-set_other}
 use Rattle.std.specs.List.{list_any}
-use Rattle.std.specs.Prelude.{slice_set}
+use Rattle.std.specs.Prelude.{slice_index_or, slice_set}
 use Rattle.rt_values.specs.Maps.{contains}
 use Rattle.rt_values.specs.declared.names.Kind.{Kind}
-use Rattle.snap_ids.specs.IdLists.{is_valid, is_empty, with_id, without_id, without_ids}
+use Rattle.snap_ids.specs.IdLists.{IsRising, is_valid, is_empty, with_id, without_id, without_ids}
 use Rattle.snap_ids.proofs.Booleans.{same_or_other, not_both, or_left, or_right, or_true}
-use Rattle.snap_ids.proofs.IdLists.{contains-with_id, contains-without_id, kept-without_id, without_ids-twice}
+use Rattle.snap_ids.proofs.IdLists.{rising_at, contains-with_id, contains-without_id, kept-without_id, without_ids-twice}
 use Rattle.snap_nested.specs.Members.{no_member, member, AreMembers, AreOpen, members_after_enter, members_after_advance, members_after_close, IsForgotten, without_invalid, sees, is_seen, is_owned, is_free, global}
 use Rattle.snap_nested.specs.declared.family.Member.{Member}
 use Rattle.snap_nested.proofs.Members.{any_open, new, later, at_new, at_other, at_name, at_rest}
@@ -38,6 +38,31 @@ free_open os ms k o h =
     let own = some_own (member ms k).ids (free_parts (member ms k).is_live (is_empty (member ms k).ids)
     (is_seen ms (member ms k).first) h).1 in
     o.kept k own.0 own.1
+
+-- The index of an item of a list.
+pub index_of : (k : ℕ) (xs : List ℕ) → contains k xs ≡ true → (j : ℕ) × (j < length xs) × (slice_index_or xs j 0 ≡ k)
+index_of k [] h = absurd cc
+index_of k (x ∷ xs) h = elim (or_true (x == k) (contains k xs) h) [
+  | inl e ↦ (0, omega arith, (Decides-eqb x k).0 e)
+  | inr e ↦ let p = index_of k xs e in (suc p.0, omega (arith, p.1), p.2)
+]
+
+-- In a rising list, a lower item has a lower index.
+pub lower_before : (xs : List ℕ) (at k j : ℕ) → IsRising xs → j < length xs → slice_index_or xs j 0 ≡ k → k < slice_index_or xs at 0 → j < at
+lower_before xs at k j r within is low = elim (order_tells j at) [
+  | inl e ↦ e
+  | inr e ↦ elim (eqb_tells j at) [
+    | inl f ↦ absurd (omega (arith, low, is, ap (λ (n : ℕ). slice_index_or xs n 0) f.1))
+    | inr f ↦ absurd (omega (arith, low, is, rising_at xs at j r (omega (arith, e, f.1)) within))
+  ]
+] where
+  order_tells : (a b : ℕ) → (a < b) ⊎ (b ≤ a)
+  order_tells a zero = inr (omega arith)
+  order_tells zero (suc b) = inl (omega arith)
+  order_tells (suc a) (suc b) = elim (order_tells a b) [
+    | inl e ↦ inl (omega (arith, e))
+    | inr e ↦ inr (omega (arith, e))
+  ]
 
 module _ (os : List ℕ) (ms : List Member) (handed parent : ℕ) (kind : Kind) (owner : ℕ) (a : AreMembers ms handed)
     (up : (member ms parent).is_live ≡ true) (o : AreOpen os ms) where

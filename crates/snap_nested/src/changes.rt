@@ -286,6 +286,7 @@ pub fn first_free(members: &[Member], held: &IdList) -> Option<Name>
     requires { AreOpen held.now members.now }
     ensures within { IfSome result (λ n. n < length members.now) }
     ensures free { IfSome result (λ n. is_free members.now (member members.now n) ≡ true) }
+    ensures first { IfSome result (λ n. (k : ℕ) → k < n → is_free members.now (member members.now k) ≡ false) }
     ensures none { IfNone result ((k : ℕ) → is_free members.now (member members.now k) ≡ false) }
 {
     for name in held.ids() {
