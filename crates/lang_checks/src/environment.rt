@@ -1,5 +1,5 @@
 // The variables in scope, with their types.
-ghost use Rattle.std.specs.Prelude.{◌≡◌, [], ◌∷◌, ◌++◌, List, IfOk, OnOk};
+ghost use Rattle.std.specs.Prelude.{◌≡◌, [], ◌∷◌, ◌++◌, List, IfOk, OnOk, OnErr};
 ghost use Rattle.lang_checks.specs.Scopes.{typed_name, bound_type};
 ghost use Rattle.lang_checks.specs.declared.environment.TypedName.{TypedName as bound_data};
 
@@ -40,9 +40,10 @@ impl TypeEnv {
         }
     }
 
-    /// Appends a name.
+    /// Appends a name with its type. After `NoMemory` the environment is unchanged.
     pub fn push(&mut self, name: &Ident, ty: Ty) -> Result<(), NoMemory>
-        ensures { OnOk result (self.new ≡ self.old ++ typed_name name.now ty ∷ []) }
+        ensures ok { OnOk result (self.new ≡ self.old ++ typed_name name.now ty ∷ []) }
+        ensures err { OnErr result (self.new ≡ self.old) }
     {
         self.items.push(TypedName {
             name: name.text.copy()?,
@@ -51,10 +52,11 @@ impl TypeEnv {
         Ok(())
     }
 
-    /// Removes the latest name, if there is one.
+    /// Removes the latest name, if there is one. An empty environment stays empty.
     pub fn pop(&mut self)
-        ensures { (b : bound_data) (before : List bound_data) → self.old ≡ before ++ b ∷ [] →
+        ensures last { (b : bound_data) (before : List bound_data) → self.old ≡ before ++ b ∷ [] →
             self.new ≡ before }
+        ensures none { self.old ≡ [] → self.new ≡ [] }
     {
         let _ = self.items.pop();
     }
