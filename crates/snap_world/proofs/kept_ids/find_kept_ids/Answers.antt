@@ -29,9 +29,9 @@ loop-reader-init c =
     let open_name = λ (n : ℕ) (live : (ids_of s.members.items).live n ≡ true). ap (λ (l : List ℕ). contains n l)
     c.open_names-reader-items.ensures.names ∙ s.listed.live n live in
     record {
-      own = one_listed _ _ c.set_only.new.self c.id.ensures.id c.in_ok-set_only.ensures;
-      needed = λ i h. own (only_one i c.id.result c.set_only.new.self c.in_ok-set_only.ensures h ∙ c.id.ensures.id);
-      few = omega (arith, ap (λ (l : List ℕ). length l) c.in_ok-set_only.ensures);
+      own = one_listed _ _ c.set_only.new.self c.id.ensures.id c.in_ok-set_only.ensures.ok;
+      needed = λ i h. own (only_one i c.id.result c.set_only.new.self c.in_ok-set_only.ensures.ok h ∙ c.id.ensures.id);
+      few = omega (arith, ap (λ (l : List ℕ). length l) c.in_ok-set_only.ensures.ok);
       views = λ n live other out. absurd (not_both (contains n c.open_names-reader-items.result.now) (open_name n live)
           out);
       bases = λ n live inner out. absurd (not_both (contains n c.open_names-reader-items.result.now) (open_name n live)
