@@ -1,5 +1,5 @@
 // Names with the numbers that they were given.
-ghost use Rattle.std.specs.Prelude.{◌≡◌, [], List, ℕ, Some, OnOk, if◌then◌else◌};
+ghost use Rattle.std.specs.Prelude.{◌≡◌, [], List, ℕ, Some, IsSome, OnOk, OnErr, if◌then◌else◌};
 ghost use Rattle.std.specs.Str.{bytes_eq};
 ghost use Rattle.script_lang.specs.SnapshotNames.{NamedNumber, snapshot_number};
 ghost use Rattle.script_lang.specs.NamesInMemory.{number_in, Holds};
@@ -38,8 +38,9 @@ impl NameTable {
 
     /// Gives `name` a number, in place of an earlier one. Takes no memory if `name` has a number.
     pub fn put(&mut self, alloc: Global, name: &[u8], number: u64) -> Result<(), NoMemory>
-        ensures { OnOk result ((other : List ℕ) → number_in self.new other ≡
+        ensures put { OnOk result ((other : List ℕ) → number_in self.new other ≡
             (if bytes_eq name.now other then Some number else number_in self.old other)) }
+        ensures free { IsSome (number_in self.old name.now) → OnErr result ⊥ }
     {
         match self.numbers.get_mut(name) {
             Some(kept) => {

@@ -12,7 +12,7 @@ returns-in-Ok-put-clause-runs g c frame r kind parent h is =
     (c.in-Ok.ensures.says r.standing.world h.facts.world_stands).all (c.in-Ok.ensures.reply r.standing.world
     h.facts.world_stands) (c.in-Ok.ensures.left r.standing.world h.facts.world_stands)
     (c.in-Ok.ensures.log r.standing.world h.facts.world_stands) refl
-    (λ other. c.in-Ok-put.ensures other
+    (λ other. c.in-Ok-put.ensures.put other
     ∙ ap (λ (b : List ℕ). cond (bytes_eq b other) (Some c.number_taken.result)
     (number_in c.args.memory.now.names other)) c.bytes.ensures
     ∙ ap (λ (n : ℕ). cond (bytes_eq c.args.name.now other) (Some n) (number_in c.args.memory.now.names other))

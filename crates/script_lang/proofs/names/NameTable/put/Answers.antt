@@ -5,14 +5,14 @@ use Rattle.std.specs.HashMap.{get_by}
 use Rattle.script_lang.proofs.HashedNames.{updates_names}
 use Rattle.script_lang.proofs.names.NameTable.put.Goals as goal
 
-pub returns-in-Some : goal.returns-in-Some
-returns-in-Some c =
+pub returns-in-Some-clause-put : goal.returns-in-Some-clause-put
+returns-in-Some-clause-put c =
     let some = subst (λ o. IsSome o) c.in-Some.ensures.value refl in
     updates_names c.args.name.now c.args.self.now.numbers (c.get_mut.follows.lender c.args.number) (Some c.args.number)
     ((c.get_mut.follows.holds c.args.number).3 some)
 
-pub returns-in_ok-insert-in-None : goal.returns-in_ok-insert-in-None
-returns-in_ok-insert-in-None c = λ other.
+pub returns-in_ok-insert-in-None-clause-put : goal.returns-in_ok-insert-in-None-clause-put
+returns-in_ok-insert-in-None-clause-put c = λ other.
     let same : c.in_ok-key-in-None.key.items ≡ c.args.name.now = search rules in
     updates_names c.in_ok-key-in-None.key.items c.get_mut.follows.lender-at-none c.insert.new.self (Some c.args.number)
     c.in_ok-insert-in-None.ensures.updates other
