@@ -45,9 +45,10 @@ impl Env {
         Ok(())
     }
 
-    /// Removes the latest variable.
+    /// Removes the latest variable, if there is one. An empty scope stays empty.
     pub fn pop(&mut self)
-        ensures { (bindings : List Binding) (b : Binding) → self.old ≡ bindings ++ b ∷ [] → self.new ≡ bindings }
+        ensures last { (bindings : List Binding) (b : Binding) → self.old ≡ bindings ++ b ∷ [] → self.new ≡ bindings }
+        ensures none { self.old ≡ [] → self.new ≡ [] }
     {
         let _ = self.bindings.pop();
     }
