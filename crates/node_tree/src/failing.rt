@@ -27,9 +27,13 @@ pub struct FailingTree {
 }
 
 impl FailingTree {
-    /// Returns the tree without nodes, whose calls with the numbers `failing` fail.
+    /// Returns the tree without nodes, whose calls with the numbers `failing` fail. The counts of calls and of failed
+    /// calls are 0.
     pub fn new(alloc: Global, failing: Vec<u64>) -> Self
         ensures tree { ⟦<FailingTree as Applier>⟧.tree result ≡ Some (tree_at_root no_nodes) }
+        ensures faults { ⟦<FailingTree as Applier>⟧.faults result ≡ 0 }
+        ensures failing { result.failing.items ≡ failing.items }
+        ensures calls { result.calls ≡ 0 }
     {
         FailingTree {
             tree: NodeTree::new(alloc),

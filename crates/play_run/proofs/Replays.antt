@@ -362,7 +362,8 @@ module _ {functions : List Func} {memory : ReplayMemory} (s : Standing) (e : Ent
     plays_read {memory' = memory'} style now written same legal h kept given grew = record {
       says = record {
         all = subst (Appends written written)
-            (sym (ap (λ b. flat (cond b [] (lines_at style functions s e))) (is_read f e x asks))) (appends_none written);
+            (sym (ap (λ b. flat (cond b [] (lines_at style functions s e))) (is_read f e x asks)))
+            (appends_none written);
         part = tt;
       };
       left = (

@@ -48,7 +48,8 @@ index_of k (x ∷ xs) h = elim (or_true (x == k) (contains k xs) h) [
 ]
 
 -- In a rising list, a lower item has a lower index.
-pub lower_before : (xs : List ℕ) (at k j : ℕ) → IsRising xs → j < length xs → slice_index_or xs j 0 ≡ k → k < slice_index_or xs at 0 → j < at
+pub lower_before : (xs : List ℕ) (at k j : ℕ) → IsRising xs → j < length xs → slice_index_or xs j 0 ≡ k
+    → k < slice_index_or xs at 0 → j < at
 lower_before xs at k j r within is low = elim (order_tells j at) [
   | inl e ↦ e
   | inr e ↦ elim (eqb_tells j at) [

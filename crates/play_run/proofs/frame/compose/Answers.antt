@@ -49,7 +49,8 @@ returns-clause-reads g c =
       keeps.more,
       subst (λ l. LogsReadsIn (g.V.Versions.log c.args.world.now) l c.args.caller (Some c.args.name)
           keeps.more) (search rules)
-          (subst (λ w. LogsReadsIn (g.V.Versions.log w) (g.V.Versions.log ended.world.now) c.args.caller (Some c.args.name)
+          (subst (λ w. LogsReadsIn (g.V.Versions.log w) (g.V.Versions.log ended.world.now) c.args.caller
+          (Some c.args.name)
           keeps.more) c.new-desk.ensures.world told),
     )
 
