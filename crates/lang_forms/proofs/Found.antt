@@ -21,7 +21,8 @@ use Rattle.lang_ast.specs.declared.syntax.Operator.{Operator}
 use Rattle.lang_ast.specs.declared.syntax.Operator.TheVariants as operator
 use Rattle.lang_limits.specs.Tokens.{fits}
 use Rattle.lang_forms.specs.Names.{is_name, all_fit, is_string, is_list_long}
-use Rattle.lang_forms.specs.Words.{type_word, policy_word, kind_word, operator_word, if_word, type_for_word, policy_for_word, kind_for_word, number_operator, truth_operator, list_operator, operator_for_word}
+use Rattle.rt_values.specs.Keywords.{kind_word, type_word}
+use Rattle.lang_forms.specs.Words.{policy_word, operator_word, if_word, type_for_word, policy_for_word, kind_for_word, number_operator, truth_operator, list_operator, operator_for_word}
 use Rattle.lang_forms.specs.Sketch.{Sketch, Fits, IsAtOffset}
 use Rattle.lang_forms.specs.Forms.{numbers, literal, literal_fits, plain_fits}
 use Rattle.lang_forms.specs.Readings.{◌>>=◌, choose, Seen, seen_trees, is_end, word_of, name_of, type_of, policy_of, kind_of, operator_of, int_of, truth_of, plain_of, string_of, number_of_first, ints_of, literal_form, literal_of}

@@ -19,7 +19,7 @@ use Rattle.lang_ast.specs.declared.script.ScriptForm.{ScriptForm}
 use Rattle.lang_ast.specs.declared.script.ScriptForm.TheVariants.{Once, Repeat}
 use Rattle.lang_limits.specs.Tokens.{fits}
 use Rattle.lang_forms.specs.Names.{is_name, number_of}
-use Rattle.lang_forms.specs.Words.{kind_word}
+use Rattle.rt_values.specs.Keywords.{kind_word}
 use Rattle.lang_forms.specs.Sketch.{Sketch, nothing, Fits}
 use Rattle.lang_forms.specs.Forms.{name, snapshot_forms, call_forms, calls_forms, step_forms, steps_forms, actor_step_forms, actor_forms, is_snapshot, SpelledCall, SpelledCalls, SpelledStep, SpelledSteps, SpelledActorStep, SpelledActor}
 use Rattle.lang_forms.specs.Readings.{when, Seen, seen_trees, word, chars, form, word_of, name_of, literal_at, number_of_first, snapshot_of, state_in_snapshot, take_form, read_form, write_form, add_form, only_snapshot, plain_step_form, plain_steps_of, during_form, frame_form, step_form, steps_of, repeat_form, actor_step_form, actor_steps_of}

@@ -7,7 +7,8 @@ use Rattle.lang_ast.specs.declared.syntax.Parameter.{Parameter}
 use Rattle.lang_ast.specs.declared.program.State.{State}
 use Rattle.lang_ast.specs.declared.script.DoForm.{DoForm}
 use Rattle.lang_forms.specs.Names.{is_name}
-use Rattle.lang_forms.specs.Words.{type_word, policy_word}
+use Rattle.rt_values.specs.Keywords.{type_word}
+use Rattle.lang_forms.specs.Words.{policy_word}
 use Rattle.lang_forms.specs.Sketch.{Sketch, nothing, Fits}
 use Rattle.lang_forms.specs.Sources.{Source}
 use Rattle.lang_forms.specs.Forms.{parameters_forms, states_forms, functions_forms, scripts_forms, KnownNames, site_after_all, state_name, function_name, SpelledParameters, SpelledStates, SpelledFunctions, SpelledScripts, HasForms}

@@ -33,7 +33,8 @@ use Rattle.rt_values.specs.declared.names.Kind.TheVariants as kind
 use Rattle.snap_policy.specs.declared.policy.BuiltIn.{BuiltIn}
 use Rattle.snap_policy.specs.declared.policy.BuiltIn.TheVariants as policy
 use Rattle.lang_forms.specs.Names.{is_letter, is_name}
-use Rattle.lang_forms.specs.Words.{type_word, policy_word, kind_word, operator_word}
+use Rattle.rt_values.specs.Keywords.{kind_word, type_word}
+use Rattle.lang_forms.specs.Words.{policy_word, operator_word}
 use Rattle.lang_forms.specs.Sketch.{Sketch, nothing, leaf, numeral, string, group, sequence, Fits, FitsUnlimited}
 use Rattle.lang_forms.specs.Sources.{Source}
 use Rattle.lang_forms.specs.Forms.{numbers, literal, expr_forms, exprs_forms, pairs_forms, stmt_forms, stmts_forms, parameters_forms, snapshot_forms, call_forms, calls_forms, step_forms, steps_forms, actor_step_forms, actor_forms, states_forms, functions_forms, scripts_forms, text_forms, KnownNames, Spelled, AllSpelled, SpelledPairs, SpelledStmt, SpelledStmts, SpelledParameters, SpelledStates, SpelledFunctions, is_snapshot, SpelledCall, SpelledCalls, SpelledStep, SpelledSteps, SpelledActorStep, SpelledActor, SpelledScripts, SpelledSource, site_after_all, function_name, HasForms, HasUnlimitedForms}

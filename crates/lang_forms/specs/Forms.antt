@@ -20,7 +20,8 @@ use Rattle.lang_ast.specs.declared.script.ScriptForm.TheVariants.{Once, Repeat}
 use Rattle.lang_ast.specs.declared.script.DoForm.{DoForm}
 use Rattle.lang_limits.specs.Tokens.{fits}
 use Rattle.lang_forms.specs.Names.{is_name, all_fit, is_string, is_list_long, number_of}
-use Rattle.lang_forms.specs.Words.{type_word, policy_word, kind_word, operator_word, takes}
+use Rattle.rt_values.specs.Keywords.{kind_word, type_word}
+use Rattle.lang_forms.specs.Words.{policy_word, operator_word, takes}
 use Rattle.lang_forms.specs.Sketch.{Sketch, nothing, leaf, numeral, string, group, sequence, Fits, FitsUnlimited}
 use Rattle.lang_forms.specs.Sources.{Source}
 

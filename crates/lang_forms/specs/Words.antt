@@ -11,13 +11,6 @@ use Rattle.snap_policy.specs.declared.policy.BuiltIn.TheVariants as policy
 use Rattle.lang_ast.specs.declared.syntax.Operator.{Operator}
 use Rattle.lang_ast.specs.declared.syntax.Operator.TheVariants as operator
 
--- The keyword of a type.
-abbrev pub type_word : Ty → List ℕ
-type_word ty.Int = codes "Int"
-type_word ty.Bool = codes "Bool"
-type_word ty.Text = codes "Text"
-type_word ty.Ints = codes "Ints"
-
 -- The keyword of a policy.
 abbrev pub policy_word : BuiltIn → List ℕ
 policy_word policy.Structural = codes "Structural"
@@ -25,11 +18,6 @@ policy_word policy.Never = codes "Never"
 policy_word policy.Counter = codes "Counter"
 policy_word policy.Largest = codes "Largest"
 policy_word policy.Append = codes "Append"
-
--- The keyword of a kind of snapshots.
-abbrev pub kind_word : Kind → List ℕ
-kind_word kind.Mutable = codes "mutable"
-kind_word kind.Readonly = codes "readonly"
 
 -- The keyword of an operator.
 abbrev pub operator_word : Operator → List ℕ

@@ -1,7 +1,8 @@
 // The keywords of types, policies, kinds of snapshots and operators.
 ghost use Rattle.std.specs.Prelude.{◌≡◌, ◌≤◌, Bool};
 ghost use Rattle.std.specs.Option.{option_map, IfSome};
-ghost use Rattle.lang_forms.specs.Words.{type_word, operator_word, takes, type_for_word, policy_for_word, kind_for_word, number_operator, truth_operator, list_operator, operator_for_word};
+ghost use Rattle.rt_values.specs.Keywords.{type_word};
+ghost use Rattle.lang_forms.specs.Words.{operator_word, takes, type_for_word, policy_for_word, kind_for_word, number_operator, truth_operator, list_operator, operator_for_word};
 ghost use Rattle.lang_forms.specs.Readings.{type_of, policy_of, kind_of, operator_of};
 ghost use Rattle.lang_forms.specs.Views.{widest, seen_all};
 

@@ -13,7 +13,8 @@ use Rattle.lang_ast.specs.declared.syntax.Statement.{Statement}
 use Rattle.lang_forms.specs.Sketch.{Sketch, nothing, leaf, numeral, string, group, sequence, Fits, unplaced_sketch}
 use Rattle.lang_forms.specs.Forms.{word, name, literal, expr_forms, exprs_forms, stmt_forms, stmts_forms, parameters_forms, states_forms, functions_forms, scripts_forms, top_forms, text_forms}
 use Rattle.lang_forms.specs.Sources.{Source}
-use Rattle.lang_forms.specs.Words.{type_word, policy_word}
+use Rattle.rt_values.specs.Keywords.{type_word}
+use Rattle.lang_forms.specs.Words.{policy_word}
 
 -- What a walk that adds trees needs.
 pub ruleset written = (forest_view-push, joined_trees_assoc, joined_trees-empty, view-Atom, view-Text, view-List)

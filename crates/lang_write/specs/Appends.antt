@@ -11,7 +11,7 @@ use Rattle.lang_ast.specs.declared.script.StepForm.{StepForm}
 use Rattle.rt_values.specs.declared.names.Kind.{Kind}
 use Rattle.rt_values.specs.declared.value.Value.{Value}
 use Rattle.lang_forms.specs.Sketch.{Sketch, nothing, numeral, group, unplaced_sketch}
-use Rattle.lang_forms.specs.Words.{kind_word}
+use Rattle.rt_values.specs.Keywords.{kind_word}
 use Rattle.lang_forms.specs.Forms.{word, name, literal, expr_forms, exprs_forms, pairs_forms, stmts_forms, snapshot_forms, calls_forms, steps_forms}
 
 -- The trees grew by those of a form, whatever comes after it.

@@ -4,12 +4,12 @@ ghost use Rattle.std.specs.Fmt.{signed_decimal};
 ghost use Rattle.sexp_text.specs.Forest.{Forest, empty, atom, text, list, joined_trees};
 ghost use Rattle.sexp_text.specs.View.{tree_view, forest_view};
 ghost use Rattle.lang_ast.specs.SyntaxView.{expr_view, exprs_view, nameds_view};
-ghost use Rattle.lang_forms.specs.Words.{type_word, policy_word, operator_word};
+ghost use Rattle.lang_forms.specs.Words.{policy_word, operator_word};
 ghost use Rattle.lang_forms.specs.Sketch.{Sketch, group, unplaced_sketch};
 ghost use Rattle.lang_forms.specs.Forms.{name, numbers, literal, expr_forms, exprs_forms, pairs_forms};
 
 use lang_ast::{Expression, Ident, Named, Operator};
-use rt_values::{NoMemory, Ty, Value, Word};
+use rt_values::{NoMemory, Value, Word};
 use sexp_text::Tree;
 use snap_policy::BuiltIn;
 use std::alloc::Global;
@@ -68,18 +68,6 @@ pub fn list_with_word(alloc: Global, word: &[u8]) -> Result<Vec<Tree>, NoMemory>
     let mut inner = Vec::new(alloc);
     put_word(alloc, word, &mut inner)?;
     Ok(inner)
-}
-
-// Returns the keyword of a type.
-pub fn word_of_type(ty: Ty) -> &'static [u8]
-    ensures { result.now ≡ type_word ty }
-{
-    match ty {
-        Ty::Int => b"Int",
-        Ty::Bool => b"Bool",
-        Ty::Text => b"Text",
-        Ty::Ints => b"Ints",
-    }
 }
 
 // Returns the keyword of a policy.

@@ -10,7 +10,7 @@ ghost use Rattle.lang_forms.specs.Forms.{expr_forms, stmt_forms, stmts_forms, pa
 
 use crate::write_expressions::{
     list_with_word, put_binding, put_expr, put_exprs, put_list, put_literal, put_named, put_word,
-    word_of_policy, word_of_type,
+    word_of_policy,
 };
 use lang_ast::{Expression, Function, Ident, Named, Parameter, Program, State, Statement};
 use rt_values::NoMemory;
@@ -243,7 +243,7 @@ fn put_parameters(
     while let Some((parameter, more)) = rest.split_first() {
         let mut inner = Vec::new(alloc);
         put_word(alloc, parameter.name.text.bytes(), &mut inner)?;
-        put_word(alloc, word_of_type(parameter.ty), &mut inner)?;
+        put_word(alloc, parameter.ty.word(), &mut inner)?;
         put_list(inner, out)?;
         rest = more;
     }
@@ -259,7 +259,7 @@ fn put_state(alloc: Global, state: &State, out: &mut Vec<Tree>) -> Result<(), No
 {
     let mut inner = list_with_word(alloc, b"state")?;
     put_word(alloc, state.name.text.bytes(), &mut inner)?;
-    put_word(alloc, word_of_type(state.ty), &mut inner)?;
+    put_word(alloc, state.ty.word(), &mut inner)?;
     put_word(alloc, word_of_policy(state.policy), &mut inner)?;
     put_literal(alloc, &state.initial, &mut inner)?;
     put_list(inner, out)

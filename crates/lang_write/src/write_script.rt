@@ -3,7 +3,6 @@ ghost use Rattle.std.specs.Prelude.{◌≡◌, ℕ, codes, IfOk, OnOk, None, Som
 ghost use Rattle.sexp_text.specs.Forest.{Forest, atom, list, empty, joined_trees};
 ghost use Rattle.sexp_text.specs.View.{forest_view};
 ghost use Rattle.lang_forms.specs.Sketch.{Sketch, group, unplaced_sketch};
-ghost use Rattle.lang_forms.specs.Words.{kind_word};
 ghost use Rattle.lang_forms.specs.Forms.{snapshot_forms, call_forms, calls_forms, step_forms, steps_forms, actor_step_forms, actor_forms, do_forms, scripts_forms};
 ghost use Rattle.lang_write.specs.Appends.{AppendsForms, state_sketch, take_sketch, read_sketch, write_sketch, add_sketch, only_sketch, during_sketch, repeat_sketch};
 
@@ -12,16 +11,6 @@ use lang_ast::{CallForm, DoForm, Ident, ScriptForm, SnapshotRef, StepForm};
 use rt_values::{Kind, NoMemory, Value};
 use sexp_text::Tree;
 use std::alloc::Global;
-
-// Returns the keyword of a kind of snapshots.
-fn word_of_kind(kind: Kind) -> &'static [u8]
-    ensures { result.now ≡ kind_word kind }
-{
-    match kind {
-        Kind::Mutable => b"mutable",
-        Kind::Readonly => b"readonly",
-    }
-}
 
 // Appends `global` or the name of a snapshot.
 #[tactic(auto, using(crate::proofs::Written::written))]
@@ -64,7 +53,7 @@ fn put_take(
 {
     let mut inner = list_with_word(alloc, b"take")?;
     put_word(alloc, name.text.bytes(), &mut inner)?;
-    put_word(alloc, word_of_kind(kind), &mut inner)?;
+    put_word(alloc, kind.word(), &mut inner)?;
     put_snapshot(alloc, parent, &mut inner)?;
     Ok(put_list(inner, out)?)
 }

@@ -1,7 +1,8 @@
 -- Lines of trees: one after another, and independent of offsets.
 use Rattle.std.proofs.Common.{◌≡◌, ℕ, Bool, true, false, List, [], ◌∷◌, ◌++◌, refl, sym, ap, ◌∙◌, append_assoc}
 use Rattle.sexp_text.specs.Forest.{Forest, empty, atom, text, list, joined_trees, without_offsets}
-use Rattle.sexp_text.specs.Grammar.{escaped_string, Spells}
+use Rattle.rt_values.specs.Values.{escape_all}
+use Rattle.sexp_text.specs.Grammar.{Spells}
 use Rattle.sexp_text.specs.Layout.{separator, inline_form, lines}
 use Rattle.sexp_text.specs.View.{tree_view, forest_view}
 use Rattle.sexp_text.specs.declared.tree.Tree.{Tree}
@@ -15,8 +16,8 @@ use Rattle.play_core.proofs.Uniques.{text-forms}
 lines-behind : (f g : Forest) → lines (joined_trees f g) ≡ lines f ++ lines g
 lines-behind empty g = refl
 lines-behind (atom at a f) g = ap (λ l. a ++ 10 ∷ l) (lines-behind f g) ∙ sym (append_assoc a (10 ∷ lines f) (lines g))
-lines-behind (text at s f) g = ap (λ l. 34 ∷ escaped_string s ++ 34 ∷ 10 ∷ l) (lines-behind f g)
-    ∙ sym (append_assoc (34 ∷ escaped_string s) (34 ∷ 10 ∷ lines f) (lines g))
+lines-behind (text at s f) g = ap (λ l. 34 ∷ escape_all s ++ 34 ∷ 10 ∷ l) (lines-behind f g)
+    ∙ sym (append_assoc (34 ∷ escape_all s) (34 ∷ 10 ∷ lines f) (lines g))
 lines-behind (list at i f) g = ap (λ l. 40 ∷ inline_form false i ++ 41 ∷ 10 ∷ l) (lines-behind f g)
     ∙ sym (append_assoc (40 ∷ inline_form false i) (41 ∷ 10 ∷ lines f) (lines g))
 
@@ -36,7 +37,7 @@ inline_form-without_offsets : (f : Forest) (due : Bool) → inline_form due (wit
 inline_form-without_offsets empty due = refl
 inline_form-without_offsets (atom at a f) due = ap (λ l. separator due ++ a ++ l) (inline_form-without_offsets f true)
 inline_form-without_offsets (text at s f) due =
-    ap (λ l. separator due ++ 34 ∷ escaped_string s ++ 34 ∷ l) (inline_form-without_offsets f true)
+    ap (λ l. separator due ++ 34 ∷ escape_all s ++ 34 ∷ l) (inline_form-without_offsets f true)
 inline_form-without_offsets (list at i f) due =
     ap (λ l. separator due ++ 40 ∷ l ++ 41 ∷ inline_form true (without_offsets f)) (inline_form-without_offsets i false)
     ∙ ap (λ l. separator due ++ 40 ∷ inline_form false i ++ 41 ∷ l) (inline_form-without_offsets f true)
@@ -44,7 +45,7 @@ inline_form-without_offsets (list at i f) due =
 lines-without_offsets : (f : Forest) → lines (without_offsets f) ≡ lines f
 lines-without_offsets empty = refl
 lines-without_offsets (atom at a f) = ap (λ l. a ++ 10 ∷ l) (lines-without_offsets f)
-lines-without_offsets (text at s f) = ap (λ l. 34 ∷ escaped_string s ++ 34 ∷ 10 ∷ l) (lines-without_offsets f)
+lines-without_offsets (text at s f) = ap (λ l. 34 ∷ escape_all s ++ 34 ∷ 10 ∷ l) (lines-without_offsets f)
 lines-without_offsets (list at i f) = ap (λ l. 40 ∷ l ++ 41 ∷ 10 ∷ lines (without_offsets f))
     (inline_form-without_offsets i false) ∙ ap (λ l. 40 ∷ inline_form false i ++ 41 ∷ 10 ∷ l) (lines-without_offsets f)
 

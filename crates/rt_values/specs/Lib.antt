@@ -1,5 +1,6 @@
 pub mod Limits
 pub mod Values
+pub mod Keywords
 pub mod Operators
 pub mod Maps
 pub mod Views

@@ -1,4 +1,6 @@
 // Numbers of snapshots, state objects, watchers and callers, and the error `NoMemory`.
+ghost use Rattle.std.specs.Prelude.{◌≡◌};
+ghost use Rattle.rt_values.specs.Keywords.{kind_word};
 
 use std::alloc::{AllocError, AllocFailed};
 
@@ -22,6 +24,18 @@ pub type Caller = u64;
 pub enum Kind {
     Mutable,
     Readonly,
+}
+
+impl Kind {
+    /// Returns the keyword of the kind.
+    pub fn word(self) -> &'static [u8]
+        ensures { result.now ≡ kind_word self }
+    {
+        match self {
+            Kind::Mutable => b"mutable",
+            Kind::Readonly => b"readonly",
+        }
+    }
 }
 
 /// The error that an allocation failed.

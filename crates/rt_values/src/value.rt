@@ -1,6 +1,7 @@
 // Values of states and expressions, with their types and printed forms.
 ghost use Rattle.std.specs.Prelude.{◌≡◌, ◌++◌, ◌∷◌, [], ◌↔◌, List, ℕ, codes, true, IfOk, OnOk, OnErr};
 ghost use Rattle.std.specs.Fmt.{signed_decimal};
+ghost use Rattle.rt_values.specs.Keywords.{type_word};
 ghost use Rattle.rt_values.specs.Values.{type_of, same_type, same_value, value_text, truth_text, escape, escape_all, items_text, is_flat};
 
 use crate::{IntList, NoMemory, Txt};
@@ -21,6 +22,18 @@ pub enum Ty {
 }
 
 impl Ty {
+    /// Returns the keyword of the type.
+    pub fn word(self) -> &'static [u8]
+        ensures { result.now ≡ type_word self }
+    {
+        match self {
+            Ty::Int => b"Int",
+            Ty::Bool => b"Bool",
+            Ty::Text => b"Text",
+            Ty::Ints => b"Ints",
+        }
+    }
+
     /// Returns whether both types are equal.
     pub fn same(self, other: Ty) -> bool
         ensures { result ≡ same_type self other }

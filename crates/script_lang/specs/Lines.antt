@@ -4,11 +4,8 @@ use Rattle.std.specs.Prelude.{ℕ, zero, suc, ◌+◌, ◌==◌, not, List, [], 
 use Rattle.std.specs.List.{flat_map, filter}
 use Rattle.std.specs.Option.{option_map_or}
 use Rattle.std.specs.Fmt.{decimal}
-use Rattle.rt_values.specs.declared.value.Ty.{Ty}
-use Rattle.rt_values.specs.declared.value.Ty.TheVariants as ty
-use Rattle.rt_values.specs.declared.names.Kind.{Kind}
-use Rattle.rt_values.specs.declared.names.Kind.TheVariants.{Mutable, Readonly}
 use Rattle.rt_values.specs.Values.{value_text}
+use Rattle.rt_values.specs.Keywords.{type_word, kind_word}
 use Rattle.rt_values.specs.Maps.{contains}
 use Rattle.rt_groups.specs.GroupForest.{Attribute, GroupForest}
 use Rattle.rt_groups.specs.Nodes.{Nodes, Branch, nodes}
@@ -78,18 +75,8 @@ snapshot_number_text name = if name == never_taken then codes "-" else decimal n
 abbrev pub snapshot : ℕ → List ℕ
 snapshot name = 64 ∷ snapshot_number_text name
 
-abbrev pub kind_text : Kind → List ℕ
-kind_text Mutable = codes "mutable"
-kind_text Readonly = codes "readonly"
-
-abbrev pub type_text : Ty → List ℕ
-type_text ty.Int = codes "Int"
-type_text ty.Bool = codes "Bool"
-type_text ty.Text = codes "Text"
-type_text ty.Ints = codes "Ints"
-
 abbrev pub request_text : List State → Request → List ℕ
-request_text states (request.Take parent kind) = codes "take " ++ kind_text kind ++ 32 ∷ snapshot parent
+request_text states (request.Take parent kind) = codes "take " ++ kind_word kind ++ 32 ∷ snapshot parent
 request_text states (request.TakeFor watcher) = codes "frame"
 request_text states (request.Read name x) = codes "read " ++ snapshot name ++ 32 ∷ state_name states x
 request_text states (request.Write name x v) =
@@ -105,7 +92,7 @@ refusal_text t (refusal.NotYours owner) = codes "owned by " ++ actor_name t.acto
 refusal_text t refusal.UnknownObject = codes "unknown object"
 refusal_text t refusal.UnknownWatcher = codes "unknown watcher"
 refusal_text t refusal.ReadOnly = codes "read only"
-refusal_text t (refusal.WrongType kept) = codes "wrong type " ++ type_text kept
+refusal_text t (refusal.WrongType kept) = codes "wrong type " ++ type_word kept
 refusal_text t refusal.BadPolicy = codes "bad policy"
 refusal_text t refusal.ParentClosed = codes "parent closed"
 refusal_text t (refusal.Conflict x) = codes "conflict " ++ state_name t.states x

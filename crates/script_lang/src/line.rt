@@ -2,14 +2,15 @@
 ghost use Rattle.std.specs.Prelude.{◌≡◌, ◌++◌, ◌∷◌, [], List, ℕ, OnOk, OnErr, codes};
 ghost use Rattle.std.specs.Fmt.{decimal};
 ghost use Rattle.rt_values.specs.Values.{value_text};
-ghost use Rattle.script_lang.specs.Lines.{Titles, titles_of, actor_name, state_name, state_names, snapshot, snapshot_number_text, kind_text, type_text, request_text, refusal_text, reply_text, call_text, entry_line, line};
+ghost use Rattle.rt_values.specs.Keywords.{kind_word};
+ghost use Rattle.script_lang.specs.Lines.{Titles, titles_of, actor_name, state_name, state_names, snapshot, snapshot_number_text, request_text, refusal_text, reply_text, call_text, entry_line, line};
 
 use crate::Script;
 use crate::names::NEVER_TAKEN;
 use itoa::Buffer;
 use lang_ast::State;
 use lang_checks::Checked;
-use rt_values::{Caller, Kind, Name, NoMemory, ObjectNo, Ty, Value, Word};
+use rt_values::{Caller, Kind, Name, NoMemory, ObjectNo, Value, Word};
 use snap_api::{Entry, Refusal, Reply, Request};
 
 // Appends `piece`. A piece of known length is copied without a call.
@@ -116,17 +117,6 @@ fn add_named(text: &mut Vec<u8>, words: &[u8], name: Name) -> Result<(), NoMemor
     add_number(text, name)
 }
 
-fn type_word(ty: Ty) -> &'static [u8]
-    ensures { result.now ≡ type_text ty }
-{
-    match ty {
-        Ty::Int => b"Int",
-        Ty::Bool => b"Bool",
-        Ty::Text => b"Text",
-        Ty::Ints => b"Ints",
-    }
-}
-
 /// Appends the printed form of a value. A number of one digit needs no buffer.
 pub fn add_printed(text: &mut Vec<u8>, value: &Value) -> Result<(), NoMemory>
     ensures { OnOk result (text.new.items ≡ text.old.items ++ value_text value.now) }
@@ -157,7 +147,7 @@ fn add_request(text: &mut Vec<u8>, states: &[State], request: &Request) -> Resul
 }
 
 fn add_take(text: &mut Vec<u8>, parent: Name, kind: Kind) -> Result<(), NoMemory>
-    ensures { let words = codes ": take " ++ kind_text kind ++ 32 ∷ snapshot parent in
+    ensures { let words = codes ": take " ++ kind_word kind ++ 32 ∷ snapshot parent in
         OnOk result (text.new.items ≡ text.old.items ++ words) }
 {
     match kind {
@@ -294,7 +284,7 @@ fn add_refusal(
         Refusal::UnknownObject => add(text, b"unknown object"),
         Refusal::UnknownWatcher => add(text, b"unknown watcher"),
         Refusal::ReadOnly => add(text, b"read only"),
-        Refusal::WrongType { kept } => add_two(text, b"wrong type ", type_word(kept)),
+        Refusal::WrongType { kept } => add_two(text, b"wrong type ", kept.word()),
         Refusal::BadPolicy => add(text, b"bad policy"),
         Refusal::ParentClosed => add(text, b"parent closed"),
         Refusal::Conflict { object } => add_conflict(text, states, object),

@@ -7,7 +7,8 @@ use Rattle.std.proofs.Math.Bool.{or-false, ◌||◌}
 use Rattle.std.specs.List.{list_all}
 use Rattle.std.specs.Option.{option_and_then}
 use Rattle.sexp_text.specs.Forest.{Forest, empty, atom, text, list, joined_trees}
-use Rattle.sexp_text.specs.Grammar.{is_blank, is_atom_byte, is_char, is_name, is_comment, is_tail, escape, escaped_string, Spelling, nothing, blank, comment, word, quoted, parens, spelling_bytes, begins_with_word, is_well_spelled, forest_at, Spells}
+use Rattle.rt_values.specs.Values.{escape, escape_all}
+use Rattle.sexp_text.specs.Grammar.{is_blank, is_atom_byte, is_char, is_name, is_comment, is_tail, Spelling, nothing, blank, comment, word, quoted, parens, spelling_bytes, begins_with_word, is_well_spelled, forest_at, Spells}
 use Rattle.sexp_text.specs.Machine.{Mode, gap, in_comment, in_word, in_text, in_escape, OpenLists, State, start, step, run, finish, forest_at_end, whole}
 use Rattle.sexp_text.proofs.Trees.{joined_trees-empty, joined_trees_assoc}
 use Rattle.sexp_text.proofs.Walks.{run_on}
@@ -125,11 +126,11 @@ escape_on c from chars os f at h = by (c == 34) (c == 92) (c == 10) refl refl re
 -- The spelling of a string is parsed as its characters.
 pub chars_on : (cs : List ℕ) (from : ℕ) (chars : List ℕ) (os : OpenLists) (f : Forest) (at : ℕ)
     → list_all is_char cs ≡ true
-    → run (in_text from chars, os, f) at (escaped_string cs) ≡ Some (in_text from (chars ++ cs), os, f)
+    → run (in_text from chars, os, f) at (escape_all cs) ≡ Some (in_text from (chars ++ cs), os, f)
 chars_on [] from chars os f at h = ap (λ l. Some (in_text from l, os, f)) (sym (append-nil chars))
 chars_on (c ∷ cs) from chars os f at h =
     let p = both (is_char c) (list_all is_char cs) h in
-    run_on (escape c) (escaped_string cs) (in_text from chars, os, f) (in_text from (chars ++ c ∷ []), os, f) at
+    run_on (escape c) (escape_all cs) (in_text from chars, os, f) (in_text from (chars ++ c ∷ []), os, f) at
     (escape_on c from chars os f at p.0)
     ∙ chars_on cs from (chars ++ c ∷ []) os f (at + length (escape c)) p.1
     ∙ ap (λ l. Some (in_text from l, os, f)) (append_assoc chars (c ∷ []) cs)
@@ -141,7 +142,7 @@ after_spelling m f at (blank b s) = after_spelling gap (settled m f) (at + 1) s
 after_spelling m f at (comment cs s) = after_spelling gap (settled m f) (at + length cs + 2) s
 after_spelling m f at (word name s) = after_spelling (in_word at name) (settled m f) (at + length name) s
 after_spelling m f at (quoted chars s) =
-    after_spelling gap (joined_trees (settled m f) (text at chars empty)) (at + length (escaped_string chars) + 2) s
+    after_spelling gap (joined_trees (settled m f) (text at chars empty)) (at + length (escape_all chars) + 2) s
 after_spelling m f at (parens inner s) =
     after_spelling gap (joined_trees (settled m f) (list at (forest_at (at + 1) inner) empty))
     (at + length (spelling_bytes inner) + 2) s
@@ -171,7 +172,7 @@ after_spelling-between (word name s) m f at h =
     after_spelling-between s (in_word at name) (settled m f) (at + length name) tt
 after_spelling-between (quoted chars s) m f at h =
     after_spelling-between s gap (joined_trees (settled m f) (text at chars empty))
-    (at + length (escaped_string chars) + 2) tt
+    (at + length (escape_all chars) + 2) tt
 after_spelling-between (parens inner s) m f at h =
     after_spelling-between s gap (joined_trees (settled m f) (list at (forest_at (at + 1) inner) empty))
     (at + length (spelling_bytes inner) + 2) tt
@@ -187,8 +188,8 @@ after_spelling-settled (word name s) m f at =
     ∙ joined_trees_assoc (settled m f) (atom at name empty) (forest_at (at + length name) s)
 after_spelling-settled (quoted chars s) m f at =
     after_spelling-settled s gap (joined_trees (settled m f) (text at chars empty))
-    (at + length (escaped_string chars) + 2)
-    ∙ joined_trees_assoc (settled m f) (text at chars empty) (forest_at (at + length (escaped_string chars) + 2) s)
+    (at + length (escape_all chars) + 2)
+    ∙ joined_trees_assoc (settled m f) (text at chars empty) (forest_at (at + length (escape_all chars) + 2) s)
 after_spelling-settled (parens inner s) m f at =
     after_spelling-settled s gap (joined_trees (settled m f) (list at (forest_at (at + 1) inner) empty))
     (at + length (spelling_bytes inner) + 2)
@@ -270,15 +271,15 @@ spelling_on (quoted chars s) m os f at rest h k =
     let p = both (list_all is_char chars) (is_well_spelled s) h in
     let o : State = (in_text at [], os, settled m f) in
     let g : Forest = joined_trees (settled m f) (text at chars empty) in
-    begins_on m os f at 34 ((escaped_string chars ++ 34 ∷ spelling_bytes s) ++ rest) o
+    begins_on m os f at 34 ((escape_all chars ++ 34 ∷ spelling_bytes s) ++ rest) o
     (between-apart m (quoted chars s) k) refl refl
-    ∙ ap (run o (at + 1)) (append_assoc (escaped_string chars) (34 ∷ spelling_bytes s) rest)
-    ∙ run_on (escaped_string chars) (34 ∷ spelling_bytes s ++ rest) o (in_text at chars, os, settled m f) (at + 1)
+    ∙ ap (run o (at + 1)) (append_assoc (escape_all chars) (34 ∷ spelling_bytes s) rest)
+    ∙ run_on (escape_all chars) (34 ∷ spelling_bytes s ++ rest) o (in_text at chars, os, settled m f) (at + 1)
     (chars_on chars at [] os (settled m f) (at + 1) p.0)
     ∙ ap (λ n. run (gap, os, g) n (spelling_bytes s ++ rest)) (omega arith)
-    ∙ spelling_on s gap os g (at + length (escaped_string chars) + 2) rest p.1 tt
-    ∙ ap (λ n. run (beside os (after_spelling gap g (at + length (escaped_string chars) + 2) s)) n rest)
-    (omega (arith, length-append (escaped_string chars) (34 ∷ spelling_bytes s)))
+    ∙ spelling_on s gap os g (at + length (escape_all chars) + 2) rest p.1 tt
+    ∙ ap (λ n. run (beside os (after_spelling gap g (at + length (escape_all chars) + 2) s)) n rest)
+    (omega (arith, length-append (escape_all chars) (34 ∷ spelling_bytes s)))
 spelling_on (parens inner s) m os f at rest h k =
     let p = both (is_well_spelled inner) (is_well_spelled s) h in
     let around : OpenLists = (at, settled m f) ∷ os in

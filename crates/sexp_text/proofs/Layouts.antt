@@ -5,25 +5,25 @@ use Rattle.std.proofs.lemmas.List.{append-nil}
 use Rattle.sexp_text.specs.View.{tree_view, forest_view}
 use Rattle.sexp_text.specs.declared.tree.Tree.{Tree}
 use Rattle.sexp_text.specs.Forest.{Forest, joined_trees}
-use Rattle.sexp_text.specs.Grammar.{escape, escaped_string}
+use Rattle.rt_values.specs.Values.{escape, escape_all}
 use Rattle.sexp_text.specs.Layout.{separator, inline_form}
 use Rattle.sexp_text.proofs.Trees.{OneTree, one_atom, one_text, one_list, one_tree}
 
-pub escaped_string-append : (xs ys : List ℕ) → escaped_string (xs ++ ys) ≡ escaped_string xs ++ escaped_string ys
-escaped_string-append [] ys = refl
-escaped_string-append (x ∷ xs) ys = ap (λ l. escape x ++ l) (escaped_string-append xs ys)
-    ∙ sym (append_assoc (escape x) (escaped_string xs) (escaped_string ys))
+pub escape_all-append : (xs ys : List ℕ) → escape_all (xs ++ ys) ≡ escape_all xs ++ escape_all ys
+escape_all-append [] ys = refl
+escape_all-append (x ∷ xs) ys = ap (λ l. escape x ++ l) (escape_all-append xs ys)
+    ∙ sym (append_assoc (escape x) (escape_all xs) (escape_all ys))
 
 -- The spelling of a prefix of a string grows by the spelling of the next byte.
-pub escaped_string-more : (xs : List ℕ) (i : ℕ) → i < length xs
-    → escaped_string (take (i + 1) xs) ≡ escaped_string (take i xs) ++ escape (get_or xs i 0)
-escaped_string-more xs i lt =
-    ap (λ n. escaped_string (take n xs)) (add-one i) ∙ ap escaped_string (take-suc xs i 0 lt)
-    ∙ escaped_string-append (take i xs) (get_or xs i 0 ∷ [])
-    ∙ ap (λ l. escaped_string (take i xs) ++ l) (append-nil (escape (get_or xs i 0)))
+pub escape_all-more : (xs : List ℕ) (i : ℕ) → i < length xs
+    → escape_all (take (i + 1) xs) ≡ escape_all (take i xs) ++ escape (get_or xs i 0)
+escape_all-more xs i lt =
+    ap (λ n. escape_all (take n xs)) (add-one i) ∙ ap escape_all (take-suc xs i 0 lt)
+    ∙ escape_all-append (take i xs) (get_or xs i 0 ∷ [])
+    ∙ ap (λ l. escape_all (take i xs) ++ l) (append-nil (escape (get_or xs i 0)))
 
 -- The rules for printing a string in quotes.
-pub ruleset quotes = (escaped_string-more, append_assoc)
+pub ruleset quotes = (escape_all-more, append_assoc)
 
 -- A row prints its first tree and then the remaining trees.
 row_one : (f g : Forest) (due : Bool) → OneTree f

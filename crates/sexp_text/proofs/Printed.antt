@@ -5,7 +5,8 @@ use Rattle.std.proofs.lemmas.Str.{IsUtf8-append, IsUtf8-nil}
 use Rattle.std.specs.List.{list_all}
 use Rattle.std.specs.Str.{IsUtf8}
 use Rattle.sexp_text.specs.Forest.{Forest, empty, atom, text, list, nesting, without_offsets}
-use Rattle.sexp_text.specs.Grammar.{is_blank, is_atom_byte, is_char, is_name, is_comment, escaped_string, Spelling, nothing, blank, comment, word, quoted, parens, spelling_bytes, begins_with_word, is_well_spelled, forest_at, Spells}
+use Rattle.rt_values.specs.Values.{escape_all}
+use Rattle.sexp_text.specs.Grammar.{is_blank, is_atom_byte, is_char, is_name, is_comment, Spelling, nothing, blank, comment, word, quoted, parens, spelling_bytes, begins_with_word, is_well_spelled, forest_at, Spells}
 use Rattle.sexp_text.specs.Layout.{separator, inline_form, lines, CanBeSpelled, SpellsUnplaced}
 use Rattle.sexp_text.proofs.Complete.{both}
 use Rattle.sexp_text.proofs.Fronts.{ascii_one, blank_ascii, atom_ascii}
@@ -41,8 +42,8 @@ written-inline_form (atom at a f) due =
     ∙ sym (append_assoc (separator due) a (inline_form true f))
 written-inline_form (text at s f) due =
     written-behind_blank due (quoted s (row_spelling true f))
-    ∙ ap (λ l. separator due ++ (34 ∷ escaped_string s ++ 34 ∷ l)) (written-inline_form f true)
-    ∙ sym (append_assoc (separator due) (34 ∷ escaped_string s) (34 ∷ inline_form true f))
+    ∙ ap (λ l. separator due ++ (34 ∷ escape_all s ++ 34 ∷ l)) (written-inline_form f true)
+    ∙ sym (append_assoc (separator due) (34 ∷ escape_all s) (34 ∷ inline_form true f))
 written-inline_form (list at i f) due =
     written-behind_blank due (parens (row_spelling false i) (row_spelling true f))
     ∙ ap (λ l. separator due ++ (40 ∷ spelling_bytes (row_spelling false i) ++ 41 ∷ l)) (written-inline_form f true)
@@ -52,7 +53,7 @@ written-inline_form (list at i f) due =
 written-lines : (f : Forest) → spelling_bytes (lines_spelling f) ≡ lines f
 written-lines empty = refl
 written-lines (atom at a f) = ap (λ l. a ++ 10 ∷ l) (written-lines f)
-written-lines (text at s f) = ap (λ l. 34 ∷ escaped_string s ++ 34 ∷ 10 ∷ l) (written-lines f)
+written-lines (text at s f) = ap (λ l. 34 ∷ escape_all s ++ 34 ∷ 10 ∷ l) (written-lines f)
 written-lines (list at i f) =
     ap (λ l. 40 ∷ spelling_bytes (row_spelling false i) ++ 41 ∷ 10 ∷ l) (written-lines f)
     ∙ ap (λ l. 40 ∷ l ++ 41 ∷ 10 ∷ lines f) (written-inline_form i false)
@@ -72,7 +73,7 @@ without_offsets-inline_form (atom p a f) due at =
     (λ k. ap (atom 0 a) (without_offsets-inline_form f true (k + length a))) at
 without_offsets-inline_form (text p s f) due at =
     without_offsets-behind_blank due (quoted s (row_spelling true f)) (text 0 s (without_offsets f))
-    (λ k. ap (text 0 s) (without_offsets-inline_form f true (k + length (escaped_string s) + 2))) at
+    (λ k. ap (text 0 s) (without_offsets-inline_form f true (k + length (escape_all s) + 2))) at
 without_offsets-inline_form (list p i f) due at =
     without_offsets-behind_blank due (parens (row_spelling false i) (row_spelling true f))
     (list 0 (without_offsets i) (without_offsets f))
@@ -85,7 +86,7 @@ without_offsets-inline_form (list p i f) due at =
 without_offsets-lines : (f : Forest) (at : ℕ) → without_offsets (forest_at at (lines_spelling f)) ≡ without_offsets f
 without_offsets-lines empty at = refl
 without_offsets-lines (atom p a f) at = ap (atom 0 a) (without_offsets-lines f (at + length a + 1))
-without_offsets-lines (text p s f) at = ap (text 0 s) (without_offsets-lines f (at + length (escaped_string s) + 2 + 1))
+without_offsets-lines (text p s f) at = ap (text 0 s) (without_offsets-lines f (at + length (escape_all s) + 2 + 1))
 without_offsets-lines (list p i f) at =
     ap (λ g. list 0 g (without_offsets
     (forest_at (at + length (spelling_bytes (row_spelling false i)) + 2 + 1) (lines_spelling f))))
@@ -138,9 +139,9 @@ row_utf8 empty due h = IsUtf8-nil
 row_utf8 (atom at a f) due h = IsUtf8-append (separator due ++ a) (inline_form true f)
     (IsUtf8-append (separator due) a (spaced_utf8 due) (atom_utf8 a h.0)) (row_utf8 f true h.1)
 row_utf8 (text at s f) due h =
-    subst IsUtf8 (sym (append_assoc (separator due) (34 ∷ escaped_string s) (34 ∷ inline_form true f)))
-    (IsUtf8-append (separator due) (34 ∷ escaped_string s ++ 34 ∷ inline_form true f) (spaced_utf8 due)
-    (around_utf8 34 34 (escaped_string s) (inline_form true f) (omega arith) (omega arith) (escaped_utf8 s h.0)
+    subst IsUtf8 (sym (append_assoc (separator due) (34 ∷ escape_all s) (34 ∷ inline_form true f)))
+    (IsUtf8-append (separator due) (34 ∷ escape_all s ++ 34 ∷ inline_form true f) (spaced_utf8 due)
+    (around_utf8 34 34 (escape_all s) (inline_form true f) (omega arith) (omega arith) (escaped_utf8 s h.0)
     (row_utf8 f true h.2)))
 row_utf8 (list at i f) due h =
     subst IsUtf8 (sym (append_assoc (separator due) (40 ∷ inline_form false i) (41 ∷ inline_form true f)))
@@ -154,7 +155,7 @@ line_end ys y = IsUtf8-append (10 ∷ []) ys (ascii_one 10 (omega arith)) y
 lines_utf8 : (f : Forest) → CanBeSpelled f → IsUtf8 (lines f)
 lines_utf8 empty h = IsUtf8-nil
 lines_utf8 (atom at a f) h = IsUtf8-append a (10 ∷ lines f) (atom_utf8 a h.0) (line_end (lines f) (lines_utf8 f h.1))
-lines_utf8 (text at s f) h = around_utf8 34 34 (escaped_string s) (10 ∷ lines f) (omega arith) (omega arith)
+lines_utf8 (text at s f) h = around_utf8 34 34 (escape_all s) (10 ∷ lines f) (omega arith) (omega arith)
     (escaped_utf8 s h.0) (line_end (lines f) (lines_utf8 f h.2))
 lines_utf8 (list at i f) h = around_utf8 40 41 (inline_form false i) (10 ∷ lines f) (omega arith) (omega arith)
     (row_utf8 i false h.0) (line_end (lines f) (lines_utf8 f h.1))
@@ -223,8 +224,8 @@ spelling_can (word name s) rest at h u =
     ((q.0, r.0), r.1)
 spelling_can (quoted cs s) rest at h u =
     let p = both (list_all is_char cs) (is_well_spelled s) h in
-    let e = enclosed 34 34 (escaped_string cs) (spelling_bytes s) rest (omega arith) (omega arith) u in
-    let r = spelling_can s rest (at + length (escaped_string cs) + 2) p.1 e.1 in
+    let e = enclosed 34 34 (escape_all cs) (spelling_bytes s) rest (omega arith) (omega arith) u in
+    let r = spelling_can s rest (at + length (escape_all cs) + 2) p.1 e.1 in
     ((unescaped_utf8 cs e.0, p.0, r.0), r.1)
 spelling_can (parens inner s) rest at h u =
     let p = both (is_well_spelled inner) (is_well_spelled s) h in

@@ -9,7 +9,8 @@ use Rattle.std.specs.Str.{IsUtf8}
 use Rattle.std.specs.declared.option.Option.{Option}
 use Rattle.std.specs.Option.{option_and_then, IfSome}
 use Rattle.sexp_text.specs.Forest.{Forest, empty, atom, text, list, joined_trees}
-use Rattle.sexp_text.specs.Grammar.{is_blank, is_atom_byte, is_char, is_name, is_comment, is_tail, escape, escaped_string, Spelling, nothing, blank, comment, word, quoted, parens, spelling_bytes, begins_with_word, is_well_spelled, forest_at, Spells}
+use Rattle.rt_values.specs.Values.{escape, escape_all}
+use Rattle.sexp_text.specs.Grammar.{is_blank, is_atom_byte, is_char, is_name, is_comment, is_tail, Spelling, nothing, blank, comment, word, quoted, parens, spelling_bytes, begins_with_word, is_well_spelled, forest_at, Spells}
 use Rattle.sexp_text.specs.Machine.{Mode, gap, in_comment, in_word, in_text, in_escape, OpenLists, State, close_list, start, step, next, run, first_state, finish, forest_at_end, all_closed, whole}
 use Rattle.sexp_text.proofs.Trees.{joined_trees-empty, joined_trees_assoc}
 use Rattle.sexp_text.proofs.Walks.{tested}
@@ -109,17 +110,17 @@ close_before o at bs os f g r = (
 )
 
 text_before : (cs : List ℕ) (at : ℕ) (bs : List ℕ) (os : OpenLists) (f g : Forest) → list_all is_char cs ≡ true
-    → Remains os (joined_trees f (text at cs empty)) (at + length (escaped_string cs) + 2) bs g
-    → Remains os f at (34 ∷ escaped_string cs ++ 34 ∷ bs) g
+    → Remains os (joined_trees f (text at cs empty)) (at + length (escape_all cs) + 2) bs g
+    → Remains os f at (34 ∷ escape_all cs ++ 34 ∷ bs) g
 text_before cs at bs os f g e r =
-    subst (λ (l : List ℕ). Remains os f at l g) (ap (λ l. 34 ∷ l) (append_assoc (escaped_string cs) (34 ∷ []) bs))
-    (prepend (quoted cs) at (34 ∷ escaped_string cs ++ 34 ∷ []) (text at cs empty) bs
-    (λ s. ap (λ l. 34 ∷ l) (sym (append_assoc (escaped_string cs) (34 ∷ []) (spelling_bytes s))))
-    (λ s. ap (λ n. text at cs (forest_at n s)) (omega (arith, length-append (escaped_string cs) (34 ∷ []))))
+    subst (λ (l : List ℕ). Remains os f at l g) (ap (λ l. 34 ∷ l) (append_assoc (escape_all cs) (34 ∷ []) bs))
+    (prepend (quoted cs) at (34 ∷ escape_all cs ++ 34 ∷ []) (text at cs empty) bs
+    (λ s. ap (λ l. 34 ∷ l) (sym (append_assoc (escape_all cs) (34 ∷ []) (spelling_bytes s))))
+    (λ s. ap (λ n. text at cs (forest_at n s)) (omega (arith, length-append (escape_all cs) (34 ∷ []))))
     (λ s rest h _. rw (e, h) refl) os f g
     (moved os (joined_trees f (text at cs empty)) (joined_trees f (text at cs empty))
-    (at + length (escaped_string cs) + 2) (at + length (34 ∷ escaped_string cs ++ 34 ∷ [])) bs g
-    refl (omega (arith, length-append (escaped_string cs) (34 ∷ []))) r))
+    (at + length (escape_all cs) + 2) (at + length (34 ∷ escape_all cs ++ 34 ∷ [])) bs g
+    refl (omega (arith, length-append (escape_all cs) (34 ∷ []))) r))
 
 abbrev starts_atom : List ℕ → Bool
 starts_atom [] = false
@@ -156,8 +157,8 @@ Last (o ∷ os) f g = ⊥
 -- The rest of the input inside a string that has the characters `chars` so far.
 abbrev TextRemains : ℕ → List ℕ → OpenLists → Forest → ℕ → List ℕ → Forest → Type 0
 TextRemains from chars os f at bs g =
-    (cs : List ℕ) × (more : List ℕ) × (list_all is_char cs ≡ true) × (bs ≡ escaped_string cs ++ 34 ∷ more)
-    × Remains os (joined_trees f (text from (chars ++ cs) empty)) (at + length (escaped_string cs) + 1) more g
+    (cs : List ℕ) × (more : List ℕ) × (list_all is_char cs ≡ true) × (bs ≡ escape_all cs ++ 34 ∷ more)
+    × Remains os (joined_trees f (text from (chars ++ cs) empty)) (at + length (escape_all cs) + 1) more g
 
 -- The rest of the input in each mode.
 abbrev pub Follows : Mode → OpenLists → Forest → ℕ → List ℕ → Forest → Type 0
@@ -206,7 +207,7 @@ text_follows at bs os f g r =
     subst (λ (l : List ℕ). Remains os f at (34 ∷ l) g) (sym r.3)
     (text_before r.0 at r.1 os f g r.2
     (moved os (joined_trees f (text at r.0 empty)) (joined_trees f (text at r.0 empty))
-    (at + 1 + length (escaped_string r.0) + 1) (at + length (escaped_string r.0) + 2) r.1 g refl (omega arith) r.4))
+    (at + 1 + length (escape_all r.0) + 1) (at + length (escape_all r.0) + 2) r.1 g refl (omega arith) r.4))
 
 closed_follows : (at : ℕ) (bs : List ℕ) (os : OpenLists) (f g : Forest)
     → IfSome (close_list os f) (λ t. FollowsIn (at + 1) bs g t → Remains os f at (41 ∷ bs) g)
@@ -261,16 +262,16 @@ char_before : (c : ℕ) (front : List ℕ) (from : ℕ) (chars : List ℕ) (os :
     (g : Forest) → escape c ≡ front → is_char c ≡ true
     → TextRemains from (chars ++ c ∷ []) os f (at + length front) bs g → TextRemains from chars os f at (front ++ bs) g
 char_before c front from chars os f at bs g e k r =
-    let long : length (escaped_string (c ∷ r.0)) ≡ length front + length (escaped_string r.0) =
-    length-append (escape c) (escaped_string r.0) ∙ ap (λ l. length l + length (escaped_string r.0)) e in (
+    let long : length (escape_all (c ∷ r.0)) ≡ length front + length (escape_all r.0) =
+    length-append (escape c) (escape_all r.0) ∙ ap (λ l. length l + length (escape_all r.0)) e in (
       c ∷ r.0,
       r.1,
       rw (k, r.2) refl,
-      ap (λ l. front ++ l) r.3 ∙ sym (append_assoc front (escaped_string r.0) (34 ∷ r.1))
-          ∙ ap (λ l. (l ++ escaped_string r.0) ++ 34 ∷ r.1) (sym e),
+      ap (λ l. front ++ l) r.3 ∙ sym (append_assoc front (escape_all r.0) (34 ∷ r.1))
+          ∙ ap (λ l. (l ++ escape_all r.0) ++ 34 ∷ r.1) (sym e),
       moved os (joined_trees f (text from ((chars ++ c ∷ []) ++ r.0) empty))
-          (joined_trees f (text from (chars ++ c ∷ r.0) empty)) (at + length front + length (escaped_string r.0) + 1)
-          (at + length (escaped_string (c ∷ r.0)) + 1) r.1 g
+          (joined_trees f (text from (chars ++ c ∷ r.0) empty)) (at + length front + length (escape_all r.0) + 1)
+          (at + length (escape_all (c ∷ r.0)) + 1) r.1 g
           (ap (λ l. joined_trees f (text from l empty)) (append_assoc chars (c ∷ []) r.0)) (omega arith) r.4,
     )
 

@@ -7,10 +7,11 @@ use Rattle.std.proofs.lemmas.Str.{IsUtf8-append, IsUtf8-take, IsUtf8-drop, IsUtf
 use Rattle.std.specs.List.{list_all}
 use Rattle.std.specs.Char.{IsScalar, encode_utf8}
 use Rattle.std.specs.Str.{IsUtf8, IsCharBoundary, all_scalars, encode_utf8_all}
-use Rattle.sexp_text.specs.Grammar.{is_atom_byte, escape, escaped_string}
+use Rattle.rt_values.specs.Values.{escape, escape_all}
+use Rattle.sexp_text.specs.Grammar.{is_atom_byte}
 use Rattle.sexp_text.proofs.Complete.{both}
 use Rattle.sexp_text.proofs.Fronts.{ascii_one, atom_ascii}
-use Rattle.sexp_text.proofs.Layouts.{escaped_string-append}
+use Rattle.sexp_text.proofs.Layouts.{escape_all-append}
 
 -- The bytes of an atom are UTF-8.
 pub name_utf8 : (bs : List ℕ) → list_all is_atom_byte bs ≡ true → IsUtf8 bs
@@ -34,10 +35,10 @@ plain b le =
     rw (other 34 (omega arith), other 92 (omega arith), other 10 (omega arith)) refl
 
 -- Bytes that are not ASCII need no escape.
-escaped_string-large : (bs : List ℕ) → AllLarge bs → escaped_string bs ≡ bs
-escaped_string-large [] h = refl
-escaped_string-large (b ∷ bs) h = ap (λ l. l ++ escaped_string bs) (plain b h.0)
-    ∙ ap (λ l. b ∷ l) (escaped_string-large bs h.1)
+escape_all-large : (bs : List ℕ) → AllLarge bs → escape_all bs ≡ bs
+escape_all-large [] h = refl
+escape_all-large (b ∷ bs) h = ap (λ l. l ++ escape_all bs) (plain b h.0)
+    ∙ ap (λ l. b ∷ l) (escape_all-large bs h.1)
 
 large : (bs : List ℕ) → ((k : ℕ) → k < length bs → 128 ≤ get_or bs k 0) → AllLarge bs
 large [] h = tt
@@ -63,24 +64,24 @@ escape_utf8 c lt = by (c == 34) (c == 92) (c == 10) refl refl refl where
   by false false true e1 e2 e3 = rw (e1, e2, e3) (two 110 (omega arith))
   by false false false e1 e2 e3 = rw (e1, e2, e3) (ascii_one c lt)
 
-escaped_char : (c : ℕ) → IsScalar c → IsUtf8 (escaped_string (encode_utf8 c))
+escaped_char : (c : ℕ) → IsScalar c → IsUtf8 (escape_all (encode_utf8 c))
 escaped_char c h = elim (small_or_large c) [
-  | inl lt ↦ subst (λ (l : List ℕ). IsUtf8 (escaped_string l)) (sym (encode_ascii c lt))
+  | inl lt ↦ subst (λ (l : List ℕ). IsUtf8 (escape_all l)) (sym (encode_ascii c lt))
       (subst IsUtf8 (sym (append-nil (escape c))) (escape_utf8 c lt))
-  | inr le ↦ subst IsUtf8 (sym (escaped_string-large (encode_utf8 c) (encode_large c le))) (IsUtf8-encode c h)
+  | inr le ↦ subst IsUtf8 (sym (escape_all-large (encode_utf8 c) (encode_large c le))) (IsUtf8-encode c h)
 ]
 
 -- The spelling of a UTF-8 string is UTF-8.
-escaped_chars : (cs : List ℕ) → all_scalars cs ≡ true → IsUtf8 (escaped_string (encode_utf8_all cs))
+escaped_chars : (cs : List ℕ) → all_scalars cs ≡ true → IsUtf8 (escape_all (encode_utf8_all cs))
 escaped_chars [] h = IsUtf8-nil
 escaped_chars (c ∷ cs) h =
     let p = both _ (all_scalars cs) h in
-    subst IsUtf8 (sym (escaped_string-append (encode_utf8 c) (encode_utf8_all cs)))
-    (IsUtf8-append (escaped_string (encode_utf8 c)) (escaped_string (encode_utf8_all cs)) (escaped_char c p.0)
+    subst IsUtf8 (sym (escape_all-append (encode_utf8 c) (encode_utf8_all cs)))
+    (IsUtf8-append (escape_all (encode_utf8 c)) (escape_all (encode_utf8_all cs)) (escaped_char c p.0)
     (escaped_chars cs p.1))
 
-pub escaped_utf8 : (s : List ℕ) → IsUtf8 s → IsUtf8 (escaped_string s)
-escaped_utf8 s u = subst (λ (l : List ℕ). IsUtf8 (escaped_string l)) u.1.1 (escaped_chars u.0 u.1.0)
+pub escaped_utf8 : (s : List ℕ) → IsUtf8 s → IsUtf8 (escape_all s)
+escaped_utf8 s u = subst (λ (l : List ℕ). IsUtf8 (escape_all l)) u.1.1 (escaped_chars u.0 u.1.0)
 
 -- The bytes before and after an ASCII byte of UTF-8 are UTF-8.
 pub split_utf8 : (xs : List ℕ) (b : ℕ) (ys : List ℕ) → b < 128 → IsUtf8 (xs ++ b ∷ ys) → IsUtf8 xs × IsUtf8 ys
@@ -117,42 +118,42 @@ escape_shape b = by (b == 34) (b == 92) (b == 10) refl refl refl where
 record Unescaped (front rest s : List ℕ) : Type 0 where
   more : List ℕ
   is : s ≡ front ++ more
-  behind : rest ≡ escaped_string more
+  behind : rest ≡ escape_all more
 
-unescaped_large : (front rest s : List ℕ) → AllLarge front → front ++ rest ≡ escaped_string s → Unescaped front rest s
+unescaped_large : (front rest s : List ℕ) → AllLarge front → front ++ rest ≡ escape_all s → Unescaped front rest s
 unescaped_large [] rest s h e = record { more = s; is = refl; behind = e }
 unescaped_large (x ∷ front) rest [] h e = cc
 unescaped_large (x ∷ front) rest (b ∷ s) h e = elim (escape_shape b) [
   | inl p ↦
-      let all : x ∷ (front ++ rest) ≡ b ∷ escaped_string s = e ∙ ap (λ l. l ++ escaped_string s) p in
+      let all : x ∷ (front ++ rest) ≡ b ∷ escape_all s = e ∙ ap (λ l. l ++ escape_all s) p in
       let same : b ≡ x = cc in
       let r = unescaped_large front rest s h.1 cc in
       record { more = r.more; is = ap (λ y. y ∷ s) same ∙ ap (λ l. x ∷ l) r.is; behind = r.behind }
   | inr p ↦
-      let all : x ∷ (front ++ rest) ≡ 92 ∷ p.letter ∷ escaped_string s = e ∙ ap (λ l. l ++ escaped_string s) p.is in
+      let all : x ∷ (front ++ rest) ≡ 92 ∷ p.letter ∷ escape_all s = e ∙ ap (λ l. l ++ escape_all s) p.is in
       let same : x ≡ 92 = cc in
       absurd (omega (arith, h.0))
 ]
 
 -- A string whose spelling begins with an ASCII character is UTF-8 if the rest is.
-small_char : (c : ℕ) (rest s : List ℕ) → c < 128 → ((t : List ℕ) → rest ≡ escaped_string t → IsUtf8 t)
-    → ((x : ℕ) (t : List ℕ) → x < 128 → rest ≡ x ∷ escaped_string t → IsUtf8 t)
-    → c ∷ rest ≡ escaped_string s → IsUtf8 s
+small_char : (c : ℕ) (rest s : List ℕ) → c < 128 → ((t : List ℕ) → rest ≡ escape_all t → IsUtf8 t)
+    → ((x : ℕ) (t : List ℕ) → x < 128 → rest ≡ x ∷ escape_all t → IsUtf8 t)
+    → c ∷ rest ≡ escape_all s → IsUtf8 s
 small_char c rest [] lt one two e = cc
 small_char c rest (b ∷ s) lt one two e = elim (escape_shape b) [
   | inl p ↦
-      let all : c ∷ rest ≡ b ∷ escaped_string s = e ∙ ap (λ l. l ++ escaped_string s) p in
+      let all : c ∷ rest ≡ b ∷ escape_all s = e ∙ ap (λ l. l ++ escape_all s) p in
       let same : c ≡ b = cc in
       IsUtf8-append (b ∷ []) s (ascii_one b (omega arith)) (one s cc)
   | inr p ↦
-      let all : c ∷ rest ≡ 92 ∷ p.letter ∷ escaped_string s = e ∙ ap (λ l. l ++ escaped_string s) p.is in
+      let all : c ∷ rest ≡ 92 ∷ p.letter ∷ escape_all s = e ∙ ap (λ l. l ++ escape_all s) p.is in
       IsUtf8-append (b ∷ []) s (ascii_one b p.small) (two p.letter s p.letter_small cc)
 ]
 
 -- A string whose spelling begins with a character is UTF-8 if the rest is.
-any_char : (c : ℕ) (rest s : List ℕ) → IsScalar c → ((t : List ℕ) → rest ≡ escaped_string t → IsUtf8 t)
-    → ((x : ℕ) (t : List ℕ) → x < 128 → rest ≡ x ∷ escaped_string t → IsUtf8 t)
-    → encode_utf8 c ++ rest ≡ escaped_string s → IsUtf8 s
+any_char : (c : ℕ) (rest s : List ℕ) → IsScalar c → ((t : List ℕ) → rest ≡ escape_all t → IsUtf8 t)
+    → ((x : ℕ) (t : List ℕ) → x < 128 → rest ≡ x ∷ escape_all t → IsUtf8 t)
+    → encode_utf8 c ++ rest ≡ escape_all s → IsUtf8 s
 any_char c rest s scalar one two e = elim (small_or_large c) [
   | inl lt ↦ small_char c rest s lt one two (ap (λ l. l ++ rest) (sym (encode_ascii c lt)) ∙ e)
   | inr le ↦
@@ -166,11 +167,11 @@ past_letter d x rest more lt e =
     let all : d ∷ rest ≡ x ∷ more = ap (λ l. l ++ rest) (sym (encode_ascii d (omega arith))) ∙ e in
     cc
 
-unescaped_chars : (cs s : List ℕ) → all_scalars cs ≡ true → encode_utf8_all cs ≡ escaped_string s → IsUtf8 s
+unescaped_chars : (cs s : List ℕ) → all_scalars cs ≡ true → encode_utf8_all cs ≡ escape_all s → IsUtf8 s
 unescaped_chars [] [] h e = IsUtf8-nil
 unescaped_chars [] (b ∷ s) h e = elim (escape_shape b) [
-  | inl p ↦ let all : [] ≡ b ∷ escaped_string s = e ∙ ap (λ l. l ++ escaped_string s) p in cc
-  | inr p ↦ let all : [] ≡ 92 ∷ p.letter ∷ escaped_string s = e ∙ ap (λ l. l ++ escaped_string s) p.is in cc
+  | inl p ↦ let all : [] ≡ b ∷ escape_all s = e ∙ ap (λ l. l ++ escape_all s) p in cc
+  | inr p ↦ let all : [] ≡ 92 ∷ p.letter ∷ escape_all s = e ∙ ap (λ l. l ++ escape_all s) p.is in cc
 ]
 unescaped_chars (c ∷ []) s h e =
     let p = both _ (all_scalars []) h in
@@ -179,8 +180,8 @@ unescaped_chars (c ∷ d ∷ cs) s h e =
     let p = both _ (all_scalars (d ∷ cs)) h in
     let q = both _ (all_scalars cs) p.1 in
     any_char c (encode_utf8_all (d ∷ cs)) s p.0 (λ t k. unescaped_chars (d ∷ cs) t p.1 k)
-    (λ x t lt k. unescaped_chars cs t q.1 (past_letter d x (encode_utf8_all cs) (escaped_string t) lt k)) e
+    (λ x t lt k. unescaped_chars cs t q.1 (past_letter d x (encode_utf8_all cs) (escape_all t) lt k)) e
 
 -- A string whose spelling is UTF-8 is UTF-8.
-pub unescaped_utf8 : (s : List ℕ) → IsUtf8 (escaped_string s) → IsUtf8 s
+pub unescaped_utf8 : (s : List ℕ) → IsUtf8 (escape_all s) → IsUtf8 s
 unescaped_utf8 s u = unescaped_chars u.0 s u.1.0 u.1.1

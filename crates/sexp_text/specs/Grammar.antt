@@ -2,6 +2,7 @@
 use Rattle.std.specs.Prelude.{◌≡◌, ℕ, ◌+◌, ◌==◌, Bool, true, false, ◌&&◌, ◌||◌, not, nat_le, if◌then◌else◌, List, [], ◌∷◌, ◌++◌, length}
 use Rattle.std.specs.List.{list_all}
 use Rattle.std.specs.Str.{IsUtf8}
+use Rattle.rt_values.specs.Values.{escape_all}
 use Rattle.sexp_text.specs.Forest.{Forest, empty, atom, text, list}
 
 -- White space: blank, TAB, LF and CR.
@@ -24,15 +25,6 @@ abbrev pub is_name : List ℕ → Bool
 is_name [] = false
 is_name (b ∷ bs) = is_atom_byte b && list_all is_atom_byte bs
 
--- The spelling of a byte of a string: `\"`, `\\` and `\n` for those three, and else the byte itself.
-abbrev pub escape : ℕ → List ℕ
-escape c = if c == 34 then 92 ∷ 34 ∷ [] else if c == 92 then 92 ∷ 92 ∷ [] else if c == 10 then 92 ∷ 110 ∷ []
-    else c ∷ []
-
-abbrev pub escaped_string : List ℕ → List ℕ
-escaped_string [] = []
-escaped_string (c ∷ cs) = escape c ++ escaped_string cs
-
 -- A spelling of a forest: its trees in order, with the white space and the comments between them.
 pub data Spelling : Type 0 where
   nothing : Spelling
@@ -48,7 +40,7 @@ spelling_bytes nothing = []
 spelling_bytes (blank b s) = b ∷ spelling_bytes s
 spelling_bytes (comment cs s) = 59 ∷ cs ++ 10 ∷ spelling_bytes s
 spelling_bytes (word name s) = name ++ spelling_bytes s
-spelling_bytes (quoted chars s) = 34 ∷ escaped_string chars ++ 34 ∷ spelling_bytes s
+spelling_bytes (quoted chars s) = 34 ∷ escape_all chars ++ 34 ∷ spelling_bytes s
 spelling_bytes (parens inner s) = 40 ∷ spelling_bytes inner ++ 41 ∷ spelling_bytes s
 
 -- Whether a spelling begins with an atom.
@@ -79,7 +71,7 @@ forest_at at nothing = empty
 forest_at at (blank b s) = forest_at (at + 1) s
 forest_at at (comment cs s) = forest_at (at + length cs + 2) s
 forest_at at (word name s) = atom at name (forest_at (at + length name) s)
-forest_at at (quoted chars s) = text at chars (forest_at (at + length (escaped_string chars) + 2) s)
+forest_at at (quoted chars s) = text at chars (forest_at (at + length (escape_all chars) + 2) s)
 forest_at at (parens inner s) =
     list at (forest_at (at + 1) inner) (forest_at (at + length (spelling_bytes inner) + 2) s)
 

@@ -3,7 +3,8 @@ use Rattle.std.specs.Prelude.{◌≡◌, ℕ, Bool, true, false, List, [], ◌�
 use Rattle.std.specs.List.{list_all}
 use Rattle.std.specs.Str.{IsUtf8}
 use Rattle.sexp_text.specs.Forest.{Forest, empty, atom, text, list, nesting, without_offsets}
-use Rattle.sexp_text.specs.Grammar.{is_name, is_char, escaped_string, Spells}
+use Rattle.rt_values.specs.Values.{escape_all}
+use Rattle.sexp_text.specs.Grammar.{is_name, is_char, Spells}
 
 -- A blank if it is due, else no bytes.
 abbrev pub separator : Bool → List ℕ
@@ -14,14 +15,14 @@ separator false = []
 abbrev pub inline_form : Bool → Forest → List ℕ
 inline_form due empty = []
 inline_form due (atom at a f) = separator due ++ a ++ inline_form true f
-inline_form due (text at s f) = separator due ++ 34 ∷ escaped_string s ++ 34 ∷ inline_form true f
+inline_form due (text at s f) = separator due ++ 34 ∷ escape_all s ++ 34 ∷ inline_form true f
 inline_form due (list at i f) = separator due ++ 40 ∷ inline_form false i ++ 41 ∷ inline_form true f
 
 -- The printed forest, with each tree on its own line.
 abbrev pub lines : Forest → List ℕ
 lines empty = []
 lines (atom at a f) = a ++ 10 ∷ lines f
-lines (text at s f) = 34 ∷ escaped_string s ++ 34 ∷ 10 ∷ lines f
+lines (text at s f) = 34 ∷ escape_all s ++ 34 ∷ 10 ∷ lines f
 lines (list at i f) = 40 ∷ inline_form false i ++ 41 ∷ 10 ∷ lines f
 
 -- A source text with these trees exists: atoms have at least one byte and only bytes of atoms, and strings are UTF-8

@@ -1,7 +1,7 @@
 // Printing of trees.
 ghost use Rattle.std.specs.Prelude.{◌≡◌, ◌++◌, ◌∷◌, [], false, IfOk, OnOk};
 ghost use Rattle.sexp_text.specs.View.{tree_view, forest_view};
-ghost use Rattle.sexp_text.specs.Grammar.{escape, escaped_string};
+ghost use Rattle.rt_values.specs.Values.{escape, escape_all};
 ghost use Rattle.sexp_text.specs.Layout.{separator, inline_form, lines, CanBeSpelled, SpellsUnplaced};
 
 use crate::Tree;
@@ -22,7 +22,7 @@ fn print_char(out: &mut Vec<u8>, c: u8) -> Result<(), AllocError>
 // Appends a string in its quotes.
 #[tactic(auto, using(crate::proofs::Layouts::quotes))]
 fn print_text(out: &mut Vec<u8>, chars: &[u8]) -> Result<(), AllocError>
-    ensures { OnOk result (out.new.items ≡ out.old.items ++ 34 ∷ escaped_string chars.now ++ 34 ∷ []) }
+    ensures { OnOk result (out.new.items ≡ out.old.items ++ 34 ∷ escape_all chars.now ++ 34 ∷ []) }
 {
     out.push(b'"')?;
     for c in chars {
