@@ -10,30 +10,30 @@ use Rattle.lang_checks.specs.FaultOrder.{fault_unless}
 use Rattle.lang_checks.specs.Scopes.{typed_name, named_function, duplicate_faults}
 use Rattle.lang_checks.specs.Chains.{chains_faults}
 use Rattle.lang_checks.specs.Expressions.{type, types_of, expr_faults, exprs_faults, values_faults}
-use Rattle.lang_checks.specs.Statements.{StatementContext, plain, inside, call_faults, stmt_faults, stmts_faults}
+use Rattle.lang_checks.specs.Statements.{StatementContext, plain_scope, inside, call_faults, stmt_faults, stmts_faults}
 use Rattle.lang_checks.specs.ProgramFaults.{bound_parameters, states_faults, functions_faults, program_faults}
 use Rattle.lang_checks.proofs.Fine.{none_in}
 
 -- The parts of a statement have no faults.
 abbrev pub PartsAreFine : StatementContext → List TypedName → Stmt → Type 0
 PartsAreFine p scope (Node at site name attributes body) =
-    (values_faults (plain p.states scope) attributes ≡ []) × (stmts_faults p scope body ≡ [])
+    (values_faults (plain_scope p.states scope) attributes ≡ []) × (stmts_faults p scope body ≡ [])
 PartsAreFine p scope (Call at site name function arguments) =
-    (exprs_faults (plain p.states scope) arguments ≡ [])
-    × (call_faults p.me at (types_of (plain p.states scope) arguments) (named_function p.functions name.text function)
+    (exprs_faults (plain_scope p.states scope) arguments ≡ [])
+    × (call_faults p.me at (types_of (plain_scope p.states scope) arguments) (named_function p.functions name.text function)
     ≡ [])
 PartsAreFine p scope (Key at site key body) =
-    (expr_faults (plain p.states scope) key ≡ []) × (stmts_faults p scope body ≡ [])
+    (expr_faults (plain_scope p.states scope) key ≡ []) × (stmts_faults p scope body ≡ [])
 PartsAreFine p scope (If at site condition then_branch else_branch) =
-    (expr_faults (plain p.states scope) condition ≡ []) × (stmts_faults p scope then_branch ≡ [])
+    (expr_faults (plain_scope p.states scope) condition ≡ []) × (stmts_faults p scope then_branch ≡ [])
     × (stmts_faults p scope else_branch ≡ [])
 PartsAreFine p scope (For at site name list body) =
-    (expr_faults (plain p.states scope) list ≡ []) × (stmts_faults p (scope ++ typed_name name ty.Int ∷ []) body ≡ [])
+    (expr_faults (plain_scope p.states scope) list ≡ []) × (stmts_faults p (scope ++ typed_name name ty.Int ∷ []) body ≡ [])
 PartsAreFine p scope (Let at site name value body) =
-    (expr_faults (plain p.states scope) value ≡ [])
-    × (stmts_faults p (scope ++ typed_name name (type (plain p.states scope) value) ∷ []) body ≡ [])
+    (expr_faults (plain_scope p.states scope) value ≡ [])
+    × (stmts_faults p (scope ++ typed_name name (type (plain_scope p.states scope) value) ∷ []) body ≡ [])
 PartsAreFine p scope (Remember at site name keys value body) =
-    (values_faults (plain p.states scope) keys ≡ []) × (expr_faults (inside p.states scope keys) value ≡ [])
+    (values_faults (plain_scope p.states scope) keys ≡ []) × (expr_faults (inside p.states scope keys) value ≡ [])
     × (stmts_faults p (scope ++ typed_name name (type (inside p.states scope keys) value) ∷ []) body ≡ [])
 
 pub parts : (p : StatementContext) (scope : List TypedName) (s : Stmt) → stmt_faults p scope s ≡ []

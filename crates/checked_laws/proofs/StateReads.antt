@@ -14,7 +14,7 @@ use Rattle.lang_ast.specs.Evaluation.{Bindings, new_binding, apply, is_pick, ope
 use Rattle.lang_checks.specs.declared.environment.TypedName.{TypedName}
 use Rattle.lang_checks.specs.Scopes.{type_if_named, state_type}
 use Rattle.lang_checks.specs.Expressions.{ExpressionScope, expr_faults, exprs_faults, values_faults}
-use Rattle.lang_checks.specs.Statements.{StatementContext, plain, inside, stmt_faults, stmts_faults}
+use Rattle.lang_checks.specs.Statements.{StatementContext, plain_scope, inside, stmt_faults, stmts_faults}
 use Rattle.lang_checks.specs.ProgramFaults.{bound_parameters}
 use Rattle.lang_checks.proofs.Fine.{none_in, held}
 use Rattle.compose_model.specs.Composing.{Meaning, forest_after, turns, bind, run, run_all, meaning, meaning_at, meanings_from, forest}
@@ -126,36 +126,36 @@ mutual
       → AllBelow (length p.states) fs → stmt_faults p scope s ≡ [] → ReadsBelow (length p.states) (run m fs s env)
   run_below p scope m fs (Node at site kind attributes body) env calls h =
       let fine = parts p scope (Node at site kind attributes body) h in
-      after_below _ (eval_named m attributes env) _ (named_below (plain p.states scope) m attributes env fine.0)
+      after_below _ (eval_named m attributes env) _ (named_below (plain_scope p.states scope) m attributes env fine.0)
       (body_below p scope m fs body env calls fine.1, tt)
   run_below p scope m fs (Call at site name function arguments) env calls h =
       let fine = parts p scope (Call at site name function arguments) h in
-      after_below _ (eval_all m arguments env) _ (exprs_below (plain p.states scope) m arguments env fine.0)
+      after_below _ (eval_all m arguments env) _ (exprs_below (plain_scope p.states scope) m arguments env fine.0)
       (calls function (eval_all m arguments env).value, tt)
   run_below p scope m fs (Key at site key body) env calls h =
       let fine = parts p scope (Key at site key body) h in
-      after_below _ (eval m key env) _ (expr_below (plain p.states scope) m key env fine.0)
+      after_below _ (eval m key env) _ (expr_below (plain_scope p.states scope) m key env fine.0)
       (body_below p scope m fs body env calls fine.1, tt)
   run_below p scope m fs (If at site condition then_branch else_branch) env calls h =
       let fine = parts p scope (If at site condition then_branch else_branch) h in
-      after_below _ (eval m condition env) _ (expr_below (plain p.states scope) m condition env fine.0)
+      after_below _ (eval m condition env) _ (expr_below (plain_scope p.states scope) m condition env fine.0)
       (branch_below _ (is_true (eval m condition env).value) (run_all m fs then_branch env)
       (run_all m fs else_branch env)
       (body_below p scope m fs then_branch env calls fine.1) (body_below p scope m fs else_branch env calls fine.2))
   run_below p scope m fs (For at site name list body) env calls h =
       let fine = parts p scope (For at site name list body) h in
-      after_below _ (eval m list env) _ (expr_below (plain p.states scope) m list env fine.0)
+      after_below _ (eval m list env) _ (expr_below (plain_scope p.states scope) m list env fine.0)
       (turns_below _ (λ i. run_all m fs body (env ++ new_binding name.text (value.Int i) ∷ []))
       (items_of (eval m list env).value)
       (λ i. body_below p _ m fs body (env ++ new_binding name.text (value.Int i) ∷ []) calls fine.1))
   run_below p scope m fs (Let at site name e body) env calls h =
       let fine = parts p scope (Let at site name e body) h in
-      after_below _ (eval m e env) _ (expr_below (plain p.states scope) m e env fine.0)
+      after_below _ (eval m e env) _ (expr_below (plain_scope p.states scope) m e env fine.0)
       (body_below p _ m fs body (env ++ new_binding name.text (eval m e env).value ∷ []) calls fine.1)
   run_below p scope m fs (Remember at site name keys e body) env calls h =
       let fine = parts p scope (Remember at site name keys e body) h in
       let ks = (eval_named m keys env).value in
-      after_below _ (eval_named m keys env) _ (named_below (plain p.states scope) m keys env fine.0)
+      after_below _ (eval_named m keys env) _ (named_below (plain_scope p.states scope) m keys env fine.0)
       (after_below _ (eval m e ks) _ (expr_below (inside p.states scope keys) m e ks fine.1)
       (tt, body_below p _ m fs body (env ++ new_binding name.text (eval m e ks).value ∷ []) calls fine.2))
 

@@ -14,7 +14,7 @@ use Rattle.lang_ast.specs.Terms.{Func}
 use Rattle.recompose_laws.specs.CalculatedCells.{Calculation, IsCalculatedFor, IsFoundCalculated}
 use Rattle.composer.specs.declared.pending.Pending.{Pending}
 use Rattle.composer.specs.OldSiblings.{KeyInfo}
-use Rattle.composer.specs.Waiting.{waiting}
+use Rattle.composer.specs.Waiting.{waiting_siblings}
 use Rattle.composer.specs.OldGroups.{Alike, Fits}
 use Rattle.composer.specs.ComposerState.{one_if, opened_group}
 use Rattle.composer.specs.BesideContracts.{OldSiblings, IsOldPart, IsOldFound}
@@ -61,13 +61,13 @@ pub record Matched (o : OldSiblings) (owed : List ℕ) (m : Map) (d : ℕ) (x : 
 
 pub matched : {o : OldSiblings} {owed : List ℕ} {m : Map} {fs : List Func} {d : ℕ} {before left : Pending}
     {found : Option KeyInfo} (x key : GroupKey) → key ≡ x → IsBeside o owed m fs d before
-    → found ≡ slice_get (waiting before key) 0 →
-    ((s : GroupKey) → waiting left s ≡ (if same_sibling key s then drop 1 (waiting before s) else waiting before s))
+    → found ≡ slice_get (waiting_siblings before key) 0 →
+    ((s : GroupKey) → waiting_siblings left s ≡ (if same_sibling key s then drop 1 (waiting_siblings before s) else waiting_siblings before s))
     → Matched o owed m d x found left
 matched {o = o} {d = d} {before = before} {left = left} {found = found} x key is b e rest = record {
-  like = fits_found d before o.old o.seen x found (e ∙ ap (λ (s : GroupKey). slice_get (waiting before s) 0) is) b.fits;
+  like = fits_found d before o.old o.seen x found (e ∙ ap (λ (s : GroupKey). slice_get (waiting_siblings before s) 0) is) b.fits;
   fits = fits_next d before left o.old o.seen x
-      (λ s. rest s ∙ ap (λ (y : GroupKey). if same_sibling y s then drop 1 (waiting before s) else waiting before s) is)
+      (λ s. rest s ∙ ap (λ (y : GroupKey). if same_sibling y s then drop 1 (waiting_siblings before s) else waiting_siblings before s) is)
       b.fits;
   there = part_found x (occurrence x o.seen) b.part;
   part = part_matched x (occurrence x o.seen) b.part;

@@ -11,7 +11,7 @@ use Rattle.slot_table.specs.TableGroups.{group_at}
 use Rattle.slot_table.specs.ReaderStates.{group_key}
 use Rattle.composer.specs.declared.pending.Pending.{Pending}
 use Rattle.composer.specs.OldSiblings.{KeyInfo, groups_after, sibling_key, sibling_indexes, level_indexes, infos_at, inner_siblings, found_siblings}
-use Rattle.composer.specs.Waiting.{waiting}
+use Rattle.composer.specs.Waiting.{waiting_siblings}
 use Rattle.composer.specs.OldGroups.{Ends, Begins, SameGroup, Alike, Fits}
 use Rattle.composer.proofs.LevelIndexes.{deeper, level}
 
@@ -182,7 +182,7 @@ level_alike groups s d n i t b =
 -- The old siblings before any new one.
 
 fits_from : (d : ℕ) (p : Pending) (old : GroupForest) (kept : GroupKey → List KeyInfo)
-    → ((s : GroupKey) → waiting p s ≡ kept s)
+    → ((s : GroupKey) → waiting_siblings p s ≡ kept s)
     → ((s : GroupKey) (n : ℕ) → Alike d (slice_get (kept s) n) (matching_sibling s n old)) → Fits d p old []
 fits_from d p old kept is alike s n =
     let count : n ≡ occurrence s [] + n = omega arith in
@@ -192,11 +192,11 @@ fits_from d p old kept is alike s n =
 none_alike : (d n : ℕ) (s : GroupKey) (kept : List KeyInfo) → kept ≡ [] → Alike d (slice_get kept n) None
 none_alike d n s kept e = subst (λ (l : List KeyInfo). Alike d (slice_get l n) None) (sym e) tt
 
-pub fits_none : (d : ℕ) (p : Pending) (seen : List GroupKey) → ((s : GroupKey) → waiting p s ≡ []) → Fits d p End seen
-fits_none d p seen none s n = none_alike d n s (waiting p s) (none s)
+pub fits_none : (d : ℕ) (p : Pending) (seen : List GroupKey) → ((s : GroupKey) → waiting_siblings p s ≡ []) → Fits d p End seen
+fits_none d p seen none s n = none_alike d n s (waiting_siblings p s) (none s)
 
 pub fits_inside : (d : ℕ) (p : Pending) (k : Option KeyInfo) (f : Option Found)
-    → ((s : GroupKey) → waiting p s ≡ found_siblings k s) → Alike d k f → Fits (d + 1) p (inside_of f) []
+    → ((s : GroupKey) → waiting_siblings p s ≡ found_siblings k s) → Alike d k f → Fits (d + 1) p (inside_of f) []
 fits_inside d p None None is a = fits_none (d + 1) p [] is
 fits_inside d p None (Some f) is a = absurd a
 fits_inside d p (Some k) None is a = absurd a
@@ -209,12 +209,12 @@ fits_inside d p (Some k) (Some f) is a =
 -- The old siblings after one was taken.
 
 pub fits_found : (d : ℕ) (p : Pending) (old : GroupForest) (seen : List GroupKey) (x : GroupKey)
-    (found : Option KeyInfo) → found ≡ slice_get (waiting p x) 0 → Fits d p old seen
+    (found : Option KeyInfo) → found ≡ slice_get (waiting_siblings p x) 0 → Fits d p old seen
     → Alike d found (matching_sibling x (occurrence x seen) old)
 fits_found d p old seen x found is fits =
     let count : occurrence x seen + 0 ≡ occurrence x seen = omega arith in
     subst (λ (k : Option KeyInfo). Alike d k (matching_sibling x (occurrence x seen) old)) (sym is)
-    (subst (λ m. Alike d (slice_get (waiting p x) 0) (matching_sibling x m old)) count (fits x 0))
+    (subst (λ m. Alike d (slice_get (waiting_siblings p x) 0) (matching_sibling x m old)) count (fits x 0))
 
 got_later : (ks : List KeyInfo) (n : ℕ) → slice_get (drop 1 ks) n ≡ slice_get ks (suc n)
 got_later [] n = refl
@@ -234,7 +234,7 @@ next_alike d n count s false was now old e fits =
     (subst (λ m. Alike d (slice_get was n) (matching_sibling s m old)) sum (fits n))
 
 pub fits_next : (d : ℕ) (p q : Pending) (old : GroupForest) (seen : List GroupKey) (x : GroupKey)
-    → ((s : GroupKey) → waiting q s ≡ (if same_sibling x s then drop 1 (waiting p s) else waiting p s))
+    → ((s : GroupKey) → waiting_siblings q s ≡ (if same_sibling x s then drop 1 (waiting_siblings p s) else waiting_siblings p s))
     → Fits d p old seen → Fits d q old (x ∷ seen)
 fits_next d p q old seen x left fits s n =
-    next_alike d n (occurrence s seen) s (same_sibling x s) (waiting p s) (waiting q s) old (left s) (λ m. fits s m)
+    next_alike d n (occurrence s seen) s (same_sibling x s) (waiting_siblings p s) (waiting_siblings q s) old (left s) (λ m. fits s m)

@@ -6,7 +6,7 @@ use Rattle.rt_groups.specs.Paths.{GroupKey, occurrence, Found, matching_sibling}
 use Rattle.rt_groups.specs.PreorderGroups.{flat_kind, flat_reads, preorder}
 use Rattle.composer.specs.declared.pending.Pending.{Pending}
 use Rattle.composer.specs.OldSiblings.{KeyInfo, old_group, groups_after}
-use Rattle.composer.specs.Waiting.{waiting}
+use Rattle.composer.specs.Waiting.{waiting_siblings}
 
 -- The next group is less deep.
 abbrev pub Ends : ℕ → List TableGroup → Type 0
@@ -38,7 +38,7 @@ Alike depth (Some k) (Some f) = SameGroup depth k f
 -- matched.
 abbrev pub Fits : ℕ → Pending → GroupForest → List GroupKey → Type 0
 Fits depth pending old seen = (s : GroupKey) (n : ℕ)
-    → Alike depth (slice_get (waiting pending s) n) (matching_sibling s (occurrence s seen + n) old)
+    → Alike depth (slice_get (waiting_siblings pending s) n) (matching_sibling s (occurrence s seen + n) old)
 
 -- The forest from its first group on.
 abbrev pub from_first_group : GroupForest → GroupForest

@@ -11,5 +11,5 @@ waiting_indexes p s =
     if is_some p.queues then indexes_in p.queues s else level_indexes s p.depth p.next (drop p.next p.table.now.groups)
 
 -- The unmatched old siblings with this site and key, in order.
-abbrev pub waiting : Pending → GroupKey → List KeyInfo
-waiting p s = infos_at p.table.now.groups (waiting_indexes p s)
+abbrev pub waiting_siblings : Pending → GroupKey → List KeyInfo
+waiting_siblings p s = infos_at p.table.now.groups (waiting_indexes p s)

@@ -30,7 +30,7 @@ pub struct Pending<'a> {
 }
 
 impl<'a> Pending<'a> {
-    ghost use Rattle.composer.specs.Waiting.{waiting};
+    ghost use Rattle.composer.specs.Waiting.{waiting_siblings};
 
     // Returns the siblings at `depth` from the index `next` on.
     fn at(table: &'a Table, depth: usize, next: usize) -> Pending<'a>
@@ -49,14 +49,14 @@ impl<'a> Pending<'a> {
 
     /// Returns no siblings, for the inside of a new group.
     pub fn none(table: &'a Table) -> Pending<'a>
-        ensures { (s : GroupKey) → waiting result s ≡ [] }
+        ensures { (s : GroupKey) → waiting_siblings result s ≡ [] }
     {
         Pending::at(table, 0, table.len())
     }
 
     /// Returns the groups directly inside `old`.
     pub fn inside(old: &OldGroup<'a>) -> Pending<'a>
-        ensures { (s : GroupKey) → waiting result s ≡ inner_siblings old.now s }
+        ensures { (s : GroupKey) → waiting_siblings result s ≡ inner_siblings old.now s }
     {
         let depth = old.depth() as usize;
         let _length = old.table().len();
@@ -66,7 +66,7 @@ impl<'a> Pending<'a> {
     /// Returns the groups directly inside `found`, which a new group is matched with, or no siblings if there is no
     /// such group.
     pub fn inside_found(table: &'a Table, found: &Option<OldGroup<'a>>) -> Pending<'a>
-        ensures { (s : GroupKey) → waiting result s ≡ found_siblings found.now s }
+        ensures { (s : GroupKey) → waiting_siblings result s ≡ found_siblings found.now s }
     {
         match found {
             None => Pending::none(table),
@@ -82,9 +82,9 @@ impl<'a> Pending<'a> {
         alloc: Global,
         key: &SiblingKey,
     ) -> Result<Option<OldGroup<'a>>, NoMemory>
-        ensures found { IfOk result (λ found. found ≡ slice_get (waiting self.old key.now) 0) }
-        ensures left { OnOk result ((s : GroupKey) → waiting self.new s
-            ≡ (if same_sibling key.now s then drop 1 (waiting self.old s) else waiting self.old s)) }
+        ensures found { IfOk result (λ found. found ≡ slice_get (waiting_siblings self.old key.now) 0) }
+        ensures left { OnOk result ((s : GroupKey) → waiting_siblings self.new s
+            ≡ (if same_sibling key.now s then drop 1 (waiting_siblings self.old s) else waiting_siblings self.old s)) }
     {
         if self.queues.is_none() {
             if !is_level(self.table, self.depth, self.next) {
@@ -105,10 +105,10 @@ impl<'a> Pending<'a> {
         ensures group { result ≡ record { groups = self.old.table.now.groups; index = self.old.next } }
         ensures found { (s : GroupKey)
             → same_sibling (sibling_key (group_at self.old.table.now.groups self.old.next)) s ≡ true →
-            Some result ≡ slice_get (waiting self.old s) 0 }
-        ensures left { (s : GroupKey) → waiting self.new s
+            Some result ≡ slice_get (waiting_siblings self.old s) 0 }
+        ensures left { (s : GroupKey) → waiting_siblings self.new s
             ≡ (if same_sibling (sibling_key (group_at self.old.table.now.groups self.old.next)) s
-            then drop 1 (waiting self.old s) else waiting self.old s) }
+            then drop 1 (waiting_siblings self.old s) else waiting_siblings self.old s) }
     {
         let next = self.next;
         self.next = self.table.index_after(next);
@@ -119,7 +119,7 @@ impl<'a> Pending<'a> {
     fn queue_siblings(&mut self, alloc: Global) -> Result<(), NoMemory>
         requires { is_some self.old.queues ≡ false }
         ensures queued { OnOk result (is_some self.new.queues ≡ true) }
-        ensures same { OnOk result ((s : GroupKey) → waiting self.new s ≡ waiting self.old s) }
+        ensures same { OnOk result ((s : GroupKey) → waiting_siblings self.new s ≡ waiting_siblings self.old s) }
     {
         let queues = queue_from(alloc, self.table, self.depth, self.next)?;
         self.queues = Some(Box::new(alloc, queues)?);
@@ -129,9 +129,9 @@ impl<'a> Pending<'a> {
     // Removes and returns the first queued sibling with the site and the key of `key`.
     fn take_queued(&mut self, key: &SiblingKey) -> Option<OldGroup<'a>>
         requires { is_some self.old.queues ≡ true }
-        ensures found { result ≡ slice_get (waiting self.old key.now) 0 }
-        ensures left { (s : GroupKey) → waiting self.new s
-            ≡ (if same_sibling key.now s then drop 1 (waiting self.old s) else waiting self.old s) }
+        ensures found { result ≡ slice_get (waiting_siblings self.old key.now) 0 }
+        ensures left { (s : GroupKey) → waiting_siblings self.new s
+            ≡ (if same_sibling key.now s then drop 1 (waiting_siblings self.old s) else waiting_siblings self.old s) }
     {
         match take_index(&mut self.queues, key) {
             Some(index) => Some(OldGroup::new(self.table, index)),

@@ -22,13 +22,13 @@ pub record StatementContext : Type 0 where
   pub me : ℕ
 
 -- The names that an expression outside calculations may use.
-abbrev pub plain : List State → List TypedName → ExpressionScope
-plain states scope = record { states = states; scope = scope; keys = []; calculating = false }
+abbrev pub plain_scope : List State → List TypedName → ExpressionScope
+plain_scope states scope = record { states = states; scope = scope; keys = []; calculating = false }
 
 -- The names that the calculation of a remember may use: its keys, each with the type of its expression.
 abbrev pub inside : List State → List TypedName → List Named → ExpressionScope
 inside states scope keys = record
-    { states = states; scope = scope; keys = typed_names (plain states scope) keys; calculating = true }
+    { states = states; scope = scope; keys = typed_names (plain_scope states scope) keys; calculating = true }
 
 abbrev pub names : List Named → List Ident
 names ns = map (λ n. n.name) ns
@@ -53,30 +53,30 @@ abbrev mutual
   -- A node: attributes have unique names.
   stmt_faults p scope (Node at site name attributes body) =
       duplicate_faults [] (names attributes)
-      ++ (values_faults (plain p.states scope) attributes ++ stmts_faults p scope body)
+      ++ (values_faults (plain_scope p.states scope) attributes ++ stmts_faults p scope body)
   stmt_faults p scope (Call at site name function arguments) =
-      exprs_faults (plain p.states scope) arguments
-      ++ call_faults p.me at (types_of (plain p.states scope) arguments)
+      exprs_faults (plain_scope p.states scope) arguments
+      ++ call_faults p.me at (types_of (plain_scope p.states scope) arguments)
       (named_function p.functions name.text function)
-  stmt_faults p scope (Key at site key body) = expr_faults (plain p.states scope) key ++ stmts_faults p scope body
+  stmt_faults p scope (Key at site key body) = expr_faults (plain_scope p.states scope) key ++ stmts_faults p scope body
   -- An if: the condition is a Bool.
   stmt_faults p scope (If at site condition then_branch else_branch) =
-      expr_faults (plain p.states scope) condition
-      ++ (fault_unless (same_type (type (plain p.states scope) condition) ty.Bool) kind.Type at
+      expr_faults (plain_scope p.states scope) condition
+      ++ (fault_unless (same_type (type (plain_scope p.states scope) condition) ty.Bool) kind.Type at
       ++ (stmts_faults p scope then_branch ++ stmts_faults p scope else_branch))
   -- A for: the list is an Ints, and the name is an Int.
   stmt_faults p scope (For at site name list body) =
-      expr_faults (plain p.states scope) list
-      ++ (fault_unless (same_type (type (plain p.states scope) list) ty.Ints) kind.Type at
+      expr_faults (plain_scope p.states scope) list
+      ++ (fault_unless (same_type (type (plain_scope p.states scope) list) ty.Ints) kind.Type at
       ++ binding_faults scope name (stmts_faults p (scope ++ typed_name name ty.Int ∷ []) body))
   stmt_faults p scope (Let at site name value body) =
-      expr_faults (plain p.states scope) value
+      expr_faults (plain_scope p.states scope) value
       ++ binding_faults scope name
-      (stmts_faults p (scope ++ typed_name name (type (plain p.states scope) value) ∷ []) body)
+      (stmts_faults p (scope ++ typed_name name (type (plain_scope p.states scope) value) ∷ []) body)
   -- A remember: keys have unique names. Keys use what is around them, the calculation uses the keys, and the body
   -- uses the name.
   stmt_faults p scope (Remember at site name keys value body) =
-      duplicate_faults [] (names keys) ++ (values_faults (plain p.states scope) keys
+      duplicate_faults [] (names keys) ++ (values_faults (plain_scope p.states scope) keys
       ++ (expr_faults (inside p.states scope keys) value
       ++ binding_faults scope name (stmts_faults p (scope
       ++ typed_name name (type (inside p.states scope keys) value) ∷ []) body)))

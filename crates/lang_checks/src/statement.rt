@@ -7,7 +7,7 @@ ghost use Rattle.lang_checks.specs.FaultOrder.{least_fault_from};
 ghost use Rattle.lang_checks.specs.Scopes.{typed_name, named_function};
 ghost use Rattle.lang_checks.specs.Expressions.{types_of};
 ghost use Rattle.lang_checks.specs.Operands.{same_types};
-ghost use Rattle.lang_checks.specs.Statements.{plain, parameter_types, call_faults, binding_faults, stmt_faults, stmts_faults};
+ghost use Rattle.lang_checks.specs.Statements.{plain_scope, parameter_types, call_faults, binding_faults, stmt_faults, stmts_faults};
 ghost use Rattle.lang_checks.specs.Views.{expression_scope_view, statement_context_view};
 
 use crate::duplicates::duplicate_faults;
@@ -29,9 +29,13 @@ pub struct StatementContext<'a> {
 }
 
 // The names that an expression outside calculations may use.
-fn plain<'a>(states: &'a [State], scope: &'a TypeEnv, none: &'a TypeEnv) -> ExpressionScope<'a>
+fn plain_scope<'a>(
+    states: &'a [State],
+    scope: &'a TypeEnv,
+    none: &'a TypeEnv,
+) -> ExpressionScope<'a>
     requires { none.now ≡ [] }
-    ensures { expression_scope_view result ≡ plain states.now scope.now }
+    ensures { expression_scope_view result ≡ plain_scope states.now scope.now }
 {
     ExpressionScope {
         states,
@@ -105,7 +109,7 @@ fn check_call(
         (Call at 0 name.now number (exprs_view arguments.now)))) }
 {
     let none = TypeEnv::new(alloc);
-    let look = plain(around.states, scope, &none);
+    let look = plain_scope(around.states, scope, &none);
     let (types, least) = expressions(alloc, &look, arguments, least)?;
     Ok(call(around, name, number, at, &types, least))
 }
@@ -195,7 +199,7 @@ fn check_node(
         (stmts_view body.now)))) }
 {
     let none = TypeEnv::new(alloc);
-    let look = plain(around.states, &*scope, &none);
+    let look = plain_scope(around.states, &*scope, &none);
     let least = duplicate_faults(attributes, least);
     let (_, least) = values(alloc, &look, attributes, least)?;
     statements(alloc, around, scope, body, least)
@@ -218,7 +222,7 @@ fn check_key(
         (Key 0 0 (expr_view key.now) (stmts_view body.now)))) }
 {
     let none = TypeEnv::new(alloc);
-    let look = plain(around.states, &*scope, &none);
+    let look = plain_scope(around.states, &*scope, &none);
     let (_, least) = expression(alloc, &look, key, least)?;
     statements(alloc, around, scope, body, least)
 }
@@ -243,7 +247,7 @@ fn check_if(
         (stmts_view else_branch.now)))) }
 {
     let none = TypeEnv::new(alloc);
-    let look = plain(around.states, &*scope, &none);
+    let look = plain_scope(around.states, &*scope, &none);
     let (ty, least) = expression(alloc, &look, condition, least)?;
     let least = fault_unless(ty.same(Ty::Bool), CheckKind::Type, at, least);
     let least = statements(alloc, around, scope, then_branch, least)?;
@@ -269,7 +273,7 @@ fn check_for(
         (For at 0 name.now (expr_view list.now) (stmts_view body.now)))) }
 {
     let none = TypeEnv::new(alloc);
-    let look = plain(around.states, &*scope, &none);
+    let look = plain_scope(around.states, &*scope, &none);
     let (ty, least) = expression(alloc, &look, list, least)?;
     let least = fault_unless(ty.same(Ty::Ints), CheckKind::Type, at, least);
     check_body(alloc, around, scope, name, Ty::Int, body, least)
@@ -293,7 +297,7 @@ fn check_let(
         (Let 0 0 name.now (expr_view value.now) (stmts_view body.now)))) }
 {
     let none = TypeEnv::new(alloc);
-    let look = plain(around.states, &*scope, &none);
+    let look = plain_scope(around.states, &*scope, &none);
     let (ty, least) = expression(alloc, &look, value, least)?;
     check_body(alloc, around, scope, name, ty, body, least)
 }
@@ -319,7 +323,7 @@ fn check_remember(
         (stmts_view body.now)))) }
 {
     let none = TypeEnv::new(alloc);
-    let look = plain(around.states, &*scope, &none);
+    let look = plain_scope(around.states, &*scope, &none);
     let least = duplicate_faults(keys, least);
     let (typed_name, least) = values(alloc, &look, keys, least)?;
     let within = ExpressionScope {

@@ -3,7 +3,7 @@ use Rattle.std.proofs.Common.{◌≡◌, inl, inr, ℕ, List, [], ◌∷◌, ◌
 use Rattle.sexp_text.specs.Forest.{Forest, empty, atom, text, list, joined_trees}
 use Rattle.lang_limits.specs.LeastOffset.{least}
 use Rattle.lang_limits.specs.Sizes.{program_limits}
-use Rattle.lang_limits.specs.Clamped.{within}
+use Rattle.lang_limits.specs.Clamped.{clamped_trees}
 use Rattle.lang_forms.specs.declared.stop.FormStop.{FormStop}
 use Rattle.lang_forms.specs.declared.stop.FormStop.TheVariants.{Form, Limit, NoMemory}
 use Rattle.lang_forms.specs.TextAnswers.{parsed_answer, unless_beyond, text_answer}
@@ -115,16 +115,16 @@ wrong_read end at f h = elim h.before [
 
 -- The answer of the parser is one of the forms.
 pub answer_is : (end : ℕ) (f : Forest) → IsAnswerFor end f (text_answer end f)
-answer_is end f = by (source_of end (seen_trees (within f))) refl
+answer_is end f = by (source_of end (seen_trees (clamped_trees f))) refl
   where
-    limits : (t : Source) → HasForms (within f) t → (o : Option ℕ) → least (program_limits f t.program) ≡ o
+    limits : (t : Source) → HasForms (clamped_trees f) t → (o : Option ℕ) → least (program_limits f t.program) ≡ o
         → IsAnswerFor end f (unless_beyond o t)
     limits t has None e = (has, e)
     limits t has (Some at) e = (t, has, e)
 
-    by : (r : Result Source ℕ) → source_of end (seen_trees (within f)) ≡ r → IsAnswerFor end f (parsed_answer f r)
-    by (Ok t) e = limits t (source_found end (within f) t e) (least (program_limits f t.program)) refl
-    by (Err at) e = stop_read end at (within f) e
+    by : (r : Result Source ℕ) → source_of end (seen_trees (clamped_trees f)) ≡ r → IsAnswerFor end f (parsed_answer f r)
+    by (Ok t) e = limits t (source_found end (clamped_trees f) t e) (least (program_limits f t.program)) refl
+    by (Err at) e = stop_read end at (clamped_trees f) e
 
 abbrev answer : Result Source FormStop → Result Source FormStop
 answer a = a
@@ -132,8 +132,8 @@ answer a = a
 -- No other answer is one of the forms.
 pub answer_one : (end : ℕ) (f : Forest) (a : Result Source FormStop) → IsAnswerFor end f a → a ≡ text_answer end f
 answer_one end f (Ok t) h =
-    sym (ap (parsed_answer f) (text_read end (within f) t h.0) ∙ ap (λ (o : Option ℕ). unless_beyond o t) h.1)
-answer_one end f (Err (Form at)) h = sym (ap (parsed_answer f) (ap source_or_offset (wrong_read end at (within f) h)))
+    sym (ap (parsed_answer f) (text_read end (clamped_trees f) t h.0) ∙ ap (λ (o : Option ℕ). unless_beyond o t) h.1)
+answer_one end f (Err (Form at)) h = sym (ap (parsed_answer f) (ap source_or_offset (wrong_read end at (clamped_trees f) h)))
 answer_one end f (Err (Limit at)) h =
-    sym (ap (parsed_answer f) (text_read end (within f) h.0 h.1) ∙ ap (λ (o : Option ℕ). unless_beyond o h.0) h.2)
+    sym (ap (parsed_answer f) (text_read end (clamped_trees f) h.0 h.1) ∙ ap (λ (o : Option ℕ). unless_beyond o h.0) h.2)
 answer_one end f (Err NoMemory) h = absurd h

@@ -2,10 +2,10 @@
 use Rattle.std.proofs.Common.{◌≡◌, ℕ, [], Option, Some, None, Result, Ok, Err, IfOk, refl, ap, ◌∙◌, subst}
 use Rattle.sexp_text.specs.Forest.{Forest}
 use Rattle.lang_limits.specs.LeastOffset.{least}
-use Rattle.lang_limits.specs.Tokens.{beyond, program_trees, oversized_script_offsets}
+use Rattle.lang_limits.specs.Tokens.{oversized_offsets, program_trees, oversized_script_offsets}
 use Rattle.lang_limits.specs.Sizes.{program_limits}
-use Rattle.lang_limits.specs.Clamped.{within}
-use Rattle.lang_limits.proofs.Copies.{within_stays}
+use Rattle.lang_limits.specs.Clamped.{clamped_trees}
+use Rattle.lang_limits.proofs.Copies.{small_trees_stay}
 use Rattle.lang_limits.proofs.Lesser.{no_least}
 use Rattle.lang_forms.specs.declared.stop.FormStop.{FormStop}
 use Rattle.lang_forms.specs.declared.stop.FormStop.TheVariants.{Form, Limit}
@@ -19,9 +19,9 @@ use Rattle.lang_forms.proofs.TextHasForms.{source_found}
 use Rattle.lang_forms.proofs.FirstWrong.{first_wrong}
 
 -- Trees without oversized tokens, in the program and in the script, stay as they are.
-pub all_within : (f : Forest) → least (beyond (program_trees f)) ≡ None → least (oversized_script_offsets f) ≡ None
-    → within f ≡ f
-all_within f h k = within_stays f (no_least _ h) (no_least _ k)
+pub all_within : (f : Forest) → least (oversized_offsets (program_trees f)) ≡ None → least (oversized_script_offsets f) ≡ None
+    → clamped_trees f ≡ f
+all_within f h k = small_trees_stay f (no_least _ h) (no_least _ k)
 
 -- The content of an answer.
 
@@ -82,14 +82,14 @@ limit_told f (Ok u) at h = by (least (program_limits f u.program)) refl h
 limit_told f (Err x) at h = absurd (cc)
 
 pub forms_answer : {X : Type 0} (view : X → Source) (end : ℕ) (f : Forest) (result : Result X FormStop)
-    → Answers view result (text_answer end f) → IfOk result (λ r. HasForms (within f) (view r))
+    → Answers view result (text_answer end f) → IfOk result (λ r. HasForms (clamped_trees f) (view r))
 forms_answer view end f (Ok r) h =
-    source_found end (within f) (view r) (text_told f (source_of end (seen_trees (within f))) (view r) h).0
+    source_found end (clamped_trees f) (view r) (text_told f (source_of end (seen_trees (clamped_trees f))) (view r) h).0
 forms_answer view end f (Err e) h = tt
 
 pub small_answers : {X : Type 0} (view : X → Source) (end : ℕ) (f : Forest) (result : Result X FormStop)
     → Answers view result (text_answer end f) → IfOk result (λ r. program_limits f (view r).program ≡ [])
-small_answers view end f (Ok r) h = no_least _ (text_told f (source_of end (seen_trees (within f))) (view r) h).1
+small_answers view end f (Ok r) h = no_least _ (text_told f (source_of end (seen_trees (clamped_trees f))) (view r) h).1
 small_answers view end f (Err e) h = tt
 
 -- The offset where the parser stops.
@@ -105,15 +105,15 @@ stop_read end at f h = by (text_of end (seen_trees f)) refl h
     by (Err x) e k = first_wrong end at f (e ∙ again x at k)
 
 pub stop_answers : {X : Type 0} (view : X → Source) (end at : ℕ) (f : Forest) (result : Result X FormStop)
-    → Answers view result (text_answer end f) → result ≡ Err (Form at) → IsFirstWrong end (within f) at
+    → Answers view result (text_answer end f) → result ≡ Err (Form at) → IsFirstWrong end (clamped_trees f) at
 stop_answers {X = X} view end at f result h is =
-    stop_read end at (within f) (form_told f (source_of end (seen_trees (within f))) at
+    stop_read end at (clamped_trees f) (form_told f (source_of end (seen_trees (clamped_trees f))) at
     (subst (λ (r : Result X FormStop). Answers view r (text_answer end f)) is h))
 
 pub limit_answers : {X : Type 0} (view : X → Source) (end at : ℕ) (f : Forest) (result : Result X FormStop)
     → Answers view result (text_answer end f) → result ≡ Err (Limit at)
-    → (t : Source) × HasForms (within f) t × (least (program_limits f t.program) ≡ Some at)
+    → (t : Source) × HasForms (clamped_trees f) t × (least (program_limits f t.program) ≡ Some at)
 limit_answers {X = X} view end at f result h is =
-    let told = limit_told f (source_of end (seen_trees (within f))) at
+    let told = limit_told f (source_of end (seen_trees (clamped_trees f))) at
     (subst (λ (r : Result X FormStop). Answers view r (text_answer end f)) is h) in
-    (told.0, source_found end (within f) told.0 told.1, told.2)
+    (told.0, source_found end (clamped_trees f) told.0 told.1, told.2)

@@ -14,7 +14,7 @@ use Rattle.lang_forms.specs.Sketch.{Sketch, nothing, Fits}
 use Rattle.lang_forms.specs.Sources.{Source}
 use Rattle.lang_forms.specs.Forms.{parameters_forms, state_forms, function_forms, do_forms, top_forms, KnownNames, site_after_all, state_name, function_name, literal_fits, SpelledStmts, SpelledParameters, SpelledStates, SpelledFunctions, SpelledActor, SpelledScripts, HasForms}
 use Rattle.lang_forms.specs.Readings.{Top, StateTop, FunctionTop, DoTop, Seen, seen_trees, is_end, word_of, name_of, type_of, policy_of, literal_of, actor_steps_of, parameter_form, parameters_form, parameters_of, stmts_of, state_form, function_form, do_form, top_form, header_form, is_there}
-use Rattle.lang_forms.specs.TextReading.{PartialSource, known, source, is_none, source_with_form, source_with_rest, tops_of, text_of, start, source_of, source_or_offset}
+use Rattle.lang_forms.specs.TextReading.{PartialSource, known_names, source, is_none, source_with_form, source_with_rest, tops_of, text_of, start, source_of, source_or_offset}
 use Rattle.lang_forms.proofs.Found.{inject, bind_some, map_some, Worded, word_found, word_next, name_next, type_next, policy_next, literal_next, end_next, tail}
 use Rattle.lang_forms.proofs.ReadHasForms.{either, body_found}
 use Rattle.lang_forms.proofs.StepsHaveForms.{actor_found}
@@ -245,7 +245,7 @@ no_more b c x y h = true≢false (sym (and_true b c x y) ∙ h)
 
 -- A state, and the trees after it.
 state_leads : (at : ℕ) (i f : Forest) (p q r : PartialSource) (s : State) (k : ℕ)
-    → TopFits (known p) p.site at i (StateTop s) k → source_with_form p (StateTop s) k ≡ Some r → Leads f r q
+    → TopFits (known_names p) p.site at i (StateTop s) k → source_with_form p (StateTop s) k ≡ Some r → Leads f r q
     → Leads (list at i f) p q
 state_leads at i f p q r s k top put more =
     let made : PartialSource = record {
@@ -280,7 +280,7 @@ state_leads at i f p q r s k top put more =
 
 -- A function, and the trees after it.
 function_leads : (at : ℕ) (i f : Forest) (p q r : PartialSource) (c : Func) (k : ℕ)
-    → TopFits (known p) p.site at i (FunctionTop c) k → source_with_form p (FunctionTop c) k ≡ Some r → Leads f r q
+    → TopFits (known_names p) p.site at i (FunctionTop c) k → source_with_form p (FunctionTop c) k ≡ Some r → Leads f r q
     → Leads (list at i f) p q
 function_leads at i f p q r c k top put more =
     let made : PartialSource = record {
@@ -328,7 +328,7 @@ function_leads at i f p q r c k top put more =
 
 -- A script, and the trees after it.
 do_leads : (at : ℕ) (i f : Forest) (p q r : PartialSource) (d : DoForm) (k : ℕ)
-    → TopFits (known p) p.site at i (DoTop d) k → source_with_form p (DoTop d) k ≡ Some r → Leads f r q
+    → TopFits (known_names p) p.site at i (DoTop d) k → source_with_form p (DoTop d) k ≡ Some r → Leads f r q
     → Leads (list at i f) p q
 do_leads at i f p q r d k top put more =
     let made : PartialSource = record {
@@ -373,7 +373,7 @@ do_leads at i f p q r d k top put more =
     and_false true c h = h
     and_false false c h = refl
 
-top_leads : (at : ℕ) (i f : Forest) (p q r : PartialSource) (t : Top) (k : ℕ) → TopFits (known p) p.site at i t k
+top_leads : (at : ℕ) (i f : Forest) (p q r : PartialSource) (t : Top) (k : ℕ) → TopFits (known_names p) p.site at i t k
     → source_with_form p t k ≡ Some r → Leads f r q → Leads (list at i f) p q
 top_leads at i f p q r (StateTop s) k top put more = state_leads at i f p q r s k top put more
 top_leads at i f p q r (FunctionTop c) k top put more = function_leads at i f p q r c k top put more
@@ -397,8 +397,8 @@ tops_found (atom at a f) p q h = absurd (cc)
 tops_found (text at s f) p q h = absurd (cc)
 tops_found (list at i f) p q h =
     let r = followed_ok at _ (λ x. tops_of x (seen_trees f)) q h in
-    let t = bind_some (top_form (known p) p.site at (seen_trees i)) (λ x. source_with_form p x.0 x.1) r.0 r.1 in
-    top_leads at i f p q r.0 t.0.0 t.0.1 (top_found (known p) p.site at i t.0 t.1) t.2 (tops_found f r.0 q r.2)
+    let t = bind_some (top_form (known_names p) p.site at (seen_trees i)) (λ x. source_with_form p x.0 x.1) r.0 r.1 in
+    top_leads at i f p q r.0 t.0.0 t.0.1 (top_found (known_names p) p.site at i t.0 t.1) t.2 (tops_found f r.0 q r.2)
 
 -- The header `compose 1`.
 record Headed (i : Forest) : Type 0 where

@@ -13,7 +13,7 @@ use Rattle.lang_forms.specs.Sketch.{Sketch, nothing, Fits}
 use Rattle.lang_forms.specs.Sources.{Source}
 use Rattle.lang_forms.specs.Forms.{parameters_forms, states_forms, functions_forms, scripts_forms, KnownNames, site_after_all, state_name, function_name, SpelledParameters, SpelledStates, SpelledFunctions, SpelledScripts, HasForms}
 use Rattle.lang_forms.specs.Readings.{Top, StateTop, FunctionTop, DoTop, seen_trees, word_of, literal_at, actor_steps_of, parameter_form, parameters_form, state_form, function_form, do_form, top_form, header_form}
-use Rattle.lang_forms.specs.TextReading.{PartialSource, known, source_with_form, tops_of, text_of, start, source_of, source_or_offset}
+use Rattle.lang_forms.specs.TextReading.{PartialSource, known_names, source_with_form, tops_of, text_of, start, source_of, source_or_offset}
 use Rattle.lang_forms.proofs.FormsAreRead.{First, ReadsBody, name_there, type_there, policy_there, literal_read, literal_there, stmts_read, list_with_word}
 use Rattle.lang_forms.proofs.StepsAreRead.{actor_read}
 
@@ -90,12 +90,12 @@ record GoesOn (f : Forest) (p q : PartialSource) (g : Sketch) : Type 0 where
 
 -- A list that is a top form is taken.
 one_top : (f i r : Forest) (at x : ℕ) (p q : PartialSource) (t : Top) (k : ℕ) → f ≡ list at i r → at ≡ x
-    → top_form (known p) p.site x (seen_trees i) ≡ Some (t, k) → source_with_form p t k ≡ Some q →
+    → top_form (known_names p) p.site x (seen_trees i) ≡ Some (t, k) → source_with_form p t k ≡ Some q →
     tops_of p (seen_trees f) ≡ tops_of q (seen_trees r)
 unfolding tops_of
 one_top f i r at x p q t k is told read put =
-    let here : top_form (known p) p.site at (seen_trees i) ≡ Some (t, k) =
-    ap (λ (y : ℕ). top_form (known p) p.site y (seen_trees i)) told ∙ read in
+    let here : top_form (known_names p) p.site at (seen_trees i) ≡ Some (t, k) =
+    ap (λ (y : ℕ). top_form (known_names p) p.site y (seen_trees i)) told ∙ read in
     ap (λ (y : Forest). tops_of p (seen_trees y)) is ∙ rw (here, put)
 
 -- The parsed part.
@@ -118,9 +118,9 @@ states_read at k front (t ∷ ss) f g s h =
     let is : h.1 ≡ atom w.0 (codes "state") (atom t.name.at t.name.text (atom y.0 (type_word t.ty) (atom p.0 (policy_word t.policy) p.1))) =
     list_with_word h.1 w.1 n.1 w.0 n.0 (codes "state") t.name w.2 n.2 n.3 ∙ ap (λ (x : Forest). atom w.0 (codes "state") (atom t.name.at t.name.text x)) (y.2 ∙ ap (atom y.0 (type_word t.ty)) p.2) in
     let before = so_far at front [] [] k in
-    let read : top_form (known before) k t.at (seen_trees h.1) ≡ Some (StateTop t, k) =
-    ap (λ (i : Forest). top_form (known before) k t.at (seen_trees i)) is
-    ∙ state_read (known before) k w.0 y.0 p.0 t p.1 s.0 one in
+    let read : top_form (known_names before) k t.at (seen_trees h.1) ≡ Some (StateTop t, k) =
+    ap (λ (i : Forest). top_form (known_names before) k t.at (seen_trees i)) is
+    ∙ state_read (known_names before) k w.0 y.0 p.0 t p.1 s.0 one in
     let next = so_far at (front ++ t ∷ []) [] [] k in
     let more = states_read at k (front ++ t ∷ []) ss h.2 g s.2 h.6 in
     record {
@@ -152,12 +152,12 @@ functions_read at k ss front (c ∷ cs) f g s h =
     let before = so_far at ss front [] k in
     let is : h.1 ≡ atom w.0 (codes "fun") (atom c.name.at c.name.text (list l.0 l.1 l.2)) =
     list_with_word h.1 w.1 n.1 w.0 n.0 (codes "fun") c.name w.2 n.2 n.3 ∙ ap (λ (x : Forest). atom w.0 (codes "fun") (atom c.name.at c.name.text x)) l.3 in
-    let read : top_form (known before) k c.at (seen_trees h.1) ≡ Some (FunctionTop c, site_after_all k c.body) =
-    ap (λ (i : Forest). top_form (known before) k c.at (seen_trees i)) is
-    ∙ function_read (known before) k w.0 l.0 c l.1 l.2 s.0 (parameters_read c.parameters l.1 s.1 l.5)
-    (stmts_read (known before) k c.body l.2 s.2 l.6) in
+    let read : top_form (known_names before) k c.at (seen_trees h.1) ≡ Some (FunctionTop c, site_after_all k c.body) =
+    ap (λ (i : Forest). top_form (known_names before) k c.at (seen_trees i)) is
+    ∙ function_read (known_names before) k w.0 l.0 c l.1 l.2 s.0 (parameters_read c.parameters l.1 s.1 l.5)
+    (stmts_read (known_names before) k c.body l.2 s.2 l.6) in
     let next = so_far at ss (front ++ c ∷ []) [] (site_after_all k c.body) in
-    let spelled : SpelledFunctions (known next) (site_after_all k c.body) cs =
+    let spelled : SpelledFunctions (known_names next) (site_after_all k c.body) cs =
     subst (λ (ns : List (List ℕ)). SpelledFunctions (record { states = map state_name ss; functions = ns })
     (site_after_all k c.body) cs) (sym (map-append function_name front (c ∷ []))) s.3 in
     let more = functions_read at (site_after_all k c.body) ss (front ++ c ∷ []) cs h.2 g spelled h.6 in
@@ -181,9 +181,9 @@ scripts_read at k ss cs front (d ∷ ds) f s h =
     let n = w.4 in
     let before = so_far at ss cs front k in
     let is = list_with_word h.1 w.1 n.1 w.0 n.0 (codes "do") d.actor w.2 n.2 n.3 in
-    let read : top_form (known before) k d.at (seen_trees h.1) ≡ Some (DoTop d, k) =
-    ap (λ (i : Forest). top_form (known before) k d.at (seen_trees i)) is
-    ∙ do_read (known before) k w.0 d n.1 s.0 (actor_read (map state_name ss) d.steps n.1 s.1 n.4) in
+    let read : top_form (known_names before) k d.at (seen_trees h.1) ≡ Some (DoTop d, k) =
+    ap (λ (i : Forest). top_form (known_names before) k d.at (seen_trees i)) is
+    ∙ do_read (known_names before) k w.0 d n.1 s.0 (actor_read (map state_name ss) d.steps n.1 s.1 n.4) in
     one_top f h.1 h.2 h.0 d.at before (so_far at ss cs (front ++ d ∷ []) k) (DoTop d) k h.3 h.4 read refl
     ∙ scripts_read at k ss cs (front ++ d ∷ []) ds h.2 s.2 h.6
     ∙ ap (λ (l : List DoForm). Ok (so_far at ss cs l k)) (append_assoc front (d ∷ []) ds)

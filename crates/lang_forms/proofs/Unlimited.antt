@@ -18,7 +18,7 @@ use Rattle.lang_ast.specs.declared.syntax.Operator.TheVariants as operator
 use Rattle.lang_ast.specs.declared.syntax.Parameter.{Parameter}
 use Rattle.lang_ast.specs.declared.program.State.{State}
 use Rattle.lang_limits.specs.Tokens.{is_counting, is_int, is_oversized_int, tree_count}
-use Rattle.lang_limits.specs.Clamped.{nearest_int, clamped_atom, clamped_string, are_ints, is_oversized_ints, first_trees, clamped_list, within}
+use Rattle.lang_limits.specs.Clamped.{nearest_int, clamped_atom, clamped_string, are_ints, is_oversized_ints, first_trees, clamped_list, clamped_trees}
 use Rattle.lang_ast.specs.declared.script.SnapshotRef.{SnapshotRef}
 use Rattle.lang_ast.specs.declared.script.SnapshotRef.TheVariants.{Global, Named as NamedSnapshot}
 use Rattle.lang_ast.specs.declared.script.CallForm.{CallForm}
@@ -42,14 +42,14 @@ use Rattle.lang_forms.proofs.Ints.{digit_no_letter}
 
 -- Clamped forests, tree by tree.
 
-first_within : (n : ℕ) (f : Forest) → within (first_trees n f) ≡ first_trees n (within f)
+first_within : (n : ℕ) (f : Forest) → clamped_trees (first_trees n f) ≡ first_trees n (clamped_trees f)
 first_within zero f = refl
 first_within (suc n) empty = refl
 first_within (suc n) (atom at a f) = ap (atom at (clamped_atom a)) (first_within n f)
 first_within (suc n) (text at s f) = ap (text at (clamped_string s)) (first_within n f)
-first_within (suc n) (list at i f) = ap (list at (clamped_list (within i))) (first_within n f)
+first_within (suc n) (list at i f) = ap (list at (clamped_list (clamped_trees i))) (first_within n f)
 
-count_within : (f : Forest) → tree_count (within f) ≡ tree_count f
+count_within : (f : Forest) → tree_count (clamped_trees f) ≡ tree_count f
 count_within empty = refl
 count_within (atom at a f) = ap suc (count_within f)
 count_within (text at s f) = ap suc (count_within f)
@@ -81,28 +81,28 @@ word_within a = by (is_oversized_int a) (bytes_eq a (codes "ints")) refl refl
     by true false e h = nearest_by (λ (x : List ℕ). bytes_eq x (codes "ints") ≡ false) a refl refl
     by false c e h = h
 
-ints_within : (f : Forest) → are_ints (within f) ≡ are_ints f
+ints_within : (f : Forest) → are_ints (clamped_trees f) ≡ are_ints f
 ints_within empty = refl
 ints_within (atom at a f) =
-    ap (λ (b : Bool). b && are_ints (within f)) (int_within a) ∙ ap (λ (b : Bool). is_int a && b) (ints_within f)
+    ap (λ (b : Bool). b && are_ints (clamped_trees f)) (int_within a) ∙ ap (λ (b : Bool). is_int a && b) (ints_within f)
 ints_within (text at s f) = refl
 ints_within (list at i f) = refl
 
-cut_within : (f : Forest) → is_oversized_ints (within f) ≡ is_oversized_ints f
+cut_within : (f : Forest) → is_oversized_ints (clamped_trees f) ≡ is_oversized_ints f
 cut_within empty = refl
 cut_within (atom at a f) =
-    ap (λ (b : Bool). (b && nat_lt most_items (tree_count (within f))) && are_ints (within f)) (word_within a)
-    ∙ ap (λ (n : ℕ). (bytes_eq a (codes "ints") && nat_lt most_items n) && are_ints (within f)) (count_within f)
+    ap (λ (b : Bool). (b && nat_lt most_items (tree_count (clamped_trees f))) && are_ints (clamped_trees f)) (word_within a)
+    ∙ ap (λ (n : ℕ). (bytes_eq a (codes "ints") && nat_lt most_items n) && are_ints (clamped_trees f)) (count_within f)
     ∙ ap (λ (b : Bool). (bytes_eq a (codes "ints") && nat_lt most_items (tree_count f)) && b) (ints_within f)
 cut_within (text at s f) = refl
 cut_within (list at i f) = refl
 
 -- A list is cut before or after its trees are clamped.
-list_same : (j : Forest) → clamped_list (within j) ≡ within (clamped_list j)
+list_same : (j : Forest) → clamped_list (clamped_trees j) ≡ clamped_trees (clamped_list j)
 list_same j =
-    ap (λ (b : Bool). if b then first_trees 3 (within j) else within j) (cut_within j) ∙ by (is_oversized_ints j)
+    ap (λ (b : Bool). if b then first_trees 3 (clamped_trees j) else clamped_trees j) (cut_within j) ∙ by (is_oversized_ints j)
   where
-    by : (b : Bool) → (if b then first_trees 3 (within j) else within j) ≡ within (if b then first_trees 3 j else j)
+    by : (b : Bool) → (if b then first_trees 3 (clamped_trees j) else clamped_trees j) ≡ clamped_trees (if b then first_trees 3 j else j)
     by true = sym (first_within 3 j)
     by false = refl
 
@@ -112,33 +112,33 @@ list_uncut j e = ap (λ (b : Bool). if b then first_trees 3 j else j) e
 -- The forest before clamping.
 
 abbrev FromAtom : Forest → ℕ → List ℕ → Forest → Type 0
-FromAtom f x a r = (b : List ℕ) × (s : Forest) × (f ≡ atom x b s) × (clamped_atom b ≡ a) × (within s ≡ r)
+FromAtom f x a r = (b : List ℕ) × (s : Forest) × (f ≡ atom x b s) × (clamped_atom b ≡ a) × (clamped_trees s ≡ r)
 
-from_atom : (f : Forest) (x : ℕ) (a : List ℕ) (r : Forest) → within f ≡ atom x a r → FromAtom f x a r
+from_atom : (f : Forest) (x : ℕ) (a : List ℕ) (r : Forest) → clamped_trees f ≡ atom x a r → FromAtom f x a r
 from_atom empty x a r h = absurd (cc)
 from_atom (atom y b s) x a r h = let same : y ≡ x = cc in (b, s, ap (λ (z : ℕ). atom z b s) same, cc, cc)
 from_atom (text y b s) x a r h = absurd (cc)
 from_atom (list y b s) x a r h = absurd (cc)
 
 abbrev FromText : Forest → ℕ → List ℕ → Forest → Type 0
-FromText f x a r = (b : List ℕ) × (s : Forest) × (f ≡ text x b s) × (clamped_string b ≡ a) × (within s ≡ r)
+FromText f x a r = (b : List ℕ) × (s : Forest) × (f ≡ text x b s) × (clamped_string b ≡ a) × (clamped_trees s ≡ r)
 
-from_text : (f : Forest) (x : ℕ) (a : List ℕ) (r : Forest) → within f ≡ text x a r → FromText f x a r
+from_text : (f : Forest) (x : ℕ) (a : List ℕ) (r : Forest) → clamped_trees f ≡ text x a r → FromText f x a r
 from_text empty x a r h = absurd (cc)
 from_text (atom y b s) x a r h = absurd (cc)
 from_text (text y b s) x a r h = let same : y ≡ x = cc in (b, s, ap (λ (z : ℕ). text z b s) same, cc, cc)
 from_text (list y b s) x a r h = absurd (cc)
 
 abbrev FromList : Forest → ℕ → Forest → Forest → Type 0
-FromList f x i r = (j : Forest) × (s : Forest) × (f ≡ list x j s) × (clamped_list (within j) ≡ i) × (within s ≡ r)
+FromList f x i r = (j : Forest) × (s : Forest) × (f ≡ list x j s) × (clamped_list (clamped_trees j) ≡ i) × (clamped_trees s ≡ r)
 
-from_list : (f : Forest) (x : ℕ) (i r : Forest) → within f ≡ list x i r → FromList f x i r
+from_list : (f : Forest) (x : ℕ) (i r : Forest) → clamped_trees f ≡ list x i r → FromList f x i r
 from_list empty x i r h = absurd (cc)
 from_list (atom y b s) x i r h = absurd (cc)
 from_list (text y b s) x i r h = absurd (cc)
 from_list (list y b s) x i r h = let same : y ≡ x = cc in (b, s, ap (λ (z : ℕ). list z b s) same, cc, cc)
 
-from_empty : (f : Forest) → within f ≡ empty → f ≡ empty
+from_empty : (f : Forest) → clamped_trees f ≡ empty → f ≡ empty
 from_empty empty h = refl
 from_empty (atom y b s) h = absurd (cc)
 from_empty (text y b s) h = absurd (cc)
@@ -267,7 +267,7 @@ leaf_stays a tok =
     let parts = and_parts (not (is_nearest a)) _ tok in ap (clamped a) (not_true (is_oversized_int a) parts.1)
 
 -- Clamped trees that have the forms of a sketch have them without the limits of literals.
-unlimited : (g : Sketch) (f : Forest) → Clean g → Fits (within f) g → FitsUnlimited f g
+unlimited : (g : Sketch) (f : Forest) → Clean g → Fits (clamped_trees f) g → FitsUnlimited f g
 unlimited nothing f c h = from_empty f h
 unlimited (leaf p a g) f c h =
     let w = from_atom f h.0 a h.1 h.2 in (
@@ -285,9 +285,9 @@ unlimited (string p s g) f c h =
     (h.0, w.0, w.1, w.2, w.3, h.3, unlimited g w.1 c (subst (λ (x : Forest). Fits x g) (sym w.4) h.4))
 unlimited (group p i g) f c h =
     let w = from_list f h.0 h.1 h.2 h.3 in
-    let inner : Fits (clamped_list (within w.0)) i = subst (λ (x : Forest). Fits x i) (sym w.3) h.5 in
-    let plain : Fits (within w.0) i =
-    subst (λ (x : Forest). Fits x i) (list_uncut (within w.0) (uncut (within w.0) i inner c.0)) inner in (
+    let inner : Fits (clamped_list (clamped_trees w.0)) i = subst (λ (x : Forest). Fits x i) (sym w.3) h.5 in
+    let plain : Fits (clamped_trees w.0) i =
+    subst (λ (x : Forest). Fits x i) (list_uncut (clamped_trees w.0) (uncut (clamped_trees w.0) i inner c.0)) inner in (
       h.0,
       w.0,
       w.1,
@@ -298,7 +298,7 @@ unlimited (group p i g) f c h =
     )
 unlimited (sequence p i g) f c h =
     let w = from_list f h.0 h.1 h.2 h.3 in
-    let inner : Fits (within (clamped_list w.0)) i = subst (λ (x : Forest). Fits x i) (sym w.3 ∙ list_same w.0) h.5 in (
+    let inner : Fits (clamped_trees (clamped_list w.0)) i = subst (λ (x : Forest). Fits x i) (sym w.3 ∙ list_same w.0) h.5 in (
       h.0,
       w.0,
       w.1,
@@ -309,27 +309,27 @@ unlimited (sequence p i g) f c h =
     )
 
 -- Forests that have the forms of a sketch without the limits of literals have them when they are clamped.
-limited : (g : Sketch) (f : Forest) → Clean g → FitsUnlimited f g → Fits (within f) g
-limited nothing f c h = ap within h
+limited : (g : Sketch) (f : Forest) → Clean g → FitsUnlimited f g → Fits (clamped_trees f) g
+limited nothing f c h = ap clamped_trees h
 limited (leaf p a g) f c h = (
   h.0,
-  within h.1,
-  ap within h.2
-      ∙ ap (λ (x : List ℕ). atom h.0 x (within h.1)) (leaf_stays a c.0),
+  clamped_trees h.1,
+  ap clamped_trees h.2
+      ∙ ap (λ (x : List ℕ). atom h.0 x (clamped_trees h.1)) (leaf_stays a c.0),
   h.3,
   limited g h.1 c.1 h.4,
 )
 limited (numeral p z g) f c h =
-    (h.0, within h.2, ap within h.3 ∙ ap (λ (x : List ℕ). atom h.0 x (within h.2)) h.4, h.5, limited g h.2 c h.6)
+    (h.0, clamped_trees h.2, ap clamped_trees h.3 ∙ ap (λ (x : List ℕ). atom h.0 x (clamped_trees h.2)) h.4, h.5, limited g h.2 c h.6)
 limited (string p s g) f c h =
-    (h.0, within h.2, ap within h.3 ∙ ap (λ (x : List ℕ). text h.0 x (within h.2)) h.4, h.5, limited g h.2 c h.6)
+    (h.0, clamped_trees h.2, ap clamped_trees h.3 ∙ ap (λ (x : List ℕ). text h.0 x (clamped_trees h.2)) h.4, h.5, limited g h.2 c h.6)
 limited (group p i g) f c h =
     let inner = limited i h.1 c.1 h.5 in
-    let same = list_uncut (within h.1) (whole (within h.1) i inner c.0) in (
+    let same = list_uncut (clamped_trees h.1) (whole (clamped_trees h.1) i inner c.0) in (
       h.0,
-      clamped_list (within h.1),
-      within h.2,
-      ap within h.3,
+      clamped_list (clamped_trees h.1),
+      clamped_trees h.2,
+      ap clamped_trees h.3,
       h.4,
       subst (λ (x : Forest). Fits x i) (sym same) inner,
       limited g h.2 c.2 h.6,
@@ -337,9 +337,9 @@ limited (group p i g) f c h =
 limited (sequence p i g) f c h =
     let inner = limited i (clamped_list h.1) c.0 h.5 in (
       h.0,
-      clamped_list (within h.1),
-      within h.2,
-      ap within h.3,
+      clamped_list (clamped_trees h.1),
+      clamped_trees h.2,
+      ap clamped_trees h.3,
       h.4,
       subst (λ (x : Forest). Fits x i) (sym (list_same h.1)) inner,
       limited g h.2 c.1 h.6,
@@ -609,9 +609,9 @@ clean_text t s = (
       (clean_functions _ 1 t.program.functions _ s.functions (clean_scripts _ t.script s.script)),
 )
 
-pub unlimited_forms : (f : Forest) (t : Source) → HasForms (within f) t → HasUnlimitedForms f t
+pub unlimited_forms : (f : Forest) (t : Source) → HasForms (clamped_trees f) t → HasUnlimitedForms f t
 unlimited_forms f t h =
     record { fits = unlimited (text_forms t) f (clean_text t h.spelled) h.fits; spelled = h.spelled }
 
-pub clamped_forms : (f : Forest) (t : Source) → HasUnlimitedForms f t → HasForms (within f) t
+pub clamped_forms : (f : Forest) (t : Source) → HasUnlimitedForms f t → HasForms (clamped_trees f) t
 clamped_forms f t h = record { fits = limited (text_forms t) f (clean_text t h.spelled) h.fits; spelled = h.spelled }

@@ -3,7 +3,7 @@ use Rattle.std.specs.Prelude.{◌≡◌, ◌⊎◌, ℕ, Some, None, Result, Ok,
 use Rattle.sexp_text.specs.Forest.{Forest, empty, atom, text, list, joined_trees}
 use Rattle.lang_limits.specs.LeastOffset.{least}
 use Rattle.lang_limits.specs.Sizes.{program_limits}
-use Rattle.lang_limits.specs.Clamped.{within}
+use Rattle.lang_limits.specs.Clamped.{clamped_trees}
 use Rattle.lang_forms.specs.declared.stop.FormStop.{FormStop}
 use Rattle.lang_forms.specs.declared.stop.FormStop.TheVariants.{Form, Limit, NoMemory}
 use Rattle.lang_forms.specs.Sources.{Source}
@@ -37,9 +37,9 @@ pub record IsFirstWrong (end : ℕ) (f : Forest) (at : ℕ) : Type 0 where
 -- The answer for a forest in an input of length `end`, by the forms of its clamped trees: a text whose program
 -- exceeds no limit, the first wrong top form, or the first offset of a text's program that exceeds a limit.
 abbrev pub IsAnswerFor : ℕ → Forest → Result Source FormStop → Type 0
-IsAnswerFor end f (Ok t) = HasForms (within f) t × (least (program_limits f t.program) ≡ None)
-IsAnswerFor end f (Err (Form at)) = IsFirstWrong end (within f) at
-IsAnswerFor end f (Err (Limit at)) = (t : Source) × HasForms (within f) t
+IsAnswerFor end f (Ok t) = HasForms (clamped_trees f) t × (least (program_limits f t.program) ≡ None)
+IsAnswerFor end f (Err (Form at)) = IsFirstWrong end (clamped_trees f) at
+IsAnswerFor end f (Err (Limit at)) = (t : Source) × HasForms (clamped_trees f) t
     × (least (program_limits f t.program) ≡ Some at)
 IsAnswerFor end f (Err NoMemory) = ⊥
 

@@ -3,7 +3,7 @@ use Rattle.std.specs.Prelude.{ℕ, Option, Some, None, Result, Ok, Err}
 use Rattle.sexp_text.specs.Forest.{Forest}
 use Rattle.lang_limits.specs.LeastOffset.{least}
 use Rattle.lang_limits.specs.Sizes.{program_limits}
-use Rattle.lang_limits.specs.Clamped.{within}
+use Rattle.lang_limits.specs.Clamped.{clamped_trees}
 use Rattle.lang_forms.specs.declared.stop.FormStop.{FormStop}
 use Rattle.lang_forms.specs.declared.stop.FormStop.TheVariants.{Form, Limit}
 use Rattle.lang_forms.specs.Sources.{Source}
@@ -22,4 +22,4 @@ parsed_answer f (Err at) = Err (Form at)
 
 -- The answer for a forest in an input of length `end`: its trees are clamped to the limits and parsed.
 abbrev pub text_answer : ℕ → Forest → Result Source FormStop
-text_answer end f = parsed_answer f (source_of end (seen_trees (within f)))
+text_answer end f = parsed_answer f (source_of end (seen_trees (clamped_trees f)))

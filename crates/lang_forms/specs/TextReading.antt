@@ -15,8 +15,8 @@ pub record PartialSource : Type 0 where
   pub script : List DoForm
   pub site : ℕ
 
-abbrev pub known : PartialSource → KnownNames
-known p = record { states = map state_name p.states; functions = map function_name p.functions }
+abbrev pub known_names : PartialSource → KnownNames
+known_names p = record { states = map state_name p.states; functions = map function_name p.functions }
 
 abbrev pub source : PartialSource → Source
 source p = record {
@@ -43,7 +43,7 @@ source_with_form p (DoTop d) k = Some
 
 -- The part with a further tree. None if that is no top form, or out of order.
 abbrev pub source_with_tree : PartialSource → Seen → Option PartialSource
-source_with_tree p s = top_at (known p) p.site s >>= λ t. source_with_form p t.0 t.1
+source_with_tree p s = top_at (known_names p) p.site s >>= λ t. source_with_form p t.0 t.1
 
 -- The part with a tree and those after it, or the offset x of the tree.
 abbrev pub source_with_rest : ℕ → Option PartialSource → (PartialSource → Result PartialSource ℕ)

@@ -3,7 +3,7 @@ ghost use Rattle.std.specs.Prelude.{◌≡◌, ℕ, Result};
 ghost use Rattle.sexp_text.specs.Forest.{Forest};
 ghost use Rattle.lang_forms.specs.Sources.{Source};
 ghost use Rattle.lang_forms.specs.Forms.{HasForms, HasUnlimitedForms};
-ghost use Rattle.lang_limits.specs.Clamped.{within};
+ghost use Rattle.lang_limits.specs.Clamped.{clamped_trees};
 ghost use Rattle.lang_forms.specs.FirstWrong.{IsAnswerFor};
 ghost use Rattle.lang_forms.specs.declared.stop.FormStop.{FormStop};
 
@@ -19,9 +19,9 @@ pub fn forms_of_one_text()
 /// Clamped trees have the forms of a text exactly if the trees themselves have them without the
 /// limits of literals. A rule of this project. The function does nothing: its contract is the law.
 pub fn limits_keep_the_forms()
-    ensures unlimited { (f : Forest) → (t : Source) → HasForms (within f) t →
+    ensures unlimited { (f : Forest) → (t : Source) → HasForms (clamped_trees f) t →
         HasUnlimitedForms f t }
-    ensures clamped { (f : Forest) → (t : Source) → HasUnlimitedForms f t → HasForms (within f) t }
+    ensures clamped { (f : Forest) → (t : Source) → HasUnlimitedForms f t → HasForms (clamped_trees f) t }
 {}
 
 /// The forms of trees define one answer: their text, or the offset where they are refused.

@@ -5,8 +5,8 @@ ghost use Rattle.sexp_text.specs.View.{forest_view};
 ghost use Rattle.lang_ast.specs.Programs.{program_view};
 ghost use Rattle.lang_limits.specs.LeastOffset.{least};
 ghost use Rattle.lang_limits.specs.Sizes.{program_limits};
-ghost use Rattle.lang_limits.specs.Tokens.{beyond, program_trees, oversized_script_offsets};
-ghost use Rattle.lang_limits.specs.Clamped.{within};
+ghost use Rattle.lang_limits.specs.Tokens.{oversized_offsets, program_trees, oversized_script_offsets};
+ghost use Rattle.lang_limits.specs.Clamped.{clamped_trees};
 ghost use Rattle.lang_forms.specs.TextAnswers.{parsed_answer, text_answer};
 ghost use Rattle.lang_forms.specs.Sources.{Source, parsed_source_view};
 ghost use Rattle.lang_forms.specs.Forms.{HasForms};
@@ -20,7 +20,7 @@ use crate::partial_source::PartialSource;
 use crate::stop::ParseStop;
 use crate::top_forms::{is_header, place_of};
 use lang_ast::{Program, Rest};
-use lang_limits::{TokenLimits, size_limit, token_limits, within};
+use lang_limits::{TokenLimits, clamped_trees, size_limit, token_limits};
 use sexp_text::Tree;
 use std::alloc::Global;
 
@@ -74,14 +74,14 @@ fn parse_clamped_text(
     end: usize,
     limits: TokenLimits,
 ) -> Result<PartialSource, FormStop>
-    requires program { limits.program ≡ least (beyond (program_trees (forest_view trees.now))) }
+    requires program { limits.program ≡ least (oversized_offsets (program_trees (forest_view trees.now))) }
     requires script { limits.script ≡ least (oversized_script_offsets (forest_view trees.now)) }
-    ensures { Gives partial_source_view result (text_of end (seen_trees (within (forest_view trees.now)))) }
+    ensures { Gives partial_source_view result (text_of end (seen_trees (clamped_trees (forest_view trees.now)))) }
 {
     if limits.program.is_none() && limits.script.is_none() {
         return parse_text(alloc, trees, end);
     }
-    let small = within(alloc, trees)?;
+    let small = clamped_trees(alloc, trees)?;
     parse_text(alloc, &small, end)
 }
 
@@ -89,7 +89,7 @@ fn parse_clamped_text(
 // hold for all trees with these limits, since only the least offset counts.
 #[tactic(auto, using(lang_limits::proofs::Lesser::least_append, lang_limits::proofs::Lesser::none_exceeds))]
 fn unless_beyond(front: PartialSource, limits: TokenLimits) -> Result<(Program, Rest), FormStop>
-    ensures read { (f : Forest) → limits.program ≡ least (beyond (program_trees f)) →
+    ensures read { (f : Forest) → limits.program ≡ least (oversized_offsets (program_trees f)) →
         Answers parsed_source_view result (parsed_answer f (Ok (source (partial_source_view front)))) }
     ensures beyond { IfOk result (λ r. r.1.first_oversized ≡ limits.script) }
 {
@@ -129,14 +129,14 @@ fn text_or_limit(alloc: Global, trees: &[Tree], end: usize) -> Result<(Program, 
 pub fn program(alloc: Global, trees: &[Tree], end: usize) -> Result<(Program, Rest), FormStop>
     ensures answer { (a : Result Source FormStop) → IsAnswerFor end (forest_view trees.now) a →
         Answers parsed_source_view result a }
-    ensures forms { IfOk result (λ r. HasForms (within (forest_view trees.now)) (parsed_source_view r)) }
+    ensures forms { IfOk result (λ r. HasForms (clamped_trees (forest_view trees.now)) (parsed_source_view r)) }
     ensures small { IfOk result (λ r. program_limits (forest_view trees.now) (program_view r.0)
         ≡ []) }
     ensures beyond { IfOk result (λ r. r.1.first_oversized ≡ least (oversized_script_offsets (forest_view trees.now))) }
     ensures stop { (at : ℕ) → result ≡ Err (FormStop.Form at) →
-        IsFirstWrong end (within (forest_view trees.now)) at }
+        IsFirstWrong end (clamped_trees (forest_view trees.now)) at }
     ensures limit { (at : ℕ) → result ≡ Err (FormStop.Limit at) →
-        (t : Source) × HasForms (within (forest_view trees.now)) t
+        (t : Source) × HasForms (clamped_trees (forest_view trees.now)) t
         × (least (program_limits (forest_view trees.now) t.program) ≡ Some at) }
 {
     text_or_limit(alloc, trees, end)

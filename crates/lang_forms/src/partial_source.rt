@@ -2,7 +2,7 @@
 ghost use Rattle.std.specs.Prelude.{◌≡◌, Bool};
 ghost use Rattle.lang_ast.specs.SyntaxView.{function_view};
 ghost use Rattle.lang_forms.specs.Readings.{StateTop, FunctionTop, DoTop};
-ghost use Rattle.lang_forms.specs.TextReading.{start, known, source_with_form, source_with_tree};
+ghost use Rattle.lang_forms.specs.TextReading.{start, known_names, source_with_form, source_with_tree};
 ghost use Rattle.lang_forms.specs.Views.{seen_tree, known_names_view, partial_source_view, Reads};
 
 use crate::known_names::KnownNames;
@@ -37,8 +37,8 @@ impl PartialSource {
     }
 
     // Returns the names that the next form may use.
-    fn known(&self) -> KnownNames<'_>
-        ensures { known_names_view result ≡ known (partial_source_view self.now) }
+    fn known_names(&self) -> KnownNames<'_>
+        ensures { known_names_view result ≡ known_names (partial_source_view self.now) }
     {
         KnownNames {
             states: &self.states,
@@ -102,7 +102,7 @@ impl PartialSource {
     pub fn with_tree(self, alloc: Global, tree: &Tree) -> Result<Self, ParseStop>
         ensures { Reads partial_source_view result (source_with_tree (partial_source_view self) (seen_tree tree.now)) }
     {
-        let (form, next) = parse_top_form(alloc, &self.known(), self.site, tree)?;
+        let (form, next) = parse_top_form(alloc, &self.known_names(), self.site, tree)?;
         match form {
             TopForm::State(state) => self.with_state(state, next),
             TopForm::Function(function) => self.with_function(function, next),

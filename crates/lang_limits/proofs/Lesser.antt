@@ -3,7 +3,7 @@ use Rattle.std.proofs.Common.{arith, ◌≡◌, ◌⊎◌, ◌≤◌, ℕ, inl, 
 use Rattle.std.proofs.lemmas.Bool.Decides.{nat_tests}
 use Rattle.std.proofs.lemmas.List.Elements.{All-cons, All-nil}
 use Rattle.lang_limits.specs.LeastOffset.{lesser_offset, least_offset_from}
-use Rattle.lang_limits.specs.Laws.{LeastIsLeast, NoLeastNoPlace}
+use Rattle.lang_limits.specs.Laws.{LeastIsLeast, NoLeastNoOffset}
 
 pub least_append : (o : Option ℕ) (xs ys : List ℕ)
     → least_offset_from o (xs ++ ys) ≡ least_offset_from (least_offset_from o xs) ys
@@ -59,7 +59,7 @@ kept [] at = (at, refl)
 kept (p ∷ ps) at = kept ps (min at p)
 
 -- No least offset of no offsets.
-pub no_least : NoLeastNoPlace
+pub no_least : NoLeastNoOffset
 no_least [] h = refl
 no_least (p ∷ ps) h = let k = kept ps p in absurd (cc (k.1))
 

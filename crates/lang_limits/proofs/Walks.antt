@@ -7,7 +7,7 @@ use Rattle.sexp_text.specs.declared.tree.Tree.{Tree}
 use Rattle.sexp_text.proofs.Trees.{OneTree, one_atom, one_text, one_list, one_tree, view-Atom, view-Text, view-List}
 use Rattle.lang_limits.specs.LeastOffset.{least_offset_from}
 use Rattle.lang_ast.specs.Sizes.{offset_if}
-use Rattle.lang_limits.specs.Tokens.{tree_count, is_oversized_atom, is_oversized_string, beyond, is_script, program_trees, script_trees}
+use Rattle.lang_limits.specs.Tokens.{tree_count, is_oversized_atom, is_oversized_string, oversized_offsets, is_script, program_trees, script_trees}
 use Rattle.lang_limits.proofs.Lesser.{least_append}
 
 one_more : (f g : Forest) → OneTree f → tree_count (joined_trees f g) ≡ suc (tree_count g)
@@ -29,22 +29,22 @@ view_drop ts i t lt e =
     ap forest_view (drop-cons ts i t lt) ∙ ap (λ u. joined_trees (tree_view u) (forest_view (drop (suc i) ts))) (sym e)
     ∙ ap (λ n. joined_trees (tree_view t) (forest_view (drop n ts))) (sym (add-one i))
 
-pub beyond-behind : (f g : Forest) → beyond (joined_trees f g) ≡ beyond f ++ beyond g
-beyond-behind empty g = refl
-beyond-behind (atom at a f) g = ap (λ l. offset_if (is_oversized_atom a) at ++ l) (beyond-behind f g)
-    ∙ sym (append_assoc (offset_if (is_oversized_atom a) at) (beyond f) (beyond g))
-beyond-behind (text at s f) g = ap (λ l. offset_if (is_oversized_string s) at ++ l) (beyond-behind f g)
-    ∙ sym (append_assoc (offset_if (is_oversized_string s) at) (beyond f) (beyond g))
-beyond-behind (list at i f) g = rw (beyond-behind f g) (simp append_assoc)
+pub oversized_offsets-joined : (f g : Forest) → oversized_offsets (joined_trees f g) ≡ oversized_offsets f ++ oversized_offsets g
+oversized_offsets-joined empty g = refl
+oversized_offsets-joined (atom at a f) g = ap (λ l. offset_if (is_oversized_atom a) at ++ l) (oversized_offsets-joined f g)
+    ∙ sym (append_assoc (offset_if (is_oversized_atom a) at) (oversized_offsets f) (oversized_offsets g))
+oversized_offsets-joined (text at s f) g = ap (λ l. offset_if (is_oversized_string s) at ++ l) (oversized_offsets-joined f g)
+    ∙ sym (append_assoc (offset_if (is_oversized_string s) at) (oversized_offsets f) (oversized_offsets g))
+oversized_offsets-joined (list at i f) g = rw (oversized_offsets-joined f g) (simp append_assoc)
 
 -- The oversized tokens of one tree, and of those after it.
 pub beyond_step : (ts : List Tree) (i : ℕ) (t : Tree) (o : Option ℕ) → i < length ts → t ≡ get_or ts i t →
-    least_offset_from o (beyond (forest_view (drop i ts)))
-    ≡ least_offset_from (least_offset_from o (beyond (tree_view t))) (beyond (forest_view (drop (i + 1) ts)))
+    least_offset_from o (oversized_offsets (forest_view (drop i ts)))
+    ≡ least_offset_from (least_offset_from o (oversized_offsets (tree_view t))) (oversized_offsets (forest_view (drop (i + 1) ts)))
 beyond_step ts i t o lt e =
-    ap (λ (f : Forest). least_offset_from o (beyond f)) (view_drop ts i t lt e)
-    ∙ ap (least_offset_from o) (beyond-behind (tree_view t) (forest_view (drop (i + 1) ts)))
-    ∙ least_append o (beyond (tree_view t)) (beyond (forest_view (drop (i + 1) ts)))
+    ap (λ (f : Forest). least_offset_from o (oversized_offsets f)) (view_drop ts i t lt e)
+    ∙ ap (least_offset_from o) (oversized_offsets-joined (tree_view t) (forest_view (drop (i + 1) ts)))
+    ∙ least_append o (oversized_offsets (tree_view t)) (oversized_offsets (forest_view (drop (i + 1) ts)))
 
 program_one : (f g : Forest) → OneTree f
     → program_trees (joined_trees f g) ≡ (if is_script f then empty else joined_trees f (program_trees g))
@@ -70,4 +70,4 @@ pub script_step : (t : Tree) (ts : List Tree)
 script_step t ts = script_one (tree_view t) (forest_view ts) (one_tree t)
 
 -- What separates the program from the script.
-pub ruleset splits = (program_step, script_step, beyond-behind, least_append)
+pub ruleset splits = (program_step, script_step, oversized_offsets-joined, least_append)

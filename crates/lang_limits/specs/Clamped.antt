@@ -44,8 +44,8 @@ first_trees (suc n) (list at i f) = list at i (first_trees n f)
 abbrev pub clamped_list : Forest → Forest
 clamped_list f = if is_oversized_ints f then first_trees 3 f else f
 
-abbrev pub within : Forest → Forest
-within empty = empty
-within (atom at a f) = atom at (clamped_atom a) (within f)
-within (text at s f) = text at (clamped_string s) (within f)
-within (list at i f) = list at (clamped_list (within i)) (within f)
+abbrev pub clamped_trees : Forest → Forest
+clamped_trees empty = empty
+clamped_trees (atom at a f) = atom at (clamped_atom a) (clamped_trees f)
+clamped_trees (text at s f) = text at (clamped_string s) (clamped_trees f)
+clamped_trees (list at i f) = list at (clamped_list (clamped_trees i)) (clamped_trees f)

@@ -3,7 +3,7 @@ use Rattle.std.specs.Prelude.{ℕ, List, ◌++◌}
 use Rattle.sexp_text.specs.Forest.{Forest}
 use Rattle.lang_ast.specs.Programs.{Program}
 use Rattle.lang_ast.specs.Sizes.{oversized_parts}
-use Rattle.lang_limits.specs.Tokens.{beyond, program_trees}
+use Rattle.lang_limits.specs.Tokens.{oversized_offsets, program_trees}
 
 -- The offsets of the oversized parts of a program.
 abbrev pub program_sizes : Program → List ℕ
@@ -11,4 +11,4 @@ program_sizes p = oversized_parts p.states p.functions
 
 -- The offsets of all that exceeds a limit in a program, with the trees that it was parsed from.
 abbrev pub program_limits : Forest → Program → List ℕ
-program_limits f p = beyond (program_trees f) ++ program_sizes p
+program_limits f p = oversized_offsets (program_trees f) ++ program_sizes p

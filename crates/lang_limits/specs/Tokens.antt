@@ -50,11 +50,11 @@ is_oversized_list (text at s f) = false
 is_oversized_list (list at i f) = false
 
 -- The offsets of all oversized tokens.
-abbrev pub beyond : Forest → List ℕ
-beyond empty = []
-beyond (atom at a f) = offset_if (is_oversized_atom a) at ++ beyond f
-beyond (text at s f) = offset_if (is_oversized_string s) at ++ beyond f
-beyond (list at i f) = offset_if (is_oversized_list i) at ++ beyond i ++ beyond f
+abbrev pub oversized_offsets : Forest → List ℕ
+oversized_offsets empty = []
+oversized_offsets (atom at a f) = offset_if (is_oversized_atom a) at ++ oversized_offsets f
+oversized_offsets (text at s f) = offset_if (is_oversized_string s) at ++ oversized_offsets f
+oversized_offsets (list at i f) = offset_if (is_oversized_list i) at ++ oversized_offsets i ++ oversized_offsets f
 
 -- `(do ..)`, a part of the script.
 abbrev pub is_do : Forest → Bool
@@ -86,4 +86,4 @@ script_trees (list at i f) = if is_do i then list at i f else script_trees f
 
 -- The offsets of the oversized tokens of the script.
 abbrev pub oversized_script_offsets : Forest → List ℕ
-oversized_script_offsets f = beyond (script_trees f)
+oversized_script_offsets f = oversized_offsets (script_trees f)

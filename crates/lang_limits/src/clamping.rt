@@ -2,7 +2,7 @@
 ghost use Rattle.std.specs.Prelude.{◌≡◌, IfOk, OnOk};
 ghost use Rattle.sexp_text.specs.Forest.{joined_trees};
 ghost use Rattle.sexp_text.specs.View.{tree_view, forest_view};
-ghost use Rattle.lang_limits.specs.Clamped.{nearest_int, clamped_atom, clamped_string, are_ints, is_oversized_ints, clamped_list, within};
+ghost use Rattle.lang_limits.specs.Clamped.{nearest_int, clamped_atom, clamped_string, are_ints, is_oversized_ints, clamped_list, clamped_trees};
 
 use crate::numbers::{is_int, is_oversized_int};
 use crate::tokens::{is_oversized_list, is_oversized_string};
@@ -97,12 +97,12 @@ fn clamped_list(mut trees: Vec<Tree>) -> Vec<Tree>
 #[cycle(copies)]
 fn put_tree(alloc: Global, tree: &Tree, out: &mut Vec<Tree>) -> Result<(), NoMemory>
     ensures { OnOk result (forest_view out.new.items
-        ≡ joined_trees (forest_view out.old.items) (within (tree_view tree.now))) }
+        ≡ joined_trees (forest_view out.old.items) (clamped_trees (tree_view tree.now))) }
 {
     let kept = match tree {
         Tree::Atom(at, atom) => Tree::Atom(*at, clamped_atom(alloc, atom)?),
         Tree::Text(at, chars) => Tree::Text(*at, clamped_string(alloc, chars)?),
-        Tree::List(at, trees) => Tree::List(*at, clamped_list(within(alloc, trees)?)),
+        Tree::List(at, trees) => Tree::List(*at, clamped_list(clamped_trees(alloc, trees)?)),
     };
     out.push(kept)?;
     Ok(())
@@ -115,8 +115,8 @@ fn put_tree(alloc: Global, tree: &Tree, out: &mut Vec<Tree>) -> Result<(), NoMem
 /// memory runs out.
 #[tactic(auto, using(crate::proofs::Copies::within_step, crate::proofs::Copies::copies))]
 #[cycle(copies)]
-pub fn within(alloc: Global, trees: &[Tree]) -> Result<Vec<Tree>, NoMemory>
-    ensures { IfOk result (λ v. forest_view v.items ≡ within (forest_view trees.now)) }
+pub fn clamped_trees(alloc: Global, trees: &[Tree]) -> Result<Vec<Tree>, NoMemory>
+    ensures { IfOk result (λ v. forest_view v.items ≡ clamped_trees (forest_view trees.now)) }
 {
     let mut out = Vec::new(alloc);
     for tree in trees {

@@ -2,7 +2,7 @@
 ghost use Rattle.std.specs.Prelude.{◌≡◌};
 ghost use Rattle.sexp_text.specs.View.{tree_view, forest_view};
 ghost use Rattle.lang_limits.specs.LeastOffset.{least_offset_from, least};
-ghost use Rattle.lang_limits.specs.Tokens.{is_oversized_atom, is_oversized_string, is_oversized_list, is_do, is_script, beyond, program_trees, script_trees, oversized_script_offsets};
+ghost use Rattle.lang_limits.specs.Tokens.{is_oversized_atom, is_oversized_string, is_oversized_list, is_do, is_script, oversized_offsets, program_trees, script_trees, oversized_script_offsets};
 
 use crate::least::note;
 use crate::lengths::MOST_NAME_BYTES;
@@ -52,7 +52,7 @@ pub fn is_oversized_list(trees: &[Tree]) -> bool
 #[tactic(auto, using(crate::proofs::Walks::walks))]
 #[cycle(tokens)]
 fn tree_limit(tree: &Tree, least: Option<usize>) -> Option<usize>
-    ensures { result ≡ least_offset_from least (beyond (tree_view tree.now)) }
+    ensures { result ≡ least_offset_from least (oversized_offsets (tree_view tree.now)) }
 {
     match tree {
         Tree::Atom(at, atom) => note(is_oversized_atom(atom.bytes()), *at, least),
@@ -68,7 +68,7 @@ fn tree_limit(tree: &Tree, least: Option<usize>) -> Option<usize>
 #[tactic(auto, using(crate::proofs::Walks::beyond_step))]
 #[cycle(tokens)]
 fn trees_limit(trees: &[Tree], least: Option<usize>) -> Option<usize>
-    ensures { result ≡ least_offset_from least (beyond (forest_view trees.now)) }
+    ensures { result ≡ least_offset_from least (oversized_offsets (forest_view trees.now)) }
 {
     let mut least = least;
     for tree in trees {
@@ -105,7 +105,7 @@ fn is_script(tree: &Tree) -> bool
 // Returns the least offset of the oversized tokens before the script, and the trees of the script.
 #[tactic(auto, using(crate::proofs::Walks::splits))]
 fn before_script(trees: &[Tree]) -> (Option<usize>, &[Tree])
-    ensures program { result.0 ≡ least (beyond (program_trees (forest_view trees.now))) }
+    ensures program { result.0 ≡ least (oversized_offsets (program_trees (forest_view trees.now))) }
     ensures script { forest_view result.1.now ≡ script_trees (forest_view trees.now) }
 {
     let mut least = None;
@@ -125,7 +125,7 @@ fn before_script(trees: &[Tree]) -> (Option<usize>, &[Tree])
 /// Oversized are a name of more than 64 bytes, a number beyond 64 bits with a sign, a string of
 /// more than 4,096 bytes, and an `ints` list of more than 4,096 items. A rule of this project.
 pub fn token_limits(trees: &[Tree]) -> TokenLimits
-    ensures program { result.program ≡ least (beyond (program_trees (forest_view trees.now))) }
+    ensures program { result.program ≡ least (oversized_offsets (program_trees (forest_view trees.now))) }
     ensures script { result.script ≡ least (oversized_script_offsets (forest_view trees.now)) }
 {
     let (program, script) = before_script(trees);

@@ -7,7 +7,7 @@ use Rattle.lang_ast.specs.Terms.{Stmt, Node, Call, Key, If, For, Let, Remember, 
 use Rattle.lang_ast.specs.Programs.{program_view}
 use Rattle.lang_ast.specs.declared.program.Program as memory
 use Rattle.lang_ast.specs.declared.script.Rest.{Rest}
-use Rattle.lang_limits.specs.Clamped.{within}
+use Rattle.lang_limits.specs.Clamped.{clamped_trees}
 use Rattle.lang_limits.specs.Sizes.{program_limits}
 use Rattle.lang_ast.specs.Sizes.{most_forms}
 use Rattle.lang_forms.specs.Names.{number_in, number_of}
@@ -153,7 +153,7 @@ numbered f g t forms small =
 
 -- A parsed program within the limits is numbered.
 pub parsed_is_numbered : {E : Type 0} (f : Forest) (r : Result (memory.Program × Rest) E)
-    → IfOk r (λ p. HasForms (within f) (parsed_source_view p)) → IfOk r (λ p. program_limits f (program_view p.0) ≡ [])
+    → IfOk r (λ p. HasForms (clamped_trees f) (parsed_source_view p)) → IfOk r (λ p. program_limits f (program_view p.0) ≡ [])
     → IfOk r (λ p. IsNumberedProgram (program_view p.0))
-parsed_is_numbered f (Ok p) forms small = numbered (within f) f (parsed_source_view p) forms small
+parsed_is_numbered f (Ok p) forms small = numbered (clamped_trees f) f (parsed_source_view p) forms small
 parsed_is_numbered f (Err e) forms small = tt

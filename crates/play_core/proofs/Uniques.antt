@@ -8,13 +8,13 @@ use Rattle.sexp_text.specs.Grammar.{Spells}
 use Rattle.sexp_text.proofs.Complete.{spells_one}
 use Rattle.lang_ast.specs.Programs.{Program}
 use Rattle.lang_limits.specs.LeastOffset.{least}
-use Rattle.lang_limits.specs.Tokens.{beyond, program_trees, oversized_script_offsets}
+use Rattle.lang_limits.specs.Tokens.{oversized_offsets, program_trees, oversized_script_offsets}
 use Rattle.lang_limits.specs.Sizes.{program_limits, program_sizes}
 use Rattle.lang_ast.specs.Sizes.{most_forms}
 use Rattle.lang_ast.proofs.Limits as limits
 use Rattle.lang_ast.proofs.Limits.{none_in}
-use Rattle.lang_limits.specs.Clamped.{within}
-use Rattle.lang_limits.proofs.Copies.{within_stays}
+use Rattle.lang_limits.specs.Clamped.{clamped_trees}
+use Rattle.lang_limits.proofs.Copies.{small_trees_stay}
 use Rattle.lang_limits.proofs.Lesser.{no_least}
 use Rattle.lang_ast.specs.declared.script.DoForm.{DoForm}
 use Rattle.lang_ast.specs.declared.program.State.{State}
@@ -46,8 +46,8 @@ module _ {threads : Bool} where
       (sym (text_read 0 i.forest t (text-forms bytes i.forest t i.spelled h)) ∙ text_read 0 i.forest u i.forms)
 
 -- A forest that keeps the limits is unchanged by clamping.
-stays : (f : Forest) (p : Program) → program_limits f p ≡ [] → oversized_script_offsets f ≡ [] → within f ≡ f
-stays f p small brief = within_stays f (none_in (beyond (program_trees f)) (program_sizes p) small).0 brief
+stays : (f : Forest) (p : Program) → program_limits f p ≡ [] → oversized_script_offsets f ≡ [] → clamped_trees f ≡ f
+stays f p small brief = small_trees_stay f (none_in (oversized_offsets (program_trees f)) (program_sizes p) small).0 brief
 
 -- A forest that keeps the limits is parsed as the source text whose forms it has.
 read-as : (end : ℕ) (f : Forest) (t : Source) → HasForms f t → program_limits f t.program ≡ []
@@ -76,14 +76,14 @@ module _ (threads : Bool) where
       (fine-forest (length bytes) h.forest t h.forms h.small h.brief h.sound h.runs)
 
   -- In a script without faults no token exceeds its limit.
-  none-beyond : (beyond : Option ℕ) (states : List State) (forms : List DoForm)
-      → script_faults threads states beyond forms ≡ [] → beyond ≡ None
+  none-beyond : (oversized_offsets : Option ℕ) (states : List State) (forms : List DoForm)
+      → script_faults threads states oversized_offsets forms ≡ [] → oversized_offsets ≡ None
   none-beyond None states forms h = refl
   none-beyond (Some at) states forms h = absurd cc
 
   -- A parsed text that keeps the limits and has no fault is the source text of the bytes.
   pub is_text : (bytes : List ℕ) (f : Forest) (t : Source) (told : Option ℕ) → Spells bytes f → nesting f ≤ 100
-      → HasForms (within f) t → program_limits f t.program ≡ [] → told ≡ least (oversized_script_offsets f) →
+      → HasForms (clamped_trees f) t → program_limits f t.program ≡ [] → told ≡ least (oversized_script_offsets f) →
       program_faults t.program ≡ [] → script_refusal threads t.program.states told t.script ≡ None
       → IsText threads bytes t
   is_text bytes f t told spelled shallow forms small beyond_is sound runs =
@@ -104,7 +104,7 @@ module _ (threads : Bool) where
 -- A program that keeps the limits has at most 256 functions.
 pub few_functions : (f : Forest) (p : Program) → program_limits f p ≡ [] → length p.functions ≤ most_forms
 few_functions f p h =
-    limits.few_functions p.states p.functions (none_in (beyond (program_trees f)) (program_sizes p) h).1
+    limits.few_functions p.states p.functions (none_in (oversized_offsets (program_trees f)) (program_sizes p) h).1
 
 module _ (threads : Bool) where
   -- Rejected bytes are not a source text.

@@ -8,7 +8,7 @@ ghost use Rattle.lang_ast.specs.Programs.{program_view};
 ghost use Rattle.lang_limits.specs.LeastOffset.{least};
 ghost use Rattle.lang_limits.specs.Sizes.{program_limits};
 ghost use Rattle.lang_limits.specs.Tokens.{oversized_script_offsets};
-ghost use Rattle.lang_limits.specs.Clamped.{within};
+ghost use Rattle.lang_limits.specs.Clamped.{clamped_trees};
 ghost use Rattle.lang_forms.specs.TextAnswers.{text_answer};
 ghost use Rattle.lang_forms.specs.Forms.{HasForms};
 ghost use Rattle.lang_forms.specs.Sources.{parsed_source_view};
@@ -130,7 +130,7 @@ pub struct Input {
 // Parses trees, with the answer of the parser in its clauses.
 fn parse_trees(alloc: Global, trees: &[Tree], end: usize) -> Result<(Program, Rest), FormStop>
     ensures read { Answers parsed_source_view result (text_answer end (forest_view trees.now)) }
-    ensures forms { IfOk result (λ r. HasForms (within (forest_view trees.now)) (parsed_source_view r)) }
+    ensures forms { IfOk result (λ r. HasForms (clamped_trees (forest_view trees.now)) (parsed_source_view r)) }
     ensures small { IfOk result (λ r. program_limits (forest_view trees.now) (program_view r.0) ≡ []) }
     ensures numbered { IfOk result (λ r. IsNumberedProgram (program_view r.0)) }
     ensures first_oversized { IfOk result (λ r. r.1.first_oversized

@@ -1,5 +1,5 @@
 // Limits of tokens at their edges, and trees that are cut to the limits.
-use lang_limits::{token_limits, within};
+use lang_limits::{clamped_trees, token_limits};
 use std::alloc::Global;
 use std::test::Fail;
 
@@ -122,7 +122,7 @@ fn oversized_tokens_are_clamped(rt: HostRuntime) -> Result<(), Fail> {
     ];
     for (before, part, times, after, expected) in rows {
         let text = repeated(alloc, before, part, times, after)?;
-        let trees = within(alloc, &sexp_text::read(alloc, &text)?)?;
+        let trees = clamped_trees(alloc, &sexp_text::read(alloc, &text)?)?;
         assert_eq!(rt; sexp_text::print(alloc, &trees)?.as_slice(), expected);
     }
     Ok(())
@@ -132,7 +132,7 @@ fn oversized_tokens_are_clamped(rt: HostRuntime) -> Result<(), Fail> {
 fn a_long_list_with_another_item_is_not_clamped(rt: HostRuntime) -> Result<(), Fail> {
     let alloc = rt.alloc();
     let text = repeated(alloc, b"(ints", b" 1", 4096, b" 007)\n")?;
-    let trees = within(alloc, &sexp_text::read(alloc, &text)?)?;
+    let trees = clamped_trees(alloc, &sexp_text::read(alloc, &text)?)?;
     assert!(rt; sexp_text::print(alloc, &trees)? == text);
     Ok(())
 }

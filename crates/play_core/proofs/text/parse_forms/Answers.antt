@@ -5,7 +5,7 @@ use Rattle.lang_ast.specs.Programs.{functions_of}
 use Rattle.lang_limits.specs.LeastOffset.{least}
 use Rattle.lang_limits.specs.Tokens.{oversized_script_offsets}
 use Rattle.lang_limits.specs.Sizes.{program_limits}
-use Rattle.lang_limits.specs.Clamped.{within}
+use Rattle.lang_limits.specs.Clamped.{clamped_trees}
 use Rattle.lang_forms.specs.Sources.{parsed_source_view}
 use Rattle.lang_forms.specs.Forms.{HasForms}
 use Rattle.script_lang.specs.ScriptFaults.{script_refusal}
@@ -20,7 +20,7 @@ returns-clause-ok c = λ bytes spelled shallow.
     let runs = ap (λ ss. script_refusal c.args.threads ss.items c.in_ok-program.rest.first_oversized
     c.in_ok-program.rest.forms.items) (sym (ap (λ (p : Program). p.states) same)) ∙ c.in_ok-script.ensures.fine in
     let items = c.deref.ensures.value in
-    let forms = subst (λ ts. HasForms (within (forest_view ts)) t) items c.in_ok-program.ensures.forms in
+    let forms = subst (λ ts. HasForms (clamped_trees (forest_view ts)) t) items c.in_ok-program.ensures.forms in
     let small = subst (λ ts. program_limits (forest_view ts) t.program ≡ []) items c.in_ok-program.ensures.small in
     let first_oversized = subst (λ ts. c.in_ok-program.rest.first_oversized
     ≡ least (oversized_script_offsets (forest_view ts))) items c.in_ok-program.ensures.first_oversized in
