@@ -28,14 +28,19 @@ const TWO_CALLS: &[u8] = b"(compose 1)
 (do main (frame) (write global b 3) (frame (during (read global a))) (frame))
 ";
 
-// Runs `input` on an empty plain world. Returns the status and the log of the world.
-fn run_with_log(alloc: Global, input: &[u8]) -> Result<(Status, Vec<Entry>), Fail> {
+// Runs `input` on an empty plain world. The writes with the numbers `failing`, counted from 1, fail. Returns the status
+// and the log of the world.
+fn run_with_log(
+    alloc: Global,
+    input: &[u8],
+    failing: &[u64],
+) -> Result<(Status, Vec<Entry>), Fail> {
     let mut words = Vec::new(alloc);
     words.push("run".to_string(alloc)?)?;
     let plain = PlainWorld::<BuiltIn>::new(alloc)?;
     let mut world = LogWorld::new(alloc, plain);
     let mut source = MemSource::new(input.to_vec(alloc)?, 4096, Vec::new(alloc));
-    let mut sink = MemSink::new(alloc, 4096, 4096, Vec::new(alloc))?;
+    let mut sink = MemSink::new(alloc, 4096, 4096, failing.to_vec(alloc)?)?;
     let status = play_alone(alloc, &words, &mut world, &mut source, &mut sink);
     let (_, entries) = world.into_parts();
     Ok((status, entries))
@@ -88,12 +93,26 @@ fn each_frame_logs_the_reads_of_the_calls_that_run(rt: HostRuntime) -> Result<()
         ),
     ];
     for (input, wanted) in rows {
-        let (status, entries) = run_with_log(alloc, input)?;
+        let (status, entries) = run_with_log(alloc, input, &[])?;
         assert!(rt; status == Status::Done);
         assert_eq!(rt; entries.len(), wanted.len());
         for (entry, row) in entries.iter().zip(wanted) {
             assert!(rt; told(entry) == *row);
         }
+    }
+    Ok(())
+}
+
+#[test]
+fn no_call_is_made_after_a_failed_write(rt: HostRuntime) -> Result<(), Fail> {
+    let alloc = rt.alloc();
+    // The number of the write that fails, and the length of the log then. Each line is one write, and a good frame
+    // writes its report and its tree after the dispose.
+    let rows = [(1, 1), (2, 3), (3, 3), (5, 3), (6, 4), (7, 5), (8, 7)];
+    for (failing, wanted) in rows {
+        let (status, entries) = run_with_log(alloc, NESTED, &[failing])?;
+        assert!(rt; status == Status::WriteFault);
+        assert_eq!(rt; entries.len(), wanted);
     }
     Ok(())
 }
