@@ -1,5 +1,6 @@
 pub mod Apart
 pub mod Beside
+pub mod ForestProperties
 pub mod CalculatedCells
 pub mod Idles
 pub mod MadeCalls

@@ -1,21 +1,19 @@
 -- The calls of a kept forest are made by the functions.
-use Rattle.std.proofs.Common.{ℕ, zero, suc, ◌+◌, ◌<◌, ◌≤◌, ℤ, List, [], ◌∷◌, ◌++◌, ◌≡◌, inl, inr, refl, ap, ◌∙◌, sym, subst, Bool, true, false, if◌then◌else◌, take, length, get_or, arith, Option, Some, None}
+use Rattle.std.proofs.Common.{ℕ, zero, suc, ◌+◌, ◌<◌, ◌≤◌, List, [], ◌∷◌, ◌≡◌, inl, inr, refl, ap, ◌∙◌, sym, subst, Bool, true, false, if◌then◌else◌, take, length, get_or, arith, Option, Some, None}
 use Rattle.rt_values.specs.declared.value.Value.{Value}
-use Rattle.rt_values.specs.declared.value.Value.TheVariants as value
-use Rattle.rt_values.specs.Operators.{is_true, items_of}
 use Rattle.rt_values.specs.Maps.{Map}
-use Rattle.rt_groups.specs.GroupForest.{GroupForest, End, Read, Group, GroupKind, joined_forest, reads_then}
+use Rattle.rt_groups.specs.GroupForest.{GroupForest, End, Read, Group, GroupKind}
 use Rattle.rt_groups.specs.GroupForest as trail
 use Rattle.rt_groups.specs.Paths.{GroupKey, sibling, same_sibling, Found, nth, matching_sibling, inside_of}
-use Rattle.lang_ast.specs.Terms.{Stmt, Node, Call, Key, If, For, Let, Remember, Stmts, done, next, Func}
-use Rattle.lang_ast.specs.ResultsWithReads.{Reading}
-use Rattle.lang_ast.specs.Evaluation.{Bindings, new_binding, eval, eval_all, eval_named}
-use Rattle.compose_model.specs.Composing.{Meaning, forest_after, turns, bind, run, run_all, meaning, meaning_at, meanings}
+use Rattle.lang_ast.specs.Terms.{Stmt, Node, Call, Key, If, For, Let, Remember, Func}
+use Rattle.lang_ast.specs.Evaluation.{Bindings, eval_all}
+use Rattle.compose_model.specs.Composing.{Meaning, bind, meaning, meaning_at, meanings}
 use Rattle.lang_meaning.proofs.Meanings.{meaning_found, meaning_none}
 use Rattle.recompose_laws.specs.Numbering.{without_numbers}
 use Rattle.recompose_laws.specs.MadeCalls.{IsMadeInside, IsMade, IsFoundMade, CallsBelow, AllBelow, AreOrdered, KeptCallsAreMade}
 use Rattle.recompose_laws.proofs.Plain.{meaning_plain}
 use Rattle.recompose_laws.proofs.Refreshes.{split_at}
+use Rattle.recompose_laws.proofs.ForestProperties.{StatementFacts, AnyReads, IsForestProperty, body_holds}
 
 -- Lookup in a forest with made calls.
 
@@ -85,79 +83,32 @@ front_means m all k f vs h = elim (split_at f (length all)) [
 
 -- The forests of the program's functions have made calls.
 
-made_reads : (m : Map) (all : List Func) (xs : List ℕ) (t : GroupForest) → IsMade m all t
-    → IsMade m all (reads_then xs t)
-made_reads m all [] t h = h
-made_reads m all (x ∷ xs) t h = made_reads m all xs t h
-
-made_after : {A : Type 0} (m : Map) (all : List Func) (r : Reading A) (go : A → GroupForest) → IsMade m all (go r.value)
-    → IsMade m all (forest_after r go)
-unfolding forest_after
-made_after m all r go h = made_reads m all r.reads (go r.value) h
-
-made_joined : (m : Map) (all : List Func) (t u : GroupForest) → IsMade m all t → IsMade m all u
-    → IsMade m all (joined_forest t u)
-made_joined m all End u f g = g
-made_joined m all (Read x rest) u f g = made_joined m all rest u f g
-made_joined m all (Group site n what inside rest) u f g = (f.0, f.1, made_joined m all rest u f.2 g)
-
-made_turns : (m : Map) (all : List Func) (go : ℤ → GroupForest) (is : List ℤ) → ((i : ℤ) → IsMade m all (go i))
-    → IsMade m all (turns go is)
-unfolding turns
-made_turns m all go [] h = tt
-made_turns m all go (i ∷ is) h = made_joined m all (go i) (turns go is) (h i) (made_turns m all go is h)
-
-made_choice : (m : Map) (all : List Func) (c : Bool) (x y : GroupForest) → IsMade m all x → IsMade m all y
-    → IsMade m all (if c then x else y)
-made_choice m all true x y f g = f
-made_choice m all false x y f g = g
-
 -- The meanings `fs` of the first `k` functions are those among all functions, except for node numbers, and their calls
 -- are made.
 abbrev FrontMade : Map → List Func → ℕ → List Meaning → Type 0
 FrontMade m all k fs = (f : ℕ) (vs : List Value) → f < k
     → (without_numbers (meaning_at fs f vs) ≡ meaning_at (meanings m all) f vs) × IsMade m all (meaning_at fs f vs)
 
-mutual
-  stmt_made : (m : Map) (all : List Func) (k : ℕ) (fs : List Meaning) (s : Stmt) (env : Bindings) → FrontMade m all k fs
-      → CallsBelow k s → IsMade m all (run m fs s env)
-  stmt_made m all k fs (Node at site kind attributes body) env front below =
-      made_after m all (eval_named m attributes env) _ (tt, all_made m all k fs body env front below, tt)
-  stmt_made m all k fs (Call at site name function arguments) env front below =
-      made_after m all (eval_all m arguments env) _ (
-        (front function (eval_all m arguments env).value below).0,
-        (front function (eval_all m arguments env).value below).1,
-        tt,
-      )
-  stmt_made m all k fs (Key at site key body) env front below =
-      made_after m all (eval m key env) _ (tt, all_made m all k fs body env front below, tt)
-  stmt_made m all k fs (If at site condition then_branch else_branch) env front below =
-      made_after m all (eval m condition env) _
-      (made_choice m all (is_true (eval m condition env).value) (run_all m fs then_branch env)
-      (run_all m fs else_branch env)
-      (all_made m all k fs then_branch env front below.0) (all_made m all k fs else_branch env front below.1))
-  stmt_made m all k fs (For at site name list body) env front below =
-      made_after m all (eval m list env) _
-      (made_turns m all (λ i. run_all m fs body (env ++ new_binding name.text (value.Int i) ∷ []))
-      (items_of (eval m list env).value)
-      (λ i. all_made m all k fs body (env ++ new_binding name.text (value.Int i) ∷ []) front below))
-  stmt_made m all k fs (Let at site name e body) env front below =
-      made_after m all (eval m e env) _
-      (all_made m all k fs body (env ++ new_binding name.text (eval m e env).value ∷ []) front below)
-  stmt_made m all k fs (Remember at site name keys e body) env front below =
-      made_after m all (eval_named m keys env) _ (made_after m all (eval m e (eval_named m keys env).value) _ (
-        tt,
-        tt,
-        all_made m all k fs body
-            (env ++ new_binding name.text (eval m e (eval_named m keys env).value).value ∷ []) front below,
-      ))
-
-  all_made : (m : Map) (all : List Func) (k : ℕ) (fs : List Meaning) (body : Stmts) (env : Bindings)
-      → FrontMade m all k fs → AllBelow k body → IsMade m all (run_all m fs body env)
-  all_made m all k fs done env front below = tt
-  all_made m all k fs (next s ss) env front below =
-      made_joined m all (run m fs s env) (run_all m fs ss env) (stmt_made m all k fs s env front below.0)
-      (all_made m all k fs ss env front below.1)
+-- The property that calls are made, for statements that call only the first `k` functions.
+front_calls : (m : Map) (all : List Func) (k : ℕ) (fs : List Meaning) → FrontMade m all k fs
+    → IsForestProperty m fs AnyReads (IsMade m all) (CallsBelow k) (AllBelow k)
+front_calls m all k fs front = record {
+  none = tt;
+  read = λ x xs r. (tt, λ t h. h);
+  split = λ s ss h. h;
+  facts = facts;
+}
+  where
+    facts : (s : Stmt) (env : Bindings) → CallsBelow k s
+        → StatementFacts m fs AnyReads (IsMade m all) (AllBelow k) s env
+    facts (Node at site kind attributes body) env h = (tt, h, λ t u f g. (tt, f, g))
+    facts (Call at site name function arguments) env h =
+        let f = front function (eval_all m arguments env).value h in (tt, λ u g. (f.0, f.1, g))
+    facts (Key at site key body) env h = (tt, h, λ t u f g. (tt, f, g))
+    facts (If at site condition then_branch else_branch) env h = (tt, h.0, h.1)
+    facts (For at site name list body) env h = (tt, h)
+    facts (Let at site name e body) env h = (tt, h)
+    facts (Remember at site name keys e body) env h = (tt, tt, h, λ u g. (tt, tt, g))
 
 ordered_at : (fs : List Func) (k f : ℕ) (d : Func) → f < length fs → AreOrdered k fs
     → AllBelow (k + f) (get_or fs f d).body
@@ -192,8 +143,8 @@ made_at m all f vs ordered earlier = elim (split_at f (length all)) [
         let zero_is : 0 + f ≡ f = omega arith in
         let body = subst (λ j. AllBelow j (get_or all f g).body) zero_is (ordered_at all 0 f g long ordered) in
         subst (λ (t : GroupForest). IsMade m all t) (sym (meaning_found m all f vs g long))
-        (all_made m all f (meanings m (take f all)) (get_or all f g).body (bind (get_or all f g).parameters vs) front
-        body)
+        (body_holds (front_calls m all f (meanings m (take f all)) front) (get_or all f g).body
+        (bind (get_or all f g).parameters vs) body)
 
 -- The forest of function `f` has made calls, by induction on a number greater than `f`.
 means_made : (n : ℕ) (m : Map) (all : List Func) (f : ℕ) (vs : List Value) → f < n → AreOrdered 0 all

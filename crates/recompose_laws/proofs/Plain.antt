@@ -1,107 +1,50 @@
 -- Composing from scratch gives no node numbers, and node numbers change nothing else.
-use Rattle.std.proofs.Common.{ℕ, zero, suc, ℤ, List, [], ◌∷◌, ◌++◌, ◌≡◌, refl, ap, ◌∙◌, sym, map, Bool, true, false, if◌then◌else◌, take}
+use Rattle.std.proofs.Common.{ℕ, List, [], ◌∷◌, ◌++◌, ◌≡◌, refl, ap, ◌∙◌, sym, Bool, true, false, if◌then◌else◌, take}
 use Rattle.rt_values.specs.declared.value.Value.{Value}
-use Rattle.rt_values.specs.declared.value.Value.TheVariants as value
-use Rattle.rt_values.specs.Operators.{is_true, items_of}
 use Rattle.rt_values.specs.Maps.{Map}
-use Rattle.rt_groups.specs.GroupForest.{GroupForest, End, Read, Group, GroupKind, joined_forest, reads_then, asks, own_part}
+use Rattle.rt_groups.specs.GroupForest.{GroupForest, End, Read, Group, GroupKind, asks, own_part}
 use Rattle.rt_groups.specs.GroupForest as trail
 use Rattle.rt_groups.specs.Paths.{Path, GroupKey, sibling, step, occurrence, matching_sibling, inside_of, at_path}
 use Rattle.rt_groups.specs.Frames.{meets, number_of, numbered_forest}
-use Rattle.lang_ast.specs.Terms.{Stmt, Node, Call, Key, If, For, Let, Remember, Stmts, done, next, Func}
-use Rattle.lang_ast.specs.ResultsWithReads.{Reading}
-use Rattle.lang_ast.specs.Evaluation.{Bindings, new_binding, eval, eval_all, eval_named}
-use Rattle.compose_model.specs.Composing.{Meaning, forest_after, turns, group, attribute, bind, run, run_all, meaning, meaning_at, meanings_from, meanings, forest}
+use Rattle.lang_ast.specs.Terms.{Stmt, Node, Call, Key, If, For, Let, Remember, Func}
+use Rattle.lang_ast.specs.Evaluation.{Bindings}
+use Rattle.compose_model.specs.Composing.{Meaning, group, meaning_at, meanings, forest}
 use Rattle.recompose_laws.specs.Work.{with_read, work_sum, runs_in, work_at_group, work}
 use Rattle.recompose_laws.specs.Refreshing.{is_owed, refreshed_inside, refreshed_groups}
 use Rattle.recompose_laws.specs.Numbering.{without_numbers, numbered_by_siblings, KeptTrailIsTheForest}
-
-without_numbers-reads_then : (xs : List ℕ) (t : GroupForest)
-    → without_numbers (reads_then xs t) ≡ reads_then xs (without_numbers t)
-without_numbers-reads_then [] t = refl
-without_numbers-reads_then (x ∷ xs) t = ap (λ u. Read x u) (without_numbers-reads_then xs t)
-
-without_numbers-joined_forest : (t u : GroupForest)
-    → without_numbers (joined_forest t u) ≡ joined_forest (without_numbers t) (without_numbers u)
-without_numbers-joined_forest End u = refl
-without_numbers-joined_forest (Read x rest) u = ap (λ v. Read x v) (without_numbers-joined_forest rest u)
-without_numbers-joined_forest (Group site n what inside rest) u =
-    ap (λ v. Group site 0 what (without_numbers inside) v) (without_numbers-joined_forest rest u)
+use Rattle.recompose_laws.proofs.ForestProperties.{Encloses, StatementFacts, AnyReads, AnyStmt, AnyStmts, IsForestProperty, AllHold, meanings_hold}
 
 -- A forest without node numbers.
 abbrev IsPlain : GroupForest → Type 0
 IsPlain t = without_numbers t ≡ t
 
-after_plain : {A : Type 0} (r : Reading A) (go : A → GroupForest) → ((a : A) → IsPlain (go a))
-    → IsPlain (forest_after r go)
-unfolding forest_after
-after_plain r go h = without_numbers-reads_then r.reads (go r.value) ∙ ap (λ t. reads_then r.reads t) (h r.value)
+group_plain : (site : ℕ) (what : GroupKind) → Encloses IsPlain site what
+group_plain site what t u f g =
+    ap (λ v. Group site 0 what v (without_numbers u)) f ∙ ap (λ v. Group site 0 what t v) g
 
-joined_plain : (t u : GroupForest) → IsPlain t → IsPlain u → IsPlain (joined_forest t u)
-joined_plain t u f g =
-    without_numbers-joined_forest t u ∙ ap (λ v. joined_forest v (without_numbers u)) f ∙ ap (λ v. joined_forest t v) g
-
-turns_plain : (go : ℤ → GroupForest) (is : List ℤ) → ((i : ℤ) → IsPlain (go i)) → IsPlain (turns go is)
-unfolding turns
-turns_plain go [] h = refl
-turns_plain go (i ∷ is) h = joined_plain (go i) (turns go is) (h i) (turns_plain go is h)
-
-choice_plain : (c : Bool) (x y : GroupForest) → IsPlain x → IsPlain y → IsPlain (if c then x else y)
-choice_plain true x y f g = f
-choice_plain false x y f g = g
-
--- The forests of the functions have no node numbers.
-abbrev ArePlain : List Meaning → Type 0
-ArePlain fs = (n : ℕ) (vs : List Value) → IsPlain (meaning_at fs n vs)
-
-mutual
-  run_plain : (m : Map) (fs : List Meaning) (s : Stmt) (env : Bindings) → ArePlain fs → IsPlain (run m fs s env)
-  run_plain m fs (Node at site kind attributes body) env plain =
-      after_plain (eval_named m attributes env) _
-      (λ all. ap (λ t. group site (trail.Node kind.text (map attribute all)) t) (body_plain m fs body env plain))
-  run_plain m fs (Call at site name function arguments) env plain =
-      after_plain (eval_all m arguments env) _
-      (λ vs. ap (λ t. group site (trail.Call function vs) t) (plain function vs))
-  run_plain m fs (Key at site key body) env plain =
-      after_plain (eval m key env) _ (λ v. ap (λ t. group site (trail.Key v) t) (body_plain m fs body env plain))
-  run_plain m fs (If at site condition then_branch else_branch) env plain =
-      after_plain (eval m condition env) _
-      (λ v. choice_plain (is_true v) (run_all m fs then_branch env) (run_all m fs else_branch env)
-      (body_plain m fs then_branch env plain) (body_plain m fs else_branch env plain))
-  run_plain m fs (For at site name list body) env plain =
-      after_plain (eval m list env) _
-      (λ v. turns_plain (λ i. run_all m fs body (env ++ new_binding name.text (value.Int i) ∷ [])) (items_of v)
-      (λ i. body_plain m fs body (env ++ new_binding name.text (value.Int i) ∷ []) plain))
-  run_plain m fs (Let at site name e body) env plain =
-      after_plain (eval m e env) _ (λ v. body_plain m fs body (env ++ new_binding name.text v ∷ []) plain)
-  run_plain m fs (Remember at site name keys e body) env plain =
-      after_plain (eval_named m keys env) _ (λ ks. after_plain (eval m e ks) _
-      (λ v. ap (λ t. Group site 0 (trail.Cell (map (λ k. k.value) ks) v) End t)
-      (body_plain m fs body (env ++ new_binding name.text v ∷ []) plain)))
-
-  body_plain : (m : Map) (fs : List Meaning) (body : Stmts) (env : Bindings) → ArePlain fs
-      → IsPlain (run_all m fs body env)
-  body_plain m fs done env plain = refl
-  body_plain m fs (next s ss) env plain =
-      joined_plain (run m fs s env) (run_all m fs ss env) (run_plain m fs s env plain) (body_plain m fs ss env plain)
-
-behind_plain : (fs : List Meaning) (f : Meaning) → ArePlain fs → ((vs : List Value) → IsPlain (f vs))
-    → ArePlain (fs ++ f ∷ [])
-behind_plain [] f plain h zero vs = h vs
-behind_plain [] f plain h (suc n) vs = refl
-behind_plain (g ∷ fs) f plain h zero vs = plain 0 vs
-behind_plain (g ∷ fs) f plain h (suc n) vs = behind_plain fs f (λ k ws. plain (suc k) ws) h n vs
-
-from_plain : (m : Map) (fs : List Meaning) (functions : List Func) → ArePlain fs
-    → ArePlain (meanings_from m fs functions)
-from_plain m fs [] plain = plain
-from_plain m fs (f ∷ more) plain =
-    from_plain m (fs ++ meaning m fs f ∷ []) more
-    (behind_plain fs (meaning m fs f) plain (λ vs. body_plain m fs f.body (bind f.parameters vs) plain))
+-- The property that no group has a number, for all statements.
+plain_forests : (m : Map) (fs : List Meaning) → AllHold IsPlain fs
+    → IsForestProperty m fs AnyReads IsPlain AnyStmt AnyStmts
+plain_forests m fs calls = record {
+  none = refl;
+  read = λ x xs r. (tt, λ t h. ap (λ u. Read x u) h);
+  split = λ s ss h. (tt, tt);
+  facts = facts;
+}
+  where
+    facts : (s : Stmt) (env : Bindings) → AnyStmt s → StatementFacts m fs AnyReads IsPlain AnyStmts s env
+    facts (Node at site kind attributes body) env h = (tt, tt, group_plain site _)
+    facts (Call at site name function arguments) env h = (tt, λ u g. group_plain site _ _ u (calls function _) g)
+    facts (Key at site key body) env h = (tt, tt, group_plain site _)
+    facts (If at site condition then_branch else_branch) env h = (tt, tt, tt)
+    facts (For at site name list body) env h = (tt, tt)
+    facts (Let at site name e body) env h = (tt, tt)
+    facts (Remember at site name keys e body) env h = (tt, tt, tt, λ u g. group_plain site _ End u refl g)
 
 pub meaning_plain : (m : Map) (functions : List Func) (n : ℕ) (vs : List Value)
     → without_numbers (meaning_at (meanings m functions) n vs) ≡ meaning_at (meanings m functions) n vs
-meaning_plain m functions n vs = from_plain m [] functions (λ k ws. refl) n vs
+meaning_plain m functions n vs =
+    meanings_hold (plain_forests m) (λ fs. Unit {0}) (λ f fs h. (tt, tt)) functions refl tt n vs
 
 forest_plain : (functions : List Func) (root : ℕ) (m : Map)
     → without_numbers (forest functions root m) ≡ forest functions root m

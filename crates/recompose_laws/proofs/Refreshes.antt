@@ -1,20 +1,18 @@
 -- One walk over the old groups gives the new groups.
-use Rattle.std.proofs.Common.{ℕ, zero, suc, ◌<◌, ◌≤◌, ℤ, List, [], ◌∷◌, ◌++◌, ◌≡◌, ◌⊎◌, inl, inr, refl, ap, ◌∙◌, sym, subst, Bool, true, false, ◌||◌, if◌then◌else◌, take, length, get_or, arith, length-take-le}
+use Rattle.std.proofs.Common.{ℕ, zero, suc, ◌<◌, ◌≤◌, List, [], ◌∷◌, ◌++◌, ◌≡◌, ◌⊎◌, inl, inr, refl, ap, ◌∙◌, sym, subst, Bool, true, false, ◌||◌, if◌then◌else◌, take, length, get_or, arith, length-take-le}
 use Rattle.rt_values.specs.declared.value.Value.{Value}
-use Rattle.rt_values.specs.declared.value.Value.TheVariants as value
-use Rattle.rt_values.specs.Operators.{is_true, items_of}
 use Rattle.rt_values.specs.Maps.{Map, contains}
-use Rattle.rt_groups.specs.GroupForest.{GroupForest, End, Read, Group, GroupKind, joined_forest, reads_then, asks, own_part}
+use Rattle.rt_groups.specs.GroupForest.{GroupForest, End, Read, Group, GroupKind, asks, own_part}
 use Rattle.rt_groups.specs.GroupForest as trail
 use Rattle.rt_groups.specs.Frames.{meets}
-use Rattle.lang_ast.specs.Terms.{Stmt, Node, Call, Key, If, For, Let, Remember, Stmts, done, next, Func}
-use Rattle.lang_ast.specs.ResultsWithReads.{Reading}
-use Rattle.lang_ast.specs.Evaluation.{Bindings, new_binding, eval, eval_all, eval_named}
-use Rattle.compose_model.specs.Composing.{Meaning, forest_after, turns, bind, run, run_all, meaning, meaning_at, meanings, forest}
+use Rattle.lang_ast.specs.Terms.{Stmt, Node, Call, Key, If, For, Let, Remember, Func}
+use Rattle.lang_ast.specs.Evaluation.{Bindings}
+use Rattle.compose_model.specs.Composing.{Meaning, bind, run_all, meaning, meaning_at, meanings, forest}
 use Rattle.lang_meaning.specs.Skipping.{Agree, recomposed_forest}
 use Rattle.lang_meaning.proofs.Skips.{skipping_is_right}
 use Rattle.lang_meaning.proofs.Meanings.{meaning_found, meaning_none}
 use Rattle.recompose_laws.specs.Refreshing.{is_owed, refreshed_groups, SameBut, SameReads, RefreshingIsScratch}
+use Rattle.recompose_laws.proofs.ForestProperties.{StatementFacts, AnyReads, AnyStmt, AnyStmts, IsForestProperty, body_holds}
 
 abbrev pub MadeInside : Map → List Func → GroupKind → GroupForest → (List Func → Type 0) → Type 0
 MadeInside m functions (trail.Call f vs) inside made =
@@ -177,73 +175,28 @@ refreshed_is m m' owed (Group site n (trail.Cell ks v) inside rest) functions sa
 
 -- The calls that statements make are made by the meanings.
 
-reads_made : (m : Map) (functions : List Func) (xs : List ℕ) (t : GroupForest) → Made m t functions
-    → Made m (reads_then xs t) functions
-reads_made m functions [] t h = h
-reads_made m functions (x ∷ xs) t h = reads_made m functions xs t h
-
-after_made : {A : Type 0} (m : Map) (functions : List Func) (r : Reading A) (go : A → GroupForest)
-    → Made m (go r.value) functions → Made m (forest_after r go) functions
-unfolding forest_after
-after_made m functions r go h = reads_made m functions r.reads (go r.value) h
-
-joined_made : (m : Map) (functions : List Func) (t u : GroupForest) → Made m t functions → Made m u functions
-    → Made m (joined_forest t u) functions
-joined_made m functions End u f g = g
-joined_made m functions (Read x rest) u f g = joined_made m functions rest u f g
-joined_made m functions (Group site n what inside rest) u f g = (f.0, joined_made m functions rest u f.1 g)
-
-turns_made : (m : Map) (functions : List Func) (go : ℤ → GroupForest) (is : List ℤ)
-    → ((i : ℤ) → Made m (go i) functions) → Made m (turns go is) functions
-unfolding turns
-turns_made m functions go [] h = tt
-turns_made m functions go (i ∷ is) h =
-    joined_made m functions (go i) (turns go is) (h i) (turns_made m functions go is h)
-
-choice_made : (m : Map) (functions : List Func) (c : Bool) (x y : GroupForest) → Made m x functions → Made m y functions
-    → Made m (if c then x else y) functions
-choice_made m functions true x y f g = f
-choice_made m functions false x y f g = g
-
 abbrev pub CallsMade : Map → List Func → Type 0
 CallsMade m functions = (f : ℕ) (vs : List Value) → Made m (meaning_at (meanings m functions) f vs) (take f functions)
 
-mutual
-  run_made : (m : Map) (functions : List Func) (s : Stmt) (env : Bindings) → CallsMade m functions
-      → Made m (run m (meanings m functions) s env) functions
-  run_made m functions (Node at site kind attributes body) env calls =
-      after_made m functions (eval_named m attributes env) _ (body_made m functions body env calls, tt)
-  run_made m functions (Call at site name function arguments) env calls =
-      after_made m functions (eval_all m arguments env) _ ((refl, calls function (eval_all m arguments env).value), tt)
-  run_made m functions (Key at site key body) env calls =
-      after_made m functions (eval m key env) _ (body_made m functions body env calls, tt)
-  run_made m functions (If at site condition then_branch else_branch) env calls =
-      after_made m functions (eval m condition env) _
-      (choice_made m functions (is_true (eval m condition env).value)
-      (run_all m (meanings m functions) then_branch env) (run_all m (meanings m functions) else_branch env)
-      (body_made m functions then_branch env calls) (body_made m functions else_branch env calls))
-  run_made m functions (For at site name list body) env calls =
-      after_made m functions (eval m list env) _
-      (turns_made m functions (λ i. run_all m (meanings m functions) body
-      (env ++ new_binding name.text (value.Int i) ∷ [])) (items_of (eval m list env).value)
-      (λ i. body_made m functions body (env ++ new_binding name.text (value.Int i) ∷ []) calls))
-  run_made m functions (Let at site name e body) env calls =
-      after_made m functions (eval m e env) _
-      (body_made m functions body (env ++ new_binding name.text (eval m e env).value ∷ []) calls)
-  run_made m functions (Remember at site name keys e body) env calls =
-      after_made m functions (eval_named m keys env) _
-      (after_made m functions (eval m e (eval_named m keys env).value) _ (
-        tt,
-        body_made m functions body (env ++ new_binding name.text (eval m e (eval_named m keys env).value).value ∷ [])
-            calls,
-      ))
-
-  body_made : (m : Map) (functions : List Func) (body : Stmts) (env : Bindings) → CallsMade m functions
-      → Made m (run_all m (meanings m functions) body env) functions
-  body_made m functions done env calls = tt
-  body_made m functions (next s ss) env calls =
-      joined_made m functions (run m (meanings m functions) s env) (run_all m (meanings m functions) ss env)
-      (run_made m functions s env calls) (body_made m functions ss env calls)
+-- The property that the functions make the calls, for all statements.
+made_forests : (m : Map) (functions : List Func) → CallsMade m functions
+    → IsForestProperty m (meanings m functions) AnyReads (λ t. Made m t functions) AnyStmt AnyStmts
+made_forests m functions calls = record {
+  none = tt;
+  read = λ x xs r. (tt, λ t h. h);
+  split = λ s ss h. (tt, tt);
+  facts = facts;
+}
+  where
+    facts : (s : Stmt) (env : Bindings) → AnyStmt s
+        → StatementFacts m (meanings m functions) AnyReads (λ t. Made m t functions) AnyStmts s env
+    facts (Node at site kind attributes body) env h = (tt, tt, λ t u f g. (f, g))
+    facts (Call at site name function arguments) env h = (tt, λ u g. ((refl, calls function _), g))
+    facts (Key at site key body) env h = (tt, tt, λ t u f g. (f, g))
+    facts (If at site condition then_branch else_branch) env h = (tt, tt, tt)
+    facts (For at site name list body) env h = (tt, tt)
+    facts (Let at site name e body) env h = (tt, tt)
+    facts (Remember at site name keys e body) env h = (tt, tt, tt, λ u g. (tt, g))
 
 pub calls_made : (n : ℕ) (m : Map) (functions : List Func) → length functions ≤ n → CallsMade m functions
 calls_made zero m functions h f vs =
@@ -252,8 +205,8 @@ calls_made (suc n) m functions h f vs = elim (split_at f (length functions)) [
   | inl below ↦
       let b = body_at functions f below in
       subst (λ (t : GroupForest). Made m t (take f functions)) (sym (b.1 m vs))
-      (body_made m (take f functions) b.0.body (bind b.0.parameters vs)
-      (calls_made n m (take f functions) (omega (arith, length-take-le f functions, h, below))))
+      (body_holds (made_forests m (take f functions) (calls_made n m (take f functions)
+      (omega (arith, length-take-le f functions, h, below)))) b.0.body (bind b.0.parameters vs) tt)
   | inr past ↦ subst (λ (t : GroupForest). Made m t (take f functions)) (sym (meaning_none m functions f vs past)) tt
 ]
 

@@ -1,22 +1,19 @@
 -- The nodes of a composed forest have the shape of the statement at their site.
-use Rattle.std.proofs.Common.{ℕ, zero, suc, ℤ, List, [], ◌∷◌, ◌++◌, ◌≡◌, inl, inr, map, Bool, true, false, ◌||◌, Some, None, refl, ap, sym, ◌∙◌, subst, if◌then◌else◌}
+use Rattle.std.proofs.Common.{ℕ, List, [], ◌∷◌, ◌≡◌, inl, inr, map, Bool, true, false, ◌||◌, Some, None, refl, ap, sym, ◌∙◌, subst}
 use Rattle.std.specs.List.{list_any}
 use Rattle.std.specs.Str.{bytes_eq}
-use Rattle.rt_values.specs.declared.value.Value.{Value}
-use Rattle.rt_values.specs.declared.value.Value.TheVariants as value
-use Rattle.rt_values.specs.Operators.{is_true, items_of}
 use Rattle.rt_values.specs.Maps.{Map}
-use Rattle.rt_groups.specs.GroupForest.{GroupForest, End, Read, Group, GroupKind, Attribute, joined_forest, reads_then}
+use Rattle.rt_groups.specs.GroupForest.{GroupForest, End, Read, Group, GroupKind, Attribute}
 use Rattle.rt_groups.specs.GroupForest as trail
 use Rattle.lang_ast.specs.Terms.{Named, Stmt, Node, Call, Key, If, For, Let, Remember, Stmts, done, next, Func}
 use Rattle.lang_ast.specs.Programs.{Program}
-use Rattle.lang_ast.specs.ResultsWithReads.{Reading}
-use Rattle.lang_ast.specs.Evaluation.{Bindings, new_binding, eval, eval_all, eval_named}
+use Rattle.lang_ast.specs.Evaluation.{Bindings, eval_named}
 use Rattle.lang_checks.specs.Numbers.{IsNumberedProgram}
 use Rattle.lang_checks.specs.ProgramFaults.{program_faults}
-use Rattle.compose_model.specs.Composing.{Meaning, attribute, forest_after, turns, bind, run, run_all, meaning, meaning_at, meanings_from, forest}
+use Rattle.compose_model.specs.Composing.{Meaning, attribute, forest}
 use Rattle.recompose_laws.specs.Numbering.{without_numbers}
 use Rattle.recompose_laws.specs.Distinct.{NodesAt, SiteTells, SitesTell, FunctionsTell}
+use Rattle.recompose_laws.proofs.ForestProperties.{StatementFacts, AnyReads, IsForestProperty, AllHold, meanings_hold}
 use Rattle.recompose_laws.proofs.Sites.{nodes_are_at_node_sites}
 use Rattle.node_tree.specs.Calls.{has_attribute}
 use Rattle.node_tree.specs.Premises.{HaveDistinctNames, names_of}
@@ -93,101 +90,46 @@ made_shape look site kind ns attributes same told apart = (
   distinct_names attributes (subst (λ (l : List (List ℕ)). AreApart l) (sym same) apart),
 )
 
--- Composing.
+-- The property that nodes have shapes, for statements whose shapes `look` gives.
+shaped_forests : (look : ℕ → Told) (m : Map) (fs : List Meaning) → AllHold (HaveShapes look) fs
+    → IsForestProperty m fs AnyReads (HaveShapes look) (IsTold look) (AreTold look)
+shaped_forests look m fs calls = record {
+  none = tt;
+  read = λ x xs r. (tt, λ t h. h);
+  split = λ s ss h. h;
+  facts = facts;
+}
+  where
+    facts : (s : Stmt) (env : Bindings) → IsTold look s
+        → StatementFacts m fs AnyReads (HaveShapes look) (AreTold look) s env
+    facts (Node at site kind attributes body) env h = (
+      tt,
+      h.2,
+      λ t u f g. (
+        made_shape look site kind.text attributes (map attribute (eval_named m attributes env).value)
+            (names_made m attributes env) h.0 h.1,
+        f,
+        g,
+      ),
+    )
+    facts (Call at site name function arguments) env h = (tt, λ u g. (tt, calls function _, g))
+    facts (Key at site key body) env h = (tt, h.1, λ t u f g. (tt, f, g))
+    facts (If at site condition then_branch else_branch) env h = (tt, h.0, h.1)
+    facts (For at site name list body) env h = (tt, h)
+    facts (Let at site name e body) env h = (tt, h)
+    facts (Remember at site name keys e body) env h = (tt, tt, h.1, λ u g. (tt, tt, g))
 
-module _ (look : ℕ → Told) where
-  reads_shaped : (xs : List ℕ) (t : GroupForest) → HaveShapes look t → HaveShapes look (reads_then xs t)
-  reads_shaped [] t h = h
-  reads_shaped (x ∷ xs) t h = reads_shaped xs t h
+forest_shaped : (look : ℕ → Told) (functions : List Func) (root : ℕ) (m : Map) → FunctionsAreTold look functions
+    → HaveShapes look (forest functions root m)
+forest_shaped look functions root m h =
+    (tt, meanings_hold (shaped_forests look m) (FunctionsAreTold look) (λ f fs g. g) functions tt h root [], tt)
 
-  after_shaped : {A : Type 0} (r : Reading A) (go : A → GroupForest) → HaveShapes look (go r.value)
-      → HaveShapes look (forest_after r go)
-  unfolding forest_after
-  after_shaped r go h = reads_shaped r.reads (go r.value) h
-
-  joined_shaped : (t u : GroupForest) → HaveShapes look t → HaveShapes look u → HaveShapes look (joined_forest t u)
-  joined_shaped End u f g = g
-  joined_shaped (Read x rest) u f g = joined_shaped rest u f g
-  joined_shaped (Group site n what inside rest) u f g = (f.0, f.1, joined_shaped rest u f.2 g)
-
-  turns_shaped : (go : ℤ → GroupForest) (is : List ℤ) → ((i : ℤ) → HaveShapes look (go i))
-      → HaveShapes look (turns go is)
-  unfolding turns
-  turns_shaped go [] h = tt
-  turns_shaped go (i ∷ is) h = joined_shaped (go i) (turns go is) (h i) (turns_shaped go is h)
-
-  choice_shaped : (c : Bool) (x y : GroupForest) → HaveShapes look x → HaveShapes look y
-      → HaveShapes look (if c then x else y)
-  choice_shaped true x y f g = f
-  choice_shaped false x y f g = g
-
-  abbrev AllShaped : List Meaning → Type 0
-  AllShaped fs = (n : ℕ) (vs : List Value) → HaveShapes look (meaning_at fs n vs)
-
-  mutual
-    run_shaped : (m : Map) (fs : List Meaning) (s : Stmt) (env : Bindings) → AllShaped fs → IsTold look s
-        → HaveShapes look (run m fs s env)
-    run_shaped m fs (Node at site kind attributes body) env calls h =
-        after_shaped (eval_named m attributes env) _ (
-          made_shape look site kind.text attributes (map attribute (eval_named m attributes env).value)
-              (names_made m attributes env) h.0 h.1,
-          body_shaped m fs body env calls h.2,
-          tt,
-        )
-    run_shaped m fs (Call at site name function arguments) env calls h =
-        after_shaped (eval_all m arguments env) _ (tt, calls function (eval_all m arguments env).value, tt)
-    run_shaped m fs (Key at site key body) env calls h =
-        after_shaped (eval m key env) _ (tt, body_shaped m fs body env calls h.1, tt)
-    run_shaped m fs (If at site condition then_branch else_branch) env calls h =
-        after_shaped (eval m condition env) _
-        (choice_shaped (is_true (eval m condition env).value) (run_all m fs then_branch env)
-        (run_all m fs else_branch env)
-        (body_shaped m fs then_branch env calls h.0) (body_shaped m fs else_branch env calls h.1))
-    run_shaped m fs (For at site name list body) env calls h =
-        after_shaped (eval m list env) _
-        (turns_shaped (λ i. run_all m fs body (env ++ new_binding name.text (value.Int i) ∷ []))
-        (items_of (eval m list env).value)
-        (λ i. body_shaped m fs body (env ++ new_binding name.text (value.Int i) ∷ []) calls h))
-    run_shaped m fs (Let at site name e body) env calls h =
-        after_shaped (eval m e env) _
-        (body_shaped m fs body (env ++ new_binding name.text (eval m e env).value ∷ []) calls h)
-    run_shaped m fs (Remember at site name keys e body) env calls h =
-        after_shaped (eval_named m keys env) _ (after_shaped (eval m e (eval_named m keys env).value) _ (
-          tt,
-          tt,
-          body_shaped m fs body
-              (env ++ new_binding name.text (eval m e (eval_named m keys env).value).value ∷ []) calls h.1,
-        ))
-
-    body_shaped : (m : Map) (fs : List Meaning) (body : Stmts) (env : Bindings) → AllShaped fs → AreTold look body
-        → HaveShapes look (run_all m fs body env)
-    body_shaped m fs done env calls h = tt
-    body_shaped m fs (next s ss) env calls h = joined_shaped (run m fs s env) (run_all m fs ss env)
-        (run_shaped m fs s env calls h.0) (body_shaped m fs ss env calls h.1)
-
-  behind_shaped : (fs : List Meaning) (f : Meaning) → AllShaped fs → ((vs : List Value) → HaveShapes look (f vs))
-      → AllShaped (fs ++ f ∷ [])
-  behind_shaped [] f calls h zero vs = h vs
-  behind_shaped [] f calls h (suc n) vs = tt
-  behind_shaped (g ∷ fs) f calls h zero vs = calls 0 vs
-  behind_shaped (g ∷ fs) f calls h (suc n) vs = behind_shaped fs f (λ k ws. calls (suc k) ws) h n vs
-
-  from_shaped : (m : Map) (fs : List Meaning) (functions : List Func) → AllShaped fs → FunctionsAreTold look functions
-      → AllShaped (meanings_from m fs functions)
-  from_shaped m fs [] calls h = calls
-  from_shaped m fs (f ∷ more) calls h =
-      from_shaped m (fs ++ meaning m fs f ∷ []) more
-      (behind_shaped fs (meaning m fs f) calls (λ vs. body_shaped m fs f.body (bind f.parameters vs) calls h.0)) h.1
-
-  forest_shaped : (functions : List Func) (root : ℕ) (m : Map) → FunctionsAreTold look functions
-      → HaveShapes look (forest functions root m)
-  forest_shaped functions root m h = (tt, from_shaped m [] functions (λ n vs. tt) h root [], tt)
-
-  -- Node numbers change neither shapes nor sites.
-  shaped_anyway : (t : GroupForest) → HaveShapes look (without_numbers t) → HaveShapes look t
-  shaped_anyway End h = tt
-  shaped_anyway (Read x rest) h = shaped_anyway rest h
-  shaped_anyway (Group site n what inside rest) h = (h.0, shaped_anyway inside h.1, shaped_anyway rest h.2)
+-- Node numbers change neither shapes nor sites.
+shaped_anyway : (look : ℕ → Told) (t : GroupForest) → HaveShapes look (without_numbers t) → HaveShapes look t
+shaped_anyway look End h = tt
+shaped_anyway look (Read x rest) h = shaped_anyway look rest h
+shaped_anyway look (Group site n what inside rest) h =
+    (h.0, shaped_anyway look inside h.1, shaped_anyway look rest h.2)
 
 at_anyway : (at_site : ℕ → Bool) (t : GroupForest) → NodesAt at_site (without_numbers t) → NodesAt at_site t
 at_anyway at_site End h = tt
