@@ -1,5 +1,5 @@
 -- What a command writes is what the definitions say.
-use Rattle.std.proofs.Common.{Ok, Err, ◌≡◌, ℕ, Bool, List, true, sym, ap, ◌∙◌, subst, refl, Option, Some, None, ◌⊎◌, inl, inr, ◌<◌, ◌≤◌, ◌≢◌, ◌+◌, length, arith}
+use Rattle.std.proofs.Common.{Ok, Err, ◌≡◌, ℕ, Bool, List, true, sym, ap, ◌∙◌, subst, refl, Option, Some, None, ◌⊎◌, inl, inr, ◌<◌, ◌≤◌, ◌≢◌, ◌+◌, length, arith, false}
 use Rattle.std.specs.declared.result.Result.{Result}
 use Rattle.std.specs.Prelude.{IfSome, IfOk, IfErr, OnOk, OnErr}
 use Rattle.std.specs.Io.KnownBytes.{Appends, Keeps, Consumes, IsAtEnd}
@@ -152,10 +152,10 @@ stopped-after (Ok x) (inl e) h = absurd cc
 stopped-after (Ok x) (inr e) h = absurd cc
 stopped-after (Err e) stopped h = h
 
--- What is true of each text of a source, if the source shows it.
-pub each-text : (o : Option (List ℕ)) {P : List ℕ → Type 0} → ((bytes : List ℕ) → P bytes) → IfSome o P
-each-text None f = tt
-each-text (Some bytes) f = f bytes
+pub unlogged-texts : (left : Option (List ℕ)) (flags : Flags) (old : Option (List Entry)) (a z : Option (List ℕ))
+    → IfSome left (λ bytes. (p : Source) → IsText false bytes p → StopsText flags p old old a z)
+unlogged-texts None flags old a z = tt
+unlogged-texts (Some bytes) flags old a z = λ p text. unlogged-text flags p old a z
 
 -- What is true after a command that is done.
 pub done-after : {T P : Type 0} (r : Result T Stop) → run_status r ≡ status.Done → OnOk r P → P

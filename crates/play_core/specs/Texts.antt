@@ -1,5 +1,5 @@
 -- Trusted: the source texts of programs with scripts, and the output of each command on a source text.
-use Rattle.std.specs.Prelude.{◌≡◌, ◌≤◌, ℕ, List, [], Bool, true, false, length, Option, Some, None, codes}
+use Rattle.std.specs.Prelude.{◌≡◌, ◌≤◌, ℕ, List, [], Bool, true, false, Option, Some, None, codes}
 use Rattle.sexp_text.specs.Forest.{Forest, nesting}
 use Rattle.sexp_text.specs.Grammar.{Spells}
 use Rattle.sexp_text.specs.Layout.{lines}

@@ -290,11 +290,11 @@ module _ {functions : List Func} {V : Type 0} {stands : V → World BuiltIn → 
   -- The run of the part that ends a frame stopped.
   pub end_stops : (t : LineStyle) (xs : List ℕ) (now mid now' : Option (List Entry))
       (written written' : Option (List ℕ)) {bytes : List ℕ} → IsLogged functions r r.log now
-      → LogsReadsIn now mid actor (Some name) xs → AreLegal table stands now mid →
+      → LogsReadsIn now mid actor (Some name) xs → AreLegal table (stands world) now mid →
       MayAddEntry mid now' (entry r.standing.world actor (request.Dispose name)) → AppendsPart written written' bytes
       → StopsAt t functions (of_actor actor EndFrame ∷ []) now' written written' r
   end_stops t xs now mid now' written written' {bytes} logged reads legal may part =
-      stops_in_frame functions r (of_actor actor EndFrame) name stands h.world_stands h.at_frame.frames t xs now mid
+      stops_in_frame functions r (of_actor actor EndFrame) name (stands world) h.world_stands h.at_frame.frames t xs now mid
       now' written written' bytes (ap (run_after_request functions r (of_actor actor EndFrame)) asks) logged reads
       legal may part
 

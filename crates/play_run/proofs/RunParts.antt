@@ -1,5 +1,5 @@
 -- The state after a part that neither begins nor ends a frame.
-use Rattle.std.proofs.Common.{◌≡◌, ◌≢◌, ◌⊎◌, inl, inr, ℕ, ◌==◌, ◌<◌, List, [], ◌∷◌, ◌++◌, ◌||◌, length, refl, sym, ap, ◌∙◌, subst, Option, Some, None, Ok, Err, OnOk, OnErr, Bool, true, false, cond, arith, append-nil, append_assoc, ℤ}
+use Rattle.std.proofs.Common.{◌≡◌, ◌≢◌, ◌⊎◌, inl, inr, ℕ, ◌==◌, ◌<◌, List, [], ◌∷◌, ◌++◌, ◌||◌, length, refl, sym, ap, ◌∙◌, subst, Option, Some, None, Ok, Err, OnOk, OnErr, Bool, true, false, cond, arith, append-nil, ℤ}
 use Rattle.std.proofs.lemmas.Bool.Decides.{eqb_tells}
 use Rattle.std.specs.declared.result.Result.{Result}
 use Rattle.std.specs.Io.KnownBytes.{Appends}
@@ -25,7 +25,7 @@ use Rattle.script_lang.specs.SnapshotNames.{NamedNumber, latest, snapshot_number
 use Rattle.script_lang.specs.StepCalls.{Part, Take, Read, Write, WriteSum, Apply, Dispose, BeginFrame, EndFrame, ActorPart, of_actor, Notes, request_of, sum_request, notes_after, number_taken, entry, watcher_number}
 use Rattle.script_lang.specs.Lines.{LineStyle, entry_line, ends_frame, frame_taken}
 use Rattle.recomposer.specs.Compositions.{IsAt}
-use Rattle.play_run.specs.RunOutput.{Run, request_lines, run_after_request, part_lines, part_after, parts_lines, parts_after}
+use Rattle.play_run.specs.RunOutput.{Run, request_lines, run_after_request, part_lines, part_after, parts_lines}
 use Rattle.script_lang.specs.PrintedCalls.{reads_frame}
 use Rattle.play_run.specs.RunState.{IsAtFrame, RunFacts, IsRun, IsLogged, AddsEntry, MayAddEntry, IsPlain, KeepsNames, RunsAt, StopsAt, flat}
 use Rattle.play_run.specs.RunPromise.{WritesBytes}

@@ -17,9 +17,10 @@ use Rattle.play_run.specs.RunState.{RunFacts, IsRun, RunsAt, flat}
 use Rattle.play_run.specs.RunPromise.{WritesBytes}
 use Rattle.play_run.specs.declared.memory.RunMemory.{RunMemory}
 use Rattle.recomposer.specs.declared.composition.Composition.{Composition}
+use Rattle.rt_streams.proofs.Parts.{part-none}
 use Rattle.play_run.specs.declared.write_lines.Stop.{Stop}
 use Rattle.play_run.proofs.RunLines.{lines_append, after_append}
-use Rattle.play_run.proofs.Stops.{stops_then, stops_front}
+use Rattle.play_run.proofs.Stops.{at_stop, stops_unmade, stops_then, stops_front}
 use Rattle.play_run.proofs.Written.{says_behind, says_front, says_same}
 
 -- The parts of two lists of an actor.
@@ -47,6 +48,17 @@ module _ {V : Type 0} {stands : V → World BuiltIn → Type 0} {log : V → Opt
       WritesBytes {T = T} {E = Stop} written written [] (Ok x)
       → RunsAt {T = T} t functions stands log actor [] world memory frame written written r (Ok x)
   runs_none frame written r x h says = record { says = says; left = h; stops = tt }
+
+  -- The run stopped before its first call.
+  pub runs_unmade : {T : Type 0} {world : V} {memory : RunMemory} (frame : Option ℕ) (written : Option (List ℕ))
+      (r : Run) (e : Stop) (ps : List ActorPart) → IsRun functions stands log world memory actor frame r
+      → RunsAt {T = T} t functions stands log actor ps world memory frame written written r (Err e)
+  runs_unmade {world = world} frame written r e ps h = record {
+    says = record { all = tt; part = part-none written _ };
+    left = tt;
+    stops = stops_unmade t functions r ps (log world) written written [] (at_stop functions r r.log (log world) h.logged)
+        (part-none written []);
+  }
 
   -- Parts were run, and then more parts.
   pub runs_then : {T U : Type 0} {world' world'' : V} {memory' memory'' : RunMemory} (frame' frame'' : Option ℕ)

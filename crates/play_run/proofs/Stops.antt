@@ -1,5 +1,5 @@
 -- What the log and the bytes of a run are when it stops before its end.
-use Rattle.std.proofs.Common.{◌≡◌, ◌≤◌, ◌⊎◌, inl, inr, length, ℕ, List, [], ◌∷◌, ◌++◌, Bool, true, cond, Option, Some, None, Result, Ok, Err, OnErr, refl, sym, ap, ◌∙◌, subst, arith, append_assoc, append-nil}
+use Rattle.std.proofs.Common.{◌≡◌, ◌≤◌, inl, inr, length, ℕ, List, [], ◌∷◌, ◌++◌, true, Option, Some, None, Result, Ok, Err, OnErr, refl, sym, ap, ◌∙◌, subst, arith, append_assoc, append-nil}
 use Rattle.std.proofs.lemmas.List.{append_cancel_left}
 use Rattle.std.proofs.lemmas.Grind.{flat_map-append}
 use Rattle.std.specs.Io.KnownBytes.{Appends}
@@ -7,14 +7,12 @@ use Rattle.std.proofs.KnownBytes.{Appends-trans}
 use Rattle.rt_streams.specs.Streams.{AppendsPart}
 use Rattle.rt_values.specs.Maps.{contains}
 use Rattle.lang_ast.specs.Terms.{Func}
-use Rattle.lang_ast.specs.declared.program.State.{State}
 use Rattle.snap_policy.specs.declared.policy.BuiltIn.{BuiltIn}
 use Rattle.snap_policy.specs.Table.{table}
 use Rattle.snap_api.specs.Calls.{Logs, is_no_memory}
 use Rattle.snap_api.specs.DeskReads.{LogsReadsIn, AreLegal, ReadsLogged, ReadsAreLegal}
-use Rattle.snap_api.specs.World.{World, History, IsLegal, call, world_after}
+use Rattle.snap_api.specs.World.{World, IsLegal, world_after}
 use Rattle.snap_api.specs.declared.data.Entry.{Entry}
-use Rattle.snap_api.specs.declared.data.Refusal.{Refusal}
 use Rattle.snap_api.specs.declared.data.Refusal.TheVariants as refusal
 use Rattle.snap_api.specs.declared.data.Reply.{Reply}
 use Rattle.snap_api.specs.declared.data.Reply.TheVariants as reply
@@ -23,12 +21,12 @@ use Rattle.snap_api.specs.declared.data.Request.TheVariants as request
 use Rattle.script_lang.specs.StepCalls.{ActorPart, entry, sequential, no_notes, opening_world}
 use Rattle.script_lang.specs.Lines.{LineStyle, Standing, initial_standing, run_text}
 use Rattle.script_lang.specs.PrintedCalls.{printed_calls}
-use Rattle.play_run.specs.RunLog.{RunStopped, StopsRun}
+use Rattle.play_run.specs.RunLog.{StopsRun}
 use Rattle.play_run.specs.RunOutput.{Run, first_run, run_after_request, part_after, parts_lines, parts_after}
 use Rattle.play_run.specs.RunPromise.{WritesAtLeast}
 use Rattle.play_run.specs.RunState.{LogSoFar, IsLogged, LogAtStop, IsLoggedAtStop, AddsEntry, MayAddEntry, StopsAt, flat}
 use Rattle.play_run.proofs.RunLines.{run_text_is, lines_append, after_append}
-use Rattle.play_run.proofs.RunLogs.{adds_entry, first_kept, made_is, legal_append, unprinted, itself}
+use Rattle.play_run.proofs.RunLogs.{first_kept, made_is, legal_append, unprinted, itself}
 use Rattle.play_run.proofs.Written.{appends_same}
 
 -- A call that is out of memory is not logged.
@@ -224,7 +222,7 @@ module _ (functions : List Func) (r : Run) (p : ActorPart) (name : ℕ) (stands 
           log_is = added ∙ ap (λ (l : List Entry). Some l)
               (append_assoc (o ++ h.more) told.more (e ∷ []) ∙ append_assoc o h.more (told.more ++ e ∷ []));
           legal = h.legal (told.more ++ e ∷ [])
-              (legal_append functions r.standing.world told.more (e ∷ []) legal_reads
+              (legal_append r.standing.world told.more (e ∷ []) legal_reads
               (subst (λ w. IsLegal table w (e ∷ [])) (sym leaves_world) (refl, tt)));
           printed_is = h.printed_is (told.more ++ e ∷ [])
               ∙ ap (λ l. r.made ++ l) (unprinted r.standing.frames p.actor name inside told.more (e ∷ []) xs

@@ -1,4 +1,4 @@
-use Rattle.std.proofs.Common.{◌≡◌, ◌≤◌, ◌∙◌, ap, sym, subst, [], length}
+use Rattle.std.proofs.Common.{◌≡◌, ◌∙◌, ap, sym, subst, []}
 use Rattle.sexp_text.specs.View.{forest_view}
 use Rattle.lang_ast.specs.declared.program.Program.{Program}
 use Rattle.lang_ast.specs.Programs.{functions_of}

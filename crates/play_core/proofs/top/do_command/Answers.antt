@@ -1,4 +1,4 @@
-use Rattle.std.proofs.Common.{refl, sym, ap, ◌∙◌, subst}
+use Rattle.std.proofs.Common.{refl, sym, ap, ◌∙◌, subst, ◌≡◌, OnErr}
 use Rattle.sexp_text.specs.Layout.{lines}
 use Rattle.sexp_text.specs.View.{forest_view}
 use Rattle.play_core.specs.CommandOutput.{SaysOutput}
@@ -6,6 +6,11 @@ use Rattle.play_core.specs.Texts.{run_output, check_output}
 use Rattle.play_core.proofs.TreeLines.{check-is}
 use Rattle.play_core.proofs.Plays.{run-is, logs-is, stops-is}
 use Rattle.play_run.proofs.Written.{says_same}
+use Rattle.script_lang.specs.declared.flags.Flags.{Flags}
+use Rattle.script_lang.specs.StepCalls.{script_parts}
+use Rattle.play_args.specs.declared.command.Command.TheVariants.{Run}
+use Rattle.play_run.specs.RunLog.{StopsRun}
+use Rattle.play_run.specs.RunPromise.{job_style, job_functions}
 use Rattle.play_core.proofs.top.do_command.Goals as goal
 
 pub returns-in-Run-clause-says : goal.returns-in-Run-clause-says
@@ -40,7 +45,8 @@ returns-in-Run-clause-stops g c bytes p flags run read text =
     (g.V.Versions.log c.run_script.new.world) (g.K.Sink.written c.args.sink.now)
     (g.K.Sink.written c.run_script.new.sink)
     (subst (λ (f : Flags). OnErr c.run_script.result
-    (StopsRun (job_style c.deref.result.now f) (job_functions c.deref.result.now) _
+    (StopsRun (job_style c.args.input.job f) (job_functions c.args.input.job)
+    (script_parts c.args.input.job.script.actors.items c.args.input.job.script.forms.items)
     (g.V.Versions.log c.args.world.now) (g.V.Versions.log c.run_script.new.world)
     (g.K.Sink.written c.args.sink.now) (g.K.Sink.written c.run_script.new.sink))) same
     c.run_script.ensures.stops)

@@ -2,7 +2,7 @@ use Rattle.std.proofs.Common.{Some, sym, ap, ◌∙◌, arith, refl, inr}
 use Rattle.rt_streams.proofs.Parts.{part-none}
 use Rattle.play_args.specs.CommandWords.{command_of_args, texts}
 use Rattle.play_core.specs.Promise.{streams}
-use Rattle.play_core.proofs.Plays.{memory-meets, generated-meets, keeps-same, each-text, unlogged-text}
+use Rattle.play_core.proofs.Plays.{memory-meets, generated-meets, keeps-same, unlogged-texts}
 use Rattle.play_core.proofs.Sizes.{size_fits}
 use Rattle.play_core.proofs.top.play.Goals as goal
 
@@ -45,4 +45,4 @@ returns-in-Ok-Some-Gen-clause-meets g c =
     told.clean
 
 pub returns-in-Err-clause-stops : goal.returns-in-Err-clause-stops
-returns-in-Err-clause-stops g c flags run e = each-text _ (λ bytes t text. unlogged-text flags t _ _ _)
+returns-in-Err-clause-stops g c flags run e = unlogged-texts _ flags _ _ _

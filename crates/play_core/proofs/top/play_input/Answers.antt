@@ -5,7 +5,7 @@ use Rattle.play_core.specs.Promise.{streams, CommandMeets, LogsText, StopsText}
 use Rattle.play_core.specs.Texts.{IsText}
 use Rattle.play_core.specs.declared.top.Status.{Status}
 use Rattle.play_core.specs.declared.top.Status.TheVariants as status
-use Rattle.play_core.proofs.Plays.{parsed-meets, done-after, stopped-after, each-text, unlogged-text}
+use Rattle.play_core.proofs.Plays.{parsed-meets, done-after, stopped-after, unlogged-texts}
 use Rattle.play_core.proofs.top.play_input.Goals as goal
 
 pub returns-in-Ok-clause-meets : goal.returns-in-Ok-clause-meets
@@ -45,4 +45,4 @@ returns-in-Ok-clause-stops g c flags run e =
     (stopped-after c.do_command.result stopped (c.do_command.ensures.stops read.bytes t flags run read.parsed text)))
 
 pub returns-in-Err-clause-stops : goal.returns-in-Err-clause-stops
-returns-in-Err-clause-stops g c flags run e = each-text _ (λ bytes t text. unlogged-text flags t _ _ _)
+returns-in-Err-clause-stops g c flags run e = unlogged-texts _ flags _ _ _

@@ -1,10 +1,22 @@
-use Rattle.std.proofs.Common.{◌++◌, ◌-◌, ◌∙◌, ◌<◌, ◌≡◌, ap, sym, None, Ok, arith, append-nil}
+use Rattle.std.proofs.Common.{◌++◌, ◌-◌, ◌∙◌, ◌<◌, ◌≡◌, ap, sym, None, Ok, arith, append-nil, [], refl}
 use Rattle.script_lang.specs.Scripts.{repeated_steps}
 use Rattle.script_lang.specs.StepCalls.{steps_parts}
 use Rattle.play_run.specs.RunOutput.{parts_of, parts_after}
 use Rattle.play_run.specs.RunPromise.{job_style, job_functions}
-use Rattle.play_run.proofs.Sequences.{parts_append, steps_append, repeated_first, loop_next, loop_stopped, runs_same}
+use Rattle.play_run.proofs.Sequences.{parts_append, steps_append, repeated_first, loop_next, loop_stopped, runs_none, runs_same}
+use Rattle.play_run.proofs.Written.{says_none}
 use Rattle.play_run.proofs.steps.run_repeat.Goals as goal
+
+pub loop-left-init : goal.loop-left-init
+loop-left-init g c = record {
+  faults = refl;
+  runs = λ r h. (
+    [],
+    refl,
+    runs_none (job_style c.args.actor.job.now c.args.actor.flags) (job_functions c.args.actor.job.now)
+        c.args.actor.number None _ r (tt {0}) h (says_none _ _),
+  );
+}
 
 pub loop-left-preserved : goal.loop-left-preserved
 loop-left-preserved g c = record {

@@ -8,7 +8,7 @@ use Rattle.play_run.specs.RunState.{IsRun}
 use Rattle.play_run.proofs.Openings.{program-fits, opened}
 use Rattle.play_run.proofs.RunLines.{run_text_is}
 use Rattle.play_run.proofs.RunLogs.{logged_after, run_logged}
-use Rattle.play_run.proofs.Stops.{script_stopped, unlogged_stop}
+use Rattle.play_run.proofs.Stops.{script_stopped}
 use Rattle.play_run.proofs.Written.{says_same, after_error}
 use Rattle.play_run.proofs.steps.run_script.Goals as goal
 
