@@ -1,14 +1,15 @@
 -- Internal: the slots of a group, which tables share. No public clause cites this module.
-use Rattle.std.specs.Prelude.{ℕ, List, [], Option, Some, None}
-use Rattle.std.specs.declared.rc.Rc.{Rc}
+use Rattle.std.specs.Prelude.{ℕ, List, []}
 use Rattle.rt_groups.specs.declared.groups.GroupKind.{GroupKind}
+use Rattle.slot_table.specs.declared.storage.Parts.{Parts}
+use Rattle.slot_table.specs.declared.storage.Parts.TheVariants as parts
 
 -- The kind of a group with its values, and its reads.
 pub record GroupSlots : Type 0 where
   pub what : GroupKind
   pub reads : List ℕ
 
--- The reads of a group. It has none if it shares no list of reads.
-abbrev pub reads_in : {Z : Type 0} → Option (Rc (List ℕ) Z) → List ℕ
-reads_in None = []
-reads_in (Some shared) = shared.value
+-- The slots of a group. It has no reads if it has only its kind.
+abbrev pub slots_in : Parts → GroupSlots
+slots_in (parts.Plain shared) = record { what = shared.value; reads = [] }
+slots_in (parts.WithReads shared) = record { what = shared.value.what.value; reads = shared.value.reads }

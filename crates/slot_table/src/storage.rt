@@ -2,7 +2,6 @@
 ghost use Rattle.std.specs.Prelude.{◌≡◌, ◌<◌, ◌++◌, ◌∷◌, [], IfOk, OnOk, OnErr, length, slice_set, vec_len, vec_capacity};
 ghost use Rattle.rt_groups.specs.PreorderGroups.{flat_group};
 ghost use Rattle.slot_table.specs.Storage.{AreParts};
-ghost use Rattle.slot_table.specs.SharedSlots.{reads_in};
 ghost use Rattle.slot_table.specs.TableGroups.{group_at, is_node_kind, with_reads};
 
 use gap_buffer::GapBuf;
@@ -24,27 +23,30 @@ pub struct GroupHead {
 /// The slots of a group: its kind with its values, and its reads. Tables that have the same group share them.
 #[derive(Drop)]
 pub struct Slots {
+    parts: Parts,
+}
+
+// The two forms of slots, each of which takes 16 bytes.
+#[derive(Drop)]
+enum Parts {
+    // The kind of a group without reads.
+    Plain(Rc<GroupKind>),
+    WithReads(Rc<ReadSlots>),
+}
+
+// The kind of a group with reads, which other slots may share, and the reads.
+#[derive(Drop)]
+struct ReadSlots {
     what: Rc<GroupKind>,
-    // `None` if the group has no reads.
-    reads: Option<Rc<Deps>>,
+    reads: Deps,
 }
 
 impl Model for Slots {
-    ghost use Rattle.slot_table.specs.SharedSlots.{GroupSlots, reads_in};
+    ghost use Rattle.slot_table.specs.SharedSlots.{GroupSlots, slots_in};
 
     ghost Value = { GroupSlots };
 
-    ghost view = { λ s. record { what = s.what.value; reads = reads_in s.reads } };
-}
-
-// Returns the reads for groups that share them.
-fn share_reads(alloc: Global, reads: Deps) -> Result<Option<Rc<Deps>>, NoMemory>
-    ensures { IfOk result (λ r. reads_in r ≡ reads) }
-{
-    if reads.numbers().is_empty() {
-        return Ok(None);
-    }
-    Ok(Some(Rc::new(alloc, reads)?))
+    ghost view = { λ s. slots_in s.parts };
 }
 
 impl Slots {
@@ -52,9 +54,21 @@ impl Slots {
     fn new(alloc: Global, what: GroupKind, reads: Deps) -> Result<Self, NoMemory>
         ensures { IfOk result (λ s. s ≡ record { what = what; reads = reads }) }
     {
+        Slots::of_kind(alloc, Rc::new(alloc, what)?, reads)
+    }
+
+    // Returns the slots of a group that shares the kind `what`. Reads take memory of their own.
+    fn of_kind(alloc: Global, what: Rc<GroupKind>, reads: Deps) -> Result<Self, NoMemory>
+        ensures { IfOk result (λ s. s ≡ record { what = what.value; reads = reads }) }
+    {
+        if reads.numbers().is_empty() {
+            return Ok(Slots {
+                parts: Parts::Plain(what),
+            });
+        }
+        let both = Rc::new(alloc, ReadSlots { what, reads })?;
         Ok(Slots {
-            what: Rc::new(alloc, what)?,
-            reads: share_reads(alloc, reads)?,
+            parts: Parts::WithReads(both),
         })
     }
 
@@ -63,14 +77,29 @@ impl Slots {
     fn copy(&self) -> Result<Self, NoMemory>
         ensures { IfOk result (λ s. s ≡ self.now) }
     {
-        let reads = match &self.reads {
-            Some(reads) => Some(reads.clone()?),
-            None => None,
+        let parts = match &self.parts {
+            Parts::Plain(what) => Parts::Plain(what.clone()?),
+            Parts::WithReads(both) => Parts::WithReads(both.clone()?),
         };
-        Ok(Slots {
-            what: self.what.clone()?,
-            reads,
-        })
+        Ok(Slots { parts })
+    }
+
+    // Returns the kind, to be shared by other slots.
+    fn share_kind(&self) -> Result<Rc<GroupKind>, NoMemory>
+        ensures { IfOk result (λ what. what.value ≡ self.now.what) }
+    {
+        match &self.parts {
+            Parts::Plain(what) => Ok(what.clone()?),
+            Parts::WithReads(both) => Ok(both.what.clone()?),
+        }
+    }
+
+    // Returns the slots with other reads. They share the kind.
+    fn with_reads(&self, alloc: Global, reads: Deps) -> Result<Self, NoMemory>
+        ensures { IfOk result (λ s. s ≡ record { what = self.now.what; reads = reads }) }
+    {
+        let what = self.share_kind()?;
+        Slots::of_kind(alloc, what, reads)
     }
 
     /// Returns the kind of the group, with its values.
@@ -78,7 +107,10 @@ impl Slots {
     pub fn what(&self) -> &GroupKind
         ensures { result.now ≡ self.now.what }
     {
-        &self.what
+        match &self.parts {
+            Parts::Plain(what) => what,
+            Parts::WithReads(both) => &both.what,
+        }
     }
 
     /// Returns what the group depends on itself.
@@ -86,9 +118,9 @@ impl Slots {
     pub fn reads(&self) -> &[ObjectNo]
         ensures { result.now ≡ self.now.reads }
     {
-        match &self.reads {
-            Some(reads) => reads.numbers(),
-            None => &[],
+        match &self.parts {
+            Parts::Plain(_) => &[],
+            Parts::WithReads(both) => both.reads.numbers(),
         }
     }
 }
@@ -287,9 +319,9 @@ impl TableBuilder {
         ensures set { OnOk result (self.new ≡ slice_set self.old i (with_reads (group_at self.old i) reads)) }
         ensures same { OnErr result (self.new ≡ self.old) }
     {
-        let reads = share_reads(alloc, reads)?;
         let _length = self.slots.len();
-        self.slots[i].reads = reads;
+        let slots = self.slots[i].with_reads(alloc, reads)?;
+        self.slots[i] = slots;
         Ok(())
     }
 
