@@ -9,7 +9,7 @@ pub record GroupSlots : Type 0 where
   pub what : GroupKind
   pub reads : List ℕ
 
--- The slots of a group. It has no reads if it has only its kind.
+-- The slots of a group. A group that has only its kind has no reads.
 abbrev pub slots_in : Parts → GroupSlots
 slots_in (parts.Plain shared) = record { what = shared.value; reads = [] }
 slots_in (parts.WithReads shared) = record { what = shared.value.what.value; reads = shared.value.reads }

@@ -20,6 +20,104 @@ pub struct GroupHead {
     pub is_node: bool,
 }
 
+/// The head of a group as a table stores it, in 16 bytes.
+#[derive(Drop)]
+pub struct PackedHead {
+    depth: u32,
+    site: u32,
+    // Twice the number, plus 1 if the group is a node.
+    number_and_node: u64,
+}
+
+impl Model for PackedHead {
+    ghost use Rattle.std.specs.Prelude.{◌/◌, ◌%◌, nat_eq};
+    ghost use Rattle.slot_table.specs.declared.storage.GroupHead.{GroupHead as head_data};
+
+    ghost Value = { head_data };
+
+    ghost view = { λ h. record {
+      depth = h.depth;
+      site = h.site;
+      number = h.number_and_node / 2;
+      is_node = nat_eq (h.number_and_node % 2) 1;
+    } };
+}
+
+impl PackedHead {
+    // Packs `head`. Returns `NoMemory` for a number of 2^63 or more: no memory holds so many nodes.
+    #[inline(always)]
+    fn new(head: GroupHead) -> Result<Self, NoMemory>
+        ensures { IfOk result (λ h. h ≡ head) }
+    {
+        if u64::MAX / 2 < head.number {
+            return Err(NoMemory);
+        }
+        let node = if head.is_node { 1 } else { 0 };
+        Ok(PackedHead {
+            depth: head.depth,
+            site: head.site,
+            number_and_node: head.number * 2 + node,
+        })
+    }
+
+    // Returns a copy.
+    #[inline(always)]
+    fn copy(&self) -> Self
+        ensures { result ≡ self.now }
+    {
+        PackedHead {
+            depth: self.depth,
+            site: self.site,
+            number_and_node: self.number_and_node,
+        }
+    }
+
+    /// Returns the head with its fields apart.
+    #[inline(always)]
+    pub fn unpacked(&self) -> GroupHead
+        ensures { result ≡ self.now }
+    {
+        GroupHead {
+            depth: self.depth,
+            site: self.site,
+            number: self.number(),
+            is_node: self.is_node(),
+        }
+    }
+
+    /// Returns the number of groups that contain the group.
+    #[inline(always)]
+    pub fn depth(&self) -> u32
+        ensures { result ≡ self.now.depth }
+    {
+        self.depth
+    }
+
+    /// Returns the site of the group.
+    #[inline(always)]
+    pub fn site(&self) -> u32
+        ensures { result ≡ self.now.site }
+    {
+        self.site
+    }
+
+    /// Returns the number of the group: that of a node, or 0.
+    #[inline(always)]
+    pub fn number(&self) -> u64
+        ensures { result ≡ self.now.number }
+    {
+        self.number_and_node / 2
+    }
+
+    /// Returns whether the group is a node.
+    #[inline(always)]
+    pub fn is_node(&self) -> bool
+        ensures { result ≡ self.now.is_node }
+    {
+        self.number_and_node % 2 == 1
+    }
+}
+
 /// The slots of a group: its kind with its values, and its reads. Tables that have the same group share them.
 #[derive(Drop)]
 pub struct Slots {
@@ -54,11 +152,11 @@ impl Slots {
     fn new(alloc: Global, what: GroupKind, reads: Deps) -> Result<Self, NoMemory>
         ensures { IfOk result (λ s. s ≡ record { what = what; reads = reads }) }
     {
-        Slots::of_kind(alloc, Rc::new(alloc, what)?, reads)
+        Slots::from_kind(alloc, Rc::new(alloc, what)?, reads)
     }
 
-    // Returns the slots of a group that shares the kind `what`. Reads take memory of their own.
-    fn of_kind(alloc: Global, what: Rc<GroupKind>, reads: Deps) -> Result<Self, NoMemory>
+    // Returns the slots of a group that shares the kind `what`. Takes memory only for reads.
+    fn from_kind(alloc: Global, what: Rc<GroupKind>, reads: Deps) -> Result<Self, NoMemory>
         ensures { IfOk result (λ s. s ≡ record { what = what.value; reads = reads }) }
     {
         if reads.numbers().is_empty() {
@@ -84,7 +182,7 @@ impl Slots {
         Ok(Slots { parts })
     }
 
-    // Returns the kind, to be shared by other slots.
+    // Returns the kind for other slots, which share it.
     fn share_kind(&self) -> Result<Rc<GroupKind>, NoMemory>
         ensures { IfOk result (λ what. what.value ≡ self.now.what) }
     {
@@ -99,7 +197,7 @@ impl Slots {
         ensures { IfOk result (λ s. s ≡ record { what = self.now.what; reads = reads }) }
     {
         let what = self.share_kind()?;
-        Slots::of_kind(alloc, what, reads)
+        Slots::from_kind(alloc, what, reads)
     }
 
     /// Returns the kind of the group, with its values.
@@ -230,7 +328,7 @@ fn make_room<T>(items: &mut Vec<T>) -> Result<(), NoMemory>
 /// Groups in preorder that become a table.
 #[derive(Drop)]
 pub struct TableBuilder {
-    heads: Vec<GroupHead>,
+    heads: Vec<PackedHead>,
     slots: Vec<Slots>,
 }
 
@@ -266,7 +364,7 @@ impl TableBuilder {
     }
 
     // Returns the fields of the group at index `i` that have a fixed size.
-    fn head(&self, i: usize) -> &GroupHead
+    fn head(&self, i: usize) -> &PackedHead
         requires { i < length self.now }
         ensures depth { result.now.depth ≡ (group_at self.now i).depth }
         ensures node { result.now.is_node ≡ is_node_kind (group_at self.now i).what }
@@ -280,7 +378,7 @@ impl TableBuilder {
         requires { i < length self.now }
         ensures { result ≡ (group_at self.now i).depth }
     {
-        self.head(i).depth
+        self.head(i).depth()
     }
 
     /// Returns whether the group at index `i` is a node.
@@ -288,7 +386,7 @@ impl TableBuilder {
         requires { i < length self.now }
         ensures { result ≡ is_node_kind (group_at self.now i).what }
     {
-        self.head(i).is_node
+        self.head(i).is_node()
     }
 
     /// Makes the spare capacity at least `n` groups. The groups stay.
@@ -306,11 +404,35 @@ impl TableBuilder {
         ensures added { OnOk result (self.new ≡ self.old ++ group ∷ []) }
         ensures same { OnErr result (self.new ≡ self.old) }
     {
+        let head = PackedHead::new(group.head)?;
+        self.push_parts(head, group.slots)
+    }
+
+    // Appends the group with this head and these slots. After `NoMemory` the groups are unchanged.
+    #[inline(always)]
+    fn push_parts(&mut self, head: PackedHead, slots: Slots) -> Result<(), NoMemory>
+        requires { head.is_node ≡ is_node_kind slots.what }
+        ensures added { OnOk result (self.new ≡ self.old
+            ++ flat_group head.depth head.site head.number slots.what slots.reads ∷ []) }
+        ensures same { OnErr result (self.new ≡ self.old) }
+    {
         make_room(&mut self.heads)?;
         make_room(&mut self.slots)?;
-        self.heads.push_reserved(group.head);
-        self.slots.push_reserved(group.slots);
+        self.heads.push_reserved(head);
+        self.slots.push_reserved(slots);
         Ok(())
+    }
+
+    // Appends the group with this head, which shares `slots`. After `NoMemory` the groups are unchanged.
+    #[inline(always)]
+    pub(crate) fn push_sharing(&mut self, head: &PackedHead, slots: &Slots) -> Result<(), NoMemory>
+        requires { head.now.is_node ≡ is_node_kind slots.now.what }
+        ensures added { OnOk result (self.new ≡ self.old
+            ++ flat_group head.now.depth head.now.site head.now.number slots.now.what slots.now.reads ∷ []) }
+        ensures same { OnErr result (self.new ≡ self.old) }
+    {
+        let slots = slots.copy()?;
+        self.push_parts(head.copy(), slots)
     }
 
     /// Gives the group at index `i` these reads in place of its own. After `NoMemory` the groups are unchanged.
@@ -326,7 +448,7 @@ impl TableBuilder {
     }
 
     // Returns the parts of all groups.
-    pub(crate) fn into_parts(self) -> (GapBuf<GroupHead>, GapBuf<Slots>)
+    pub(crate) fn into_parts(self) -> (GapBuf<PackedHead>, GapBuf<Slots>)
         ensures { AreParts result.0.items result.1.items self }
     {
         let TableBuilder { heads, slots } = self;

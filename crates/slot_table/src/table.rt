@@ -5,7 +5,7 @@ ghost use Rattle.slot_table.specs.TableGroups.{group_at, is_node_kind};
 ghost use Rattle.slot_table.specs.ReaderStates.{after_deep};
 ghost use Rattle.slot_table.specs.InnerCounts.{leading_deep, inner_counts};
 
-use crate::storage::{GroupHead, SharedGroup, Slots, TableBuilder};
+use crate::storage::{PackedHead, SharedGroup, Slots, TableBuilder};
 use gap_buffer::GapBuf;
 use rt_groups::GroupKind;
 use rt_values::{NoMemory, ObjectNo};
@@ -15,7 +15,7 @@ use std::marker::Model;
 /// The groups of a composition in preorder (`SlotTable`).
 #[derive(Drop)]
 pub struct Table {
-    groups: GapBuf<GroupHead>,
+    groups: GapBuf<PackedHead>,
     // For each group its slots, which other tables may share.
     slots: GapBuf<Slots>,
     // For each group the number of groups inside it (`groupSize` less 1).
@@ -84,7 +84,7 @@ impl Table {
     }
 
     // Returns the fields of the group at index `i` that have a fixed size.
-    fn head(&self, i: usize) -> &GroupHead
+    fn head(&self, i: usize) -> &PackedHead
         requires { i < length self.now.groups }
         ensures depth { result.now.depth ≡ (group_at self.now.groups i).depth }
         ensures site { result.now.site ≡ (group_at self.now.groups i).site }
@@ -108,7 +108,7 @@ impl Table {
         requires { i < length self.now.groups }
         ensures { result ≡ (group_at self.now.groups i).depth }
     {
-        self.head(i).depth
+        self.head(i).depth()
     }
 
     /// Returns the site of the group at index `i`.
@@ -116,7 +116,7 @@ impl Table {
         requires { i < length self.now.groups }
         ensures { result ≡ (group_at self.now.groups i).site }
     {
-        self.head(i).site
+        self.head(i).site()
     }
 
     /// Returns the number of the group at index `i`: that of a node, or 0.
@@ -124,7 +124,7 @@ impl Table {
         requires { i < length self.now.groups }
         ensures { result ≡ (group_at self.now.groups i).number }
     {
-        self.head(i).number
+        self.head(i).number()
     }
 
     /// Returns whether the group at index `i` is a node.
@@ -132,7 +132,7 @@ impl Table {
         requires { i < length self.now.groups }
         ensures { result ≡ is_node_kind (group_at self.now.groups i).what }
     {
-        self.head(i).is_node
+        self.head(i).is_node()
     }
 
     /// Returns the kind of the group at index `i`, with its values.
@@ -157,7 +157,7 @@ impl Table {
         requires { i < length self.now.groups }
         ensures { IfOk result (λ g. g ≡ group_at self.now.groups i) }
     {
-        SharedGroup::sharing(*self.head(i), self.slot(i))
+        SharedGroup::sharing(self.head(i).unpacked(), self.slot(i))
     }
 
     /// Appends the groups from index `from` to before index `to` to `groups`. They share their slots with this table.
@@ -173,7 +173,7 @@ impl Table {
     {
         groups.reserve(to - from)?;
         for i in from..to {
-            groups.push(self.share(i)?)?;
+            groups.push_sharing(self.head(i), self.slot(i))?;
         }
         Ok(())
     }
