@@ -325,6 +325,15 @@ fn make_room<T>(items: &mut Vec<T>) -> Result<(), NoMemory>
     Ok(())
 }
 
+// Gives spare capacity back if it is more than an eighth of the length. Keeps the capacity when out of memory.
+fn give_back_spare<T>(items: &mut Vec<T>)
+    ensures { items.new.items ≡ items.old.items }
+{
+    if items.len() / 8 < items.capacity() - items.len() {
+        items.shrink_to_fit();
+    }
+}
+
 /// Groups in preorder that become a table.
 #[derive(Drop)]
 pub struct TableBuilder {
@@ -396,6 +405,14 @@ impl TableBuilder {
         self.heads.reserve(n)?;
         self.slots.reserve(n)?;
         Ok(())
+    }
+
+    // Gives spare capacity back where it is more than an eighth of the number of groups. The groups stay.
+    pub(crate) fn give_back_spare(&mut self)
+        ensures { self.new ≡ self.old }
+    {
+        give_back_spare(&mut self.heads);
+        give_back_spare(&mut self.slots);
     }
 
     /// Appends a group. After `NoMemory` the groups are unchanged.

@@ -56,6 +56,8 @@ impl Table {
     pub fn from_groups(alloc: Global, groups: TableBuilder) -> Result<Self, NoMemory>
         ensures { IfOk result (λ t. t.groups ≡ groups) }
     {
+        let mut groups = groups;
+        groups.give_back_spare();
         let counts = count_all_inside(alloc, &groups)?;
         let (groups, slots) = groups.into_parts();
         Ok(Table {
