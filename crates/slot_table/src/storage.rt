@@ -29,6 +29,8 @@ pub struct PackedHead {
     number_and_node: u64,
 }
 
+const _: () = prove!(size_of::<PackedHead>() == 16);
+
 impl Model for PackedHead {
     ghost use Rattle.std.specs.Prelude.{◌/◌, ◌%◌, nat_eq};
     ghost use Rattle.slot_table.specs.declared.storage.GroupHead.{GroupHead as head_data};
@@ -118,13 +120,16 @@ impl PackedHead {
     }
 }
 
-/// The slots of a group: its kind with its values, and its reads. Tables that have the same group share them.
+/// The slots of a group: its kind with its values, and its reads. Tables that have the same group share them. A table
+/// stores a handle of 16 bytes.
 #[derive(Drop)]
 pub struct Slots {
     parts: Parts,
 }
 
-// The two forms of slots, each of which takes 16 bytes.
+const _: () = prove!(size_of::<Slots>() == 16);
+
+// The two forms of slots.
 #[derive(Drop)]
 enum Parts {
     // The kind of a group without reads.
