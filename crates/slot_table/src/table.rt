@@ -19,7 +19,7 @@ pub struct Table {
     // For each group its slots, which other tables may share.
     slots: GapBuf<Slots>,
     // For each group the number of groups inside it (`groupSize` less 1).
-    counts: Vec<usize>,
+    counts: Vec<u32>,
 }
 
 impl Model for Table {
@@ -189,12 +189,12 @@ impl Table {
         ensures inside { result ≤ length self.now.groups }
     {
         let _length = self.len();
-        i + 1 + self.counts[i]
+        i + 1 + self.counts[i] as usize
     }
 }
 
 // Counts the groups inside the group at index `i`. The counts of the groups after it are known.
-fn count_inside(groups: &TableBuilder, counts: &[usize], i: usize) -> usize
+fn count_inside(groups: &TableBuilder, counts: &[u32], i: usize) -> usize
     requires inside { i < length groups.now }
     requires long { length counts.now ≡ length groups.now }
     requires after { drop (i + 1) counts.now ≡ inner_counts (drop (i + 1) groups.now) }
@@ -207,20 +207,24 @@ fn count_inside(groups: &TableBuilder, counts: &[usize], i: usize) -> usize
         if groups.depth(next) <= depth {
             return next - i - 1;
         }
-        next = next + 1 + counts[next];
+        next = next + 1 + counts[next] as usize;
     }
     next - i - 1
 }
 
-// Counts for each group the groups inside it, from the last group to the first.
-fn count_all_inside(alloc: Global, groups: &TableBuilder) -> Result<Vec<usize>, NoMemory>
+// Counts for each group the groups inside it, from the last group to the first. Returns `NoMemory` for 2^32 groups or
+// more inside one: no memory holds them.
+fn count_all_inside(alloc: Global, groups: &TableBuilder) -> Result<Vec<u32>, NoMemory>
     ensures { IfOk result (λ counts. counts.items ≡ inner_counts groups.now) }
 {
     let mut at = groups.len();
     let mut counts = vec![in alloc; 0; at]?;
     while 0 < at {
         at -= 1;
-        counts[at] = count_inside(groups, &counts, at);
+        let Ok(count) = u32::try_from(count_inside(groups, &counts, at)) else {
+            return Err(NoMemory);
+        };
+        counts[at] = count;
     }
     Ok(counts)
 }
