@@ -122,7 +122,8 @@ answer_is end f = by (source_of end (seen_trees (clamped_trees f))) refl
     limits t has None e = (has, e)
     limits t has (Some at) e = (t, has, e)
 
-    by : (r : Result Source ℕ) → source_of end (seen_trees (clamped_trees f)) ≡ r → IsAnswerFor end f (parsed_answer f r)
+    by : (r : Result Source ℕ) → source_of end (seen_trees (clamped_trees f)) ≡ r
+        → IsAnswerFor end f (parsed_answer f r)
     by (Ok t) e = limits t (source_found end (clamped_trees f) t e) (least (program_limits f t.program)) refl
     by (Err at) e = stop_read end at (clamped_trees f) e
 
@@ -133,7 +134,9 @@ answer a = a
 pub answer_one : (end : ℕ) (f : Forest) (a : Result Source FormStop) → IsAnswerFor end f a → a ≡ text_answer end f
 answer_one end f (Ok t) h =
     sym (ap (parsed_answer f) (text_read end (clamped_trees f) t h.0) ∙ ap (λ (o : Option ℕ). unless_beyond o t) h.1)
-answer_one end f (Err (Form at)) h = sym (ap (parsed_answer f) (ap source_or_offset (wrong_read end at (clamped_trees f) h)))
+answer_one end f (Err (Form at)) h =
+    sym (ap (parsed_answer f) (ap source_or_offset (wrong_read end at (clamped_trees f) h)))
 answer_one end f (Err (Limit at)) h =
-    sym (ap (parsed_answer f) (text_read end (clamped_trees f) h.0 h.1) ∙ ap (λ (o : Option ℕ). unless_beyond o h.0) h.2)
+    sym (ap (parsed_answer f) (text_read end (clamped_trees f) h.0 h.1)
+    ∙ ap (λ (o : Option ℕ). unless_beyond o h.0) h.2)
 answer_one end f (Err NoMemory) h = absurd h

@@ -19,7 +19,8 @@ use Rattle.lang_forms.proofs.TextHasForms.{source_found}
 use Rattle.lang_forms.proofs.FirstWrong.{first_wrong}
 
 -- Trees without oversized tokens, in the program and in the script, stay as they are.
-pub all_within : (f : Forest) → least (oversized_offsets (program_trees f)) ≡ None → least (oversized_script_offsets f) ≡ None
+pub all_within : (f : Forest) → least (oversized_offsets (program_trees f)) ≡ None
+    → least (oversized_script_offsets f) ≡ None
     → clamped_trees f ≡ f
 all_within f h k = small_trees_stay f (no_least _ h) (no_least _ k)
 
@@ -84,7 +85,8 @@ limit_told f (Err x) at h = absurd (cc)
 pub forms_answer : {X : Type 0} (view : X → Source) (end : ℕ) (f : Forest) (result : Result X FormStop)
     → Answers view result (text_answer end f) → IfOk result (λ r. HasForms (clamped_trees f) (view r))
 forms_answer view end f (Ok r) h =
-    source_found end (clamped_trees f) (view r) (text_told f (source_of end (seen_trees (clamped_trees f))) (view r) h).0
+    source_found end (clamped_trees f) (view r)
+    (text_told f (source_of end (seen_trees (clamped_trees f))) (view r) h).0
 forms_answer view end f (Err e) h = tt
 
 pub small_answers : {X : Type 0} (view : X → Source) (end : ℕ) (f : Forest) (result : Result X FormStop)

@@ -280,7 +280,8 @@ state_leads at i f p q r s k top put more =
 
 -- A function, and the trees after it.
 function_leads : (at : ℕ) (i f : Forest) (p q r : PartialSource) (c : Func) (k : ℕ)
-    → TopFits (known_names p) p.site at i (FunctionTop c) k → source_with_form p (FunctionTop c) k ≡ Some r → Leads f r q
+    → TopFits (known_names p) p.site at i (FunctionTop c) k → source_with_form p (FunctionTop c) k ≡ Some r
+    → Leads f r q
     → Leads (list at i f) p q
 function_leads at i f p q r c k top put more =
     let made : PartialSource = record {

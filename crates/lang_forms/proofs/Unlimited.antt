@@ -91,7 +91,8 @@ ints_within (list at i f) = refl
 cut_within : (f : Forest) → is_oversized_ints (clamped_trees f) ≡ is_oversized_ints f
 cut_within empty = refl
 cut_within (atom at a f) =
-    ap (λ (b : Bool). (b && nat_lt most_items (tree_count (clamped_trees f))) && are_ints (clamped_trees f)) (word_within a)
+    ap (λ (b : Bool). (b && nat_lt most_items (tree_count (clamped_trees f))) && are_ints (clamped_trees f))
+    (word_within a)
     ∙ ap (λ (n : ℕ). (bytes_eq a (codes "ints") && nat_lt most_items n) && are_ints (clamped_trees f)) (count_within f)
     ∙ ap (λ (b : Bool). (bytes_eq a (codes "ints") && nat_lt most_items (tree_count f)) && b) (ints_within f)
 cut_within (text at s f) = refl
@@ -100,9 +101,11 @@ cut_within (list at i f) = refl
 -- A list is cut before or after its trees are clamped.
 list_same : (j : Forest) → clamped_list (clamped_trees j) ≡ clamped_trees (clamped_list j)
 list_same j =
-    ap (λ (b : Bool). if b then first_trees 3 (clamped_trees j) else clamped_trees j) (cut_within j) ∙ by (is_oversized_ints j)
+    ap (λ (b : Bool). if b then first_trees 3 (clamped_trees j) else clamped_trees j) (cut_within j)
+    ∙ by (is_oversized_ints j)
   where
-    by : (b : Bool) → (if b then first_trees 3 (clamped_trees j) else clamped_trees j) ≡ clamped_trees (if b then first_trees 3 j else j)
+    by : (b : Bool) → (if b then first_trees 3 (clamped_trees j) else clamped_trees j)
+        ≡ clamped_trees (if b then first_trees 3 j else j)
     by true = sym (first_within 3 j)
     by false = refl
 
@@ -130,7 +133,8 @@ from_text (text y b s) x a r h = let same : y ≡ x = cc in (b, s, ap (λ (z : �
 from_text (list y b s) x a r h = absurd (cc)
 
 abbrev FromList : Forest → ℕ → Forest → Forest → Type 0
-FromList f x i r = (j : Forest) × (s : Forest) × (f ≡ list x j s) × (clamped_list (clamped_trees j) ≡ i) × (clamped_trees s ≡ r)
+FromList f x i r =
+    (j : Forest) × (s : Forest) × (f ≡ list x j s) × (clamped_list (clamped_trees j) ≡ i) × (clamped_trees s ≡ r)
 
 from_list : (f : Forest) (x : ℕ) (i r : Forest) → clamped_trees f ≡ list x i r → FromList f x i r
 from_list empty x i r h = absurd (cc)
@@ -298,7 +302,8 @@ unlimited (group p i g) f c h =
     )
 unlimited (sequence p i g) f c h =
     let w = from_list f h.0 h.1 h.2 h.3 in
-    let inner : Fits (clamped_trees (clamped_list w.0)) i = subst (λ (x : Forest). Fits x i) (sym w.3 ∙ list_same w.0) h.5 in (
+    let inner : Fits (clamped_trees (clamped_list w.0)) i =
+    subst (λ (x : Forest). Fits x i) (sym w.3 ∙ list_same w.0) h.5 in (
       h.0,
       w.0,
       w.1,
@@ -319,10 +324,20 @@ limited (leaf p a g) f c h = (
   h.3,
   limited g h.1 c.1 h.4,
 )
-limited (numeral p z g) f c h =
-    (h.0, clamped_trees h.2, ap clamped_trees h.3 ∙ ap (λ (x : List ℕ). atom h.0 x (clamped_trees h.2)) h.4, h.5, limited g h.2 c h.6)
-limited (string p s g) f c h =
-    (h.0, clamped_trees h.2, ap clamped_trees h.3 ∙ ap (λ (x : List ℕ). text h.0 x (clamped_trees h.2)) h.4, h.5, limited g h.2 c h.6)
+limited (numeral p z g) f c h = (
+  h.0,
+  clamped_trees h.2,
+  ap clamped_trees h.3 ∙ ap (λ (x : List ℕ). atom h.0 x (clamped_trees h.2)) h.4,
+  h.5,
+  limited g h.2 c h.6,
+)
+limited (string p s g) f c h = (
+  h.0,
+  clamped_trees h.2,
+  ap clamped_trees h.3 ∙ ap (λ (x : List ℕ). text h.0 x (clamped_trees h.2)) h.4,
+  h.5,
+  limited g h.2 c h.6,
+)
 limited (group p i g) f c h =
     let inner = limited i h.1 c.1 h.5 in
     let same = list_uncut (clamped_trees h.1) (whole (clamped_trees h.1) i inner c.0) in (

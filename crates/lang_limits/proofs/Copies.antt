@@ -10,7 +10,8 @@ use Rattle.lang_limits.specs.Tokens.{is_int, is_oversized_int, is_oversized_atom
 use Rattle.lang_limits.specs.Clamped.{clamped_atom, clamped_string, are_ints, first_trees, clamped_list, clamped_trees}
 use Rattle.lang_limits.proofs.Walks.{view_drop}
 
-pub clamped_trees-joined : (f g : Forest) → clamped_trees (joined_trees f g) ≡ joined_trees (clamped_trees f) (clamped_trees g)
+pub clamped_trees-joined : (f g : Forest)
+    → clamped_trees (joined_trees f g) ≡ joined_trees (clamped_trees f) (clamped_trees g)
 clamped_trees-joined empty g = refl
 clamped_trees-joined (atom at a f) g = ap (atom at (clamped_atom a)) (clamped_trees-joined f g)
 clamped_trees-joined (text at s f) g = ap (text at (clamped_string s)) (clamped_trees-joined f g)
@@ -96,7 +97,8 @@ both : {A : Type 0} (xs ys : List A) → xs ≡ [] → ys ≡ [] → xs ++ ys �
 both xs ys h k = rw (h, k)
 
 -- No token is oversized if none is in the program and none in the script.
-pub none_beyond : (f : Forest) → oversized_offsets (program_trees f) ≡ [] → oversized_offsets (script_trees f) ≡ [] → oversized_offsets f ≡ []
+pub none_beyond : (f : Forest) → oversized_offsets (program_trees f) ≡ [] → oversized_offsets (script_trees f) ≡ []
+    → oversized_offsets f ≡ []
 none_beyond empty h k = refl
 none_beyond (atom at a f) h k =
     let n = none_in (offset_if (is_oversized_atom a) at) (oversized_offsets (program_trees f)) h in
@@ -106,12 +108,14 @@ none_beyond (text at s f) h k =
     both (offset_if (is_oversized_string s) at) (oversized_offsets f) n.0 (none_beyond f n.1 k)
 none_beyond (list at i f) h k = by (is_do i) (none_beyond f) h k
   where
-    by : (b : Bool) → (oversized_offsets (program_trees f) ≡ [] → oversized_offsets (script_trees f) ≡ [] → oversized_offsets f ≡ [])
+    by : (b : Bool) → (oversized_offsets (program_trees f) ≡ [] → oversized_offsets (script_trees f) ≡ []
+        → oversized_offsets f ≡ [])
         → oversized_offsets (if b then empty else list at i (program_trees f)) ≡ []
         → oversized_offsets (if b then list at i f else script_trees f) ≡ [] → oversized_offsets (list at i f) ≡ []
     by true more h k = k
     by false more h k =
-        let n = none_in (offset_if (is_oversized_list i) at ++ oversized_offsets i) (oversized_offsets (program_trees f)) h in
+        let n = none_in (offset_if (is_oversized_list i) at ++ oversized_offsets i)
+        (oversized_offsets (program_trees f)) h in
         both (offset_if (is_oversized_list i) at ++ oversized_offsets i) (oversized_offsets f) n.0 (more n.1 k)
 
 pub small_trees_stay : SmallTreesStay

@@ -29,18 +29,22 @@ view_drop ts i t lt e =
     ap forest_view (drop-cons ts i t lt) ∙ ap (λ u. joined_trees (tree_view u) (forest_view (drop (suc i) ts))) (sym e)
     ∙ ap (λ n. joined_trees (tree_view t) (forest_view (drop n ts))) (sym (add-one i))
 
-pub oversized_offsets-joined : (f g : Forest) → oversized_offsets (joined_trees f g) ≡ oversized_offsets f ++ oversized_offsets g
+pub oversized_offsets-joined : (f g : Forest)
+    → oversized_offsets (joined_trees f g) ≡ oversized_offsets f ++ oversized_offsets g
 oversized_offsets-joined empty g = refl
-oversized_offsets-joined (atom at a f) g = ap (λ l. offset_if (is_oversized_atom a) at ++ l) (oversized_offsets-joined f g)
+oversized_offsets-joined (atom at a f) g =
+    ap (λ l. offset_if (is_oversized_atom a) at ++ l) (oversized_offsets-joined f g)
     ∙ sym (append_assoc (offset_if (is_oversized_atom a) at) (oversized_offsets f) (oversized_offsets g))
-oversized_offsets-joined (text at s f) g = ap (λ l. offset_if (is_oversized_string s) at ++ l) (oversized_offsets-joined f g)
+oversized_offsets-joined (text at s f) g =
+    ap (λ l. offset_if (is_oversized_string s) at ++ l) (oversized_offsets-joined f g)
     ∙ sym (append_assoc (offset_if (is_oversized_string s) at) (oversized_offsets f) (oversized_offsets g))
 oversized_offsets-joined (list at i f) g = rw (oversized_offsets-joined f g) (simp append_assoc)
 
 -- The oversized tokens of one tree, and of those after it.
 pub beyond_step : (ts : List Tree) (i : ℕ) (t : Tree) (o : Option ℕ) → i < length ts → t ≡ get_or ts i t →
     least_offset_from o (oversized_offsets (forest_view (drop i ts)))
-    ≡ least_offset_from (least_offset_from o (oversized_offsets (tree_view t))) (oversized_offsets (forest_view (drop (i + 1) ts)))
+    ≡ least_offset_from (least_offset_from o (oversized_offsets (tree_view t)))
+    (oversized_offsets (forest_view (drop (i + 1) ts)))
 beyond_step ts i t o lt e =
     ap (λ (f : Forest). least_offset_from o (oversized_offsets f)) (view_drop ts i t lt e)
     ∙ ap (least_offset_from o) (oversized_offsets-joined (tree_view t) (forest_view (drop (i + 1) ts)))

@@ -16,4 +16,5 @@ NoLeastNoOffset = (offsets : List ℕ) → least offsets ≡ None → offsets �
 
 -- A forest without oversized tokens, in the program and in the script, stays as it is.
 abbrev pub SmallTreesStay : Type 0
-SmallTreesStay = (f : Forest) → oversized_offsets (program_trees f) ≡ [] → oversized_offsets (script_trees f) ≡ [] → clamped_trees f ≡ f
+SmallTreesStay = (f : Forest) → oversized_offsets (program_trees f) ≡ [] → oversized_offsets (script_trees f) ≡ [] →
+    clamped_trees f ≡ f

@@ -5,5 +5,6 @@ use Rattle.lang_limits.specs.Clamped.{clamped_trees}
 use Rattle.lang_limits.proofs.clamping.+copies.Given as goal
 
 abbrev pub invariant-clamped_trees-loop-tree : goal.invariant-clamped_trees-loop-tree
-invariant-clamped_trees-loop-tree l = joined_trees (forest_view l.out.items) (clamped_trees (forest_view (drop l.tree-index l.trees)))
+invariant-clamped_trees-loop-tree l =
+    joined_trees (forest_view l.out.items) (clamped_trees (forest_view (drop l.tree-index l.trees)))
     ≡ clamped_trees (forest_view l.trees)
