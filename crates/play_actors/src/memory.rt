@@ -81,7 +81,7 @@ impl<'p> ActorMemory<'p> {
         })
     }
 
-    /// Returns the call that a part makes, if it makes one.
+    /// Returns the call that a part makes, if it makes one. Out of memory only for the value of a write.
     pub fn request_for(
         &self,
         alloc: Global,
@@ -140,7 +140,8 @@ impl<'p> ActorMemory<'p> {
         }
     }
 
-    /// Notes the reply to the call of a part.
+    /// Notes the reply to the call of a part. Out of memory only for the take of a new name. The actor must make no
+    /// further part then, since the numbers of its names are not known.
     pub fn note(&mut self, alloc: Global, part: &StepPart<'_>, reply: Reply) -> Result<(), NoMemory>
         ensures { (n : Notes) → IsNoted self.old n →
             OnOk result (IsNoted self.new (notes_after n (part_of part.now) reply)) }

@@ -152,8 +152,8 @@ KeepsNames BeginFrame = ⊥
 KeepsNames EndFrame = ⊥
 KeepsNames _ = Unit {0}
 
--- The run of the parts after the state `r` stopped. The log grew by the calls of the parts `whole` and of at most one
--- part more, and then by no call that is printed. The lines of the parts `whole` were written.
+-- The run of the parts after the state `r` stopped. The printed calls in the log are those of the parts `whole` and of
+-- at most one part more. The lines of the parts `whole` were written.
 pub record StopsAt (style : LineStyle) (functions : List Func) (parts : List ActorPart) (now : Option (List Entry))
     (written written' : Option (List ℕ)) (r : Run) : Type 0 where
   pub whole : List ActorPart
