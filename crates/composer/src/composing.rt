@@ -23,39 +23,40 @@ use crate::old_groups::OldGroup;
 use crate::owed::Owed;
 use crate::pending::Pending;
 use crate::runs::{is_end, quiet_end};
+use crate::spares::Spares;
 use crate::stop::ComposeStop;
 use crate::writer::{CallArguments, NewKind, Writer};
 use group_keys::SiblingKey;
 use lang_ast::{Expression, Function, Ident, Named, Statement};
 use lang_checks::Checked;
 use lang_meaning::{Env, bind, eval_noting, evaluate_all, evaluate_attributes, evaluate_keys};
-use rt_groups::{Attributes, Deps, GroupKind, Values};
+use rt_groups::{Deps, GroupKind, Values};
 use rt_values::{NoMemory, Steps, Value, View};
 use slot_table::Table;
 use std::alloc::Global;
 use std::mem;
 use std::sync::ledger::Ledger;
 
-/// Where statements are composed: the functions that their calls reach, the groups of the last frame, what is owed, and
-/// the depth of the new groups.
+/// Where statements are composed: the functions that their calls reach, the groups of the last frame, what is owed,
+/// lists whose memory is used again, and the depth of the new groups.
 #[derive(Clone, Copy)]
 pub struct Level<'a> {
     pub alloc: Global,
     pub functions: &'a [Function],
     pub table: &'a Table,
     pub owed: &'a Owed,
+    pub spares: &'a Spares,
     pub depth: u32,
 }
 
 /// What composing has made so far: the variables in scope, the old siblings that are not matched yet, the reads of the
-/// innermost call, the groups, and a list for the attributes of the next node.
+/// innermost call, the groups.
 #[derive(Drop)]
 pub struct Progress<'a> {
     pub scope: Env,
     pub pending: Pending<'a>,
     pub reads: Deps,
     pub writer: Writer,
-    pub room: Option<Attributes>,
 }
 
 /// What a cell remembers: the keys and the calculation of a `remember` at a site.
@@ -187,7 +188,8 @@ fn run_group<'a, V: View, L: Ledger>(
     let found = made
         .pending
         .take(level.alloc, &SiblingKey::new(site, what.key()))?;
-    made.writer.enter(level.alloc, level.depth, site, what, &found, &mut made.room)?;
+    made.writer
+        .enter(level.alloc, level.depth, site, what, &found, level.spares)?;
     if body.is_empty() {
         return Ok(());
     }
@@ -196,6 +198,7 @@ fn run_group<'a, V: View, L: Ledger>(
         functions: level.functions,
         table: level.table,
         owed: level.owed,
+        spares: level.spares,
         depth: level.depth + 1,
     };
     let within = Pending::inside_found(level.table, &found);
@@ -224,7 +227,7 @@ fn run_node<'a, V: View, L: Ledger>(
         (λ calc. StmtsCalculate calc (stmts_view body.now))
         view.old view.new made.old made.new result }
 {
-    let room = take_room(level.alloc, &mut made.room, attributes.len())?;
+    let room = level.spares.take_attributes(level.alloc, attributes.len())?;
     let attributes = evaluate_attributes(
         level.alloc,
         room,
@@ -238,18 +241,6 @@ fn run_node<'a, V: View, L: Ledger>(
         attributes,
     };
     run_group(level, site, node, body, made, view, steps)
-}
-
-// Returns the list that was kept for attributes, or a new one with capacity for `count` of them.
-fn take_room(
-    alloc: Global,
-    room: &mut Option<Attributes>,
-    count: usize,
-) -> Result<Attributes, NoMemory> {
-    match room.take() {
-        Some(room) => Ok(room),
-        None => Attributes::with_room(alloc, count),
-    }
 }
 
 // Composes a key: evaluates it, and composes its group.
@@ -436,13 +427,28 @@ fn run_remember<'a, V: View, L: Ledger>(
         (expr_view cell.entry.value.now) × StmtsCalculate calc (stmts_view body.now))
         view.old view.new made.old made.new result }
 {
-    let env = evaluate_keys(level.alloc, cell.keys, &made.scope, view, &mut made.reads)?;
+    let room = level.spares.take_scope(level.alloc);
+    let env = evaluate_keys(
+        level.alloc,
+        room,
+        cell.keys,
+        &made.scope,
+        view,
+        &mut made.reads,
+    )?;
     let found = made
         .pending
         .take(level.alloc, &SiblingKey::new(cell.site, None))?;
     let value = remember(level.alloc, &found, &env, cell.value, view, &mut made.reads)?;
-    made.writer
-        .enter_cell(level.alloc, level.depth, cell.site, env, &value, &found)?;
+    made.writer.enter_cell(
+        level.alloc,
+        level.spares,
+        level.depth,
+        cell.site,
+        env,
+        &value,
+        &found,
+    )?;
     run_bound(level, name, value, body, made, view, steps)
 }
 
@@ -463,7 +469,15 @@ fn run_arguments<'a, V: View, L: Ledger>(
         (λ vs. call_at level.now site function vs m)) any_calculation
         view.old view.new made.old made.new result }
 {
-    let arguments = evaluate_all(level.alloc, arguments, &made.scope, view, &mut made.reads)?;
+    let all = level.spares.take_values(level.alloc, arguments.len())?;
+    let arguments = evaluate_all(
+        level.alloc,
+        all,
+        arguments,
+        &made.scope,
+        view,
+        &mut made.reads,
+    )?;
     run_call(level, site, function, arguments, made, view, steps)
 }
 
@@ -508,6 +522,7 @@ fn run_call<'a, V: View, L: Ledger>(
             .enter_call(level.alloc, level.depth, site, call, false)?;
         return Ok(());
     }
+    level.spares.keep_values(level.alloc, arguments);
     match &found {
         Some(old) => skip_group(level, site, old, &mut made.writer, view, steps),
         None => Err(ComposeStop::NoMemory), // A call without an old group runs.
@@ -538,31 +553,33 @@ fn run_body<'a, V: View, L: Ledger>(
         return Ok(());
     }
     let callee = &level.functions[function];
-    let scope = bind(level.alloc, &callee.parameters, arguments.values())?;
+    let room = level.spares.take_scope(level.alloc);
+    let scope = bind(level.alloc, room, &callee.parameters, arguments.values())?;
     let pending = Pending::inside_found(level.table, found);
     let place = writer.len();
     let first = arguments.first_reads(found);
     writer.enter_running(level.alloc, level.depth, site, function, arguments, found)?;
     let taken = mem::replace(writer, Writer::new(level.alloc, 0));
-    let reads = Deps::new(level.alloc);
+    let reads = level.spares.take_reads(level.alloc);
     let mut inner = Progress {
         scope,
         pending,
         reads,
         writer: taken,
-        room: None,
     };
     let inside = Level {
         alloc: level.alloc,
         functions: &level.functions[..function],
         table: level.table,
         owed: level.owed,
+        spares: level.spares,
         depth: level.depth + 1,
     };
     run_all(&inside, &callee.body, &mut inner, view, steps)?;
+    level.spares.keep_scope(level.alloc, inner.scope);
     let own = inner.reads;
     let mut written = inner.writer;
-    written.end_call(level.alloc, place, first, own)?;
+    written.end_call(level.alloc, level.spares, place, first, own)?;
     *writer = written;
     Ok(())
 }
@@ -613,6 +630,7 @@ fn skip_group<'a, V: View, L: Ledger>(
                 functions: front(level.functions, *function),
                 table: level.table,
                 owed: level.owed,
+                spares: level.spares,
                 depth: level.depth + 1,
             };
             skip_all(
@@ -652,6 +670,7 @@ fn skip_inside<'a, V: View, L: Ledger>(
         functions: level.functions,
         table: level.table,
         owed: level.owed,
+        spares: level.spares,
         depth: level.depth + 1,
     };
     skip_all(
@@ -737,11 +756,13 @@ fn write_frame<V: View, L: Ledger>(
         (λ m. FrameWritten program.now table.now.groups owed.now m (V.asked view.old) (V.asked view.new) writer.old
         writer.new result) }
 {
+    let spares = Spares::new(alloc);
     let level = Level {
         alloc,
         functions: program.functions(),
         table,
         owed,
+        spares: &spares,
         depth: 0,
     };
     if owed.is_all() {

@@ -16,6 +16,7 @@ mod old_groups;
 mod owed;
 mod pending;
 mod runs;
+mod spares;
 mod stop;
 mod writer;
 

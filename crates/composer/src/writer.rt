@@ -14,6 +14,7 @@ ghost use Rattle.composer.specs.WrittenGroups.{group_kind, arguments_of, AreArgu
 use crate::compared::{has_other_keys, is_same_key, is_same_node, same_reads};
 use crate::draft::Draft;
 use crate::old_groups::OldGroup;
+use crate::spares::Spares;
 use crate::stop::ComposeStop;
 use lang_meaning::Env;
 use rt_groups::{Attribute, Attributes, Deps, Group, GroupKind, Report, Values};
@@ -159,6 +160,7 @@ impl Writer {
     }
 
     // Appends a group. Fails if there are 1,000,000 groups already.
+    #[inline(always)]
     fn push(&mut self, group: SharedGroup) -> Result<(), ComposeStop>
         requires { length self.old.groups ≤ most_groups }
         ensures added { OnOk result (self.new ≡ record {
@@ -178,7 +180,7 @@ impl Writer {
     }
 
     /// Appends a node or a key that is matched with `found`. A node gets the number of `found`, or the next number.
-    /// Keeps the list of the attributes in `room` if the group does not need it.
+    /// The list of the attributes is spare if the group does not need it.
     pub fn enter(
         &mut self,
         alloc: Global,
@@ -186,7 +188,7 @@ impl Writer {
         site: u32,
         what: NewKind,
         found: &Option<OldGroup>,
-        room: &mut Option<Attributes>,
+        spares: &Spares,
     ) -> Result<(), ComposeStop>
         requires { length self.old.groups ≤ most_groups }
         ensures entered { OnOk result (self.new ≡ enter_group depth site (group_kind what.entry) found.now self.old) }
@@ -196,7 +198,7 @@ impl Writer {
         match what {
             NewKind::Node { kind, attributes } => {
                 let (number, next) = node_number(found, self.next)?;
-                let group = matched_node(alloc, kind, attributes, found, room)?;
+                let group = matched_node(alloc, kind, attributes, found, spares)?;
                 self.push(group.placed(depth, site, number))?;
                 self.next = next;
                 Ok(())
@@ -213,6 +215,7 @@ impl Writer {
     pub fn enter_cell(
         &mut self,
         alloc: Global,
+        spares: &Spares,
         depth: u32,
         site: u32,
         keys: Env,
@@ -227,6 +230,7 @@ impl Writer {
     {
         if let Some(old) = found {
             if is_cell_of(old, &keys, value) {
+                spares.keep_scope(alloc, keys);
                 return self.push(old.share()?.placed(depth, site, 0));
             }
         }
@@ -378,6 +382,7 @@ impl Writer {
     pub fn end_call(
         &mut self,
         alloc: Global,
+        spares: &Spares,
         place: usize,
         first: &[ObjectNo],
         own: Deps,
@@ -395,7 +400,9 @@ impl Writer {
         let Some(reads) = self.reads.checked_add(own.numbers().len() as u64) else {
             return Err(NoMemory); // No memory holds so many reads.
         };
-        if !same_reads(first, own.numbers()) {
+        if same_reads(first, own.numbers()) {
+            spares.keep_reads(alloc, own);
+        } else {
             self.groups.set_reads(alloc, place, own)?;
         }
         self.reads = reads;
@@ -404,6 +411,7 @@ impl Writer {
 }
 
 // Returns a group without reads, which has no place yet.
+#[inline(always)]
 fn new_group(alloc: Global, what: GroupKind) -> Result<SharedGroup, NoMemory>
     ensures kind { IfOk result (λ g. g.what ≡ what) }
     ensures reads { IfOk result (λ g. g.reads ≡ []) }
@@ -418,21 +426,21 @@ fn new_group(alloc: Global, what: GroupKind) -> Result<SharedGroup, NoMemory>
     SharedGroup::new(alloc, group)
 }
 
-// Returns a node without reads. It shares the slots of `found` if they are equal, and then keeps the list of the
-// attributes in `room`.
+// Returns a node without reads. It shares the slots of `found` if they are equal. The list of the attributes is spare
+// then.
 fn matched_node(
     alloc: Global,
     kind: &Word,
     attributes: Attributes,
     found: &Option<OldGroup>,
-    room: &mut Option<Attributes>,
+    spares: &Spares,
 ) -> Result<SharedGroup, NoMemory>
     ensures kind { IfOk result (λ g. g.what ≡ kinds.Node kind.now attributes) }
     ensures reads { IfOk result (λ g. g.reads ≡ []) }
 {
     if let Some(old) = found {
         if is_node_of(old, kind, attributes.items()) {
-            *room = Some(attributes);
+            spares.keep_attributes(alloc, attributes);
             return old.share();
         }
     }

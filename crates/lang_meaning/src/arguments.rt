@@ -14,11 +14,12 @@ use rt_groups::{Attribute, Attributes, Values};
 use rt_values::{NoMemory, Objects, View};
 use std::alloc::Global;
 
-/// Evaluates expressions from left to right, and appends their reads to `reads`. After `NoMemory` `reads` has no
-/// meaning.
+/// Evaluates expressions from left to right, and appends their reads to `reads`. Uses `room` as a scratch buffer. After
+/// `NoMemory` `reads` has no meaning.
 #[tactic(auto, using(crate::proofs::Operands::evaluation, crate::proofs::Operands::all_part))]
 pub fn evaluate_all<V: View>(
     alloc: Global,
+    room: Values,
     expressions: &[Expression],
     scope: &Env,
     view: &mut V,
@@ -37,7 +38,8 @@ pub fn evaluate_all<V: View>(
         OnErr result (Grew (V.asked view.old) (V.asked view.new)
         (eval_all m (exprs_view expressions.now) scope.now).reads) }
 {
-    let mut values = Values::with_room(alloc, expressions.len())?;
+    let mut values = room;
+    values.clear();
     for expression in expressions {
         values.push(eval_noting(alloc, expression, scope, view, reads)?)?;
     }
@@ -45,10 +47,11 @@ pub fn evaluate_all<V: View>(
 }
 
 /// Evaluates keys from left to right, and appends their reads to `reads`. Returns the scope in which the value of a
-/// cell is calculated. After `NoMemory` `reads` has no meaning.
+/// cell is calculated. Uses `room` as a scratch buffer. After `NoMemory` `reads` has no meaning.
 #[tactic(auto, using(crate::proofs::Operands::evaluation, crate::proofs::Operands::named_part))]
 pub fn evaluate_keys<V: View>(
     alloc: Global,
+    room: Env,
     keys: &[Named],
     scope: &Env,
     view: &mut V,
@@ -67,7 +70,8 @@ pub fn evaluate_keys<V: View>(
         OnErr result (Grew (V.asked view.old) (V.asked view.new)
         (eval_named m (nameds_view keys.now) scope.now).reads) }
 {
-    let mut env = Env::new(alloc);
+    let mut env = room;
+    env.clear();
     for key in keys {
         let value = eval_noting(alloc, &key.value, scope, view, reads)?;
         env.push(key.name.text.copy()?, value)?;
@@ -110,12 +114,19 @@ pub fn evaluate_attributes<V: View>(
     Ok(all)
 }
 
-/// Returns the scope with each parameter and its argument, up to the end of the shorter list.
+/// Returns the scope with each parameter and its argument, up to the end of the shorter list. Uses `room` as a scratch
+/// buffer.
 #[tactic(auto, using(crate::proofs::Lookups::bind_none))]
-pub fn bind(alloc: Global, parameters: &[Parameter], arguments: &Values) -> Result<Env, NoMemory>
+pub fn bind(
+    alloc: Global,
+    room: Env,
+    parameters: &[Parameter],
+    arguments: &Values,
+) -> Result<Env, NoMemory>
     ensures { IfOk result (λ s. s ≡ bind parameters.now arguments.now) }
 {
-    let mut scope = Env::new(alloc);
+    let mut scope = room;
+    scope.clear();
     let mut rest = arguments.items();
     for parameter in parameters {
         let Some((argument, more)) = rest.split_first() else {

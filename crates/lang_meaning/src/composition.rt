@@ -355,7 +355,8 @@ fn run_remember<V: View>(
         (Remember 0 site name.now (nameds_view keys.now) (expr_view value.now) (stmts_view body.now)) made.old.scope)
         view.old view.new made.old made.new result }
 {
-    let keys = evaluate_keys(level.alloc, keys, &made.scope, view, &mut made.reads)?;
+    let room = Env::new(level.alloc);
+    let keys = evaluate_keys(level.alloc, room, keys, &made.scope, view, &mut made.reads)?;
     let value = eval_noting(level.alloc, value, &keys, view, &mut made.reads)?;
     let keys = keys.into_values(level.alloc)?;
     let copy = value.copy(level.alloc)?;
@@ -380,7 +381,15 @@ fn run_arguments<V: View>(
         (λ vs. call_at level.now site function vs m))
         view.old view.new made.old made.new result }
 {
-    let arguments = evaluate_all(level.alloc, arguments, &made.scope, view, &mut made.reads)?;
+    let all = Values::new(level.alloc);
+    let arguments = evaluate_all(
+        level.alloc,
+        all,
+        arguments,
+        &made.scope,
+        view,
+        &mut made.reads,
+    )?;
     run_call(level, site, function, arguments, made, view)
 }
 
@@ -409,7 +418,8 @@ fn run_call<V: View>(
         return Ok(());
     }
     let callee = &level.functions[function];
-    let scope = bind(level.alloc, &callee.parameters, &arguments)?;
+    let room = Env::new(level.alloc);
+    let scope = bind(level.alloc, room, &callee.parameters, &arguments)?;
     let reads = Objects::new(level.alloc);
     let groups = mem::replace(&mut made.groups, Groups::new(level.alloc));
     let mut inner = Progress {

@@ -37,6 +37,7 @@ impl Env {
     }
 
     /// Appends a variable. After `NoMemory` the scope is unchanged.
+    #[inline(always)]
     pub fn push(&mut self, name: Word, value: Value) -> Result<(), NoMemory>
         ensures ok { OnOk result (self.new ≡ self.old ++ new_binding name value ∷ []) }
         ensures err { OnErr result (self.new ≡ self.old) }
@@ -45,7 +46,16 @@ impl Env {
         Ok(())
     }
 
+    /// Removes all variables and keeps the capacity.
+    #[inline(always)]
+    pub fn clear(&mut self)
+        ensures { self.new ≡ [] }
+    {
+        self.bindings.clear();
+    }
+
     /// Removes the latest variable, if there is one. An empty scope stays empty.
+    #[inline(always)]
     pub fn pop(&mut self)
         ensures last { (bindings : List Binding) (b : Binding) → self.old ≡ bindings ++ b ∷ [] → self.new ≡ bindings }
         ensures none { self.old ≡ [] → self.new ≡ [] }

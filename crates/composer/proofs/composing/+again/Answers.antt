@@ -843,6 +843,19 @@ run_remember-returns g t c = record {
 
 -- A call.
 
+pub run_arguments-returns-in_err-all : goal.run_arguments-returns-in_err-all
+run_arguments-returns-in_err-all g t c = record {
+  keeps = search (rules, g.met.V.View.keeps_on, g.met.V.View.keeps_itself);
+  same = search rules;
+  same_scope = search rules;
+  longer = search rules;
+  fits = search rules;
+  counted = λ m h. search rules;
+  ran = λ m o h b calc.
+      let e : c.from_residual.result ≡ Err NoMemory = search rules in
+      beside_stop_here _ e refl;
+}
+
 pub run_arguments-returns-in_err-arguments : goal.run_arguments-returns-in_err-arguments
 run_arguments-returns-in_err-arguments g t c = record {
   keeps = search (rules, g.met.V.View.keeps_on, g.met.V.View.keeps_itself);
@@ -852,7 +865,7 @@ run_arguments-returns-in_err-arguments g t c = record {
   fits = search rules;
   counted = λ m h. search rules;
   ran = λ m o h b calc.
-      let e : c.from_residual.result ≡ Err NoMemory = search rules in
+      let e : c.from_residual-in_err-arguments.result ≡ Err NoMemory = search rules in
       let p = c.in_err-arguments.ensures.part m h in
       beside_stop_after _ _ _ e p.rest p.is;
 }
@@ -1111,7 +1124,7 @@ run_body-returns-in_err-run_all g t c = record {
       let start : c.replace-taken.result ≡ c.enter_running.new.self = search rules in
       let at = reached_at (ap (λ (tr : GroupForest). composed_beside c.args.level.now.owed.now.objects (inside_of there)
       (c.args.level.now.depth + 1) true [] tr
-      (state_of c.replace-taken.result (g.V.View.asked c.args.view.now) c.new-reads.result)) (sym body))
+      (state_of c.replace-taken.result (g.V.View.asked c.args.view.now) c.take_reads-reads.result)) (sym body))
       r.reached in
       let entered_is = start ∙ c.in_ok-enter_running.ensures.added in
       let e : c.from_residual-in_err-run_all.result ≡ Err c.in_err-run_all.field-0.0 = search rules in
@@ -1119,8 +1132,8 @@ run_body-returns-in_err-run_all g t c = record {
       (arguments_of c.args.arguments) (meaning_at (meanings m (functions_view c.args.level.now.functions.now))
       c.args.function (arguments_of c.args.arguments)) c.args.writer.now c.replace-taken.result
       c.run_all.new.made.writer (g.V.View.asked c.args.view.now) (g.V.View.asked c.run_all.new.view) mine
-      c.run_all.new.made.reads c.new-reads.result (first_reads c.args.arguments c.args.found.now) _ _
-      c.new-reads.ensures entered_is at e refl;
+      c.run_all.new.made.reads c.take_reads-reads.result (first_reads c.args.arguments c.args.found.now) _ _
+      c.take_reads-reads.ensures entered_is at e refl;
 }
 
 pub run_body-returns-in_err-end_call : goal.run_body-returns-in_err-end_call
@@ -1153,7 +1166,7 @@ run_body-returns-in_err-end_call g t c = record {
       let start : c.replace-taken.result ≡ c.enter_running.new.self = search rules in
       let at = reached_at (ap (λ (tr : GroupForest). composed_beside c.args.level.now.owed.now.objects (inside_of there)
       (c.args.level.now.depth + 1) true [] tr
-      (state_of c.replace-taken.result (g.V.View.asked c.args.view.now) c.new-reads.result)) (sym body))
+      (state_of c.replace-taken.result (g.V.View.asked c.args.view.now) c.take_reads-reads.result)) (sym body))
       r.reached in
       let entered_is = start ∙ c.in_ok-enter_running.ensures.added in
       let e : c.from_residual-in_err-end_call.result ≡ Err NoMemory = search rules in
@@ -1162,7 +1175,7 @@ run_body-returns-in_err-end_call g t c = record {
       (meaning_at (meanings m (functions_view c.args.level.now.functions.now)) c.args.function
       (arguments_of c.args.arguments)) c.args.writer.now c.replace-taken.result c.run_all.new.made.writer
       (g.V.View.asked c.args.view.now) (g.V.View.asked c.run_all.new.view) mine c.run_all.new.made.reads
-      c.new-reads.result (first_reads c.args.arguments c.args.found.now) c.new-reads.ensures entered_is at);
+      c.take_reads-reads.result (first_reads c.args.arguments c.args.found.now) c.take_reads-reads.ensures entered_is at);
 }
 
 pub run_body-returns : goal.run_body-returns
@@ -1176,7 +1189,7 @@ run_body-returns g t c = record {
   fits = let e = c.in_ok-end_call.ensures.len in omega (arith, e, c.in_ok-run_all.ensures.fits);
   counted = λ m h. let start : c.replace-taken.result ≡ c.enter_running.new.self = search rules in
       let a = ap (λ (q : WrittenGroups). q.reads) (start ∙ c.in_ok-enter_running.ensures.added) in
-      let n = ap (λ (l : List ℕ). length l) c.new-reads.ensures in let f = c.in_ok-run_all.ensures.counted m h in
+      let n = ap (λ (l : List ℕ). length l) c.take_reads-reads.ensures in let f = c.in_ok-run_all.ensures.counted m h in
       let e = c.in_ok-end_call.ensures.reads in omega (arith, a, n, e, f);
   ran = λ m h l there mine since part like.
       let below : c.args.function < length c.args.level.now.functions.now = omega arith in
@@ -1201,16 +1214,16 @@ run_body-returns g t c = record {
       let start : c.replace-taken.result ≡ c.enter_running.new.self = search rules in
       let at = reached_at (ap (λ (tr : GroupForest). composed_beside c.args.level.now.owed.now.objects (inside_of there)
       (c.args.level.now.depth + 1) true [] tr
-      (state_of c.replace-taken.result (g.V.View.asked c.args.view.now) c.new-reads.result)) (sym body))
+      (state_of c.replace-taken.result (g.V.View.asked c.args.view.now) c.take_reads-reads.result)) (sym body))
       r.reached in
       let entered_is = start ∙ c.in_ok-enter_running.ensures.added in
       body_done c.args.level.now.owed.now.objects (inside_of there) c.args.level.now.depth c.args.site c.args.function
       (arguments_of c.args.arguments) (meaning_at (meanings m (functions_view c.args.level.now.functions.now))
       c.args.function (arguments_of c.args.arguments)) c.args.writer.now c.replace-taken.result
       c.run_all.new.made.writer c.end_call.new.self (g.V.View.asked c.args.view.now)
-      (g.V.View.asked c.run_all.new.view) mine c.run_all.new.made.reads c.new-reads.result
+      (g.V.View.asked c.run_all.new.view) mine c.run_all.new.made.reads c.take_reads-reads.result
       (first_reads c.args.arguments c.args.found.now)
-      c.new-reads.ensures entered_is at
+      c.take_reads-reads.ensures entered_is at
       (λ before behind y e is reads. c.in_ok-end_call.ensures.groups before behind y (e ∙ sym c.len-place.ensures) is
       (reads ∙ sym c.first_reads-first.ensures))
       (c.in_ok-end_call.ensures.next, c.in_ok-end_call.ensures.ran, c.in_ok-end_call.ensures.calculated);
