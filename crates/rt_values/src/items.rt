@@ -46,6 +46,7 @@ impl<T: Drop> Items<T> {
     }
 
     /// Appends `item`. After `NoMemory` the list is unchanged.
+    #[inline(always)]
     pub fn push(&mut self, item: T) -> Result<(), NoMemory>
         ensures ok { OnOk result (self.new ≡ self.old ++ item ∷ []) }
         ensures err { OnErr result (self.new ≡ self.old) }

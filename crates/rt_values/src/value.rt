@@ -70,7 +70,7 @@ impl Value {
     }
 
     /// Returns a copy. Copying a number or a truth value takes no memory.
-    #[inline]
+    #[inline(always)]
     pub fn copy(&self, alloc: Global) -> Result<Value, NoMemory>
         ensures same { IfOk result (λ v. v ≡ self.now) }
         ensures flat { is_flat self.now ≡ true → OnErr result ⊥ }
@@ -84,6 +84,7 @@ impl Value {
     }
 
     /// Returns whether both values are equal, as `structuralEqualityPolicy` tests it. Values of two types differ.
+    #[inline(always)]
     pub fn same(&self, other: &Value) -> bool
         ensures value { result ≡ same_value self.now other.now }
         ensures equal { (result ≡ true) ↔ (self.now ≡ other.now) }

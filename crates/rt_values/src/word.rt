@@ -57,7 +57,7 @@ impl Word {
     }
 
     /// Returns the bytes.
-    #[inline]
+    #[inline(always)]
     pub fn bytes(&self) -> &[u8]
         ensures { result.now ≡ self.now }
     {
@@ -68,7 +68,7 @@ impl Word {
     }
 
     /// Returns a copy. A word of more than 14 bytes shares its bytes with the copy.
-    #[inline]
+    #[inline(always)]
     pub fn copy(&self) -> Result<Self, NoMemory>
         ensures { IfOk result (λ w. w ≡ self.now) }
     {
@@ -83,9 +83,28 @@ impl Word {
     }
 
     /// Returns whether the word has exactly these bytes.
+    #[inline(always)]
     pub fn is(&self, bytes: &[u8]) -> bool
         ensures { result ≡ bytes_eq self.now bytes.now }
     {
-        self.bytes() == bytes
+        same_bytes(self.bytes(), bytes)
     }
+}
+
+// Returns whether both lists have the same bytes. Words are short, so a plain loop is cheaper than a call.
+#[inline(always)]
+fn same_bytes(a: &[u8], b: &[u8]) -> bool
+    ensures { result ≡ bytes_eq a.now b.now }
+{
+    if a.len() != b.len() {
+        return false;
+    }
+    let mut place = 0;
+    while place < a.len() {
+        if a[place] != b[place] {
+            return false;
+        }
+        place += 1;
+    }
+    true
 }
