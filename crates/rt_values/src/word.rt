@@ -91,13 +91,17 @@ impl Word {
     }
 }
 
-// Returns whether both lists have the same bytes. Words are short, so a plain loop is cheaper than a call.
+// Returns whether both lists have the same bytes. For words of at most four bytes a plain loop is cheaper than the
+// comparison of slices.
 #[inline(always)]
 fn same_bytes(a: &[u8], b: &[u8]) -> bool
     ensures { result ≡ bytes_eq a.now b.now }
 {
     if a.len() != b.len() {
         return false;
+    }
+    if a.len() > 4 {
+        return a == b;
     }
     let mut place = 0;
     while place < a.len() {
