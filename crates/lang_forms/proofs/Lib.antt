@@ -14,3 +14,4 @@ pub mod Limits
 pub mod Firsts
 pub mod ByForms
 pub mod Bindings
+pub mod StatementHeads

@@ -18,6 +18,7 @@ mod parse_program;
 mod partial_source;
 mod plain_steps;
 mod script;
+mod statement_heads;
 mod statements;
 mod stop;
 mod top_forms;

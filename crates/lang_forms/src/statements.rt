@@ -1,14 +1,14 @@
 // The parser of statements.
-ghost use Rattle.std.specs.Prelude.{◌≡◌, ◌≢◌, ◌+◌, ◌≤◌, Err, IfOk, codes, map};
+ghost use Rattle.std.specs.Prelude.{◌≡◌, ◌≢◌, ◌+◌, ◌≤◌, Err, IfOk, map};
 ghost use Rattle.lang_ast.specs.SyntaxView.{stmt_view};
-ghost use Rattle.lang_forms.specs.Readings.{stmt_at, stmts_of, block_of, node_form, call_form, key_form, if_form, for_form, let_form, remember_form, stmt_form};
+ghost use Rattle.lang_forms.specs.Readings.{stmt_at, stmts_of, block_of, call_form, stmt_form};
+ghost use Rattle.lang_forms.specs.StatementHeads.{body_form, branches_of, branch_form};
 ghost use Rattle.lang_forms.specs.Views.{widest, seen_tree, seen_all, known_names_view, Reads};
 
-use crate::cursor::{is_at_end, parse_name, skip_keyword};
-use crate::expressions::{
-    parse_binding, parse_expressions, parse_first_expression, parse_named_pairs,
-};
+use crate::cursor::{is_at_end, parse_name};
+use crate::expressions::{parse_expressions, parse_first_expression};
 use crate::known_names::{KnownNames, function_number};
+use crate::statement_heads::{BodyWord, StatementWord, add_body, parse_head, parse_statement_word};
 use crate::stop::ParseStop;
 use lang_ast::Statement;
 use sexp_text::Tree;
@@ -74,7 +74,7 @@ fn parse_statement(
 }
 
 // Parses a list as a statement, and returns the number of the next statement.
-#[tactic(auto, unfolding(crate::specs::Readings::stmt_form))]
+#[tactic(auto, using(crate::proofs::StatementHeads::stmt_form_none))]
 #[cycle(statements)]
 fn parse_statement_list(
     alloc: Global,
@@ -86,85 +86,37 @@ fn parse_statement_list(
     ensures { Reads (λ p. (stmt_view p.0, p.1)) result
         (stmt_form (known_names_view known.now) site at (seen_all trees.now)) }
 {
-    if let Some(rest) = skip_keyword(b"node", trees) {
-        return parse_node(alloc, known, site, at, rest);
+    match parse_statement_word(trees) {
+        Some((StatementWord::Call, rest)) => parse_call(alloc, known, site, at, rest),
+        Some((StatementWord::If, rest)) => parse_if(alloc, known, site, at, rest),
+        Some((StatementWord::WithBody(word), rest)) => {
+            parse_with_body(alloc, known, site, at, word, rest)
+        }
+        None => Err(ParseStop::NoForm),
     }
-    if let Some(rest) = skip_keyword(b"call", trees) {
-        return parse_call(alloc, known, site, at, rest);
-    }
-    if let Some(rest) = skip_keyword(b"key", trees) {
-        return parse_key(alloc, known, site, at, rest);
-    }
-    if let Some(rest) = skip_keyword(b"if", trees) {
-        return parse_if(alloc, known, site, at, rest);
-    }
-    if let Some(rest) = skip_keyword(b"for", trees) {
-        return parse_for(alloc, known, site, at, rest);
-    }
-    if let Some(rest) = skip_keyword(b"let", trees) {
-        return parse_let(alloc, known, site, at, rest);
-    }
-    if let Some(rest) = skip_keyword(b"remember", trees) {
-        return parse_remember(alloc, known, site, at, rest);
-    }
-    Err(ParseStop::NoForm)
 }
 
-// Parses `NAME ((NAME EXPR)..) STMT..` after the word `node`.
-#[tactic(auto, unfolding(crate::specs::Readings::node_form), using(crate::proofs::Trees::syntax))]
+// Parses the parts of a statement with a body after its keyword.
+#[tactic(auto, unfolding(crate::specs::StatementHeads::body_form))]
 #[cycle(statements)]
-fn parse_node(
+fn parse_with_body(
     alloc: Global,
     known: &KnownNames,
     site: u32,
     at: usize,
+    word: BodyWord,
     trees: &[Tree],
 ) -> Result<(Statement, u32), ParseStop>
     ensures { Reads (λ p. (stmt_view p.0, p.1)) result
-        (node_form (known_names_view known.now) site at (seen_all trees.now)) }
+        (body_form (known_names_view known.now) site at word (seen_all trees.now)) }
 {
-    let (kind, attributes, rest) = parse_named_pairs(alloc, known.states, trees)?;
+    let (head, rest) = parse_head(alloc, known.states, word, trees)?;
     let (body, next) = parse_body(alloc, known, site, rest)?;
-    Ok((
-        Statement::Node {
-            at,
-            site,
-            kind,
-            attributes,
-            body,
-        },
-        next,
-    ))
-}
-
-// Parses `EXPR STMT..` after the word `key`.
-#[tactic(auto, unfolding(crate::specs::Readings::key_form), using(crate::proofs::Trees::syntax))]
-#[cycle(statements)]
-fn parse_key(
-    alloc: Global,
-    known: &KnownNames,
-    site: u32,
-    at: usize,
-    trees: &[Tree],
-) -> Result<(Statement, u32), ParseStop>
-    ensures { Reads (λ p. (stmt_view p.0, p.1)) result
-        (key_form (known_names_view known.now) site at (seen_all trees.now)) }
-{
-    let (key, rest) = parse_first_expression(alloc, known.states, trees)?;
-    let (body, next) = parse_body(alloc, known, site, rest)?;
-    Ok((
-        Statement::Key {
-            at,
-            site,
-            key,
-            body,
-        },
-        next,
-    ))
+    Ok((add_body(head, at, site, body), next))
 }
 
 // Parses `EXPR (STMT..) (STMT..)` after the word `if`.
-#[tactic(auto, unfolding(crate::specs::Readings::if_form), using(crate::proofs::Trees::syntax))]
+#[tactic(auto, unfolding(crate::specs::StatementHeads::branch_form), using(crate::proofs::Trees::syntax))]
 #[cycle(statements)]
 fn parse_if(
     alloc: Global,
@@ -174,15 +126,10 @@ fn parse_if(
     trees: &[Tree],
 ) -> Result<(Statement, u32), ParseStop>
     ensures { Reads (λ p. (stmt_view p.0, p.1)) result
-        (if_form (known_names_view known.now) site at (seen_all trees.now)) }
+        (branch_form (known_names_view known.now) site at (seen_all trees.now)) }
 {
     let (condition, rest) = parse_first_expression(alloc, known.states, trees)?;
-    let inner = site_after(site)?;
-    let (then_branch, next, rest) = parse_block(alloc, known, inner, rest)?;
-    let (else_branch, next, rest) = parse_block(alloc, known, next, rest)?;
-    if !is_at_end(rest) {
-        return Err(ParseStop::NoForm);
-    }
+    let (then_branch, else_branch, next) = parse_branches(alloc, known, site, rest)?;
     Ok((
         Statement::If {
             at,
@@ -195,87 +142,27 @@ fn parse_if(
     ))
 }
 
-// Parses `NAME EXPR STMT..` after the word `for`.
-#[tactic(auto, unfolding(crate::specs::Readings::for_form), using(crate::proofs::Trees::syntax))]
+// Parses `(STMT..) (STMT..)` inside the statement with the number `site`, and returns the number of
+// the next statement.
+#[tactic(auto, unfolding(crate::specs::StatementHeads::branches_of))]
 #[cycle(statements)]
-fn parse_for(
+fn parse_branches(
     alloc: Global,
     known: &KnownNames,
     site: u32,
-    at: usize,
     trees: &[Tree],
-) -> Result<(Statement, u32), ParseStop>
-    ensures { Reads (λ p. (stmt_view p.0, p.1)) result
-        (for_form (known_names_view known.now) site at (seen_all trees.now)) }
+) -> Result<(Vec<Statement>, Vec<Statement>, u32), ParseStop>
+    ensures { Reads (λ p. ((map stmt_view p.0.items, map stmt_view p.1.items), p.2)) result
+        (branches_of (known_names_view known.now) (site + 1) (seen_all trees.now)) }
 {
-    let (name, list, rest) = parse_binding(alloc, known.states, trees)?;
-    let (body, next) = parse_body(alloc, known, site, rest)?;
-    Ok((
-        Statement::For {
-            at,
-            site,
-            name,
-            list,
-            body,
-        },
-        next,
-    ))
-}
-
-// Parses `NAME EXPR STMT..` after the word `let`.
-#[tactic(auto, unfolding(crate::specs::Readings::let_form), using(crate::proofs::Trees::syntax))]
-#[cycle(statements)]
-fn parse_let(
-    alloc: Global,
-    known: &KnownNames,
-    site: u32,
-    at: usize,
-    trees: &[Tree],
-) -> Result<(Statement, u32), ParseStop>
-    ensures { Reads (λ p. (stmt_view p.0, p.1)) result
-        (let_form (known_names_view known.now) site at (seen_all trees.now)) }
-{
-    let (name, value, rest) = parse_binding(alloc, known.states, trees)?;
-    let (body, next) = parse_body(alloc, known, site, rest)?;
-    Ok((
-        Statement::Let {
-            at,
-            site,
-            name,
-            value,
-            body,
-        },
-        next,
-    ))
-}
-
-// Parses `NAME ((NAME EXPR)..) EXPR STMT..` after the word `remember`.
-#[tactic(auto, unfolding(crate::specs::Readings::remember_form), using(crate::proofs::Trees::syntax))]
-#[cycle(statements)]
-fn parse_remember(
-    alloc: Global,
-    known: &KnownNames,
-    site: u32,
-    at: usize,
-    trees: &[Tree],
-) -> Result<(Statement, u32), ParseStop>
-    ensures { Reads (λ p. (stmt_view p.0, p.1)) result
-        (remember_form (known_names_view known.now) site at (seen_all trees.now)) }
-{
-    let (name, keys, rest) = parse_named_pairs(alloc, known.states, trees)?;
-    let (value, rest) = parse_first_expression(alloc, known.states, rest)?;
-    let (body, next) = parse_body(alloc, known, site, rest)?;
-    Ok((
-        Statement::Remember {
-            at,
-            site,
-            name,
-            keys,
-            value,
-            body,
-        },
-        next,
-    ))
+    let first = site_after(site)?;
+    let (then_branch, next, rest) = parse_block(alloc, known, first, trees)?;
+    let (else_branch, next, rest) = parse_block(alloc, known, next, rest)?;
+    if is_at_end(rest) {
+        Ok((then_branch, else_branch, next))
+    } else {
+        Err(ParseStop::NoForm)
+    }
 }
 
 // Parses the first tree as a list of statements. Returns the number of the next statement and the

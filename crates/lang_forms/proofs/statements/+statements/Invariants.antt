@@ -17,23 +17,14 @@ decreases-parse_statement l = 5 * size-Tree l.tree.now
 abbrev pub decreases-parse_statement_list : goal.decreases-parse_statement_list
 decreases-parse_statement_list l = 5 * widest l.trees.now + 4
 
-abbrev pub decreases-parse_node : goal.decreases-parse_node
-decreases-parse_node l = 5 * widest l.trees.now + 3
-
-abbrev pub decreases-parse_key : goal.decreases-parse_key
-decreases-parse_key l = 5 * widest l.trees.now + 3
+abbrev pub decreases-parse_with_body : goal.decreases-parse_with_body
+decreases-parse_with_body l = 5 * widest l.trees.now + 3
 
 abbrev pub decreases-parse_if : goal.decreases-parse_if
 decreases-parse_if l = 5 * widest l.trees.now + 3
 
-abbrev pub decreases-parse_for : goal.decreases-parse_for
-decreases-parse_for l = 5 * widest l.trees.now + 3
-
-abbrev pub decreases-parse_let : goal.decreases-parse_let
-decreases-parse_let l = 5 * widest l.trees.now + 3
-
-abbrev pub decreases-parse_remember : goal.decreases-parse_remember
-decreases-parse_remember l = 5 * widest l.trees.now + 3
+abbrev pub decreases-parse_branches : goal.decreases-parse_branches
+decreases-parse_branches l = 5 * widest l.trees.now + 2
 
 abbrev pub decreases-parse_block : goal.decreases-parse_block
 decreases-parse_block l = 5 * widest l.trees.now + 1
