@@ -1,14 +1,15 @@
 -- Taking a statement apart by its keyword, its head and its body gives what `stmt_form` gives.
-use Rattle.std.proofs.Common.{◌≡◌, ℕ, ◌+◌, List, Bool, true, false, Option, Some, None, Result, codes, refl, sym, ◌∙◌, ap, if◌then◌else◌}
+use Rattle.std.proofs.Common.{◌≡◌, ℕ, ◌+◌, List, Bool, true, false, Option, Some, None, Result, Err, codes, refl, sym, ◌∙◌, ap, if◌then◌else◌}
 use Rattle.std.specs.Str.{bytes_eq}
 use Rattle.lang_ast.specs.Terms.{Stmt, If, stmts}
 use Rattle.lang_forms.specs.declared.statement_heads.BodyWord.TheVariants as body
 use Rattle.lang_forms.specs.declared.statement_heads.StatementWord.{StatementWord}
 use Rattle.lang_forms.specs.declared.stop.ParseStop.{ParseStop}
+use Rattle.lang_forms.specs.declared.stop.ParseStop.TheVariants.{NoForm, NoMemory}
 use Rattle.lang_forms.specs.Forms.{KnownNames}
 use Rattle.lang_forms.specs.Readings.{◌>>=◌, when, choose, Seen, is_end, atom_of, word_of, expr_of, binding_of, named_pairs_of, block_of, node_form, call_form, key_form, if_form, for_form, let_form, remember_form, stmt_form}
 use Rattle.lang_forms.specs.Views.{Reads}
-use Rattle.lang_forms.specs.StatementHeads.{statement_for_word, statement_word, NodeHead, KeyHead, ForHead, LetHead, RememberHead, head_of, body_form, branches_of, branch_form, form_after}
+use Rattle.lang_forms.specs.StatementHeads.{Head, body_added, statement_for_word, statement_word, NodeHead, KeyHead, ForHead, LetHead, RememberHead, head_of, body_form, branches_of, branch_form, form_after}
 
 map_next : {A B C : Type 0} (o : Option A) (f : A → B) (g : B → Option C)
     → ((o >>= λ x. Some (f x)) >>= g) ≡ (o >>= λ x. g (f x))
@@ -115,3 +116,10 @@ word_read view x m k at ss v w rest same h reads = rw (← by_word m k at ss, �
 pub stmt_form_none : (m : KnownNames) (k at : ℕ) (ss : List Seen)
     → statement_word ss ≡ None → stmt_form m k at ss ≡ None
 stmt_form_none m k at ss h = sym (by_word m k at ss) ∙ ap (λ o. o >>= λ v. form_after m k at v.0 v.1) h
+
+-- The end of parsing a body is that of parsing the statement.
+pub stop_read : {X Y : Type 0} (view : X → List Stmt × ℕ) (other : Y → Stmt × ℕ) (h : Head) (at k : ℕ)
+    (stop : ParseStop) (o : Option (List Stmt × ℕ))
+    → Reads view (Err stop) o → Reads other (Err stop) (body_added h at k o)
+stop_read view other h at k NoForm o e = ap (body_added h at k) e
+stop_read view other h at k NoMemory o e = tt

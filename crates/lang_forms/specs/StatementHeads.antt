@@ -64,12 +64,15 @@ with_body (ForHead n e) at k b = For at k n e (stmts b)
 with_body (LetHead n e) at k b = Let at k n e (stmts b)
 with_body (RememberHead n ns e) at k b = Remember at k n ns e (stmts b)
 
+-- The statement of a head, if there is a body, and the number after it.
+abbrev pub body_added : Head → ℕ → ℕ → Option (List Stmt × ℕ) → Option (Stmt × ℕ)
+body_added h at k o = o >>= λ b. Some (with_body h at k b.0, b.1)
+
 -- A head and statements after the keyword of a statement with a body.
 unfoldable pub body_form : KnownNames → ℕ → ℕ → BodyWord → List Seen → Option (Stmt × ℕ)
 body_form m k at w ss = do
   h ← head_of m.states w ss
-  b ← stmts_of m (k + 1) h.1
-  Some (with_body h.0 at k b.0, b.1)
+  body_added h.0 at k (stmts_of m (k + 1) h.1)
 
 -- `(STMT..) (STMT..)`
 unfoldable pub branches_of : KnownNames → ℕ → List Seen → Option ((List Stmt × List Stmt) × ℕ)

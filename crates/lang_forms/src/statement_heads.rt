@@ -1,8 +1,9 @@
 // The parser of keywords and heads of statements, which parses all parts but inner statements.
-ghost use Rattle.std.specs.Prelude.{◌≡◌, ◌≤◌, IfOk, map};
+ghost use Rattle.std.specs.Prelude.{◌≡◌, ◌≤◌, ℕ, List, Option, IfOk, map};
 ghost use Rattle.std.specs.Option.{option_map, IfSome};
+ghost use Rattle.lang_ast.specs.Terms.{Stmt};
 ghost use Rattle.lang_ast.specs.SyntaxView.{stmt_view};
-ghost use Rattle.lang_forms.specs.StatementHeads.{statement_for_word, statement_word, head_of, head_view, with_body};
+ghost use Rattle.lang_forms.specs.StatementHeads.{statement_for_word, statement_word, head_of, head_view, with_body, body_added};
 ghost use Rattle.lang_forms.specs.Views.{widest, seen_all, state_names, Reads};
 
 use crate::cursor::{same_bytes, split_first_atom};
@@ -143,7 +144,7 @@ pub fn parse_head<'a>(
 
 // Returns the statement with the head and the body.
 #[tactic(auto, using(crate::proofs::Trees::syntax))]
-pub fn add_body(head: StatementHead, at: usize, site: u32, body: Vec<Statement>) -> Statement
+fn add_body(head: StatementHead, at: usize, site: u32, body: Vec<Statement>) -> Statement
     ensures { stmt_view result
         ≡ with_body (head_view head) at site (map stmt_view body.items) }
 {
@@ -183,5 +184,21 @@ pub fn add_body(head: StatementHead, at: usize, site: u32, body: Vec<Statement>)
             value,
             body,
         },
+    }
+}
+
+// Returns the statement with the head and the parsed body, and the number of the next statement.
+pub fn finish_statement(
+    head: StatementHead,
+    at: usize,
+    site: u32,
+    body: Result<(Vec<Statement>, u32), ParseStop>,
+) -> Result<(Statement, u32), ParseStop>
+    ensures { (o : Option (List Stmt × ℕ)) → Reads (λ p. (map stmt_view p.0.items, p.1)) body o
+        → Reads (λ p. (stmt_view p.0, p.1)) result (body_added (head_view head) at site o) }
+{
+    match body {
+        Ok((body, next)) => Ok((add_body(head, at, site, body), next)),
+        Err(stop) => Err(stop),
     }
 }

@@ -8,7 +8,9 @@ ghost use Rattle.lang_forms.specs.Views.{widest, seen_tree, seen_all, known_name
 use crate::cursor::{is_at_end, parse_name};
 use crate::expressions::{parse_expressions, parse_first_expression};
 use crate::known_names::{KnownNames, function_number};
-use crate::statement_heads::{BodyWord, StatementWord, add_body, parse_head, parse_statement_word};
+use crate::statement_heads::{
+    BodyWord, StatementWord, finish_statement, parse_head, parse_statement_word,
+};
 use crate::stop::ParseStop;
 use lang_ast::Statement;
 use sexp_text::Tree;
@@ -111,8 +113,7 @@ fn parse_with_body(
         (body_form (known_names_view known.now) site at word (seen_all trees.now)) }
 {
     let (head, rest) = parse_head(alloc, known.states, word, trees)?;
-    let (body, next) = parse_body(alloc, known, site, rest)?;
-    Ok((add_body(head, at, site, body), next))
+    finish_statement(head, at, site, parse_body(alloc, known, site, rest))
 }
 
 // Parses `EXPR (STMT..) (STMT..)` after the word `if`.
