@@ -15,3 +15,4 @@ pub mod Firsts
 pub mod ByForms
 pub mod Bindings
 pub mod StatementHeads
+pub mod StatementLists

@@ -1,6 +1,7 @@
 use Rattle.lang_forms.specs.declared.statement_heads.StatementWord.TheVariants.{Call, If, WithBody}
 use Rattle.lang_forms.specs.Views.{seen_all, known_names_view}
 use Rattle.lang_forms.proofs.StatementHeads.{word_read}
+use Rattle.lang_forms.proofs.StatementLists.{one_more_statement}
 use Rattle.lang_forms.proofs.statements.+statements.Goals as goal
 
 pub parse_statement_list-returns-in-Some-Call-default :
@@ -21,3 +22,9 @@ parse_statement_list-returns-in-Some-WithBody-default t c = word_read _ c.parse_
     (known_names_view c.args.known.now) c.args.site c.args.at (seen_all c.args.trees.now) _
     (WithBody c.in-Some-WithBody-default.word) _
     c.in-Some-WithBody-default.field-0-0-is c.in-Some-WithBody-default.ensures.seen c.parse_with_body.ensures
+
+pub parse_statements-loop-tree-preserved : goal.parse_statements-loop-tree-preserved
+parse_statements-loop-tree-preserved t c = one_more_statement (known_names_view c.args.known.now) c.args.site
+    c.loop-tree.next c.in_ok-stmt.site_after c.loop-tree.stmts.items c.push.new.self.items c.args.trees.now
+    c.loop-tree.tree-index c.tree-item.result c.in_ok-stmt.stmt c.loop-tree-test.true c.tree-item.is
+    c.in_ok-stmt.ensures c.in_ok-push.ensures.items c.loop-tree.invariant
