@@ -20,7 +20,8 @@ map_more (x ∷ ss) s = ap (λ (l : List Stmt). stmt_view x ∷ l) (map_more ss 
 abbrev ahead : List Stmt → List Stmt × ℕ → List Stmt × ℕ
 ahead xs r = (xs ++ r.0, r.1)
 
-abbrev pub ahead_of : Stmt → List Stmt × ℕ → List Stmt × ℕ
+-- Parsed statements with one ahead of them.
+abbrev ahead_of : Stmt → List Stmt × ℕ → List Stmt × ℕ
 ahead_of x r = (x ∷ r.0, r.1)
 
 -- Parsed statements and the number of the next statement.
