@@ -1,11 +1,11 @@
 -- Internal: the parts of a call of `PlainWorld`: the test for refusals, and the effect.
-use Rattle.std.specs.Prelude.{◌≡◌, ℕ, ◌<◌, Bool, true, false, List, Option, Some, None, length, slice_index_or, if◌then◌else◌, Result, Ok, Err}
+use Rattle.std.specs.Prelude.{◌≡◌, ℕ, ◌<◌, Bool, true, false, List, Option, Some, None, length, slice_get, slice_index_or, if◌then◌else◌, Result, Ok, Err}
 use Rattle.rt_values.specs.Maps.{Map, value_at, contains}
 use Rattle.rt_values.specs.declared.maps.StampedValue.{StampedValue}
 use Rattle.rt_values.specs.declared.value.Value.{Value}
 use Rattle.snap_policy.specs.Rules.{Rules}
 use Rattle.snap_api.specs.Settle.{Settled, settled, conflict, settle, settle_from, put_verdict, put_kept}
-use Rattle.snap_api.specs.World.{World, snapshot_of, write, world_after_write, apply, apply_to, settled_of, with_members}
+use Rattle.snap_api.specs.World.{World, snapshot_of, write, write_to, world_after_write, apply, apply_to, settled_of, with_members}
 use Rattle.snap_api.specs.declared.data.Object.{Object}
 use Rattle.snap_api.specs.declared.data.Refusal.{Refusal}
 use Rattle.snap_api.specs.declared.data.Refusal.TheVariants as refusal
@@ -30,6 +30,20 @@ pub record Writes {P : Type 0} (rules : Rules P) (w : World P) (caller name x : 
 abbrev pub WriteTested : {P : Type 0} → Rules P → World P → ℕ → ℕ → ℕ → Value → Option Refusal → Type 0
 WriteTested rules w caller name x value (Some e) = write rules w caller name x value ≡ (w, reply.Refused e)
 WriteTested rules w caller name x value None = Writes rules w caller name x value
+
+-- A write to an object, after the tests of the clock and the snapshot: the object exists, and the policy decides.
+pub record WritesTo {P : Type 0} (rules : Rules P) (w : World P) (caller name x : ℕ) (value : Value) : Type 0 where
+  pub there : x < length w.objects
+  pub call : (o : Object P) → o ≡ slice_index_or w.objects x o
+      → write_to rules w caller name x value (slice_get w.objects x)
+      ≡ (if rules.equiv o.policy (value_at (snapshot_of w name).view x) value then (w, reply.Wrote false)
+      else (world_after_write w name x value, reply.Wrote true))
+
+-- The refusal of a write that depends on the object, if a test found one.
+abbrev pub ObjectTested : {P : Type 0} → Rules P → World P → ℕ → ℕ → ℕ → Value → Option Refusal → Type 0
+ObjectTested rules w caller name x value (Some e) =
+    write_to rules w caller name x value (slice_get w.objects x) ≡ (w, reply.Refused e)
+ObjectTested rules w caller name x value None = WritesTo rules w caller name x value
 
 -- An apply that no test refuses: snapshot and parent exist, and the objects are settled.
 pub record Applies {P : Type 0} (rules : Rules P) (w : World P) (caller name : ℕ) : Type 0 where

@@ -3,11 +3,11 @@ ghost use Rattle.std.specs.Prelude.{◌≡◌, ◌≢◌, ℕ, ◌≤◌, ◌<�
 ghost use Rattle.snap_api.specs.Calls.{Logs, IsOwn, taken_reply, taken_for_reply, read_reply, write_reply, apply_reply, dispose_reply};
 ghost use Rattle.snap_api.specs.Shaped.{AreShaped};
 ghost use Rattle.snap_api.specs.declared.data.Refusal.{Refusal as refusal_data};
-ghost use Rattle.snap_api.specs.World.{World, call, start, world_after_take, settled_of, make_refusal, snapshot_of, is_spent, is_closed, is_foreign, is_mutable};
+ghost use Rattle.snap_api.specs.World.{World, call, start, world_after_take, settled_of, make_refusal, snapshot_of, last_of, is_spent, is_closed, is_foreign, is_mutable};
 ghost use Rattle.snap_plain.specs.FreeRefusals.{RefusesFreely, ApplyRefusesFreely, MergesAreFree};
 ghost use Rattle.snap_api.specs.Settle.{conflict};
-ghost use Rattle.snap_plain.specs.CallParts.{Tested, WriteTested, ApplyTested, SettlesTo};
-ghost use Rattle.rt_values.specs.Maps.{value_at};
+ghost use Rattle.snap_plain.specs.CallParts.{Tested, WriteTested, ObjectTested, ApplyTested, SettlesTo, conflict_of};
+ghost use Rattle.rt_values.specs.Maps.{value_at, differ};
 ghost use Rattle.rt_values.specs.Values.{is_flat};
 
 use crate::settle_objects::{least_conflict, settle_all};
@@ -160,6 +160,13 @@ impl<P: Policy> PlainWorld<P> {
                 owner: self.owner_of(name),
             });
         }
+        self.object_refusal(name, object, value)
+    }
+
+    // Returns the refusal of a write that depends on the object, if there is one.
+    fn object_refusal(&self, name: Name, object: ObjectNo, value: &Value) -> Option<Refusal>
+        ensures { (caller : ℕ) → ObjectTested P.rules (world_of self.now) caller name object value.now result }
+    {
         let Some(kept) = self.objects.get(object as usize) else {
             return Some(Refusal::UnknownObject);
         };
@@ -200,6 +207,35 @@ impl<P: Policy> PlainWorld<P> {
         None
     }
 
+    // Finds the least object that conflicts in an apply of a snapshot. Takes memory only if a merge does.
+    fn find_conflict(&self, alloc: Global, name: Name) -> Result<Option<ObjectNo>, NoMemory>
+        requires known { name < length self.now.snapshots.items }
+        requires above { (snapshot_of (world_of self.now) name).parent < length self.now.snapshots.items }
+        ensures found { IfOk result (λ x. x ≡ conflict_of (settled_of P.rules (world_of self.now) 0 name)) }
+        ensures free { MergesAreFree P.is_free_merge (world_of self.now) name → IsOk result }
+    {
+        let shot = &self.snapshots[name as usize];
+        let above = &self.snapshots[shot.parent as usize];
+        least_conflict(alloc, &self.objects, shot, &above.view)
+    }
+
+    // Settles the objects of a snapshot without a conflict. Returns the parent's new view and the objects written in
+    // the parent then.
+    fn settle_without_conflict(&self, alloc: Global, name: Name) -> Result<(Map, Objects), NoMemory>
+        requires known { name < length self.now.snapshots.items }
+        requires above { (snapshot_of (world_of self.now) name).parent < length self.now.snapshots.items }
+        requires unspent { self.now.clock < 2 ^ 60 }
+        requires fine { conflict_of (settled_of P.rules (world_of self.now) 0 name) ≡ None }
+        ensures len { IfOk result (λ r. length r.0 ≡ length self.now.objects.items) }
+        ensures settled { IfOk result (λ r. SettlesTo P.rules (world_of self.now) name (Ok r)) }
+    {
+        let shot = &self.snapshots[name as usize];
+        let above = &self.snapshots[shot.parent as usize];
+        let (view, changed) = settle_all(alloc, &self.objects, shot, &above.view, self.clock + 1)?;
+        let wrote = with_members(alloc, &changed, &above.wrote)?;
+        Ok((view, wrote))
+    }
+
     // Settles the objects of a snapshot. Returns the parent's new view and the objects written in the parent then.
     fn settle(&self, alloc: Global, name: Name) -> Result<(Map, Objects), Refusal>
         requires known { name < length self.now.snapshots.items }
@@ -210,14 +246,22 @@ impl<P: Policy> PlainWorld<P> {
         ensures free { MergesAreFree P.is_free_merge (world_of self.now) name →
             (x : ℕ) → settled_of P.rules (world_of self.now) 0 name ≡ conflict x → result ≡ Err (Refusal.Conflict x) }
     {
-        let shot = &self.snapshots[name as usize];
-        let above = &self.snapshots[shot.parent as usize];
-        if let Some(object) = least_conflict(alloc, &self.objects, shot, &above.view)? {
+        if let Some(object) = self.find_conflict(alloc, name)? {
             return Err(Refusal::Conflict { object });
         }
-        let (view, changed) = settle_all(alloc, &self.objects, shot, &above.view, self.clock + 1)?;
-        let wrote = with_members(alloc, &changed, &above.wrote)?;
-        Ok((view, wrote))
+        Ok(self.settle_without_conflict(alloc, name)?)
+    }
+
+    // Returns the objects that changed since the watcher's last map, and a copy of global's view.
+    fn find_changed(&self, alloc: Global, watcher: WatcherNo) -> Result<(Objects, Map), NoMemory>
+        requires { watcher < length self.now.lasts.items }
+        ensures changed { IfOk result (λ r. r.0 ≡ differ (last_of (world_of self.now) watcher)
+            (snapshot_of (world_of self.now) 0).view) }
+        ensures seen { IfOk result (λ r. r.1 ≡ (snapshot_of (world_of self.now) 0).view) }
+    {
+        let now = &self.snapshots[0].view;
+        let changed = find_differing(alloc, &self.lasts[watcher as usize], now)?;
+        Ok((changed, now.copy(alloc)?))
     }
 }
 
@@ -312,12 +356,10 @@ impl<P: Policy> Versions for PlainWorld<P> {
         if self.is_spent() {
             return Err(Refusal::Spent);
         }
-        let Some(last) = self.lasts.get(watcher as usize) else {
+        if watcher as usize >= self.lasts.len() {
             return Err(Refusal::UnknownWatcher);
-        };
-        let now = &self.snapshots[0].view;
-        let changed = find_differing(alloc, last, now)?;
-        let seen = now.copy(alloc)?;
+        }
+        let (changed, seen) = self.find_changed(alloc, watcher)?;
         let name = self.snapshots.len() as u64;
         push_child(alloc, &mut self.snapshots, caller, 0, Kind::Readonly)?;
         self.lasts[watcher as usize] = Some(seen);
