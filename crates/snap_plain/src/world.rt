@@ -1,9 +1,9 @@
 // The plain world and its calls.
-ghost use Rattle.std.specs.Prelude.{◌≡◌, ◌≢◌, ℕ, ◌≤◌, ◌<◌, ◌^◌, true, false, Some, None, IfOk, IsOk, IfNone, length};
+ghost use Rattle.std.specs.Prelude.{◌≡◌, ◌≢◌, ℕ, ◌≤◌, ◌<◌, ◌^◌, true, false, Some, None, IfOk, IsOk, IfNone, OnErr, length};
 ghost use Rattle.snap_api.specs.Calls.{Logs, IsOwn, taken_reply, taken_for_reply, read_reply, write_reply, apply_reply, dispose_reply};
 ghost use Rattle.snap_api.specs.Shaped.{AreShaped};
 ghost use Rattle.snap_api.specs.declared.data.Refusal.{Refusal as refusal_data};
-ghost use Rattle.snap_api.specs.World.{World, call, start, world_after_take, settled_of, make_refusal, snapshot_of, last_of, is_spent, is_closed, is_foreign, is_mutable};
+ghost use Rattle.snap_api.specs.World.{World, call, start, world_after_take, world_after_take_for, settled_of, make_refusal, snapshot_of, last_of, is_spent, is_closed, is_foreign, is_mutable};
 ghost use Rattle.snap_plain.specs.FreeRefusals.{RefusesFreely, ApplyRefusesFreely, MergesAreFree};
 ghost use Rattle.snap_api.specs.Settle.{conflict};
 ghost use Rattle.snap_plain.specs.CallParts.{Tested, WriteTested, ObjectTested, ApplyTested, SettlesTo, conflict_of};
@@ -263,6 +263,28 @@ impl<P: Policy> PlainWorld<P> {
         let changed = find_differing(alloc, &self.lasts[watcher as usize], now)?;
         Ok((changed, now.copy(alloc)?))
     }
+
+    // Takes a readonly child of global for a watcher, whose last map is then `seen`.
+    fn push_child_for(
+        &mut self,
+        alloc: Global,
+        caller: Caller,
+        watcher: WatcherNo,
+        seen: Map,
+    ) -> Result<Name, NoMemory>
+        requires watcher { watcher < length self.old.lasts.items }
+        requires unspent { self.old.clock < 2 ^ 60 }
+        requires seen { seen ≡ (snapshot_of (world_of self.old) 0).view }
+        ensures name { IfOk result (λ name. name ≡ length self.old.snapshots.items) }
+        ensures ok { IfOk result (λ name. world_of self.new ≡ world_after_take_for (world_of self.old) caller watcher) }
+        ensures err { OnErr result (world_of self.new ≡ world_of self.old) }
+    {
+        let name = self.snapshots.len() as u64;
+        push_child(alloc, &mut self.snapshots, caller, 0, Kind::Readonly)?;
+        self.lasts[watcher as usize] = Some(seen);
+        self.clock += 1;
+        Ok(name)
+    }
 }
 
 impl<P: Policy> Versions for PlainWorld<P> {
@@ -360,10 +382,7 @@ impl<P: Policy> Versions for PlainWorld<P> {
             return Err(Refusal::UnknownWatcher);
         }
         let (changed, seen) = self.find_changed(alloc, watcher)?;
-        let name = self.snapshots.len() as u64;
-        push_child(alloc, &mut self.snapshots, caller, 0, Kind::Readonly)?;
-        self.lasts[watcher as usize] = Some(seen);
-        self.clock += 1;
+        let name = self.push_child_for(alloc, caller, watcher, seen)?;
         Ok((name, changed))
     }
 
