@@ -1,6 +1,5 @@
 -- Lists that grow at their end.
-use Rattle.std.proofs.Common.{◌≡◌, ℕ, List, [], ◌∷◌, ◌++◌, ◌+◌, ◌<◌, ap, ◌∙◌, append_assoc, append-nil, add-one, length, take, get_or, OnOk, Ok, Err}
-use Rattle.std.proofs.Math.Seq.{take-suc}
+use Rattle.std.proofs.Common.{◌≡◌, ℕ, List, [], ◌∷◌, ◌++◌, ◌+◌, ◌<◌, ap, ◌∙◌, append_assoc, append-nil, OnOk, Ok, Err}
 use Rattle.std.proofs.lemmas.Fmt.{decimal_digit}
 use Rattle.std.specs.Fmt.{decimal}
 use Rattle.std.specs.declared.result.Result.{Result}
@@ -17,9 +16,3 @@ three_pieces (Err e) t first second third a b c one two three = tt
 -- A number below 10 is one digit.
 pub one_digit : (n : ℕ) → n < 10 → decimal n ≡ (48 + n) ∷ []
 one_digit n low = decimal_digit n low
-
--- A prefix that is one byte longer.
-pub take_more : (xs : List ℕ) (i : ℕ) → i < length xs → take (i + 1) xs ≡ take i xs ++ get_or xs i 0 ∷ []
-take_more xs i low = ap (λ n. take n xs) (add-one i) ∙ take-suc xs i 0 low
-
-pub ruleset prefixes = (take_more, append_assoc)

@@ -1,5 +1,5 @@
 // Lines of calls.
-ghost use Rattle.std.specs.Prelude.{◌≡◌, ◌++◌, ◌∷◌, [], List, ℕ, OnOk, OnErr, codes};
+ghost use Rattle.std.specs.Prelude.{◌≡◌, ◌≤◌, ◌+◌, ◌++◌, ◌∷◌, [], List, ℕ, OnOk, OnErr, codes, length, vec_len, vec_capacity};
 ghost use Rattle.std.specs.Fmt.{decimal};
 ghost use Rattle.rt_values.specs.Values.{value_text};
 ghost use Rattle.rt_values.specs.Keywords.{kind_word};
@@ -56,15 +56,27 @@ fn add_digits(text: &mut Vec<u8>, number: u64) -> Result<(), NoMemory>
     add(text, digits.format(number).as_bytes())
 }
 
-/// Appends a name. Most names have few bytes, which a loop copies faster than a call does.
+// Appends bytes, for which there is capacity. Most names have few bytes, which a loop copies faster than a call does.
 #[inline(always)]
-#[tactic(auto, using(crate::proofs::Texts::prefixes))]
+pub fn put_bytes(text: &mut Vec<u8>, bytes: &[u8])
+    requires { vec_len text.old + length bytes.now ≤ vec_capacity text.old }
+    ensures items { text.new.items ≡ text.old.items ++ bytes.now }
+    ensures len { vec_len text.new ≡ vec_len text.old + length bytes.now }
+    ensures capacity { vec_capacity text.new ≡ vec_capacity text.old }
+{
+    for byte in bytes {
+        text.push_reserved(*byte);
+    }
+}
+
+/// Appends a name.
+#[inline(always)]
 pub fn add_name(text: &mut Vec<u8>, name: &Word) -> Result<(), NoMemory>
     ensures { OnOk result (text.new.items ≡ text.old.items ++ name.now) }
 {
-    for byte in name.bytes() {
-        text.push(*byte)?;
-    }
+    let bytes = name.bytes();
+    text.reserve(bytes.len())?;
+    put_bytes(text, bytes);
     Ok(())
 }
 

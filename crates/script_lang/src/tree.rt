@@ -1,10 +1,11 @@
 // Lines of frames.
 ghost use Rattle.std.specs.Prelude.{◌≡◌, ◌++◌, ◌∷◌, [], List, ℕ, Bool, false, OnOk, OnErr, codes, map, take};
 ghost use Rattle.std.specs.Fmt.{decimal};
+ghost use Rattle.rt_values.specs.Values.{value_text};
 ghost use Rattle.script_lang.specs.Lines.{report_line, count_text, work_text, size_text, margin, node_text, node_line, attributes_text, line};
 ghost use Rattle.script_lang.specs.GroupLines.{plain_attribute, node_depth, line_of, is_node};
 
-use crate::line::{add, add_name, add_number, add_printed, or_empty};
+use crate::line::{add, add_name, add_number, add_printed, or_empty, put_bytes};
 use rt_groups::{Attribute, Attributes, GroupKind, Report};
 use rt_values::{NoMemory, Word};
 use std::alloc::Global;
@@ -75,17 +76,29 @@ pub fn add_refused(text: &mut Vec<u8>) -> Result<(), NoMemory>
     or_empty(text, done)
 }
 
-// Appends each attribute: a blank, the name, = and the value.
+// Appends an attribute: a blank, the name, = and the value.
+#[inline(always)]
+#[tactic(auto, using(crate::proofs::Texts::joins))]
+fn add_attribute(text: &mut Vec<u8>, attribute: &Attribute) -> Result<(), NoMemory>
+    ensures { let this = 32 ∷ attribute.now.name ++ 61 ∷ value_text attribute.now.value in
+        OnOk result (text.new.items ≡ text.old.items ++ this) }
+{
+    let name = attribute.name.bytes();
+    text.reserve(name.len() + 2)?;
+    text.push_reserved(b' ');
+    put_bytes(text, name);
+    text.push_reserved(b'=');
+    add_printed(text, &attribute.value)
+}
+
+// Appends each attribute.
 #[tactic(auto, using(crate::proofs::Texts::joins))]
 fn add_attributes(text: &mut Vec<u8>, attributes: &[Attribute]) -> Result<(), NoMemory>
     ensures { OnOk result (text.new.items ≡ text.old.items ++ attributes_text (map plain_attribute attributes.now)) }
 {
     let mut rest = attributes;
     while let Some((attribute, more)) = rest.split_first() {
-        text.push(b' ')?;
-        add_name(text, &attribute.name)?;
-        text.push(b'=')?;
-        add_printed(text, &attribute.value)?;
+        add_attribute(text, attribute)?;
         rest = more;
     }
     Ok(())

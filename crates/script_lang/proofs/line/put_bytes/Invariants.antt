@@ -1,0 +1,10 @@
+use Rattle.std.proofs.Common.{◌≡◌, ◌++◌, ◌+◌, take}
+use Rattle.std.specs.Prelude.{vec_len, vec_capacity}
+use Rattle.script_lang.proofs.line.put_bytes.Given as goal
+
+abbrev pub invariant-loop-byte : goal.invariant-loop-byte
+invariant-loop-byte l = record {
+  items : l.text.items ≡ l.fn.text.items ++ take l.byte-index l.bytes;
+  len : vec_len l.text ≡ vec_len l.fn.text + l.byte-index;
+  capacity : vec_capacity l.text ≡ vec_capacity l.fn.text;
+}
