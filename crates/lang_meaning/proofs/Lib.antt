@@ -6,6 +6,7 @@ pub mod Grows
 pub mod Lookups
 pub mod Meanings
 pub mod Operands
+pub mod Evaluating
 pub mod Sizes
 pub mod Skips
 pub mod ForestSteps

@@ -6,7 +6,10 @@ ghost use Rattle.rt_values.specs.Maps.{Map};
 ghost use Rattle.rt_values.specs.Views.{Grew};
 ghost use Rattle.lang_ast.specs.Evaluation.{eval, eval_all, eval_nth, first, second};
 ghost use Rattle.lang_ast.specs.SyntaxView.{expr_view, exprs_view};
+ghost use Rattle.lang_ast.specs.ResultsWithReads.{mapped_reading};
 ghost use Rattle.lang_meaning.specs.Flatness.{is_flat_expr, are_flat, is_flat_nth};
+ghost use Rattle.lang_meaning.specs.Operands.{pair};
+ghost use Rattle.lang_meaning.specs.EvaluatesReading.{Evaluates};
 
 use crate::applying::{Pair, apply, choose_operand, is_list, is_pick};
 use crate::scope::Env;
@@ -69,7 +72,6 @@ pub fn eval_noting<V: View>(
 }
 
 // Evaluates an expression. Appends its reads to `reads` if `is_noting` is true.
-#[tactic(auto, using(crate::proofs::Operands::evaluation))]
 #[cycle(evaluate)]
 fn eval_part<V: View>(
     alloc: Global,
@@ -79,24 +81,14 @@ fn eval_part<V: View>(
     reads: &mut Objects,
     is_noting: bool,
 ) -> Result<Value, NoMemory>
-    ensures keeps { V.keeps view.old view.new }
-    ensures same { (m : Map) → V.shows view.old m → V.shows view.new m }
-    ensures value { (m : Map) → V.shows view.old m →
-        IfOk result (λ v. v ≡ (eval m (expr_view expression.now) scope.now).value) }
-    ensures asks { (m : Map) → V.shows view.old m →
-        OnOk result (V.asked view.new ≡
-        V.asked view.old ++ (eval m (expr_view expression.now) scope.now).reads) }
-    ensures reads { is_noting ≡ true → (m : Map) → V.shows view.old m →
-        OnOk result (reads.new ≡ reads.old ++ (eval m (expr_view expression.now) scope.now).reads) }
-    ensures part { (m : Map) → V.shows view.old m →
-        OnErr result (Grew (V.asked view.old) (V.asked view.new)
-        (eval m (expr_view expression.now) scope.now).reads) }
-    ensures free { is_noting ≡ false → (m : Map) → V.shows view.old m → V.reads_free view.old →
-        is_flat_expr m (expr_view expression.now) scope.now ≡ true → OnErr result ⊥ }
+    ensures { Evaluates V.shows V.asked V.keeps V.reads_free is_noting
+        (λ m. eval m (expr_view expression.now) scope.now)
+        (λ m. is_flat_expr m (expr_view expression.now) scope.now)
+        view.old view.new reads.old reads.new result }
 {
     match expression {
-        Expression::Literal { value, .. } => Ok(value.copy(alloc)?),
-        Expression::Variable { name } => Ok(scope.value_of(alloc, &name.text)?),
+        Expression::Literal { value, .. } => value.copy(alloc),
+        Expression::Variable { name } => scope.value_of(alloc, &name.text),
         Expression::Get { number, .. } => {
             let value = view.read(alloc, *number)?;
             if is_noting {
@@ -111,7 +103,7 @@ fn eval_part<V: View>(
         } => {
             if is_pick(*operator) {
                 let condition = eval_operand(alloc, operands, 0, scope, view, reads, is_noting)?;
-                Ok(eval_operand(
+                eval_operand(
                     alloc,
                     operands,
                     choose_operand(&condition),
@@ -119,20 +111,19 @@ fn eval_part<V: View>(
                     view,
                     reads,
                     is_noting,
-                )?)
+                )
             } else if is_list(*operator) {
                 let list = eval_numbers(alloc, operands, scope, view, reads, is_noting)?;
                 Ok(Value::Ints(list))
             } else {
                 let pair = eval_pair(alloc, operands, scope, view, reads, is_noting)?;
-                Ok(apply(alloc, *operator, pair.first, pair.second)?)
+                apply(alloc, *operator, pair.first, pair.second)
             }
         }
     }
 }
 
 // Returns the value of the operand at index `place`, or 0 if there is none. The other operands are not evaluated.
-#[tactic(auto, using(crate::proofs::Operands::evaluation, crate::proofs::Operands::one_operand))]
 #[cycle(evaluate)]
 fn eval_operand<V: View>(
     alloc: Global,
@@ -143,29 +134,18 @@ fn eval_operand<V: View>(
     reads: &mut Objects,
     is_noting: bool,
 ) -> Result<Value, NoMemory>
-    ensures keeps { V.keeps view.old view.new }
-    ensures same { (m : Map) → V.shows view.old m → V.shows view.new m }
-    ensures value { (m : Map) → V.shows view.old m →
-        IfOk result (λ v. v ≡ (eval_nth m (exprs_view operands.now) place scope.now).value) }
-    ensures asks { (m : Map) → V.shows view.old m →
-        OnOk result (V.asked view.new ≡
-        V.asked view.old ++ (eval_nth m (exprs_view operands.now) place scope.now).reads) }
-    ensures reads { is_noting ≡ true → (m : Map) → V.shows view.old m →
-        OnOk result (reads.new ≡ reads.old ++ (eval_nth m (exprs_view operands.now) place scope.now).reads) }
-    ensures part { (m : Map) → V.shows view.old m →
-        OnErr result (Grew (V.asked view.old) (V.asked view.new)
-        (eval_nth m (exprs_view operands.now) place scope.now).reads) }
-    ensures free { is_noting ≡ false → (m : Map) → V.shows view.old m → V.reads_free view.old →
-        is_flat_nth m (exprs_view operands.now) place scope.now ≡ true → OnErr result ⊥ }
+    ensures { Evaluates V.shows V.asked V.keeps V.reads_free is_noting
+        (λ m. eval_nth m (exprs_view operands.now) place scope.now)
+        (λ m. is_flat_nth m (exprs_view operands.now) place scope.now)
+        view.old view.new reads.old reads.new result }
 {
     match operands.get(place) {
-        Some(expression) => Ok(eval_part(alloc, expression, scope, view, reads, is_noting)?),
+        Some(expression) => eval_part(alloc, expression, scope, view, reads, is_noting),
         None => Ok(Value::Int(0)),
     }
 }
 
 // Evaluates all operands from left to right. Returns the first two values.
-#[tactic(auto, using(crate::proofs::Operands::evaluation, crate::proofs::Operands::all_part))]
 #[cycle(evaluate)]
 fn eval_pair<V: View>(
     alloc: Global,
@@ -175,22 +155,10 @@ fn eval_pair<V: View>(
     reads: &mut Objects,
     is_noting: bool,
 ) -> Result<Pair, NoMemory>
-    ensures keeps { V.keeps view.old view.new }
-    ensures same { (m : Map) → V.shows view.old m → V.shows view.new m }
-    ensures first { (m : Map) → V.shows view.old m →
-        IfOk result (λ p. p.first ≡ first (eval_all m (exprs_view operands.now) scope.now).value) }
-    ensures second { (m : Map) → V.shows view.old m →
-        IfOk result (λ p. p.second ≡ second (eval_all m (exprs_view operands.now) scope.now).value) }
-    ensures asks { (m : Map) → V.shows view.old m →
-        OnOk result (V.asked view.new ≡
-        V.asked view.old ++ (eval_all m (exprs_view operands.now) scope.now).reads) }
-    ensures reads { is_noting ≡ true → (m : Map) → V.shows view.old m →
-        OnOk result (reads.new ≡ reads.old ++ (eval_all m (exprs_view operands.now) scope.now).reads) }
-    ensures part { (m : Map) → V.shows view.old m →
-        OnErr result (Grew (V.asked view.old) (V.asked view.new)
-        (eval_all m (exprs_view operands.now) scope.now).reads) }
-    ensures free { is_noting ≡ false → (m : Map) → V.shows view.old m → V.reads_free view.old →
-        are_flat m (exprs_view operands.now) scope.now ≡ true → OnErr result ⊥ }
+    ensures { Evaluates V.shows V.asked V.keeps V.reads_free is_noting
+        (λ m. mapped_reading (λ vs. pair (first vs) (second vs)) (eval_all m (exprs_view operands.now) scope.now))
+        (λ m. are_flat m (exprs_view operands.now) scope.now)
+        view.old view.new reads.old reads.new result }
 {
     let mut pair = Pair::none();
     for (place, expression) in operands.iter().enumerate() {
@@ -203,7 +171,6 @@ fn eval_pair<V: View>(
 }
 
 // Evaluates all operands from left to right. Returns their numbers, as many as a list can have.
-#[tactic(auto, using(crate::proofs::Operands::evaluation, crate::proofs::Operands::all_part))]
 #[cycle(evaluate)]
 fn eval_numbers<V: View>(
     alloc: Global,
@@ -213,18 +180,10 @@ fn eval_numbers<V: View>(
     reads: &mut Objects,
     is_noting: bool,
 ) -> Result<IntList, NoMemory>
-    ensures keeps { V.keeps view.old view.new }
-    ensures same { (m : Map) → V.shows view.old m → V.shows view.new m }
-    ensures value { (m : Map) → V.shows view.old m →
-        IfOk result (λ l. l ≡ take most_items (map number_of (eval_all m (exprs_view operands.now) scope.now).value)) }
-    ensures asks { (m : Map) → V.shows view.old m →
-        OnOk result (V.asked view.new ≡
-        V.asked view.old ++ (eval_all m (exprs_view operands.now) scope.now).reads) }
-    ensures reads { is_noting ≡ true → (m : Map) → V.shows view.old m →
-        OnOk result (reads.new ≡ reads.old ++ (eval_all m (exprs_view operands.now) scope.now).reads) }
-    ensures part { (m : Map) → V.shows view.old m →
-        OnErr result (Grew (V.asked view.old) (V.asked view.new)
-        (eval_all m (exprs_view operands.now) scope.now).reads) }
+    ensures { Evaluates V.shows V.asked V.keeps V.reads_free is_noting
+        (λ m. mapped_reading (λ vs. take most_items (map number_of vs)) (eval_all m (exprs_view operands.now) scope.now))
+        (λ m. false)
+        view.old view.new reads.old reads.new result }
 {
     let mut list = IntList::new(alloc);
     for expression in operands {
