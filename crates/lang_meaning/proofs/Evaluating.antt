@@ -1,5 +1,5 @@
 -- The effect of evaluating, one lemma for each way to evaluate a part of an expression.
-use Rattle.std.proofs.Common.{◌≡◌, ℕ, suc, ◌+◌, ◌<◌, ◌≤◌, List, [], ◌∷◌, ◌++◌, length, get_or, drop, take, map, refl, sym, ap, subst, ◌∙◌, ℤ, append_assoc, append-nil, drop-cons, add-one, arith, Bool, true, false, Vec, Global, Result, Ok, Err, IsErr}
+use Rattle.std.proofs.Common.{◌≡◌, ℕ, ◌+◌, ◌<◌, ◌≤◌, List, [], ◌∷◌, ◌++◌, length, get_or, drop, take, map, refl, sym, ap, subst, ◌∙◌, ℤ, append_assoc, append-nil, drop-cons, add-one, Bool, true, false, Vec, Global, Result, Ok, Err, IsErr}
 use Rattle.std.specs.Prelude.{IfOk, OnErr}
 use Rattle.std.proofs.lemmas.List.{drop_all}
 use Rattle.rt_values.specs.declared.value.Value.{Value}

@@ -1,8 +1,8 @@
 -- Expressions whose parts are all numbers or truth values.
-use Rattle.std.proofs.Common.{◌≡◌, ◌<◌, ◌≤◌, ℕ, zero, suc, List, [], ◌∷◌, length, get_or, Bool, true, false, ◌&&◌, ap, sym, ◌∙◌, refl, arith}
+use Rattle.std.proofs.Common.{◌≡◌, ◌<◌, ℕ, zero, suc, List, [], ◌∷◌, length, get_or, Bool, true, false, ◌&&◌, ap, ◌∙◌, refl, arith}
 use Rattle.rt_values.specs.Maps.{Map}
 use Rattle.lang_ast.specs.Evaluation.{Bindings}
-use Rattle.lang_ast.specs.Terms.{Expr, Exprs}
+use Rattle.lang_ast.specs.Terms.{Exprs}
 use Rattle.lang_ast.specs.SyntaxView.{expr_view, exprs_view}
 use Rattle.lang_ast.specs.declared.syntax.Expression.{Expression}
 use Rattle.lang_meaning.specs.Flatness.{is_flat_expr, are_flat, is_flat_nth}

@@ -1,7 +1,7 @@
 -- The effect of composing, one lemma for each way to build a forest.
-use Rattle.std.proofs.Common.{ℕ, ℤ, pos, suc, ◌+◌, ◌++◌, ◌<◌, ◌≤◌, List, [], ◌∷◌, ◌≡◌, refl, ap, ◌∙◌, sym, append_assoc, append-nil, length, length-append, drop, get_or, drop-cons, arith, Result, Ok, Err, IsErr, Bool, true, false, if◌then◌else◌}
+use Rattle.std.proofs.Common.{ℕ, ℤ, pos, suc, ◌+◌, ◌++◌, ◌<◌, ◌≤◌, List, [], ◌∷◌, ◌≡◌, refl, ap, ◌∙◌, sym, append_assoc, append-nil, length, length-append, drop, get_or, drop-cons, arith, Result, Ok, Err, IsErr, subst, Bool, true, false, if◌then◌else◌}
 use Rattle.std.proofs.lemmas.List.{drop_all}
-use Rattle.std.specs.Prelude.{OnOk}
+use Rattle.std.specs.Prelude.{IfOk, OnOk}
 use Rattle.rt_values.specs.declared.value.Value.{Value}
 use Rattle.rt_values.specs.Views.{Grew}
 use Rattle.rt_groups.specs.GroupForest.{GroupForest, End, Read, Group, GroupKind, joined_forest, reads_then, asks, how_many, own_part, inside_own}
@@ -237,6 +237,126 @@ ran_cell d site what rest out out1 out' asked asked' mine mine' (Err x) none sam
   );
 }
 
+pub ran_full_as : {U : Type 0} (d site : ℕ) (what : GroupKind) (inside rest : GroupForest) (out out' : List Listed)
+    (asked mine mine' : List ℕ) (x : ScratchStop) (result : Result U ScratchStop) → result ≡ Err x
+    → (x ≡ TooManyGroups → length out ≡ most_groups)
+    → ComposesForest d (Group site 0 what inside rest) out out' asked asked mine mine' result
+ran_full_as d site what inside rest out out' asked mine mine' x (Ok u) e h = cc
+ran_full_as d site what inside rest out out' asked mine mine' x (Err y) e h =
+    ran_full d site what inside rest out out' asked mine mine' (Err y) refl
+    (λ f. let z : x ≡ TooManyGroups = cc in h z)
+
+-- A group with nothing inside it, or the limit is reached.
+pub ran_added : {U : Type 0} (d site : ℕ) (what : GroupKind) (out out1 : List Listed) (asked mine : List ℕ)
+    (result : Result U ScratchStop) → flat_reads what End ≡ [] → inside_own what End ≡ End
+    → OnOk result (out1 ≡ out ++ flat_group d site 0 (flat_kind what) [] ∷ [])
+    → (result ≡ Err TooManyGroups → length out ≡ most_groups)
+    → ComposesForest d (Group site 0 what End End) out out1 asked asked mine mine result
+ran_added d site what out out1 asked mine (Ok u) none same e h =
+    ran_group d site what End out out1 out1 asked asked mine mine (Ok u) none same e
+    (ran_end u (d + 1) out1 asked mine)
+ran_added d site what out out1 asked mine (Err x) none same e h =
+    ran_full d site what End End out out1 asked mine mine (Err x) refl h
+
+-- A group that is appended after reads, before the forest inside it or after it is composed.
+
+record Opened (d site : ℕ) (xs : List ℕ) (what : GroupKind) (out out1 : List Listed)
+    (asked asked1 mine mine1 : List ℕ) : Type 0 where
+  made : out1 ≡ out ++ flat_group d site 0 (flat_kind what) [] ∷ []
+  came : asked1 ≡ asked ++ xs
+  charged : mine1 ≡ mine ++ xs
+
+opened : {U : Type 0} (d site : ℕ) (xs : List ℕ) (what : GroupKind) (out out1 : List Listed)
+    (asked asked1 mine mine1 : List ℕ) (u : U) → flat_reads what End ≡ [] → inside_own what End ≡ End
+    → ComposesForest d (reads_then xs (Group site 0 what End End)) out out1 asked asked1 mine mine1 {U = U} (Ok u)
+    → Opened d site xs what out out1 asked asked1 mine mine1
+opened d site xs what out out1 asked asked1 mine mine1 u none same h = record {
+  made = h.made ∙ ap (λ l. out ++ l) (preorder-reads_then d xs (Group site 0 what End End))
+      ∙ ap (λ r. out ++ flat_group d site 0 (flat_kind what) r ∷ []) none;
+  came = h.came ∙ ap (λ l. asked ++ l) (asks-reads_then xs (Group site 0 what End End) ∙ append-nil xs);
+  charged = h.charged ∙ ap (λ l. mine ++ l) (own-reads_then xs (Group site 0 what End End)
+      ∙ ap (λ t. xs ++ (asks t ++ [])) same ∙ append-nil xs);
+}
+
+pub opened_stop : {U V : Type 0} (d site : ℕ) (xs : List ℕ) (what : GroupKind) (inside rest : GroupForest)
+    (out out1 out' : List Listed) (asked asked1 mine mine1 mine' : List ℕ) (x : ScratchStop)
+    (result : Result V ScratchStop) →
+    ComposesForest d (reads_then xs (Group site 0 what End End)) out out1 asked asked1 mine mine1 {U = U} (Err x)
+    → result ≡ Err x →
+    ComposesForest d (reads_then xs (Group site 0 what inside rest)) out out' asked asked1 mine mine' result
+opened_stop d site xs what inside rest out out1 out' asked asked1 mine mine1 mine' x (Ok u) h is = cc
+opened_stop d site xs what inside rest out out1 out' asked asked1 mine mine1 mine' x (Err z) h is = record {
+  made = tt;
+  came = tt;
+  charged = tt;
+  part = rw (asks-reads_then xs (Group site 0 what inside rest))
+      (grew_front asked asked1 xs (asks (Group site 0 what inside rest))
+      (subst (λ l. Grew asked asked1 l) (asks-reads_then xs (Group site 0 what End End) ∙ append-nil xs) h.part));
+  many = λ y.
+      let y0 : z ≡ x = cc in
+      let y1 : z ≡ TooManyGroups = cc in
+      let big = h.many (ap (λ (w : ScratchStop). Err w) (sym y0 ∙ y1)) in
+      omega (
+        arith,
+        big,
+        length-append out (preorder d (reads_then xs (Group site 0 what End End))),
+        ap length (preorder-reads_then d xs (Group site 0 what End End)),
+        length-append out (preorder d (reads_then xs (Group site 0 what inside rest))),
+        ap length (preorder-reads_then d xs (Group site 0 what inside rest)),
+        length-append (preorder (d + 1) inside) (preorder d rest),
+      );
+}
+
+pub opened_inside : {U V : Type 0} (d site : ℕ) (xs : List ℕ) (what : GroupKind) (inside : GroupForest)
+    (out out1 out' : List Listed) (asked asked1 asked' mine mine1 mine' : List ℕ) (u : U)
+    (result : Result V ScratchStop) → flat_reads what End ≡ [] → inside_own what End ≡ End
+    → flat_reads what inside ≡ [] → inside_own what (own_part inside) ≡ own_part inside →
+    ComposesForest d (reads_then xs (Group site 0 what End End)) out out1 asked asked1 mine mine1 {U = U} (Ok u)
+    → ComposesForest (d + 1) inside out1 out' asked1 asked' mine1 mine' result
+    → ComposesForest d (reads_then xs (Group site 0 what inside End)) out out' asked asked' mine mine' result
+unfolding forest_after
+opened_inside d site xs what inside out out1 out' asked asked1 asked' mine mine1 mine' u result none same flat own h k =
+    let o = opened d site xs what out out1 asked asked1 mine mine1 u none same h in
+    ran_after {A = Unit {0}} d (record { value = tt; reads = xs }) (λ i. Group site 0 what inside End) out out' asked
+    asked1 asked' mine mine1 mine' result o.came o.charged
+    (ran_group d site what inside out out1 out' asked1 asked' mine1 mine' result flat own o.made k)
+
+-- The group of a cell, after the reads of its keys and of its value.
+
+reads_then-append : (xs ys : List ℕ) (t : GroupForest) → reads_then xs (reads_then ys t) ≡ reads_then (xs ++ ys) t
+reads_then-append [] ys t = refl
+reads_then-append (x ∷ xs) ys t = ap (λ u. Read x u) (reads_then-append xs ys t)
+
+pub cell_stop : {U V : Type 0} (d site : ℕ) (xs ys : List ℕ) (what : GroupKind) (rest : GroupForest)
+    (out out1 out' : List Listed) (asked asked1 mine mine1 mine' : List ℕ) (x : ScratchStop)
+    (result : Result V ScratchStop) →
+    ComposesForest d (reads_then xs (reads_then ys (Group site 0 what End End))) out out1 asked asked1 mine mine1
+    {U = U} (Err x) → result ≡ Err x →
+    ComposesForest d (reads_then xs (reads_then ys (Group site 0 what End rest))) out out' asked asked1 mine mine' result
+cell_stop {U} d site xs ys what rest out out1 out' asked asked1 mine mine1 mine' x result h is =
+    subst (λ (t : GroupForest). ComposesForest d t out out' asked asked1 mine mine' result)
+    (sym (reads_then-append xs ys (Group site 0 what End rest)))
+    (opened_stop d site (xs ++ ys) what End rest out out1 out' asked asked1 mine mine1 mine' x result
+    (subst (λ (t : GroupForest). ComposesForest d t out out1 asked asked1 mine mine1 {U = U} (Err x))
+    (reads_then-append xs ys (Group site 0 what End End)) h) is)
+
+pub cell_rest : {U V : Type 0} (d site : ℕ) (xs ys : List ℕ) (what : GroupKind) (rest : GroupForest)
+    (out out1 out' : List Listed) (asked asked1 asked' mine mine1 mine' : List ℕ) (u : U)
+    (result : Result V ScratchStop) → flat_reads what End ≡ [] → inside_own what End ≡ End →
+    ComposesForest d (reads_then xs (reads_then ys (Group site 0 what End End))) out out1 asked asked1 mine mine1
+    {U = U} (Ok u) → ComposesForest d rest out1 out' asked1 asked' mine1 mine' result →
+    ComposesForest d (reads_then xs (reads_then ys (Group site 0 what End rest))) out out' asked asked' mine mine' result
+unfolding forest_after
+cell_rest {U} d site xs ys what rest out out1 out' asked asked1 asked' mine mine1 mine' u result none same h k =
+    let o = opened d site (xs ++ ys) what out out1 asked asked1 mine mine1 u none same
+    (subst (λ (t : GroupForest). ComposesForest d t out out1 asked asked1 mine mine1 {U = U} (Ok u))
+    (reads_then-append xs ys (Group site 0 what End End)) h) in
+    subst (λ (t : GroupForest). ComposesForest d t out out' asked asked' mine mine' result)
+    (sym (reads_then-append xs ys (Group site 0 what End rest)))
+    (ran_after {A = Unit {0}} d (record { value = tt; reads = xs ++ ys }) (λ i. Group site 0 what End rest) out out'
+    asked asked1 asked' mine mine1 mine' result o.came o.charged
+    (ran_cell d site what rest out out1 out' asked1 asked' mine1 mine' result none same o.made k))
+
 -- One of two forests.
 
 pub ran_first : {U : Type 0} (d : ℕ) (b : Bool) (s t : GroupForest) (out out' : List Listed)
@@ -336,3 +456,47 @@ pub longer_added : {U : Type 0} (before mid later : List Listed) (x : Listed) (r
     → mid ≡ before ++ x ∷ [] → OnOk result (length mid ≤ length later) → OnOk result (length before ≤ length later)
 longer_added before mid later x (Ok u) e h = omega (arith, ap length e, length-append before (x ∷ []), h)
 longer_added before mid later x (Err y) e h = tt
+
+-- What holds of good results holds of an error.
+pub stopped : {U : Type 0} (A : Type 0) (result : Result U ScratchStop) (x : ScratchStop) → result ≡ Err x → OnOk result A
+stopped A (Ok u) x e = cc
+stopped A (Err y) x e = tt
+
+pub stopped_value : {U : Type 0} (P : U → Type 0) (result : Result U ScratchStop) (x : ScratchStop) → result ≡ Err x
+    → IfOk result P
+stopped_value P (Ok u) x e = cc
+stopped_value P (Err y) x e = tt
+
+-- What always holds holds of good results.
+pub on_ok : {U A : Type 0} (result : Result U ScratchStop) → A → OnOk result A
+on_ok (Ok u) a = a
+on_ok (Err x) a = tt
+
+-- Equal to one, which is equal to another.
+pub then_same : {U A : Type 0} (a b c : A) (result : Result U ScratchStop) → OnOk result (a ≡ b) → b ≡ c
+    → OnOk result (a ≡ c)
+then_same a b c (Ok u) e f = e ∙ f
+then_same a b c (Err x) e f = tt
+
+-- A group that is appended if there is no error.
+pub added_on : {U : Type 0} (before start mid : List Listed) (x y : Listed) (result : Result U ScratchStop)
+    → OnOk result (mid ≡ before ++ x ∷ []) → x ≡ y → before ≡ start → OnOk result (mid ≡ start ++ y ∷ [])
+added_on before start mid x y (Ok u) h e f = added_to h e f
+added_on before start mid x y (Err z) h e f = tt
+
+pub one_added : {U : Type 0} (before mid : List Listed) (x : Listed) (result : Result U ScratchStop)
+    → OnOk result (mid ≡ before ++ x ∷ []) → OnOk result (length mid ≡ length before + 1)
+one_added before mid x (Ok u) e = omega (arith, ap length e, length-append before (x ∷ []))
+one_added before mid x (Err y) e = tt
+
+pub longer_by_one : {U : Type 0} (before mid : List Listed) (result : Result U ScratchStop)
+    → OnOk result (length mid ≡ length before + 1) → OnOk result (length before ≤ length mid)
+longer_by_one before mid (Ok u) e = omega (arith, e)
+longer_by_one before mid (Err y) e = tt
+
+-- A list that is as long as one, which is longer than another by one, or longer.
+pub longer_after : {U : Type 0} (before mid later : List Listed) (result : Result U ScratchStop)
+    → length before ≤ length mid → OnOk result (length mid ≤ length later)
+    → OnOk result (length before ≤ length later)
+longer_after before mid later (Ok u) e h = omega (arith, e, h)
+longer_after before mid later (Err y) e h = tt

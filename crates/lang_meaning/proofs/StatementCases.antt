@@ -1,14 +1,14 @@
 -- The forest of a statement in memory, by its parts, and the forest of a list of statements.
-use Rattle.std.proofs.Common.{ℕ, zero, suc, ◌+◌, ◌<◌, ◌≤◌, ◌≡◌, List, [], ◌∷◌, length, drop, take, get_or, drop-cons, Vec, Global, Result, refl, ap, ◌∙◌, sym, subst, arith}
+use Rattle.std.proofs.Common.{ℕ, zero, suc, ◌+◌, ◌<◌, ◌≤◌, ◌≡◌, List, [], ◌∷◌, ◌++◌, length, drop, take, get_or, drop-cons, Vec, Global, Result, refl, ap, ◌∙◌, sym, subst, arith}
 use Rattle.std.proofs.lemmas.List.{drop_all}
 use Rattle.rt_values.specs.declared.value.Value.{Value}
 use Rattle.rt_groups.specs.declared.groups.Group.{Group as Listed}
 use Rattle.rt_values.specs.Maps.{Map}
 use Rattle.rt_groups.specs.GroupForest.{GroupForest, End, joined_forest, how_many}
 use Rattle.rt_groups.specs.PreorderGroups.{preorder}
-use Rattle.lang_ast.specs.Terms.{Stmt, Node, Key, If, For, Let, Remember, Func}
+use Rattle.lang_ast.specs.Terms.{Stmt, Stmts, Node, Key, If, For, Let, Remember, Func}
 use Rattle.lang_ast.specs.SyntaxView.{expr_view, exprs_view, nameds_view, stmt_view, stmts_view, functions_view, function_view}
-use Rattle.lang_ast.specs.Evaluation.{Bindings, eval_all}
+use Rattle.lang_ast.specs.Evaluation.{Bindings, new_binding, eval_all}
 use Rattle.compose_model.specs.Composing.{forest_after, bind, forest, meaning_at, meanings, run_all}
 use Rattle.lang_ast.specs.declared.syntax.Ident.{Ident}
 use Rattle.lang_ast.specs.declared.syntax.Named.{Named}
@@ -141,6 +141,25 @@ remember_ran m fs s env at site name keys value body names slice d out out' aske
     (Remember 0 site name (nameds_view l) (expr_view value) (stmts_view body.items)) env) (sym e1)
     ∙ ap (λ (l : List Statement). statement_forest m fs
     (Remember 0 site name (nameds_view names) (expr_view value) (stmts_view l)) env) (sym e2))) h
+
+-- Statements with equal variables in scope.
+
+pub body_as : {U : Type 0} (m : Map) (fs : List Function) (body : Stmts) (env env' : Bindings)
+    (d : ℕ) (out out' : List Listed) (asked asked' mine mine' : List ℕ) (result : Result U ScratchStop) → env ≡ env'
+    → ComposesForest d (body_forest m fs body env) out out' asked asked' mine mine' result
+    → ComposesForest d (body_forest m fs body env') out out' asked asked' mine mine' result
+body_as m fs body env env' d out out' asked asked' mine mine' result e h =
+    subst (λ (s : Bindings). ComposesForest d (body_forest m fs body s) out out' asked asked' mine mine' result) e h
+
+pub bound_as : {U : Type 0} (m : Map) (fs : List Function) (body : Stmts) (name : List ℕ) (env env' : Bindings)
+    (v v' : Value) (d : ℕ) (out out' : List Listed) (asked asked' mine mine' : List ℕ) (result : Result U ScratchStop)
+    → env ≡ env' → v ≡ v' →
+    ComposesForest d (body_forest m fs body (env ++ new_binding name v ∷ [])) out out' asked asked' mine mine' result
+    → ComposesForest d (body_forest m fs body (env' ++ new_binding name v' ∷ [])) out out' asked asked' mine mine'
+    result
+bound_as m fs body name env env' v v' d out out' asked asked' mine mine' result e f h =
+    body_as m fs body _ _ d out out' asked asked' mine mine' result
+    (ap (λ (s : Bindings). s ++ new_binding name v ∷ []) e ∙ ap (λ (w : Value). env' ++ new_binding name w ∷ []) f) h
 
 -- A call makes the forest of the body of its function, which sees only the earlier functions.
 

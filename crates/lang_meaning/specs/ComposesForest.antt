@@ -1,5 +1,5 @@
 -- Internal: the contract of the functions that compose a part of a program.
-use Rattle.std.specs.Prelude.{ℕ, ℤ, ◌++◌, ◌≡◌, ◌<◌, ◌≤◌, List, [], ◌∷◌, length, Result, Err, OnOk, OnErr}
+use Rattle.std.specs.Prelude.{ℕ, ℤ, ◌++◌, ◌≡◌, ◌<◌, ◌≤◌, List, [], ◌∷◌, length, map, Result, Err, OnOk, OnErr}
 use Rattle.rt_values.specs.declared.value.Value.{Value}
 use Rattle.rt_values.specs.declared.value.Value.TheVariants as value
 use Rattle.rt_values.specs.Maps.{Map}
@@ -10,10 +10,10 @@ use Rattle.rt_groups.specs.PreorderGroups.{preorder}
 use Rattle.rt_groups.specs.Frames.{most_groups}
 use Rattle.rt_groups.specs.declared.groups.Group.{Group}
 use Rattle.lang_ast.specs.declared.syntax.Function.{Function}
-use Rattle.lang_ast.specs.Terms.{Stmt, Stmts}
+use Rattle.lang_ast.specs.Terms.{Expr, Named, Stmt, Stmts}
 use Rattle.lang_ast.specs.SyntaxView.{functions_view}
-use Rattle.lang_ast.specs.Evaluation.{Bindings, new_binding}
-use Rattle.compose_model.specs.Composing.{group, meaning_at, meanings, run, run_all, turns}
+use Rattle.lang_ast.specs.Evaluation.{Bindings, new_binding, eval, eval_named}
+use Rattle.compose_model.specs.Composing.{forest_after, group, meaning_at, meanings, run, run_all, turns}
 use Rattle.lang_meaning.specs.declared.composition.Level.{Level}
 use Rattle.lang_meaning.specs.declared.composition.Progress.{Progress}
 use Rattle.lang_meaning.specs.declared.composition.ScratchStop.{ScratchStop}
@@ -68,6 +68,12 @@ call_at level site function arguments m = call_forest m level.functions.now site
 
 abbrev pub loop_at : Level → List ℕ → Stmts → Bindings → List ℤ → Map → GroupForest
 loop_at level name body env items m = loop_forest m level.functions.now name body env items
+
+-- The forest of a cell: the reads of its keys and of its value, and its group.
+abbrev pub cell_at : ℕ → List Named → Expr → Bindings → Map → GroupForest
+cell_at site keys e env m =
+    forest_after (eval_named m keys env) (λ ks. forest_after (eval m e ks) (λ v.
+    group site (trail.Cell (map (λ b. b.value) ks) v) trail.End))
 
 -- `HasRoom level made`: the depth is possible after these groups, and there are not more groups than the limit.
 abbrev pub HasRoom : Level → Progress → Type 0

@@ -1,15 +1,17 @@
 // Composing from scratch.
-ghost use Rattle.std.specs.Prelude.{◌≡◌, ◌≤◌, ◌<◌, ◌++◌, ◌∷◌, [], Err, length, IfOk, OnOk, OnErr};
+ghost use Rattle.std.specs.Prelude.{List, ◌≡◌, ◌+◌, ◌≤◌, ◌<◌, ◌++◌, ◌∷◌, [], Err, length, IfOk, OnOk, OnErr};
 ghost use Rattle.rt_values.specs.Maps.{Map};
 ghost use Rattle.rt_values.specs.Views.{Grew};
+ghost use Rattle.rt_groups.specs.declared.groups.Group.{Group as group_data};
+ghost use Rattle.rt_groups.specs.declared.groups.GroupKind.TheVariants.{Call};
 ghost use Rattle.rt_groups.specs.GroupForest.{asks, how_many};
 ghost use Rattle.rt_groups.specs.PreorderGroups.{flat_group, preorder};
 ghost use Rattle.rt_groups.specs.Frames.{most_groups};
-ghost use Rattle.lang_ast.specs.Terms.{Node, Key, If, For, Let, Remember};
+ghost use Rattle.lang_ast.specs.Terms.{Node, Key, If, For, Let, Remember, done};
 ghost use Rattle.lang_ast.specs.SyntaxView.{expr_view, exprs_view, nameds_view, stmt_view, stmts_view, functions_view};
-ghost use Rattle.lang_ast.specs.Evaluation.{new_binding, eval_all};
-ghost use Rattle.compose_model.specs.Composing.{forest_after, forest};
-ghost use Rattle.lang_meaning.specs.ComposesForest.{Composes, HasRoom, statement_at, body_at, call_at, loop_at};
+ghost use Rattle.lang_ast.specs.Evaluation.{new_binding, eval, eval_all, eval_named};
+ghost use Rattle.compose_model.specs.Composing.{bind, forest_after, forest};
+ghost use Rattle.lang_meaning.specs.ComposesForest.{Composes, HasRoom, statement_at, body_at, call_at, loop_at, cell_at};
 
 use crate::arguments::{bind, evaluate_all, evaluate_attributes, evaluate_keys};
 use crate::evaluation::eval_noting;
@@ -86,6 +88,128 @@ impl Level<'_> {
             reads: Objects::new(self.alloc),
         }
     }
+}
+
+// Evaluates the attributes of a node, and appends its group without children.
+fn add_node<V: View>(
+    level: &Level,
+    site: u32,
+    kind: &Ident,
+    attributes: &[Named],
+    made: &mut Progress,
+    view: &mut V,
+) -> Result<(), ScratchStop>
+    requires { HasRoom level.now made.old }
+    ensures more { OnOk result (length made.new.groups ≡ length made.old.groups + 1) }
+    ensures composed { Composes V.shows V.asked V.keeps level.now.depth
+        (statement_at level.now (Node 0 site kind.now (nameds_view attributes.now) done) made.old.scope)
+        view.old view.new made.old made.new result }
+{
+    let room = made
+        .groups
+        .take_spare_attributes(level.alloc, attributes.len())?;
+    let attributes = evaluate_attributes(
+        level.alloc,
+        room,
+        attributes,
+        &made.scope,
+        view,
+        &mut made.reads,
+    )?;
+    let kind = kind.text.copy()?;
+    let node = GroupKind::Node { kind, attributes };
+    add_group(&mut made.groups, level.group(site, node))
+}
+
+// Evaluates a key, and appends its group without children.
+fn add_key<V: View>(
+    level: &Level,
+    site: u32,
+    key: &Expression,
+    made: &mut Progress,
+    view: &mut V,
+) -> Result<(), ScratchStop>
+    requires { HasRoom level.now made.old }
+    ensures more { OnOk result (length made.new.groups ≡ length made.old.groups + 1) }
+    ensures composed { Composes V.shows V.asked V.keeps level.now.depth
+        (statement_at level.now (Key 0 site (expr_view key.now) done) made.old.scope)
+        view.old view.new made.old made.new result }
+{
+    let key = eval_noting(level.alloc, key, &made.scope, view, &mut made.reads)?;
+    add_group(&mut made.groups, level.group(site, GroupKind::Key(key)))
+}
+
+// Evaluates the keys and the value of a cell, and appends its group. Returns the value.
+fn add_cell<V: View>(
+    level: &Level,
+    site: u32,
+    keys: &[Named],
+    value: &Expression,
+    made: &mut Progress,
+    view: &mut V,
+) -> Result<Value, ScratchStop>
+    requires { HasRoom level.now made.old }
+    ensures value { (m : Map) → V.shows view.old m → IfOk result (λ v. v ≡
+        (eval m (expr_view value.now) (eval_named m (nameds_view keys.now) made.old.scope).value).value) }
+    ensures composed { Composes V.shows V.asked V.keeps level.now.depth
+        (cell_at site (nameds_view keys.now) (expr_view value.now) made.old.scope)
+        view.old view.new made.old made.new result }
+{
+    let room = Env::new(level.alloc);
+    let keys = evaluate_keys(level.alloc, room, keys, &made.scope, view, &mut made.reads)?;
+    let value = eval_noting(level.alloc, value, &keys, view, &mut made.reads)?;
+    let keys = keys.into_values(level.alloc)?;
+    let copy = value.copy(level.alloc)?;
+    let cell = GroupKind::Cell { keys, value: copy };
+    add_group(&mut made.groups, level.group(site, cell))?;
+    Ok(value)
+}
+
+// Starts a call after `groups`: binds the parameters of its function, and appends the group of the call. `groups` has
+// no meaning afterwards.
+fn enter_call(
+    level: &Level,
+    site: u32,
+    function: usize,
+    callee: &Function,
+    arguments: Values,
+    groups: &mut Groups,
+) -> Result<Progress, ScratchStop>
+    requires { length groups.old ≤ most_groups }
+    ensures scope { IfOk result (λ p. p.scope ≡ bind callee.now.parameters.items arguments) }
+    ensures reads { IfOk result (λ p. p.reads ≡ []) }
+    ensures groups { IfOk result (λ p.
+        p.groups ≡ groups.old ++ flat_group level.now.depth site 0 (Call function arguments) [] ∷ []) }
+    ensures fits { IfOk result (λ p. length p.groups ≤ most_groups) }
+    ensures full { result ≡ Err ScratchStop.TooManyGroups → length groups.old ≡ most_groups }
+{
+    let room = Env::new(level.alloc);
+    let scope = bind(level.alloc, room, &callee.parameters, &arguments)?;
+    let mut inner = Progress {
+        scope,
+        reads: Objects::new(level.alloc),
+        groups: mem::replace(groups, Groups::new(level.alloc)),
+    };
+    let call = GroupKind::Call {
+        function,
+        arguments,
+    };
+    add_group(&mut inner.groups, level.group(site, call))?;
+    Ok(inner)
+}
+
+// Ends a call whose group is at index `place`: this group gets the reads of the call. Returns the groups.
+fn leave_call(inner: Progress, place: usize) -> Groups
+    requires { place < length inner.groups }
+    ensures len { length result ≡ length inner.groups }
+    ensures reads { (before after : List group_data) (g : group_data) →
+        length before ≡ place → inner.groups ≡ before ++ (g ∷ after) →
+        result ≡ before ++ (flat_group g.depth g.site g.number g.what inner.reads ∷ after) }
+{
+    let own_reads = inner.reads;
+    let mut groups = inner.groups;
+    groups.set_reads(place, own_reads);
+    groups
 }
 
 // Composes statements in order.
@@ -186,20 +310,7 @@ fn run_node<V: View>(
         (Node 0 site kind.now (nameds_view attributes.now) (stmts_view body.now)) made.old.scope)
         view.old view.new made.old made.new result }
 {
-    let room = made
-        .groups
-        .take_spare_attributes(level.alloc, attributes.len())?;
-    let attributes = evaluate_attributes(
-        level.alloc,
-        room,
-        attributes,
-        &made.scope,
-        view,
-        &mut made.reads,
-    )?;
-    let kind = kind.text.copy()?;
-    let node = GroupKind::Node { kind, attributes };
-    add_group(&mut made.groups, level.group(site, node))?;
+    add_node(level, site, kind, attributes, made, view)?;
     let inside = Level {
         alloc: level.alloc,
         functions: level.functions,
@@ -223,8 +334,7 @@ fn run_key<V: View>(
         (statement_at level.now (Key 0 site (expr_view key.now) (stmts_view body.now)) made.old.scope)
         view.old view.new made.old made.new result }
 {
-    let key = eval_noting(level.alloc, key, &made.scope, view, &mut made.reads)?;
-    add_group(&mut made.groups, level.group(site, GroupKind::Key(key)))?;
+    add_key(level, site, key, made, view)?;
     let inside = Level {
         alloc: level.alloc,
         functions: level.functions,
@@ -355,13 +465,7 @@ fn run_remember<V: View>(
         (Remember 0 site name.now (nameds_view keys.now) (expr_view value.now) (stmts_view body.now)) made.old.scope)
         view.old view.new made.old made.new result }
 {
-    let room = Env::new(level.alloc);
-    let keys = evaluate_keys(level.alloc, room, keys, &made.scope, view, &mut made.reads)?;
-    let value = eval_noting(level.alloc, value, &keys, view, &mut made.reads)?;
-    let keys = keys.into_values(level.alloc)?;
-    let copy = value.copy(level.alloc)?;
-    let cell = GroupKind::Cell { keys, value: copy };
-    add_group(&mut made.groups, level.group(site, cell))?;
+    let value = add_cell(level, site, keys, value, made, view)?;
     run_bound(level, name, value, body, made, view)
 }
 
@@ -414,35 +518,18 @@ fn run_call<V: View>(
             function,
             arguments,
         };
-        add_group(&mut made.groups, level.group(site, call))?;
-        return Ok(());
+        return add_group(&mut made.groups, level.group(site, call));
     }
     let callee = &level.functions[function];
-    let room = Env::new(level.alloc);
-    let scope = bind(level.alloc, room, &callee.parameters, &arguments)?;
-    let reads = Objects::new(level.alloc);
-    let groups = mem::replace(&mut made.groups, Groups::new(level.alloc));
-    let mut inner = Progress {
-        scope,
-        reads,
-        groups,
-    };
-    let place = inner.groups.len();
-    let call = GroupKind::Call {
-        function,
-        arguments,
-    };
-    add_group(&mut inner.groups, level.group(site, call))?;
+    let place = made.groups.len();
+    let mut inner = enter_call(level, site, function, callee, arguments, &mut made.groups)?;
     let inside = Level {
         alloc: level.alloc,
         functions: &level.functions[..function],
         depth: level.depth + 1,
     };
     run_all(&inside, &callee.body, &mut inner, view)?;
-    let own_reads = inner.reads;
-    let mut groups = inner.groups;
-    groups.set_reads(place, own_reads);
-    made.groups = groups;
+    made.groups = leave_call(inner, place);
     Ok(())
 }
 

@@ -1,60 +1,61 @@
-use Rattle.std.proofs.Common.{rules, ◌≡◌, ◌<◌, ◌++◌, ◌+◌, ◌∷◌, [], arith, sym, ap, ◌∙◌, subst, List, ℕ, ℤ, pos, Err, Ok, refl, length, length-append, get_or, map, true, false, to_z, of_z, w64}
+use Rattle.std.proofs.Common.{rules, ◌≡◌, ◌++◌, ◌∷◌, [], arith, sym, ap, ◌∙◌, subst, List, ℤ, pos, Err, Ok, refl, length, length-append, get_or, true, false, to_z, of_z, w64}
 use Rattle.rt_values.specs.declared.value.Value.{Value}
 use Rattle.rt_values.specs.declared.value.Value.TheVariants as value
 use Rattle.rt_groups.specs.declared.groups.GroupKind.TheVariants as what
-use Rattle.rt_groups.specs.declared.groups.Attribute.{Attribute}
 use Rattle.rt_groups.specs.PreorderGroups.{flat_group}
 use Rattle.rt_values.specs.Maps.{Map}
 use Rattle.rt_values.specs.Operators.{is_true, items_of}
-use Rattle.rt_groups.specs.GroupForest.{GroupForest, asks, own_part}
-use Rattle.rt_values.specs.Views.{Grew}
+use Rattle.rt_groups.specs.GroupForest.{GroupForest, End, Group, Call}
 use Rattle.lang_ast.specs.declared.binding.Binding.{Binding}
-use Rattle.lang_ast.specs.ResultsWithReads.{Reading}
-use Rattle.lang_ast.specs.Evaluation.{new_binding, eval, eval_named}
-use Rattle.lang_ast.specs.SyntaxView.{expr_view, nameds_view, stmt_view, stmts_view}
+use Rattle.lang_ast.specs.declared.syntax.Function.{Function}
+use Rattle.lang_ast.specs.Evaluation.{new_binding, eval}
+use Rattle.lang_ast.specs.SyntaxView.{expr_view, stmt_view, stmts_view}
+use Rattle.compose_model.specs.Composing.{forest_after}
 use Rattle.lang_meaning.specs.ComposesForest.{ComposesForest, statement_forest, body_forest, call_forest, loop_forest}
+use Rattle.lang_meaning.specs.declared.composition.ScratchStop.{ScratchStop}
 use Rattle.lang_meaning.specs.declared.composition.ScratchStop.TheVariants.{NoMemory}
-use Rattle.lang_meaning.proofs.Grows.{grew_none, grew_all}
+use Rattle.lang_meaning.proofs.Grows.{grew_none}
 use Rattle.lang_meaning.proofs.Sizes.{size_at, falls_at}
-use Rattle.lang_meaning.proofs.StatementCases.{all_at, all_end, node_ran, call_ran, key_ran, choice_ran, loop_ran, binding_ran, remember_ran, call_body, call_none}
-use Rattle.lang_meaning.proofs.ForestSteps.{added_to, longer_added, ran_end, ran_stop, ran_stop_after, ran_after, ran_full, ran_group, ran_call, ran_call_stop, ran_cell, ran_first, ran_second, going_more, going_done, going_stop, turns_at, turns_end}
+use Rattle.lang_meaning.proofs.StatementCases.{all_at, all_end, node_ran, call_ran, key_ran, choice_ran, loop_ran, binding_ran, remember_ran, body_as, bound_as, call_body, call_none}
+use Rattle.lang_meaning.proofs.ForestSteps.{stopped, on_ok, then_same, one_added, added_on, longer_by_one, longer_after, ran_stop, ran_stop_after, ran_after, ran_full_as, ran_added, ran_call, ran_call_stop, ran_first, ran_second, opened_stop, opened_inside, cell_stop, cell_rest, going_more, going_done, going_stop, turns_at, turns_end}
 use Rattle.lang_meaning.proofs.composition.+run.Goals as goal
 
 -- Statements one after another.
 
 pub run_all-returns : goal.run_all-returns
 run_all-returns g t c = record {
-  keeps = search (rules, g.met.V.View.keeps_on, g.met.V.View.keeps_itself);
-  same = search rules;
-  same_scope = search rules;
-  longer = search rules;
-  fits = search rules;
+  keeps = c.loop-statement.invariant.keeps;
+  same = c.loop-statement.invariant.same;
+  same_scope = c.loop-statement.invariant.same_scope;
+  longer = c.loop-statement.invariant.longer;
+  fits = c.loop-statement.invariant.fits;
   ran = λ m h. going_done _ _ _ _ _ _ _ _ _
       (all_end m c.args.level.now.functions.now c.args.body.now c.loop-statement.statement-index c.args.made.now.scope
       (omega arith)) (c.loop-statement.invariant.going m h);
 }
 
 pub run_all-returns-in_err-run_one : goal.run_all-returns-in_err-run_one
-run_all-returns-in_err-run_one g t c = record {
-  keeps = search (rules, g.met.V.View.keeps_on, g.met.V.View.keeps_itself);
-  same = search rules;
-  same_scope = search rules;
-  longer = search rules;
-  fits = search rules;
-  ran = λ m h.
-      let e : c.from_residual.result ≡ Err c.in_err-run_one.field-0.0 = search rules in
-      let P : List Binding → Type 0 = λ env. ComposesForest c.args.level.now.depth
-      (statement_forest m c.args.level.now.functions.now (stmt_view c.statement-item.result) env)
-      c.loop-statement.made.groups c.run_one.new.made.groups (g.V.View.asked c.loop-statement.view)
-      (g.V.View.asked c.run_one.new.view)
-      c.loop-statement.made.reads c.run_one.new.made.reads {U = Unit {0}} (Err c.in_err-run_one.field-0.0) in
-      let ran = subst P c.loop-statement.invariant.same_scope
-      (c.in_err-run_one.ensures.ran m (c.loop-statement.invariant.same m h)) in
-      going_stop _ _ _ _ _ _ _ _ _ _ _ _ _ _ _ _
-      (all_at m c.args.level.now.functions.now c.args.body.now c.loop-statement.statement-index
-      c.statement-item.result c.args.made.now.scope (omega arith) c.statement-item.is)
-      (c.loop-statement.invariant.going m h) ran e;
-}
+run_all-returns-in_err-run_one g t c =
+    let e : c.from_residual.result ≡ Err c.in_err-run_one.field-0.0 = search rules in
+    record {
+      keeps = g.met.V.View.keeps_on _ _ _ c.loop-statement.invariant.keeps c.in_err-run_one.ensures.keeps;
+      same = λ m h. c.in_err-run_one.ensures.same m (c.loop-statement.invariant.same m h);
+      same_scope = stopped _ _ _ e;
+      longer = stopped _ _ _ e;
+      fits = stopped _ _ _ e;
+      ran = λ m h.
+          let P : List Binding → Type 0 = λ env. ComposesForest c.args.level.now.depth
+          (statement_forest m c.args.level.now.functions.now (stmt_view c.statement-item.result) env)
+          c.loop-statement.made.groups c.run_one.new.made.groups (g.V.View.asked c.loop-statement.view)
+          (g.V.View.asked c.run_one.new.view)
+          c.loop-statement.made.reads c.run_one.new.made.reads {U = Unit {0}} (Err c.in_err-run_one.field-0.0) in
+          let ran = subst P c.loop-statement.invariant.same_scope
+          (c.in_err-run_one.ensures.ran m (c.loop-statement.invariant.same m h)) in
+          going_stop _ _ _ _ _ _ _ _ _ _ _ _ _ _ _ _
+          (all_at m c.args.level.now.functions.now c.args.body.now c.loop-statement.statement-index
+          c.statement-item.result c.args.made.now.scope (omega arith) c.statement-item.is)
+          (c.loop-statement.invariant.going m h) ran e;
+    }
 
 pub run_all-loop-statement-preserved : goal.run_all-loop-statement-preserved
 run_all-loop-statement-preserved g t c =
@@ -88,206 +89,163 @@ run_all-run_one-requires g t c κs w =
 
 pub run_one-returns-in-Node : goal.run_one-returns-in-Node
 run_one-returns-in-Node g t c = record {
-  keeps = search (rules, g.met.V.View.keeps_on, g.met.V.View.keeps_itself);
-  same = search rules;
-  same_scope = search rules;
-  longer = search rules;
-  fits = search rules;
-  ran = λ m h. let r = c.run_node.ensures.ran m h in search (rules, node_ran);
+  keeps = c.run_node.ensures.keeps;
+  same = c.run_node.ensures.same;
+  same_scope = c.run_node.ensures.same_scope;
+  longer = c.run_node.ensures.longer;
+  fits = c.run_node.ensures.fits;
+  ran = λ m h.
+      let r = c.run_node.ensures.ran m h in search (rules, node_ran);
 }
 
 pub run_one-returns-in-Call : goal.run_one-returns-in-Call
 run_one-returns-in-Call g t c = record {
-  keeps = search (rules, g.met.V.View.keeps_on, g.met.V.View.keeps_itself);
-  same = search rules;
-  same_scope = search rules;
-  longer = search rules;
-  fits = search rules;
-  ran = λ m h. let r = c.run_arguments.ensures.ran m h in search (rules, call_ran);
+  keeps = c.run_arguments.ensures.keeps;
+  same = c.run_arguments.ensures.same;
+  same_scope = c.run_arguments.ensures.same_scope;
+  longer = c.run_arguments.ensures.longer;
+  fits = c.run_arguments.ensures.fits;
+  ran = λ m h.
+      let r = c.run_arguments.ensures.ran m h in search (rules, call_ran);
 }
 
 pub run_one-returns-in-Key : goal.run_one-returns-in-Key
 run_one-returns-in-Key g t c = record {
-  keeps = search (rules, g.met.V.View.keeps_on, g.met.V.View.keeps_itself);
-  same = search rules;
-  same_scope = search rules;
-  longer = search rules;
-  fits = search rules;
-  ran = λ m h. let r = c.run_key.ensures.ran m h in search (rules, key_ran);
+  keeps = c.run_key.ensures.keeps;
+  same = c.run_key.ensures.same;
+  same_scope = c.run_key.ensures.same_scope;
+  longer = c.run_key.ensures.longer;
+  fits = c.run_key.ensures.fits;
+  ran = λ m h.
+      let r = c.run_key.ensures.ran m h in search (rules, key_ran);
 }
 
 pub run_one-returns-in-If : goal.run_one-returns-in-If
 run_one-returns-in-If g t c = record {
-  keeps = search (rules, g.met.V.View.keeps_on, g.met.V.View.keeps_itself);
-  same = search rules;
-  same_scope = search rules;
-  longer = search rules;
-  fits = search rules;
-  ran = λ m h. let r = c.run_if.ensures.ran m h in search (rules, choice_ran);
+  keeps = c.run_if.ensures.keeps;
+  same = c.run_if.ensures.same;
+  same_scope = c.run_if.ensures.same_scope;
+  longer = c.run_if.ensures.longer;
+  fits = c.run_if.ensures.fits;
+  ran = λ m h.
+      let r = c.run_if.ensures.ran m h in search (rules, choice_ran);
 }
 
 pub run_one-returns-in-For : goal.run_one-returns-in-For
 run_one-returns-in-For g t c = record {
-  keeps = search (rules, g.met.V.View.keeps_on, g.met.V.View.keeps_itself);
-  same = search rules;
-  same_scope = search rules;
-  longer = search rules;
-  fits = search rules;
-  ran = λ m h. let r = c.run_for.ensures.ran m h in search (rules, loop_ran);
+  keeps = c.run_for.ensures.keeps;
+  same = c.run_for.ensures.same;
+  same_scope = c.run_for.ensures.same_scope;
+  longer = c.run_for.ensures.longer;
+  fits = c.run_for.ensures.fits;
+  ran = λ m h.
+      let r = c.run_for.ensures.ran m h in search (rules, loop_ran);
 }
 
 pub run_one-returns-in-Let : goal.run_one-returns-in-Let
 run_one-returns-in-Let g t c = record {
-  keeps = search (rules, g.met.V.View.keeps_on, g.met.V.View.keeps_itself);
-  same = search rules;
-  same_scope = search rules;
-  longer = search rules;
-  fits = search rules;
-  ran = λ m h. let r = c.run_let.ensures.ran m h in search (rules, binding_ran);
+  keeps = c.run_let.ensures.keeps;
+  same = c.run_let.ensures.same;
+  same_scope = c.run_let.ensures.same_scope;
+  longer = c.run_let.ensures.longer;
+  fits = c.run_let.ensures.fits;
+  ran = λ m h.
+      let r = c.run_let.ensures.ran m h in search (rules, binding_ran);
 }
 
 pub run_one-returns-in-Remember : goal.run_one-returns-in-Remember
 run_one-returns-in-Remember g t c = record {
-  keeps = search (rules, g.met.V.View.keeps_on, g.met.V.View.keeps_itself);
-  same = search rules;
-  same_scope = search rules;
-  longer = search rules;
-  fits = search rules;
-  ran = λ m h. let r = c.run_remember.ensures.ran m h in search (rules, remember_ran);
+  keeps = c.run_remember.ensures.keeps;
+  same = c.run_remember.ensures.same;
+  same_scope = c.run_remember.ensures.same_scope;
+  longer = c.run_remember.ensures.longer;
+  fits = c.run_remember.ensures.fits;
+  ran = λ m h.
+      let r = c.run_remember.ensures.ran m h in search (rules, remember_ran);
 }
 
 -- A key.
 
-pub run_key-returns-in_err-key : goal.run_key-returns-in_err-key
-run_key-returns-in_err-key g t c = record {
-  keeps = search (rules, g.met.V.View.keeps_on, g.met.V.View.keeps_itself);
-  same = search rules;
-  same_scope = search rules;
-  longer = search rules;
-  fits = search rules;
-  ran = λ m h.
-      let e : c.from_residual.result ≡ Err NoMemory = search rules in
-      ran_stop_after _ _ _ _ _ _ _ _ _ _ e (c.in_err-key.ensures.part m h);
-}
-
-pub run_key-returns-in_err-add_group : goal.run_key-returns-in_err-add_group
-run_key-returns-in_err-add_group g t c = record {
-  keeps = search (rules, g.met.V.View.keeps_on, g.met.V.View.keeps_itself);
-  same = search rules;
-  same_scope = search rules;
-  longer = search rules;
-  fits = search rules;
-  ran = λ m h.
-      ran_after _ _ _ _ _ _ _ _ _ _ _ _ (c.in_ok-key.ensures.asks m h) (c.in_ok-key.ensures.reads m h)
-      (ran_full _ _ _ _ _ _ _ _ _ _ _ (search rules) (search rules));
-}
+pub run_key-returns-in_err-add_key : goal.run_key-returns-in_err-add_key
+unfolding forest_after
+run_key-returns-in_err-add_key g t c =
+    let e : c.from_residual.result ≡ Err c.in_err-add_key.field-0.0 = search rules in
+    record {
+      keeps = c.in_err-add_key.ensures.composed.keeps;
+      same = c.in_err-add_key.ensures.composed.same;
+      same_scope = stopped _ _ _ e;
+      longer = stopped _ _ _ e;
+      fits = stopped _ _ _ e;
+      ran = λ m h.
+          opened_stop _ _ _ _ _ _ _ _ _ _ _ _ _ _ _ _ (c.in_err-add_key.ensures.composed.ran m h) e;
+    }
 
 pub run_key-returns : goal.run_key-returns
+unfolding forest_after
 run_key-returns g t c = record {
-  keeps = search (rules, g.met.V.View.keeps_on, g.met.V.View.keeps_itself);
-  same = search rules;
-  same_scope = search rules;
-  longer = longer_added _ _ _ _ _ c.in_ok-add_group.ensures.added c.run_all.ensures.longer;
-  fits = search rules;
+  keeps = g.met.V.View.keeps_on _ _ _ c.in_ok-add_key.ensures.composed.keeps c.run_all.ensures.keeps;
+  same = λ m h. c.run_all.ensures.same m (c.in_ok-add_key.ensures.composed.same m h);
+  same_scope = then_same _ _ _ _ c.run_all.ensures.same_scope c.in_ok-add_key.ensures.composed.same_scope;
+  longer = longer_after _ _ _ _ c.in_ok-add_key.ensures.composed.longer c.run_all.ensures.longer;
+  fits = c.run_all.ensures.fits;
   ran = λ m h.
-      let made = c.group.ensures ∙ ap (λ (v : Value). flat_group c.args.level.now.depth c.args.site 0 (what.Key v) [])
-      (c.in_ok-key.ensures.value m h) in
-      let added = c.in_ok-add_group.ensures.added ∙ ap (λ (x : _). c.args.made.now.groups ++ x ∷ []) made in
-      let inner = c.run_all.ensures.ran m (c.eval_noting.ensures.same m h) in
-      ran_after _ _ _ _ _ _ _ _ _ _ _ _ (c.in_ok-key.ensures.asks m h) (c.in_ok-key.ensures.reads m h)
-      (ran_group _ _ _ _ _ _ _ _ _ _ _ _ refl refl added inner);
+      opened_inside _ _ _ _ _ _ _ _ _ _ _ _ _ _ _ _ refl refl refl refl (c.in_ok-add_key.ensures.composed.ran m h)
+      (body_as m c.args.level.now.functions.now (stmts_view c.args.body.now) _ _ _ _ _ _ _ _ _ _
+      c.in_ok-add_key.ensures.composed.same_scope (c.run_all.ensures.ran m (c.in_ok-add_key.ensures.composed.same m h)));
 }
 
 -- A node.
 
-pub run_node-returns-in_err-room : goal.run_node-returns-in_err-room
-run_node-returns-in_err-room g t c = record {
-  keeps = search (rules, g.met.V.View.keeps_on, g.met.V.View.keeps_itself);
-  same = search rules;
-  same_scope = search rules;
-  longer = search rules;
-  fits = search rules;
-  ran = λ m h.
-      let e : c.from_residual.result ≡ Err NoMemory = search rules in
-      ran_stop _ _ _ _ _ _ _ _ _ e (grew_none _ _);
-}
-
-pub run_node-returns-in_err-attributes : goal.run_node-returns-in_err-attributes
-run_node-returns-in_err-attributes g t c = record {
-  keeps = search (rules, g.met.V.View.keeps_on, g.met.V.View.keeps_itself);
-  same = search rules;
-  same_scope = search rules;
-  longer = search rules;
-  fits = search rules;
-  ran = λ m h.
-      let e : c.from_residual-in_err-attributes.result ≡ Err NoMemory = search rules in
-      ran_stop_after _ _ _ _ _ _ _ _ _ _ e (c.in_err-attributes.ensures.part m h);
-}
-
-pub run_node-returns-in_err-kind : goal.run_node-returns-in_err-kind
-run_node-returns-in_err-kind g t c = record {
-  keeps = search (rules, g.met.V.View.keeps_on, g.met.V.View.keeps_itself);
-  same = search rules;
-  same_scope = search rules;
-  longer = search rules;
-  fits = search rules;
-  ran = λ m h.
-      let e : c.from_residual-in_err-kind.result ≡ Err NoMemory = search rules in
-      ran_stop_after _ _ _ _ _ _ _ _ _ _ e (grew_all _ _ _ (c.in_ok-attributes.ensures.asks m h));
-}
-
-pub run_node-returns-in_err-add_group : goal.run_node-returns-in_err-add_group
-run_node-returns-in_err-add_group g t c = record {
-  keeps = search (rules, g.met.V.View.keeps_on, g.met.V.View.keeps_itself);
-  same = search rules;
-  same_scope = search rules;
-  longer = search rules;
-  fits = search rules;
-  ran = λ m h.
-      ran_after _ _ _ _ _ _ _ _ _ _ _ _ (c.in_ok-attributes.ensures.asks m h) (c.in_ok-attributes.ensures.reads m h)
-      (ran_full _ _ _ _ _ _ _ _ _ _ _ (search rules) (search rules));
-}
+pub run_node-returns-in_err-add_node : goal.run_node-returns-in_err-add_node
+unfolding forest_after
+run_node-returns-in_err-add_node g t c =
+    let e : c.from_residual.result ≡ Err c.in_err-add_node.field-0.0 = search rules in
+    record {
+      keeps = c.in_err-add_node.ensures.composed.keeps;
+      same = c.in_err-add_node.ensures.composed.same;
+      same_scope = stopped _ _ _ e;
+      longer = stopped _ _ _ e;
+      fits = stopped _ _ _ e;
+      ran = λ m h.
+          opened_stop _ _ _ _ _ _ _ _ _ _ _ _ _ _ _ _ (c.in_err-add_node.ensures.composed.ran m h) e;
+    }
 
 pub run_node-returns : goal.run_node-returns
+unfolding forest_after
 run_node-returns g t c = record {
-  keeps = search (rules, g.met.V.View.keeps_on, g.met.V.View.keeps_itself);
-  same = search rules;
-  same_scope = search rules;
-  longer = longer_added _ _ _ _ _ (added_to c.in_ok-add_group.ensures.added refl c.take_spare_attributes.ensures.same)
-      c.run_all.ensures.longer;
-  fits = search rules;
+  keeps = g.met.V.View.keeps_on _ _ _ c.in_ok-add_node.ensures.composed.keeps c.run_all.ensures.keeps;
+  same = λ m h. c.run_all.ensures.same m (c.in_ok-add_node.ensures.composed.same m h);
+  same_scope = then_same _ _ _ _ c.run_all.ensures.same_scope c.in_ok-add_node.ensures.composed.same_scope;
+  longer = longer_after _ _ _ _ c.in_ok-add_node.ensures.composed.longer c.run_all.ensures.longer;
+  fits = c.run_all.ensures.fits;
   ran = λ m h.
-      let made = c.group.ensures ∙ ap (λ (k : List ℕ). flat_group c.args.level.now.depth c.args.site 0
-      (what.Node k c.in_ok-attributes.attributes) []) c.in_ok-kind.ensures
-      ∙ ap (λ (all : List Attribute). flat_group c.args.level.now.depth c.args.site 0
-      (what.Node c.args.kind.now.text all) []) (c.in_ok-attributes.ensures.value m h) in
-      let added = added_to c.in_ok-add_group.ensures.added made c.take_spare_attributes.ensures.same in
-      let inner = c.run_all.ensures.ran m (c.evaluate_attributes.ensures.same m h) in
-      ran_after _ _ _ _ _ _ _ _ _ _ _ _ (c.in_ok-attributes.ensures.asks m h) (c.in_ok-attributes.ensures.reads m h)
-      (ran_group _ _ _ _ _ _ _ _ _ _ _ _ refl refl added inner);
+      opened_inside _ _ _ _ _ _ _ _ _ _ _ _ _ _ _ _ refl refl refl refl (c.in_ok-add_node.ensures.composed.ran m h)
+      (body_as m c.args.level.now.functions.now (stmts_view c.args.body.now) _ _ _ _ _ _ _ _ _ _
+      c.in_ok-add_node.ensures.composed.same_scope (c.run_all.ensures.ran m (c.in_ok-add_node.ensures.composed.same m h)));
 }
 
 -- One of two lists of statements.
 
 pub run_if-returns-in_err-condition : goal.run_if-returns-in_err-condition
-run_if-returns-in_err-condition g t c = record {
-  keeps = search (rules, g.met.V.View.keeps_on, g.met.V.View.keeps_itself);
-  same = search rules;
-  same_scope = search rules;
-  longer = search rules;
-  fits = search rules;
-  ran = λ m h.
-      let e : c.from_residual.result ≡ Err NoMemory = search rules in
-      ran_stop_after _ _ _ _ _ _ _ _ _ _ e (c.in_err-condition.ensures.part m h);
-}
+run_if-returns-in_err-condition g t c =
+    let e : c.from_residual.result ≡ Err NoMemory = search rules in
+    record {
+      keeps = c.in_err-condition.ensures.keeps;
+      same = c.in_err-condition.ensures.same;
+      same_scope = stopped _ _ _ e;
+      longer = stopped _ _ _ e;
+      fits = stopped _ _ _ e;
+      ran = λ m h.
+          ran_stop_after _ _ _ _ _ _ _ _ _ _ e (c.in_err-condition.ensures.part m h);
+    }
 
 pub run_if-returns-then-is_true : goal.run_if-returns-then-is_true
 run_if-returns-then-is_true g t c = record {
-  keeps = search (rules, g.met.V.View.keeps_on, g.met.V.View.keeps_itself);
-  same = search rules;
-  same_scope = search rules;
-  longer = search rules;
-  fits = search rules;
+  keeps = g.met.V.View.keeps_on _ _ _ c.in_ok-condition.ensures.keeps c.run_all.ensures.keeps;
+  same = λ m h. c.run_all.ensures.same m (c.in_ok-condition.ensures.same m h);
+  same_scope = c.run_all.ensures.same_scope;
+  longer = c.run_all.ensures.longer;
+  fits = c.run_all.ensures.fits;
   ran = λ m h.
       let inner = c.run_all.ensures.ran m (c.eval_noting.ensures.same m h) in
       let b : is_true (eval m (expr_view c.args.condition.now) c.args.made.now.scope).value ≡ true =
@@ -298,11 +256,11 @@ run_if-returns-then-is_true g t c = record {
 
 pub run_if-returns : goal.run_if-returns
 run_if-returns g t c = record {
-  keeps = search (rules, g.met.V.View.keeps_on, g.met.V.View.keeps_itself);
-  same = search rules;
-  same_scope = search rules;
-  longer = search rules;
-  fits = search rules;
+  keeps = g.met.V.View.keeps_on _ _ _ c.in_ok-condition.ensures.keeps c.run_all-2.ensures.keeps;
+  same = λ m h. c.run_all-2.ensures.same m (c.in_ok-condition.ensures.same m h);
+  same_scope = c.run_all-2.ensures.same_scope;
+  longer = c.run_all-2.ensures.longer;
+  fits = c.run_all-2.ensures.fits;
   ran = λ m h.
       let inner = c.run_all-2.ensures.ran m (c.eval_noting.ensures.same m h) in
       let b : is_true (eval m (expr_view c.args.condition.now) c.args.made.now.scope).value ≡ false =
@@ -314,48 +272,51 @@ run_if-returns g t c = record {
 -- A name more in scope.
 
 pub run_bound-returns-in_err-name : goal.run_bound-returns-in_err-name
-run_bound-returns-in_err-name g t c = record {
-  keeps = search (rules, g.met.V.View.keeps_on, g.met.V.View.keeps_itself);
-  same = search rules;
-  same_scope = search rules;
-  longer = search rules;
-  fits = search rules;
-  ran = λ m h.
-      let e : c.from_residual.result ≡ Err NoMemory = search rules in
-      ran_stop _ _ _ _ _ _ _ _ _ e (grew_none _ _);
-}
+run_bound-returns-in_err-name g t c =
+    let e : c.from_residual.result ≡ Err NoMemory = search rules in
+    record {
+      keeps = g.met.V.View.keeps_itself _;
+      same = λ m h. h;
+      same_scope = stopped _ _ _ e;
+      longer = stopped _ _ _ e;
+      fits = stopped _ _ _ e;
+      ran = λ m h.
+          ran_stop _ _ _ _ _ _ _ _ _ e (grew_none _ _);
+    }
 
 pub run_bound-returns-in_err-push : goal.run_bound-returns-in_err-push
-run_bound-returns-in_err-push g t c = record {
-  keeps = search (rules, g.met.V.View.keeps_on, g.met.V.View.keeps_itself);
-  same = search rules;
-  same_scope = search rules;
-  longer = search rules;
-  fits = search rules;
-  ran = λ m h.
-      let e : c.from_residual-in_err-push.result ≡ Err NoMemory = search rules in
-      ran_stop _ _ _ _ _ _ _ _ _ e (grew_none _ _);
-}
+run_bound-returns-in_err-push g t c =
+    let e : c.from_residual-in_err-push.result ≡ Err NoMemory = search rules in
+    record {
+      keeps = g.met.V.View.keeps_itself _;
+      same = λ m h. h;
+      same_scope = stopped _ _ _ e;
+      longer = stopped _ _ _ e;
+      fits = stopped _ _ _ e;
+      ran = λ m h.
+          ran_stop _ _ _ _ _ _ _ _ _ e (grew_none _ _);
+    }
 
 pub run_let-returns-in_err-value : goal.run_let-returns-in_err-value
-run_let-returns-in_err-value g t c = record {
-  keeps = search (rules, g.met.V.View.keeps_on, g.met.V.View.keeps_itself);
-  same = search rules;
-  same_scope = search rules;
-  longer = search rules;
-  fits = search rules;
-  ran = λ m h.
-      let e : c.from_residual.result ≡ Err NoMemory = search rules in
-      ran_stop_after _ _ _ _ _ _ _ _ _ _ e (c.in_err-value.ensures.part m h);
-}
+run_let-returns-in_err-value g t c =
+    let e : c.from_residual.result ≡ Err NoMemory = search rules in
+    record {
+      keeps = c.in_err-value.ensures.keeps;
+      same = c.in_err-value.ensures.same;
+      same_scope = stopped _ _ _ e;
+      longer = stopped _ _ _ e;
+      fits = stopped _ _ _ e;
+      ran = λ m h.
+          ran_stop_after _ _ _ _ _ _ _ _ _ _ e (c.in_err-value.ensures.part m h);
+    }
 
 pub run_let-returns : goal.run_let-returns
 run_let-returns g t c = record {
-  keeps = search (rules, g.met.V.View.keeps_on, g.met.V.View.keeps_itself);
-  same = search rules;
-  same_scope = search rules;
-  longer = search rules;
-  fits = search rules;
+  keeps = g.met.V.View.keeps_on _ _ _ c.in_ok-value.ensures.keeps c.run_bound.ensures.keeps;
+  same = λ m h. c.run_bound.ensures.same m (c.in_ok-value.ensures.same m h);
+  same_scope = c.run_bound.ensures.same_scope;
+  longer = c.run_bound.ensures.longer;
+  fits = c.run_bound.ensures.fits;
   ran = λ m h.
       let P : Value → Type 0 = λ v. ComposesForest c.args.level.now.depth
       (body_forest m c.args.level.now.functions.now (stmts_view c.args.body.now)
@@ -371,24 +332,25 @@ run_let-returns g t c = record {
 -- A loop.
 
 pub run_for-returns-in_err-list : goal.run_for-returns-in_err-list
-run_for-returns-in_err-list g t c = record {
-  keeps = search (rules, g.met.V.View.keeps_on, g.met.V.View.keeps_itself);
-  same = search rules;
-  same_scope = search rules;
-  longer = search rules;
-  fits = search rules;
-  ran = λ m h.
-      let e : c.from_residual.result ≡ Err NoMemory = search rules in
-      ran_stop_after _ _ _ _ _ _ _ _ _ _ e (c.in_err-list.ensures.part m h);
-}
+run_for-returns-in_err-list g t c =
+    let e : c.from_residual.result ≡ Err NoMemory = search rules in
+    record {
+      keeps = c.in_err-list.ensures.keeps;
+      same = c.in_err-list.ensures.same;
+      same_scope = stopped _ _ _ e;
+      longer = stopped _ _ _ e;
+      fits = stopped _ _ _ e;
+      ran = λ m h.
+          ran_stop_after _ _ _ _ _ _ _ _ _ _ e (c.in_err-list.ensures.part m h);
+    }
 
 pub run_for-returns : goal.run_for-returns
 run_for-returns g t c = record {
-  keeps = search (rules, g.met.V.View.keeps_on, g.met.V.View.keeps_itself);
-  same = search rules;
-  same_scope = search rules;
-  longer = search rules;
-  fits = search rules;
+  keeps = g.met.V.View.keeps_on _ _ _ c.in_ok-list.ensures.keeps c.run_turns.ensures.keeps;
+  same = λ m h. c.run_turns.ensures.same m (c.in_ok-list.ensures.same m h);
+  same_scope = c.run_turns.ensures.same_scope;
+  longer = c.run_turns.ensures.longer;
+  fits = c.run_turns.ensures.fits;
   ran = λ m h.
       let P : List ℤ → Type 0 = λ is. ComposesForest c.args.level.now.depth
       (loop_forest m c.args.level.now.functions.now c.args.name.now.text (stmts_view c.args.body.now)
@@ -402,41 +364,42 @@ run_for-returns g t c = record {
 
 pub run_turns-returns : goal.run_turns-returns
 run_turns-returns g t c = record {
-  keeps = search (rules, g.met.V.View.keeps_on, g.met.V.View.keeps_itself);
-  same = search rules;
-  same_scope = search rules;
-  longer = search rules;
-  fits = search rules;
+  keeps = c.loop-item.invariant.keeps;
+  same = c.loop-item.invariant.same;
+  same_scope = c.loop-item.invariant.same_scope;
+  longer = c.loop-item.invariant.longer;
+  fits = c.loop-item.invariant.fits;
   ran = λ m h. going_done _ _ _ _ _ _ _ _ _ (turns_end _ _ c.loop-item.item-index (omega arith))
       (c.loop-item.invariant.going m h);
 }
 
 pub run_turns-returns-in_err-run_bound : goal.run_turns-returns-in_err-run_bound
-run_turns-returns-in_err-run_bound g t c = record {
-  keeps = search (rules, g.met.V.View.keeps_on, g.met.V.View.keeps_itself);
-  same = search rules;
-  same_scope = search rules;
-  longer = search rules;
-  fits = search rules;
-  ran = λ m h.
-      let fits : to_z w64 (of_z w64 (get_or c.args.items.now c.loop-item.item-index (pos 0))) ≡ get_or c.args.items.now c.loop-item.item-index (pos 0) = search rules in
-      let e : c.from_residual.result ≡ Err c.in_err-run_bound.field-0.0 = search rules in
-      let P : List Binding → ℤ → Type 0 =
-      λ env i. ComposesForest c.args.level.now.depth
-      (body_forest m c.args.level.now.functions.now (stmts_view c.args.body.now)
-      (env ++ new_binding c.args.name.now.text (value.Int i) ∷ [])) c.loop-item.made.groups
-      c.run_bound.new.made.groups
-      (g.V.View.asked c.loop-item.view) (g.V.View.asked c.run_bound.new.view) c.loop-item.made.reads
-      c.run_bound.new.made.reads {U = Unit {0}} (Err c.in_err-run_bound.field-0.0) in
-      let ran = subst (P c.args.made.now.scope) fits
-      (subst (λ (env : List Binding). P env
-      (to_z w64 (of_z w64 (get_or c.args.items.now c.loop-item.item-index (pos 0)))))
-      c.loop-item.invariant.same_scope (c.in_err-run_bound.ensures.ran m (c.loop-item.invariant.same m h))) in
-      let go : ℤ → GroupForest = λ i. body_forest m c.args.level.now.functions.now (stmts_view c.args.body.now)
-      (c.args.made.now.scope ++ new_binding c.args.name.now.text (value.Int i) ∷ []) in
-      going_stop _ _ _ _ _ _ _ _ _ _ _ _ _ _ _ _ (turns_at go c.args.items.now c.loop-item.item-index (omega arith))
-      (c.loop-item.invariant.going m h) ran e;
-}
+run_turns-returns-in_err-run_bound g t c =
+    let e : c.from_residual.result ≡ Err c.in_err-run_bound.field-0.0 = search rules in
+    record {
+      keeps = g.met.V.View.keeps_on _ _ _ c.loop-item.invariant.keeps c.in_err-run_bound.ensures.keeps;
+      same = λ m h. c.in_err-run_bound.ensures.same m (c.loop-item.invariant.same m h);
+      same_scope = stopped _ _ _ e;
+      longer = stopped _ _ _ e;
+      fits = stopped _ _ _ e;
+      ran = λ m h.
+          let fits : to_z w64 (of_z w64 (get_or c.args.items.now c.loop-item.item-index (pos 0))) ≡ get_or c.args.items.now c.loop-item.item-index (pos 0) = search rules in
+          let P : List Binding → ℤ → Type 0 =
+          λ env i. ComposesForest c.args.level.now.depth
+          (body_forest m c.args.level.now.functions.now (stmts_view c.args.body.now)
+          (env ++ new_binding c.args.name.now.text (value.Int i) ∷ [])) c.loop-item.made.groups
+          c.run_bound.new.made.groups
+          (g.V.View.asked c.loop-item.view) (g.V.View.asked c.run_bound.new.view) c.loop-item.made.reads
+          c.run_bound.new.made.reads {U = Unit {0}} (Err c.in_err-run_bound.field-0.0) in
+          let ran = subst (P c.args.made.now.scope) fits
+          (subst (λ (env : List Binding). P env
+          (to_z w64 (of_z w64 (get_or c.args.items.now c.loop-item.item-index (pos 0)))))
+          c.loop-item.invariant.same_scope (c.in_err-run_bound.ensures.ran m (c.loop-item.invariant.same m h))) in
+          let go : ℤ → GroupForest = λ i. body_forest m c.args.level.now.functions.now (stmts_view c.args.body.now)
+          (c.args.made.now.scope ++ new_binding c.args.name.now.text (value.Int i) ∷ []) in
+          going_stop _ _ _ _ _ _ _ _ _ _ _ _ _ _ _ _ (turns_at go c.args.items.now c.loop-item.item-index (omega arith))
+          (c.loop-item.invariant.going m h) ran e;
+    }
 
 pub run_turns-loop-item-preserved : goal.run_turns-loop-item-preserved
 run_turns-loop-item-preserved g t c =
@@ -467,139 +430,57 @@ run_turns-loop-item-preserved g t c =
 
 -- A cell.
 
-pub run_remember-returns-in_err-keys : goal.run_remember-returns-in_err-keys
-run_remember-returns-in_err-keys g t c = record {
-  keeps = search (rules, g.met.V.View.keeps_on, g.met.V.View.keeps_itself);
-  same = search rules;
-  same_scope = search rules;
-  longer = search rules;
-  fits = search rules;
-  ran = λ m h.
-      let e : c.from_residual.result ≡ Err NoMemory = search rules in
-      ran_stop_after _ _ _ _ _ _ _ _ _ _ e (c.in_err-keys.ensures.part m h);
-}
-
 pub run_remember-returns-in_err-value : goal.run_remember-returns-in_err-value
-run_remember-returns-in_err-value g t c = record {
-  keeps = search (rules, g.met.V.View.keeps_on, g.met.V.View.keeps_itself);
-  same = search rules;
-  same_scope = search rules;
-  longer = search rules;
-  fits = search rules;
-  ran = λ m h.
-      let ev = ap (λ (k : List Binding). eval m (expr_view c.args.value.now) k) (c.in_ok-keys.ensures.value m h) in
-      let e : c.from_residual-in_err-value.result ≡ Err NoMemory = search rules in
-      let part = subst (λ (r : Reading Value). Grew (g.V.View.asked c.evaluate_keys.new.view)
-      (g.V.View.asked c.eval_noting.new.view) r.reads) ev
-      (c.in_err-value.ensures.part m (c.in_ok-keys.ensures.same m h)) in
-      ran_after _ _ _ _ _ _ _ _ _ _ _ _ (c.in_ok-keys.ensures.asks m h) (c.in_ok-keys.ensures.reads m h)
-      (ran_stop_after _ _ _ _ _ _ _ _ _ _ e part);
-}
-
-pub run_remember-returns-in_err-keys-2 : goal.run_remember-returns-in_err-keys-2
-run_remember-returns-in_err-keys-2 g t c = record {
-  keeps = search (rules, g.met.V.View.keeps_on, g.met.V.View.keeps_itself);
-  same = search rules;
-  same_scope = search rules;
-  longer = search rules;
-  fits = search rules;
-  ran = λ m h.
-      let ev = ap (λ (k : List Binding). eval m (expr_view c.args.value.now) k) (c.in_ok-keys.ensures.value m h) in
-      let asks = c.in_ok-value.ensures.asks m (c.in_ok-keys.ensures.same m h)
-      ∙ ap (λ (r : Reading Value). g.V.View.asked c.evaluate_keys.new.view ++ r.reads) ev in
-      let e : c.from_residual-in_err-keys-2.result ≡ Err NoMemory = search rules in
-      ran_after _ _ _ _ _ _ _ _ _ _ _ _ (c.in_ok-keys.ensures.asks m h) (c.in_ok-keys.ensures.reads m h)
-      (ran_stop_after _ _ _ _ _ _ _ _ _ _ e (grew_all _ _ _ asks));
-}
-
-pub run_remember-returns-in_err-copy : goal.run_remember-returns-in_err-copy
-run_remember-returns-in_err-copy g t c = record {
-  keeps = search (rules, g.met.V.View.keeps_on, g.met.V.View.keeps_itself);
-  same = search rules;
-  same_scope = search rules;
-  longer = search rules;
-  fits = search rules;
-  ran = λ m h.
-      let ev = ap (λ (k : List Binding). eval m (expr_view c.args.value.now) k) (c.in_ok-keys.ensures.value m h) in
-      let asks = c.in_ok-value.ensures.asks m (c.in_ok-keys.ensures.same m h)
-      ∙ ap (λ (r : Reading Value). g.V.View.asked c.evaluate_keys.new.view ++ r.reads) ev in
-      let e : c.from_residual-in_err-copy.result ≡ Err NoMemory = search rules in
-      ran_after _ _ _ _ _ _ _ _ _ _ _ _ (c.in_ok-keys.ensures.asks m h) (c.in_ok-keys.ensures.reads m h)
-      (ran_stop_after _ _ _ _ _ _ _ _ _ _ e (grew_all _ _ _ asks));
-}
-
-pub run_remember-returns-in_err-add_group : goal.run_remember-returns-in_err-add_group
-run_remember-returns-in_err-add_group g t c = record {
-  keeps = search (rules, g.met.V.View.keeps_on, g.met.V.View.keeps_itself);
-  same = search rules;
-  same_scope = search rules;
-  longer = search rules;
-  fits = search rules;
-  ran = λ m h.
-      let ev = ap (λ (k : List Binding). eval m (expr_view c.args.value.now) k) (c.in_ok-keys.ensures.value m h) in
-      let asks = c.in_ok-value.ensures.asks m (c.in_ok-keys.ensures.same m h)
-      ∙ ap (λ (r : Reading Value). g.V.View.asked c.evaluate_keys.new.view ++ r.reads) ev in
-      let reads = c.in_ok-value.ensures.reads m (c.in_ok-keys.ensures.same m h)
-      ∙ ap (λ (r : Reading Value). c.evaluate_keys.new.reads ++ r.reads) ev in
-      ran_after _ _ _ _ _ _ _ _ _ _ _ _ (c.in_ok-keys.ensures.asks m h) (c.in_ok-keys.ensures.reads m h)
-      (ran_after _ _ _ _ _ _ _ _ _ _ _ _ asks reads (ran_full _ _ _ _ _ _ _ _ _ _ _ (search rules) (search rules)));
-}
+unfolding forest_after
+run_remember-returns-in_err-value g t c =
+    let e : c.from_residual.result ≡ Err c.in_err-value.field-0.0 = search rules in
+    record {
+      keeps = c.in_err-value.ensures.composed.keeps;
+      same = c.in_err-value.ensures.composed.same;
+      same_scope = stopped _ _ _ e;
+      longer = stopped _ _ _ e;
+      fits = stopped _ _ _ e;
+      ran = λ m h.
+          cell_stop _ _ _ _ _ _ _ _ _ _ _ _ _ _ _ _ (c.in_err-value.ensures.composed.ran m h) e;
+    }
 
 pub run_remember-returns : goal.run_remember-returns
+unfolding forest_after
 run_remember-returns g t c = record {
-  keeps = search (rules, g.met.V.View.keeps_on, g.met.V.View.keeps_itself);
-  same = search rules;
-  same_scope = search rules;
-  longer = longer_added _ _ _ _ _ c.in_ok-add_group.ensures.added c.run_bound.ensures.longer;
-  fits = search rules;
+  keeps = g.met.V.View.keeps_on _ _ _ c.in_ok-value.ensures.composed.keeps c.run_bound.ensures.keeps;
+  same = λ m h. c.run_bound.ensures.same m (c.in_ok-value.ensures.composed.same m h);
+  same_scope = then_same _ _ _ _ c.run_bound.ensures.same_scope c.in_ok-value.ensures.composed.same_scope;
+  longer = longer_after _ _ _ _ c.in_ok-value.ensures.composed.longer c.run_bound.ensures.longer;
+  fits = c.run_bound.ensures.fits;
   ran = λ m h.
-      let ev = ap (λ (k : List Binding). eval m (expr_view c.args.value.now) k) (c.in_ok-keys.ensures.value m h) in
-      let asks = c.in_ok-value.ensures.asks m (c.in_ok-keys.ensures.same m h)
-      ∙ ap (λ (r : Reading Value). g.V.View.asked c.evaluate_keys.new.view ++ r.reads) ev in
-      let reads = c.in_ok-value.ensures.reads m (c.in_ok-keys.ensures.same m h)
-      ∙ ap (λ (r : Reading Value). c.evaluate_keys.new.reads ++ r.reads) ev in
-      let value = c.in_ok-value.ensures.value m (c.in_ok-keys.ensures.same m h)
-      ∙ ap (λ (r : Reading Value). r.value) ev in
-      let made = c.group.ensures ∙ ap (λ (k : List Value). flat_group c.args.level.now.depth c.args.site 0
-      (what.Cell k c.in_ok-copy.copy) [])
-      (c.in_ok-keys-2.ensures ∙ ap (λ (k : List Binding). map (λ b. b.value) k) (c.in_ok-keys.ensures.value m h))
-      ∙ ap (λ (v : Value). flat_group c.args.level.now.depth c.args.site 0
-      (what.Cell (map (λ b. b.value) (eval_named m (nameds_view c.args.keys.now) c.args.made.now.scope).value)
-      v) []) (c.in_ok-copy.ensures.same ∙ value) in
-      let added = c.in_ok-add_group.ensures.added ∙ ap (λ (x : _). c.args.made.now.groups ++ x ∷ []) made in
-      let P : Value → Type 0 = λ v. ComposesForest c.args.level.now.depth
-      (body_forest m c.args.level.now.functions.now (stmts_view c.args.body.now)
-      (c.args.made.now.scope ++ new_binding c.args.name.now.text v ∷ [])) c.add_group.new.groups
-      c.run_bound.new.made.groups
-      (g.V.View.asked c.eval_noting.new.view) (g.V.View.asked c.run_bound.new.view) c.eval_noting.new.reads
-      c.run_bound.new.made.reads c.run_bound.result in
-      let inner = subst P value (c.run_bound.ensures.ran m
-      (c.in_ok-value.ensures.same m (c.in_ok-keys.ensures.same m h))) in
-      ran_after _ _ _ _ _ _ _ _ _ _ _ _ (c.in_ok-keys.ensures.asks m h) (c.in_ok-keys.ensures.reads m h)
-      (ran_after _ _ _ _ _ _ _ _ _ _ _ _ asks reads (ran_cell _ _ _ _ _ _ _ _ _ _ _ _ refl refl added inner));
+      cell_rest _ _ _ _ _ _ _ _ _ _ _ _ _ _ _ _ _ refl refl (c.in_ok-value.ensures.composed.ran m h)
+      (bound_as m c.args.level.now.functions.now (stmts_view c.args.body.now) c.args.name.now.text _ _ _ _ _ _ _ _ _ _
+      _ _ c.in_ok-value.ensures.composed.same_scope (c.in_ok-value.ensures.value m h)
+      (c.run_bound.ensures.ran m (c.in_ok-value.ensures.composed.same m h)));
 }
 
 -- A call.
 
 pub run_arguments-returns-in_err-arguments : goal.run_arguments-returns-in_err-arguments
-run_arguments-returns-in_err-arguments g t c = record {
-  keeps = search (rules, g.met.V.View.keeps_on, g.met.V.View.keeps_itself);
-  same = search rules;
-  same_scope = search rules;
-  longer = search rules;
-  fits = search rules;
-  ran = λ m h.
-      let e : c.from_residual.result ≡ Err NoMemory = search rules in
-      ran_stop_after _ _ _ _ _ _ _ _ _ _ e (c.in_err-arguments.ensures.part m h);
-}
+run_arguments-returns-in_err-arguments g t c =
+    let e : c.from_residual.result ≡ Err NoMemory = search rules in
+    record {
+      keeps = c.in_err-arguments.ensures.keeps;
+      same = c.in_err-arguments.ensures.same;
+      same_scope = stopped _ _ _ e;
+      longer = stopped _ _ _ e;
+      fits = stopped _ _ _ e;
+      ran = λ m h.
+          ran_stop_after _ _ _ _ _ _ _ _ _ _ e (c.in_err-arguments.ensures.part m h);
+    }
 
 pub run_arguments-returns : goal.run_arguments-returns
 run_arguments-returns g t c = record {
-  keeps = search (rules, g.met.V.View.keeps_on, g.met.V.View.keeps_itself);
-  same = search rules;
-  same_scope = search rules;
-  longer = search rules;
-  fits = search rules;
+  keeps = g.met.V.View.keeps_on _ _ _ c.in_ok-arguments.ensures.keeps c.run_call.ensures.keeps;
+  same = λ m h. c.run_call.ensures.same m (c.in_ok-arguments.ensures.same m h);
+  same_scope = c.run_call.ensures.same_scope;
+  longer = c.run_call.ensures.longer;
+  fits = c.run_call.ensures.fits;
   ran = λ m h.
       let P : List Value → Type 0 =
       λ vs. ComposesForest c.args.level.now.depth
@@ -613,112 +494,87 @@ run_arguments-returns g t c = record {
       (inner);
 }
 
-pub run_call-returns-in_err-add_group : goal.run_call-returns-in_err-add_group
-run_call-returns-in_err-add_group g t c = record {
-  keeps = search (rules, g.met.V.View.keeps_on, g.met.V.View.keeps_itself);
-  same = search rules;
-  same_scope = search rules;
-  longer = search rules;
-  fits = search rules;
-  ran = λ m h. ran_full _ _ _ _ _ _ _ _ _ _ _ (search rules) (search rules);
-}
-
-pub run_call-returns-in_err-add_group-2 : goal.run_call-returns-in_err-add_group-2
-run_call-returns-in_err-add_group-2 g t c = record {
-  keeps = search (rules, g.met.V.View.keeps_on, g.met.V.View.keeps_itself);
-  same = search rules;
-  same_scope = search rules;
-  longer = search rules;
-  fits = search rules;
-  ran = λ m h. ran_full _ _ _ _ _ _ _ _ _ _ _ (search rules) (search rules);
-}
-
-pub run_call-returns-in_err-scope : goal.run_call-returns-in_err-scope
-run_call-returns-in_err-scope g t c = record {
-  keeps = search (rules, g.met.V.View.keeps_on, g.met.V.View.keeps_itself);
-  same = search rules;
-  same_scope = search rules;
-  longer = search rules;
-  fits = search rules;
-  ran = λ m h.
-      let e : c.from_residual-in_err-scope.result ≡ Err NoMemory = search rules in
-      ran_stop _ _ _ _ _ _ _ _ _ e (grew_none _ _);
-}
-
 pub run_call-returns-then-function-level : goal.run_call-returns-then-function-level
 run_call-returns-then-function-level g t c = record {
-  keeps = search (rules, g.met.V.View.keeps_on, g.met.V.View.keeps_itself);
-  same = search rules;
-  same_scope = search rules;
-  longer = omega (
-    arith,
-    ap length c.in_ok-add_group.ensures.added,
-    length-append c.args.made.now.groups (c.group.result ∷ []),
-  );
-  fits = search rules;
+  keeps = g.met.V.View.keeps_itself _;
+  same = λ m h. h;
+  same_scope = on_ok _ refl;
+  longer = longer_by_one _ _ _ (one_added _ _ _ c.add_group.result c.add_group.ensures.added);
+  fits = c.add_group.ensures.fits;
   ran = λ m h.
-      let none = call_none m c.args.level.now.functions.now c.args.function c.args.arguments (omega arith) in
-      let added = c.in_ok-add_group.ensures.added ∙ ap (λ (x : _). c.args.made.now.groups ++ x ∷ []) c.group.ensures in
-      let inner = subst (λ (t : GroupForest). ComposesForest (c.args.level.now.depth + 1) t c.add_group.new.groups
+      let none = call_none m c.args.level.now.functions.now c.args.function c.args.arguments
+      c.if-function-level.true in
+      subst (λ (t : GroupForest). ComposesForest c.args.level.now.depth
+      (Group c.args.site 0 (Call c.args.function c.args.arguments) t End) c.args.made.now.groups
       c.add_group.new.groups (g.V.View.asked c.args.view.now) (g.V.View.asked c.args.view.now) c.args.made.now.reads
-      c.args.made.now.reads {U = Unit {0}} (Ok tt)) (sym none) (ran_end tt _ _ _ _) in
-      ran_group _ _ _ _ _ _ _ _ _ _ _ _ (ap (λ (t : GroupForest). asks (own_part t)) none) (sym (ap own_part none))
-      added inner;
+      c.args.made.now.reads c.add_group.result) (sym none)
+      (ran_added _ _ _ _ _ _ _ _ refl refl
+      (added_on _ _ _ _ _ c.add_group.result c.add_group.ensures.added c.group.ensures refl) c.add_group.ensures.full);
 }
 
 pub run_call-run_all-requires : goal.run_call-run_all-requires
 run_call-run_all-requires g t c κs w =
-    let body : c.deref-2.result.now ≡ c.index-level-function.result.body.items = search rules in
-    let h = falls_at c.args.level.now.functions.now c.args.function c.index-level-function.result c.deref-2.result.now
+    let body : c.deref.result.now ≡ c.index-level-function.result.body.items = search rules in
+    let h = falls_at c.args.level.now.functions.now c.args.function c.index-level-function.result c.deref.result.now
     (omega arith) c.index-level-function.is body in
-    let long = ap length c.in_ok-add_group-2.ensures.added ∙ length-append c.replace-groups.result _ in
+    let long = ap length c.in_ok-inner.ensures.groups ∙ length-append c.args.made.now.groups _ in
     search rules
 
+pub run_call-returns-in_err-inner : goal.run_call-returns-in_err-inner
+run_call-returns-in_err-inner g t c =
+    let e : c.from_residual.result ≡ Err c.in_err-inner.field-0.0 = search rules in
+    record {
+      keeps = g.met.V.View.keeps_itself _;
+      same = λ m h. h;
+      same_scope = stopped _ _ _ e;
+      longer = stopped _ _ _ e;
+      fits = stopped _ _ _ e;
+      ran = λ m h.
+          ran_full_as _ _ _ _ _ _ _ _ _ _ _ _ e
+          (λ y. c.in_err-inner.ensures.full (ap (λ (w : ScratchStop). Err w) y));
+    }
+
 pub run_call-returns-in_err-run_all : goal.run_call-returns-in_err-run_all
-run_call-returns-in_err-run_all g t c = record {
-  keeps = search (rules, g.met.V.View.keeps_on, g.met.V.View.keeps_itself);
-  same = search rules;
-  same_scope = search rules;
-  longer = search rules;
-  fits = search rules;
-  ran = λ m h.
-      let e : c.from_residual-in_err-run_all.result ≡ Err c.in_err-run_all.field-0.0 = search rules in
-      let below : c.args.function < length c.args.level.now.functions.now = omega arith in
-      let start : c.replace-groups.result ≡ c.args.made.now.groups = search rules in
-      let added = added_to c.in_ok-add_group-2.ensures.added c.group-2.ensures start in
-      let body : c.deref-2.result.now ≡ c.index-level-function.result.body.items = search rules in
-      let names : c.deref.result.now ≡ c.index-level-function.result.parameters.items = search rules in
-      let inner = call_body _ c.args.level.now.functions.now c.args.function c.args.arguments
-      c.index-level-function.result c.deref-2.result.now c.deref.result.now c.in_ok-scope.scope _ _ _ _ _ _ _ _
-      below c.index-level-function.is body names c.in_ok-scope.ensures (c.in_err-run_all.ensures.ran m h) in
-      ran_call_stop _ _ _ _ _ _ _ _ _ _ _ _ _ _ _ _ added inner e;
-}
+run_call-returns-in_err-run_all g t c =
+    let e : c.from_residual-in_err-run_all.result ≡ Err c.in_err-run_all.field-0.0 = search rules in
+    let body : c.deref.result.now ≡ c.index-level-function.result.body.items = search rules in
+    record {
+      keeps = c.in_err-run_all.ensures.keeps;
+      same = c.in_err-run_all.ensures.same;
+      same_scope = stopped _ _ _ e;
+      longer = stopped _ _ _ e;
+      fits = stopped _ _ _ e;
+      ran = λ m h.
+          let inner = call_body _ c.args.level.now.functions.now c.args.function c.args.arguments
+          c.index-level-function.result c.deref.result.now _ c.in_ok-inner.inner.scope _ _ _ _ _ _ _ _
+          c.if-function-level.false c.index-level-function.is body
+          (ap (λ (f : Function). f.parameters.items) (sym c.index-level-function.is))
+          c.in_ok-inner.ensures.scope (c.in_err-run_all.ensures.ran m h) in
+          ran_call_stop _ _ _ _ _ _ _ _ _ _ _ _ _ _ _ _ c.in_ok-inner.ensures.groups inner e;
+    }
 
 pub run_call-returns : goal.run_call-returns
-run_call-returns g t c = record {
-  keeps = search (rules, g.met.V.View.keeps_on, g.met.V.View.keeps_itself);
-  same = search rules;
-  same_scope = search rules;
-  longer = let start : c.replace-groups.result ≡ c.args.made.now.groups = search rules in
-      omega (
+run_call-returns g t c =
+    let body : c.deref.result.now ≡ c.index-level-function.result.body.items = search rules in
+    record {
+      keeps = c.in_ok-run_all.ensures.keeps;
+      same = c.in_ok-run_all.ensures.same;
+      same_scope = refl;
+      longer = omega (
         arith,
-        ap length start,
-        ap length c.in_ok-add_group-2.ensures.added,
-        length-append c.replace-groups.result (c.group-2.result ∷ []),
+        ap length c.in_ok-inner.ensures.groups,
+        length-append c.args.made.now.groups (flat_group c.args.level.now.depth c.args.site 0
+            (what.Call c.args.function c.args.arguments) [] ∷ []),
         c.in_ok-run_all.ensures.longer,
-        c.set_reads.ensures.len,
+        c.leave_call.ensures.len,
       );
-  fits = search rules;
-  ran = λ m h.
-      let below : c.args.function < length c.args.level.now.functions.now = omega arith in
-      let start : c.replace-groups.result ≡ c.args.made.now.groups = search rules in
-      let added = added_to c.in_ok-add_group-2.ensures.added c.group-2.ensures start in
-      let body : c.deref-2.result.now ≡ c.index-level-function.result.body.items = search rules in
-      let names : c.deref.result.now ≡ c.index-level-function.result.parameters.items = search rules in
-      let inner = call_body _ c.args.level.now.functions.now c.args.function c.args.arguments
-      c.index-level-function.result c.deref-2.result.now c.deref.result.now c.in_ok-scope.scope _ _ _ _ _ _ _ _
-      below c.index-level-function.is body names c.in_ok-scope.ensures (c.in_ok-run_all.ensures.ran m h) in
-      ran_call _ _ _ _ _ _ _ _ _ _ _ _ _ _ c.new-reads.ensures added inner
-      (λ before behind x e is. c.set_reads.ensures.reads before behind x
-      (e ∙ ap length (sym start) ∙ sym c.len-place.ensures) is);
-}
+      fits = search rules;
+      ran = λ m h.
+          let inner = call_body _ c.args.level.now.functions.now c.args.function c.args.arguments
+          c.index-level-function.result c.deref.result.now _ c.in_ok-inner.inner.scope _ _ _ _ _ _ _ _
+          c.if-function-level.false c.index-level-function.is body
+          (ap (λ (f : Function). f.parameters.items) (sym c.index-level-function.is))
+          c.in_ok-inner.ensures.scope (c.in_ok-run_all.ensures.ran m h) in
+          ran_call _ _ _ _ _ _ _ _ _ _ _ _ _ _ c.in_ok-inner.ensures.reads c.in_ok-inner.ensures.groups inner
+          (λ before behind x is e. c.leave_call.ensures.reads before behind x (is ∙ sym c.len-place.ensures) e);
+    }

@@ -1,4 +1,4 @@
-use Rattle.std.proofs.Common.{rules, ◌≡◌, [], ap, Err}
+use Rattle.std.proofs.Common.{rules, ◌≡◌, ap, Err}
 use Rattle.lang_ast.specs.SyntaxView.{functions_view}
 use Rattle.compose_model.specs.Composing.{forest}
 use Rattle.lang_meaning.specs.declared.composition.ScratchStop.{ScratchStop}

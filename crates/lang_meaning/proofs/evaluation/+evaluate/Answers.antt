@@ -1,17 +1,14 @@
-use Rattle.std.proofs.Common.{rules, arith, ◌≡◌, ◌<◌, ◌≤◌, ◌+◌, ℕ, ℤ, List, length, get_or, map, take, sym, ap, ◌∙◌, refl, add-one, IsErr, to_z, of_z, w64}
+use Rattle.std.proofs.Common.{rules, ◌≡◌, ◌<◌, ◌≤◌, ◌+◌, ℕ, ℤ, List, length, get_or, map, take, sym, ap, ◌∙◌, refl, add-one, IsErr, to_z, of_z, w64}
 use Rattle.rt_values.specs.Limits.{most_items}
 use Rattle.rt_values.specs.Operators.{number_of, list_with_item}
-use Rattle.rt_values.specs.Values.{no_value}
 use Rattle.lang_ast.specs.Evaluation.{first, second}
-use Rattle.lang_ast.specs.SyntaxView.{expr_view, exprs_view}
-use Rattle.lang_ast.specs.declared.syntax.Expression.{Expression}
-use Rattle.lang_meaning.specs.Flatness.{is_flat_expr}
+use Rattle.lang_ast.specs.SyntaxView.{exprs_view}
 use Rattle.lang_meaning.specs.Operands.{pair, pair_from, pair_with, list_with_all}
 use Rattle.lang_meaning.specs.declared.applying.Pair.{Pair}
 use Rattle.lang_meaning.proofs.Operands.{nth_found, nth_none}
 use Rattle.lang_meaning.proofs.Flats.{flat_at, nth_flat}
 use Rattle.lang_meaning.proofs.Grows.{grew_all}
-use Rattle.lang_meaning.proofs.Evaluating.{evaluated_pure, evaluated_as, literal_evaluated, variable_evaluated, get_stop, get_evaluated, apply_view, pick_stop, pick_evaluated, list_stop, list_evaluated, two_stop, two_evaluated, progress_first, progress_more, progress_done, progress_stop, pairs_first, numbers_first}
+use Rattle.lang_meaning.proofs.Evaluating.{evaluated_pure, evaluated_as, literal_evaluated, variable_evaluated, get_stop, apply_view, pick_stop, pick_evaluated, list_stop, list_evaluated, two_stop, two_evaluated, progress_first, progress_more, progress_done, progress_stop, pairs_first, numbers_first}
 use Rattle.lang_meaning.proofs.evaluation.+evaluate.Goals as goal
 
 -- Literals, variables and reads of state objects.
