@@ -1,7 +1,8 @@
-use Rattle.std.proofs.Common.{rules, ◌≡◌, ◌++◌, ◌∷◌, [], arith, sym, ap, ◌∙◌, subst, List, ℤ, pos, Err, Ok, refl, length, length-append, get_or, true, false, to_z, of_z, w64}
+use Rattle.std.proofs.Common.{rules, ◌≤◌, ◌+◌, ◌≡◌, ◌++◌, ◌∷◌, [], arith, sym, ap, ◌∙◌, subst, List, ℤ, pos, Err, Ok, refl, length, length-append, get_or, true, false, to_z, of_z, w64}
 use Rattle.rt_values.specs.declared.value.Value.{Value}
 use Rattle.rt_values.specs.declared.value.Value.TheVariants as value
 use Rattle.rt_groups.specs.declared.groups.GroupKind.TheVariants as what
+use Rattle.rt_groups.specs.Frames.{most_groups}
 use Rattle.rt_groups.specs.PreorderGroups.{flat_group}
 use Rattle.rt_values.specs.Maps.{Map}
 use Rattle.rt_values.specs.Operators.{is_true, items_of}
@@ -166,6 +167,13 @@ run_one-returns-in-Remember g t c = record {
 
 -- A key.
 
+pub run_key-run_all-requires : goal.run_key-run_all-requires
+run_key-run_all-requires g t c κs w =
+    let fits : length c.add_key.new.made.groups ≤ most_groups = c.in_ok-add_key.ensures.composed.fits in
+    let deep : c.args.level.now.depth ≤ length c.args.made.now.groups = c.requires.0 in
+    let more : c.args.level.now.depth + 1 ≤ length c.add_key.new.made.groups = omega (arith, deep, c.in_ok-add_key.ensures.more) in
+    search rules
+
 pub run_key-returns-in_err-add_key : goal.run_key-returns-in_err-add_key
 unfolding forest_after
 run_key-returns-in_err-add_key g t c =
@@ -195,6 +203,13 @@ run_key-returns g t c = record {
 }
 
 -- A node.
+
+pub run_node-run_all-requires : goal.run_node-run_all-requires
+run_node-run_all-requires g t c κs w =
+    let fits : length c.add_node.new.made.groups ≤ most_groups = c.in_ok-add_node.ensures.composed.fits in
+    let deep : c.args.level.now.depth ≤ length c.args.made.now.groups = c.requires.0 in
+    let more : c.args.level.now.depth + 1 ≤ length c.add_node.new.made.groups = omega (arith, deep, c.in_ok-add_node.ensures.more) in
+    search rules
 
 pub run_node-returns-in_err-add_node : goal.run_node-returns-in_err-add_node
 unfolding forest_after
@@ -430,6 +445,13 @@ run_turns-loop-item-preserved g t c =
 
 -- A cell.
 
+pub run_remember-run_bound-requires : goal.run_remember-run_bound-requires
+run_remember-run_bound-requires g t c κs w =
+    let fits : length c.add_cell.new.made.groups ≤ most_groups = c.in_ok-value.ensures.composed.fits in
+    let deep : c.args.level.now.depth ≤ length c.args.made.now.groups = c.requires.0 in
+    let more : c.args.level.now.depth ≤ length c.add_cell.new.made.groups = omega (arith, deep, c.in_ok-value.ensures.composed.longer) in
+    search rules
+
 pub run_remember-returns-in_err-value : goal.run_remember-returns-in_err-value
 unfolding forest_after
 run_remember-returns-in_err-value g t c =
@@ -533,6 +555,16 @@ run_call-returns-in_err-inner g t c =
           ran_full_as _ _ _ _ _ _ _ _ _ _ _ _ e
           (λ y. c.in_err-inner.ensures.full (ap (λ (w : ScratchStop). Err w) y));
     }
+
+pub run_call-leave_call-requires : goal.run_call-leave_call-requires
+run_call-leave_call-requires g t c = omega (
+  arith,
+  c.len-place.ensures,
+  ap length c.in_ok-inner.ensures.groups,
+  length-append c.args.made.now.groups (flat_group c.args.level.now.depth c.args.site 0
+      (what.Call c.args.function c.args.arguments) [] ∷ []),
+  c.in_ok-run_all.ensures.longer,
+)
 
 pub run_call-returns-in_err-run_all : goal.run_call-returns-in_err-run_all
 run_call-returns-in_err-run_all g t c =
