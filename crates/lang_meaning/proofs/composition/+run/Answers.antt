@@ -96,7 +96,8 @@ run_one-returns-in-Node g t c = record {
   longer = c.run_node.ensures.longer;
   fits = c.run_node.ensures.fits;
   ran = λ m h.
-      let r = c.run_node.ensures.ran m h in search (rules, node_ran);
+      node_ran m c.args.level.now.functions.now _ c.args.made.now.scope _ _ _ _ _ _ _ _ _ _ _ _ _ _ _ c.in-Node.is (search rules) (search rules)
+      (c.run_node.ensures.ran m h);
 }
 
 pub run_one-returns-in-Call : goal.run_one-returns-in-Call
@@ -107,7 +108,8 @@ run_one-returns-in-Call g t c = record {
   longer = c.run_arguments.ensures.longer;
   fits = c.run_arguments.ensures.fits;
   ran = λ m h.
-      let r = c.run_arguments.ensures.ran m h in search (rules, call_ran);
+      call_ran m c.args.level.now.functions.now _ c.args.made.now.scope _ _ _ _ _ _ _ _ _ _ _ _ _ _ c.in-Call.is (search rules)
+      (c.run_arguments.ensures.ran m h);
 }
 
 pub run_one-returns-in-Key : goal.run_one-returns-in-Key
@@ -118,7 +120,8 @@ run_one-returns-in-Key g t c = record {
   longer = c.run_key.ensures.longer;
   fits = c.run_key.ensures.fits;
   ran = λ m h.
-      let r = c.run_key.ensures.ran m h in search (rules, key_ran);
+      key_ran m c.args.level.now.functions.now _ c.args.made.now.scope _ _ _ _ _ _ _ _ _ _ _ _ _ c.in-Key.is (search rules)
+      (c.run_key.ensures.ran m h);
 }
 
 pub run_one-returns-in-If : goal.run_one-returns-in-If
@@ -140,7 +143,8 @@ run_one-returns-in-For g t c = record {
   longer = c.run_for.ensures.longer;
   fits = c.run_for.ensures.fits;
   ran = λ m h.
-      let r = c.run_for.ensures.ran m h in search (rules, loop_ran);
+      loop_ran m c.args.level.now.functions.now _ c.args.made.now.scope _ _ _ _ _ _ _ _ _ _ _ _ _ _ c.in-For.is (search rules)
+      (c.run_for.ensures.ran m h);
 }
 
 pub run_one-returns-in-Let : goal.run_one-returns-in-Let
@@ -151,7 +155,8 @@ run_one-returns-in-Let g t c = record {
   longer = c.run_let.ensures.longer;
   fits = c.run_let.ensures.fits;
   ran = λ m h.
-      let r = c.run_let.ensures.ran m h in search (rules, binding_ran);
+      binding_ran m c.args.level.now.functions.now _ c.args.made.now.scope _ _ _ _ _ _ _ _ _ _ _ _ _ _ c.in-Let.is (search rules)
+      (c.run_let.ensures.ran m h);
 }
 
 pub run_one-returns-in-Remember : goal.run_one-returns-in-Remember
@@ -162,7 +167,8 @@ run_one-returns-in-Remember g t c = record {
   longer = c.run_remember.ensures.longer;
   fits = c.run_remember.ensures.fits;
   ran = λ m h.
-      let r = c.run_remember.ensures.ran m h in search (rules, remember_ran);
+      remember_ran m c.args.level.now.functions.now _ c.args.made.now.scope _ _ _ _ _ _ _ _ _ _ _ _ _ _ _ _ c.in-Remember.is (search rules) (search rules)
+      (c.run_remember.ensures.ran m h);
 }
 
 -- A key.
