@@ -451,13 +451,7 @@ pub added_to : {X : Type 0} {later before known : List X} {x y : X} → later �
     → later ≡ known ++ y ∷ []
 added_to is same start = rw (is, same, start) refl
 
--- The list of groups does not shrink if a group and then more groups are appended.
-pub longer_added : {U : Type 0} (before mid later : List Listed) (x : Listed) (result : Result U ScratchStop)
-    → mid ≡ before ++ x ∷ [] → OnOk result (length mid ≤ length later) → OnOk result (length before ≤ length later)
-longer_added before mid later x (Ok u) e h = omega (arith, ap length e, length-append before (x ∷ []), h)
-longer_added before mid later x (Err y) e h = tt
-
--- What holds of good results holds of an error.
+-- An error meets every promise about good results.
 pub stopped : {U : Type 0} (A : Type 0) (result : Result U ScratchStop) (x : ScratchStop) → result ≡ Err x → OnOk result A
 stopped A (Ok u) x e = cc
 stopped A (Err y) x e = tt
@@ -467,18 +461,18 @@ pub stopped_value : {U : Type 0} (P : U → Type 0) (result : Result U ScratchSt
 stopped_value P (Ok u) x e = cc
 stopped_value P (Err y) x e = tt
 
--- What always holds holds of good results.
+-- A fact without conditions is a fact about good results.
 pub on_ok : {U A : Type 0} (result : Result U ScratchStop) → A → OnOk result A
 on_ok (Ok u) a = a
 on_ok (Err x) a = tt
 
--- Equal to one, which is equal to another.
+-- Two equations in sequence, of which the first is about good results.
 pub then_same : {U A : Type 0} (a b c : A) (result : Result U ScratchStop) → OnOk result (a ≡ b) → b ≡ c
     → OnOk result (a ≡ c)
 then_same a b c (Ok u) e f = e ∙ f
 then_same a b c (Err x) e f = tt
 
--- A group that is appended if there is no error.
+-- The last group is appended if there is no error, and equal terms may replace it and the list before it.
 pub added_on : {U : Type 0} (before start mid : List Listed) (x y : Listed) (result : Result U ScratchStop)
     → OnOk result (mid ≡ before ++ x ∷ []) → x ≡ y → before ≡ start → OnOk result (mid ≡ start ++ y ∷ [])
 added_on before start mid x y (Ok u) h e f = added_to h e f
@@ -494,7 +488,7 @@ pub longer_by_one : {U : Type 0} (before mid : List Listed) (result : Result U S
 longer_by_one before mid (Ok u) e = omega (arith, e)
 longer_by_one before mid (Err y) e = tt
 
--- A list that is as long as one, which is longer than another by one, or longer.
+-- Lists that grow twice.
 pub longer_after : {U : Type 0} (before mid later : List Listed) (result : Result U ScratchStop)
     → length before ≤ length mid → OnOk result (length mid ≤ length later)
     → OnOk result (length before ≤ length later)

@@ -1,13 +1,13 @@
 -- Evaluating operands one by one.
-use Rattle.std.proofs.Common.{◌≡◌, ℕ, zero, suc, ◌+◌, ◌<◌, ◌≤◌, ℤ, List, [], ◌∷◌, ◌++◌, length, get_or, drop, take, map, Bool, true, false, nat_lt, if◌then◌else◌, refl, sym, ap, ◌∙◌, append_assoc, append-nil, length-append, drop-cons, add-one, arith, Vec, Global}
+use Rattle.std.proofs.Common.{◌≡◌, ℕ, zero, suc, ◌<◌, ◌≤◌, ℤ, List, [], ◌∷◌, ◌++◌, length, get_or, drop, take, Bool, true, false, nat_lt, refl, sym, ap, ◌∙◌, append_assoc, append-nil, length-append, drop-cons, arith, Vec, Global}
 use Rattle.std.proofs.Common.{inl, inr}
 use Rattle.std.proofs.lemmas.Bool.{ltb-true, lt-ltb}
 use Rattle.std.proofs.lemmas.Bool.Decides.{leb_tells}
-use Rattle.std.proofs.lemmas.List.{drop_all, take_all, take-append-le}
+use Rattle.std.proofs.lemmas.List.{take_all, take-append-le}
 use Rattle.rt_values.specs.declared.value.Value.{Value}
 use Rattle.rt_values.specs.Limits.{most_items}
 use Rattle.rt_values.specs.Values.{no_value}
-use Rattle.rt_values.specs.Operators.{number_of, list_with_item}
+use Rattle.rt_values.specs.Operators.{list_with_item}
 use Rattle.rt_values.specs.Maps.{Map}
 use Rattle.rt_values.specs.Views.{Grew}
 use Rattle.lang_ast.specs.ResultsWithReads.{pure_reading}
@@ -99,11 +99,6 @@ filled_whole [] = refl
 filled_whole (v ∷ []) = refl
 filled_whole (v ∷ (w ∷ vs)) = pair_stays (pair v w) 0 vs
 
-pub filled_end : (m : Map) (es : List Expression) (i : ℕ) (env : Bindings) (p : Pair) → length es ≤ i
-    → pair_from p i (eval_all m (exprs_view (drop i es)) env).value ≡ p
-filled_end m es i env p past =
-    ap (λ (l : List Expression). pair_from p i (eval_all m (exprs_view l) env).value) (drop_all i es past)
-
 -- An operator other than `Ints` depends only on the first two values.
 pub apply_two : (o : Operator) (vs : List Value) → is_list o ≡ false → apply o vs ≡ apply o (first vs ∷ second vs ∷ [])
 apply_two operator.Add vs h = refl
@@ -149,14 +144,6 @@ gathered_is l (z ∷ zs) few = more_of (nat_lt (length l) most_items) l z zs ref
 
 pub gathered_whole : (zs : List ℤ) → list_with_all [] zs ≡ take most_items zs
 gathered_whole zs = gathered_is [] zs (omega arith)
-
-pub gathered_end : (m : Map) (es : List Expression) (i : ℕ) (env : Bindings) (l : List ℤ) → length es ≤ i
-    → list_with_all l (map number_of (eval_all m (exprs_view (drop i es)) env).value) ≡ l
-gathered_end m es i env l past = ap (λ (k : List Expression). list_with_all l
-    (map number_of (eval_all m (exprs_view k) env).value)) (drop_all i es past)
-
--- Lemmas on one operand of a list.
-pub ruleset one_operand = (nth_found, nth_none, nth_flat, append-nil)
 
 -- Lemmas on the evaluation of an expression.
 pub ruleset evaluation = (
