@@ -1,5 +1,5 @@
 -- The reads of calls, counted when the calls end.
-use Rattle.std.proofs.Common.{ℕ, ◌+◌, ◌++◌, ◌≤◌, ◌≡◌, List, length, length-append, ap, Result, Ok, Err, OnOk, arith}
+use Rattle.std.proofs.Common.{ℕ, ◌+◌, ◌++◌, ◌≤◌, ◌≡◌, refl, List, length, length-append, ap, Result, Ok, Err, IsErr, OnOk, arith}
 
 -- Reads that the view was asked for and that the innermost call made.
 pub counted_after : {U E : Type 0} (result : Result U E) (w now : ℕ) (own own1 own2 a a1 a2 xs : List ℕ) → a1 ≡ a ++ xs
@@ -26,3 +26,24 @@ counted_cell (Ok u) w was now own own1 own2 own3 a a1 a2 a3 xs e1 e2 e3 e4 h =
     let f2 = ap (λ (l : List ℕ). length l) e2 in
     omega (arith, h, e3, e4, f1, f2, length-append a xs, length-append own xs)
 counted_cell (Err x) w was now own own1 own2 own3 a a1 a2 a3 xs e1 e2 e3 e4 h = tt
+
+-- An error meets every promise about good results.
+pub stopped : {U E : Type 0} (A : Type 0) (result : Result U E) (x : E) → result ≡ Err x → OnOk result A
+stopped A (Ok u) x e = cc
+stopped A (Err y) x e = tt
+
+-- The number of reads where the reads of the innermost call stay the same.
+pub counted_beside : {U E : Type 0} (result : Result U E) (w now own a a1 : ℕ) → OnOk result (now + a ≡ w + a1)
+    → OnOk result (now + own + a ≡ w + own + a1)
+counted_beside (Ok u) w now own a a1 h = omega (arith, h)
+counted_beside (Err x) w now own a a1 h = tt
+
+-- The number of reads after a group that is kept. The writer has `was` reads after it.
+pub counted_kept : {U E : Type 0} (result : Result U E) (w was now a a1 : ℕ) → was ≡ w
+    → OnOk result (now + a ≡ was + a1) → OnOk result (now + a ≡ w + a1)
+counted_kept (Ok u) w was now a a1 e h = omega (arith, e, h)
+counted_kept (Err x) w was now a a1 e h = tt
+
+pub failed : {U E : Type 0} (result : Result U E) (x : E) → result ≡ Err x → IsErr result
+failed (Ok u) x e = cc
+failed (Err y) x e = refl

@@ -33,7 +33,7 @@ use Rattle.composer.specs.WrittenGroups.{WrittenGroups, state_of, kept_of, group
 use Rattle.composer.specs.Recomposes.{ComposesBeside, is_call_kept}
 use Rattle.composer.proofs.BesideCases.{node_beside, call_beside, key_beside, choice_beside, loop_beside, binding_beside, remember_beside, node_calculates, key_calculates, then_calculates, else_calculates, loop_calculates, binding_calculates, cell_calculates, remember_calculates}
 use Rattle.composer.proofs.Machine.{same_state}
-use Rattle.composer.proofs.Reaching.{reached_stop, reached_full, reached_at}
+use Rattle.composer.proofs.Reaching.{reached_stop, reached_full, reached_at, on_ok}
 use Rattle.composer.proofs.BesideSteps.{beside_stop_here, beside_stop_after, beside_after, beside_full, beside_group, beside_alone, beside_cell, beside_run, going_first, going_more, going_done, going_stop, beside_err, beside_first, beside_second}
 use Rattle.composer.proofs.OldParts.{inside_old}
 use Rattle.composer.proofs.OldMatches.{fits_inside}
@@ -44,18 +44,18 @@ use Rattle.composer.proofs.SkippedCalls.{skips, skips_as}
 use Rattle.composer.proofs.RunCalls.{call_alone, part_ran, longer_ran, body_done, body_stop, part_one, longer_than, call_what, owed_call, kept_call, kept_other, kept_state, owed_is, no_call, body_part, begins_after}
 use Rattle.composer.proofs.OldWalks.{first_of_all}
 use Rattle.composer.proofs.SkipLoops.{first_parts, left_first, left_run, left_full, left_more, left_stop, left_done, ends_past, index_behind, behind_is, index_grows}
-use Rattle.composer.proofs.ReadCounts.{counted_after, counted_cell, longer_on}
+use Rattle.composer.proofs.ReadCounts.{counted_after, counted_cell, counted_beside, counted_kept, longer_on, stopped, failed}
 use Rattle.composer.proofs.composing.+again.Goals as goal
 
 -- Statements one after another.
 
 pub run_all-returns : goal.run_all-returns
 run_all-returns g t c = record {
-  keeps = search (rules, g.met.V.View.keeps_on, g.met.V.View.keeps_itself);
-  same = search rules;
-  same_scope = search rules;
-  longer = search rules;
-  fits = search rules;
+  keeps = c.loop-statement.invariant.keeps;
+  same = c.loop-statement.invariant.same;
+  same_scope = c.loop-statement.invariant.same_scope;
+  longer = c.loop-statement.invariant.longer;
+  fits = c.loop-statement.invariant.fits;
   counted = λ m h. c.loop-statement.invariant.counted m h;
   ran = λ m o h b calc. going_done (all_end m c.args.level.now.functions.now c.args.body.now
       c.loop-statement.statement-index c.args.made.now.scope (omega arith))
@@ -63,29 +63,30 @@ run_all-returns g t c = record {
 }
 
 pub run_all-returns-in_err-run_one : goal.run_all-returns-in_err-run_one
-run_all-returns-in_err-run_one g t c = record {
-  keeps = search (rules, g.met.V.View.keeps_on, g.met.V.View.keeps_itself);
-  same = search rules;
-  same_scope = search rules;
-  longer = search rules;
-  fits = search rules;
-  counted = λ m h. search rules;
-  ran = λ m o h b calc.
-      let e : c.from_residual.result ≡ Err c.in_err-run_one.field-0.0 = search rules in
-      let k = c.loop-statement.invariant.going m o h b calc in
-      let P : List Binding → Type 0 = λ env. ComposesBeside c.args.level.now.owed.now.objects o.old
-      c.args.level.now.depth k.now
-      (statement_forest m c.args.level.now.functions.now (stmt_view c.statement-item.result) env)
-      (state_of c.loop-statement.made.writer (g.V.View.asked c.loop-statement.view) c.loop-statement.made.reads)
-      (state_of c.run_one.new.made.writer (g.V.View.asked c.run_one.new.view) c.run_one.new.made.reads)
-      c.run_one.new.made.pending {U = Unit {0}} (Err c.in_err-run_one.field-0.0) in
-      let ran = subst P c.loop-statement.invariant.same_scope
-      (c.in_err-run_one.ensures.ran m (at_now o k.now) (c.loop-statement.invariant.same m h)
-      (beside_now k.now b k.fits) (statement_calculates o.last.calculation c.args.body.now
-      c.loop-statement.statement-index c.statement-item.result (omega arith) c.statement-item.is calc)) in
-      going_stop _ _ (all_at m c.args.level.now.functions.now c.args.body.now c.loop-statement.statement-index
-      c.statement-item.result c.args.made.now.scope (omega arith) c.statement-item.is) k ran e;
-}
+run_all-returns-in_err-run_one g t c =
+    let e : c.from_residual.result ≡ Err c.in_err-run_one.field-0.0 = search rules in
+    record {
+      keeps = g.met.V.View.keeps_on _ _ _ c.loop-statement.invariant.keeps c.in_err-run_one.ensures.keeps;
+      same = λ m h. c.in_err-run_one.ensures.same m (c.loop-statement.invariant.same m h);
+      same_scope = stopped _ _ _ e;
+      longer = stopped _ _ _ e;
+      fits = stopped _ _ _ e;
+      counted = λ m h. stopped _ _ _ e;
+      ran = λ m o h b calc.
+          let k = c.loop-statement.invariant.going m o h b calc in
+          let P : List Binding → Type 0 = λ env. ComposesBeside c.args.level.now.owed.now.objects o.old
+          c.args.level.now.depth k.now
+          (statement_forest m c.args.level.now.functions.now (stmt_view c.statement-item.result) env)
+          (state_of c.loop-statement.made.writer (g.V.View.asked c.loop-statement.view) c.loop-statement.made.reads)
+          (state_of c.run_one.new.made.writer (g.V.View.asked c.run_one.new.view) c.run_one.new.made.reads)
+          c.run_one.new.made.pending {U = Unit {0}} (Err c.in_err-run_one.field-0.0) in
+          let ran = subst P c.loop-statement.invariant.same_scope
+          (c.in_err-run_one.ensures.ran m (at_now o k.now) (c.loop-statement.invariant.same m h)
+          (beside_now k.now b k.fits) (statement_calculates o.last.calculation c.args.body.now
+          c.loop-statement.statement-index c.statement-item.result (omega arith) c.statement-item.is calc)) in
+          going_stop _ _ (all_at m c.args.level.now.functions.now c.args.body.now c.loop-statement.statement-index
+          c.statement-item.result c.args.made.now.scope (omega arith) c.statement-item.is) k ran e;
+    }
 
 pub run_all-loop-statement-preserved : goal.run_all-loop-statement-preserved
 run_all-loop-statement-preserved g t c = record {
@@ -133,25 +134,25 @@ run_all-loop-statement-init g t c = record {
 
 pub run_one-returns-in-Node : goal.run_one-returns-in-Node
 run_one-returns-in-Node g t c = record {
-  keeps = search (rules, g.met.V.View.keeps_on, g.met.V.View.keeps_itself);
-  same = search rules;
-  same_scope = search rules;
-  longer = search rules;
-  fits = search rules;
+  keeps = c.run_node.ensures.keeps;
+  same = c.run_node.ensures.same;
+  same_scope = c.run_node.ensures.same_scope;
+  longer = c.run_node.ensures.longer;
+  fits = c.run_node.ensures.fits;
   counted = λ m h. c.run_node.ensures.counted m h;
   ran = λ m o h b calc.
-      let r = c.run_node.ensures.ran m o h b (search (rules, node_calculates)) in
+      let r = c.run_node.ensures.ran m o h b (node_calculates _ _ _ _ _ _ _ _ c.in-Node.is (search rules) calc) in
       node_beside m c.args.level.now.functions.now _ c.args.made.now.scope _ _ _ _ _ _ _ _ _ _ _ _ _ _ _
       c.in-Node.is (search rules) (search rules) r;
 }
 
 pub run_one-returns-in-Call : goal.run_one-returns-in-Call
 run_one-returns-in-Call g t c = record {
-  keeps = search (rules, g.met.V.View.keeps_on, g.met.V.View.keeps_itself);
-  same = search rules;
-  same_scope = search rules;
-  longer = search rules;
-  fits = search rules;
+  keeps = c.run_arguments.ensures.keeps;
+  same = c.run_arguments.ensures.same;
+  same_scope = c.run_arguments.ensures.same_scope;
+  longer = c.run_arguments.ensures.longer;
+  fits = c.run_arguments.ensures.fits;
   counted = λ m h. c.run_arguments.ensures.counted m h;
   ran = λ m o h b calc.
       let r = c.run_arguments.ensures.ran m o h b tt in
@@ -161,64 +162,68 @@ run_one-returns-in-Call g t c = record {
 
 pub run_one-returns-in-Key : goal.run_one-returns-in-Key
 run_one-returns-in-Key g t c = record {
-  keeps = search (rules, g.met.V.View.keeps_on, g.met.V.View.keeps_itself);
-  same = search rules;
-  same_scope = search rules;
-  longer = search rules;
-  fits = search rules;
+  keeps = c.run_key.ensures.keeps;
+  same = c.run_key.ensures.same;
+  same_scope = c.run_key.ensures.same_scope;
+  longer = c.run_key.ensures.longer;
+  fits = c.run_key.ensures.fits;
   counted = λ m h. c.run_key.ensures.counted m h;
   ran = λ m o h b calc.
-      let r = c.run_key.ensures.ran m o h b (search (rules, key_calculates)) in search (rules, key_beside);
+      let r = c.run_key.ensures.ran m o h b (key_calculates _ _ _ _ _ _ _ c.in-Key.is (search rules) calc) in key_beside m c.args.level.now.functions.now _ c.args.made.now.scope
+      _ _ _ _ _ _ _ _ _ _ _ _ _ c.in-Key.is (search rules) r;
 }
 
 pub run_one-returns-in-If : goal.run_one-returns-in-If
 run_one-returns-in-If g t c = record {
-  keeps = search (rules, g.met.V.View.keeps_on, g.met.V.View.keeps_itself);
-  same = search rules;
-  same_scope = search rules;
-  longer = search rules;
-  fits = search rules;
+  keeps = c.run_if.ensures.keeps;
+  same = c.run_if.ensures.same;
+  same_scope = c.run_if.ensures.same_scope;
+  longer = c.run_if.ensures.longer;
+  fits = c.run_if.ensures.fits;
   counted = λ m h. c.run_if.ensures.counted m h;
   ran = λ m o h b calc.
-      let r = c.run_if.ensures.ran m o h b (search (rules, then_calculates), search (rules, else_calculates)) in
-      search (rules, choice_beside);
+      let r = c.run_if.ensures.ran m o h b (then_calculates _ _ _ _ _ _ _ _ c.in-If.is (search rules) calc, else_calculates _ _ _ _ _ _ _ _ c.in-If.is (search rules) calc) in
+      choice_beside m c.args.level.now.functions.now _ c.args.made.now.scope
+      _ _ _ _ _ _ _ _ _ _ _ _ _ _ _ c.in-If.is (search rules) (search rules) r;
 }
 
 pub run_one-returns-in-For : goal.run_one-returns-in-For
 run_one-returns-in-For g t c = record {
-  keeps = search (rules, g.met.V.View.keeps_on, g.met.V.View.keeps_itself);
-  same = search rules;
-  same_scope = search rules;
-  longer = search rules;
-  fits = search rules;
+  keeps = c.run_for.ensures.keeps;
+  same = c.run_for.ensures.same;
+  same_scope = c.run_for.ensures.same_scope;
+  longer = c.run_for.ensures.longer;
+  fits = c.run_for.ensures.fits;
   counted = λ m h. c.run_for.ensures.counted m h;
   ran = λ m o h b calc.
-      let r = c.run_for.ensures.ran m o h b (search (rules, loop_calculates)) in search (rules, loop_beside);
+      let r = c.run_for.ensures.ran m o h b (loop_calculates _ _ _ _ _ _ _ _ c.in-For.is (search rules) calc) in loop_beside m c.args.level.now.functions.now _ c.args.made.now.scope
+      _ _ _ _ _ _ _ _ _ _ _ _ _ _ c.in-For.is (search rules) r;
 }
 
 pub run_one-returns-in-Let : goal.run_one-returns-in-Let
 run_one-returns-in-Let g t c = record {
-  keeps = search (rules, g.met.V.View.keeps_on, g.met.V.View.keeps_itself);
-  same = search rules;
-  same_scope = search rules;
-  longer = search rules;
-  fits = search rules;
+  keeps = c.run_let.ensures.keeps;
+  same = c.run_let.ensures.same;
+  same_scope = c.run_let.ensures.same_scope;
+  longer = c.run_let.ensures.longer;
+  fits = c.run_let.ensures.fits;
   counted = λ m h. c.run_let.ensures.counted m h;
   ran = λ m o h b calc.
-      let r = c.run_let.ensures.ran m o h b (search (rules, binding_calculates)) in search (rules, binding_beside);
+      let r = c.run_let.ensures.ran m o h b (binding_calculates _ _ _ _ _ _ _ _ c.in-Let.is (search rules) calc) in binding_beside m c.args.level.now.functions.now _ c.args.made.now.scope
+      _ _ _ _ _ _ _ _ _ _ _ _ _ _ c.in-Let.is (search rules) r;
 }
 
 pub run_one-returns-in-Remember : goal.run_one-returns-in-Remember
 run_one-returns-in-Remember g t c = record {
-  keeps = search (rules, g.met.V.View.keeps_on, g.met.V.View.keeps_itself);
-  same = search rules;
-  same_scope = search rules;
-  longer = search rules;
-  fits = search rules;
+  keeps = c.run_remember.ensures.keeps;
+  same = c.run_remember.ensures.same;
+  same_scope = c.run_remember.ensures.same_scope;
+  longer = c.run_remember.ensures.longer;
+  fits = c.run_remember.ensures.fits;
   counted = λ m h. c.run_remember.ensures.counted m h;
   ran = λ m o h b calc.
       let r = c.run_remember.ensures.ran m o h b
-      (search (rules, cell_calculates), search (rules, remember_calculates)) in
+      (cell_calculates _ _ _ _ _ _ _ _ _ c.in-Remember.is (search rules) calc, remember_calculates _ _ _ _ _ _ _ _ _ c.in-Remember.is (search rules) calc) in
       remember_beside m c.args.level.now.functions.now _ c.args.made.now.scope _ _ _ _ _ _ _ _ _ _ _ _ _ _ _ _
       c.in-Remember.is (search rules) (search rules) r;
 }
@@ -231,28 +236,33 @@ run_group-returns-in_err-found-clause-ran g t c w is plain m h o b calc =
     beside_stop_here _ e refl
 
 pub run_group-returns-in_err-found-clause-part : goal.run_group-returns-in_err-found-clause-part
-run_group-returns-in_err-found-clause-part g t c = record {
-  keeps = search (rules, g.met.V.View.keeps_on, g.met.V.View.keeps_itself);
-  same = search rules;
-  same_scope = search rules;
-  longer = search rules;
-  fits = search rules;
-  counted = λ m h. search rules;
-}
+run_group-returns-in_err-found-clause-part g t c =
+    let e : c.from_residual.result ≡ Err NoMemory = search rules in
+    record {
+      keeps = g.met.V.View.keeps_itself _;
+      same = λ m h. h;
+      same_scope = stopped _ _ _ e;
+      longer = stopped _ _ _ e;
+      fits = stopped _ _ _ e;
+      counted = λ m h. stopped _ _ _ e;
+    }
 
 pub run_group-returns-in_err-enter-clause-ran : goal.run_group-returns-in_err-enter-clause-ran
 run_group-returns-in_err-enter-clause-ran g t c w is plain m h o b calc =
-    beside_full _ (search rules) (search rules) refl
+    let e : c.from_residual-in_err-enter.result ≡ Err c.in_err-enter.field-0.0 = search rules in
+    beside_full _ (failed _ _ e) (search rules) refl
 
 pub run_group-returns-in_err-enter-clause-part : goal.run_group-returns-in_err-enter-clause-part
-run_group-returns-in_err-enter-clause-part g t c = record {
-  keeps = search (rules, g.met.V.View.keeps_on, g.met.V.View.keeps_itself);
-  same = search rules;
-  same_scope = search rules;
-  longer = search rules;
-  fits = search rules;
-  counted = λ m h. search rules;
-}
+run_group-returns-in_err-enter-clause-part g t c =
+    let e : c.from_residual-in_err-enter.result ≡ Err c.in_err-enter.field-0.0 = search rules in
+    record {
+      keeps = g.met.V.View.keeps_itself _;
+      same = λ m h. h;
+      same_scope = stopped _ _ _ e;
+      longer = stopped _ _ _ e;
+      fits = stopped _ _ _ e;
+      counted = λ m h. stopped _ _ _ e;
+    }
 
 pub run_group-returns-then-is_empty-clause-ran : goal.run_group-returns-then-is_empty-clause-ran
 run_group-returns-then-is_empty-clause-ran g t c w is plain m h o b calc =
@@ -273,9 +283,9 @@ run_group-returns-then-is_empty-clause-ran g t c w is plain m h o b calc =
 
 pub run_group-returns-then-is_empty-clause-part : goal.run_group-returns-then-is_empty-clause-part
 run_group-returns-then-is_empty-clause-part g t c = record {
-  keeps = search (rules, g.met.V.View.keeps_on, g.met.V.View.keeps_itself);
-  same = search rules;
-  same_scope = search rules;
+  keeps = g.met.V.View.keeps_itself _;
+  same = λ m h. h;
+  same_scope = refl;
   longer = entered_longer _ _ (group_kind c.args.what) c.in_ok-found.found c.args.made.now.writer _
       c.in_ok-enter.ensures.entered;
   fits = c.in_ok-enter.ensures.fits;
@@ -304,14 +314,16 @@ run_group-returns-in_err-run_all-clause-ran g t c w is plain m h o b calc =
     beside_err _ e (beside_group w _ plain state tt inner)
 
 pub run_group-returns-in_err-run_all-clause-part : goal.run_group-returns-in_err-run_all-clause-part
-run_group-returns-in_err-run_all-clause-part g t c = record {
-  keeps = search (rules, g.met.V.View.keeps_on, g.met.V.View.keeps_itself);
-  same = search rules;
-  same_scope = search rules;
-  longer = search rules;
-  fits = search rules;
-  counted = λ m h. search rules;
-}
+run_group-returns-in_err-run_all-clause-part g t c =
+    let e : c.from_residual-in_err-run_all.result ≡ Err c.in_err-run_all.field-0.0 = search rules in
+    record {
+      keeps = c.in_err-run_all.ensures.keeps;
+      same = c.in_err-run_all.ensures.same;
+      same_scope = stopped _ _ _ e;
+      longer = stopped _ _ _ e;
+      fits = stopped _ _ _ e;
+      counted = λ m h. stopped _ _ _ e;
+    }
 
 pub run_group-returns-clause-ran : goal.run_group-returns-clause-ran
 run_group-returns-clause-ran g t c w is plain m h o b calc =
@@ -350,18 +362,19 @@ run_group-returns-clause-part g t c = record {
 -- A key.
 
 pub run_key-returns-in_err-key : goal.run_key-returns-in_err-key
-run_key-returns-in_err-key g t c = record {
-  keeps = search (rules, g.met.V.View.keeps_on, g.met.V.View.keeps_itself);
-  same = search rules;
-  same_scope = search rules;
-  longer = search rules;
-  fits = search rules;
-  counted = λ m h. search rules;
-  ran = λ m o h b calc.
-      let e : c.from_residual.result ≡ Err NoMemory = search rules in
-      let p = c.in_err-key.ensures.part m h in
-      beside_stop_after _ _ _ e p.rest p.is;
-}
+run_key-returns-in_err-key g t c =
+    let e : c.from_residual.result ≡ Err NoMemory = search rules in
+    record {
+      keeps = c.in_err-key.ensures.keeps;
+      same = c.in_err-key.ensures.same;
+      same_scope = stopped _ _ _ e;
+      longer = stopped _ _ _ e;
+      fits = stopped _ _ _ e;
+      counted = λ m h. stopped _ _ _ e;
+      ran = λ m o h b calc.
+          let p = c.in_err-key.ensures.part m h in
+          beside_stop_after _ _ _ e p.rest p.is;
+    }
 
 pub run_key-returns : goal.run_key-returns
 run_key-returns g t c = record {
@@ -388,31 +401,33 @@ run_key-returns g t c = record {
 -- A node.
 
 pub run_node-returns-in_err-room : goal.run_node-returns-in_err-room
-run_node-returns-in_err-room g t c = record {
-  keeps = search (rules, g.met.V.View.keeps_on, g.met.V.View.keeps_itself);
-  same = search rules;
-  same_scope = search rules;
-  longer = search rules;
-  fits = search rules;
-  counted = λ m h. search rules;
-  ran = λ m o h b calc.
-      let e : c.from_residual.result ≡ Err NoMemory = search rules in
-      beside_stop_here _ e refl;
-}
+run_node-returns-in_err-room g t c =
+    let e : c.from_residual.result ≡ Err NoMemory = search rules in
+    record {
+      keeps = g.met.V.View.keeps_itself _;
+      same = λ m h. h;
+      same_scope = stopped _ _ _ e;
+      longer = stopped _ _ _ e;
+      fits = stopped _ _ _ e;
+      counted = λ m h. stopped _ _ _ e;
+      ran = λ m o h b calc.
+          beside_stop_here _ e refl;
+    }
 
 pub run_node-returns-in_err-attributes : goal.run_node-returns-in_err-attributes
-run_node-returns-in_err-attributes g t c = record {
-  keeps = search (rules, g.met.V.View.keeps_on, g.met.V.View.keeps_itself);
-  same = search rules;
-  same_scope = search rules;
-  longer = search rules;
-  fits = search rules;
-  counted = λ m h. search rules;
-  ran = λ m o h b calc.
-      let e : c.from_residual-in_err-attributes.result ≡ Err NoMemory = search rules in
-      let p = c.in_err-attributes.ensures.part m h in
-      beside_stop_after _ _ _ e p.rest p.is;
-}
+run_node-returns-in_err-attributes g t c =
+    let e : c.from_residual-in_err-attributes.result ≡ Err NoMemory = search rules in
+    record {
+      keeps = c.in_err-attributes.ensures.keeps;
+      same = c.in_err-attributes.ensures.same;
+      same_scope = stopped _ _ _ e;
+      longer = stopped _ _ _ e;
+      fits = stopped _ _ _ e;
+      counted = λ m h. stopped _ _ _ e;
+      ran = λ m o h b calc.
+          let p = c.in_err-attributes.ensures.part m h in
+          beside_stop_after _ _ _ e p.rest p.is;
+    }
 
 pub run_node-returns : goal.run_node-returns
 run_node-returns g t c = record {
@@ -439,26 +454,27 @@ run_node-returns g t c = record {
 -- One of two lists of statements.
 
 pub run_if-returns-in_err-condition : goal.run_if-returns-in_err-condition
-run_if-returns-in_err-condition g t c = record {
-  keeps = search (rules, g.met.V.View.keeps_on, g.met.V.View.keeps_itself);
-  same = search rules;
-  same_scope = search rules;
-  longer = search rules;
-  fits = search rules;
-  counted = λ m h. search rules;
-  ran = λ m o h b calc.
-      let e : c.from_residual.result ≡ Err NoMemory = search rules in
-      let p = c.in_err-condition.ensures.part m h in
-      beside_stop_after _ _ _ e p.rest p.is;
-}
+run_if-returns-in_err-condition g t c =
+    let e : c.from_residual.result ≡ Err NoMemory = search rules in
+    record {
+      keeps = c.in_err-condition.ensures.keeps;
+      same = c.in_err-condition.ensures.same;
+      same_scope = stopped _ _ _ e;
+      longer = stopped _ _ _ e;
+      fits = stopped _ _ _ e;
+      counted = λ m h. stopped _ _ _ e;
+      ran = λ m o h b calc.
+          let p = c.in_err-condition.ensures.part m h in
+          beside_stop_after _ _ _ e p.rest p.is;
+    }
 
 pub run_if-returns-then-is_true : goal.run_if-returns-then-is_true
 run_if-returns-then-is_true g t c = record {
-  keeps = search (rules, g.met.V.View.keeps_on, g.met.V.View.keeps_itself);
-  same = search rules;
-  same_scope = search rules;
-  longer = search rules;
-  fits = search rules;
+  keeps = g.met.V.View.keeps_on _ _ _ c.in_ok-condition.ensures.keeps c.run_all.ensures.keeps;
+  same = λ m h. c.run_all.ensures.same m (c.in_ok-condition.ensures.same m h);
+  same_scope = c.run_all.ensures.same_scope;
+  longer = c.run_all.ensures.longer;
+  fits = c.run_all.ensures.fits;
   counted = λ m h. counted_after _ _ _ _ _ _ _ _ _ _ (c.in_ok-condition.ensures.asks m h)
       (c.in_ok-condition.ensures.reads m h) (c.run_all.ensures.counted m (c.eval_noting.ensures.same m h));
   ran = λ m o h b calc.
@@ -472,11 +488,11 @@ run_if-returns-then-is_true g t c = record {
 
 pub run_if-returns : goal.run_if-returns
 run_if-returns g t c = record {
-  keeps = search (rules, g.met.V.View.keeps_on, g.met.V.View.keeps_itself);
-  same = search rules;
-  same_scope = search rules;
-  longer = search rules;
-  fits = search rules;
+  keeps = g.met.V.View.keeps_on _ _ _ c.in_ok-condition.ensures.keeps c.run_all-2.ensures.keeps;
+  same = λ m h. c.run_all-2.ensures.same m (c.in_ok-condition.ensures.same m h);
+  same_scope = c.run_all-2.ensures.same_scope;
+  longer = c.run_all-2.ensures.longer;
+  fits = c.run_all-2.ensures.fits;
   counted = λ m h. counted_after _ _ _ _ _ _ _ _ _ _ (c.in_ok-condition.ensures.asks m h)
       (c.in_ok-condition.ensures.reads m h) (c.run_all-2.ensures.counted m (c.eval_noting.ensures.same m h));
   ran = λ m o h b calc.
@@ -491,38 +507,40 @@ run_if-returns g t c = record {
 -- A name more in scope.
 
 pub run_bound-returns-in_err-name : goal.run_bound-returns-in_err-name
-run_bound-returns-in_err-name g t c = record {
-  keeps = search (rules, g.met.V.View.keeps_on, g.met.V.View.keeps_itself);
-  same = search rules;
-  same_scope = search rules;
-  longer = search rules;
-  fits = search rules;
-  counted = λ m h. search rules;
-  ran = λ m o h b calc.
-      let e : c.from_residual.result ≡ Err NoMemory = search rules in
-      beside_stop_here _ e refl;
-}
+run_bound-returns-in_err-name g t c =
+    let e : c.from_residual.result ≡ Err NoMemory = search rules in
+    record {
+      keeps = g.met.V.View.keeps_itself _;
+      same = λ m h. h;
+      same_scope = stopped _ _ _ e;
+      longer = stopped _ _ _ e;
+      fits = stopped _ _ _ e;
+      counted = λ m h. stopped _ _ _ e;
+      ran = λ m o h b calc.
+          beside_stop_here _ e refl;
+    }
 
 pub run_bound-returns-in_err-push : goal.run_bound-returns-in_err-push
-run_bound-returns-in_err-push g t c = record {
-  keeps = search (rules, g.met.V.View.keeps_on, g.met.V.View.keeps_itself);
-  same = search rules;
-  same_scope = search rules;
-  longer = search rules;
-  fits = search rules;
-  counted = λ m h. search rules;
-  ran = λ m o h b calc.
-      let e : c.from_residual-in_err-push.result ≡ Err NoMemory = search rules in
-      beside_stop_here _ e refl;
-}
+run_bound-returns-in_err-push g t c =
+    let e : c.from_residual-in_err-push.result ≡ Err NoMemory = search rules in
+    record {
+      keeps = g.met.V.View.keeps_itself _;
+      same = λ m h. h;
+      same_scope = stopped _ _ _ e;
+      longer = stopped _ _ _ e;
+      fits = stopped _ _ _ e;
+      counted = λ m h. stopped _ _ _ e;
+      ran = λ m o h b calc.
+          beside_stop_here _ e refl;
+    }
 
 pub run_bound-returns : goal.run_bound-returns
 run_bound-returns g t c = record {
-  keeps = search (rules, g.met.V.View.keeps_on, g.met.V.View.keeps_itself);
-  same = search rules;
+  keeps = c.in_ok-run_all.ensures.keeps;
+  same = c.in_ok-run_all.ensures.same;
   same_scope = search rules;
-  longer = search rules;
-  fits = search rules;
+  longer = c.in_ok-run_all.ensures.longer;
+  fits = c.in_ok-run_all.ensures.fits;
   counted = λ m h. c.in_ok-run_all.ensures.counted m h;
   ran = λ m o h b calc.
       let e : c.push.new.self ≡ c.args.made.now.scope ++ new_binding c.args.name.now.text c.args.value ∷ [] =
@@ -540,26 +558,27 @@ run_bound-returns g t c = record {
 -- A variable.
 
 pub run_let-returns-in_err-value : goal.run_let-returns-in_err-value
-run_let-returns-in_err-value g t c = record {
-  keeps = search (rules, g.met.V.View.keeps_on, g.met.V.View.keeps_itself);
-  same = search rules;
-  same_scope = search rules;
-  longer = search rules;
-  fits = search rules;
-  counted = λ m h. search rules;
-  ran = λ m o h b calc.
-      let e : c.from_residual.result ≡ Err NoMemory = search rules in
-      let p = c.in_err-value.ensures.part m h in
-      beside_stop_after _ _ _ e p.rest p.is;
-}
+run_let-returns-in_err-value g t c =
+    let e : c.from_residual.result ≡ Err NoMemory = search rules in
+    record {
+      keeps = c.in_err-value.ensures.keeps;
+      same = c.in_err-value.ensures.same;
+      same_scope = stopped _ _ _ e;
+      longer = stopped _ _ _ e;
+      fits = stopped _ _ _ e;
+      counted = λ m h. stopped _ _ _ e;
+      ran = λ m o h b calc.
+          let p = c.in_err-value.ensures.part m h in
+          beside_stop_after _ _ _ e p.rest p.is;
+    }
 
 pub run_let-returns : goal.run_let-returns
 run_let-returns g t c = record {
-  keeps = search (rules, g.met.V.View.keeps_on, g.met.V.View.keeps_itself);
-  same = search rules;
-  same_scope = search rules;
-  longer = search rules;
-  fits = search rules;
+  keeps = g.met.V.View.keeps_on _ _ _ c.in_ok-value.ensures.keeps c.run_bound.ensures.keeps;
+  same = λ m h. c.run_bound.ensures.same m (c.in_ok-value.ensures.same m h);
+  same_scope = c.run_bound.ensures.same_scope;
+  longer = c.run_bound.ensures.longer;
+  fits = c.run_bound.ensures.fits;
   counted = λ m h. counted_after _ _ _ _ _ _ _ _ _ _ (c.in_ok-value.ensures.asks m h) (c.in_ok-value.ensures.reads m h)
       (c.run_bound.ensures.counted m (c.eval_noting.ensures.same m h));
   ran = λ m o h b calc.
@@ -578,26 +597,27 @@ run_let-returns g t c = record {
 -- A loop.
 
 pub run_for-returns-in_err-list : goal.run_for-returns-in_err-list
-run_for-returns-in_err-list g t c = record {
-  keeps = search (rules, g.met.V.View.keeps_on, g.met.V.View.keeps_itself);
-  same = search rules;
-  same_scope = search rules;
-  longer = search rules;
-  fits = search rules;
-  counted = λ m h. search rules;
-  ran = λ m o h b calc.
-      let e : c.from_residual.result ≡ Err NoMemory = search rules in
-      let p = c.in_err-list.ensures.part m h in
-      beside_stop_after _ _ _ e p.rest p.is;
-}
+run_for-returns-in_err-list g t c =
+    let e : c.from_residual.result ≡ Err NoMemory = search rules in
+    record {
+      keeps = c.in_err-list.ensures.keeps;
+      same = c.in_err-list.ensures.same;
+      same_scope = stopped _ _ _ e;
+      longer = stopped _ _ _ e;
+      fits = stopped _ _ _ e;
+      counted = λ m h. stopped _ _ _ e;
+      ran = λ m o h b calc.
+          let p = c.in_err-list.ensures.part m h in
+          beside_stop_after _ _ _ e p.rest p.is;
+    }
 
 pub run_for-returns : goal.run_for-returns
 run_for-returns g t c = record {
-  keeps = search (rules, g.met.V.View.keeps_on, g.met.V.View.keeps_itself);
-  same = search rules;
-  same_scope = search rules;
-  longer = search rules;
-  fits = search rules;
+  keeps = g.met.V.View.keeps_on _ _ _ c.in_ok-list.ensures.keeps c.run_turns.ensures.keeps;
+  same = λ m h. c.run_turns.ensures.same m (c.in_ok-list.ensures.same m h);
+  same_scope = c.run_turns.ensures.same_scope;
+  longer = c.run_turns.ensures.longer;
+  fits = c.run_turns.ensures.fits;
   counted = λ m h. counted_after _ _ _ _ _ _ _ _ _ _ (c.in_ok-list.ensures.asks m h) (c.in_ok-list.ensures.reads m h)
       (c.run_turns.ensures.counted m (c.eval_noting.ensures.same m h));
   ran = λ m o h b calc.
@@ -626,11 +646,11 @@ run_turns-loop-item-init g t c = record {
 
 pub run_turns-returns : goal.run_turns-returns
 run_turns-returns g t c = record {
-  keeps = search (rules, g.met.V.View.keeps_on, g.met.V.View.keeps_itself);
-  same = search rules;
-  same_scope = search rules;
-  longer = search rules;
-  fits = search rules;
+  keeps = c.loop-item.invariant.keeps;
+  same = c.loop-item.invariant.same;
+  same_scope = c.loop-item.invariant.same_scope;
+  longer = c.loop-item.invariant.longer;
+  fits = c.loop-item.invariant.fits;
   counted = λ m h. c.loop-item.invariant.counted m h;
   ran = λ m o h b calc.
       let go : ℤ → GroupForest = λ i. body_forest m c.args.level.now.functions.now (stmts_view c.args.body.now)
@@ -640,34 +660,35 @@ run_turns-returns g t c = record {
 }
 
 pub run_turns-returns-in_err-run_bound : goal.run_turns-returns-in_err-run_bound
-run_turns-returns-in_err-run_bound g t c = record {
-  keeps = search (rules, g.met.V.View.keeps_on, g.met.V.View.keeps_itself);
-  same = search rules;
-  same_scope = search rules;
-  longer = search rules;
-  fits = search rules;
-  counted = λ m h. search rules;
-  ran = λ m o h b calc.
-      let fits : to_z w64 (of_z w64 (get_or c.args.items.now c.loop-item.item-index (pos 0))) ≡ get_or c.args.items.now c.loop-item.item-index (pos 0) = search rules in
-      let e : c.from_residual.result ≡ Err c.in_err-run_bound.field-0.0 = search rules in
-      let k = c.loop-item.invariant.going m o h b calc in
-      let P : List Binding → ℤ → Type 0 = λ env i. ComposesBeside c.args.level.now.owed.now.objects o.old
-      c.args.level.now.depth k.now
-      (body_forest m c.args.level.now.functions.now (stmts_view c.args.body.now)
-      (env ++ new_binding c.args.name.now.text (value.Int i) ∷ []))
-      (state_of c.loop-item.made.writer (g.V.View.asked c.loop-item.view) c.loop-item.made.reads)
-      (state_of c.run_bound.new.made.writer (g.V.View.asked c.run_bound.new.view) c.run_bound.new.made.reads)
-      c.run_bound.new.made.pending {U = Unit {0}} (Err c.in_err-run_bound.field-0.0) in
-      let ran = subst (P c.args.made.now.scope) fits
-      (subst (λ (env : List Binding). P env
-      (to_z w64 (of_z w64 (get_or c.args.items.now c.loop-item.item-index (pos 0)))))
-      c.loop-item.invariant.same_scope
-      (c.in_err-run_bound.ensures.ran m (at_now o k.now) (c.loop-item.invariant.same m h) (beside_now k.now b k.fits)
-      calc)) in
-      let go : ℤ → GroupForest = λ i. body_forest m c.args.level.now.functions.now (stmts_view c.args.body.now)
-      (c.args.made.now.scope ++ new_binding c.args.name.now.text (value.Int i) ∷ []) in
-      going_stop _ _ (turns_at go c.args.items.now c.loop-item.item-index (omega arith)) k ran e;
-}
+run_turns-returns-in_err-run_bound g t c =
+    let e : c.from_residual.result ≡ Err c.in_err-run_bound.field-0.0 = search rules in
+    record {
+      keeps = g.met.V.View.keeps_on _ _ _ c.loop-item.invariant.keeps c.in_err-run_bound.ensures.keeps;
+      same = λ m h. c.in_err-run_bound.ensures.same m (c.loop-item.invariant.same m h);
+      same_scope = stopped _ _ _ e;
+      longer = stopped _ _ _ e;
+      fits = stopped _ _ _ e;
+      counted = λ m h. stopped _ _ _ e;
+      ran = λ m o h b calc.
+          let fits : to_z w64 (of_z w64 (get_or c.args.items.now c.loop-item.item-index (pos 0))) ≡ get_or c.args.items.now c.loop-item.item-index (pos 0) = search rules in
+          let k = c.loop-item.invariant.going m o h b calc in
+          let P : List Binding → ℤ → Type 0 = λ env i. ComposesBeside c.args.level.now.owed.now.objects o.old
+          c.args.level.now.depth k.now
+          (body_forest m c.args.level.now.functions.now (stmts_view c.args.body.now)
+          (env ++ new_binding c.args.name.now.text (value.Int i) ∷ []))
+          (state_of c.loop-item.made.writer (g.V.View.asked c.loop-item.view) c.loop-item.made.reads)
+          (state_of c.run_bound.new.made.writer (g.V.View.asked c.run_bound.new.view) c.run_bound.new.made.reads)
+          c.run_bound.new.made.pending {U = Unit {0}} (Err c.in_err-run_bound.field-0.0) in
+          let ran = subst (P c.args.made.now.scope) fits
+          (subst (λ (env : List Binding). P env
+          (to_z w64 (of_z w64 (get_or c.args.items.now c.loop-item.item-index (pos 0)))))
+          c.loop-item.invariant.same_scope
+          (c.in_err-run_bound.ensures.ran m (at_now o k.now) (c.loop-item.invariant.same m h) (beside_now k.now b k.fits)
+          calc)) in
+          let go : ℤ → GroupForest = λ i. body_forest m c.args.level.now.functions.now (stmts_view c.args.body.now)
+          (c.args.made.now.scope ++ new_binding c.args.name.now.text (value.Int i) ∷ []) in
+          going_stop _ _ (turns_at go c.args.items.now c.loop-item.item-index (omega arith)) k ran e;
+    }
 
 pub run_turns-loop-item-preserved : goal.run_turns-loop-item-preserved
 run_turns-loop-item-preserved g t c = record {
@@ -702,90 +723,95 @@ run_turns-loop-item-preserved g t c = record {
 -- A cell.
 
 pub run_remember-returns-in_err-env : goal.run_remember-returns-in_err-env
-run_remember-returns-in_err-env g t c = record {
-  keeps = search (rules, g.met.V.View.keeps_on, g.met.V.View.keeps_itself);
-  same = search rules;
-  same_scope = search rules;
-  longer = search rules;
-  fits = search rules;
-  counted = λ m h. search rules;
-  ran = λ m o h b calc.
-      let e : c.from_residual.result ≡ Err NoMemory = search rules in
-      let p = c.in_err-env.ensures.part m h in
-      beside_stop_after _ _ _ e p.rest p.is;
-}
+run_remember-returns-in_err-env g t c =
+    let e : c.from_residual.result ≡ Err NoMemory = search rules in
+    record {
+      keeps = c.in_err-env.ensures.keeps;
+      same = c.in_err-env.ensures.same;
+      same_scope = stopped _ _ _ e;
+      longer = stopped _ _ _ e;
+      fits = stopped _ _ _ e;
+      counted = λ m h. stopped _ _ _ e;
+      ran = λ m o h b calc.
+          let p = c.in_err-env.ensures.part m h in
+          beside_stop_after _ _ _ e p.rest p.is;
+    }
 
 pub run_remember-returns-in_err-found : goal.run_remember-returns-in_err-found
-run_remember-returns-in_err-found g t c = record {
-  keeps = search (rules, g.met.V.View.keeps_on, g.met.V.View.keeps_itself);
-  same = search rules;
-  same_scope = search rules;
-  longer = search rules;
-  fits = search rules;
-  counted = λ m h. search rules;
-  ran = λ m o h b calc.
-      let e : c.from_residual-in_err-found.result ≡ Err NoMemory = search rules in
-      beside_after _ _ (state_of c.args.made.now.writer (g.V.View.asked c.evaluate_keys.new.view)
-      c.evaluate_keys.new.reads) (same_state refl refl refl refl (c.in_ok-env.ensures.asks m h)
-      (c.in_ok-env.ensures.reads m h)) (beside_stop_here _ e refl);
-}
+run_remember-returns-in_err-found g t c =
+    let e : c.from_residual-in_err-found.result ≡ Err NoMemory = search rules in
+    record {
+      keeps = c.in_ok-env.ensures.keeps;
+      same = c.in_ok-env.ensures.same;
+      same_scope = stopped _ _ _ e;
+      longer = stopped _ _ _ e;
+      fits = stopped _ _ _ e;
+      counted = λ m h. stopped _ _ _ e;
+      ran = λ m o h b calc.
+          beside_after _ _ (state_of c.args.made.now.writer (g.V.View.asked c.evaluate_keys.new.view)
+          c.evaluate_keys.new.reads) (same_state refl refl refl refl (c.in_ok-env.ensures.asks m h)
+          (c.in_ok-env.ensures.reads m h)) (beside_stop_here _ e refl);
+    }
 
 pub run_remember-returns-in_err-value : goal.run_remember-returns-in_err-value
-run_remember-returns-in_err-value g t c = record {
-  keeps = search (rules, g.met.V.View.keeps_on, g.met.V.View.keeps_itself);
-  same = search rules;
-  same_scope = search rules;
-  longer = search rules;
-  fits = search rules;
-  counted = λ m h. search rules;
-  ran = λ m o h b calc.
-      let ev = ap (λ (k : List Binding). eval m (expr_view c.args.cell.value.now) k) (c.in_ok-env.ensures.value m h) in
-      let e : c.from_residual-in_err-value.result ≡ Err NoMemory = search rules in
-      let p = subst (λ (r : Reading Value). Grew (g.V.View.asked c.evaluate_keys.new.view)
-      (g.V.View.asked c.remember.new.view) r.reads) ev
-      (c.in_err-value.ensures.part m (c.in_ok-env.ensures.same m h)) in
-      beside_after _ _ (state_of c.args.made.now.writer (g.V.View.asked c.evaluate_keys.new.view)
-      c.evaluate_keys.new.reads) (same_state refl refl refl refl (c.in_ok-env.ensures.asks m h)
-      (c.in_ok-env.ensures.reads m h)) (beside_stop_after _ _ _ e p.rest p.is);
-}
+run_remember-returns-in_err-value g t c =
+    let e : c.from_residual-in_err-value.result ≡ Err NoMemory = search rules in
+    record {
+      keeps = g.met.V.View.keeps_on _ _ _ c.in_ok-env.ensures.keeps c.in_err-value.ensures.keeps;
+      same = λ m h. c.in_err-value.ensures.same m (c.in_ok-env.ensures.same m h);
+      same_scope = stopped _ _ _ e;
+      longer = stopped _ _ _ e;
+      fits = stopped _ _ _ e;
+      counted = λ m h. stopped _ _ _ e;
+      ran = λ m o h b calc.
+          let ev = ap (λ (k : List Binding). eval m (expr_view c.args.cell.value.now) k) (c.in_ok-env.ensures.value m h) in
+          let p = subst (λ (r : Reading Value). Grew (g.V.View.asked c.evaluate_keys.new.view)
+          (g.V.View.asked c.remember.new.view) r.reads) ev
+          (c.in_err-value.ensures.part m (c.in_ok-env.ensures.same m h)) in
+          beside_after _ _ (state_of c.args.made.now.writer (g.V.View.asked c.evaluate_keys.new.view)
+          c.evaluate_keys.new.reads) (same_state refl refl refl refl (c.in_ok-env.ensures.asks m h)
+          (c.in_ok-env.ensures.reads m h)) (beside_stop_after _ _ _ e p.rest p.is);
+    }
 
 pub run_remember-returns-in_err-enter_cell : goal.run_remember-returns-in_err-enter_cell
-run_remember-returns-in_err-enter_cell g t c = record {
-  keeps = search (rules, g.met.V.View.keeps_on, g.met.V.View.keeps_itself);
-  same = search rules;
-  same_scope = search rules;
-  longer = search rules;
-  fits = search rules;
-  counted = λ m h. search rules;
-  ran = λ m o h b calc.
-      let env = (eval_named m (nameds_view c.args.cell.keys.now) c.args.made.now.scope).value in
-      let ev = ap (λ (k : List Binding). eval m (expr_view c.args.cell.value.now) k) (c.in_ok-env.ensures.value m h) in
-      let there = c.in_ok-env.ensures.same m h in
-      let none = (calc.0 m c.args.made.now.scope).1 in
-      let quiet : (eval m (expr_view c.args.cell.value.now) c.in_ok-env.env).reads ≡ [] =
-      ap (λ (r : Reading Value). r.reads) ev ∙ none in
-      let asks : g.V.View.asked c.remember.new.view ≡ g.V.View.asked c.evaluate_keys.new.view ++ (eval m (expr_view c.args.cell.value.now) env).reads =
-      c.in_ok-value.ensures.asks m there quiet ∙ sym (append-nil (g.V.View.asked c.evaluate_keys.new.view))
-      ∙ ap (λ l. g.V.View.asked c.evaluate_keys.new.view ++ l) (sym none) in
-      let reads : c.remember.new.reads ≡ c.evaluate_keys.new.reads ++ (eval m (expr_view c.args.cell.value.now) env).reads =
-      c.in_ok-value.ensures.reads m there quiet ∙ sym (append-nil c.evaluate_keys.new.reads)
-      ∙ ap (λ l. c.evaluate_keys.new.reads ++ l) (sym none) in
-      beside_after _ _ (state_of c.args.made.now.writer (g.V.View.asked c.evaluate_keys.new.view)
-      c.evaluate_keys.new.reads) (same_state refl refl refl refl (c.in_ok-env.ensures.asks m h)
-      (c.in_ok-env.ensures.reads m h))
-      (beside_after _ _ (state_of c.args.made.now.writer (g.V.View.asked c.remember.new.view) c.remember.new.reads)
-      (same_state refl refl refl refl asks reads) (beside_full _ (search rules) (search rules) refl));
-}
+run_remember-returns-in_err-enter_cell g t c =
+    let e : c.from_residual-in_err-enter_cell.result ≡ Err c.in_err-enter_cell.field-0.0 = search rules in
+    record {
+      keeps = g.met.V.View.keeps_on _ _ _ c.in_ok-env.ensures.keeps c.in_ok-value.ensures.keeps;
+      same = λ m h. c.in_ok-value.ensures.same m (c.in_ok-env.ensures.same m h);
+      same_scope = stopped _ _ _ e;
+      longer = stopped _ _ _ e;
+      fits = stopped _ _ _ e;
+      counted = λ m h. stopped _ _ _ e;
+      ran = λ m o h b calc.
+          let env = (eval_named m (nameds_view c.args.cell.keys.now) c.args.made.now.scope).value in
+          let ev = ap (λ (k : List Binding). eval m (expr_view c.args.cell.value.now) k) (c.in_ok-env.ensures.value m h) in
+          let there = c.in_ok-env.ensures.same m h in
+          let none = (calc.0 m c.args.made.now.scope).1 in
+          let quiet : (eval m (expr_view c.args.cell.value.now) c.in_ok-env.env).reads ≡ [] =
+          ap (λ (r : Reading Value). r.reads) ev ∙ none in
+          let asks : g.V.View.asked c.remember.new.view ≡ g.V.View.asked c.evaluate_keys.new.view ++ (eval m (expr_view c.args.cell.value.now) env).reads =
+          c.in_ok-value.ensures.asks m there quiet ∙ sym (append-nil (g.V.View.asked c.evaluate_keys.new.view))
+          ∙ ap (λ l. g.V.View.asked c.evaluate_keys.new.view ++ l) (sym none) in
+          let reads : c.remember.new.reads ≡ c.evaluate_keys.new.reads ++ (eval m (expr_view c.args.cell.value.now) env).reads =
+          c.in_ok-value.ensures.reads m there quiet ∙ sym (append-nil c.evaluate_keys.new.reads)
+          ∙ ap (λ l. c.evaluate_keys.new.reads ++ l) (sym none) in
+          beside_after _ _ (state_of c.args.made.now.writer (g.V.View.asked c.evaluate_keys.new.view)
+          c.evaluate_keys.new.reads) (same_state refl refl refl refl (c.in_ok-env.ensures.asks m h)
+          (c.in_ok-env.ensures.reads m h))
+          (beside_after _ _ (state_of c.args.made.now.writer (g.V.View.asked c.remember.new.view) c.remember.new.reads)
+          (same_state refl refl refl refl asks reads) (beside_full _ (failed _ _ e) (search rules) refl));
+    }
 
 pub run_remember-returns : goal.run_remember-returns
 run_remember-returns g t c = record {
-  keeps = search (rules, g.met.V.View.keeps_on, g.met.V.View.keeps_itself);
-  same = search rules;
-  same_scope = search rules;
+  keeps = g.met.V.View.keeps_on _ _ _ c.in_ok-env.ensures.keeps (g.met.V.View.keeps_on _ _ _ c.in_ok-value.ensures.keeps c.run_bound.ensures.keeps);
+  same = λ m h. c.run_bound.ensures.same m (c.in_ok-value.ensures.same m (c.in_ok-env.ensures.same m h));
+  same_scope = c.run_bound.ensures.same_scope;
   longer = longer_on _ _ _ _ (entered_longer _ _
       (what.Cell (map (λ (k : Binding). k.value) c.in_ok-env.env) c.in_ok-value.value) c.in_ok-found.found
       c.args.made.now.writer _ c.in_ok-enter_cell.ensures.entered) c.run_bound.ensures.longer;
-  fits = search rules;
+  fits = c.run_bound.ensures.fits;
   counted = λ m h. counted_cell _ _ _ _ _ _ _ _ _ _ _ _ _ (c.in_ok-env.ensures.asks m h) (c.in_ok-env.ensures.reads m h)
       (c.in_ok-value.ensures.counted m (c.in_ok-env.ensures.same m h))
       (ap (λ (q : WrittenGroups). q.reads) c.in_ok-enter_cell.ensures.entered)
@@ -844,39 +870,41 @@ run_remember-returns g t c = record {
 -- A call.
 
 pub run_arguments-returns-in_err-all : goal.run_arguments-returns-in_err-all
-run_arguments-returns-in_err-all g t c = record {
-  keeps = search (rules, g.met.V.View.keeps_on, g.met.V.View.keeps_itself);
-  same = search rules;
-  same_scope = search rules;
-  longer = search rules;
-  fits = search rules;
-  counted = λ m h. search rules;
-  ran = λ m o h b calc.
-      let e : c.from_residual.result ≡ Err NoMemory = search rules in
-      beside_stop_here _ e refl;
-}
+run_arguments-returns-in_err-all g t c =
+    let e : c.from_residual.result ≡ Err NoMemory = search rules in
+    record {
+      keeps = g.met.V.View.keeps_itself _;
+      same = λ m h. h;
+      same_scope = stopped _ _ _ e;
+      longer = stopped _ _ _ e;
+      fits = stopped _ _ _ e;
+      counted = λ m h. stopped _ _ _ e;
+      ran = λ m o h b calc.
+          beside_stop_here _ e refl;
+    }
 
 pub run_arguments-returns-in_err-arguments : goal.run_arguments-returns-in_err-arguments
-run_arguments-returns-in_err-arguments g t c = record {
-  keeps = search (rules, g.met.V.View.keeps_on, g.met.V.View.keeps_itself);
-  same = search rules;
-  same_scope = search rules;
-  longer = search rules;
-  fits = search rules;
-  counted = λ m h. search rules;
-  ran = λ m o h b calc.
-      let e : c.from_residual-in_err-arguments.result ≡ Err NoMemory = search rules in
-      let p = c.in_err-arguments.ensures.part m h in
-      beside_stop_after _ _ _ e p.rest p.is;
-}
+run_arguments-returns-in_err-arguments g t c =
+    let e : c.from_residual-in_err-arguments.result ≡ Err NoMemory = search rules in
+    record {
+      keeps = c.in_err-arguments.ensures.keeps;
+      same = c.in_err-arguments.ensures.same;
+      same_scope = stopped _ _ _ e;
+      longer = stopped _ _ _ e;
+      fits = stopped _ _ _ e;
+      counted = λ m h. stopped _ _ _ e;
+      ran = λ m o h b calc.
+          let p = c.in_err-arguments.ensures.part m h in
+          beside_stop_after _ _ _ e p.rest p.is;
+    }
 
 pub run_arguments-returns : goal.run_arguments-returns
 run_arguments-returns g t c = record {
-  keeps = search (rules, g.met.V.View.keeps_on, g.met.V.View.keeps_itself);
-  same = search rules;
-  same_scope = search rules;
-  longer = search rules;
-  fits = search rules;
+  keeps = g.met.V.View.keeps_on _ _ _ c.in_ok-arguments.ensures.keeps c.run_call.ensures.keeps;
+  same = λ m h. c.run_call.ensures.same m (c.in_ok-arguments.ensures.same m h);
+  same_scope = c.run_call.ensures.same_scope;
+  longer = c.run_call.ensures.longer;
+  fits = c.run_call.ensures.fits;
   counted = λ m h. counted_after _ _ _ _ _ _ _ _ _ _ (c.in_ok-arguments.ensures.asks m h)
       (c.in_ok-arguments.ensures.reads m h) (c.run_call.ensures.counted m (c.evaluate_all.ensures.same m h));
   ran = λ m o h b calc.
@@ -893,26 +921,27 @@ run_arguments-returns g t c = record {
 }
 
 pub run_call-returns-in_err-found : goal.run_call-returns-in_err-found
-run_call-returns-in_err-found g t c = record {
-  keeps = search (rules, g.met.V.View.keeps_on, g.met.V.View.keeps_itself);
-  same = search rules;
-  same_scope = search rules;
-  longer = search rules;
-  fits = search rules;
-  counted = λ m h. search rules;
-  ran = λ m o h b calc.
-      let e : c.from_residual.result ≡ Err NoMemory = search rules in
-      beside_stop_here _ e refl;
-}
+run_call-returns-in_err-found g t c =
+    let e : c.from_residual.result ≡ Err NoMemory = search rules in
+    record {
+      keeps = g.met.V.View.keeps_itself _;
+      same = λ m h. h;
+      same_scope = stopped _ _ _ e;
+      longer = stopped _ _ _ e;
+      fits = stopped _ _ _ e;
+      counted = λ m h. stopped _ _ _ e;
+      ran = λ m o h b calc.
+          beside_stop_here _ e refl;
+    }
 
 pub run_call-returns-then-call_is_run : goal.run_call-returns-then-call_is_run
 run_call-returns-then-call_is_run g t c = record {
-  keeps = search (rules, g.met.V.View.keeps_on, g.met.V.View.keeps_itself);
-  same = search rules;
-  same_scope = search rules;
-  longer = search rules;
-  fits = search rules;
-  counted = λ m h. search rules;
+  keeps = c.run_body.ensures.keeps;
+  same = c.run_body.ensures.same;
+  same_scope = on_ok _ refl;
+  longer = c.run_body.ensures.longer;
+  fits = c.run_body.ensures.fits;
+  counted = λ m h. counted_beside _ _ _ _ _ _ (c.run_body.ensures.counted m h);
   ran = λ m o h b calc.
       let call = Call c.args.function c.args.arguments in
       let x = sibling c.args.site call in
@@ -929,21 +958,23 @@ run_call-returns-then-call_is_run g t c = record {
 }
 
 pub run_call-returns-in_err-enter_call : goal.run_call-returns-in_err-enter_call
-run_call-returns-in_err-enter_call g t c = record {
-  keeps = search (rules, g.met.V.View.keeps_on, g.met.V.View.keeps_itself);
-  same = search rules;
-  same_scope = search rules;
-  longer = search rules;
-  fits = search rules;
-  counted = λ m h. search rules;
-  ran = λ m o h b calc. beside_full _ (search rules) (search rules) refl;
-}
+run_call-returns-in_err-enter_call g t c =
+    let e : c.from_residual-in_err-enter_call.result ≡ Err c.in_err-enter_call.field-0.0 = search rules in
+    record {
+      keeps = g.met.V.View.keeps_itself _;
+      same = λ m h. h;
+      same_scope = stopped _ _ _ e;
+      longer = stopped _ _ _ e;
+      fits = stopped _ _ _ e;
+      counted = λ m h. stopped _ _ _ e;
+      ran = λ m o h b calc. beside_full _ (failed _ _ e) (search rules) refl;
+    }
 
 pub run_call-returns-then-function-level : goal.run_call-returns-then-function-level
 run_call-returns-then-function-level g t c = record {
-  keeps = search (rules, g.met.V.View.keeps_on, g.met.V.View.keeps_itself);
-  same = search rules;
-  same_scope = search rules;
+  keeps = g.met.V.View.keeps_itself _;
+  same = λ m h. h;
+  same_scope = refl;
   longer = call_longer _ _ _ false _ _ c.in_ok-enter_call.ensures.added;
   fits = c.in_ok-enter_call.ensures.fits;
   counted = λ m h. let e = ap (λ (q : WrittenGroups). q.reads) c.in_ok-enter_call.ensures.added in omega (arith, e);
@@ -973,12 +1004,12 @@ run_call-returns-then-function-level g t c = record {
 
 pub run_call-returns-in-Some : goal.run_call-returns-in-Some
 run_call-returns-in-Some g t c = record {
-  keeps = search (rules, g.met.V.View.keeps_on, g.met.V.View.keeps_itself);
-  same = search rules;
-  same_scope = search rules;
-  longer = search rules;
-  fits = search rules;
-  counted = λ m h. search rules;
+  keeps = c.skip_group.ensures.keeps;
+  same = c.skip_group.ensures.same;
+  same_scope = on_ok _ refl;
+  longer = c.skip_group.ensures.longer;
+  fits = c.skip_group.ensures.fits;
+  counted = λ m h. counted_beside _ _ _ _ _ _ (c.skip_group.ensures.counted m h);
   ran = λ m o h b calc.
       let call = Call c.args.function c.args.arguments in
       let x = sibling c.args.site call in
@@ -1010,8 +1041,8 @@ run_call-returns-in-Some g t c = record {
 
 pub run_body-returns-then-function-level : goal.run_body-returns-then-function-level
 run_body-returns-then-function-level g t c = record {
-  keeps = search (rules, g.met.V.View.keeps_on, g.met.V.View.keeps_itself);
-  same = search rules;
+  keeps = g.met.V.View.keeps_itself _;
+  same = λ m h. h;
   longer = call_longer _ _ _ true _ _ c.in_ok-enter_empty.ensures.added;
   fits = c.in_ok-enter_empty.ensures.fits;
   counted = λ m h. let e = ap (λ (q : WrittenGroups). q.reads) c.in_ok-enter_empty.ensures.added in omega (arith, e);
@@ -1030,59 +1061,64 @@ run_body-returns-then-function-level g t c = record {
 }
 
 pub run_body-returns-in_err-enter_empty : goal.run_body-returns-in_err-enter_empty
-run_body-returns-in_err-enter_empty g t c = record {
-  keeps = search (rules, g.met.V.View.keeps_on, g.met.V.View.keeps_itself);
-  same = search rules;
-  longer = search rules;
-  fits = search rules;
-  counted = λ m h. search rules;
-  ran = λ m h l there mine since part like.
-      let one = longer_ran c.args.level.now.owed.now.objects (inside_of there) c.args.level.now.depth c.args.site
-      c.args.function (arguments_of c.args.arguments)
-      (meaning_at (meanings m (functions_view c.args.level.now.functions.now)) c.args.function
-      (arguments_of c.args.arguments)) (state_of c.args.writer.now (g.V.View.asked c.args.view.now) mine) in
-      reached_full _ (search rules)
-      (λ e. let full : length c.args.writer.now.groups ≡ most_groups = search rules in omega (arith, one, full))
-      (part_ran c.args.level.now.owed.now.objects (inside_of there) c.args.level.now.depth c.args.site c.args.function
-      (arguments_of c.args.arguments)
-      (meaning_at (meanings m (functions_view c.args.level.now.functions.now)) c.args.function
-      (arguments_of c.args.arguments)) (state_of c.args.writer.now (g.V.View.asked c.args.view.now) mine));
-}
+run_body-returns-in_err-enter_empty g t c =
+    let e : c.from_residual.result ≡ Err c.in_err-enter_empty.field-0.0 = search rules in
+    record {
+      keeps = g.met.V.View.keeps_itself _;
+      same = λ m h. h;
+      longer = stopped _ _ _ e;
+      fits = stopped _ _ _ e;
+      counted = λ m h. stopped _ _ _ e;
+      ran = λ m h l there mine since part like.
+          let one = longer_ran c.args.level.now.owed.now.objects (inside_of there) c.args.level.now.depth c.args.site
+          c.args.function (arguments_of c.args.arguments)
+          (meaning_at (meanings m (functions_view c.args.level.now.functions.now)) c.args.function
+          (arguments_of c.args.arguments)) (state_of c.args.writer.now (g.V.View.asked c.args.view.now) mine) in
+          reached_full _ (failed _ _ e)
+          (λ e. let full : length c.args.writer.now.groups ≡ most_groups = search rules in omega (arith, one, full))
+          (part_ran c.args.level.now.owed.now.objects (inside_of there) c.args.level.now.depth c.args.site c.args.function
+          (arguments_of c.args.arguments)
+          (meaning_at (meanings m (functions_view c.args.level.now.functions.now)) c.args.function
+          (arguments_of c.args.arguments)) (state_of c.args.writer.now (g.V.View.asked c.args.view.now) mine));
+    }
 
 pub run_body-returns-in_err-enter_running : goal.run_body-returns-in_err-enter_running
-run_body-returns-in_err-enter_running g t c = record {
-  keeps = search (rules, g.met.V.View.keeps_on, g.met.V.View.keeps_itself);
-  same = search rules;
-  longer = search rules;
-  fits = search rules;
-  counted = λ m h. search rules;
-  ran = λ m h l there mine since part like.
-      let one = longer_ran c.args.level.now.owed.now.objects (inside_of there) c.args.level.now.depth c.args.site
-      c.args.function (arguments_of c.args.arguments)
-      (meaning_at (meanings m (functions_view c.args.level.now.functions.now)) c.args.function
-      (arguments_of c.args.arguments)) (state_of c.args.writer.now (g.V.View.asked c.args.view.now) mine) in
-      reached_full _ (search rules)
-      (λ e. let full : length c.args.writer.now.groups ≡ most_groups = search rules in omega (arith, one, full))
-      (part_ran c.args.level.now.owed.now.objects (inside_of there) c.args.level.now.depth c.args.site c.args.function
-      (arguments_of c.args.arguments)
-      (meaning_at (meanings m (functions_view c.args.level.now.functions.now)) c.args.function
-      (arguments_of c.args.arguments)) (state_of c.args.writer.now (g.V.View.asked c.args.view.now) mine));
-}
+run_body-returns-in_err-enter_running g t c =
+    let e : c.from_residual-in_err-enter_running.result ≡ Err c.in_err-enter_running.field-0.0 = search rules in
+    record {
+      keeps = g.met.V.View.keeps_itself _;
+      same = λ m h. h;
+      longer = stopped _ _ _ e;
+      fits = stopped _ _ _ e;
+      counted = λ m h. stopped _ _ _ e;
+      ran = λ m h l there mine since part like.
+          let one = longer_ran c.args.level.now.owed.now.objects (inside_of there) c.args.level.now.depth c.args.site
+          c.args.function (arguments_of c.args.arguments)
+          (meaning_at (meanings m (functions_view c.args.level.now.functions.now)) c.args.function
+          (arguments_of c.args.arguments)) (state_of c.args.writer.now (g.V.View.asked c.args.view.now) mine) in
+          reached_full _ (failed _ _ e)
+          (λ e. let full : length c.args.writer.now.groups ≡ most_groups = search rules in omega (arith, one, full))
+          (part_ran c.args.level.now.owed.now.objects (inside_of there) c.args.level.now.depth c.args.site c.args.function
+          (arguments_of c.args.arguments)
+          (meaning_at (meanings m (functions_view c.args.level.now.functions.now)) c.args.function
+          (arguments_of c.args.arguments)) (state_of c.args.writer.now (g.V.View.asked c.args.view.now) mine));
+    }
 
 pub run_body-returns-in_err-scope : goal.run_body-returns-in_err-scope
-run_body-returns-in_err-scope g t c = record {
-  keeps = search (rules, g.met.V.View.keeps_on, g.met.V.View.keeps_itself);
-  same = search rules;
-  longer = search rules;
-  fits = search rules;
-  counted = λ m h. search rules;
-  ran = λ m h l there mine since part like.
-      let e : c.from_residual-in_err-scope.result ≡ Err NoMemory = search rules in
-      reached_stop _ e (part_ran c.args.level.now.owed.now.objects (inside_of there) c.args.level.now.depth c.args.site
-      c.args.function (arguments_of c.args.arguments)
-      (meaning_at (meanings m (functions_view c.args.level.now.functions.now)) c.args.function
-      (arguments_of c.args.arguments)) (state_of c.args.writer.now (g.V.View.asked c.args.view.now) mine));
-}
+run_body-returns-in_err-scope g t c =
+    let e : c.from_residual-in_err-scope.result ≡ Err NoMemory = search rules in
+    record {
+      keeps = g.met.V.View.keeps_itself _;
+      same = λ m h. h;
+      longer = stopped _ _ _ e;
+      fits = stopped _ _ _ e;
+      counted = λ m h. stopped _ _ _ e;
+      ran = λ m h l there mine since part like.
+          reached_stop _ e (part_ran c.args.level.now.owed.now.objects (inside_of there) c.args.level.now.depth c.args.site
+          c.args.function (arguments_of c.args.arguments)
+          (meaning_at (meanings m (functions_view c.args.level.now.functions.now)) c.args.function
+          (arguments_of c.args.arguments)) (state_of c.args.writer.now (g.V.View.asked c.args.view.now) mine));
+    }
 
 pub run_body-run_all-requires : goal.run_body-run_all-requires
 run_body-run_all-requires g t c κs w =
@@ -1095,88 +1131,90 @@ run_body-run_all-requires g t c κs w =
     search rules
 
 pub run_body-returns-in_err-run_all : goal.run_body-returns-in_err-run_all
-run_body-returns-in_err-run_all g t c = record {
-  keeps = search (rules, g.met.V.View.keeps_on, g.met.V.View.keeps_itself);
-  same = search rules;
-  longer = search rules;
-  fits = search rules;
-  counted = λ m h. search rules;
-  ran = λ m h l there mine since part like.
-      let below : c.args.function < length c.args.level.now.functions.now = omega arith in
-      let slice : c.deref-2.result.now ≡ c.index-level-function.result.body.items = c.deref-2.ensures.value
-      ∙ sym (ap (λ (q : Function). q.body.items) c.index-level-function.is) in
-      let names : c.deref.result.now ≡ c.index-level-function.result.parameters.items = c.deref.ensures.value
-      ∙ sym (ap (λ (q : Function). q.parameters.items) c.index-level-function.is) in
-      let body = body_is m c.args.level.now.functions.now c.args.function (arguments_of c.args.arguments)
-      c.index-level-function.result c.deref-2.result.now c.deref.result.now c.in_ok-scope.scope
-      below c.index-level-function.is slice names
-      (c.in_ok-scope.ensures ∙ ap (λ (vs : List Value). bind c.deref.result.now vs) c.values.ensures) in
-      let calc = body_calculates c.args.level.now.functions.now c.args.function c.index-level-function.result
-      c.deref-2.result.now since below c.index-level-function.is slice in
-      let fits = fits_inside c.args.level.now.depth c.inside_found-pending.result c.args.found.now there
-      c.inside_found-pending.ensures like in
-      let r = c.in_err-run_all.ensures.ran m (record { last = l; old = inside_of there; seen = [] }) h
-      (record {
-        since = since_slice c.args.level.now.functions.now _ c.args.function refl since;
-        part = part;
-        fits = fits;
-      }) calc in
-      let start : c.replace-taken.result ≡ c.enter_running.new.self = search rules in
-      let at = reached_at (ap (λ (tr : GroupForest). composed_beside c.args.level.now.owed.now.objects (inside_of there)
-      (c.args.level.now.depth + 1) true [] tr
-      (state_of c.replace-taken.result (g.V.View.asked c.args.view.now) c.take_reads-reads.result)) (sym body))
-      r.reached in
-      let entered_is = start ∙ c.in_ok-enter_running.ensures.added in
-      let e : c.from_residual-in_err-run_all.result ≡ Err c.in_err-run_all.field-0.0 = search rules in
-      body_stop c.args.level.now.owed.now.objects (inside_of there) c.args.level.now.depth c.args.site c.args.function
-      (arguments_of c.args.arguments) (meaning_at (meanings m (functions_view c.args.level.now.functions.now))
-      c.args.function (arguments_of c.args.arguments)) c.args.writer.now c.replace-taken.result
-      c.run_all.new.made.writer (g.V.View.asked c.args.view.now) (g.V.View.asked c.run_all.new.view) mine
-      c.run_all.new.made.reads c.take_reads-reads.result (first_reads c.args.arguments c.args.found.now) _ _
-      c.take_reads-reads.ensures entered_is at e refl;
-}
+run_body-returns-in_err-run_all g t c =
+    let e : c.from_residual-in_err-run_all.result ≡ Err c.in_err-run_all.field-0.0 = search rules in
+    record {
+      keeps = c.in_err-run_all.ensures.keeps;
+      same = c.in_err-run_all.ensures.same;
+      longer = stopped _ _ _ e;
+      fits = stopped _ _ _ e;
+      counted = λ m h. stopped _ _ _ e;
+      ran = λ m h l there mine since part like.
+          let below : c.args.function < length c.args.level.now.functions.now = omega arith in
+          let slice : c.deref-2.result.now ≡ c.index-level-function.result.body.items = c.deref-2.ensures.value
+          ∙ sym (ap (λ (q : Function). q.body.items) c.index-level-function.is) in
+          let names : c.deref.result.now ≡ c.index-level-function.result.parameters.items = c.deref.ensures.value
+          ∙ sym (ap (λ (q : Function). q.parameters.items) c.index-level-function.is) in
+          let body = body_is m c.args.level.now.functions.now c.args.function (arguments_of c.args.arguments)
+          c.index-level-function.result c.deref-2.result.now c.deref.result.now c.in_ok-scope.scope
+          below c.index-level-function.is slice names
+          (c.in_ok-scope.ensures ∙ ap (λ (vs : List Value). bind c.deref.result.now vs) c.values.ensures) in
+          let calc = body_calculates c.args.level.now.functions.now c.args.function c.index-level-function.result
+          c.deref-2.result.now since below c.index-level-function.is slice in
+          let fits = fits_inside c.args.level.now.depth c.inside_found-pending.result c.args.found.now there
+          c.inside_found-pending.ensures like in
+          let r = c.in_err-run_all.ensures.ran m (record { last = l; old = inside_of there; seen = [] }) h
+          (record {
+            since = since_slice c.args.level.now.functions.now _ c.args.function refl since;
+            part = part;
+            fits = fits;
+          }) calc in
+          let start : c.replace-taken.result ≡ c.enter_running.new.self = search rules in
+          let at = reached_at (ap (λ (tr : GroupForest). composed_beside c.args.level.now.owed.now.objects (inside_of there)
+          (c.args.level.now.depth + 1) true [] tr
+          (state_of c.replace-taken.result (g.V.View.asked c.args.view.now) c.take_reads-reads.result)) (sym body))
+          r.reached in
+          let entered_is = start ∙ c.in_ok-enter_running.ensures.added in
+          body_stop c.args.level.now.owed.now.objects (inside_of there) c.args.level.now.depth c.args.site c.args.function
+          (arguments_of c.args.arguments) (meaning_at (meanings m (functions_view c.args.level.now.functions.now))
+          c.args.function (arguments_of c.args.arguments)) c.args.writer.now c.replace-taken.result
+          c.run_all.new.made.writer (g.V.View.asked c.args.view.now) (g.V.View.asked c.run_all.new.view) mine
+          c.run_all.new.made.reads c.take_reads-reads.result (first_reads c.args.arguments c.args.found.now) _ _
+          c.take_reads-reads.ensures entered_is at e refl;
+    }
 
 pub run_body-returns-in_err-end_call : goal.run_body-returns-in_err-end_call
-run_body-returns-in_err-end_call g t c = record {
-  keeps = search (rules, g.met.V.View.keeps_on, g.met.V.View.keeps_itself);
-  same = search rules;
-  longer = search rules;
-  fits = search rules;
-  counted = λ m h. search rules;
-  ran = λ m h l there mine since part like.
-      let below : c.args.function < length c.args.level.now.functions.now = omega arith in
-      let slice : c.deref-2.result.now ≡ c.index-level-function.result.body.items = c.deref-2.ensures.value
-      ∙ sym (ap (λ (q : Function). q.body.items) c.index-level-function.is) in
-      let names : c.deref.result.now ≡ c.index-level-function.result.parameters.items = c.deref.ensures.value
-      ∙ sym (ap (λ (q : Function). q.parameters.items) c.index-level-function.is) in
-      let body = body_is m c.args.level.now.functions.now c.args.function (arguments_of c.args.arguments)
-      c.index-level-function.result c.deref-2.result.now c.deref.result.now c.in_ok-scope.scope
-      below c.index-level-function.is slice names
-      (c.in_ok-scope.ensures ∙ ap (λ (vs : List Value). bind c.deref.result.now vs) c.values.ensures) in
-      let calc = body_calculates c.args.level.now.functions.now c.args.function c.index-level-function.result
-      c.deref-2.result.now since below c.index-level-function.is slice in
-      let fits = fits_inside c.args.level.now.depth c.inside_found-pending.result c.args.found.now there
-      c.inside_found-pending.ensures like in
-      let r = c.in_ok-run_all.ensures.ran m (record { last = l; old = inside_of there; seen = [] }) h
-      (record {
-        since = since_slice c.args.level.now.functions.now _ c.args.function refl since;
-        part = part;
-        fits = fits;
-      }) calc in
-      let start : c.replace-taken.result ≡ c.enter_running.new.self = search rules in
-      let at = reached_at (ap (λ (tr : GroupForest). composed_beside c.args.level.now.owed.now.objects (inside_of there)
-      (c.args.level.now.depth + 1) true [] tr
-      (state_of c.replace-taken.result (g.V.View.asked c.args.view.now) c.take_reads-reads.result)) (sym body))
-      r.reached in
-      let entered_is = start ∙ c.in_ok-enter_running.ensures.added in
-      let e : c.from_residual-in_err-end_call.result ≡ Err NoMemory = search rules in
-      reached_stop _ e (body_part c.args.level.now.owed.now.objects (inside_of there) c.args.level.now.depth c.args.site
-      c.args.function (arguments_of c.args.arguments)
-      (meaning_at (meanings m (functions_view c.args.level.now.functions.now)) c.args.function
-      (arguments_of c.args.arguments)) c.args.writer.now c.replace-taken.result c.run_all.new.made.writer
-      (g.V.View.asked c.args.view.now) (g.V.View.asked c.run_all.new.view) mine c.run_all.new.made.reads
-      c.take_reads-reads.result (first_reads c.args.arguments c.args.found.now) c.take_reads-reads.ensures entered_is at);
-}
+run_body-returns-in_err-end_call g t c =
+    let e : c.from_residual-in_err-end_call.result ≡ Err NoMemory = search rules in
+    record {
+      keeps = c.in_ok-run_all.ensures.keeps;
+      same = c.in_ok-run_all.ensures.same;
+      longer = stopped _ _ _ e;
+      fits = stopped _ _ _ e;
+      counted = λ m h. stopped _ _ _ e;
+      ran = λ m h l there mine since part like.
+          let below : c.args.function < length c.args.level.now.functions.now = omega arith in
+          let slice : c.deref-2.result.now ≡ c.index-level-function.result.body.items = c.deref-2.ensures.value
+          ∙ sym (ap (λ (q : Function). q.body.items) c.index-level-function.is) in
+          let names : c.deref.result.now ≡ c.index-level-function.result.parameters.items = c.deref.ensures.value
+          ∙ sym (ap (λ (q : Function). q.parameters.items) c.index-level-function.is) in
+          let body = body_is m c.args.level.now.functions.now c.args.function (arguments_of c.args.arguments)
+          c.index-level-function.result c.deref-2.result.now c.deref.result.now c.in_ok-scope.scope
+          below c.index-level-function.is slice names
+          (c.in_ok-scope.ensures ∙ ap (λ (vs : List Value). bind c.deref.result.now vs) c.values.ensures) in
+          let calc = body_calculates c.args.level.now.functions.now c.args.function c.index-level-function.result
+          c.deref-2.result.now since below c.index-level-function.is slice in
+          let fits = fits_inside c.args.level.now.depth c.inside_found-pending.result c.args.found.now there
+          c.inside_found-pending.ensures like in
+          let r = c.in_ok-run_all.ensures.ran m (record { last = l; old = inside_of there; seen = [] }) h
+          (record {
+            since = since_slice c.args.level.now.functions.now _ c.args.function refl since;
+            part = part;
+            fits = fits;
+          }) calc in
+          let start : c.replace-taken.result ≡ c.enter_running.new.self = search rules in
+          let at = reached_at (ap (λ (tr : GroupForest). composed_beside c.args.level.now.owed.now.objects (inside_of there)
+          (c.args.level.now.depth + 1) true [] tr
+          (state_of c.replace-taken.result (g.V.View.asked c.args.view.now) c.take_reads-reads.result)) (sym body))
+          r.reached in
+          let entered_is = start ∙ c.in_ok-enter_running.ensures.added in
+          reached_stop _ e (body_part c.args.level.now.owed.now.objects (inside_of there) c.args.level.now.depth c.args.site
+          c.args.function (arguments_of c.args.arguments)
+          (meaning_at (meanings m (functions_view c.args.level.now.functions.now)) c.args.function
+          (arguments_of c.args.arguments)) c.args.writer.now c.replace-taken.result c.run_all.new.made.writer
+          (g.V.View.asked c.args.view.now) (g.V.View.asked c.run_all.new.view) mine c.run_all.new.made.reads
+          c.take_reads-reads.result (first_reads c.args.arguments c.args.found.now) c.take_reads-reads.ensures entered_is at);
+    }
 
 pub run_body-returns : goal.run_body-returns
 run_body-returns g t c = record {
@@ -1232,48 +1270,48 @@ run_body-returns g t c = record {
 -- Old groups that are skipped.
 
 pub skip_group-returns-in-Node : goal.skip_group-returns-in-Node
-skip_group-returns-in-Node g t c = record {
-  keeps = search (rules, g.met.V.View.keeps_on, g.met.V.View.keeps_itself);
-  same = search rules;
-  longer = search rules;
-  fits = search rules;
-  counted = λ m h. search rules;
-  ran =
-      λ m h l f mine since part like. (c.skip_inside.ensures (ap is_call_kept
-      (sym c.kind.ensures ∙ c.in-Node.is))).ran m h l f mine since part like;
-}
+skip_group-returns-in-Node g t c =
+    let k = c.skip_inside.ensures (ap is_call_kept (sym c.kind.ensures ∙ c.in-Node.is)) in
+    record {
+      keeps = k.keeps;
+      same = k.same;
+      longer = k.longer;
+      fits = k.fits;
+      counted = k.counted;
+      ran = k.ran;
+    }
 
 pub skip_group-returns-in-Key : goal.skip_group-returns-in-Key
-skip_group-returns-in-Key g t c = record {
-  keeps = search (rules, g.met.V.View.keeps_on, g.met.V.View.keeps_itself);
-  same = search rules;
-  longer = search rules;
-  fits = search rules;
-  counted = λ m h. search rules;
-  ran =
-      λ m h l f mine since part like. (c.skip_inside-in-Key.ensures (ap is_call_kept
-      (sym c.kind.ensures ∙ c.in-Key.is))).ran m h l f mine since part like;
-}
+skip_group-returns-in-Key g t c =
+    let k = c.skip_inside-in-Key.ensures (ap is_call_kept (sym c.kind.ensures ∙ c.in-Key.is)) in
+    record {
+      keeps = k.keeps;
+      same = k.same;
+      longer = k.longer;
+      fits = k.fits;
+      counted = k.counted;
+      ran = k.ran;
+    }
 
 pub skip_group-returns-in-Cell : goal.skip_group-returns-in-Cell
-skip_group-returns-in-Cell g t c = record {
-  keeps = search (rules, g.met.V.View.keeps_on, g.met.V.View.keeps_itself);
-  same = search rules;
-  longer = search rules;
-  fits = search rules;
-  counted = λ m h. search rules;
-  ran =
-      λ m h l f mine since part like. (c.skip_inside-in-Cell.ensures (ap is_call_kept
-      (sym c.kind.ensures ∙ c.in-Cell.is))).ran m h l f mine since part like;
-}
+skip_group-returns-in-Cell g t c =
+    let k = c.skip_inside-in-Cell.ensures (ap is_call_kept (sym c.kind.ensures ∙ c.in-Cell.is)) in
+    record {
+      keeps = k.keeps;
+      same = k.same;
+      longer = k.longer;
+      fits = k.fits;
+      counted = k.counted;
+      ran = k.ran;
+    }
 
 pub skip_group-returns-then-meet : goal.skip_group-returns-then-meet
 skip_group-returns-then-meet g t c = record {
-  keeps = search (rules, g.met.V.View.keeps_on, g.met.V.View.keeps_itself);
-  same = search rules;
-  longer = search rules;
-  fits = search rules;
-  counted = λ m h. search rules;
+  keeps = c.run_body.ensures.keeps;
+  same = c.run_body.ensures.same;
+  longer = c.run_body.ensures.longer;
+  fits = c.run_body.ensures.fits;
+  counted = c.run_body.ensures.counted;
   ran = λ m h l f mine since part like.
       let what_is = call_what f.what c.in-Call.function c.in-Call.arguments
       (sym (sym c.kind.ensures ∙ c.in-Call.is) ∙ like.kind) in
@@ -1289,29 +1327,32 @@ skip_group-returns-then-meet g t c = record {
 }
 
 pub skip_group-returns-in_err-keep_group-in-Call : goal.skip_group-returns-in_err-keep_group-in-Call
-skip_group-returns-in_err-keep_group-in-Call g t c = record {
-  keeps = search (rules, g.met.V.View.keeps_on, g.met.V.View.keeps_itself);
-  same = search rules;
-  longer = search rules;
-  fits = search rules;
-  counted = λ m h. search rules;
-  ran = λ m h l f mine since part like.
-      let one = longer_than m c.args.level.now.owed.now.objects (functions_view c.args.level.now.functions.now)
-      c.args.level.now.depth c.args.site f (state_of c.args.writer.now (g.V.View.asked c.args.view.now) mine) in
-      reached_full _ (search rules)
-      (λ e. let full : length c.args.writer.now.groups ≡ most_groups = search rules in omega (arith, one, full))
-      (part_one m c.args.level.now.owed.now.objects (functions_view c.args.level.now.functions.now)
-      c.args.level.now.depth c.args.site f (state_of c.args.writer.now (g.V.View.asked c.args.view.now) mine));
-}
+skip_group-returns-in_err-keep_group-in-Call g t c =
+    let e : c.from_residual.result ≡ Err c.in_err-keep_group-in-Call.field-0.0 = search rules in
+    record {
+      keeps = g.met.V.View.keeps_itself _;
+      same = λ m h. h;
+      longer = stopped _ _ _ e;
+      fits = stopped _ _ _ e;
+      counted = λ m h. stopped _ _ _ e;
+      ran = λ m h l f mine since part like.
+          let one = longer_than m c.args.level.now.owed.now.objects (functions_view c.args.level.now.functions.now)
+          c.args.level.now.depth c.args.site f (state_of c.args.writer.now (g.V.View.asked c.args.view.now) mine) in
+          reached_full _ (failed _ _ e)
+          (λ e. let full : length c.args.writer.now.groups ≡ most_groups = search rules in omega (arith, one, full))
+          (part_one m c.args.level.now.owed.now.objects (functions_view c.args.level.now.functions.now)
+          c.args.level.now.depth c.args.site f (state_of c.args.writer.now (g.V.View.asked c.args.view.now) mine));
+    }
 
 pub skip_group-returns-in_ok-keep_group-in-Call : goal.skip_group-returns-in_ok-keep_group-in-Call
 skip_group-returns-in_ok-keep_group-in-Call g t c = record {
-  keeps = search (rules, g.met.V.View.keeps_on, g.met.V.View.keeps_itself);
-  same = search rules;
+  keeps = c.skip_all.ensures.keeps;
+  same = c.skip_all.ensures.same;
   longer =
       longer_on _ _ _ _ (kept_longer _ _ _ _ _ _ _ c.in_ok-keep_group-in-Call.ensures.added) c.skip_all.ensures.longer;
-  fits = search rules;
-  counted = λ m h. search rules;
+  fits = c.skip_all.ensures.fits;
+  counted = λ m h. counted_kept _ _ _ _ _ _ (ap (λ (q : WrittenGroups). q.reads) c.in_ok-keep_group-in-Call.ensures.added)
+      (c.skip_all.ensures.counted m h);
   ran = λ m h l f mine since part like.
       let what_is = call_what f.what c.in-Call.function c.in-Call.arguments
       (sym (sym c.kind.ensures ∙ c.in-Call.is) ∙ like.kind) in
@@ -1335,28 +1376,31 @@ skip_group-returns-in_ok-keep_group-in-Call g t c = record {
 }
 
 pub skip_inside-returns-in_err-keep_group : goal.skip_inside-returns-in_err-keep_group
-skip_inside-returns-in_err-keep_group g t c plain = record {
-  keeps = search (rules, g.met.V.View.keeps_on, g.met.V.View.keeps_itself);
-  same = search rules;
-  longer = search rules;
-  fits = search rules;
-  counted = λ m h. search rules;
-  ran = λ m h l f mine since part like.
-      let one = longer_than m c.args.level.now.owed.now.objects (functions_view c.args.level.now.functions.now)
-      c.args.level.now.depth c.args.site f (state_of c.args.writer.now (g.V.View.asked c.args.view.now) mine) in
-      reached_full _ (search rules)
-      (λ e. let full : length c.args.writer.now.groups ≡ most_groups = search rules in omega (arith, one, full))
-      (part_one m c.args.level.now.owed.now.objects (functions_view c.args.level.now.functions.now)
-      c.args.level.now.depth c.args.site f (state_of c.args.writer.now (g.V.View.asked c.args.view.now) mine));
-}
+skip_inside-returns-in_err-keep_group g t c plain =
+    let e : c.from_residual.result ≡ Err c.in_err-keep_group.field-0.0 = search rules in
+    record {
+      keeps = g.met.V.View.keeps_itself _;
+      same = λ m h. h;
+      longer = stopped _ _ _ e;
+      fits = stopped _ _ _ e;
+      counted = λ m h. stopped _ _ _ e;
+      ran = λ m h l f mine since part like.
+          let one = longer_than m c.args.level.now.owed.now.objects (functions_view c.args.level.now.functions.now)
+          c.args.level.now.depth c.args.site f (state_of c.args.writer.now (g.V.View.asked c.args.view.now) mine) in
+          reached_full _ (failed _ _ e)
+          (λ e. let full : length c.args.writer.now.groups ≡ most_groups = search rules in omega (arith, one, full))
+          (part_one m c.args.level.now.owed.now.objects (functions_view c.args.level.now.functions.now)
+          c.args.level.now.depth c.args.site f (state_of c.args.writer.now (g.V.View.asked c.args.view.now) mine));
+    }
 
 pub skip_inside-returns : goal.skip_inside-returns
 skip_inside-returns g t c plain = record {
-  keeps = search (rules, g.met.V.View.keeps_on, g.met.V.View.keeps_itself);
-  same = search rules;
+  keeps = c.skip_all.ensures.keeps;
+  same = c.skip_all.ensures.same;
   longer = longer_on _ _ _ _ (kept_longer _ _ _ _ _ _ _ c.in_ok-keep_group.ensures.added) c.skip_all.ensures.longer;
-  fits = search rules;
-  counted = λ m h. search rules;
+  fits = c.skip_all.ensures.fits;
+  counted = λ m h. counted_kept _ _ _ _ _ _ (ap (λ (q : WrittenGroups). q.reads) c.in_ok-keep_group.ensures.added)
+      (c.skip_all.ensures.counted m h);
   ran = λ m h l f mine since part like.
       let state = kept_state c.args.level.now.depth c.args.site c.args.old.now f c.args.writer.now
       c.keep_group.new.writer (g.V.View.asked c.args.view.now) mine like c.in_ok-keep_group.ensures.added in
@@ -1380,8 +1424,8 @@ skip_all-loop-at-init g t c = record {
 
 pub skip_all-returns-then-is_end : goal.skip_all-returns-then-is_end
 skip_all-returns-then-is_end g t c = record {
-  keeps = search (rules, g.met.V.View.keeps_on, g.met.V.View.keeps_itself);
-  same = search rules;
+  keeps = c.loop-at.invariant.keeps;
+  same = c.loop-at.invariant.same;
   longer = omega (arith, c.loop-at.invariant.longer, c.in_ok-keep_run.ensures.longer);
   fits = c.in_ok-keep_run.ensures.fits;
   counted = λ m h. let e = c.loop-at.invariant.counted m h in
@@ -1395,59 +1439,62 @@ skip_all-returns-then-is_end g t c = record {
 }
 
 pub skip_all-returns-in_err-keep_run : goal.skip_all-returns-in_err-keep_run
-skip_all-returns-in_err-keep_run g t c = record {
-  keeps = search (rules, g.met.V.View.keeps_on, g.met.V.View.keeps_itself);
-  same = search rules;
-  longer = search rules;
-  fits = search rules;
-  counted = λ m h. search rules;
-  ran = λ m h l tr mine since part begins.
-      let k = c.loop-at.invariant.going m h l tr mine since part begins in
-      let q = c.quiet_end-stop.ensures.quiet k.rest k.begins in
-      left_full _ k q (search rules) (λ e. c.keep_run.ensures.full (search rules)) refl;
-}
+skip_all-returns-in_err-keep_run g t c =
+    let e : c.from_residual.result ≡ Err c.in_err-keep_run.field-0.0 = search rules in
+    record {
+      keeps = c.loop-at.invariant.keeps;
+      same = c.loop-at.invariant.same;
+      longer = stopped _ _ _ e;
+      fits = stopped _ _ _ e;
+      counted = λ m h. stopped _ _ _ e;
+      ran = λ m h l tr mine since part begins.
+          let k = c.loop-at.invariant.going m h l tr mine since part begins in
+          let q = c.quiet_end-stop.ensures.quiet k.rest k.begins in
+          left_full _ k q (failed _ _ e) (λ e. c.keep_run.ensures.full (search rules)) refl;
+    }
 
 pub skip_all-returns : goal.skip_all-returns
 skip_all-returns g t c = record {
-  keeps = search (rules, g.met.V.View.keeps_on, g.met.V.View.keeps_itself);
-  same = search rules;
-  longer = search rules;
-  fits = search rules;
+  keeps = c.loop-at.invariant.keeps;
+  same = c.loop-at.invariant.same;
+  longer = c.loop-at.invariant.longer;
+  fits = c.loop-at.invariant.fits;
   counted = λ m h. c.loop-at.invariant.counted m h;
   ran = λ m h l tr mine since part begins. left_done (c.loop-at.invariant.going m h l tr mine since part begins)
       (ends_past c.args.table.now.groups c.args.level.now.depth c.loop-at.at (search (rules, arith)));
 }
 
 pub skip_all-returns-in_err-skip_group : goal.skip_all-returns-in_err-skip_group
-skip_all-returns-in_err-skip_group g t c = record {
-  keeps = search (rules, g.met.V.View.keeps_on, g.met.V.View.keeps_itself);
-  same = search rules;
-  longer = search rules;
-  fits = search rules;
-  counted = λ m h. search rules;
-  ran = λ m h l tr mine since part begins.
-      let e : c.from_residual-in_err-skip_group.result ≡ Err c.in_err-skip_group.field-0.0 = search rules in
-      let i = c.quiet_end-stop.result in
-      let owed = c.args.level.now.owed.now.objects in
-      let fs = functions_view c.args.level.now.functions.now in
-      let d = c.args.level.now.depth in
-      let k0 = c.loop-at.invariant.going m h l tr mine since part begins in
-      let added = ap (λ (w : WrittenGroups). state_of w (g.V.View.asked c.loop-at.view) mine)
-      c.in_ok-keep_run.ensures.added in
-      let k = left_run k0 (c.quiet_end-stop.ensures.quiet k0.rest k0.begins) added in
-      let here = c.is_end.ensures.more c.if-is_end.false in
-      let f = first_of_all c.args.table.now.groups d i (index_behind c.args.table.now.groups i) k.rest k.begins here.0
-      here.1 (behind_is c.args.table.now.groups i) in
-      let like = subst (λ (q : KeyInfo). SameGroup d q f.found) (sym c.new-old.ensures) f.same in
-      let site = c.site.ensures ∙ ap (λ (q : KeyInfo). (old_group q).site) c.new-old.ensures ∙ f.site_is in
-      let s = state_of c.keep_run.new.self (g.V.View.asked c.loop-at.view) mine in
-      let move : skipped_inside m owed fs d c.site.result f.found.number f.found.what (is_owed owed f.found.inside) f.found.inside (skipped_groups m owed f.found.inside) s ≡ skipped_inside m owed fs d f.site f.found.number f.found.what (is_owed owed f.found.inside) f.found.inside (skipped_groups m owed f.found.inside) s =
-      ap (λ n. skipped_inside m owed fs d n f.found.number f.found.what (is_owed owed f.found.inside) f.found.inside
-      (skipped_groups m owed f.found.inside) s) site in
-      left_stop _ k f (reached_at move
-      (c.in_err-skip_group.ensures.ran m (c.loop-at.invariant.same m h) l f.found mine since
-      (first_parts f k.part).0 like)) e;
-}
+skip_all-returns-in_err-skip_group g t c =
+    let e : c.from_residual-in_err-skip_group.result ≡ Err c.in_err-skip_group.field-0.0 = search rules in
+    record {
+      keeps = g.met.V.View.keeps_on _ _ _ c.loop-at.invariant.keeps c.in_err-skip_group.ensures.keeps;
+      same = λ m h. c.in_err-skip_group.ensures.same m (c.loop-at.invariant.same m h);
+      longer = stopped _ _ _ e;
+      fits = stopped _ _ _ e;
+      counted = λ m h. stopped _ _ _ e;
+      ran = λ m h l tr mine since part begins.
+          let i = c.quiet_end-stop.result in
+          let owed = c.args.level.now.owed.now.objects in
+          let fs = functions_view c.args.level.now.functions.now in
+          let d = c.args.level.now.depth in
+          let k0 = c.loop-at.invariant.going m h l tr mine since part begins in
+          let added = ap (λ (w : WrittenGroups). state_of w (g.V.View.asked c.loop-at.view) mine)
+          c.in_ok-keep_run.ensures.added in
+          let k = left_run k0 (c.quiet_end-stop.ensures.quiet k0.rest k0.begins) added in
+          let here = c.is_end.ensures.more c.if-is_end.false in
+          let f = first_of_all c.args.table.now.groups d i (index_behind c.args.table.now.groups i) k.rest k.begins here.0
+          here.1 (behind_is c.args.table.now.groups i) in
+          let like = subst (λ (q : KeyInfo). SameGroup d q f.found) (sym c.new-old.ensures) f.same in
+          let site = c.site.ensures ∙ ap (λ (q : KeyInfo). (old_group q).site) c.new-old.ensures ∙ f.site_is in
+          let s = state_of c.keep_run.new.self (g.V.View.asked c.loop-at.view) mine in
+          let move : skipped_inside m owed fs d c.site.result f.found.number f.found.what (is_owed owed f.found.inside) f.found.inside (skipped_groups m owed f.found.inside) s ≡ skipped_inside m owed fs d f.site f.found.number f.found.what (is_owed owed f.found.inside) f.found.inside (skipped_groups m owed f.found.inside) s =
+          ap (λ n. skipped_inside m owed fs d n f.found.number f.found.what (is_owed owed f.found.inside) f.found.inside
+          (skipped_groups m owed f.found.inside) s) site in
+          left_stop _ k f (reached_at move
+          (c.in_err-skip_group.ensures.ran m (c.loop-at.invariant.same m h) l f.found mine since
+          (first_parts f k.part).0 like)) e;
+    }
 
 pub skip_all-loop-at-preserved : goal.skip_all-loop-at-preserved
 skip_all-loop-at-preserved g t c = record {
