@@ -3,18 +3,21 @@ ghost use Rattle.std.specs.Prelude.{◌≡◌, ◌≤◌, ◌<◌, ◌+◌, ◌+
 ghost use Rattle.rt_values.specs.declared.value.Value.{Value as value_data};
 ghost use Rattle.rt_values.specs.Maps.{Map};
 ghost use Rattle.rt_values.specs.Views.{Grew};
+ghost use Rattle.rt_groups.specs.declared.groups.GroupKind.TheVariants as kinds;
 ghost use Rattle.rt_groups.specs.GroupForest.{GroupKind as kind_data};
+ghost use Rattle.rt_groups.specs.Paths.{GroupKey};
 ghost use Rattle.rt_groups.specs.PreorderGroups.{flat_kind};
 ghost use Rattle.rt_groups.specs.Frames.{LastFrame, most_groups};
 ghost use Rattle.lang_ast.specs.Terms.{Node, Key, If, For, Let, Remember};
 ghost use Rattle.lang_ast.specs.SyntaxView.{expr_view, exprs_view, nameds_view, stmt_view, stmts_view};
 ghost use Rattle.lang_ast.specs.Evaluation.{new_binding, eval, eval_all};
-ghost use Rattle.compose_model.specs.Composing.{forest_after};
+ghost use Rattle.compose_model.specs.Composing.{bind, forest_after};
 ghost use Rattle.recompose_laws.specs.CalculatedCells.{Calculation, CalculatesAtSite, StmtCalculates, StmtsCalculate};
-ghost use Rattle.composer.specs.WrittenGroups.{number_kept, kept_of, written_kept, group_kind, arguments_of, AreArguments};
+ghost use Rattle.composer.specs.WrittenGroups.{number_kept, kept_of, written_kept, running_call, first_reads, group_kind, arguments_of, AreArguments};
 ghost use Rattle.composer.specs.FrameDrafts.{Holds, IsOwing, ComposesFrame, root_of};
 ghost use Rattle.lang_ast.specs.Programs.{functions_of};
-ghost use Rattle.composer.specs.OldSiblings.{old_group};
+ghost use Rattle.composer.specs.OldSiblings.{old_group, found_siblings};
+ghost use Rattle.composer.specs.Waiting.{waiting_siblings};
 ghost use Rattle.composer.specs.Recomposes.{Recomposes, Continues, RanBeside, Writes, HasRoom, HasRoomToWrite, group_at_level, statement_at, body_at, call_at, loop_at, BodyRan, GroupSkipped, GroupsSkipped, FrameWritten, any_calculation, is_container, is_call_kept};
 
 use crate::compared::{call_is_run, kept_value, meet};
@@ -529,6 +532,42 @@ fn run_call<'a, V: View, L: Ledger>(
     }
 }
 
+// Starts a call that runs: binds the parameters of its function, and appends its group. What is made moves out of
+// `writer`, which has no meaning afterwards.
+#[inline(always)]
+fn enter_body<'a>(
+    level: &Level<'a>,
+    site: u32,
+    function: usize,
+    callee: &Function,
+    arguments: CallArguments,
+    found: &Option<OldGroup<'a>>,
+    writer: &mut Writer,
+) -> Result<Progress<'a>, ComposeStop>
+    requires room { length writer.old.groups ≤ most_groups }
+    requires arguments { AreArguments function arguments found.now }
+    ensures scope { IfOk result (λ p. p.scope ≡ bind callee.now.parameters.items (arguments_of arguments.entry)) }
+    ensures pending { IfOk result (λ p. (s : GroupKey) → waiting_siblings p.pending s ≡ found_siblings found.now s) }
+    ensures reads { IfOk result (λ p. p.reads ≡ []) }
+    ensures entered { IfOk result (λ p. p.writer ≡ running_call level.now.depth site
+        (kinds.Call function (arguments_of arguments.entry)) (first_reads arguments.entry found.now) writer.old) }
+    ensures fits { IfOk result (λ p. length p.writer.groups ≤ most_groups) }
+    ensures full { result ≡ Err ComposeStop.TooManyGroups → length writer.old.groups ≡ most_groups }
+{
+    let room = level.spares.take_scope(level.alloc);
+    let scope = bind(level.alloc, room, &callee.parameters, arguments.values())?;
+    let pending = Pending::inside_found(level.table, found);
+    writer.enter_running(level.alloc, level.depth, site, function, arguments, found)?;
+    let taken = mem::replace(writer, Writer::new(level.alloc, 0));
+    let reads = level.spares.take_reads(level.alloc);
+    Ok(Progress {
+        scope,
+        pending,
+        reads,
+        writer: taken,
+    })
+}
+
 // Composes a call that runs next to the old groups inside `found`: its group with its own reads, and the body of its
 // function. A call of a function that is not an earlier one makes an empty group.
 #[cycle(again)]
@@ -553,20 +592,9 @@ fn run_body<'a, V: View, L: Ledger>(
         return Ok(());
     }
     let callee = &level.functions[function];
-    let room = level.spares.take_scope(level.alloc);
-    let scope = bind(level.alloc, room, &callee.parameters, arguments.values())?;
-    let pending = Pending::inside_found(level.table, found);
     let place = writer.len();
     let first = arguments.first_reads(found);
-    writer.enter_running(level.alloc, level.depth, site, function, arguments, found)?;
-    let taken = mem::replace(writer, Writer::new(level.alloc, 0));
-    let reads = level.spares.take_reads(level.alloc);
-    let mut inner = Progress {
-        scope,
-        pending,
-        reads,
-        writer: taken,
-    };
+    let mut inner = enter_body(level, site, function, callee, arguments, found, writer)?;
     let inside = Level {
         alloc: level.alloc,
         functions: &level.functions[..function],

@@ -1082,9 +1082,9 @@ run_body-returns-in_err-enter_empty g t c =
           (arguments_of c.args.arguments)) (state_of c.args.writer.now (g.V.View.asked c.args.view.now) mine));
     }
 
-pub run_body-returns-in_err-enter_running : goal.run_body-returns-in_err-enter_running
-run_body-returns-in_err-enter_running g t c =
-    let e : c.from_residual-in_err-enter_running.result ≡ Err c.in_err-enter_running.field-0.0 = search rules in
+pub run_body-returns-in_err-inner : goal.run_body-returns-in_err-inner
+run_body-returns-in_err-inner g t c =
+    let e : c.from_residual-in_err-inner.result ≡ Err c.in_err-inner.field-0.0 = search rules in
     record {
       keeps = g.met.V.View.keeps_itself _;
       same = λ m h. h;
@@ -1104,29 +1104,13 @@ run_body-returns-in_err-enter_running g t c =
           (arguments_of c.args.arguments)) (state_of c.args.writer.now (g.V.View.asked c.args.view.now) mine));
     }
 
-pub run_body-returns-in_err-scope : goal.run_body-returns-in_err-scope
-run_body-returns-in_err-scope g t c =
-    let e : c.from_residual-in_err-scope.result ≡ Err NoMemory = search rules in
-    record {
-      keeps = g.met.V.View.keeps_itself _;
-      same = λ m h. h;
-      longer = stopped _ _ _ e;
-      fits = stopped _ _ _ e;
-      counted = λ m h. stopped _ _ _ e;
-      ran = λ m h l there mine since part like.
-          reached_stop _ e (part_ran c.args.level.now.owed.now.objects (inside_of there) c.args.level.now.depth c.args.site
-          c.args.function (arguments_of c.args.arguments)
-          (meaning_at (meanings m (functions_view c.args.level.now.functions.now)) c.args.function
-          (arguments_of c.args.arguments)) (state_of c.args.writer.now (g.V.View.asked c.args.view.now) mine));
-    }
-
 pub run_body-run_all-requires : goal.run_body-run_all-requires
 run_body-run_all-requires g t c κs w =
-    let body : c.deref-2.result.now ≡ c.index-level-function.result.body.items = c.deref-2.ensures.value
+    let body : c.deref.result.now ≡ c.index-level-function.result.body.items = c.deref.ensures.value
     ∙ sym (ap (λ (q : Function). q.body.items) c.index-level-function.is) in
-    let h = falls_at c.args.level.now.functions.now c.args.function c.index-level-function.result c.deref-2.result.now
+    let h = falls_at c.args.level.now.functions.now c.args.function c.index-level-function.result c.deref.result.now
     (omega arith) c.index-level-function.is body in
-    let long = ap (λ (q : WrittenGroups). length q.groups) c.in_ok-enter_running.ensures.added
+    let long = ap (λ (q : WrittenGroups). length q.groups) c.in_ok-inner.ensures.entered
     ∙ length-append c.args.writer.now.groups _ in
     search rules
 
@@ -1141,36 +1125,33 @@ run_body-returns-in_err-run_all g t c =
       counted = λ m h. stopped _ _ _ e;
       ran = λ m h l there mine since part like.
           let below : c.args.function < length c.args.level.now.functions.now = omega arith in
-          let slice : c.deref-2.result.now ≡ c.index-level-function.result.body.items = c.deref-2.ensures.value
+          let slice : c.deref.result.now ≡ c.index-level-function.result.body.items = c.deref.ensures.value
           ∙ sym (ap (λ (q : Function). q.body.items) c.index-level-function.is) in
-          let names : c.deref.result.now ≡ c.index-level-function.result.parameters.items = c.deref.ensures.value
-          ∙ sym (ap (λ (q : Function). q.parameters.items) c.index-level-function.is) in
           let body = body_is m c.args.level.now.functions.now c.args.function (arguments_of c.args.arguments)
-          c.index-level-function.result c.deref-2.result.now c.deref.result.now c.in_ok-scope.scope
-          below c.index-level-function.is slice names
-          (c.in_ok-scope.ensures ∙ ap (λ (vs : List Value). bind c.deref.result.now vs) c.values.ensures) in
+          c.index-level-function.result c.deref.result.now _ c.in_ok-inner.inner.scope
+          below c.index-level-function.is slice
+      (ap (λ (q : Function). q.parameters.items) (sym c.index-level-function.is)) c.in_ok-inner.ensures.scope in
           let calc = body_calculates c.args.level.now.functions.now c.args.function c.index-level-function.result
-          c.deref-2.result.now since below c.index-level-function.is slice in
-          let fits = fits_inside c.args.level.now.depth c.inside_found-pending.result c.args.found.now there
-          c.inside_found-pending.ensures like in
+          c.deref.result.now since below c.index-level-function.is slice in
+          let fits = fits_inside c.args.level.now.depth c.in_ok-inner.inner.pending c.args.found.now there
+          c.in_ok-inner.ensures.pending like in
           let r = c.in_err-run_all.ensures.ran m (record { last = l; old = inside_of there; seen = [] }) h
           (record {
             since = since_slice c.args.level.now.functions.now _ c.args.function refl since;
             part = part;
             fits = fits;
           }) calc in
-          let start : c.replace-taken.result ≡ c.enter_running.new.self = search rules in
           let at = reached_at (ap (λ (tr : GroupForest). composed_beside c.args.level.now.owed.now.objects (inside_of there)
           (c.args.level.now.depth + 1) true [] tr
-          (state_of c.replace-taken.result (g.V.View.asked c.args.view.now) c.take_reads-reads.result)) (sym body))
+          (state_of c.in_ok-inner.inner.writer (g.V.View.asked c.args.view.now) c.in_ok-inner.inner.reads)) (sym body))
           r.reached in
-          let entered_is = start ∙ c.in_ok-enter_running.ensures.added in
+          let entered_is = c.in_ok-inner.ensures.entered in
           body_stop c.args.level.now.owed.now.objects (inside_of there) c.args.level.now.depth c.args.site c.args.function
           (arguments_of c.args.arguments) (meaning_at (meanings m (functions_view c.args.level.now.functions.now))
-          c.args.function (arguments_of c.args.arguments)) c.args.writer.now c.replace-taken.result
+          c.args.function (arguments_of c.args.arguments)) c.args.writer.now c.in_ok-inner.inner.writer
           c.run_all.new.made.writer (g.V.View.asked c.args.view.now) (g.V.View.asked c.run_all.new.view) mine
-          c.run_all.new.made.reads c.take_reads-reads.result (first_reads c.args.arguments c.args.found.now) _ _
-          c.take_reads-reads.ensures entered_is at e refl;
+          c.run_all.new.made.reads c.in_ok-inner.inner.reads (first_reads c.args.arguments c.args.found.now) _ _
+          c.in_ok-inner.ensures.reads entered_is at e refl;
     }
 
 pub run_body-returns-in_err-end_call : goal.run_body-returns-in_err-end_call
@@ -1184,84 +1165,75 @@ run_body-returns-in_err-end_call g t c =
       counted = λ m h. stopped _ _ _ e;
       ran = λ m h l there mine since part like.
           let below : c.args.function < length c.args.level.now.functions.now = omega arith in
-          let slice : c.deref-2.result.now ≡ c.index-level-function.result.body.items = c.deref-2.ensures.value
+          let slice : c.deref.result.now ≡ c.index-level-function.result.body.items = c.deref.ensures.value
           ∙ sym (ap (λ (q : Function). q.body.items) c.index-level-function.is) in
-          let names : c.deref.result.now ≡ c.index-level-function.result.parameters.items = c.deref.ensures.value
-          ∙ sym (ap (λ (q : Function). q.parameters.items) c.index-level-function.is) in
           let body = body_is m c.args.level.now.functions.now c.args.function (arguments_of c.args.arguments)
-          c.index-level-function.result c.deref-2.result.now c.deref.result.now c.in_ok-scope.scope
-          below c.index-level-function.is slice names
-          (c.in_ok-scope.ensures ∙ ap (λ (vs : List Value). bind c.deref.result.now vs) c.values.ensures) in
+          c.index-level-function.result c.deref.result.now _ c.in_ok-inner.inner.scope
+          below c.index-level-function.is slice
+      (ap (λ (q : Function). q.parameters.items) (sym c.index-level-function.is)) c.in_ok-inner.ensures.scope in
           let calc = body_calculates c.args.level.now.functions.now c.args.function c.index-level-function.result
-          c.deref-2.result.now since below c.index-level-function.is slice in
-          let fits = fits_inside c.args.level.now.depth c.inside_found-pending.result c.args.found.now there
-          c.inside_found-pending.ensures like in
+          c.deref.result.now since below c.index-level-function.is slice in
+          let fits = fits_inside c.args.level.now.depth c.in_ok-inner.inner.pending c.args.found.now there
+          c.in_ok-inner.ensures.pending like in
           let r = c.in_ok-run_all.ensures.ran m (record { last = l; old = inside_of there; seen = [] }) h
           (record {
             since = since_slice c.args.level.now.functions.now _ c.args.function refl since;
             part = part;
             fits = fits;
           }) calc in
-          let start : c.replace-taken.result ≡ c.enter_running.new.self = search rules in
           let at = reached_at (ap (λ (tr : GroupForest). composed_beside c.args.level.now.owed.now.objects (inside_of there)
           (c.args.level.now.depth + 1) true [] tr
-          (state_of c.replace-taken.result (g.V.View.asked c.args.view.now) c.take_reads-reads.result)) (sym body))
+          (state_of c.in_ok-inner.inner.writer (g.V.View.asked c.args.view.now) c.in_ok-inner.inner.reads)) (sym body))
           r.reached in
-          let entered_is = start ∙ c.in_ok-enter_running.ensures.added in
+          let entered_is = c.in_ok-inner.ensures.entered in
           reached_stop _ e (body_part c.args.level.now.owed.now.objects (inside_of there) c.args.level.now.depth c.args.site
           c.args.function (arguments_of c.args.arguments)
           (meaning_at (meanings m (functions_view c.args.level.now.functions.now)) c.args.function
-          (arguments_of c.args.arguments)) c.args.writer.now c.replace-taken.result c.run_all.new.made.writer
+          (arguments_of c.args.arguments)) c.args.writer.now c.in_ok-inner.inner.writer c.run_all.new.made.writer
           (g.V.View.asked c.args.view.now) (g.V.View.asked c.run_all.new.view) mine c.run_all.new.made.reads
-          c.take_reads-reads.result (first_reads c.args.arguments c.args.found.now) c.take_reads-reads.ensures entered_is at);
+          c.in_ok-inner.inner.reads (first_reads c.args.arguments c.args.found.now) c.in_ok-inner.ensures.reads entered_is at);
     }
 
 pub run_body-returns : goal.run_body-returns
 run_body-returns g t c = record {
   keeps = c.in_ok-run_all.ensures.keeps;
   same = c.in_ok-run_all.ensures.same;
-  longer = let start : c.replace-taken.result ≡ c.enter_running.new.self = search rules in
-      let a = ap (λ (q : WrittenGroups). length q.groups) start in
-      let e = running_longer _ _ _ _ _ _ c.in_ok-enter_running.ensures.added in
-      omega (arith, a, e, c.in_ok-run_all.ensures.longer, c.in_ok-end_call.ensures.len);
+  longer = let e = running_longer _ _ _ _ _ _ c.in_ok-inner.ensures.entered in
+      omega (arith, e, c.in_ok-run_all.ensures.longer, c.in_ok-end_call.ensures.len);
   fits = let e = c.in_ok-end_call.ensures.len in omega (arith, e, c.in_ok-run_all.ensures.fits);
-  counted = λ m h. let start : c.replace-taken.result ≡ c.enter_running.new.self = search rules in
-      let a = ap (λ (q : WrittenGroups). q.reads) (start ∙ c.in_ok-enter_running.ensures.added) in
-      let n = ap (λ (l : List ℕ). length l) c.take_reads-reads.ensures in let f = c.in_ok-run_all.ensures.counted m h in
+  counted = λ m h. let a = ap (λ (q : WrittenGroups). q.reads) c.in_ok-inner.ensures.entered in
+      let n = ap (λ (l : List ℕ). length l) c.in_ok-inner.ensures.reads in let f = c.in_ok-run_all.ensures.counted m h in
       let e = c.in_ok-end_call.ensures.reads in omega (arith, a, n, e, f);
   ran = λ m h l there mine since part like.
       let below : c.args.function < length c.args.level.now.functions.now = omega arith in
-      let slice : c.deref-2.result.now ≡ c.index-level-function.result.body.items = c.deref-2.ensures.value
+      let slice : c.deref.result.now ≡ c.index-level-function.result.body.items = c.deref.ensures.value
       ∙ sym (ap (λ (q : Function). q.body.items) c.index-level-function.is) in
-      let names : c.deref.result.now ≡ c.index-level-function.result.parameters.items = c.deref.ensures.value
-      ∙ sym (ap (λ (q : Function). q.parameters.items) c.index-level-function.is) in
       let body = body_is m c.args.level.now.functions.now c.args.function (arguments_of c.args.arguments)
-      c.index-level-function.result c.deref-2.result.now c.deref.result.now c.in_ok-scope.scope
-      below c.index-level-function.is slice names
-      (c.in_ok-scope.ensures ∙ ap (λ (vs : List Value). bind c.deref.result.now vs) c.values.ensures) in
+      c.index-level-function.result c.deref.result.now _ c.in_ok-inner.inner.scope
+      below c.index-level-function.is slice
+      (ap (λ (q : Function). q.parameters.items) (sym c.index-level-function.is)) c.in_ok-inner.ensures.scope in
       let calc = body_calculates c.args.level.now.functions.now c.args.function c.index-level-function.result
-      c.deref-2.result.now since below c.index-level-function.is slice in
-      let fits = fits_inside c.args.level.now.depth c.inside_found-pending.result c.args.found.now there
-      c.inside_found-pending.ensures like in
+      c.deref.result.now since below c.index-level-function.is slice in
+      let fits = fits_inside c.args.level.now.depth c.in_ok-inner.inner.pending c.args.found.now there
+      c.in_ok-inner.ensures.pending like in
       let r = c.in_ok-run_all.ensures.ran m (record { last = l; old = inside_of there; seen = [] }) h
       (record {
         since = since_slice c.args.level.now.functions.now _ c.args.function refl since;
         part = part;
         fits = fits;
       }) calc in
-      let start : c.replace-taken.result ≡ c.enter_running.new.self = search rules in
       let at = reached_at (ap (λ (tr : GroupForest). composed_beside c.args.level.now.owed.now.objects (inside_of there)
       (c.args.level.now.depth + 1) true [] tr
-      (state_of c.replace-taken.result (g.V.View.asked c.args.view.now) c.take_reads-reads.result)) (sym body))
+      (state_of c.in_ok-inner.inner.writer (g.V.View.asked c.args.view.now) c.in_ok-inner.inner.reads)) (sym body))
       r.reached in
-      let entered_is = start ∙ c.in_ok-enter_running.ensures.added in
+      let entered_is = c.in_ok-inner.ensures.entered in
       body_done c.args.level.now.owed.now.objects (inside_of there) c.args.level.now.depth c.args.site c.args.function
       (arguments_of c.args.arguments) (meaning_at (meanings m (functions_view c.args.level.now.functions.now))
-      c.args.function (arguments_of c.args.arguments)) c.args.writer.now c.replace-taken.result
+      c.args.function (arguments_of c.args.arguments)) c.args.writer.now c.in_ok-inner.inner.writer
       c.run_all.new.made.writer c.end_call.new.self (g.V.View.asked c.args.view.now)
-      (g.V.View.asked c.run_all.new.view) mine c.run_all.new.made.reads c.take_reads-reads.result
+      (g.V.View.asked c.run_all.new.view) mine c.run_all.new.made.reads c.in_ok-inner.inner.reads
       (first_reads c.args.arguments c.args.found.now)
-      c.take_reads-reads.ensures entered_is at
+      c.in_ok-inner.ensures.reads entered_is at
       (λ before behind y e is reads. c.in_ok-end_call.ensures.groups before behind y (e ∙ sym c.len-place.ensures) is
       (reads ∙ sym c.first_reads-first.ensures))
       (c.in_ok-end_call.ensures.next, c.in_ok-end_call.ensures.ran, c.in_ok-end_call.ensures.calculated);
