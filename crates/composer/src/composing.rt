@@ -1,11 +1,12 @@
 // Composing again next to the groups of the last frame.
-ghost use Rattle.std.specs.Prelude.{◌≡◌, ◌≤◌, ◌<◌, ◌+◌, ◌++◌, ◌∷◌, [], ℕ, List, Option, Some, Err, length, drop, map, take, true, false, IfOk, OnOk, OnErr};
+ghost use Rattle.std.specs.Prelude.{◌≡◌, ◌≤◌, ◌<◌, ◌+◌, ◌++◌, ◌∷◌, [], ℕ, List, Option, Some, Err, length, drop, map, take, slice_get, if◌then◌else◌, true, false, IfOk, OnOk, OnErr};
 ghost use Rattle.rt_values.specs.declared.value.Value.{Value as value_data};
 ghost use Rattle.rt_values.specs.Maps.{Map};
 ghost use Rattle.rt_values.specs.Views.{Grew};
 ghost use Rattle.rt_groups.specs.declared.groups.GroupKind.TheVariants as kinds;
 ghost use Rattle.rt_groups.specs.GroupForest.{GroupKind as kind_data};
-ghost use Rattle.rt_groups.specs.Paths.{GroupKey};
+ghost use Rattle.rt_groups.specs.Paths.{GroupKey, same_sibling};
+ghost use Rattle.slot_table.specs.ReaderStates.{group_key};
 ghost use Rattle.rt_groups.specs.PreorderGroups.{flat_kind};
 ghost use Rattle.rt_groups.specs.Frames.{LastFrame, most_groups};
 ghost use Rattle.lang_ast.specs.Terms.{Node, Key, If, For, Let, Remember};
@@ -13,7 +14,7 @@ ghost use Rattle.lang_ast.specs.SyntaxView.{expr_view, exprs_view, nameds_view, 
 ghost use Rattle.lang_ast.specs.Evaluation.{new_binding, eval, eval_all};
 ghost use Rattle.compose_model.specs.Composing.{bind, forest_after};
 ghost use Rattle.recompose_laws.specs.CalculatedCells.{Calculation, CalculatesAtSite, StmtCalculates, StmtsCalculate};
-ghost use Rattle.composer.specs.WrittenGroups.{number_kept, kept_of, written_kept, running_call, first_reads, group_kind, arguments_of, AreArguments};
+ghost use Rattle.composer.specs.WrittenGroups.{number_kept, kept_of, written_kept, running_call, first_reads, enter_group, group_kind, arguments_of, AreArguments};
 ghost use Rattle.composer.specs.FrameDrafts.{Holds, IsOwing, ComposesFrame, root_of};
 ghost use Rattle.lang_ast.specs.Programs.{functions_of};
 ghost use Rattle.composer.specs.OldSiblings.{old_group, found_siblings};
@@ -169,6 +170,31 @@ fn run_one<'a, V: View, L: Ledger>(
     }
 }
 
+// Matches a node or a key with an old sibling, and appends its group. Returns the old sibling.
+#[inline(always)]
+fn enter_group<'a>(
+    level: &Level<'a>,
+    site: u32,
+    what: NewKind,
+    pending: &mut Pending<'a>,
+    writer: &mut Writer,
+) -> Result<Option<OldGroup<'a>>, ComposeStop>
+    requires { length writer.old.groups ≤ most_groups }
+    ensures found { IfOk result (λ found. found ≡ slice_get (waiting_siblings pending.old
+        (record { site = site; key = group_key (group_kind what.entry) })) 0) }
+    ensures left { OnOk result ((s : GroupKey) → waiting_siblings pending.new s
+        ≡ (if same_sibling (record { site = site; key = group_key (group_kind what.entry) }) s
+        then drop 1 (waiting_siblings pending.old s) else waiting_siblings pending.old s)) }
+    ensures entered { IfOk result (λ found.
+        writer.new ≡ enter_group level.now.depth site (group_kind what.entry) found writer.old) }
+    ensures fits { OnOk result (length writer.new.groups ≤ most_groups) }
+    ensures full { result ≡ Err ComposeStop.TooManyGroups → length writer.old.groups ≡ most_groups }
+{
+    let found = pending.take(level.alloc, &SiblingKey::new(site, what.key()))?;
+    writer.enter(level.alloc, level.depth, site, what, &found, level.spares)?;
+    Ok(found)
+}
+
 // Composes a node or a key: matches its group with an old sibling, appends it, and composes the statements inside it.
 #[cycle(again)]
 fn run_group<'a, V: View, L: Ledger>(
@@ -188,11 +214,7 @@ fn run_group<'a, V: View, L: Ledger>(
         (λ calc. StmtsCalculate calc (stmts_view body.now)) m (V.asked view.old) (V.asked view.new) made.old made.new
         result }
 {
-    let found = made
-        .pending
-        .take(level.alloc, &SiblingKey::new(site, what.key()))?;
-    made.writer
-        .enter(level.alloc, level.depth, site, what, &found, level.spares)?;
+    let found = enter_group(level, site, what, &mut made.pending, &mut made.writer)?;
     if body.is_empty() {
         return Ok(());
     }

@@ -232,29 +232,12 @@ run_one-returns-in-Remember g t c = record {
 
 pub run_group-returns-in_err-found-clause-ran : goal.run_group-returns-in_err-found-clause-ran
 run_group-returns-in_err-found-clause-ran g t c w is plain m h o b calc =
-    let e : c.from_residual.result ≡ Err NoMemory = search rules in
-    beside_stop_here _ e refl
+    let e : c.from_residual.result ≡ Err c.in_err-found.field-0.0 = search rules in
+    beside_full _ (failed _ _ e) (search rules) refl
 
 pub run_group-returns-in_err-found-clause-part : goal.run_group-returns-in_err-found-clause-part
 run_group-returns-in_err-found-clause-part g t c =
-    let e : c.from_residual.result ≡ Err NoMemory = search rules in
-    record {
-      keeps = g.met.V.View.keeps_itself _;
-      same = λ m h. h;
-      same_scope = stopped _ _ _ e;
-      longer = stopped _ _ _ e;
-      fits = stopped _ _ _ e;
-      counted = λ m h. stopped _ _ _ e;
-    }
-
-pub run_group-returns-in_err-enter-clause-ran : goal.run_group-returns-in_err-enter-clause-ran
-run_group-returns-in_err-enter-clause-ran g t c w is plain m h o b calc =
-    let e : c.from_residual-in_err-enter.result ≡ Err c.in_err-enter.field-0.0 = search rules in
-    beside_full _ (failed _ _ e) (search rules) refl
-
-pub run_group-returns-in_err-enter-clause-part : goal.run_group-returns-in_err-enter-clause-part
-run_group-returns-in_err-enter-clause-part g t c =
-    let e : c.from_residual-in_err-enter.result ≡ Err c.in_err-enter.field-0.0 = search rules in
+    let e : c.from_residual.result ≡ Err c.in_err-found.field-0.0 = search rules in
     record {
       keeps = g.met.V.View.keeps_itself _;
       same = λ m h. h;
@@ -267,14 +250,14 @@ run_group-returns-in_err-enter-clause-part g t c =
 pub run_group-returns-then-is_empty-clause-ran : goal.run_group-returns-then-is_empty-clause-ran
 run_group-returns-then-is_empty-clause-ran g t c w is plain m h o b calc =
     let x = sibling c.args.site w in
-    let xs = key_is c.args.site w (group_kind c.args.what) _ c.key.ensures is c.new.ensures in
-    let k = matched {left = c.take.new.self} x c.new.result xs b c.in_ok-found.ensures.found
+    let xs = key_is c.args.site w (group_kind c.args.what) _ refl is refl in
+    let k = matched {left = c.enter_group.new.pending} x _ xs b c.in_ok-found.ensures.found
     c.in_ok-found.ensures.left in
     let there = matching_sibling x (occurrence x o.seen) o.old in
     let inside = body_forest m c.args.level.now.functions.now (stmts_view c.args.body.now) c.args.made.now.scope in
     let state = matched_state c.args.level.now.depth c.args.site w (group_kind c.args.what) inside c.in_ok-found.found
-    there c.args.made.now.writer c.enter.new.self (g.V.View.asked c.args.view.now) c.args.made.now.reads
-    (container_is_no_call w plain) k.like is c.in_ok-enter.ensures.entered in
+    there c.args.made.now.writer c.enter_group.new.writer (g.V.View.asked c.args.view.now) c.args.made.now.reads
+    (container_is_no_call w plain) k.like is c.in_ok-found.ensures.entered in
     let empty : length c.args.body.now ≡ 0 =
     eqb-true (length c.args.body.now) 0 (sym c.is_empty.ensures ∙ c.if-is_empty.true) in
     let none : inside ≡ End = all_end m c.args.level.now.functions.now c.args.body.now 0 c.args.made.now.scope
@@ -287,23 +270,23 @@ run_group-returns-then-is_empty-clause-part g t c = record {
   same = λ m h. h;
   same_scope = refl;
   longer = entered_longer _ _ (group_kind c.args.what) c.in_ok-found.found c.args.made.now.writer _
-      c.in_ok-enter.ensures.entered;
-  fits = c.in_ok-enter.ensures.fits;
-  counted = λ m h. let e : c.enter.new.self.reads ≡ c.args.made.now.writer.reads =
-      ap (λ (q : WrittenGroups). q.reads) c.in_ok-enter.ensures.entered in omega (arith, e);
+      c.in_ok-found.ensures.entered;
+  fits = c.in_ok-found.ensures.fits;
+  counted = λ m h. let e : c.enter_group.new.writer.reads ≡ c.args.made.now.writer.reads =
+      ap (λ (q : WrittenGroups). q.reads) c.in_ok-found.ensures.entered in omega (arith, e);
 }
 
 pub run_group-returns-in_err-run_all-clause-ran : goal.run_group-returns-in_err-run_all-clause-ran
 run_group-returns-in_err-run_all-clause-ran g t c w is plain m h o b calc =
     let x = sibling c.args.site w in
-    let xs = key_is c.args.site w (group_kind c.args.what) _ c.key.ensures is c.new.ensures in
-    let k = matched {left = c.take.new.self} x c.new.result xs b c.in_ok-found.ensures.found
+    let xs = key_is c.args.site w (group_kind c.args.what) _ refl is refl in
+    let k = matched {left = c.enter_group.new.pending} x _ xs b c.in_ok-found.ensures.found
     c.in_ok-found.ensures.left in
     let there = matching_sibling x (occurrence x o.seen) o.old in
     let inside = body_forest m c.args.level.now.functions.now (stmts_view c.args.body.now) c.args.made.now.scope in
     let state = matched_state c.args.level.now.depth c.args.site w (group_kind c.args.what) inside c.in_ok-found.found
-    there c.args.made.now.writer c.enter.new.self (g.V.View.asked c.args.view.now) c.args.made.now.reads
-    (container_is_no_call w plain) k.like is c.in_ok-enter.ensures.entered in
+    there c.args.made.now.writer c.enter_group.new.writer (g.V.View.asked c.args.view.now) c.args.made.now.reads
+    (container_is_no_call w plain) k.like is c.in_ok-found.ensures.entered in
     let within : c.replace-around.new.dest ≡ c.inside_found-within.result = search rules in
     let fits = subst (λ (p : Pending). Fits (c.args.level.now.depth + 1) p (inside_of there) []) (sym within)
     (fits_inside c.args.level.now.depth c.inside_found-within.result c.in_ok-found.found there
@@ -328,21 +311,21 @@ run_group-returns-in_err-run_all-clause-part g t c =
 pub run_group-returns-clause-ran : goal.run_group-returns-clause-ran
 run_group-returns-clause-ran g t c w is plain m h o b calc =
     let x = sibling c.args.site w in
-    let xs = key_is c.args.site w (group_kind c.args.what) _ c.key.ensures is c.new.ensures in
-    let k = matched {left = c.take.new.self} x c.new.result xs b c.in_ok-found.ensures.found
+    let xs = key_is c.args.site w (group_kind c.args.what) _ refl is refl in
+    let k = matched {left = c.enter_group.new.pending} x _ xs b c.in_ok-found.ensures.found
     c.in_ok-found.ensures.left in
     let there = matching_sibling x (occurrence x o.seen) o.old in
     let inside = body_forest m c.args.level.now.functions.now (stmts_view c.args.body.now) c.args.made.now.scope in
     let state = matched_state c.args.level.now.depth c.args.site w (group_kind c.args.what) inside c.in_ok-found.found
-    there c.args.made.now.writer c.enter.new.self (g.V.View.asked c.args.view.now) c.args.made.now.reads
-    (container_is_no_call w plain) k.like is c.in_ok-enter.ensures.entered in
+    there c.args.made.now.writer c.enter_group.new.writer (g.V.View.asked c.args.view.now) c.args.made.now.reads
+    (container_is_no_call w plain) k.like is c.in_ok-found.ensures.entered in
     let within : c.replace-around.new.dest ≡ c.inside_found-within.result = search rules in
     let fits = subst (λ (p : Pending). Fits (c.args.level.now.depth + 1) p (inside_of there) []) (sym within)
     (fits_inside c.args.level.now.depth c.inside_found-within.result c.in_ok-found.found there
     c.inside_found-within.ensures k.like) in
     let inner = c.in_ok-run_all.ensures.ran m (inside_old o (inside_of there)) h
     (beside_inside (inside_of there) b k.part fits) calc in
-    let around : c.replace-around.result ≡ c.take.new.self = search rules in
+    let around : c.replace-around.result ≡ c.enter_group.new.pending = search rules in
     beside_group w _ plain state
     (subst (λ (p : Pending). Fits c.args.level.now.depth p o.old (x ∷ o.seen)) (sym around) k.fits) inner
 
@@ -352,11 +335,11 @@ run_group-returns-clause-part g t c = record {
   same = c.in_ok-run_all.ensures.same;
   same_scope = c.in_ok-run_all.ensures.same_scope;
   longer = let e = entered_longer _ _ (group_kind c.args.what) c.in_ok-found.found c.args.made.now.writer _
-      c.in_ok-enter.ensures.entered in omega (arith, e, c.in_ok-run_all.ensures.longer);
+      c.in_ok-found.ensures.entered in omega (arith, e, c.in_ok-run_all.ensures.longer);
   fits = c.in_ok-run_all.ensures.fits;
   counted = λ m h. let f = c.in_ok-run_all.ensures.counted m h in
-      let e : c.enter.new.self.reads ≡ c.args.made.now.writer.reads =
-      ap (λ (q : WrittenGroups). q.reads) c.in_ok-enter.ensures.entered in omega (arith, e, f);
+      let e : c.enter_group.new.writer.reads ≡ c.args.made.now.writer.reads =
+      ap (λ (q : WrittenGroups). q.reads) c.in_ok-found.ensures.entered in omega (arith, e, f);
 }
 
 -- A key.
