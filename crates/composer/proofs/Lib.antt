@@ -13,6 +13,7 @@ pub mod OldWalks
 pub mod QuietRuns
 pub mod Reaching
 pub mod ReadCounts
+pub mod RunBodies
 pub mod RunCalls
 pub mod SkipLoops
 pub mod SkippedCalls

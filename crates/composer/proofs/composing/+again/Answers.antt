@@ -16,7 +16,7 @@ use Rattle.lang_ast.specs.ResultsWithReads.{Reading}
 use Rattle.lang_ast.specs.Terms.{Func}
 use Rattle.lang_ast.specs.Evaluation.{new_binding, eval, eval_named}
 use Rattle.lang_ast.specs.SyntaxView.{expr_view, nameds_view, stmt_view, stmts_view, functions_view}
-use Rattle.compose_model.specs.Composing.{attribute, bind, meaning_at, meanings}
+use Rattle.compose_model.specs.Composing.{attribute, meaning_at, meanings}
 use Rattle.lang_meaning.specs.ComposesForest.{statement_forest, body_forest, call_forest, loop_forest}
 use Rattle.lang_meaning.proofs.Sizes.{size_at, falls_at}
 use Rattle.lang_meaning.proofs.StatementCases.{all_at, all_end}
@@ -27,7 +27,7 @@ use Rattle.composer.specs.Comparisons.{call_runs}
 use Rattle.composer.specs.OldSiblings.{KeyInfo, old_group}
 use Rattle.composer.specs.OldGroups.{Alike, SameGroup, Fits}
 use Rattle.composer.specs.declared.pending.Pending.{Pending}
-use Rattle.composer.specs.ComposerState.{composed_beside, skipped_groups, skipped_inside}
+use Rattle.composer.specs.ComposerState.{skipped_groups, skipped_inside}
 use Rattle.composer.specs.BesideContracts.{IsOldPart}
 use Rattle.composer.specs.WrittenGroups.{WrittenGroups, state_of, kept_of, group_kind, arguments_of, first_reads}
 use Rattle.composer.specs.Recomposes.{ComposesBeside, is_call_kept}
@@ -39,8 +39,9 @@ use Rattle.composer.proofs.OldParts.{inside_old}
 use Rattle.composer.proofs.OldMatches.{fits_inside}
 use Rattle.composer.proofs.Matching.{matched, key_is, matched_state, container_is_no_call, kept_is_calculated, entered_longer, call_longer, running_longer, kept_longer, at_now, beside_now, beside_inside}
 use Rattle.composer.proofs.Comparisons.{call_runs_kept}
-use Rattle.composer.proofs.CalledFunctions.{how_many_functions, slice_is, since_slice, statement_calculates, body_calculates, body_is, body_none}
+use Rattle.composer.proofs.CalledFunctions.{how_many_functions, slice_is, since_slice, statement_calculates, body_none}
 use Rattle.composer.proofs.SkippedCalls.{skips, skips_as}
+use Rattle.composer.proofs.RunBodies.{body_reached}
 use Rattle.composer.proofs.RunCalls.{call_alone, part_ran, longer_ran, body_done, body_stop, part_one, longer_than, call_what, owed_call, kept_call, kept_other, kept_state, owed_is, no_call, body_part, begins_after}
 use Rattle.composer.proofs.OldWalks.{first_of_all}
 use Rattle.composer.proofs.SkipLoops.{first_parts, left_first, left_run, left_full, left_more, left_stop, left_done, ends_past, index_behind, behind_is, index_grows}
@@ -1110,24 +1111,11 @@ run_body-returns-in_err-run_all g t c =
           let below : c.args.function < length c.args.level.now.functions.now = omega arith in
           let slice : c.deref.result.now ≡ c.index-level-function.result.body.items = c.deref.ensures.value
           ∙ sym (ap (λ (q : Function). q.body.items) c.index-level-function.is) in
-          let body = body_is m c.args.level.now.functions.now c.args.function (arguments_of c.args.arguments)
-          c.index-level-function.result c.deref.result.now _ c.in_ok-inner.inner.scope
-          below c.index-level-function.is slice
-      (ap (λ (q : Function). q.parameters.items) (sym c.index-level-function.is)) c.in_ok-inner.ensures.scope in
-          let calc = body_calculates c.args.level.now.functions.now c.args.function c.index-level-function.result
-          c.deref.result.now since below c.index-level-function.is slice in
-          let fits = fits_inside c.args.level.now.depth c.in_ok-inner.inner.pending c.args.found.now there
-          c.in_ok-inner.ensures.pending like in
-          let r = c.in_err-run_all.ensures.ran m (record { last = l; old = inside_of there; seen = [] }) h
-          (record {
-            since = since_slice c.args.level.now.functions.now _ c.args.function refl since;
-            part = part;
-            fits = fits;
-          }) calc in
-          let at = reached_at (ap (λ (tr : GroupForest). composed_beside c.args.level.now.owed.now.objects (inside_of there)
-          (c.args.level.now.depth + 1) true [] tr
-          (state_of c.in_ok-inner.inner.writer (g.V.View.asked c.args.view.now) c.in_ok-inner.inner.reads)) (sym body))
-          r.reached in
+          let at = body_reached m c.args.level.now.functions.now c.args.function (arguments_of c.args.arguments)
+          c.index-level-function.result c.deref.result.now _ c.in_ok-inner.inner.scope c.args.level.now.owed.now.objects
+          c.args.level.now.depth l there c.args.found.now c.in_ok-inner.inner.pending below c.index-level-function.is slice
+          (ap (λ (q : Function). q.parameters.items) (sym c.index-level-function.is)) c.in_ok-inner.ensures.scope since part
+          like c.in_ok-inner.ensures.pending (λ o b calc. c.in_err-run_all.ensures.ran m o h b calc) in
           let entered_is = c.in_ok-inner.ensures.entered in
           body_stop c.args.level.now.owed.now.objects (inside_of there) c.args.level.now.depth c.args.site c.args.function
           (arguments_of c.args.arguments) (meaning_at (meanings m (functions_view c.args.level.now.functions.now))
@@ -1150,24 +1138,11 @@ run_body-returns-in_err-end_call g t c =
           let below : c.args.function < length c.args.level.now.functions.now = omega arith in
           let slice : c.deref.result.now ≡ c.index-level-function.result.body.items = c.deref.ensures.value
           ∙ sym (ap (λ (q : Function). q.body.items) c.index-level-function.is) in
-          let body = body_is m c.args.level.now.functions.now c.args.function (arguments_of c.args.arguments)
-          c.index-level-function.result c.deref.result.now _ c.in_ok-inner.inner.scope
-          below c.index-level-function.is slice
-      (ap (λ (q : Function). q.parameters.items) (sym c.index-level-function.is)) c.in_ok-inner.ensures.scope in
-          let calc = body_calculates c.args.level.now.functions.now c.args.function c.index-level-function.result
-          c.deref.result.now since below c.index-level-function.is slice in
-          let fits = fits_inside c.args.level.now.depth c.in_ok-inner.inner.pending c.args.found.now there
-          c.in_ok-inner.ensures.pending like in
-          let r = c.in_ok-run_all.ensures.ran m (record { last = l; old = inside_of there; seen = [] }) h
-          (record {
-            since = since_slice c.args.level.now.functions.now _ c.args.function refl since;
-            part = part;
-            fits = fits;
-          }) calc in
-          let at = reached_at (ap (λ (tr : GroupForest). composed_beside c.args.level.now.owed.now.objects (inside_of there)
-          (c.args.level.now.depth + 1) true [] tr
-          (state_of c.in_ok-inner.inner.writer (g.V.View.asked c.args.view.now) c.in_ok-inner.inner.reads)) (sym body))
-          r.reached in
+          let at = body_reached m c.args.level.now.functions.now c.args.function (arguments_of c.args.arguments)
+          c.index-level-function.result c.deref.result.now _ c.in_ok-inner.inner.scope c.args.level.now.owed.now.objects
+          c.args.level.now.depth l there c.args.found.now c.in_ok-inner.inner.pending below c.index-level-function.is slice
+          (ap (λ (q : Function). q.parameters.items) (sym c.index-level-function.is)) c.in_ok-inner.ensures.scope since part
+          like c.in_ok-inner.ensures.pending (λ o b calc. c.in_ok-run_all.ensures.ran m o h b calc) in
           let entered_is = c.in_ok-inner.ensures.entered in
           reached_stop _ e (body_part c.args.level.now.owed.now.objects (inside_of there) c.args.level.now.depth c.args.site
           c.args.function (arguments_of c.args.arguments)
@@ -1191,24 +1166,11 @@ run_body-returns g t c = record {
       let below : c.args.function < length c.args.level.now.functions.now = omega arith in
       let slice : c.deref.result.now ≡ c.index-level-function.result.body.items = c.deref.ensures.value
       ∙ sym (ap (λ (q : Function). q.body.items) c.index-level-function.is) in
-      let body = body_is m c.args.level.now.functions.now c.args.function (arguments_of c.args.arguments)
-      c.index-level-function.result c.deref.result.now _ c.in_ok-inner.inner.scope
-      below c.index-level-function.is slice
-      (ap (λ (q : Function). q.parameters.items) (sym c.index-level-function.is)) c.in_ok-inner.ensures.scope in
-      let calc = body_calculates c.args.level.now.functions.now c.args.function c.index-level-function.result
-      c.deref.result.now since below c.index-level-function.is slice in
-      let fits = fits_inside c.args.level.now.depth c.in_ok-inner.inner.pending c.args.found.now there
-      c.in_ok-inner.ensures.pending like in
-      let r = c.in_ok-run_all.ensures.ran m (record { last = l; old = inside_of there; seen = [] }) h
-      (record {
-        since = since_slice c.args.level.now.functions.now _ c.args.function refl since;
-        part = part;
-        fits = fits;
-      }) calc in
-      let at = reached_at (ap (λ (tr : GroupForest). composed_beside c.args.level.now.owed.now.objects (inside_of there)
-      (c.args.level.now.depth + 1) true [] tr
-      (state_of c.in_ok-inner.inner.writer (g.V.View.asked c.args.view.now) c.in_ok-inner.inner.reads)) (sym body))
-      r.reached in
+      let at = body_reached m c.args.level.now.functions.now c.args.function (arguments_of c.args.arguments)
+      c.index-level-function.result c.deref.result.now _ c.in_ok-inner.inner.scope c.args.level.now.owed.now.objects
+      c.args.level.now.depth l there c.args.found.now c.in_ok-inner.inner.pending below c.index-level-function.is slice
+      (ap (λ (q : Function). q.parameters.items) (sym c.index-level-function.is)) c.in_ok-inner.ensures.scope since part
+      like c.in_ok-inner.ensures.pending (λ o b calc. c.in_ok-run_all.ensures.ran m o h b calc) in
       let entered_is = c.in_ok-inner.ensures.entered in
       body_done c.args.level.now.owed.now.objects (inside_of there) c.args.level.now.depth c.args.site c.args.function
       (arguments_of c.args.arguments) (meaning_at (meanings m (functions_view c.args.level.now.functions.now))
