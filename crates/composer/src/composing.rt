@@ -314,6 +314,15 @@ fn run_if<'a, V: View, L: Ledger>(
     run_all(level, else_branch, made, view, steps)
 }
 
+// Adds a variable to the scope.
+#[inline(always)]
+fn push_name(name: &Ident, value: Value, scope: &mut Env) -> Result<(), NoMemory>
+    ensures { OnOk result (scope.new ≡ scope.old ++ new_binding name.now.text value ∷ []) }
+{
+    let name = name.text.copy()?;
+    scope.push(name, value)
+}
+
 // Composes statements with a new variable in scope, which is removed afterwards.
 #[cycle(again)]
 fn run_bound<'a, V: View, L: Ledger>(
@@ -331,8 +340,7 @@ fn run_bound<'a, V: View, L: Ledger>(
         (λ calc. StmtsCalculate calc (stmts_view body.now))
         view.old view.new made.old made.new result }
 {
-    let name = name.text.copy()?;
-    made.scope.push(name, value)?;
+    push_name(name, value, &mut made.scope)?;
     run_all(level, body, made, view, steps)?;
     made.scope.pop();
     Ok(())

@@ -490,23 +490,9 @@ run_if-returns g t c = record {
 
 -- A name more in scope.
 
-pub run_bound-returns-in_err-name : goal.run_bound-returns-in_err-name
-run_bound-returns-in_err-name g t c =
+pub run_bound-returns-in_err-push_name : goal.run_bound-returns-in_err-push_name
+run_bound-returns-in_err-push_name g t c =
     let e : c.from_residual.result ≡ Err NoMemory = search rules in
-    record {
-      keeps = g.met.V.View.keeps_itself _;
-      same = λ m h. h;
-      same_scope = stopped _ _ _ e;
-      longer = stopped _ _ _ e;
-      fits = stopped _ _ _ e;
-      counted = λ m h. stopped _ _ _ e;
-      ran = λ m o h b calc.
-          beside_stop_here _ e refl;
-    }
-
-pub run_bound-returns-in_err-push : goal.run_bound-returns-in_err-push
-run_bound-returns-in_err-push g t c =
-    let e : c.from_residual-in_err-push.result ≡ Err NoMemory = search rules in
     record {
       keeps = g.met.V.View.keeps_itself _;
       same = λ m h. h;
@@ -527,9 +513,8 @@ run_bound-returns g t c = record {
   fits = c.in_ok-run_all.ensures.fits;
   counted = λ m h. c.in_ok-run_all.ensures.counted m h;
   ran = λ m o h b calc.
-      let e : c.push.new.self ≡ c.args.made.now.scope ++ new_binding c.args.name.now.text c.args.value ∷ [] =
-      c.in_ok-push.ensures.ok ∙ ap (λ (n : List ℕ). c.args.made.now.scope ++ new_binding n c.args.value ∷ [])
-      c.in_ok-name.ensures in
+      let e : c.push_name.new.scope ≡ c.args.made.now.scope ++ new_binding c.args.name.now.text c.args.value ∷ [] =
+      c.in_ok-push_name.ensures in
       let P : List Binding → Type 0 =
       λ env. ComposesBeside c.args.level.now.owed.now.objects o.old c.args.level.now.depth o.seen
       (body_forest m c.args.level.now.functions.now (stmts_view c.args.body.now) env)
