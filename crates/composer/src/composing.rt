@@ -1,28 +1,25 @@
 // Composing again next to the groups of the last frame.
-ghost use Rattle.std.specs.Prelude.{◌≡◌, ◌≤◌, ◌<◌, ◌+◌, ◌++◌, ◌∷◌, [], ℕ, List, Option, Some, Err, length, drop, map, take, slice_get, if◌then◌else◌, true, false, IfOk, OnOk, OnErr};
+ghost use Rattle.std.specs.Prelude.{◌≡◌, ◌≤◌, ◌<◌, ◌+◌, ◌++◌, ◌∷◌, [], ℕ, List, Option, Some, Err, length, drop, map, take, true, false, IfOk, OnOk, OnErr};
 ghost use Rattle.rt_values.specs.declared.value.Value.{Value as value_data};
 ghost use Rattle.rt_values.specs.Maps.{Map};
 ghost use Rattle.rt_values.specs.Views.{Grew};
-ghost use Rattle.rt_groups.specs.declared.groups.GroupKind.TheVariants as kinds;
 ghost use Rattle.rt_groups.specs.GroupForest.{GroupKind as kind_data};
-ghost use Rattle.rt_groups.specs.Paths.{GroupKey, same_sibling};
-ghost use Rattle.slot_table.specs.ReaderStates.{group_key};
 ghost use Rattle.rt_groups.specs.PreorderGroups.{flat_kind};
 ghost use Rattle.rt_groups.specs.Frames.{LastFrame, most_groups};
 ghost use Rattle.lang_ast.specs.Terms.{Node, Key, If, For, Let, Remember};
 ghost use Rattle.lang_ast.specs.SyntaxView.{expr_view, exprs_view, nameds_view, stmt_view, stmts_view};
 ghost use Rattle.lang_ast.specs.Evaluation.{new_binding, eval, eval_all};
-ghost use Rattle.compose_model.specs.Composing.{bind, forest_after};
+ghost use Rattle.compose_model.specs.Composing.{forest_after};
 ghost use Rattle.recompose_laws.specs.CalculatedCells.{Calculation, CalculatesAtSite, StmtCalculates, StmtsCalculate};
-ghost use Rattle.composer.specs.WrittenGroups.{number_kept, kept_of, written_kept, running_call, first_reads, enter_group, group_kind, arguments_of, AreArguments};
+ghost use Rattle.composer.specs.WrittenGroups.{kept_of, group_kind, arguments_of, AreArguments};
 ghost use Rattle.composer.specs.FrameDrafts.{Holds, IsOwing, ComposesFrame, root_of};
 ghost use Rattle.lang_ast.specs.Programs.{functions_of};
-ghost use Rattle.composer.specs.OldSiblings.{old_group, found_siblings};
-ghost use Rattle.composer.specs.Waiting.{waiting_siblings};
+ghost use Rattle.composer.specs.OldSiblings.{old_group};
 ghost use Rattle.composer.specs.Recomposes.{Recomposes, Continues, RanBeside, Writes, HasRoom, HasRoomToWrite, group_at_level, statement_at, body_at, call_at, loop_at, BodyRan, GroupSkipped, GroupsSkipped, FrameWritten, any_calculation, is_container, is_call_kept};
 
 use crate::compared::{call_is_run, kept_value, meet};
 use crate::draft::{Draft, Held};
+use crate::entering::{enter_body, enter_group, keep_group, push_name};
 use crate::old_groups::OldGroup;
 use crate::owed::Owed;
 use crate::pending::Pending;
@@ -33,7 +30,7 @@ use crate::writer::{CallArguments, NewKind, Writer};
 use group_keys::SiblingKey;
 use lang_ast::{Expression, Function, Ident, Named, Statement};
 use lang_checks::Checked;
-use lang_meaning::{Env, bind, eval_noting, evaluate_all, evaluate_attributes, evaluate_keys};
+use lang_meaning::{Env, eval_noting, evaluate_all, evaluate_attributes, evaluate_keys};
 use rt_groups::{Deps, GroupKind, Values};
 use rt_values::{NoMemory, Steps, Value, View};
 use slot_table::Table;
@@ -170,31 +167,6 @@ fn run_one<'a, V: View, L: Ledger>(
     }
 }
 
-// Matches a node or a key with an old sibling, and appends its group. Returns the old sibling.
-#[inline(always)]
-fn enter_group<'a>(
-    level: &Level<'a>,
-    site: u32,
-    what: NewKind,
-    pending: &mut Pending<'a>,
-    writer: &mut Writer,
-) -> Result<Option<OldGroup<'a>>, ComposeStop>
-    requires { length writer.old.groups ≤ most_groups }
-    ensures found { IfOk result (λ found. found ≡ slice_get (waiting_siblings pending.old
-        (record { site = site; key = group_key (group_kind what.entry) })) 0) }
-    ensures left { OnOk result ((s : GroupKey) → waiting_siblings pending.new s
-        ≡ (if same_sibling (record { site = site; key = group_key (group_kind what.entry) }) s
-        then drop 1 (waiting_siblings pending.old s) else waiting_siblings pending.old s)) }
-    ensures entered { IfOk result (λ found.
-        writer.new ≡ enter_group level.now.depth site (group_kind what.entry) found writer.old) }
-    ensures fits { OnOk result (length writer.new.groups ≤ most_groups) }
-    ensures full { result ≡ Err ComposeStop.TooManyGroups → length writer.old.groups ≡ most_groups }
-{
-    let found = pending.take(level.alloc, &SiblingKey::new(site, what.key()))?;
-    writer.enter(level.alloc, level.depth, site, what, &found, level.spares)?;
-    Ok(found)
-}
-
 // Composes a node or a key: matches its group with an old sibling, appends it, and composes the statements inside it.
 #[cycle(again)]
 fn run_group<'a, V: View, L: Ledger>(
@@ -312,15 +284,6 @@ fn run_if<'a, V: View, L: Ledger>(
         return run_all(level, then_branch, made, view, steps);
     }
     run_all(level, else_branch, made, view, steps)
-}
-
-// Adds a variable to the scope.
-#[inline(always)]
-fn push_name(name: &Ident, value: Value, scope: &mut Env) -> Result<(), NoMemory>
-    ensures { OnOk result (scope.new ≡ scope.old ++ new_binding name.now.text value ∷ []) }
-{
-    let name = name.text.copy()?;
-    scope.push(name, value)
 }
 
 // Composes statements with a new variable in scope, which is removed afterwards.
@@ -562,42 +525,6 @@ fn run_call<'a, V: View, L: Ledger>(
     }
 }
 
-// Starts a call that runs: binds the parameters of its function, and appends its group. What is made moves out of
-// `writer`, which has no meaning afterwards.
-#[inline(always)]
-fn enter_body<'a>(
-    level: &Level<'a>,
-    site: u32,
-    function: usize,
-    callee: &Function,
-    arguments: CallArguments,
-    found: &Option<OldGroup<'a>>,
-    writer: &mut Writer,
-) -> Result<Progress<'a>, ComposeStop>
-    requires room { length writer.old.groups ≤ most_groups }
-    requires arguments { AreArguments function arguments found.now }
-    ensures scope { IfOk result (λ p. p.scope ≡ bind callee.now.parameters.items (arguments_of arguments.entry)) }
-    ensures pending { IfOk result (λ p. (s : GroupKey) → waiting_siblings p.pending s ≡ found_siblings found.now s) }
-    ensures reads { IfOk result (λ p. p.reads ≡ []) }
-    ensures entered { IfOk result (λ p. p.writer ≡ running_call level.now.depth site
-        (kinds.Call function (arguments_of arguments.entry)) (first_reads arguments.entry found.now) writer.old) }
-    ensures fits { IfOk result (λ p. length p.writer.groups ≤ most_groups) }
-    ensures full { result ≡ Err ComposeStop.TooManyGroups → length writer.old.groups ≡ most_groups }
-{
-    let room = level.spares.take_scope(level.alloc);
-    let scope = bind(level.alloc, room, &callee.parameters, arguments.values())?;
-    let pending = Pending::inside_found(level.table, found);
-    writer.enter_running(level.alloc, level.depth, site, function, arguments, found)?;
-    let taken = mem::replace(writer, Writer::new(level.alloc, 0));
-    let reads = level.spares.take_reads(level.alloc);
-    Ok(Progress {
-        scope,
-        pending,
-        reads,
-        writer: taken,
-    })
-}
-
 // Composes a call that runs next to the old groups inside `found`: its group with its own reads, and the body of its
 // function. A call of a function that is not an earlier one makes an empty group.
 #[cycle(again)]
@@ -739,34 +666,6 @@ fn skip_inside<'a, V: View, L: Ledger>(
         view,
         steps,
     )
-}
-
-// Appends an old group, which shares its slots with the table.
-fn keep_group(
-    level: &Level,
-    site: u32,
-    old: &OldGroup,
-    writer: &mut Writer,
-) -> Result<(), ComposeStop>
-    requires { length writer.old.groups ≤ most_groups }
-    ensures added { OnOk result (writer.new ≡ written_kept level.now.depth site
-        (number_kept (old_group old.now).what (old_group old.now).number)
-        (old_group old.now).what (old_group old.now).reads writer.old) }
-    ensures fits { OnOk result (length writer.new.groups ≤ most_groups) }
-    ensures full { result ≡ Err ComposeStop.TooManyGroups → length writer.old.groups ≡ most_groups }
-{
-    let number = kept_number(old.kind(), old.number());
-    writer.keep(old.share()?.placed(level.depth, site, number))
-}
-
-// Returns the number that a group keeps: that of a node.
-fn kept_number(what: &GroupKind, number: u64) -> u64
-    ensures { result ≡ number_kept what.now number }
-{
-    match what {
-        GroupKind::Node { .. } => number,
-        _ => 0,
-    }
 }
 
 // Skips the old groups from index `first` on, up to the first that is less deep. Siblings in which no call is owed are

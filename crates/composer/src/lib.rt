@@ -12,6 +12,7 @@
 mod compared;
 mod composing;
 mod draft;
+mod entering;
 mod old_groups;
 mod owed;
 mod pending;

@@ -51,7 +51,7 @@ pub struct Spares {
 
 impl Spares {
     /// Returns no lists.
-    pub fn new(alloc: Global) -> Self {
+    pub(crate) fn new(alloc: Global) -> Self {
         Spares {
             scopes: Shelf::new(alloc),
             reads: Shelf::new(alloc),
@@ -62,7 +62,7 @@ impl Spares {
 
     /// Returns a scope without variables.
     #[inline(always)]
-    pub fn take_scope(&self, alloc: Global) -> Env
+    pub(crate) fn take_scope(&self, alloc: Global) -> Env
         ensures { result ≡ [] }
     {
         match self.scopes.take(alloc) {
@@ -76,13 +76,13 @@ impl Spares {
 
     /// Keeps the memory of `scope` for later.
     #[inline(always)]
-    pub fn keep_scope(&self, alloc: Global, scope: Env) {
+    pub(crate) fn keep_scope(&self, alloc: Global, scope: Env) {
         self.scopes.keep(alloc, scope);
     }
 
     /// Returns no reads.
     #[inline(always)]
-    pub fn take_reads(&self, alloc: Global) -> Deps
+    pub(crate) fn take_reads(&self, alloc: Global) -> Deps
         ensures { result ≡ [] }
     {
         match self.reads.take(alloc) {
@@ -96,13 +96,13 @@ impl Spares {
 
     /// Keeps the memory of `reads` for later.
     #[inline(always)]
-    pub fn keep_reads(&self, alloc: Global, reads: Deps) {
+    pub(crate) fn keep_reads(&self, alloc: Global, reads: Deps) {
         self.reads.keep(alloc, reads);
     }
 
     /// Returns the empty list of values. A new one has capacity for `count` values.
     #[inline(always)]
-    pub fn take_values(&self, alloc: Global, count: usize) -> Result<Values, NoMemory>
+    pub(crate) fn take_values(&self, alloc: Global, count: usize) -> Result<Values, NoMemory>
         ensures { IfOk result (λ all. all ≡ []) }
     {
         match self.values.take(alloc) {
@@ -116,13 +116,17 @@ impl Spares {
 
     /// Keeps the memory of `values` for later.
     #[inline(always)]
-    pub fn keep_values(&self, alloc: Global, values: Values) {
+    pub(crate) fn keep_values(&self, alloc: Global, values: Values) {
         self.values.keep(alloc, values);
     }
 
     /// Returns the empty list of attributes. A new one has capacity for `count` attributes.
     #[inline(always)]
-    pub fn take_attributes(&self, alloc: Global, count: usize) -> Result<Attributes, NoMemory>
+    pub(crate) fn take_attributes(
+        &self,
+        alloc: Global,
+        count: usize,
+    ) -> Result<Attributes, NoMemory>
         ensures { IfOk result (λ all. all ≡ []) }
     {
         match self.attributes.take(alloc) {
@@ -136,7 +140,7 @@ impl Spares {
 
     /// Keeps the memory of `attributes` for later.
     #[inline(always)]
-    pub fn keep_attributes(&self, alloc: Global, attributes: Attributes) {
+    pub(crate) fn keep_attributes(&self, alloc: Global, attributes: Attributes) {
         self.attributes.keep(alloc, attributes);
     }
 }
