@@ -1,11 +1,11 @@
 -- Old groups that follow each other, in which no call is owed.
-use Rattle.std.proofs.Common.{◌≡◌, ◌≤◌, ◌<◌, ℕ, zero, suc, ◌+◌, ◌-◌, Bool, true, false, ◌||◌, List, [], ◌∷◌, ◌++◌, length, length-append, length-drop, take, drop, drop-cons, get_or, if◌then◌else◌, refl, ap, sym, ◌∙◌, arith, append_assoc, append-nil}
+use Rattle.std.proofs.Common.{◌≡◌, ◌≤◌, ◌<◌, ℕ, zero, suc, ◌+◌, ◌-◌, Bool, true, false, ◌||◌, List, [], ◌∷◌, ◌++◌, length, length-append, length-drop, take, drop, drop-cons, get_or, refl, ap, sym, ◌∙◌, arith, append_assoc, append-nil}
 use Rattle.std.proofs.lemmas.List.{drop-drop, get_or-drop}
 use Rattle.rt_values.specs.Maps.{Map}
 use Rattle.rt_groups.specs.declared.groups.Group.{Group as TableGroup}
 use Rattle.rt_groups.specs.GroupForest.{GroupForest, End, Read, Group, GroupKind, Call, Node, Key, Cell}
 use Rattle.rt_groups.specs.PreorderGroups.{flat_kind, flat_reads, flat_group, preorder}
-use Rattle.rt_groups.specs.Frames.{meets, most_groups}
+use Rattle.rt_groups.specs.Frames.{meets}
 use Rattle.lang_ast.specs.Terms.{Func}
 use Rattle.recompose_laws.specs.Refreshing.{is_owed}
 use Rattle.recompose_laws.specs.Numbering.{kept_number}
@@ -13,11 +13,9 @@ use Rattle.recompose_laws.specs.Idle.{IsNumbered}
 use Rattle.slot_table.specs.TableGroups.{group_at}
 use Rattle.slot_table.specs.ReaderStates.{after_deep}
 use Rattle.composer.specs.ComposerState.{ComposerState, put_group, skipped_inside, skipped_groups}
-use Rattle.composer.specs.BesideContracts.{LastComposition, IsOldPart}
-use Rattle.composer.specs.OldGroups.{Begins, Ends}
+use Rattle.composer.specs.OldGroups.{Begins}
 use Rattle.composer.specs.QuietRuns.{has_owed, group_run, with_run, QuietRun}
 use Rattle.composer.proofs.Machine.{same_state}
-use Rattle.composer.proofs.OldMatches.{ends_deeper, next_of}
 use Rattle.composer.proofs.OldParts.{part_rest, part_after_read}
 use Rattle.composer.proofs.OldWalks.{no_group, past_inside}
 

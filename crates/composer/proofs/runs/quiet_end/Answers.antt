@@ -1,4 +1,4 @@
-use Rattle.std.proofs.Common.{◌≡◌, ◌<◌, ◌≤◌, ◌-◌, length, true, arith}
+use Rattle.std.proofs.Common.{◌<◌, ◌≤◌, length, arith}
 use Rattle.slot_table.specs.TableGroups.{group_at}
 use Rattle.composer.proofs.QuietRuns.{quiet_on}
 use Rattle.composer.proofs.SkipLoops.{index_grows}

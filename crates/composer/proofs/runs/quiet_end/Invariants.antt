@@ -1,4 +1,4 @@
-use Rattle.std.proofs.Common.{◌≡◌, ◌≤◌, ◌-◌, length, drop}
+use Rattle.std.proofs.Common.{◌≤◌, ◌-◌, length, drop}
 use Rattle.rt_groups.specs.GroupForest.{GroupForest}
 use Rattle.composer.specs.OldGroups.{Begins}
 use Rattle.composer.specs.QuietRuns.{QuietRun}
