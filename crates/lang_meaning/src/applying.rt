@@ -144,8 +144,8 @@ fn apply_to_list(
         Operator::Range => Ok(Value::Ints(IntList::range(alloc, first.number(), b)?)),
         Operator::Push => Ok(Value::Ints(push(alloc, first, b)?)),
         Operator::Concat => Ok(Value::Ints(concat(alloc, first, &second)?)),
-        Operator::Length => Ok(Value::Int(length(&first.into_list(alloc)))),
-        Operator::At => Ok(Value::Int(first.into_list(alloc).at(b))),
+        Operator::Length => Ok(Value::Int(length(first.items()))),
+        Operator::At => Ok(Value::Int(item(&first, b))),
         _ => unreachable!(),
     }
 }
@@ -154,14 +154,14 @@ fn apply_to_list(
 fn join(alloc: Global, first: Value, second: Value) -> Result<Txt, NoMemory>
     ensures { IfOk result (λ t. t ≡ joined_text (text_of first) (text_of second)) }
 {
-    Txt::join(alloc, &first.into_text(alloc), &second.into_text(alloc))
+    Txt::join(alloc, &first.into_text(alloc)?, &second.into_text(alloc)?)
 }
 
 // Appends a number to a list.
 fn push(alloc: Global, list: Value, number: i64) -> Result<IntList, NoMemory>
     ensures { IfOk result (λ l. l ≡ list_with_item (items_of list) number) }
 {
-    let mut list = list.into_list(alloc);
+    let mut list = list.into_list(alloc)?;
     list.push(number)?;
     Ok(list)
 }
@@ -170,14 +170,24 @@ fn push(alloc: Global, list: Value, number: i64) -> Result<IntList, NoMemory>
 fn concat(alloc: Global, first: Value, second: &Value) -> Result<IntList, NoMemory>
     ensures { IfOk result (λ l. l ≡ concatenation (items_of first) (items_of second.now)) }
 {
-    let mut list = first.into_list(alloc);
+    let mut list = first.into_list(alloc)?;
     list.extend(second.items())?;
     Ok(list)
 }
 
 // Returns the number of items of a list.
-fn length(list: &IntList) -> i64
-    ensures { result ≡ pos (length list.now) }
+fn length(items: &[i64]) -> i64
+    ensures { result ≡ pos (length items.now) }
 {
-    list.items().len() as i64
+    items.len() as i64
+}
+
+// Returns the item of a list at an index, or 0 if there is no such index or the value is no list.
+fn item(list: &Value, place: i64) -> i64
+    ensures { result ≡ item_at (items_of list.now) place }
+{
+    match list {
+        Value::Ints(list) => list.at(place),
+        Value::Int(_) | Value::Bool(_) | Value::Text(_) => 0,
+    }
 }

@@ -185,7 +185,7 @@ fn eval_numbers<V: View>(
         (λ m. false)
         view.old view.new reads.old reads.new result }
 {
-    let mut list = IntList::new(alloc);
+    let mut list = IntList::new(alloc)?;
     for expression in operands {
         let value = eval_part(alloc, expression, scope, view, reads, is_noting)?;
         list.push(value.number())?;

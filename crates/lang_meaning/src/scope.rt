@@ -42,7 +42,10 @@ impl Env {
         ensures ok { OnOk result (self.new ≡ self.old ++ new_binding name value ∷ []) }
         ensures err { OnErr result (self.new ≡ self.old) }
     {
-        self.bindings.push(Binding { name, value })?;
+        if self.bindings.len() == self.bindings.capacity() {
+            self.bindings.reserve(1)?;
+        }
+        self.bindings.push_reserved(Binding { name, value });
         Ok(())
     }
 

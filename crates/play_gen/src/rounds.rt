@@ -139,7 +139,7 @@ fn add_rotation(
         OnOk result (steps.new ≡ steps.old ++ write ∷ []) }
 {
     *items = rotate(alloc, items, turn as usize)?;
-    let value = Value::Ints(items.copy(alloc)?);
+    let value = Value::Ints(items.copy()?);
     steps.push(write_step(alloc, SnapshotRef::Global, b"items", 0, value)?)?;
     Ok(())
 }

@@ -37,7 +37,7 @@ fn count_rotation<V: Versions<P = BuiltIn>>(
         CountsParts V.stands (forms_parts (write ∷ [])) world.old world.new counting.old counting.new None None result }
 {
     *items = rotate(alloc, items, turn as usize)?;
-    let value = Value::Ints(items.copy(alloc)?);
+    let value = Value::Ints(items.copy()?);
     count_write(alloc, 0, value, counting, world)
 }
 

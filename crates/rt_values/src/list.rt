@@ -1,5 +1,5 @@
 // The list type behind values of the type Ints.
-ghost use Rattle.std.specs.Prelude.{◌≡◌, ◌≤◌, Bool, List, [], ℕ, ℤ, length, IfOk, OnOk, OnErr};
+ghost use Rattle.std.specs.Prelude.{◌≡◌, ◌≤◌, ◌++◌, Bool, List, [], ℕ, ℤ, length, IfOk, OnOk, OnErr};
 ghost use Rattle.rt_values.specs.Limits.{most_items};
 ghost use Rattle.rt_values.specs.Values.{same_items};
 ghost use Rattle.rt_values.specs.Operators.{range, list_with_item, concatenation, item_at};
@@ -7,11 +7,12 @@ ghost use Rattle.rt_values.specs.Operators.{range, list_with_item, concatenation
 use crate::NoMemory;
 use std::alloc::Global;
 use std::marker::Model;
+use std::sync::Arc;
 
-/// A list of at most `IntList::MOST_ITEMS` whole numbers.
+/// A list of at most `IntList::MOST_ITEMS` whole numbers. Copies share the numbers until one of them is changed.
 #[derive(Drop)]
 pub struct IntList {
-    items: Vec<i64>,
+    items: Arc<Vec<i64>>,
 }
 
 impl Model for IntList {
@@ -20,9 +21,9 @@ impl Model for IntList {
 
     ghost Value = { List ℤ };
 
-    ghost view = { λ l. l.items.items };
+    ghost view = { λ l. l.items.value.items };
 
-    ghost invariant = { λ l. length l.items.items ≤ most_items };
+    ghost invariant = { λ l. length l.items.value.items ≤ most_items };
 }
 
 impl IntList {
@@ -30,12 +31,12 @@ impl IntList {
     pub const MOST_ITEMS: usize = 4096;
 
     /// Returns the empty list.
-    pub fn new(alloc: Global) -> Self
-        ensures { result ≡ [] }
+    pub fn new(alloc: Global) -> Result<Self, NoMemory>
+        ensures { IfOk result (λ l. l ≡ []) }
     {
-        IntList {
-            items: Vec::new(alloc),
-        }
+        Ok(IntList {
+            items: Arc::new(alloc, Vec::new(alloc))?,
+        })
     }
 
     /// Returns a copy of `items` as a list.
@@ -43,8 +44,9 @@ impl IntList {
         requires { length items.now ≤ most_items }
         ensures { IfOk result (λ l. l ≡ items.now) }
     {
+        let items = items.to_vec(alloc)?;
         Ok(IntList {
-            items: items.to_vec(alloc)?,
+            items: Arc::new(alloc, items)?,
         })
     }
 
@@ -59,7 +61,9 @@ impl IntList {
             items.push(next)?;
             next += 1;
         }
-        Ok(IntList { items })
+        Ok(IntList {
+            items: Arc::new(alloc, items)?,
+        })
     }
 
     /// Returns the items, at most `IntList::MOST_ITEMS` of them.
@@ -93,7 +97,7 @@ impl IntList {
         ensures err { OnErr result (self.new ≡ self.old) }
     {
         if self.items.len() < IntList::MOST_ITEMS {
-            self.items.push(item)?;
+            Arc::make_mut(&mut self.items)?.push(item)?;
         }
         Ok(())
     }
@@ -104,7 +108,7 @@ impl IntList {
         ensures err { OnErr result (self.new ≡ self.old) }
     {
         let room = IntList::MOST_ITEMS - self.items.len();
-        self.items.extend_from_slice(&more[..room.min(more.len())])?;
+        append(&mut self.items, &more[..room.min(more.len())])?;
         Ok(())
     }
 
@@ -116,12 +120,12 @@ impl IntList {
         self.extend(other.items())
     }
 
-    /// Returns a copy.
-    pub fn copy(&self, alloc: Global) -> Result<Self, NoMemory>
+    /// Returns a copy, which shares the numbers.
+    pub fn copy(&self) -> Result<Self, NoMemory>
         ensures { IfOk result (λ l. l ≡ self.now) }
     {
         Ok(IntList {
-            items: self.items.to_vec(alloc)?,
+            items: self.items.clone()?,
         })
     }
 
@@ -131,4 +135,13 @@ impl IntList {
     {
         self.items.as_slice() == other.items.as_slice()
     }
+}
+
+// Appends `more`. Other lists that share the numbers keep theirs. After `NoMemory` the numbers are unchanged.
+fn append(items: &mut Arc<Vec<i64>>, more: &[i64]) -> Result<(), NoMemory>
+    ensures ok { OnOk result (items.new.value.items ≡ items.old.value.items ++ more.now) }
+    ensures err { OnErr result (items.new.value.items ≡ items.old.value.items) }
+{
+    Arc::make_mut(items)?.extend_from_slice(more)?;
+    Ok(())
 }

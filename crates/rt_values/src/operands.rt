@@ -47,22 +47,22 @@ impl Value {
         }
     }
 
-    /// Returns the text, or the empty text for a value of another type. Takes no memory.
-    pub fn into_text(self, alloc: Global) -> Txt
-        ensures { result ≡ text_of self }
+    /// Returns the text, or the empty text for a value of another type.
+    pub fn into_text(self, alloc: Global) -> Result<Txt, NoMemory>
+        ensures { IfOk result (λ t. t ≡ text_of self) }
     {
         match self {
-            Value::Text(text) => text,
+            Value::Text(text) => Ok(text),
             Value::Int(_) | Value::Bool(_) | Value::Ints(_) => Txt::new(alloc),
         }
     }
 
-    /// Returns the list, or the empty list for a value of another type. Takes no memory.
-    pub fn into_list(self, alloc: Global) -> IntList
-        ensures { result ≡ items_of self }
+    /// Returns the list, or the empty list for a value of another type.
+    pub fn into_list(self, alloc: Global) -> Result<IntList, NoMemory>
+        ensures { IfOk result (λ l. l ≡ items_of self) }
     {
         match self {
-            Value::Ints(list) => list,
+            Value::Ints(list) => Ok(list),
             Value::Int(_) | Value::Bool(_) | Value::Text(_) => IntList::new(alloc),
         }
     }
@@ -74,7 +74,7 @@ impl Value {
         match self {
             Value::Int(number) => Txt::of_number(alloc, *number),
             Value::Bool(truth) => Txt::of_truth(alloc, *truth),
-            Value::Text(_) | Value::Ints(_) => Ok(Txt::new(alloc)),
+            Value::Text(_) | Value::Ints(_) => Txt::new(alloc),
         }
     }
 }

@@ -10,11 +10,12 @@ use crate::NoMemory;
 use itoa::Buffer;
 use std::alloc::Global;
 use std::marker::Model;
+use std::sync::Arc;
 
-/// A text of at most `Txt::MOST_BYTES` bytes of UTF-8.
+/// A text of at most `Txt::MOST_BYTES` bytes of UTF-8. Copies share it.
 #[derive(Drop)]
 pub struct Txt {
-    text: String,
+    text: Arc<String>,
 }
 
 impl Model for Txt {
@@ -23,9 +24,9 @@ impl Model for Txt {
 
     ghost Value = { List ℕ };
 
-    ghost view = { λ t. string_bytes t.text };
+    ghost view = { λ t. string_bytes t.text.value };
 
-    ghost invariant = { λ t. length (string_bytes t.text) ≤ most_bytes };
+    ghost invariant = { λ t. length (string_bytes t.text.value) ≤ most_bytes };
 }
 
 impl Txt {
@@ -37,8 +38,9 @@ impl Txt {
         requires { length text.now ≤ most_bytes }
         ensures { IfOk result (λ t. t ≡ text.now) }
     {
+        let text = String::from_str(alloc, text)?;
         Ok(Txt {
-            text: String::from_str(alloc, text)?,
+            text: Arc::new(alloc, text)?,
         })
     }
 
@@ -54,13 +56,13 @@ impl Txt {
         }
     }
 
-    /// Returns the empty text. Takes no memory.
-    pub fn new(alloc: Global) -> Self
-        ensures { result ≡ [] }
+    /// Returns the empty text.
+    pub fn new(alloc: Global) -> Result<Self, NoMemory>
+        ensures { IfOk result (λ t. t ≡ []) }
     {
-        Txt {
-            text: String::new(alloc),
-        }
+        Ok(Txt {
+            text: Arc::new(alloc, String::new(alloc))?,
+        })
     }
 
     /// Returns the decimal digits of a number, with a minus sign if it is negative.
@@ -86,7 +88,9 @@ impl Txt {
         let more = front(second.as_str(), Txt::MOST_BYTES - first.len());
         let mut text = String::from_str(alloc, first)?;
         text.push_str(more)?;
-        Ok(Txt { text })
+        Ok(Txt {
+            text: Arc::new(alloc, text)?,
+        })
     }
 
     /// Returns the characters.
@@ -105,12 +109,12 @@ impl Txt {
         self.text.as_str().as_bytes()
     }
 
-    /// Returns a copy.
-    pub fn copy(&self, alloc: Global) -> Result<Self, NoMemory>
+    /// Returns a copy, which shares the text.
+    pub fn copy(&self) -> Result<Self, NoMemory>
         ensures { IfOk result (λ t. t ≡ self.now) }
     {
         Ok(Txt {
-            text: String::from_str(alloc, self.text.as_str())?,
+            text: self.text.clone()?,
         })
     }
 

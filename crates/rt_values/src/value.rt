@@ -56,6 +56,8 @@ pub enum Value {
     Ints(IntList),
 }
 
+const _: () = prove!(size_of::<Value>() == 16);
+
 impl Value {
     /// Returns the type of the value.
     pub fn ty(&self) -> Ty
@@ -69,7 +71,7 @@ impl Value {
         }
     }
 
-    /// Returns a copy. Copying a number or a truth value takes no memory.
+    /// Returns a copy, which shares a text or a list. Copying a number or a truth value takes no memory.
     #[inline(always)]
     pub fn copy(&self, alloc: Global) -> Result<Value, NoMemory>
         ensures same { IfOk result (λ v. v ≡ self.now) }
@@ -78,8 +80,8 @@ impl Value {
         match self {
             Value::Int(number) => Ok(Value::Int(*number)),
             Value::Bool(truth) => Ok(Value::Bool(*truth)),
-            Value::Text(text) => Ok(Value::Text(text.copy(alloc)?)),
-            Value::Ints(list) => Ok(Value::Ints(list.copy(alloc)?)),
+            Value::Text(text) => Ok(Value::Text(text.copy()?)),
+            Value::Ints(list) => Ok(Value::Ints(list.copy()?)),
         }
     }
 

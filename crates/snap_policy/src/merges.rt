@@ -63,7 +63,7 @@ fn merge_items(
     if current.len() + added.len() > IntList::MOST_ITEMS {
         return Ok(None);
     }
-    let mut merged = current.copy(alloc)?;
+    let mut merged = current.copy()?;
     merged.extend(added)?;
     Ok(Some(Value::Ints(merged)))
 }

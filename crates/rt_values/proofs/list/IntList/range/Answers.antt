@@ -1,4 +1,4 @@
-use Rattle.std.proofs.Common.{rules, ◌≡◌, ◌≤◌, ◌<◌, ◌∙◌, length, to_z, of_z, w64, SFits, arith}
+use Rattle.std.proofs.Common.{rules, ap, ◌≡◌, ◌≤◌, ◌<◌, ◌∙◌, length, to_z, of_z, w64, SFits, arith}
 use Rattle.std.proofs.lemmas.Int.{to_z-of_z}
 use Rattle.rt_values.specs.Operators.{numbers_from, range}
 use Rattle.rt_values.proofs.Lists.{range-step, range-ended, range-full}
@@ -17,7 +17,7 @@ pub returns : goal.returns
 returns c =
     let whole : numbers_from 4096 (to_z w64 (of_z w64 c.args.first)) (to_z w64 (of_z w64 c.args.end)) ≡ range c.args.first c.args.end =
     (λ i. numbers_from 4096 (to_z-of_z w64 c.args.first c.ranges.first i) (to_z-of_z w64 c.args.end c.ranges.end i)) in
-    elim c.loop-next-test.branch [
+    ap (λ v. v.items) c.in_ok-new.ensures.ok ∙ elim c.loop-next-test.branch [
       | then-loop-next-test+else-len-lt-MOST_ITEMS w ↦
           (let full : 4096 ≤ length c.loop-next.items.items = omega (
             arith,
