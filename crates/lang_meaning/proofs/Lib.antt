@@ -7,6 +7,7 @@ pub mod Lookups
 pub mod Meanings
 pub mod Operands
 pub mod Evaluating
+pub mod NotedReads
 pub mod Sizes
 pub mod Skips
 pub mod ForestSteps

@@ -1,5 +1,5 @@
 -- Evaluating operands one by one.
-use Rattle.std.proofs.Common.{◌≡◌, ℕ, zero, suc, ◌<◌, ◌≤◌, ℤ, List, [], ◌∷◌, ◌++◌, length, get_or, drop, take, Bool, true, false, nat_lt, refl, sym, ap, ◌∙◌, append_assoc, append-nil, length-append, drop-cons, arith, Vec, Global}
+use Rattle.std.proofs.Common.{◌≡◌, ℕ, zero, suc, ◌<◌, ◌≤◌, ℤ, List, [], ◌∷◌, ◌++◌, length, get_or, drop, take, Bool, true, false, nat_lt, refl, sym, ap, ◌∙◌, append_assoc, append-nil, length-append, drop-cons, arith}
 use Rattle.std.proofs.Common.{inl, inr}
 use Rattle.std.proofs.lemmas.Bool.{ltb-true, lt-ltb}
 use Rattle.std.proofs.lemmas.Bool.Decides.{leb_tells}
@@ -11,18 +11,14 @@ use Rattle.rt_values.specs.Operators.{list_with_item}
 use Rattle.rt_values.specs.Maps.{Map}
 use Rattle.rt_values.specs.Views.{Grew}
 use Rattle.lang_ast.specs.ResultsWithReads.{pure_reading}
-use Rattle.lang_ast.specs.Evaluation.{Bindings, eval, eval_all, eval_nth, eval_named, first, second, apply, is_pick, operand_taken}
-use Rattle.lang_ast.specs.Terms.{Expr}
-use Rattle.lang_ast.specs.SyntaxView.{expr_view, exprs_view, nameds_view}
-use Rattle.lang_ast.specs.declared.syntax.Expression.{Expression, Apply as ApplyOf}
-use Rattle.lang_ast.specs.declared.syntax.Named.{Named}
+use Rattle.lang_ast.specs.Evaluation.{Bindings, eval, eval_all, eval_nth, first, second, apply}
+use Rattle.lang_ast.specs.SyntaxView.{expr_view, exprs_view}
+use Rattle.lang_ast.specs.declared.syntax.Expression.{Expression}
 use Rattle.lang_ast.specs.declared.syntax.Operator.{Operator}
 use Rattle.lang_ast.specs.declared.syntax.Operator.TheVariants as operator
-use Rattle.lang_ast.proofs.Views.{view-Literal, view-Variable, view-Get, view-Apply}
 use Rattle.lang_meaning.specs.Operands.{is_list, pair, pair_from, list_with_all}
 use Rattle.lang_meaning.specs.declared.applying.Pair.{Pair}
-use Rattle.lang_meaning.proofs.Flats.{flat_nth, nth_flat}
-use Rattle.lang_meaning.proofs.Grows.{grew_front, grew_behind, grew_left, grew_all}
+use Rattle.lang_meaning.proofs.Grows.{grew_front, grew_left}
 
 -- One operand.
 
@@ -38,32 +34,7 @@ nth_none m [] n env past = refl
 nth_none m (x ∷ es) zero env past = absurd (omega arith)
 nth_none m (x ∷ es) (suc n) env past = nth_none m es n env (omega arith)
 
--- The reads of a pick: those of its condition and those of the operand that it takes.
-
-pub pick_reads : (m : Map) (e : Expression) (at : ℕ) (op : Operator) (operands : Vec Expression Global)
-    (slice : List Expression) (env : Bindings) (n : ℕ) (c : Value) (old mid new : List ℕ) → e ≡ ApplyOf at op operands
-    → slice ≡ operands.items → is_pick op ≡ true →
-    mid ≡ old ++ (eval_nth m (exprs_view slice) 0 env).reads → c ≡ (eval_nth m (exprs_view slice) 0 env).value
-    → n ≡ operand_taken c → new ≡ mid ++ (eval_nth m (exprs_view slice) n env).reads
-    → new ≡ old ++ (eval m (expr_view e) env).reads
-pick_reads m e at op operands slice env n c old mid new is items pick first value choice second =
-    let es = exprs_view operands.items in
-    let whole : (eval m (expr_view e) env).reads ≡ (eval_nth m es 0 env).reads ++ (eval_nth m es (operand_taken (eval_nth m es 0 env).value) env).reads =
-    ap (λ (x : Expression). (eval m (expr_view x) env).reads) is
-    ∙ ap (λ (x : Expr). (eval m x env).reads) (view-Apply at op operands) ∙ rw pick refl in
-    let which : (eval_nth m es n env).reads ≡ (eval_nth m es (operand_taken (eval_nth m es 0 env).value) env).reads =
-    ap (λ (k : ℕ). (eval_nth m es k env).reads)
-    (choice ∙ ap operand_taken value
-    ∙ ap (λ (l : List Expression). operand_taken (eval_nth m (exprs_view l) 0 env).value) items) in
-    second ∙ ap (λ l. l ++ (eval_nth m (exprs_view slice) n env).reads) first ∙ append_assoc old _ _
-    ∙ ap (λ (l : List Expression). old
-    ++ ((eval_nth m (exprs_view l) 0 env).reads ++ (eval_nth m (exprs_view l) n env).reads)) items
-    ∙ ap (λ l. old ++ ((eval_nth m es 0 env).reads ++ l)) which ∙ ap (λ l. old ++ l) (sym whole)
-
 -- A part of the reads.
-
-pub grew_done : (old mid front back : List ℕ) → mid ≡ old ++ front → Grew old mid (front ++ back)
-grew_done old mid front back e = record { rest = back; is = ap (λ l. l ++ back) e ∙ append_assoc old front back }
 
 pub all_part : (m : Map) (es : List Expression) (i : ℕ) (e : Expression) (env : Bindings) (old mid new : List ℕ)
     → i < length es → e ≡ get_or es i e →
@@ -75,18 +46,6 @@ all_part m es i e env old mid new below is so_far part =
     ++ ((eval m (expr_view x) env).reads ++ (eval_all m (exprs_view (drop (suc i) es)) env).reads)) (sym is) in
     grew_left old mid new _ _ (sym here ∙ so_far)
     (grew_front mid new (eval m (expr_view e) env).reads (eval_all m (exprs_view (drop (suc i) es)) env).reads part)
-
-pub named_part : (m : Map) (ns : List Named) (i : ℕ) (n : Named) (env : Bindings) (old mid new : List ℕ) → i < length ns
-    → n ≡ get_or ns i n →
-    mid ++ (eval_named m (nameds_view (drop i ns)) env).reads ≡ old ++ (eval_named m (nameds_view ns) env).reads
-    → Grew mid new (eval m (expr_view n.value) env).reads → Grew old new (eval_named m (nameds_view ns) env).reads
-named_part m ns i n env old mid new below is so_far part =
-    let here = ap (λ (l : List Named). mid ++ (eval_named m (nameds_view l) env).reads) (drop-cons ns i n below)
-    ∙ ap (λ (x : Named). mid ++ ((eval m (expr_view x.value) env).reads
-    ++ (eval_named m (nameds_view (drop (suc i) ns)) env).reads)) (sym is) in
-    grew_left old mid new _ _ (sym here ∙ so_far)
-    (grew_front mid new (eval m (expr_view n.value) env).reads (eval_named m (nameds_view (drop (suc i) ns))
-    env).reads part)
 
 -- The first two values.
 
@@ -144,18 +103,3 @@ gathered_is l (z ∷ zs) few = more_of (nat_lt (length l) most_items) l z zs ref
 
 pub gathered_whole : (zs : List ℤ) → list_with_all [] zs ≡ take most_items zs
 gathered_whole zs = gathered_is [] zs (omega arith)
-
--- Lemmas on the evaluation of an expression.
-pub ruleset evaluation = (
-  view-Literal,
-  view-Variable,
-  view-Get,
-  view-Apply,
-  grew_front,
-  grew_behind,
-  grew_done,
-  grew_all,
-  apply_two,
-  flat_nth,
-  pick_reads,
-)

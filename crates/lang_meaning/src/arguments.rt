@@ -16,7 +16,6 @@ use std::alloc::Global;
 
 /// Evaluates expressions from left to right, and appends their reads to `reads`. Uses `room` as a scratch buffer. After
 /// `NoMemory` `reads` has no meaning.
-#[tactic(auto, using(crate::proofs::Operands::evaluation, crate::proofs::Operands::all_part))]
 pub fn evaluate_all<V: View>(
     alloc: Global,
     room: Values,
@@ -48,7 +47,6 @@ pub fn evaluate_all<V: View>(
 
 /// Evaluates keys from left to right, and appends their reads to `reads`. Returns the scope in which the value of a
 /// cell is calculated. Uses `room` as a scratch buffer. After `NoMemory` `reads` has no meaning.
-#[tactic(auto, using(crate::proofs::Operands::evaluation, crate::proofs::Operands::named_part))]
 pub fn evaluate_keys<V: View>(
     alloc: Global,
     room: Env,
@@ -81,7 +79,6 @@ pub fn evaluate_keys<V: View>(
 
 /// Evaluates the attributes of a node from left to right, and appends their reads to `reads`. Uses `room` as a
 /// scratch buffer. After `NoMemory` `reads` has no meaning.
-#[tactic(auto, using(crate::proofs::Operands::evaluation, crate::proofs::Operands::named_part))]
 pub fn evaluate_attributes<V: View>(
     alloc: Global,
     room: Attributes,
