@@ -7,8 +7,8 @@ use Rattle.lang_meaning.specs.Operands.{pair, pair_from, pair_with, list_with_al
 use Rattle.lang_meaning.specs.declared.applying.Pair.{Pair}
 use Rattle.lang_meaning.proofs.Operands.{nth_found, nth_none}
 use Rattle.lang_meaning.proofs.Flats.{flat_at, nth_flat}
-use Rattle.lang_meaning.proofs.Grows.{grew_all}
-use Rattle.lang_meaning.proofs.Evaluating.{evaluated_pure, evaluated_as, literal_evaluated, variable_evaluated, get_stop, apply_view, pick_stop, pick_evaluated, list_stop, list_evaluated, two_stop, two_evaluated, progress_first, progress_more, progress_done, progress_stop, pairs_first, numbers_first}
+use Rattle.lang_meaning.proofs.Grows.{grew_all, grew_none}
+use Rattle.lang_meaning.proofs.Evaluating.{evaluated_pure, evaluated_as, evaluated_stop, literal_evaluated, variable_evaluated, get_stop, apply_view, pick_stop, pick_evaluated, list_stop, list_evaluated, two_stop, two_evaluated, progress_first, progress_more, progress_done, progress_stop, pairs_first, numbers_first}
 use Rattle.lang_meaning.proofs.evaluation.+evaluate.Goals as goal
 
 -- Literals, variables and reads of state objects.
@@ -202,7 +202,7 @@ pub eval_numbers-loop-expression-init : goal.eval_numbers-loop-expression-init
 eval_numbers-loop-expression-init g t c = record {
   keeps = g.met.V.View.keeps_itself _;
   same = λ m h. h;
-  going = λ m h. progress_first _ _ _ _ _ (numbers_first m c.args.operands.now c.args.scope.now _ c.new-list.ensures);
+  going = λ m h. progress_first _ _ _ _ _ (numbers_first m c.args.operands.now c.args.scope.now _ c.in_ok-list.ensures);
 }
 
 pub eval_numbers-loop-expression-preserved : goal.eval_numbers-loop-expression-preserved
@@ -220,9 +220,18 @@ eval_numbers-loop-expression-preserved g t c =
           (λ vs. ap (λ (l : List ℤ). list_with_all l (map number_of vs)) more);
     }
 
+pub eval_numbers-returns-in_err-list : goal.eval_numbers-returns-in_err-list
+eval_numbers-returns-in_err-list g t c =
+    let err : IsErr c.from_residual.result = c.from_residual.ensures.0 in
+    record {
+      keeps = g.met.V.View.keeps_itself _;
+      same = λ m h. h;
+      gives = λ m h. evaluated_stop _ _ _ _ _ _ _ _ _ err (grew_none _ _) (λ n q f. cc);
+    }
+
 pub eval_numbers-returns-in_err-value : goal.eval_numbers-returns-in_err-value
 eval_numbers-returns-in_err-value g t c =
-    let err : IsErr c.from_residual.result = c.from_residual.ensures.0 in
+    let err : IsErr c.from_residual-in_err-value.result = c.from_residual-in_err-value.ensures.0 in
     record {
       keeps = g.met.V.View.keeps_on _ _ _ c.loop-expression.invariant.keeps c.in_err-value.ensures.keeps;
       same = λ m h. c.in_err-value.ensures.same m (c.loop-expression.invariant.same m h);
