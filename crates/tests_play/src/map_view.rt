@@ -44,7 +44,7 @@ impl View for MapView {
 /// A view of the map in which object 0 is a list of `items`, and the objects after it are `numbers`.
 pub fn view_of(alloc: Global, items: &[i64], numbers: &[i64]) -> Result<MapView, Fail> {
     let mut map = Map::new(alloc);
-    let mut list = IntList::new(alloc);
+    let mut list = IntList::new(alloc)?;
     list.extend(items)?;
     map.push(StampedValue {
         value: Value::Ints(list),

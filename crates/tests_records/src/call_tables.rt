@@ -27,7 +27,7 @@ impl Literal {
             Literal::Int(number) => Ok(Value::Int(number)),
             Literal::Bool(truth) => Ok(Value::Bool(truth)),
             Literal::Ints(items) => {
-                let mut list = IntList::new(alloc);
+                let mut list = IntList::new(alloc)?;
                 list.extend(items)?;
                 Ok(Value::Ints(list))
             }

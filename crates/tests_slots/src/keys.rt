@@ -29,7 +29,7 @@ fn equal_siblings_are_matched_in_order(rt: HostRuntime) -> Result<(), Fail> {
 #[test]
 fn site_and_value_tell_siblings_apart(rt: HostRuntime) -> Result<(), Fail> {
     let alloc = rt.alloc();
-    let mut three = IntList::new(alloc);
+    let mut three = IntList::new(alloc)?;
     three.push(3)?;
     let values = [
         Value::Int(3),

@@ -115,7 +115,7 @@ fn lists_are_appended(rt: HostRuntime) -> Result<(), Fail> {
 #[test]
 fn lists_that_are_too_long_together_conflict(rt: HostRuntime) -> Result<(), Fail> {
     let alloc = rt.alloc();
-    let none = Value::Ints(IntList::new(alloc));
+    let none = Value::Ints(IntList::new(alloc)?);
     let one = Value::Ints(IntList::range(alloc, 0, 1)?);
     let rows = [(4095, Some(4096)), (4096, None)];
     for (len, merged) in &rows {

@@ -88,7 +88,7 @@ fn quotients_go_towards_zero(rt: HostRuntime) -> Result<(), Fail> {
 
 // Joins `times` copies of a text.
 fn repeated(alloc: Global, piece: &Txt, times: u64) -> Result<Txt, NoMemory> {
-    let mut text = Txt::new(alloc);
+    let mut text = Txt::new(alloc)?;
     for _ in 0..times {
         text = Txt::join(alloc, &text, piece)?;
     }
@@ -114,7 +114,7 @@ fn texts_are_cut_between_characters(rt: HostRuntime) -> Result<(), Fail> {
         assert_eq!(rt; text.bytes().len(), *len);
     }
     let both = Txt::join(alloc, &two_bytes, &four_bytes)?;
-    assert_eq!(rt; both.copy(alloc)?.as_str(), "ä😀");
+    assert_eq!(rt; both.copy()?.as_str(), "ä😀");
     Ok(())
 }
 
@@ -166,6 +166,10 @@ fn lists_keep_their_limit(rt: HostRuntime) -> Result<(), Fail> {
     list.push(3)?;
     list.concat(&IntList::of(alloc, &[4, 5])?)?;
     assert_eq!(rt; list.items(), [1i64, 2, 3, 4, 5].as_slice());
+    let mut longer = list.copy()?;
+    longer.push(6)?;
+    assert_eq!(rt; longer.items(), [1i64, 2, 3, 4, 5, 6].as_slice());
+    assert_eq!(rt; list.items(), [1i64, 2, 3, 4, 5].as_slice());
     assert_eq!(rt; list.at(0), 1);
     assert_eq!(rt; list.at(4), 5);
     assert_eq!(rt; list.at(5), 0);
@@ -187,13 +191,13 @@ fn other_types_read_as_defaults(rt: HostRuntime) -> Result<(), Fail> {
     assert!(rt; text.number() == 0 && !text.is_true() && text.items().is_empty());
     assert!(rt; Value::Int(3).number() == 3 && Value::Bool(true).is_true());
     assert!(rt; list.chars().is_empty() && text.chars() == "ab");
-    assert_eq!(rt; text.copy(alloc)?.into_text(alloc).as_str(), "ab");
-    assert_eq!(rt; text.into_list(alloc).len(), 0);
+    assert_eq!(rt; text.copy(alloc)?.into_text(alloc)?.as_str(), "ab");
+    assert_eq!(rt; text.into_list(alloc)?.len(), 0);
     assert_eq!(rt;
-        list.copy(alloc)?.into_list(alloc).items(),
+        list.copy(alloc)?.into_list(alloc)?.items(),
         [7i64].as_slice()
     );
-    assert_eq!(rt; list.into_text(alloc).as_str(), "");
+    assert_eq!(rt; list.into_text(alloc)?.as_str(), "");
     Ok(())
 }
 
@@ -204,12 +208,12 @@ fn values_are_printed_as_literals(rt: HostRuntime) -> Result<(), Fail> {
         (Value::Int(-7), "-7"),
         (Value::Bool(true), "true"),
         (Value::Bool(false), "false"),
-        (Value::Text(Txt::new(alloc)), "\"\""),
+        (Value::Text(Txt::new(alloc)?), "\"\""),
         (Value::Text(Txt::from_str(alloc, "a\"b")?), "\"a\\\"b\""),
         (Value::Text(Txt::from_str(alloc, "a\\b")?), "\"a\\\\b\""),
         (Value::Text(Txt::from_str(alloc, "a\nb")?), "\"a\\nb\""),
         (Value::Text(Txt::from_str(alloc, "\tä")?), "\"\tä\""),
-        (Value::Ints(IntList::new(alloc)), "(ints)"),
+        (Value::Ints(IntList::new(alloc)?), "(ints)"),
         (Value::Ints(IntList::of(alloc, &[1, -2])?), "(ints 1 -2)"),
     ];
     for (value, literal) in &rows {
@@ -226,8 +230,8 @@ fn values_of_two_types_differ(rt: HostRuntime) -> Result<(), Fail> {
     let values = [
         Value::Int(0),
         Value::Bool(false),
-        Value::Text(Txt::new(alloc)),
-        Value::Ints(IntList::new(alloc)),
+        Value::Text(Txt::new(alloc)?),
+        Value::Ints(IntList::new(alloc)?),
         Value::Int(1),
         Value::Bool(true),
         Value::Text(Txt::from_str(alloc, "1")?),
