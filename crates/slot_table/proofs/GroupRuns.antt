@@ -9,7 +9,8 @@ one_longer [] k d inside = absurd (omega (arith, inside))
 one_longer (g ∷ gs) zero d inside = refl
 one_longer (g ∷ gs) (suc k) d inside = ap (λ l. g ∷ l) (one_longer gs k d (omega (arith, inside)))
 
-run_grows : (gs : List Group) (from i : ℕ) → from ≤ i → i < length gs
+-- A run with one more group.
+pub run_grows : (gs : List Group) (from i : ℕ) → from ≤ i → i < length gs
     → take ((i + 1) - from) (drop from gs) ≡ take (i - from) (drop from gs) ++ group_at gs i ∷ []
 run_grows gs from i low inside =
     let k : ℕ = i - from in

@@ -155,3 +155,29 @@ counted gs counts e i next size d known s inside is deeper so_far =
     let after = ap (λ l. length (leading_deep (d + 1) l)) later in
     let whole = so_far.2 in
     (omega (arith, low), fits, omega (arith, one, split, told, after, whole, low))
+
+leading_set : (d : ℕ) (gs : List Group) (i : ℕ) (g h : Group) → g.depth ≡ (get_or gs i h).depth
+    → length (leading_deep d (set gs i g)) ≡ length (leading_deep d gs)
+leading_set d [] i g h same = refl
+leading_set d (x ∷ gs) zero g h same =
+    ap (λ k. length (if nat_le d k then g ∷ leading_deep d gs else [])) same ∙ by (nat_le d x.depth)
+  where
+    by : (b : Bool)
+        → length (if b then g ∷ leading_deep d gs else []) ≡ length (if b then x ∷ leading_deep d gs else [])
+    by true = refl
+    by false = refl
+leading_set d (x ∷ gs) (suc i) g h same = by (nat_le d x.depth) (leading_set d gs i g h same)
+  where
+    by : (b : Bool) → length (leading_deep d (set gs i g)) ≡ length (leading_deep d gs)
+        → length (if b then x ∷ leading_deep d (set gs i g) else []) ≡ length (if b then x ∷ leading_deep d gs else [])
+    by true e = ap suc e
+    by false e = refl
+
+-- The counts stay if a group is replaced by a group of the same depth.
+pub counts_set : (gs : List Group) (i : ℕ) (g h : Group) → g.depth ≡ (get_or gs i h).depth
+    → inner_counts (set gs i g) ≡ inner_counts gs
+counts_set [] i g h same = refl
+counts_set (x ∷ gs) zero g h same = ap (λ k. length (leading_deep (k + 1) gs) ∷ inner_counts gs) same
+counts_set (x ∷ gs) (suc i) g h same =
+    ap (λ n. n ∷ inner_counts (set gs i g)) (leading_set (x.depth + 1) gs i g h same)
+    ∙ ap (λ l. length (leading_deep (x.depth + 1) gs) ∷ l) (counts_set gs i g h same)

@@ -1,13 +1,13 @@
 -- The groups of two buffers, part by part.
 use Rattle.std.proofs.Common.{◌≡◌, ◌<◌, ℕ, zero, suc, Bool, false, List, [], ◌∷◌, ◌++◌, length, map, get_or, set, refl, sym, subst, ap, ◌∙◌, arith}
 use Rattle.std.proofs.Common.{length-set}
-use Rattle.std.proofs.lemmas.List.{map-append, length-append}
+use Rattle.std.proofs.lemmas.List.{map-append, map-set, length-append}
 use Rattle.rt_groups.specs.declared.groups.Group.{Group}
 use Rattle.rt_groups.specs.PreorderGroups.{flat_group}
 use Rattle.slot_table.specs.declared.storage.GroupHead.{GroupHead}
 use Rattle.slot_table.specs.SharedSlots.{GroupSlots}
 use Rattle.slot_table.specs.TableGroups.{group_at, is_node_kind, with_reads}
-use Rattle.slot_table.specs.Storage.{joined_groups, KnowNodes, AreParts}
+use Rattle.slot_table.specs.Storage.{joined_groups, KnowNodes, AreParts, IsPopped}
 
 pub joined_count : (hs : List GroupHead) (ss : List GroupSlots) → length hs ≡ length ss
     → length (joined_groups hs ss) ≡ length hs
@@ -168,4 +168,64 @@ set_parts hs ss gs i s old reads parts inside is what own =
           ∙ ap (λ r. set gs i (with_reads (group_at gs i) r)) own;
       long = parts.long ∙ sym (length-set ss i s);
       nodes = parts.nodes ∙ sym (kinds_set ss i s old (omega (arith, within, long)) (what ∙ ap (λ x. x.what) is));
+    }
+
+joined_put : (hs : List GroupHead) (ss : List GroupSlots) (i : ℕ) (h : GroupHead) (s : GroupSlots)
+    → length hs ≡ length ss → joined_groups (set hs i h) (set ss i s)
+    ≡ set (joined_groups hs ss) i (flat_group h.depth h.site h.number s.what s.reads)
+joined_put [] [] i h s e = refl
+joined_put [] (y ∷ ss) i h s e = absurd (omega (arith, e))
+joined_put (x ∷ hs) [] i h s e = absurd (omega (arith, e))
+joined_put (x ∷ hs) (y ∷ ss) zero h s e = refl
+joined_put (x ∷ hs) (y ∷ ss) (suc i) h s e = ap (λ l. flat_group x.depth x.site x.number y.what y.reads ∷ l)
+    (joined_put hs ss i h s (omega (arith, e)))
+
+-- A group is replaced by replacing its head and its slots.
+pub put_parts : (hs hs' : List GroupHead) (ss ss' : List GroupSlots) (gs : List Group) (i : ℕ) (h : GroupHead)
+    (s : GroupSlots) → AreParts hs ss gs → h.is_node ≡ is_node_kind s.what → hs' ≡ set hs i h → ss' ≡ set ss i s
+    → AreParts hs' ss' (set gs i (flat_group h.depth h.site h.number s.what s.reads))
+put_parts hs hs' ss ss' gs i h s parts same eh es =
+    let g : Group = flat_group h.depth h.site h.number s.what s.reads in
+    subst (λ l. AreParts l ss' (set gs i g)) (sym eh)
+    (subst (λ l. AreParts (set hs i h) l (set gs i g)) (sym es) (record {
+      joined = joined_put hs ss i h s parts.long ∙ ap (λ l. set l i g) parts.joined;
+      long = length-set hs i h ∙ parts.long ∙ sym (length-set ss i s);
+      nodes = map-set (λ x. x.is_node) hs i h ∙ ap (λ l. set l i h.is_node) parts.nodes
+          ∙ ap (λ b. set (map (λ x. is_node_kind x.what) ss) i b) same
+          ∙ sym (map-set (λ x. is_node_kind x.what) ss i s);
+    }))
+
+known_front : (hs : List GroupHead) (ss : List GroupSlots) (h : GroupHead) (s : GroupSlots) → length hs ≡ length ss
+    → KnowNodes (hs ++ h ∷ []) (ss ++ s ∷ []) → KnowNodes hs ss × (h.is_node ≡ is_node_kind s.what)
+known_front [] [] h s e known = (refl, ap first_of known)
+known_front [] (y ∷ ss) h s e known = absurd (omega (arith, e))
+known_front (x ∷ hs) [] h s e known = absurd (omega (arith, e))
+known_front (x ∷ hs) (y ∷ ss) h s e known =
+    let later = known_front hs ss h s (omega (arith, e)) (ap rest_of known) in (
+      ap (λ b. b ∷ map (λ x. x.is_node) hs) (ap first_of known)
+          ∙ ap (λ l. is_node_kind y.what ∷ l) later.0,
+      later.1,
+    )
+
+-- The last group is removed by removing its head and its slots.
+pub record ArePopped (hs : List GroupHead) (ss : List GroupSlots) (h : GroupHead) (s : GroupSlots) (gs : List Group)
+    : Type 0 where
+  pub long : length hs ≡ length ss
+  pub nodes : KnowNodes hs ss
+  pub popped : IsPopped h s gs (joined_groups hs ss)
+
+pub popped_parts : (hs hs' : List GroupHead) (ss ss' : List GroupSlots) (gs : List Group) (h : GroupHead)
+    (s : GroupSlots) → AreParts hs ss gs → hs ≡ hs' ++ h ∷ [] → ss ≡ ss' ++ s ∷ [] → ArePopped hs' ss' h s gs
+popped_parts hs hs' ss ss' gs h s parts eh es =
+    let whole : AreParts (hs' ++ h ∷ []) (ss' ++ s ∷ []) gs =
+    subst (λ l. AreParts l (ss' ++ s ∷ []) gs) eh (subst (λ l. AreParts hs l gs) es parts) in
+    let one = length-append hs' (h ∷ []) in
+    let two = length-append ss' (s ∷ []) in
+    let both = whole.long in
+    let long : length hs' ≡ length ss' = omega (arith, one, two, both) in
+    let known = known_front hs' ss' h s long whole.nodes in
+    record {
+      long = long;
+      nodes = known.0;
+      popped = record { last = sym whole.joined ∙ joined_last hs' ss' h s long; node = known.1 };
     }

@@ -1,4 +1,7 @@
+mod ChangesInPlace
+mod EmptyStruct
 mod InnerCounts
+mod KeptRuns
 mod OpenGroups
 mod Siblings
 mod GroupRuns

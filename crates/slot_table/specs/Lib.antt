@@ -4,3 +4,6 @@ pub mod InnerCounts
 pub mod SharedSlots
 pub mod Storage
 pub mod Siblings
+pub mod ChangeLists
+pub mod KeptRuns
+pub mod AppliedChanges

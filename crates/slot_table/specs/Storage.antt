@@ -1,5 +1,5 @@
 -- Internal: the groups of a table from its two gap buffers. No public clause cites this module.
-use Rattle.std.specs.Prelude.{◌≡◌, List, [], ◌∷◌, length, map}
+use Rattle.std.specs.Prelude.{◌≡◌, List, [], ◌∷◌, ◌++◌, length, map}
 use Rattle.rt_groups.specs.declared.groups.Group.{Group}
 use Rattle.rt_groups.specs.PreorderGroups.{flat_group}
 use Rattle.slot_table.specs.declared.storage.GroupHead.{GroupHead}
@@ -21,3 +21,8 @@ pub record AreParts (hs : List GroupHead) (ss : List GroupSlots) (groups : List 
   pub joined : joined_groups hs ss ≡ groups
   pub long : length hs ≡ length ss
   pub nodes : KnowNodes hs ss
+
+-- The parts are those of the last group.
+pub record IsPopped (h : GroupHead) (s : GroupSlots) (old new : List Group) : Type 0 where
+  pub last : old ≡ new ++ flat_group h.depth h.site h.number s.what s.reads ∷ []
+  pub node : h.is_node ≡ is_node_kind s.what

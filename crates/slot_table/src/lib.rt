@@ -4,17 +4,21 @@
 //! groups in preorder (`specs/TableGroups.antt`), and the reader as the groups that are left and the open groups
 //! (`specs/ReaderStates.antt`). The table keeps for each group the number of groups inside it, so a skip takes constant
 //! time. The fields of fixed size and the slots are in two gap buffers, and tables that have the same group
-//! share its slots. Only `slot_edit` changes a table; other
-//! crates read it. Promises: a reader visits exactly the table's groups, counts one step for each group that it
-//! opens, and lends their values without a copy.
+//! share its slots. `ChangeListWriter` writes a new frame as changes of a table, as the `ComposerChangeListWriter` of
+//! Compose, and `Table::apply` applies the changes. `slot_edit` changes a table group by group; other crates read it.
+//! Promises: a reader visits exactly the table's groups, counts one step for each group that it opens, and lends their
+//! values without a copy. Applied changes give exactly the groups that were written.
 #![tactic(auto)]
 
 ghost use Rattle.slot_table.specs.Siblings.{SkippingLeavesTheSiblings};
 
+mod changes;
+mod groups_before;
 mod reader;
 mod storage;
 mod table;
 
+pub use changes::{ChangeList, ChangeListWriter, Preview};
 pub use reader::Reader;
 pub use storage::{SharedGroup, TableBuilder};
 pub use table::Table;

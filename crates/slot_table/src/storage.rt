@@ -1,7 +1,7 @@
 // The parts of the groups of a table, in two gap buffers.
-ghost use Rattle.std.specs.Prelude.{◌≡◌, ◌<◌, ◌++◌, ◌∷◌, [], IfOk, OnOk, OnErr, length, slice_set, vec_len, vec_capacity};
+ghost use Rattle.std.specs.Prelude.{◌≡◌, ◌≤◌, ◌<◌, ◌-◌, ◌++◌, ◌∷◌, [], IfOk, OnOk, OnErr, MatchOption, length, take, drop, slice_set, vec_len, vec_capacity};
 ghost use Rattle.rt_groups.specs.PreorderGroups.{flat_group};
-ghost use Rattle.slot_table.specs.Storage.{AreParts};
+ghost use Rattle.slot_table.specs.Storage.{AreParts, IsPopped};
 ghost use Rattle.slot_table.specs.TableGroups.{group_at, is_node_kind, with_reads};
 
 use gap_buffer::GapBuf;
@@ -319,7 +319,7 @@ impl SharedGroup {
 
 // Makes capacity for one more item. Checks for spare capacity inline, since most calls find some.
 #[inline(always)]
-fn make_room<T>(items: &mut Vec<T>) -> Result<(), NoMemory>
+pub(crate) fn make_room<T>(items: &mut Vec<T>) -> Result<(), NoMemory>
     ensures items { items.new.items ≡ items.old.items }
     ensures room { OnOk result (vec_len items.new < vec_capacity items.new) }
 {
@@ -381,10 +381,22 @@ impl TableBuilder {
     fn head(&self, i: usize) -> &PackedHead
         requires { i < length self.now }
         ensures depth { result.now.depth ≡ (group_at self.now i).depth }
+        ensures site { result.now.site ≡ (group_at self.now i).site }
+        ensures number { result.now.number ≡ (group_at self.now i).number }
         ensures node { result.now.is_node ≡ is_node_kind (group_at self.now i).what }
     {
         let _length = self.heads.len();
         &self.heads[i]
+    }
+
+    // Returns the slots of the group at index `i`.
+    fn slot(&self, i: usize) -> &Slots
+        requires { i < length self.now }
+        ensures what { result.now.what ≡ (group_at self.now i).what }
+        ensures reads { result.now.reads ≡ (group_at self.now i).reads }
+    {
+        let _length = self.slots.len();
+        &self.slots[i]
     }
 
     /// Returns the depth of the group at index `i`.
@@ -467,6 +479,65 @@ impl TableBuilder {
         let slots = self.slots[i].with_reads(alloc, reads)?;
         self.slots[i] = slots;
         Ok(())
+    }
+
+    // Appends the groups of this builder from index `from` to before index `to` to `groups`. They share their slots.
+    pub(crate) fn share_run(
+        &self,
+        from: usize,
+        to: usize,
+        groups: &mut TableBuilder,
+    ) -> Result<(), NoMemory>
+        requires order { from ≤ to }
+        requires inside { to ≤ length self.now }
+        ensures { OnOk result (groups.new ≡ groups.old ++ take (to - from) (drop from self.now)) }
+    {
+        for i in from..to {
+            groups.push_sharing(self.head(i), self.slot(i))?;
+        }
+        Ok(())
+    }
+
+    // Replaces the group at index `place` by the group at index `i` of `groups`, which shares its slots.
+    pub(crate) fn set_sharing(
+        &mut self,
+        place: usize,
+        groups: &TableBuilder,
+        i: usize,
+    ) -> Result<(), NoMemory>
+        requires place { place < length self.old }
+        requires index { i < length groups.now }
+        ensures { OnOk result (self.new ≡ slice_set self.old place (group_at groups.now i)) }
+    {
+        let slots = groups.slot(i).copy()?;
+        self.set_parts(place, groups.head(i).copy(), slots);
+        Ok(())
+    }
+
+    // Replaces the group at index `i` by the group with this head and these slots.
+    fn set_parts(&mut self, i: usize, head: PackedHead, slots: Slots)
+        requires index { i < length self.old }
+        requires node { head.is_node ≡ is_node_kind slots.what }
+        ensures { self.new ≡ slice_set self.old i (flat_group head.depth head.site head.number slots.what slots.reads) }
+    {
+        let _length = self.heads.len();
+        let _slots = self.slots.len();
+        self.heads[i] = head;
+        self.slots[i] = slots;
+    }
+
+    // Removes and returns the parts of the last group.
+    #[inline(always)]
+    pub(crate) fn pop(&mut self) -> Option<(PackedHead, Slots)>
+        ensures { MatchOption result (self.old ≡ []) (λ p. IsPopped p.0 p.1 self.old self.new) }
+    {
+        let Some(head) = self.heads.pop() else {
+            return None;
+        };
+        let Some(slots) = self.slots.pop() else {
+            unreachable!();
+        };
+        Some((head, slots))
     }
 
     // Returns the parts of all groups.

@@ -1,7 +1,9 @@
 // The groups of a composition.
-ghost use Rattle.std.specs.Prelude.{◌≡◌, ◌≤◌, ◌<◌, ◌+◌, ◌-◌, ◌++◌, ◌∷◌, [], List, length, drop, take, slice_index_or, IfOk, OnOk};
+ghost use Rattle.std.specs.Prelude.{◌≡◌, ◌≤◌, ◌<◌, ◌+◌, ◌-◌, ◌++◌, ◌∷◌, [], List, length, drop, take, slice_index_or, slice_set, IfOk, OnOk};
 ghost use Rattle.rt_groups.specs.declared.groups.Group.{Group as group_data};
 ghost use Rattle.slot_table.specs.TableGroups.{group_at, is_node_kind};
+ghost use Rattle.rt_groups.specs.PreorderGroups.{flat_group};
+ghost use Rattle.slot_table.specs.ChangeLists.{nodes_in};
 ghost use Rattle.slot_table.specs.ReaderStates.{after_deep};
 ghost use Rattle.slot_table.specs.InnerCounts.{leading_deep, inner_counts};
 
@@ -178,6 +180,42 @@ impl Table {
             groups.push_sharing(self.head(i), self.slot(i))?;
         }
         Ok(())
+    }
+
+    // Counts the nodes among the groups from index `from` to before index `to`.
+    #[inline]
+    pub(crate) fn count_nodes(&self, from: usize, to: usize) -> usize
+        requires order { from ≤ to }
+        requires inside { to ≤ length self.now.groups }
+        ensures { result ≡ nodes_in (take (to - from) (drop from self.now.groups)) }
+    {
+        let mut nodes = 0;
+        for i in from..to {
+            nodes += self.count_node(i);
+        }
+        nodes
+    }
+
+    // Counts the group at index `i` if it is a node.
+    #[inline(always)]
+    fn count_node(&self, i: usize) -> usize
+        requires { i < length self.now.groups }
+        ensures { result ≡ nodes_in (group_at self.now.groups i ∷ []) }
+    {
+        if self.is_node(i) { 1 } else { 0 }
+    }
+
+    // Replaces the group at index `i` by the group with this head and these slots, which has the same depth.
+    #[inline(always)]
+    pub(crate) fn set_group(&mut self, i: usize, head: PackedHead, slots: Slots)
+        requires index { i < length self.old.groups }
+        requires node { head.is_node ≡ is_node_kind slots.what }
+        requires depth { head.depth ≡ (group_at self.old.groups i).depth }
+        ensures { self.new.groups
+            ≡ slice_set self.old.groups i (flat_group head.depth head.site head.number slots.what slots.reads) }
+    {
+        self.groups.set(i, head);
+        self.slots.set(i, slots);
     }
 
     /// Returns the index after the group at index `i` and all groups inside it.

@@ -5,6 +5,8 @@
 #[cfg(test)]
 mod cells;
 #[cfg(test)]
+mod changes;
+#[cfg(test)]
 mod edits;
 #[cfg(test)]
 mod gap_buffers;

@@ -16,3 +16,11 @@ returns-clause-depth c = (head_is c.args.self.now c.self.inside.heads.items c.se
 pub returns-clause-node : goal.returns-clause-node
 returns-clause-node c = node_is c.args.self.now c.self.inside.heads.items c.self.inside.slots.items c.args.i
     c.index.result.now c.self.view_is c.self.invariant.1 c.self.invariant.0 c.requires c.index.ensures
+
+pub returns-clause-site : goal.returns-clause-site
+returns-clause-site c = (head_is c.args.self.now c.self.inside.heads.items c.self.inside.slots.items c.args.i
+    c.index.result.now c.self.view_is c.self.invariant.0 c.requires c.index.ensures).1
+
+pub returns-clause-number : goal.returns-clause-number
+returns-clause-number c = (head_is c.args.self.now c.self.inside.heads.items c.self.inside.slots.items c.args.i
+    c.index.result.now c.self.view_is c.self.invariant.0 c.requires c.index.ensures).2

@@ -1,0 +1,24 @@
+-- Internal: the two forms of a change list and of its preview. No public clause cites this module.
+use Rattle.std.specs.Prelude.{◌≡◌, List, length}
+use Rattle.rt_groups.specs.declared.groups.Group.{Group}
+use Rattle.slot_table.specs.TableGroups.{TableGroups}
+use Rattle.slot_table.specs.KeptRuns.{set_all, KeepDepths}
+use Rattle.slot_table.specs.declared.changes.Change.{Change}
+use Rattle.slot_table.specs.declared.changes.Change.TheVariants as change
+use Rattle.slot_table.specs.declared.changes.PreviewForm.{PreviewForm}
+use Rattle.slot_table.specs.declared.changes.PreviewForm.TheVariants as form
+
+-- The groups of the new frame.
+abbrev pub changed_groups : List Group → Change → List Group
+changed_groups olds (change.Whole table) = table.groups
+changed_groups olds (change.InPlace fresh places) = set_all olds places.items fresh
+
+-- Groups that are changed in place keep their depths.
+abbrev pub IsChange : List Group → Change → Type 0
+IsChange olds (change.Whole table) = Unit {0}
+IsChange olds (change.InPlace fresh places) = (length places.items ≡ length fresh) × KeepDepths olds places.items fresh
+
+-- The table of a preview.
+abbrev pub preview_table : PreviewForm → TableGroups
+preview_table (form.Held table) = table.now
+preview_table (form.Made table) = table

@@ -1,0 +1,66 @@
+-- Internal: the groups of a new frame as runs of old groups and new groups. No public clause cites this module.
+use Rattle.std.specs.Prelude.{ℕ, ◌+◌, ◌-◌, ◌≡◌, ◌≤◌, ◌<◌, List, [], ◌∷◌, ◌++◌, length, take, drop, slice_set, slice_index_or}
+use Rattle.rt_groups.specs.declared.groups.Group.{Group}
+use Rattle.slot_table.specs.TableGroups.{group_at}
+use Rattle.slot_table.specs.ChangeLists.{nodes_in}
+use Rattle.slot_table.specs.declared.changes.KeptRun.{KeptRun}
+
+-- The old groups of a run.
+abbrev pub run_groups : List Group → KeptRun → List Group
+run_groups olds r = take (r.to - r.from) (drop r.from olds)
+
+-- The groups of the new frame: before each run its number of new groups, then the old groups of the run, and after the
+-- last run the other new groups.
+abbrev pub patched : List Group → List Group → List KeptRun → List Group
+patched olds fresh [] = fresh
+patched olds fresh (r ∷ rs) = take r.gap fresh ++ (run_groups olds r ++ patched olds (drop r.gap fresh) rs)
+
+-- The number of new groups before the last run and the earlier runs.
+abbrev pub gaps : List KeptRun → ℕ
+gaps [] = 0
+gaps (r ∷ rs) = r.gap + gaps rs
+
+-- Each run is inside the old groups.
+abbrev pub AreInside : List Group → List KeptRun → Type 0
+AreInside olds [] = Unit {0}
+AreInside olds (r ∷ rs) = (r.from ≤ r.to) × (r.to ≤ length olds) × AreInside olds rs
+
+-- Each run has the same indexes in the new frame, if this number of groups is before the runs.
+abbrev pub HaveOwnIndexes : ℕ → List KeptRun → Type 0
+HaveOwnIndexes at [] = Unit {0}
+HaveOwnIndexes at (r ∷ rs) = (r.from ≡ at + r.gap) × HaveOwnIndexes r.to rs
+
+-- Each of `n` new groups is at its place in the new frame, whatever the new groups are.
+abbrev pub ArePlaces : List Group → List KeptRun → ℕ → List ℕ → Type 0
+ArePlaces olds rs n places = (fresh : List Group) (i : ℕ) (g : Group) → length fresh ≡ n → i < n
+    → (slice_index_or places i 0 < length (patched olds fresh rs))
+    × (patched olds (slice_set fresh i g) rs ≡ slice_set (patched olds fresh rs) (slice_index_or places i 0) g)
+
+-- What a writer keeps: the places of its new groups, the number of new groups before the last run, and the numbers of
+-- groups and of nodes.
+pub record IsWritten (olds fresh : List Group) (rs : List KeptRun) (ps : List ℕ) (before len nodes : ℕ) : Type 0 where
+  pub inside : AreInside olds rs
+  pub gaps_are : before ≡ gaps rs
+  pub fits : before ≤ length fresh
+  pub long : length ps ≡ length fresh
+  pub placed : ArePlaces olds rs (length fresh) ps
+  pub len_is : len ≡ length (patched olds fresh rs)
+  pub nodes_are : nodes ≡ nodes_in (patched olds fresh rs)
+
+-- The runs after a run is added after `gap` new groups.
+pub record IsRunAdded (olds : List Group) (old new : List KeptRun) (gap from to : ℕ) : Type 0 where
+  pub inside : AreInside olds new
+  pub gaps_are : gaps new ≡ gaps old + gap
+  pub groups_are : (fresh : List Group) → gaps old + gap ≡ length fresh
+      → patched olds fresh new ≡ patched olds fresh old ++ take (to - from) (drop from olds)
+
+-- The groups with the new groups at these places.
+abbrev pub set_all : List Group → List ℕ → List Group → List Group
+set_all olds [] gs = olds
+set_all olds (p ∷ ps) [] = olds
+set_all olds (p ∷ ps) (g ∷ gs) = slice_set (set_all olds ps gs) p g
+
+-- The place of each new group is that of an old group of the same depth.
+abbrev pub KeepDepths : List Group → List ℕ → List Group → Type 0
+KeepDepths olds places fresh = (i : ℕ) → i < length fresh → (slice_index_or places i 0 < length olds)
+    × ((group_at fresh i).depth ≡ (group_at olds (slice_index_or places i 0)).depth)

@@ -1,0 +1,445 @@
+// The changes that take a table to the groups of a new frame.
+ghost use Rattle.std.specs.Prelude.{◌≡◌, ◌≤◌, ◌<◌, ◌-◌, ◌++◌, ◌∷◌, [], List, length, drop, take, slice_set, slice_index_or, true, false, IfOk, IfSome, OnOk, OnErr};
+ghost use Rattle.rt_groups.specs.declared.groups.Group.{Group as group_data};
+ghost use Rattle.slot_table.specs.TableGroups.{group_at, with_reads};
+ghost use Rattle.slot_table.specs.ChangeLists.{nodes_in};
+ghost use Rattle.slot_table.specs.KeptRuns.{patched, gaps, AreInside, HaveOwnIndexes, IsRunAdded, set_all, KeepDepths};
+
+use crate::groups_before::GroupsBefore;
+use crate::storage::{SharedGroup, TableBuilder, make_room};
+use crate::table::Table;
+use rt_groups::Deps;
+use rt_values::NoMemory;
+use std::alloc::Global;
+use std::marker::Model;
+
+// Groups of the table that stay: those from index `from` to before index `to`.
+#[derive(Clone, Copy)]
+struct KeptRun {
+    // The number of new groups between the previous run and this run.
+    gap: usize,
+    from: usize,
+    to: usize,
+}
+
+/// Writes the groups of a new frame in preorder, as changes of a table (`ComposerChangeListWriter`). Groups of the
+/// table that stay are not copied, and the other groups are new.
+#[derive(Drop)]
+pub struct ChangeListWriter<'t> {
+    table: &'t Table,
+    fresh: TableBuilder,
+    // For each new group its index among the groups of the new frame.
+    places: Vec<usize>,
+    runs: Vec<KeptRun>,
+    // The number of new groups before the last run.
+    before: usize,
+    len: usize,
+    nodes: usize,
+}
+
+impl<'t> Model for ChangeListWriter<'t> {
+    ghost use Rattle.slot_table.specs.ChangeLists.{ChangedGroups};
+
+    ghost Value = { ChangedGroups };
+
+    ghost use Rattle.slot_table.specs.KeptRuns.{patched, IsWritten};
+
+    ghost view = { λ w. record {
+      olds = w.table.now.groups;
+      news = patched w.table.now.groups w.fresh w.runs.items;
+    } };
+
+    ghost invariant = { λ w.
+        IsWritten w.table.now.groups w.fresh w.runs.items w.places.items w.before w.len w.nodes };
+}
+
+impl<'t> ChangeListWriter<'t> {
+    /// Returns a writer without groups, for changes of `table`.
+    pub fn new(alloc: Global, table: &'t Table) -> Self
+        ensures { result ≡ record { olds = table.now.groups; news = [] } }
+    {
+        ChangeListWriter {
+            table,
+            fresh: TableBuilder::new(alloc),
+            places: Vec::new(alloc),
+            runs: Vec::new(alloc),
+            before: 0,
+            len: 0,
+            nodes: 0,
+        }
+    }
+
+    /// Returns the table that the changes are for.
+    #[inline(always)]
+    pub fn table(&self) -> &'t Table
+        ensures { result.now.groups ≡ self.now.olds }
+    {
+        self.table
+    }
+
+    /// Returns the number of groups, in constant time.
+    #[inline(always)]
+    pub fn len(&self) -> usize
+        ensures { result ≡ length self.now.news }
+    {
+        self.len
+    }
+
+    /// Returns the number of nodes, in constant time.
+    #[inline(always)]
+    pub fn nodes(&self) -> usize
+        ensures { result ≡ nodes_in self.now.news }
+    {
+        self.nodes
+    }
+
+    /// Appends a new group.
+    #[inline(always)]
+    pub fn push(&mut self, group: SharedGroup) -> Result<(), NoMemory>
+        ensures added { OnOk result (self.new ≡ record {
+          olds = self.old.olds;
+          news = self.old.news ++ group ∷ [];
+        }) }
+    {
+        let Some(nodes) = self.nodes.checked_add(count_node(&group)) else {
+            return Err(NoMemory); // No memory holds so many groups.
+        };
+        let Some(len) = self.len.checked_add(1) else {
+            return Err(NoMemory); // No memory holds so many groups.
+        };
+        make_room(&mut self.places)?;
+        self.fresh.push(group)?;
+        self.places.push_reserved(self.len);
+        self.len = len;
+        self.nodes = nodes;
+        Ok(())
+    }
+
+    /// Appends the groups of the table from index `from` to before index `to`, which stay as they are. They are not
+    /// copied.
+    #[inline(always)]
+    pub fn keep(&mut self, from: usize, to: usize) -> Result<(), NoMemory>
+        requires order { from ≤ to }
+        requires inside { to ≤ length self.old.olds }
+        ensures added { OnOk result (self.new ≡ record {
+          olds = self.old.olds;
+          news = self.old.news ++ take (to - from) (drop from self.old.olds);
+        }) }
+    {
+        let Some(nodes) = self.nodes.checked_add(self.table.count_nodes(from, to)) else {
+            return Err(NoMemory); // No table has so many groups.
+        };
+        let Some(len) = self.len.checked_add(to - from) else {
+            return Err(NoMemory); // No table has so many groups.
+        };
+        let fresh = self.fresh.len();
+        add_run(&mut self.runs, fresh - self.before, from, to)?;
+        self.before = fresh;
+        self.len = len;
+        self.nodes = nodes;
+        Ok(())
+    }
+
+    /// Gives the group at index `place`, which was pushed, these reads in place of its own. Takes logarithmic time.
+    /// Returns `NoMemory` for a group that is kept.
+    pub fn set_reads(&mut self, alloc: Global, place: usize, reads: Deps) -> Result<(), NoMemory>
+        requires { place < length self.old.news }
+        ensures olds { OnOk result (self.new.olds ≡ self.old.olds) }
+        ensures set { OnOk result
+            (self.new.news ≡ slice_set self.old.news place (with_reads (group_at self.old.news place) reads)) }
+    {
+        let kept = self.len.saturating_sub(self.fresh.len());
+        let Some(i) = find_place(&self.places, place, kept) else {
+            return Err(NoMemory); // A group that is kept gets no reads.
+        };
+        self.fresh.set_reads(alloc, i, reads)?;
+        Ok(())
+    }
+
+    /// Returns the changes. Changes only the new groups if each kept group keeps its index and each new group has the
+    /// depth of the old group at its index. Else the changes have a whole new table, which shares the slots of kept
+    /// groups. Takes time linear in the number of new groups and of kept runs, or in the number of groups.
+    pub fn into_change_list(self, alloc: Global) -> Result<ChangeList, NoMemory>
+        ensures { IfOk result (λ c. c ≡ self.entry) }
+    {
+        let olds = GroupsBefore::of(self.table);
+        if self.runs.is_empty() {
+            let change = Change::Whole(Table::from_groups(alloc, self.fresh)?);
+            return Ok(ChangeList { olds, change });
+        }
+        if self.len == self.table.len()
+            && have_own_indexes(&self.runs)
+            && keep_depths(self.table, &self.fresh, &self.places)
+        {
+            let change = Change::InPlace(self.fresh, self.places);
+            return Ok(ChangeList { olds, change });
+        }
+        let mut all = TableBuilder::new(alloc);
+        all.reserve(self.len)?;
+        share_all(self.table, &self.fresh, &self.runs, &mut all)?;
+        let change = Change::Whole(Table::from_groups(alloc, all)?);
+        Ok(ChangeList { olds, change })
+    }
+}
+
+// Counts the group if it is a node.
+#[inline(always)]
+fn count_node(group: &SharedGroup) -> usize
+    ensures { result ≡ nodes_in (group.now ∷ []) }
+{
+    if group.is_node() { 1 } else { 0 }
+}
+
+// Adds the run from index `from` to before index `to` after `gap` new groups, or extends the last run if the new run
+// continues the last run. After `NoMemory` the runs are unchanged.
+#[inline(always)]
+fn add_run(runs: &mut Vec<KeptRun>, gap: usize, from: usize, to: usize) -> Result<(), NoMemory>
+    ensures added { OnOk result ((olds : List group_data) → AreInside olds runs.old.items → from ≤ to →
+        to ≤ length olds → IsRunAdded olds runs.old.items runs.new.items gap from to) }
+    ensures same { OnErr result (runs.new.items ≡ runs.old.items) }
+{
+    if extend_last(runs, gap, from, to) {
+        return Ok(());
+    }
+    runs.push(KeptRun { gap, from, to })?;
+    Ok(())
+}
+
+// Extends the last run to index `to` if the run ends at index `from` and `gap` is 0. Returns whether the run is
+// extended.
+#[inline(always)]
+fn extend_last(runs: &mut Vec<KeptRun>, gap: usize, from: usize, to: usize) -> bool
+    ensures extended { result ≡ true → (olds : List group_data) → AreInside olds runs.old.items → from ≤ to →
+        to ≤ length olds → IsRunAdded olds runs.old.items runs.new.items gap from to }
+    ensures same { result ≡ false → runs.new.items ≡ runs.old.items }
+{
+    if gap != 0 {
+        return false;
+    }
+    let Some(last) = runs.pop() else {
+        return false;
+    };
+    if last.to != from {
+        runs.push_reserved(last);
+        return false;
+    }
+    runs.push_reserved(KeptRun {
+        gap: last.gap,
+        from: last.from,
+        to,
+    });
+    true
+}
+
+// Returns the index of `place` in `places`, which are in increasing order. The index is at least `place` less `kept`,
+// and at most `place`.
+fn find_place(places: &[usize], place: usize, kept: usize) -> Option<usize>
+    ensures { IfSome result (λ i. (i < length places.now) × (slice_index_or places.now i 0 ≡ place)) }
+{
+    let mut low = place.saturating_sub(kept);
+    let mut high = places.len();
+    if place < high {
+        high = place + 1;
+    }
+    while low < high {
+        let middle = low + (high - low) / 2;
+        let found = places[middle];
+        if found == place {
+            return Some(middle);
+        }
+        if found < place {
+            low = middle + 1;
+        } else {
+            high = middle;
+        }
+    }
+    None
+}
+
+// Returns whether each kept group has the same index in the new frame.
+fn have_own_indexes(runs: &[KeptRun]) -> bool
+    ensures { result ≡ true → HaveOwnIndexes 0 runs.now }
+{
+    let mut at = 0;
+    for run in runs {
+        if run.from < at || run.from - at != run.gap {
+            return false;
+        }
+        at = run.to;
+    }
+    true
+}
+
+// Returns whether each new group has the depth of the old group at its place.
+fn keep_depths(table: &Table, fresh: &TableBuilder, places: &[usize]) -> bool
+    requires { length places.now ≡ length fresh.now }
+    ensures { result ≡ true → KeepDepths table.now.groups places.now fresh.now }
+{
+    for i in 0..fresh.len() {
+        if !keeps_depth(table, places[i], fresh.depth(i)) {
+            return false;
+        }
+    }
+    true
+}
+
+// Returns whether there is a group at index `place` and has this depth.
+fn keeps_depth(table: &Table, place: usize, depth: u32) -> bool
+    ensures { result ≡ true → (place < length table.now.groups) × (depth ≡ (group_at table.now.groups place).depth) }
+{
+    place < table.len() && table.depth(place) == depth
+}
+
+// Appends the groups of the new frame to `groups`. They share their slots.
+fn share_all(
+    table: &Table,
+    fresh: &TableBuilder,
+    runs: &[KeptRun],
+    groups: &mut TableBuilder,
+) -> Result<(), NoMemory>
+    requires inside { AreInside table.now.groups runs.now }
+    requires gaps { gaps runs.now ≤ length fresh.now }
+    ensures { OnOk result (groups.new ≡ groups.old ++ patched table.now.groups fresh.now runs.now) }
+{
+    let len = fresh.len();
+    let mut next = 0;
+    for run in runs {
+        fresh.share_run(next, next + run.gap, groups)?;
+        table.share_run(run.from, run.to, groups)?;
+        next += run.gap;
+    }
+    fresh.share_run(next, len, groups)
+}
+
+// The two forms of changes.
+#[derive(Drop)]
+enum Change {
+    // A whole new table.
+    Whole(Table),
+    // New groups, and for each the index of the old group that the new group replaces.
+    InPlace(TableBuilder, Vec<usize>),
+}
+
+/// Changes that take a table to the groups of a new frame (`ChangeList`).
+#[derive(Drop)]
+pub struct ChangeList {
+    olds: GroupsBefore,
+    change: Change,
+}
+
+impl Model for ChangeList {
+    ghost use Rattle.slot_table.specs.ChangeLists.{ChangedGroups};
+
+    ghost Value = { ChangedGroups };
+
+    ghost use Rattle.slot_table.specs.AppliedChanges.{changed_groups, IsChange};
+
+    ghost view = { λ c. record { olds = c.olds.groups; news = changed_groups c.olds.groups c.change } };
+
+    ghost invariant = { λ c. IsChange c.olds.groups c.change };
+}
+
+impl ChangeList {
+    /// Returns the new groups as a table, which shares their slots.
+    pub fn preview<'c>(&'c self, alloc: Global, table: &Table) -> Result<Preview<'c>, NoMemory>
+        requires { table.now.groups ≡ self.now.olds }
+        ensures { IfOk result (λ p. p.groups ≡ self.now.news) }
+    {
+        let form = match &self.change {
+            Change::Whole(table) => PreviewForm::Held(table),
+            Change::InPlace(fresh, places) => {
+                let mut all = TableBuilder::new(alloc);
+                table.share_run(0, table.len(), &mut all)?;
+                set_sharing(&mut all, fresh, places)?;
+                PreviewForm::Made(Table::from_groups(alloc, all)?)
+            }
+        };
+        Ok(Preview { form })
+    }
+}
+
+// Puts the new groups at their places. They share their slots.
+fn set_sharing(
+    groups: &mut TableBuilder,
+    fresh: &TableBuilder,
+    places: &[usize],
+) -> Result<(), NoMemory>
+    requires long { length places.now ≡ length fresh.now }
+    requires depths { KeepDepths groups.old places.now fresh.now }
+    ensures { OnOk result (groups.new ≡ set_all groups.old places.now fresh.now) }
+{
+    let mut i = fresh.len();
+    while 0 < i {
+        i -= 1;
+        groups.set_sharing(places[i], fresh, i)?;
+    }
+    Ok(())
+}
+
+// The two forms of a preview.
+#[derive(Drop)]
+enum PreviewForm<'c> {
+    // The table of the change list.
+    Held(&'c Table),
+    // A table that was made for the preview.
+    Made(Table),
+}
+
+/// The groups of a new frame before its changes are applied.
+#[derive(Drop)]
+pub struct Preview<'c> {
+    form: PreviewForm<'c>,
+}
+
+impl<'c> Model for Preview<'c> {
+    ghost use Rattle.slot_table.specs.TableGroups.{TableGroups};
+
+    ghost Value = { TableGroups };
+
+    ghost use Rattle.slot_table.specs.AppliedChanges.{preview_table};
+
+    ghost view = { λ p. preview_table p.form };
+}
+
+impl<'c> Preview<'c> {
+    /// Returns the table of the groups.
+    pub fn table(&self) -> &Table
+        ensures { result.now.groups ≡ self.now.groups }
+    {
+        match &self.form {
+            PreviewForm::Held(table) => table,
+            PreviewForm::Made(table) => table,
+        }
+    }
+}
+
+impl Table {
+    /// Changes the groups to those of the new frame (`executeAndFlushAllPendingChanges`). Takes no memory. Takes time
+    /// linear in the number of new groups if only new groups change, and else the time of dropping the old table.
+    pub fn apply(&mut self, changes: ChangeList)
+        requires { changes.olds ≡ self.old.groups }
+        ensures { self.new.groups ≡ changes.news }
+    {
+        let ChangeList { olds: _, change } = changes;
+        match change {
+            Change::Whole(table) => *self = table,
+            Change::InPlace(fresh, places) => self.set_groups(fresh, places),
+        }
+    }
+
+    // Puts the new groups at their places.
+    fn set_groups(&mut self, fresh: TableBuilder, places: Vec<usize>)
+        requires long { length places.items ≡ length fresh }
+        requires depths { KeepDepths self.old.groups places.items fresh }
+        ensures { self.new.groups ≡ set_all self.old.groups places.items fresh }
+    {
+        let mut fresh = fresh;
+        let mut places = places;
+        while let Some(place) = places.pop() {
+            match fresh.pop() {
+                Some((head, slots)) => self.set_group(place, head, slots),
+                None => unreachable!(),
+            }
+        }
+    }
+}
