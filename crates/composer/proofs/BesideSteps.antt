@@ -169,12 +169,6 @@ beside_run {owed = owed} {old = old} {d = d} {seen = seen} {site = site} {f = f}
 
 -- One of two forests.
 
-pub beside_choice : {U : Type 0} {owed : List ℕ} {old : GroupForest} {d : ℕ} {seen : List GroupKey}
-    {s s' : ComposerState} {left : Pending} {result : Result U ComposeStop} {t u : GroupForest} → t ≡ u
-    → ComposesBeside owed old d seen t s s' left result → ComposesBeside owed old d seen u s s' left result
-beside_choice {owed = owed} {old = old} {d = d} {seen = seen} {s = s} {s' = s'} {left = left} {result = result} e h =
-    subst (λ (t : GroupForest). ComposesBeside owed old d seen t s s' left result) e h
-
 -- One forest after another.
 
 pub going_first : {owed : List ℕ} {old : GroupForest} {d : ℕ} {seen : List GroupKey} {t : GroupForest}

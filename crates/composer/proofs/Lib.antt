@@ -19,3 +19,4 @@ pub mod SkipLoops
 pub mod SkippedCalls
 pub mod Sound
 pub mod WholeFrames
+pub mod Tables

@@ -14,17 +14,6 @@ use Rattle.recompose_laws.proofs.MadeCalls.{found_made, inside_made}
 use Rattle.recompose_laws.proofs.CalculatedCells.{found_calculated, inside_calculated}
 use Rattle.composer.specs.BesideContracts.{LastComposition, IsSince, IsOldPart, IsFoundNumbered, IsOldFound, OldSiblings}
 
--- The facts of a group, from those of a forest that begins with the group.
-pub part_first : {l : LastComposition} {owed : List ℕ} {m : Map} (site n : ℕ) (what : GroupKind)
-    (inside rest : GroupForest) → IsOldPart l owed m (Group site n what inside rest) →
-    IsOldFound l owed m site (Some (record { number = n; what = what; inside = inside }))
-part_first {l} {owed} {m} site n what inside rest p = record {
-  made = (p.made.0, p.made.1);
-  cells = (p.cells.0, p.cells.1);
-  same = same_inside l.map m owed site n what inside rest p.same;
-  numbered = (p.numbered.0, p.numbered.1);
-}
-
 pub part_inside : {l : LastComposition} {owed : List ℕ} {m : Map} (site n : ℕ) (what : GroupKind)
     (inside rest : GroupForest) → IsOldPart l owed m (Group site n what inside rest) → IsOldPart l owed m inside
 part_inside {l} {owed} {m} site n what inside rest p =

@@ -175,20 +175,6 @@ quiet_more owed groups from i low inside own quiet =
     ap (λ l. has_owed owed l) (run_grows groups from i low inside)
     ∙ owed_both owed (group_run groups from i) (group_at groups i ∷ []) quiet (ap (λ b. b || false) own)
 
--- No group yet.
-pub quiet_none : (owed : List ℕ) (groups : List TableGroup) (d i : ℕ) (t : GroupForest) → Begins d (drop i groups) t
-    → QuietRun owed d groups i i t
-quiet_none owed groups d i t begins =
-    let none : i - i ≡ 0 = omega arith in
-    record {
-      rest = t;
-      begins = begins;
-      part = λ l m p. p;
-      numbered = λ h. h;
-      kept = λ h m fs s. ap (λ n. skipped_groups m owed t fs d (with_run (take n (drop i groups)) s)) none
-          ∙ ap (λ q. skipped_groups m owed t fs d q) (run_none s);
-    }
-
 -- One group with the groups inside it.
 quiet_one : (owed : List ℕ) (groups : List TableGroup) (d i j : ℕ) (t : GroupForest) → Begins d (drop i groups) t
     → i < length groups → j ≤ length groups → d ≤ (group_at groups i).depth

@@ -1,6 +1,6 @@
 -- When a part of a composition reaches a state, for each way to make a forest.
 use Rattle.std.proofs.Common.{ℕ, ◌++◌, ◌<◌, List, ◌≡◌, ap, ◌∙◌, sym, subst, length, length-append, Result, Ok, Err, IsErr, OnOk, Bool, true, arith}
-use Rattle.rt_groups.specs.GroupForest.{GroupForest, Group, GroupKind, joined_forest}
+use Rattle.rt_groups.specs.GroupForest.{GroupForest, Group, GroupKind}
 use Rattle.rt_groups.specs.Paths.{GroupKey}
 use Rattle.rt_groups.specs.PreorderGroups.{preorder}
 use Rattle.rt_groups.specs.Frames.{most_groups}
@@ -8,11 +8,10 @@ use Rattle.lang_ast.specs.ResultsWithReads.{Reading}
 use Rattle.compose_model.specs.Composing.{forest_after}
 use Rattle.composer.specs.declared.stop.ComposeStop.{ComposeStop}
 use Rattle.composer.specs.declared.stop.ComposeStop.TheVariants.{TooManyGroups, NoMemory}
-use Rattle.recompose_laws.specs.Work.{siblings}
 use Rattle.recompose_laws.specs.Numbering.{numbered_by_siblings}
 use Rattle.composer.specs.ComposerState.{ComposerState, composed_beside}
 use Rattle.composer.specs.BesideContracts.{IsPrefix, Reaches}
-use Rattle.composer.proofs.Machine.{read_all, composed_is, composed-joined, composed-reads_then, part_of, longer, part_on}
+use Rattle.composer.proofs.Machine.{read_all, composed_is, composed-reads_then, part_of, part_on}
 
 pub on_ok : {T E X : Type 0} (result : Result T E) → X → OnOk result X
 on_ok (Ok u) x = x
@@ -46,17 +45,6 @@ pub reached_at : {U : Type 0} {target target' s : ComposerState} {result : Resul
     → Reaches target s result → Reaches target' s result
 reached_at {s = s} {result = result} e h = subst (λ (q : ComposerState). Reaches q s result) e h
 
--- Reads, then the forest that depends on the result.
-pub reached_after : {U A : Type 0} {s' : ComposerState} {result : Result U ComposeStop} (owed : List ℕ)
-    (old : GroupForest) (d : ℕ) (seen : List GroupKey) (s : ComposerState) (r : Reading A) (go : A → GroupForest)
-    (mid : ComposerState) →
-    mid ≡ read_all r.reads s → Reaches (composed_beside owed old d true seen (go r.value) mid) s' result
-    → Reaches (composed_beside owed old d true seen (forest_after r go) s) s' result
-unfolding forest_after
-reached_after owed old d seen s r go mid e h =
-    reached_at (ap (λ (q : ComposerState). composed_beside owed old d true seen (go r.value) q) e
-    ∙ sym (composed-reads_then owed old d seen r.reads (go r.value) s)) h
-
 -- Some of the reads of a result were made before the composition ran out of memory.
 pub part_after : {A : Type 0} (owed : List ℕ) (old : GroupForest) (d : ℕ) (seen : List GroupKey) (s : ComposerState)
     (asked : List ℕ) (r : Reading A) (go : A → GroupForest) (rest : List ℕ) → asked ++ rest ≡ s.asked ++ r.reads →
@@ -86,33 +74,3 @@ longer_one owed old d running seen site n what inside rest s =
       length-append s.groups
           (preorder d (numbered_by_siblings old seen s.next (Group site n what inside rest)).0),
     )
-
--- A group did not fit.
-pub group_full : {U : Type 0} (owed : List ℕ) (old : GroupForest) (d : ℕ) (seen : List GroupKey) (site n : ℕ)
-    (what : GroupKind) (inside rest : GroupForest) (s s' : ComposerState) (result : Result U ComposeStop)
-    → IsErr result →
-    (result ≡ Err TooManyGroups → length s.groups ≡ most_groups) → s'.asked ≡ s.asked
-    → Reaches (composed_beside owed old d true seen (Group site n what inside rest) s) s' result
-group_full owed old d seen site n what inside rest s s' result i h e =
-    reached_full result i (λ f. let one = longer_one owed old d true seen site n what inside rest s in let all = h f in
-    omega (arith, one, all)) (part_here owed old d seen (Group site n what inside rest) s s'.asked e)
-
--- The first of two forests stopped, so both did.
-pub reached_first : {U V : Type 0} {x : ComposeStop} (owed : List ℕ) (old : GroupForest) (d : ℕ) (seen : List GroupKey)
-    (t more : GroupForest) (s s' : ComposerState) (result : Result U ComposeStop) → result ≡ Err x →
-    Reaches (composed_beside owed old d true seen t s) s' {U = V} (Err x)
-    → Reaches (composed_beside owed old d true seen (joined_forest t more) s) s' result
-reached_first owed old d seen t more s s' (Ok u) is h = cc
-reached_first {x = x} owed old d seen t more s s' (Err z) is h =
-    let same = sym (composed-joined owed old d true seen t more s) in record {
-      all = tt;
-      part = subst (λ (q : ComposerState). IsPrefix s'.asked q.asked) same
-          (part_on h.part (part_of owed old d true (siblings t seen) more (composed_beside owed old d true seen t s)));
-      many = λ y.
-          let y0 : z ≡ x = cc in
-          let y1 : z ≡ TooManyGroups = cc in
-          let big = h.many (ap (λ (w : ComposeStop). Err w) (sym y0 ∙ y1)) in
-          let far = longer owed old d true (siblings t seen) more (composed_beside owed old d true seen t s) in
-          let len = ap (λ (q : ComposerState). length q.groups) same in
-          omega (arith, big, far, len);
-    }

@@ -29,7 +29,8 @@ use Rattle.composer.specs.FrameDrafts.{DraftGroups, IsOwing, IsFrameDraft, Compo
 use Rattle.composer.specs.FrameStates.{IsSound, frame_state}
 use Rattle.composer.specs.OldGroups.{Begins}
 use Rattle.slot_table.specs.TableGroups.{is_node_kind}
-use Rattle.composer.specs.WrittenGroups.{WrittenGroups, state_of, draft_of, nodes_in}
+use Rattle.slot_table.specs.ChangeLists.{nodes_in}
+use Rattle.composer.specs.WrittenGroups.{WrittenGroups, state_of, IsDraftOf}
 use Rattle.composer.proofs.OldParts.{since_all}
 use Rattle.composer.proofs.Machine.{same_state, composed_is, skipped_is, state_after_work, state_after_walk}
 use Rattle.composer.proofs.Reaching.{reached_at}
@@ -188,16 +189,22 @@ module _ (functions : List Func) (root : ℕ) (owed : OwedObjects) (k : LastFram
   abbrev pub new : GroupForest
   new = forest functions root m
 
+  -- Before the first group.
+  abbrev pub first_written : WrittenGroups
+  first_written =
+      record { olds = preorder 0 k.trail; groups = []; next = k.next; ran = 0; calculated = 0; reads = 0 }
+
   abbrev pub start : ComposerState
-  start = state_of (record { groups = []; next = k.next; ran = 0; calculated = 0; reads = 0 }) asked []
+  start = state_of first_written asked []
 
   abbrev pub target : ComposerState
   target = frame_state functions root owed.objects k.trail k.next m start
 
   -- A frame that was written whole, and its draft.
   pub draft_is : state_of written asked' [] ≡ target → written.reads + length asked ≡ length asked'
-      → written.reads ≤ 2 ^ 64 - 1 → IsFrameDraft functions root owed k m (draft_of written)
-  draft_is is counted most =
+      → written.reads ≤ 2 ^ 64 - 1 → (d : DraftGroups) → IsDraftOf written d
+      → IsFrameDraft functions root owed k m d
+  draft_is is counted most d draft =
       let given = numbered_forest k.trail [] [] k.next new in
       let groups : written.groups ≡ preorder 0 given.0 = ap (λ (q : ComposerState). q.groups) is in
       let read : length asked' ≡ length asked + length (reads owed.objects k.trail new) =
@@ -212,9 +219,9 @@ module _ (functions : List Func) (root : ℕ) (owed : OwedObjects) (k : LastFram
       let count = ap (λ (gs : List FlatGroup). length gs) groups ∙ how_many-preorder 0 given.0
       ∙ sym (how_many-without_numbers given.0) ∙ ap how_many plain in
       record {
-        groups = groups;
-        next = ap (λ (q : ComposerState). q.next) is;
-        report = same_report calls cells
+        groups = draft.groups ∙ groups;
+        next = draft.next ∙ ap (λ (q : ComposerState). q.next) is;
+        report = draft.report ∙ same_report calls cells
             (few_reads (length (reads owed.objects k.trail new)) written.reads (omega (arith, counted, read)) most)
             count nodes;
       }
@@ -233,10 +240,6 @@ module _ (functions : List Func) (root : ℕ) (owed : OwedObjects) (k : LastFram
   frame_many lt =
       let all = frame_groups functions root owed.objects k.trail k.next m start refl in omega (arith, all, lt)
 
-  -- Before the first group.
-  abbrev pub first_written : WrittenGroups
-  first_written = record { groups = []; next = k.next; ran = 0; calculated = 0; reads = 0 }
-
   -- The state that is reached from a writer.
   abbrev pub target_from : WrittenGroups → ComposerState
   target_from first = frame_state functions root owed.objects k.trail first.next m (state_of first asked [])
@@ -245,13 +248,12 @@ module _ (functions : List Func) (root : ℕ) (owed : OwedObjects) (k : LastFram
   pub frame_made : {U : Type 0} {u : U} (first : WrittenGroups) → first ≡ first_written
       → Reaches (target_from first) (state_of written asked' []) {U = U} (Ok u) →
       written.reads + length asked ≡ first.reads + length asked' → written.reads ≤ 2 ^ 64 - 1
-      → length written.groups ≤ most_groups → (d : DraftGroups) → d ≡ draft_of written
+      → length written.groups ≤ most_groups → (d : DraftGroups) → IsDraftOf written d
       → ComposesFrame functions root owed k m asked asked' (Ok d)
   frame_made first e r counted most few d is =
       let all : state_of written asked' [] ≡ target = r.all ∙ ap target_from e in
       let none = ap (λ (w : WrittenGroups). w.reads) e in record {
-        made = subst (λ (x : DraftGroups). IsFrameDraft functions root owed k m x) (sym is)
-            (draft_is all (omega (arith, counted, none)) most);
+        made = draft_is all (omega (arith, counted, none)) most d is;
         fits = frame_fits all few;
         came = frame_came all;
         many = λ y. cc;

@@ -27,8 +27,10 @@ pub record HeldGroups : Type 0 where
   pub groups : List Group
   pub next : ℕ
 
--- The groups of a new frame in preorder, the number of the next new node, and the report of the frame.
+-- The groups that are kept before a new frame and the groups of the frame, in preorder, the number of the next new
+-- node, and the report of the frame.
 pub record DraftGroups : Type 0 where
+  pub olds : List Group
   pub groups : List Group
   pub next : ℕ
   pub report : Report

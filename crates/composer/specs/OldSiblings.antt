@@ -1,5 +1,5 @@
 -- Internal: the groups of the last frame that new groups are matched with.
-use Rattle.std.specs.Prelude.{ℕ, ◌+◌, ◌==◌, ◌&&◌, ◌<◌, nat_lt, List, [], ◌∷◌, drop, length, map, Bool, Box, Option, Some, None, if◌then◌else◌}
+use Rattle.std.specs.Prelude.{ℕ, ◌≡◌, ◌+◌, ◌==◌, ◌&&◌, ◌<◌, nat_lt, List, [], ◌∷◌, drop, length, map, Bool, Box, Option, Some, None, if◌then◌else◌}
 use Rattle.rt_groups.specs.declared.groups.Group.{Group}
 use Rattle.rt_groups.specs.Paths.{GroupKey, same_sibling}
 use Rattle.slot_table.specs.TableGroups.{group_at}
@@ -15,6 +15,11 @@ pub record KeyInfo : Type 0 where
 -- The group of the last frame at the index.
 abbrev pub old_group : KeyInfo → Group
 old_group k = group_at k.groups k.index
+
+-- The group that was found is one of these groups.
+abbrev pub IsFoundIn : List Group → Option KeyInfo → Type 0
+IsFoundIn groups None = Unit {0}
+IsFoundIn groups (Some k) = k.groups ≡ groups
 
 -- The groups of the last frame after a group, in preorder. The groups inside the group come first.
 abbrev pub groups_after : KeyInfo → List Group

@@ -89,23 +89,35 @@ is_call_kept (listed.Cell ks v) = false
 abbrev pub any_calculation : Calculation → Type 0
 any_calculation calc = Unit {0}
 
-abbrev pub HasRoomToWrite : Level → WrittenGroups → Type 0
-HasRoomToWrite level written = (level.depth ≤ length written.groups) × (length written.groups ≤ most_groups)
+-- There are not more groups than the limit, and they change the groups `olds`.
+pub record FitsIn (olds : List Listed) (written : WrittenGroups) : Type 0 where
+  pub few : length written.groups ≤ most_groups
+  pub same : written.olds ≡ olds
 
--- The depth is possible after these groups, and there are not more groups than the limit.
-abbrev pub HasRoom : Level → Progress → Type 0
-HasRoom level made = HasRoomToWrite level made.writer
+-- The depth is possible after these groups, which change those of the level's table.
+pub record HasRoomToWrite (level : Level) (written : WrittenGroups) : Type 0 where
+  pub deep : level.depth ≤ length written.groups
+  pub fits : FitsIn level.table.now.groups written
+
+-- The old siblings are groups of the level's table, and the new groups change that table.
+pub record StaysIn (level : Level) (made : Progress) : Type 0 where
+  pub written : FitsIn level.table.now.groups made.writer
+  pub pending : made.pending.table.now.groups ≡ level.table.now.groups
+
+pub record HasRoom (level : Level) (made : Progress) : Type 0 where
+  pub deep : level.depth ≤ length made.writer.groups
+  pub stays : StaysIn level made
 
 -- What composing a part of a program leaves, whatever the part is. The view changes only by reads, and it shows the
 -- same maps. The variables in scope are the same. The reads are counted when the call that makes them ends.
 pub record Continues {W : Type 0} (shown : W → Map → Type 0) (asked : W → List ℕ) (kept : W → W → Type 0)
-    (view view' : W)
+    (level : Level) (view view' : W)
     (made made' : Progress) {U : Type 0} (result : Result U ComposeStop) : Type 0 where
   pub keeps : kept view view'
   pub same : (m : Map) → shown view m → shown view' m
   pub same_scope : OnOk result (made'.scope ≡ made.scope)
   pub longer : OnOk result (length made.writer.groups ≤ length made'.writer.groups)
-  pub fits : OnOk result (length made'.writer.groups ≤ most_groups)
+  pub fits : OnOk result (StaysIn level made')
   pub counted : (m : Map) → shown view m → OnOk result (made'.writer.reads + length made'.reads + length (asked view)
       ≡ made.writer.reads + length made.reads + length (asked view'))
 
@@ -130,7 +142,7 @@ pub record Recomposes {W : Type 0} (shown : W → Map → Type 0) (asked : W →
   pub same : (m : Map) → shown view m → shown view' m
   pub same_scope : OnOk result (made'.scope ≡ made.scope)
   pub longer : OnOk result (length made.writer.groups ≤ length made'.writer.groups)
-  pub fits : OnOk result (length made'.writer.groups ≤ most_groups)
+  pub fits : OnOk result (StaysIn level made')
   pub counted : (m : Map) → shown view m → OnOk result (made'.writer.reads + length made'.reads + length (asked view)
       ≡ made.writer.reads + length made.reads + length (asked view'))
   pub ran : (m : Map) (o : OldSiblings) → shown view m →
@@ -142,13 +154,14 @@ pub record Recomposes {W : Type 0} (shown : W → Map → Type 0) (asked : W →
 
 -- The contract of writing the groups of a call that runs, or of groups that are skipped: `reaches m` is what was
 -- reached in the map `m`.
-pub record Writes {W : Type 0} (shown : W → Map → Type 0) (asked : W → List ℕ) (kept : W → W → Type 0) (view view' : W)
+pub record Writes {W : Type 0} (shown : W → Map → Type 0) (asked : W → List ℕ) (kept : W → W → Type 0)
+    (olds : List Listed) (view view' : W)
     (written written' : WrittenGroups) {U : Type 0} (result : Result U ComposeStop)
     (reaches : Map → Type 0) : Type 0 where
   pub keeps : kept view view'
   pub same : (m : Map) → shown view m → shown view' m
   pub longer : OnOk result (length written.groups ≤ length written'.groups)
-  pub fits : OnOk result (length written'.groups ≤ most_groups)
+  pub fits : OnOk result (FitsIn olds written')
   pub counted : (m : Map) → shown view m
       → OnOk result (written'.reads + length (asked view) ≡ written.reads + length (asked view'))
   pub ran : (m : Map) → shown view m → reaches m

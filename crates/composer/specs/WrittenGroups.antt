@@ -1,12 +1,13 @@
 -- Internal: the groups of a new frame as they are written, and what each group adds.
-use Rattle.std.specs.Prelude.{ℕ, ◌+◌, ◌++◌, ◌≡◌, List, [], ◌∷◌, length, Option, Some, None, Bool, true, false, if◌then◌else◌}
+use Rattle.std.specs.Prelude.{ℕ, ◌+◌, ◌<◌, ◌++◌, ◌≡◌, List, [], ◌∷◌, length, Option, Some, None, Bool, if◌then◌else◌}
 use Rattle.rt_values.specs.declared.value.Value.{Value}
 use Rattle.rt_values.specs.Values.{same_values}
 use Rattle.rt_groups.specs.declared.groups.Group.{Group}
 use Rattle.rt_groups.specs.declared.groups.GroupKind.{GroupKind}
 use Rattle.rt_groups.specs.declared.groups.GroupKind.TheVariants as what
 use Rattle.rt_groups.specs.PreorderGroups.{flat_group}
-use Rattle.slot_table.specs.TableGroups.{is_node_kind}
+use Rattle.slot_table.specs.TableGroups.{group_at}
+use Rattle.slot_table.specs.ChangeLists.{nodes_in}
 use Rattle.composer.specs.declared.writer.NewKind.{NewKind}
 use Rattle.composer.specs.declared.writer.NewKind.TheVariants as new
 use Rattle.composer.specs.declared.writer.CallArguments.{CallArguments}
@@ -16,9 +17,10 @@ use Rattle.composer.specs.FrameDrafts.{DraftGroups}
 use Rattle.composer.specs.Comparisons.{other_keys}
 use Rattle.composer.specs.ComposerState.{ComposerState, one_if}
 
--- The groups so far, the number of the next new node, how many calls ran and how many cells were calculated, and how
--- many reads the calls made that ran and ended.
+-- The groups of the table that is changed, the new groups so far, the number of the next new node, how many calls ran
+-- and how many cells were calculated, and how many reads the calls made that ran and ended.
 pub record WrittenGroups : Type 0 where
+  pub olds : List Group
   pub groups : List Group
   pub next : ℕ
   pub ran : ℕ
@@ -74,6 +76,7 @@ cells_in found (what.Cell ks v) = one_if (other_keys found ks)
 -- A new group with its number. It counts if it is a cell that is calculated.
 abbrev pub enter_group : ℕ → ℕ → GroupKind → Option KeyInfo → WrittenGroups → WrittenGroups
 enter_group depth site w found d = record {
+  olds = d.olds;
   groups = d.groups ++ flat_group depth site (number_of w found d.next).0 w [] ∷ [];
   next = (number_of w found d.next).1;
   ran = d.ran;
@@ -84,6 +87,7 @@ enter_group depth site w found d = record {
 -- The group of a call, which counts if it runs.
 abbrev pub with_call : ℕ → ℕ → GroupKind → Bool → WrittenGroups → WrittenGroups
 with_call depth site w runs d = record {
+  olds = d.olds;
   groups = d.groups ++ flat_group depth site 0 w [] ∷ [];
   next = d.next;
   ran = d.ran + one_if runs;
@@ -94,6 +98,7 @@ with_call depth site w runs d = record {
 -- The group of a call that runs, with the reads that it has until the call ends.
 abbrev pub running_call : ℕ → ℕ → GroupKind → List ℕ → WrittenGroups → WrittenGroups
 running_call depth site w reads d = record {
+  olds = d.olds;
   groups = d.groups ++ flat_group depth site 0 w reads ∷ [];
   next = d.next;
   ran = d.ran + 1;
@@ -104,6 +109,7 @@ running_call depth site w reads d = record {
 -- An old group that is kept.
 abbrev pub written_kept : ℕ → ℕ → ℕ → GroupKind → List ℕ → WrittenGroups → WrittenGroups
 written_kept depth site number w reads d = record {
+  olds = d.olds;
   groups = d.groups ++ flat_group depth site number w reads ∷ [];
   next = d.next;
   ran = d.ran;
@@ -114,6 +120,7 @@ written_kept depth site number w reads d = record {
 -- Old groups that are kept as they are.
 abbrev pub written_run : List Group → WrittenGroups → WrittenGroups
 written_run gs d = record {
+  olds = d.olds;
   groups = d.groups ++ gs;
   next = d.next;
   ran = d.ran;
@@ -139,31 +146,28 @@ abbrev pub kept_of : Option KeyInfo → List Value → Option Value
 kept_of None ks = None
 kept_of (Some k) ks = kept_in (old_group k).what ks
 
--- Whether a group is a node.
-abbrev pub is_node : Group → Bool
-is_node g = is_node_kind g.what
-
--- The count of nodes in a list of groups.
-abbrev pub nodes_in : List Group → ℕ
-nodes_in [] = 0
-nodes_in (g ∷ gs) = (if is_node g then 1 else 0) + nodes_in gs
-
--- The draft of a frame with these groups.
-abbrev pub draft_of : WrittenGroups → DraftGroups
-draft_of w = record {
-  groups = w.groups;
-  next = w.next;
-  report = record {
+-- The draft is that of a frame with these groups.
+pub record IsDraftOf (w : WrittenGroups) (d : DraftGroups) : Type 0 where
+  pub olds : d.olds ≡ w.olds
+  pub groups : d.groups ≡ w.groups
+  pub next : d.next ≡ w.next
+  pub report : d.report ≡ record {
     ran = w.ran;
     calculated = w.calculated;
     reads = w.reads;
     groups = length w.groups;
     nodes = nodes_in w.groups;
-  };
-}
+  }
 
--- A group is a cell that remembers v for the keys ks, and has no reads.
-pub record IsCellOf (ks : List Value) (v : Value) (g : Group) : Type 0 where
-  pub kind : g.what ≡ what.Cell ks v
-  pub same : same_values ks ks ≡ true
-  pub reads : g.reads ≡ []
+-- The group at an index is at this depth and site, has this number, and has no reads.
+pub record IsPlacedAt (groups : List Group) (at depth site number : ℕ) : Type 0 where
+  pub inside : at < length groups
+  pub depth_is : (group_at groups at).depth ≡ depth
+  pub site_is : (group_at groups at).site ≡ site
+  pub number_is : (group_at groups at).number ≡ number
+  pub reads : (group_at groups at).reads ≡ []
+
+-- The group at an index is this one, without reads.
+pub record IsKeptAt (groups : List Group) (at depth site number : ℕ) (w : GroupKind) : Type 0 where
+  pub inside : at < length groups
+  pub is : group_at groups at ≡ flat_group depth site number w []

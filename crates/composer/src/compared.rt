@@ -122,19 +122,19 @@ pub fn call_is_run(
     !is_same_call(old.kind(), function, arguments) || meet(old.reads(), owed)
 }
 
-// Returns whether it is a cell that was calculated for these keys.
-fn is_kept_for(what: &GroupKind, keys: &[Value]) -> bool
-    ensures { result ≡ has_keys keys.now what.now }
+// Returns whether it is a cell that was calculated for the values of these keys.
+fn is_kept_for(what: &GroupKind, keys: &Env) -> bool
+    ensures { result ≡ has_keys (map (λ b. b.value) keys.now) what.now }
 {
     match what {
-        GroupKind::Cell { keys: kept, .. } => same_lists(kept.items(), keys),
+        GroupKind::Cell { keys: kept, .. } => keys.has_values(kept.items()),
         _ => false,
     }
 }
 
-/// Returns whether no old cell was found that was calculated for these keys.
-pub fn has_other_keys(found: &Option<OldGroup>, keys: &[Value]) -> bool
-    ensures { result ≡ other_keys found.now keys.now }
+/// Returns whether no old cell was found that was calculated for the values of these keys.
+pub fn has_other_keys(found: &Option<OldGroup>, keys: &Env) -> bool
+    ensures { result ≡ other_keys found.now (map (λ b. b.value) keys.now) }
 {
     match found {
         None => true,

@@ -14,8 +14,8 @@ ghost use Rattle.recompose_laws.specs.CalculatedCells.{Calculation, CalculatesAt
 ghost use Rattle.composer.specs.WrittenGroups.{kept_of, group_kind, arguments_of, AreArguments};
 ghost use Rattle.composer.specs.FrameDrafts.{Holds, IsOwing, ComposesFrame, root_of};
 ghost use Rattle.lang_ast.specs.Programs.{functions_of};
-ghost use Rattle.composer.specs.OldSiblings.{old_group};
-ghost use Rattle.composer.specs.Recomposes.{Recomposes, Continues, RanBeside, Writes, HasRoom, HasRoomToWrite, group_at_level, statement_at, body_at, call_at, loop_at, BodyRan, GroupSkipped, GroupsSkipped, FrameWritten, any_calculation, is_container, is_call_kept};
+ghost use Rattle.composer.specs.OldSiblings.{old_group, IsFoundIn};
+ghost use Rattle.composer.specs.Recomposes.{Recomposes, Continues, RanBeside, Writes, HasRoom, HasRoomToWrite, FitsIn, group_at_level, statement_at, body_at, call_at, loop_at, BodyRan, GroupSkipped, GroupsSkipped, FrameWritten, any_calculation, is_container, is_call_kept};
 
 use crate::compared::{call_is_run, kept_value, meet};
 use crate::draft::{Draft, Held};
@@ -57,7 +57,7 @@ pub struct Progress<'a> {
     pub scope: Env,
     pub pending: Pending<'a>,
     pub reads: Deps,
-    pub writer: Writer,
+    pub writer: Writer<'a>,
 }
 
 /// What a cell remembers: the keys and the calculation of a `remember` at a site.
@@ -179,7 +179,7 @@ fn run_group<'a, V: View, L: Ledger>(
     steps: &mut Steps<L>,
 ) -> Result<(), ComposeStop>
     requires { HasRoom level.now made.old }
-    ensures part { Continues V.shows V.asked V.keeps view.old view.new made.old made.new result }
+    ensures part { Continues V.shows V.asked V.keeps level.now view.old view.new made.old made.new result }
     ensures ran { (w : kind_data) → group_kind what.entry ≡ flat_kind w → is_container w ≡ true → (m : Map)
         → V.shows view.old m →
         RanBeside level.now (group_at_level level.now site w (stmts_view body.now) made.old.scope)
@@ -534,13 +534,15 @@ fn run_body<'a, V: View, L: Ledger>(
     function: usize,
     arguments: CallArguments,
     found: &Option<OldGroup<'a>>,
-    writer: &mut Writer,
+    writer: &mut Writer<'a>,
     view: &mut V,
     steps: &mut Steps<L>,
 ) -> Result<(), ComposeStop>
     requires room { HasRoomToWrite level.now writer.old }
+    requires found { IsFoundIn level.now.table.now.groups found.now }
     requires arguments { AreArguments function arguments found.now }
-    ensures { Writes V.shows V.asked V.keeps view.old view.new writer.old writer.new result
+    ensures { Writes V.shows V.asked V.keeps level.now.table.now.groups view.old view.new writer.old writer.new
+        result
         (λ m. BodyRan level.now m site function (arguments_of arguments.entry) found.now (V.asked view.old)
         (V.asked view.new) writer.old writer.new result) }
 {
@@ -587,12 +589,14 @@ fn skip_group<'a, V: View, L: Ledger>(
     level: &Level<'a>,
     site: u32,
     old: &OldGroup<'a>,
-    writer: &mut Writer,
+    writer: &mut Writer<'a>,
     view: &mut V,
     steps: &mut Steps<L>,
 ) -> Result<(), ComposeStop>
-    requires { HasRoomToWrite level.now writer.old }
-    ensures { Writes V.shows V.asked V.keeps view.old view.new writer.old writer.new result
+    requires room { HasRoomToWrite level.now writer.old }
+    requires table { old.now.groups ≡ level.now.table.now.groups }
+    ensures { Writes V.shows V.asked V.keeps level.now.table.now.groups view.old view.new writer.old writer.new
+        result
         (λ m. GroupSkipped level.now m site old.now (V.asked view.old) (V.asked view.new) writer.old writer.new
         result) }
 {
@@ -618,14 +622,7 @@ fn skip_group<'a, V: View, L: Ledger>(
                 spares: level.spares,
                 depth: level.depth + 1,
             };
-            skip_all(
-                &inside,
-                old.table(),
-                old.first_inside(),
-                writer,
-                view,
-                steps,
-            )
+            skip_all(&inside, old.first_inside(), writer, view, steps)
         }
         GroupKind::Node { .. } => skip_inside(level, site, old, writer, view, steps),
         GroupKind::Key(_) => skip_inside(level, site, old, writer, view, steps),
@@ -639,13 +636,15 @@ fn skip_inside<'a, V: View, L: Ledger>(
     level: &Level<'a>,
     site: u32,
     old: &OldGroup<'a>,
-    writer: &mut Writer,
+    writer: &mut Writer<'a>,
     view: &mut V,
     steps: &mut Steps<L>,
 ) -> Result<(), ComposeStop>
-    requires { HasRoomToWrite level.now writer.old }
+    requires room { HasRoomToWrite level.now writer.old }
+    requires table { old.now.groups ≡ level.now.table.now.groups }
     ensures { is_call_kept (old_group old.now).what ≡ false
-        → Writes V.shows V.asked V.keeps view.old view.new writer.old writer.new result
+        → Writes V.shows V.asked V.keeps level.now.table.now.groups view.old view.new writer.old writer.new
+        result
         (λ m. GroupSkipped level.now m site old.now (V.asked view.old) (V.asked view.new) writer.old writer.new
         result) }
 {
@@ -658,14 +657,7 @@ fn skip_inside<'a, V: View, L: Ledger>(
         spares: level.spares,
         depth: level.depth + 1,
     };
-    skip_all(
-        &inside,
-        old.table(),
-        old.first_inside(),
-        writer,
-        view,
-        steps,
-    )
+    skip_all(&inside, old.first_inside(), writer, view, steps)
 }
 
 // Skips the old groups from index `first` on, up to the first that is less deep. Siblings in which no call is owed are
@@ -673,21 +665,22 @@ fn skip_inside<'a, V: View, L: Ledger>(
 #[cycle(again)]
 fn skip_all<'a, V: View, L: Ledger>(
     level: &Level<'a>,
-    table: &'a Table,
     first: usize,
-    writer: &mut Writer,
+    writer: &mut Writer<'a>,
     view: &mut V,
     steps: &mut Steps<L>,
 ) -> Result<(), ComposeStop>
     requires { HasRoomToWrite level.now writer.old }
-    ensures { Writes V.shows V.asked V.keeps view.old view.new writer.old writer.new result
-        (λ m. GroupsSkipped level.now m (drop first table.now.groups) (V.asked view.old) (V.asked view.new) writer.old
+    ensures { Writes V.shows V.asked V.keeps level.now.table.now.groups view.old view.new writer.old writer.new
+        result
+        (λ m. GroupsSkipped level.now m (drop first level.now.table.now.groups) (V.asked view.old) (V.asked view.new) writer.old
         writer.new result) }
 {
+    let table = level.table;
     let mut at = first;
     while at < table.len() {
         let stop = quiet_end(table, level.owed, level.depth, at);
-        writer.keep_run(table, at, stop)?;
+        writer.keep_run(at, stop)?;
         if is_end(table, level.depth, stop) {
             return Ok(());
         }
@@ -699,27 +692,28 @@ fn skip_all<'a, V: View, L: Ledger>(
 }
 
 // Writes the groups of a frame: runs the root if everything is owed, else skips the old groups.
-fn write_frame<V: View, L: Ledger>(
+fn write_frame<'a, V: View, L: Ledger>(
     alloc: Global,
-    program: &Checked,
-    table: &Table,
-    owed: &Owed,
-    writer: &mut Writer,
+    program: &'a Checked,
+    table: &'a Table,
+    owed: &'a Owed,
+    spares: &'a Spares,
+    writer: &mut Writer<'a>,
     view: &mut V,
     steps: &mut Steps<L>,
 ) -> Result<(), ComposeStop>
-    requires { length writer.old.groups ≤ most_groups }
-    ensures { Writes V.shows V.asked V.keeps view.old view.new writer.old writer.new result
+    requires { FitsIn table.now.groups writer.old }
+    ensures { Writes V.shows V.asked V.keeps table.now.groups view.old view.new writer.old writer.new
+        result
         (λ m. FrameWritten program.now table.now.groups owed.now m (V.asked view.old) (V.asked view.new) writer.old
         writer.new result) }
 {
-    let spares = Spares::new(alloc);
     let level = Level {
         alloc,
         functions: program.functions(),
         table,
         owed,
-        spares: &spares,
+        spares,
         depth: 0,
     };
     if owed.is_all() {
@@ -735,7 +729,40 @@ fn write_frame<V: View, L: Ledger>(
             steps,
         );
     }
-    skip_all(&level, table, 0, writer, view, steps)
+    skip_all(&level, 0, writer, view, steps)
+}
+
+// Composes a frame and returns its draft.
+fn compose_draft<'a, V: View, L: Ledger>(
+    alloc: Global,
+    program: &'a Checked,
+    held: &'a Held,
+    owed: &'a Owed,
+    spares: &'a Spares,
+    view: &mut V,
+    steps: &mut Steps<L>,
+) -> Result<Draft, ComposeStop>
+    ensures keeps { V.keeps view.old view.new }
+    ensures same { (m : Map) → V.shows view.old m → V.shows view.new m }
+    ensures olds { IfOk result (λ d. d.olds ≡ held.now.groups) }
+    ensures frame { (k : LastFrame) (m : Map) → V.shows view.old m → Holds held.now k →
+        IsOwing (functions_of program.now) (root_of program.now) k.seen k.trail m owed.now →
+        ComposesFrame (functions_of program.now) (root_of program.now) owed.now k m (V.asked view.old)
+        (V.asked view.new) result }
+{
+    let table = held.table();
+    let mut writer = Writer::new(alloc, table, held.next());
+    write_frame(
+        alloc,
+        program,
+        table,
+        owed,
+        spares,
+        &mut writer,
+        view,
+        steps,
+    )?;
+    Ok(writer.into_draft(alloc)?)
 }
 
 /// Composes a frame next to the groups of the last good frame (`recompose`), or everything before the first one
@@ -755,13 +782,12 @@ pub fn compose<V: View, L: Ledger>(
 ) -> Result<Draft, ComposeStop>
     ensures keeps { V.keeps view.old view.new }
     ensures same { (m : Map) → V.shows view.old m → V.shows view.new m }
+    ensures olds { IfOk result (λ d. d.olds ≡ held.now.groups) }
     ensures frame { (k : LastFrame) (m : Map) → V.shows view.old m → Holds held.now k →
         IsOwing (functions_of program.now) (root_of program.now) k.seen k.trail m owed.now →
         ComposesFrame (functions_of program.now) (root_of program.now) owed.now k m (V.asked view.old)
         (V.asked view.new) result }
 {
-    let table = held.table();
-    let mut writer = Writer::with_room(alloc, held.next(), table.len()); // Most frames keep most groups.
-    write_frame(alloc, program, table, owed, &mut writer, view, steps)?;
-    Ok(writer.into_draft(alloc)?)
+    let spares = Spares::new(alloc);
+    compose_draft(alloc, program, held, owed, &spares, view, steps)
 }

@@ -1,10 +1,11 @@
 // What a composition keeps between frames, and the draft of the next frame.
-ghost use Rattle.std.specs.Prelude.{◌≡◌, [], length};
+ghost use Rattle.std.specs.Prelude.{◌≡◌, [], IfOk};
 ghost use Rattle.rt_groups.specs.Frames.{no_last_frame};
 ghost use Rattle.composer.specs.FrameDrafts.{Holds};
 
 use rt_groups::Report;
-use slot_table::Table;
+use rt_values::NoMemory;
+use slot_table::{ChangeList, Preview, Table};
 use std::alloc::Global;
 use std::marker::Model;
 
@@ -48,12 +49,13 @@ impl Held {
         self.next
     }
 
-    /// Keeps the groups of a frame in place of the last one's (`applyChanges`). Takes no memory.
+    /// Changes the groups to those of the frame of `draft` (`applyChanges`). Takes no memory.
     pub fn apply(&mut self, draft: Draft)
+        requires { draft.olds ≡ self.old.groups }
         ensures groups { self.new.groups ≡ draft.groups }
         ensures next { self.new.next ≡ draft.next }
     {
-        self.table = draft.table;
+        self.table.apply(draft.changes);
         self.next = draft.next;
     }
 
@@ -71,7 +73,7 @@ impl Held {
 /// A frame that is composed and not yet applied.
 #[derive(Drop)]
 pub struct Draft {
-    table: Table,
+    changes: ChangeList,
     next: u64,
     report: Report,
 }
@@ -81,26 +83,37 @@ impl Model for Draft {
 
     ghost Value = { DraftGroups };
 
-    ghost view = { λ d. record { groups = d.table.groups; next = d.next; report = d.report } };
+    ghost view = { λ d. record {
+      olds = d.changes.olds;
+      groups = d.changes.news;
+      next = d.next;
+      report = d.report;
+    } };
 }
 
 impl Draft {
-    // Returns the draft with these groups.
-    pub(crate) fn new(table: Table, next: u64, report: Report) -> Self
-        ensures { result ≡ record { groups = table.groups; next = next; report = report } }
+    // Returns the draft with these changes.
+    pub(crate) fn new(changes: ChangeList, next: u64, report: Report) -> Self
+        ensures { result ≡ record {
+          olds = changes.olds;
+          groups = changes.news;
+          next = next;
+          report = report;
+        } }
     {
         Draft {
-            table,
+            changes,
             next,
             report,
         }
     }
 
-    /// Returns the groups of the frame.
-    pub fn table(&self) -> &Table
-        ensures { result.now.groups ≡ self.now.groups }
+    /// Returns the groups of the frame, before `held` has them.
+    pub fn preview<'d>(&'d self, alloc: Global, held: &Held) -> Result<Preview<'d>, NoMemory>
+        requires { self.now.olds ≡ held.now.groups }
+        ensures { IfOk result (λ p. p.groups ≡ self.now.groups) }
     {
-        &self.table
+        self.changes.preview(alloc, &held.table)
     }
 
     /// Returns the report of the frame.

@@ -7,7 +7,7 @@ ghost use Rattle.slot_table.specs.ReaderStates.{group_key};
 ghost use Rattle.lang_ast.specs.Evaluation.{new_binding};
 ghost use Rattle.compose_model.specs.Composing.{bind};
 ghost use Rattle.composer.specs.WrittenGroups.{number_kept, written_kept, running_call, first_reads, enter_group, group_kind, arguments_of, AreArguments};
-ghost use Rattle.composer.specs.OldSiblings.{old_group, found_siblings};
+ghost use Rattle.composer.specs.OldSiblings.{old_group, found_siblings, IsFoundIn};
 ghost use Rattle.composer.specs.Waiting.{waiting_siblings};
 
 use crate::composing::{Level, Progress};
@@ -29,7 +29,7 @@ pub fn enter_group<'a>(
     site: u32,
     what: NewKind,
     pending: &mut Pending<'a>,
-    writer: &mut Writer,
+    writer: &mut Writer<'a>,
 ) -> Result<Option<OldGroup<'a>>, ComposeStop>
     requires { length writer.old.groups ≤ most_groups }
     ensures found { IfOk result (λ found. found ≡ slice_get (waiting_siblings pending.old
@@ -37,6 +37,8 @@ pub fn enter_group<'a>(
     ensures left { OnOk result ((s : GroupKey) → waiting_siblings pending.new s
         ≡ (if same_sibling (record { site = site; key = group_key (group_kind what.entry) }) s
         then drop 1 (waiting_siblings pending.old s) else waiting_siblings pending.old s)) }
+    ensures table { OnOk result (pending.new.table.now.groups ≡ pending.old.table.now.groups) }
+    ensures old { IfOk result (λ found. IsFoundIn pending.old.table.now.groups found) }
     ensures entered { IfOk result (λ found.
         writer.new ≡ enter_group level.now.depth site (group_kind what.entry) found writer.old) }
     ensures fits { OnOk result (length writer.new.groups ≤ most_groups) }
@@ -66,12 +68,14 @@ pub fn enter_body<'a>(
     callee: &Function,
     arguments: CallArguments,
     found: &Option<OldGroup<'a>>,
-    writer: &mut Writer,
+    writer: &mut Writer<'a>,
 ) -> Result<Progress<'a>, ComposeStop>
     requires room { length writer.old.groups ≤ most_groups }
     requires arguments { AreArguments function arguments found.now }
     ensures scope { IfOk result (λ p. p.scope ≡ bind callee.now.parameters.items (arguments_of arguments.entry)) }
     ensures pending { IfOk result (λ p. (s : GroupKey) → waiting_siblings p.pending s ≡ found_siblings found.now s) }
+    ensures table { IsFoundIn level.now.table.now.groups found.now →
+        IfOk result (λ p. p.pending.table.now.groups ≡ level.now.table.now.groups) }
     ensures reads { IfOk result (λ p. p.reads ≡ []) }
     ensures entered { IfOk result (λ p. p.writer ≡ running_call level.now.depth site
         (kinds.Call function (arguments_of arguments.entry)) (first_reads arguments.entry found.now) writer.old) }
@@ -82,7 +86,7 @@ pub fn enter_body<'a>(
     let scope = bind(level.alloc, room, &callee.parameters, arguments.values())?;
     let pending = Pending::inside_found(level.table, found);
     writer.enter_running(level.alloc, level.depth, site, function, arguments, found)?;
-    let taken = mem::replace(writer, Writer::new(level.alloc, 0));
+    let taken = mem::replace(writer, Writer::new(level.alloc, level.table, 0));
     let reads = level.spares.take_reads(level.alloc);
     Ok(Progress {
         scope,
@@ -92,14 +96,15 @@ pub fn enter_body<'a>(
     })
 }
 
-/// Appends an old group, which shares its slots with the table.
+/// Appends an old group, which is kept.
 pub fn keep_group(
     level: &Level,
     site: u32,
     old: &OldGroup,
     writer: &mut Writer,
 ) -> Result<(), ComposeStop>
-    requires { length writer.old.groups ≤ most_groups }
+    requires room { length writer.old.groups ≤ most_groups }
+    requires table { old.now.groups ≡ writer.old.olds }
     ensures added { OnOk result (writer.new ≡ written_kept level.now.depth site
         (number_kept (old_group old.now).what (old_group old.now).number)
         (old_group old.now).what (old_group old.now).reads writer.old) }
@@ -107,7 +112,7 @@ pub fn keep_group(
     ensures full { result ≡ Err ComposeStop.TooManyGroups → length writer.old.groups ≡ most_groups }
 {
     let number = kept_number(old.kind(), old.number());
-    writer.keep(old.share()?.placed(level.depth, site, number))
+    writer.keep(level.depth, site, number, old)
 }
 
 // Returns the number that a group keeps: that of a node.

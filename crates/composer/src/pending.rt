@@ -4,7 +4,7 @@ ghost use Rattle.std.specs.Option.{is_some};
 ghost use Rattle.rt_groups.specs.Paths.{GroupKey, same_sibling};
 ghost use Rattle.slot_table.specs.TableGroups.{group_at};
 ghost use Rattle.group_keys.specs.Queues.{queue_of};
-ghost use Rattle.composer.specs.OldSiblings.{sibling_key, level_indexes, is_level as is_group_at, inner_siblings, found_siblings, indexes_in};
+ghost use Rattle.composer.specs.OldSiblings.{sibling_key, level_indexes, is_level as is_group_at, inner_siblings, found_siblings, indexes_in, IsFoundIn};
 
 use crate::compared::key_of;
 use crate::old_groups::OldGroup;
@@ -49,14 +49,16 @@ impl<'a> Pending<'a> {
 
     /// Returns no siblings, for the inside of a new group.
     pub fn none(table: &'a Table) -> Pending<'a>
-        ensures { (s : GroupKey) → waiting_siblings result s ≡ [] }
+        ensures waiting { (s : GroupKey) → waiting_siblings result s ≡ [] }
+        ensures table { result.table.now.groups ≡ table.now.groups }
     {
         Pending::at(table, 0, table.len())
     }
 
     /// Returns the groups directly inside `old`.
     pub fn inside(old: &OldGroup<'a>) -> Pending<'a>
-        ensures { (s : GroupKey) → waiting_siblings result s ≡ inner_siblings old.now s }
+        ensures waiting { (s : GroupKey) → waiting_siblings result s ≡ inner_siblings old.now s }
+        ensures table { result.table.now.groups ≡ old.now.groups }
     {
         let depth = old.depth() as usize;
         let _length = old.table().len();
@@ -66,7 +68,8 @@ impl<'a> Pending<'a> {
     /// Returns the groups directly inside `found`, which a new group is matched with, or no siblings if there is no
     /// such group.
     pub fn inside_found(table: &'a Table, found: &Option<OldGroup<'a>>) -> Pending<'a>
-        ensures { (s : GroupKey) → waiting_siblings result s ≡ found_siblings found.now s }
+        ensures waiting { (s : GroupKey) → waiting_siblings result s ≡ found_siblings found.now s }
+        ensures table { IsFoundIn table.now.groups found.now → result.table.now.groups ≡ table.now.groups }
     {
         match found {
             None => Pending::none(table),
@@ -85,6 +88,8 @@ impl<'a> Pending<'a> {
         ensures found { IfOk result (λ found. found ≡ slice_get (waiting_siblings self.old key.now) 0) }
         ensures left { OnOk result ((s : GroupKey) → waiting_siblings self.new s
             ≡ (if same_sibling key.now s then drop 1 (waiting_siblings self.old s) else waiting_siblings self.old s)) }
+        ensures table { OnOk result (self.new.table.now.groups ≡ self.old.table.now.groups) }
+        ensures old { IfOk result (λ found. IsFoundIn self.old.table.now.groups found) }
     {
         if self.queues.is_none() {
             if !is_level(self.table, self.depth, self.next) {
@@ -109,6 +114,7 @@ impl<'a> Pending<'a> {
         ensures left { (s : GroupKey) → waiting_siblings self.new s
             ≡ (if same_sibling (sibling_key (group_at self.old.table.now.groups self.old.next)) s
             then drop 1 (waiting_siblings self.old s) else waiting_siblings self.old s) }
+        ensures table { self.new.table.now.groups ≡ self.old.table.now.groups }
     {
         let next = self.next;
         self.next = self.table.index_after(next);
@@ -120,6 +126,7 @@ impl<'a> Pending<'a> {
         requires { is_some self.old.queues ≡ false }
         ensures queued { OnOk result (is_some self.new.queues ≡ true) }
         ensures same { OnOk result ((s : GroupKey) → waiting_siblings self.new s ≡ waiting_siblings self.old s) }
+        ensures table { OnOk result (self.new.table.now.groups ≡ self.old.table.now.groups) }
     {
         let queues = queue_from(alloc, self.table, self.depth, self.next)?;
         self.queues = Some(Box::new(alloc, queues)?);
@@ -132,6 +139,8 @@ impl<'a> Pending<'a> {
         ensures found { result ≡ slice_get (waiting_siblings self.old key.now) 0 }
         ensures left { (s : GroupKey) → waiting_siblings self.new s
             ≡ (if same_sibling key.now s then drop 1 (waiting_siblings self.old s) else waiting_siblings self.old s) }
+        ensures table { self.new.table.now.groups ≡ self.old.table.now.groups }
+        ensures old { IsFoundIn self.old.table.now.groups result }
     {
         match take_index(&mut self.queues, key) {
             Some(index) => Some(OldGroup::new(self.table, index)),

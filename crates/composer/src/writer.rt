@@ -1,15 +1,16 @@
 // The groups of a new frame, as they are written.
-ghost use Rattle.std.specs.Prelude.{◌≡◌, ◌≤◌, ◌<◌, ◌+◌, ◌-◌, ◌^◌, ◌++◌, ◌∷◌, [], List, ℕ, Err, length, map, Bool, true, IfOk, OnOk};
+ghost use Rattle.std.specs.Prelude.{◌≡◌, ◌≤◌, ◌<◌, ◌+◌, ◌-◌, ◌^◌, ◌++◌, ◌∷◌, [], List, ℕ, Err, length, map, Bool, true, IfOk, IfSome, OnOk};
 ghost use Rattle.std.specs.Option.{option_map};
 ghost use Rattle.rt_groups.specs.declared.groups.Group.{Group as group_data};
 ghost use Rattle.rt_groups.specs.declared.groups.GroupKind.TheVariants as kinds;
 ghost use Rattle.rt_groups.specs.PreorderGroups.{flat_group};
 ghost use Rattle.rt_groups.specs.Frames.{most_groups};
+ghost use Rattle.slot_table.specs.TableGroups.{group_at};
 ghost use Rattle.slot_table.specs.ReaderStates.{group_key};
 ghost use Rattle.composer.specs.ComposerState.{one_if};
 ghost use Rattle.composer.specs.OldSiblings.{old_group};
 ghost use Rattle.composer.specs.QuietRuns.{group_run};
-ghost use Rattle.composer.specs.WrittenGroups.{group_kind, arguments_of, AreArguments, first_reads, number_for, enter_group, with_call, running_call, written_kept, written_run, draft_of, is_node as node, nodes_in, IsCellOf};
+ghost use Rattle.composer.specs.WrittenGroups.{group_kind, arguments_of, AreArguments, first_reads, number_for, enter_group, with_call, running_call, written_kept, written_run, IsDraftOf, IsPlacedAt, IsKeptAt};
 
 use crate::compared::{has_other_keys, is_same_key, is_same_node, same_reads};
 use crate::draft::Draft;
@@ -19,7 +20,7 @@ use crate::stop::ComposeStop;
 use lang_meaning::Env;
 use rt_groups::{Attribute, Attributes, Deps, Group, GroupKind, Report, Values};
 use rt_values::{NoMemory, ObjectNo, Value, Word};
-use slot_table::{SharedGroup, Table, TableBuilder};
+use slot_table::{ChangeListWriter, SharedGroup, Table};
 use std::alloc::Global;
 use std::marker::Model;
 
@@ -85,24 +86,47 @@ impl<'a> CallArguments<'a> {
     }
 }
 
+// Where a new group goes, and its number: that of a node, or 0.
+#[derive(Clone, Copy)]
+struct Place {
+    depth: u32,
+    site: u32,
+    number: u64,
+}
+
+impl Place {
+    // Returns the place of a group that is no node.
+    #[inline(always)]
+    fn without_number(depth: u32, site: u32) -> Self
+        ensures { result ≡ record { depth = depth; site = site; number = 0 } }
+    {
+        Place {
+            depth,
+            site,
+            number: 0,
+        }
+    }
+}
+
 /// Writes the groups of a new frame in preorder (`SlotWriter`). It keeps the number of the next new node, and counts
 /// the calls that ran, the cells that were calculated, and the reads of the calls that ran and ended.
 #[derive(Drop)]
-pub struct Writer {
-    groups: TableBuilder,
+pub struct Writer<'t> {
+    groups: ChangeListWriter<'t>,
     next: u64,
     ran: u64,
     calculated: u64,
     reads: u64,
 }
 
-impl Model for Writer {
+impl<'t> Model for Writer<'t> {
     ghost use Rattle.composer.specs.WrittenGroups.{WrittenGroups};
 
     ghost Value = { WrittenGroups };
 
     ghost view = { λ w. record {
-      groups = w.groups;
+      olds = w.groups.olds;
+      groups = w.groups.news;
       next = w.next;
       ran = w.ran;
       calculated = w.calculated;
@@ -110,28 +134,25 @@ impl Model for Writer {
     } };
 }
 
-impl Writer {
-    /// Returns a writer without groups. `next` is the number of the next new node.
-    pub fn new(alloc: Global, next: u64) -> Self
-        ensures { result ≡ record { groups = []; next = next; ran = 0; calculated = 0; reads = 0 } }
+impl<'t> Writer<'t> {
+    /// Returns a writer without groups, which changes `table`. `next` is the number of the next new node.
+    pub fn new(alloc: Global, table: &'t Table, next: u64) -> Self
+        ensures { result ≡ record {
+          olds = table.now.groups;
+          groups = [];
+          next = next;
+          ran = 0;
+          calculated = 0;
+          reads = 0;
+        } }
     {
         Writer {
-            groups: TableBuilder::new(alloc),
+            groups: ChangeListWriter::new(alloc, table),
             next,
             ran: 0,
             calculated: 0,
             reads: 0,
         }
-    }
-
-    /// Returns a writer without groups, with capacity for `count` groups as far as memory allows. `next` is the number
-    /// of the next new node.
-    pub fn with_room(alloc: Global, next: u64, count: usize) -> Self
-        ensures { result ≡ record { groups = []; next = next; ran = 0; calculated = 0; reads = 0 } }
-    {
-        let mut writer = Writer::new(alloc, next);
-        let _ = writer.groups.reserve(count);
-        writer
     }
 
     /// Returns the number of groups.
@@ -143,20 +164,18 @@ impl Writer {
 
     /// Returns the draft of the frame whose groups are written.
     pub fn into_draft(self, alloc: Global) -> Result<Draft, NoMemory>
-        ensures draft { IfOk result (λ d. d ≡ draft_of self) }
-        ensures bound { self.reads ≤ 2 ^ 64 - 1 }
+        ensures draft { IfOk result (λ d. IsDraftOf self.entry d) }
+        ensures bound { self.entry.reads ≤ 2 ^ 64 - 1 }
     {
-        let groups = self.groups.len() as u64;
-        let nodes = node_count(&self.groups) as u64;
         let report = Report {
             ran: self.ran,
             calculated: self.calculated,
             reads: self.reads,
-            groups,
-            nodes,
+            groups: self.groups.len() as u64,
+            nodes: self.groups.nodes() as u64,
         };
-        let table = Table::from_groups(alloc, self.groups)?;
-        Ok(Draft::new(table, self.next, report))
+        let changes = self.groups.into_change_list(alloc)?;
+        Ok(Draft::new(changes, self.next, report))
     }
 
     // Appends a group. Fails if there are 1,000,000 groups already.
@@ -164,6 +183,7 @@ impl Writer {
     fn push(&mut self, group: SharedGroup) -> Result<(), ComposeStop>
         requires { length self.old.groups ≤ most_groups }
         ensures added { OnOk result (self.new ≡ record {
+          olds = self.old.olds;
           groups = self.old.groups ++ group ∷ [];
           next = self.old.next;
           ran = self.old.ran;
@@ -177,6 +197,35 @@ impl Writer {
             return Err(ComposeStop::TooManyGroups);
         }
         Ok(self.groups.push(group)?)
+    }
+
+    // Appends a new group without reads.
+    #[inline(always)]
+    fn push_new(&mut self, alloc: Global, place: Place, what: GroupKind) -> Result<(), ComposeStop>
+        requires { length self.old.groups ≤ most_groups }
+        ensures added { OnOk result (self.new
+            ≡ written_run (flat_group place.depth place.site place.number what [] ∷ []) self.old) }
+        ensures fits { OnOk result (length self.new.groups ≤ most_groups) }
+        ensures full { result ≡ Err ComposeStop.TooManyGroups → length self.old.groups ≡ most_groups }
+    {
+        let group = new_group(alloc, what)?;
+        self.push(group.placed(place.depth, place.site, place.number))
+    }
+
+    // Appends the group of the table at index `at`, which stays as it is.
+    #[inline(always)]
+    fn keep_one(&mut self, at: usize) -> Result<(), ComposeStop>
+        requires room { length self.old.groups ≤ most_groups }
+        requires inside { at < length self.old.olds }
+        ensures added { OnOk result (self.new ≡ written_run (group_at self.old.olds at ∷ []) self.old) }
+        ensures fits { OnOk result (length self.new.groups ≤ most_groups) }
+        ensures full { result ≡ Err ComposeStop.TooManyGroups → length self.old.groups ≡ most_groups }
+    {
+        if self.groups.len() >= MOST_GROUPS {
+            return Err(ComposeStop::TooManyGroups);
+        }
+        let _length = self.groups.table().len();
+        Ok(self.groups.keep(at, at + 1)?)
     }
 
     /// Appends a node or a key that is matched with `found`. A node gets the number of `found`, or the next number.
@@ -198,14 +247,31 @@ impl Writer {
         match what {
             NewKind::Node { kind, attributes } => {
                 let (number, next) = node_number(found, self.next)?;
-                let group = matched_node(alloc, kind, attributes, found, spares)?;
-                self.push(group.placed(depth, site, number))?;
+                let place = Place {
+                    depth,
+                    site,
+                    number,
+                };
+                match kept_node(self.groups.table(), found, place, kind, attributes.items()) {
+                    Some(at) => {
+                        spares.keep_attributes(alloc, attributes);
+                        self.keep_one(at)?;
+                    }
+                    None => {
+                        let kind = kind.copy()?;
+                        let node = GroupKind::Node { kind, attributes };
+                        self.push_new(alloc, place, node)?;
+                    }
+                }
                 self.next = next;
                 Ok(())
             }
             NewKind::Key(value) => {
-                let group = matched_key(alloc, value, found)?;
-                self.push(group.placed(depth, site, 0))
+                let place = Place::without_number(depth, site);
+                match kept_key(self.groups.table(), found, place, &value) {
+                    Some(at) => self.keep_one(at),
+                    None => self.push_new(alloc, place, GroupKind::Key(value)),
+                }
             }
         }
     }
@@ -228,20 +294,22 @@ impl Writer {
         ensures fits { OnOk result (length self.new.groups ≤ most_groups) }
         ensures full { result ≡ Err ComposeStop.TooManyGroups → length self.old.groups ≡ most_groups }
     {
-        if let Some(old) = found {
-            if is_cell_of(old, &keys, value) {
-                spares.keep_scope(alloc, keys);
-                return self.push(old.share()?.placed(depth, site, 0));
-            }
-        }
-        let keys = keys.into_values(alloc)?;
-        let counts = one_where(has_other_keys(found, keys.items()));
+        let counts = one_where(has_other_keys(found, &keys));
         let Some(calculated) = self.calculated.checked_add(counts) else {
             return Err(ComposeStop::NoMemory); // There are fewer cells than groups.
         };
-        let value = value.copy(alloc)?;
-        let group = new_group(alloc, GroupKind::Cell { keys, value })?;
-        self.push(group.placed(depth, site, 0))?;
+        let place = Place::without_number(depth, site);
+        match kept_cell(self.groups.table(), found, place, &keys, value) {
+            Some(at) => {
+                spares.keep_scope(alloc, keys);
+                self.keep_one(at)?;
+            }
+            None => {
+                let keys = keys.into_values(alloc)?;
+                let value = value.copy(alloc)?;
+                self.push_new(alloc, place, GroupKind::Cell { keys, value })?;
+            }
+        }
         self.calculated = calculated;
         Ok(())
     }
@@ -263,8 +331,7 @@ impl Writer {
         let Some(ran) = self.ran.checked_add(one_where(runs)) else {
             return Err(ComposeStop::NoMemory); // There are fewer calls than groups.
         };
-        let group = new_group(alloc, call)?;
-        self.push(group.placed(depth, site, 0))?;
+        self.push_new(alloc, Place::without_number(depth, site), call)?;
         self.ran = ran;
         Ok(())
     }
@@ -344,28 +411,38 @@ impl Writer {
         Ok(())
     }
 
-    /// Appends an old group that is kept, with its number and its reads.
-    pub fn keep(&mut self, group: SharedGroup) -> Result<(), ComposeStop>
-        requires { length self.old.groups ≤ most_groups }
+    /// Appends an old group that is kept, with its reads.
+    pub fn keep(
+        &mut self,
+        depth: u32,
+        site: u32,
+        number: u64,
+        old: &OldGroup,
+    ) -> Result<(), ComposeStop>
+        requires room { length self.old.groups ≤ most_groups }
+        requires table { old.now.groups ≡ self.old.olds }
         ensures added { OnOk result (self.new
-            ≡ written_kept group.depth group.site group.number group.what group.reads self.old) }
+            ≡ written_kept depth site number (old_group old.now).what (old_group old.now).reads self.old) }
         ensures fits { OnOk result (length self.new.groups ≤ most_groups) }
         ensures full { result ≡ Err ComposeStop.TooManyGroups → length self.old.groups ≡ most_groups }
     {
-        self.push(group)
+        if old.depth() == depth && old.site() == site && old.number() == number {
+            return self.keep_one(old.index());
+        }
+        self.push(old.share()?.placed(depth, site, number))
     }
 
-    /// Appends the groups of `table` from index `from` to before index `to`, which are kept as they are. Fails if there
-    /// would be more than 1,000,000 groups.
-    pub fn keep_run(&mut self, table: &Table, from: usize, to: usize) -> Result<(), ComposeStop>
+    /// Appends the groups of the table from index `from` to before index `to`, which are kept as they are. Fails if
+    /// there would be more than 1,000,000 groups.
+    pub fn keep_run(&mut self, from: usize, to: usize) -> Result<(), ComposeStop>
         requires room { length self.old.groups ≤ most_groups }
         requires order { from ≤ to }
-        requires inside { to ≤ length table.now.groups }
-        ensures added { OnOk result (self.new ≡ written_run (group_run table.now.groups from to) self.old) }
+        requires inside { to ≤ length self.old.olds }
+        ensures added { OnOk result (self.new ≡ written_run (group_run self.old.olds from to) self.old) }
         ensures longer { OnOk result (length self.old.groups ≤ length self.new.groups) }
         ensures fits { OnOk result (length self.new.groups ≤ most_groups) }
         ensures full { result ≡ Err ComposeStop.TooManyGroups →
-            most_groups < length self.old.groups + length (group_run table.now.groups from to) }
+            most_groups < length self.old.groups + length (group_run self.old.olds from to) }
     {
         if from == to {
             return Ok(());
@@ -373,7 +450,7 @@ impl Writer {
         if to - from > MOST_GROUPS - self.groups.len() {
             return Err(ComposeStop::TooManyGroups);
         }
-        Ok(table.share_run(from, to, &mut self.groups)?)
+        Ok(self.groups.keep(from, to)?)
     }
 
     /// Gives the call at index `place`, which ran, its own reads, and counts them. `first` has the reads of its group
@@ -392,6 +469,7 @@ impl Writer {
         ensures groups { (before after : List group_data) (g : group_data) →
             length before ≡ place → self.old.groups ≡ before ++ (g ∷ after) → g.reads ≡ first.now →
             OnOk result (self.new.groups ≡ before ++ (flat_group g.depth g.site g.number g.what own ∷ after)) }
+        ensures olds { OnOk result (self.new.olds ≡ self.old.olds) }
         ensures next { OnOk result (self.new.next ≡ self.old.next) }
         ensures ran { OnOk result (self.new.ran ≡ self.old.ran) }
         ensures calculated { OnOk result (self.new.calculated ≡ self.old.calculated) }
@@ -426,80 +504,92 @@ fn new_group(alloc: Global, what: GroupKind) -> Result<SharedGroup, NoMemory>
     SharedGroup::new(alloc, group)
 }
 
-// Returns a node without reads. It shares the slots of `found` if they are equal. The list of the attributes is spare
-// then.
-fn matched_node(
-    alloc: Global,
+// Returns the index of the old group that was found if it is at this place in the table and has no reads.
+#[inline(always)]
+fn kept_index(table: &Table, found: &Option<OldGroup>, place: Place) -> Option<usize>
+    ensures { IfSome result (λ at. IsPlacedAt table.now.groups at place.depth place.site place.number) }
+{
+    let Some(old) = found else {
+        return None;
+    };
+    let at = old.index();
+    if at >= table.len() || table.depth(at) != place.depth || table.site(at) != place.site {
+        return None;
+    }
+    if table.number(at) != place.number || !table.reads(at).is_empty() {
+        return None;
+    }
+    Some(at)
+}
+
+// Returns the index of the old node that was found if it stays as it is: at this place, with this kind and equal
+// attributes.
+#[inline(always)]
+fn kept_node(
+    table: &Table,
+    found: &Option<OldGroup>,
+    place: Place,
     kind: &Word,
-    attributes: Attributes,
+    attributes: &[Attribute],
+) -> Option<usize>
+    ensures { IfSome result (λ at. IsKeptAt table.now.groups at place.depth place.site place.number
+        (kinds.Node kind.now attributes.now)) }
+{
+    let Some(at) = kept_index(table, found, place) else {
+        return None;
+    };
+    if is_same_node(table.kind(at), kind, attributes) {
+        return Some(at);
+    }
+    None
+}
+
+// Returns the index of the old key that was found if it stays as it is: at this place, with an equal value.
+#[inline(always)]
+fn kept_key(table: &Table, found: &Option<OldGroup>, place: Place, value: &Value) -> Option<usize>
+    ensures { IfSome result (λ at. IsKeptAt table.now.groups at place.depth place.site place.number
+        (kinds.Key value.now)) }
+{
+    let Some(at) = kept_index(table, found, place) else {
+        return None;
+    };
+    if is_same_key(table.kind(at), value) {
+        return Some(at);
+    }
+    None
+}
+
+// Returns the index of the old cell that was found if it stays as it is: at this place, remembering `value` for the
+// values of `keys`.
+#[inline(always)]
+fn kept_cell(
+    table: &Table,
     found: &Option<OldGroup>,
-    spares: &Spares,
-) -> Result<SharedGroup, NoMemory>
-    ensures kind { IfOk result (λ g. g.what ≡ kinds.Node kind.now attributes) }
-    ensures reads { IfOk result (λ g. g.reads ≡ []) }
+    place: Place,
+    keys: &Env,
+    value: &Value,
+) -> Option<usize>
+    ensures kept { IfSome result (λ at. IsKeptAt table.now.groups at place.depth place.site place.number
+        (kinds.Cell (map (λ b. b.value) keys.now) value.now)) }
 {
-    if let Some(old) = found {
-        if is_node_of(old, kind, attributes.items()) {
-            spares.keep_attributes(alloc, attributes);
-            return old.share();
-        }
+    let Some(at) = kept_index(table, found, place) else {
+        return None;
+    };
+    if is_same_cell(table.kind(at), keys, value) {
+        return Some(at);
     }
-    let kind = kind.copy()?;
-    new_group(alloc, GroupKind::Node { kind, attributes })
+    None
 }
 
-// Returns a key without reads. It shares the slots of `found` if they are equal.
-fn matched_key(
-    alloc: Global,
-    value: Value,
-    found: &Option<OldGroup>,
-) -> Result<SharedGroup, NoMemory>
-    ensures kind { IfOk result (λ g. g.what ≡ kinds.Key value) }
-    ensures reads { IfOk result (λ g. g.reads ≡ []) }
+// Returns whether it is a cell that remembers `value` for the values of `keys`.
+fn is_same_cell(what: &GroupKind, keys: &Env, value: &Value) -> bool
+    ensures { result ≡ true → what.now ≡ kinds.Cell (map (λ b. b.value) keys.now) value.now }
 {
-    if let Some(old) = found {
-        if is_key_of(old, &value) {
-            return old.share();
-        }
-    }
-    new_group(alloc, GroupKind::Key(value))
-}
-
-// Returns whether the old group is a node with this kind and equal attributes, and has no reads.
-fn is_node_of(old: &OldGroup, kind: &Word, attributes: &[Attribute]) -> bool
-    ensures { result ≡ true → ((old_group old.now).what ≡ kinds.Node kind.now attributes.now)
-        × ((old_group old.now).reads ≡ []) }
-{
-    if !is_same_node(old.kind(), kind, attributes) {
-        return false;
-    }
-    old.reads().is_empty()
-}
-
-// Returns whether the old group is a key with an equal value, and has no reads.
-fn is_key_of(old: &OldGroup, value: &Value) -> bool
-    ensures { result ≡ true → ((old_group old.now).what ≡ kinds.Key value.now) × ((old_group old.now).reads ≡ []) }
-{
-    if !is_same_key(old.kind(), value) {
-        return false;
-    }
-    old.reads().is_empty()
-}
-
-// Returns whether the old group is a cell that remembers `value` for the values of `keys`, and has no reads.
-fn is_cell_of(old: &OldGroup, keys: &Env, value: &Value) -> bool
-    ensures { result ≡ true → IsCellOf (map (λ b. b.value) keys.now) value.now (old_group old.now) }
-{
-    match old.kind() {
+    match what {
         GroupKind::Cell {
             keys: kept,
             value: remembered,
-        } => {
-            if !keys.has_values(kept.items()) || !remembered.same(value) {
-                return false;
-            }
-            old.reads().is_empty()
-        }
+        } => keys.has_values(kept.items()) && remembered.same(value),
         _ => false,
     }
 }
@@ -525,17 +615,4 @@ fn one_where(truth: bool) -> u64
     ensures { result ≡ one_if truth }
 {
     if truth { 1 } else { 0 }
-}
-
-// Counts the nodes among the groups.
-fn node_count(groups: &TableBuilder) -> usize
-    ensures { result ≡ nodes_in groups.now }
-{
-    let mut count = 0;
-    for i in 0..groups.len() {
-        if groups.is_node(i) {
-            count += 1;
-        }
-    }
-    count
 }

@@ -15,3 +15,8 @@ IsComposed c k m None = (c.owed.all ≡ false) × (c.owed.objects ≡ [])
 IsComposed c k m (Some d) =
     IsFrameDraft (functions_of c.program.now) (root_of c.program.now) c.owed k m d
     × (how_many (forest (functions_of c.program.now) (root_of c.program.now) m) ≤ most_groups)
+
+-- What was composed is for the groups that the composition keeps.
+abbrev pub IsForHeld : Composition → Option DraftGroups → Type 0
+IsForHeld c None = Unit {0}
+IsForHeld c (Some d) = d.olds ≡ c.held.groups

@@ -13,7 +13,7 @@ ghost use Rattle.snap_api.specs.Desks.{FollowsLast};
 ghost use Rattle.snap_api.specs.World.{World};
 ghost use Rattle.node_tree.specs.Calls.{insert_count};
 ghost use Rattle.recomposer.specs.AppliedFrames.{MayCall, Applies, UnlessFault, FaultHasCause, OwesNothing, kept_after_fault, ops_of};
-ghost use Rattle.recomposer.specs.Composed.{IsComposed};
+ghost use Rattle.recomposer.specs.Composed.{IsComposed, IsForHeld};
 ghost use Rattle.recomposer.specs.Compositions.{IsAt, StopsAtEnd, refused_take, frame_reads, BeginsFrame, EndsFrame, EndsPart, ClosesFrame, GrowsFor, MakesFrame, MakesNoFrame, MakesReads, OwesNoCall, seen_again, LogsFrame, LogsNoFrame, world_of_frame};
 
 use composer::{ComposeStop, Draft, Held, Owed, compose};
@@ -216,6 +216,7 @@ impl<'p> Composition<'p> {
         ensures part { (k : LastFrame) (m : Map) → IsAt self.now k (Some m) → V.shows view.old m →
             OnErr result (Grew (V.asked view.old) (V.asked view.new) (frame_reads self.now.program.now k m)) }
         ensures idle { OwesNothing self.now → (result ≡ Ok None) × (view.new ≡ view.old) × (steps.new ≡ steps.old) }
+        ensures olds { IfOk result (λ composed. IsForHeld self.now composed) }
     {
         if self.owed.is_nothing() {
             return Ok(None);
@@ -247,13 +248,15 @@ impl<'p> Composition<'p> {
     // Lists the calls on the applier that turn the kept node tree into that of the draft. The nodes are not compared if
     // the frame keeps all groups.
     fn list_calls(&self, alloc: Global, draft: &Draft) -> Result<Ops, NoMemory>
+        requires { draft.now.olds ≡ self.now.held.groups }
         ensures { (k : LastFrame) (m : Map) → IsAt self.now k (Some m) → IsComposed self.now k m (Some draft.now) →
             IfOk result (λ ops. ops ≡ ops_of k (frame_of (functions_of self.now.program.now) k m)) }
     {
         if self.keeps_all(draft) {
             return Ok(Ops::new(alloc));
         }
-        let new = list_nodes(alloc, draft.table())?;
+        let preview = draft.preview(alloc, &self.held)?;
+        let new = list_nodes(alloc, preview.table())?;
         if self.is_detached() {
             return place_anew(alloc, &new);
         }
@@ -264,6 +267,7 @@ impl<'p> Composition<'p> {
     // Keeps the groups of a composed frame and the calls that it made on the applier. Nothing is owed then. Returns the
     // report.
     fn keep(&mut self, draft: Draft, ops: Ops) -> Report
+        requires { draft.olds ≡ self.old.held.groups }
         ensures program { self.new.program ≡ self.old.program }
         ensures watcher { self.new.watcher ≡ self.old.watcher }
         ensures ops { self.new.ops ≡ ops }
@@ -320,6 +324,7 @@ impl<'p> Composition<'p> {
     ) -> Result<Report, FrameStop>
         requires tree { MayCall (A.tree applier.old)
             (λ k. (m : Map) × IsAt self.old k (Some m) × IsComposed self.old k m composed) }
+        requires olds { IsForHeld self.old composed }
         ensures good { (k : LastFrame) (m : Map) → IsAt self.old k (Some m) → IsComposed self.old k m composed →
             OnOk result (IsAt self.new (kept_after k (frame_of (functions_of self.old.program.now) k m)) (Some m)) }
         ensures report { (k : LastFrame) (m : Map) → IsAt self.old k (Some m) → IsComposed self.old k m composed →
@@ -370,6 +375,7 @@ impl<'p> Composition<'p> {
 
     // Keeps a frame that is composed and makes no call on an applier. Without a draft the frame owed nothing.
     fn keep_composed(&mut self, alloc: Global, composed: Option<Draft>) -> Report
+        requires { IsForHeld self.old composed }
         ensures program { self.new.program ≡ self.old.program }
         ensures watcher { self.new.watcher ≡ self.old.watcher }
         ensures ops { self.new.ops ≡ [] }

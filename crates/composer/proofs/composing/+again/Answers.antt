@@ -42,6 +42,7 @@ use Rattle.composer.proofs.Comparisons.{call_runs_kept}
 use Rattle.composer.proofs.CalledFunctions.{how_many_functions, slice_is, since_slice, statement_calculates, body_none}
 use Rattle.composer.proofs.SkippedCalls.{skips, skips_as}
 use Rattle.composer.proofs.RunBodies.{body_reached}
+use Rattle.composer.proofs.Tables.{fits_after, stays_with, run_added, run_is}
 use Rattle.composer.proofs.RunCalls.{call_alone, part_ran, longer_ran, body_done, body_stop, part_one, longer_than, call_what, owed_call, kept_call, kept_other, kept_state, owed_is, no_call, body_part, begins_after}
 use Rattle.composer.proofs.OldWalks.{first_of_all}
 use Rattle.composer.proofs.SkipLoops.{first_parts, left_first, left_run, left_full, left_more, left_stop, left_done, ends_past, index_behind, behind_is, index_grows}
@@ -126,7 +127,7 @@ run_all-loop-statement-init g t c = record {
   same = λ m h. h;
   same_scope = refl;
   longer = omega arith;
-  fits = search rules;
+  fits = c.requires.stays;
   counted = λ m h. refl;
   going = λ m o h b calc. going_first b.fits;
 }
@@ -272,7 +273,11 @@ run_group-returns-then-is_empty-clause-part g t c = record {
   same_scope = refl;
   longer = entered_longer _ _ (group_kind c.args.what) c.in_ok-found.found c.args.made.now.writer _
       c.in_ok-found.ensures.entered;
-  fits = c.in_ok-found.ensures.fits;
+  fits = record {
+    written = fits_after (ap (λ (q : WrittenGroups). q.olds) c.in_ok-found.ensures.entered) c.requires.stays.written
+        c.in_ok-found.ensures.fits;
+    pending = c.in_ok-found.ensures.table ∙ c.requires.stays.pending;
+  };
   counted = λ m h. let e : c.enter_group.new.writer.reads ≡ c.args.made.now.writer.reads =
       ap (λ (q : WrittenGroups). q.reads) c.in_ok-found.ensures.entered in omega (arith, e);
 }
@@ -291,7 +296,7 @@ run_group-returns-in_err-run_all-clause-ran g t c w is plain m h o b calc =
     let within : c.replace-around.new.dest ≡ c.inside_found-within.result = search rules in
     let fits = subst (λ (p : Pending). Fits (c.args.level.now.depth + 1) p (inside_of there) []) (sym within)
     (fits_inside c.args.level.now.depth c.inside_found-within.result c.in_ok-found.found there
-    c.inside_found-within.ensures k.like) in
+    c.inside_found-within.ensures.waiting k.like) in
     let e : c.from_residual-in_err-run_all.result ≡ Err c.in_err-run_all.field-0.0 = search rules in
     let inner = c.in_err-run_all.ensures.ran m (inside_old o (inside_of there)) h
     (beside_inside (inside_of there) b k.part fits) calc in
@@ -323,7 +328,7 @@ run_group-returns-clause-ran g t c w is plain m h o b calc =
     let within : c.replace-around.new.dest ≡ c.inside_found-within.result = search rules in
     let fits = subst (λ (p : Pending). Fits (c.args.level.now.depth + 1) p (inside_of there) []) (sym within)
     (fits_inside c.args.level.now.depth c.inside_found-within.result c.in_ok-found.found there
-    c.inside_found-within.ensures k.like) in
+    c.inside_found-within.ensures.waiting k.like) in
     let inner = c.in_ok-run_all.ensures.ran m (inside_old o (inside_of there)) h
     (beside_inside (inside_of there) b k.part fits) calc in
     let around : c.replace-around.result ≡ c.enter_group.new.pending = search rules in
@@ -337,7 +342,11 @@ run_group-returns-clause-part g t c = record {
   same_scope = c.in_ok-run_all.ensures.same_scope;
   longer = let e = entered_longer _ _ (group_kind c.args.what) c.in_ok-found.found c.args.made.now.writer _
       c.in_ok-found.ensures.entered in omega (arith, e, c.in_ok-run_all.ensures.longer);
-  fits = c.in_ok-run_all.ensures.fits;
+  fits = record {
+    written = c.in_ok-run_all.ensures.fits.written;
+    pending = let around : c.replace-around.result ≡ c.enter_group.new.pending = search rules in
+        ap (λ (p : Pending). p.table.now.groups) around ∙ c.in_ok-found.ensures.table ∙ c.requires.stays.pending;
+  };
   counted = λ m h. let f = c.in_ok-run_all.ensures.counted m h in
       let e : c.enter_group.new.writer.reads ≡ c.args.made.now.writer.reads =
       ap (λ (q : WrittenGroups). q.reads) c.in_ok-found.ensures.entered in omega (arith, e, f);
@@ -510,7 +519,10 @@ run_bound-returns g t c = record {
   same = c.in_ok-run_all.ensures.same;
   same_scope = search rules;
   longer = c.in_ok-run_all.ensures.longer;
-  fits = c.in_ok-run_all.ensures.fits;
+  fits = record {
+    written = c.in_ok-run_all.ensures.fits.written;
+    pending = c.in_ok-run_all.ensures.fits.pending;
+  };
   counted = λ m h. c.in_ok-run_all.ensures.counted m h;
   ran = λ m o h b calc.
       let e : c.push_name.new.scope ≡ c.args.made.now.scope ++ new_binding c.args.name.now.text c.args.value ∷ [] =
@@ -608,7 +620,7 @@ run_turns-loop-item-init g t c = record {
   same = λ m h. h;
   same_scope = refl;
   longer = omega arith;
-  fits = search rules;
+  fits = c.requires.stays;
   counted = λ m h. refl;
   going = λ m o h b calc. going_first b.fits;
 }
@@ -909,7 +921,7 @@ run_call-returns-then-call_is_run g t c = record {
   same = c.run_body.ensures.same;
   same_scope = on_ok _ refl;
   longer = c.run_body.ensures.longer;
-  fits = c.run_body.ensures.fits;
+  fits = stays_with _ _ _ (c.in_ok-found.ensures.table ∙ c.requires.stays.pending) c.run_body.ensures.fits;
   counted = λ m h. counted_beside _ _ _ _ _ _ (c.run_body.ensures.counted m h);
   ran = λ m o h b calc.
       let call = Call c.args.function c.args.arguments in
@@ -945,7 +957,11 @@ run_call-returns-then-function-level g t c = record {
   same = λ m h. h;
   same_scope = refl;
   longer = call_longer _ _ _ false _ _ c.in_ok-enter_call.ensures.added;
-  fits = c.in_ok-enter_call.ensures.fits;
+  fits = record {
+    written = fits_after (ap (λ (q : WrittenGroups). q.olds) c.in_ok-enter_call.ensures.added) c.requires.stays.written
+        c.in_ok-enter_call.ensures.fits;
+    pending = c.in_ok-found.ensures.table ∙ c.requires.stays.pending;
+  };
   counted = λ m h. let e = ap (λ (q : WrittenGroups). q.reads) c.in_ok-enter_call.ensures.added in omega (arith, e);
   ran = λ m o h b calc.
       let call = Call c.args.function c.args.arguments in
@@ -977,7 +993,7 @@ run_call-returns-in-Some g t c = record {
   same = c.skip_group.ensures.same;
   same_scope = on_ok _ refl;
   longer = c.skip_group.ensures.longer;
-  fits = c.skip_group.ensures.fits;
+  fits = stays_with _ _ _ (c.in_ok-found.ensures.table ∙ c.requires.stays.pending) c.skip_group.ensures.fits;
   counted = λ m h. counted_beside _ _ _ _ _ _ (c.skip_group.ensures.counted m h);
   ran = λ m o h b calc.
       let call = Call c.args.function c.args.arguments in
@@ -1013,7 +1029,8 @@ run_body-returns-then-function-level g t c = record {
   keeps = g.met.V.View.keeps_itself _;
   same = λ m h. h;
   longer = call_longer _ _ _ true _ _ c.in_ok-enter_empty.ensures.added;
-  fits = c.in_ok-enter_empty.ensures.fits;
+  fits = fits_after (ap (λ (q : WrittenGroups). q.olds) c.in_ok-enter_empty.ensures.added) c.requires.room.fits
+      c.in_ok-enter_empty.ensures.fits;
   counted = λ m h. let e = ap (λ (q : WrittenGroups). q.reads) c.in_ok-enter_empty.ensures.added in omega (arith, e);
   ran = λ m h l there mine since part like.
       let none = body_none m c.args.level.now.functions.now c.args.function (arguments_of c.args.arguments)
@@ -1143,7 +1160,8 @@ run_body-returns g t c = record {
   same = c.in_ok-run_all.ensures.same;
   longer = let e = running_longer _ _ _ _ _ _ c.in_ok-inner.ensures.entered in
       omega (arith, e, c.in_ok-run_all.ensures.longer, c.in_ok-end_call.ensures.len);
-  fits = let e = c.in_ok-end_call.ensures.len in omega (arith, e, c.in_ok-run_all.ensures.fits);
+  fits = fits_after c.in_ok-end_call.ensures.olds c.in_ok-run_all.ensures.fits.written
+      (let e = c.in_ok-end_call.ensures.len in omega (arith, e, c.in_ok-run_all.ensures.fits.written.few));
   counted = λ m h. let a = ap (λ (q : WrittenGroups). q.reads) c.in_ok-inner.ensures.entered in
       let n = ap (λ (l : List ℕ). length l) c.in_ok-inner.ensures.reads in let f = c.in_ok-run_all.ensures.counted m h in
       let e = c.in_ok-end_call.ensures.reads in omega (arith, a, n, e, f);
@@ -1267,7 +1285,7 @@ skip_group-returns-in_ok-keep_group-in-Call g t c = record {
       c.keep_group.new.writer (g.V.View.asked c.args.view.now) mine like c.in_ok-keep_group-in-Call.ensures.added in
       let r = c.skip_all.ensures.ran m h l f.inside mine
       (since_slice c.args.level.now.functions.now c.front.result.now c.in-Call.function c.front.ensures since) part
-      (begins_after _ c.args.old.now f _ _ c.table.ensures c.first_inside.ensures like) in
+      (begins_after _ c.args.old.now f _ _ (sym c.requires.table) c.first_inside.ensures like) in
       reached_at (ap (λ (fs : List Func). skipped_groups m c.args.level.now.owed.now.objects f.inside fs
       (c.args.level.now.depth + 1) (state_of c.keep_group.new.writer (g.V.View.asked c.args.view.now) mine))
       (slice_is c.args.level.now.functions.now c.front.result.now c.in-Call.function c.front.ensures)
@@ -1307,7 +1325,7 @@ skip_inside-returns g t c plain = record {
       let state = kept_state c.args.level.now.depth c.args.site c.args.old.now f c.args.writer.now
       c.keep_group.new.writer (g.V.View.asked c.args.view.now) mine like c.in_ok-keep_group.ensures.added in
       let r = c.skip_all.ensures.ran m h l f.inside mine since part
-      (begins_after _ c.args.old.now f _ _ c.table.ensures c.first_inside.ensures like) in
+      (begins_after _ c.args.old.now f _ _ (sym c.requires.table) c.first_inside.ensures like) in
       reached_at (kept_other m c.args.level.now.owed.now.objects (functions_view c.args.level.now.functions.now)
       c.args.level.now.depth c.args.site f (state_of c.args.writer.now (g.V.View.asked c.args.view.now) mine)
       (state_of c.keep_group.new.writer (g.V.View.asked c.args.view.now) mine)
@@ -1329,14 +1347,14 @@ skip_all-returns-then-is_end g t c = record {
   keeps = c.loop-at.invariant.keeps;
   same = c.loop-at.invariant.same;
   longer = omega (arith, c.loop-at.invariant.longer, c.in_ok-keep_run.ensures.longer);
-  fits = c.in_ok-keep_run.ensures.fits;
+  fits = fits_after (ap (λ (q : WrittenGroups). q.olds) c.in_ok-keep_run.ensures.added) c.loop-at.invariant.fits
+      c.in_ok-keep_run.ensures.fits;
   counted = λ m h. let e = c.loop-at.invariant.counted m h in
       let reads = ap (λ (w : WrittenGroups). w.reads) c.in_ok-keep_run.ensures.added in omega (arith, e, reads);
   ran = λ m h l tr mine since part begins.
       let k = c.loop-at.invariant.going m h l tr mine since part begins in
       let q = c.quiet_end-stop.ensures.quiet k.rest k.begins in
-      let added = ap (λ (w : WrittenGroups). state_of w (g.V.View.asked c.loop-at.view) mine)
-      c.in_ok-keep_run.ensures.added in
+      let added = run_added _ _ (g.V.View.asked c.loop-at.view) mine c.in_ok-keep_run.ensures.added c.loop-at.invariant.fits in
       left_done (left_run k q added) (c.is_end.ensures.end c.if-is_end.true);
 }
 
@@ -1352,7 +1370,7 @@ skip_all-returns-in_err-keep_run g t c =
       ran = λ m h l tr mine since part begins.
           let k = c.loop-at.invariant.going m h l tr mine since part begins in
           let q = c.quiet_end-stop.ensures.quiet k.rest k.begins in
-          left_full _ k q (failed _ _ e) (λ e. c.keep_run.ensures.full (search rules)) refl;
+          left_full _ k q (failed _ _ e) (λ e. run_is _ _ c.loop-at.invariant.fits (c.keep_run.ensures.full (search rules))) refl;
     }
 
 pub skip_all-returns : goal.skip_all-returns
@@ -1363,7 +1381,7 @@ skip_all-returns g t c = record {
   fits = c.loop-at.invariant.fits;
   counted = λ m h. c.loop-at.invariant.counted m h;
   ran = λ m h l tr mine since part begins. left_done (c.loop-at.invariant.going m h l tr mine since part begins)
-      (ends_past c.args.table.now.groups c.args.level.now.depth c.loop-at.at (search (rules, arith)));
+      (ends_past c.args.level.now.table.now.groups c.args.level.now.depth c.loop-at.at (search (rules, arith)));
 }
 
 pub skip_all-returns-in_err-skip_group : goal.skip_all-returns-in_err-skip_group
@@ -1381,12 +1399,11 @@ skip_all-returns-in_err-skip_group g t c =
           let fs = functions_view c.args.level.now.functions.now in
           let d = c.args.level.now.depth in
           let k0 = c.loop-at.invariant.going m h l tr mine since part begins in
-          let added = ap (λ (w : WrittenGroups). state_of w (g.V.View.asked c.loop-at.view) mine)
-          c.in_ok-keep_run.ensures.added in
+          let added = run_added _ _ (g.V.View.asked c.loop-at.view) mine c.in_ok-keep_run.ensures.added c.loop-at.invariant.fits in
           let k = left_run k0 (c.quiet_end-stop.ensures.quiet k0.rest k0.begins) added in
           let here = c.is_end.ensures.more c.if-is_end.false in
-          let f = first_of_all c.args.table.now.groups d i (index_behind c.args.table.now.groups i) k.rest k.begins here.0
-          here.1 (behind_is c.args.table.now.groups i) in
+          let f = first_of_all c.args.level.now.table.now.groups d i (index_behind c.args.level.now.table.now.groups i) k.rest k.begins here.0
+          here.1 (behind_is c.args.level.now.table.now.groups i) in
           let like = subst (λ (q : KeyInfo). SameGroup d q f.found) (sym c.new-old.ensures) f.same in
           let site = c.site.ensures ∙ ap (λ (q : KeyInfo). (old_group q).site) c.new-old.ensures ∙ f.site_is in
           let s = state_of c.keep_run.new.self (g.V.View.asked c.loop-at.view) mine in
@@ -1415,11 +1432,10 @@ skip_all-loop-at-preserved g t c = record {
       let fs = functions_view c.args.level.now.functions.now in
       let d = c.args.level.now.depth in
       let k0 = c.loop-at.invariant.going m h l tr mine since part begins in
-      let added = ap (λ (w : WrittenGroups). state_of w (g.V.View.asked c.loop-at.view) mine)
-      c.in_ok-keep_run.ensures.added in
+      let added = run_added _ _ (g.V.View.asked c.loop-at.view) mine c.in_ok-keep_run.ensures.added c.loop-at.invariant.fits in
       let k = left_run k0 (c.quiet_end-stop.ensures.quiet k0.rest k0.begins) added in
       let here = c.is_end.ensures.more c.if-is_end.false in
-      let f = first_of_all c.args.table.now.groups d i c.index_after-at.result k.rest k.begins here.0 here.1
+      let f = first_of_all c.args.level.now.table.now.groups d i c.index_after-at.result k.rest k.begins here.0 here.1
       c.index_after-at.ensures.after in
       let like = subst (λ (q : KeyInfo). SameGroup d q f.found) (sym c.new-old.ensures) f.same in
       let site = c.site.ensures ∙ ap (λ (q : KeyInfo). (old_group q).site) c.new-old.ensures ∙ f.site_is in
@@ -1435,7 +1451,7 @@ skip_all-loop-at-preserved g t c = record {
 pub skip_all-loop-at-smaller : goal.skip_all-loop-at-smaller
 skip_all-loop-at-smaller g t c =
     let here = c.is_end.ensures.more c.if-is_end.false in
-    let less = index_grows c.args.table.now.groups c.quiet_end-stop.result c.index_after-at.result here.0
+    let less = index_grows c.args.level.now.table.now.groups c.quiet_end-stop.result c.index_after-at.result here.0
     c.index_after-at.ensures.after c.index_after-at.ensures.inside in
     let low = c.quiet_end-stop.ensures.order in
     omega (arith, less, low)

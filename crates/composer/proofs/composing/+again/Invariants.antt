@@ -9,7 +9,7 @@ use Rattle.recompose_laws.specs.CalculatedCells.{StmtsCalculate}
 use Rattle.composer.specs.BesideContracts.{LastComposition, IsSince, OldSiblings, IsOldPart}
 use Rattle.composer.specs.OldGroups.{Begins}
 use Rattle.composer.specs.WrittenGroups.{state_of}
-use Rattle.composer.specs.Recomposes.{BesideProgress, IsBeside}
+use Rattle.composer.specs.Recomposes.{BesideProgress, IsBeside, StaysIn, FitsIn}
 use Rattle.composer.proofs.SkipLoops.{GroupsLeft}
 use Rattle.composer.proofs.composing.+again.Given as goal
 
@@ -19,7 +19,7 @@ invariant-run_all-loop-statement g l = record {
   same : (m : Map) → g.V.View.shows l.initial.view m → g.V.View.shows l.view m;
   same_scope : l.made.scope ≡ l.initial.made.scope;
   longer : length l.initial.made.writer.groups ≤ length l.made.writer.groups;
-  fits : length l.made.writer.groups ≤ most_groups;
+  fits : StaysIn l.level l.made;
   counted : (m : Map) → g.V.View.shows l.initial.view m
       → l.made.writer.reads + length l.made.reads + length (g.V.View.asked l.initial.view)
       ≡ l.initial.made.writer.reads + length l.initial.made.reads + length (g.V.View.asked l.view);
@@ -39,7 +39,7 @@ invariant-run_turns-loop-item g l = record {
   same : (m : Map) → g.V.View.shows l.initial.view m → g.V.View.shows l.view m;
   same_scope : l.made.scope ≡ l.initial.made.scope;
   longer : length l.initial.made.writer.groups ≤ length l.made.writer.groups;
-  fits : length l.made.writer.groups ≤ most_groups;
+  fits : StaysIn l.level l.made;
   counted : (m : Map) → g.V.View.shows l.initial.view m
       → l.made.writer.reads + length l.made.reads + length (g.V.View.asked l.initial.view)
       ≡ l.initial.made.writer.reads + length l.initial.made.reads + length (g.V.View.asked l.view);
@@ -59,20 +59,20 @@ invariant-skip_all-loop-at g l = record {
   keeps : g.V.View.keeps l.initial.view l.view;
   same : (m : Map) → g.V.View.shows l.initial.view m → g.V.View.shows l.view m;
   longer : length l.initial.writer.groups ≤ length l.writer.groups;
-  fits : length l.writer.groups ≤ most_groups;
+  fits : FitsIn l.level.table.now.groups l.writer;
   counted : (m : Map) → g.V.View.shows l.initial.view m
       → l.writer.reads + length (g.V.View.asked l.initial.view)
       ≡ l.initial.writer.reads + length (g.V.View.asked l.view);
   going : (m : Map) → g.V.View.shows l.initial.view m → (a : LastComposition) (t : GroupForest) (mine : List ℕ)
       → IsSince a (functions_view l.level.functions.now) → IsOldPart a l.level.owed.now.objects m t
-      → Begins l.level.depth (drop l.first l.table.groups) t →
+      → Begins l.level.depth (drop l.first l.level.table.now.groups) t →
       GroupsLeft m l.level.owed.now.objects a (functions_view l.level.functions.now) l.level.depth t
-      (drop l.at l.table.groups) (state_of l.initial.writer (g.V.View.asked l.initial.view) mine)
+      (drop l.at l.level.table.now.groups) (state_of l.initial.writer (g.V.View.asked l.initial.view) mine)
       (state_of l.writer (g.V.View.asked l.view) mine);
 }
 
 abbrev pub decreases-skip_all-loop-at : goal.decreases-skip_all-loop-at
-decreases-skip_all-loop-at g l = length l.table.groups - l.at
+decreases-skip_all-loop-at g l = length l.level.table.now.groups - l.at
 
 abbrev pub decreases-run_all : goal.decreases-run_all
 decreases-run_all g l =

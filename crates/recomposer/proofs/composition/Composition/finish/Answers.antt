@@ -113,6 +113,7 @@ pub apply-requires : goal.apply-requires
 apply-requires g c = record {
   tree = may_be_called _ _ _ c.requires.tree
       (λ k at. (at.0, at.1, c.in-Ok-composed.ensures.made k at.0 at.1 at.2));
+  olds = c.in-Ok-composed.ensures.olds;
 }
 
 pub returns-in-Ok-composed-clause-part : goal.returns-in-Ok-composed-clause-part

@@ -16,7 +16,7 @@ returns-then-is_detached c k m h made =
     (calls_anew c.args.self.now k m c.args.draft.now h made.1 detached)
     (c.place_anew.ensures (nodes (new_trail c.args.self.now.program.now k m))
     (c.deref.ensures.value ∙ c.in_ok-new.ensures (new_trail c.args.self.now.program.now k m)
-    (c.table.ensures ∙ made.0.groups)) follows.new_numbers)
+    (c.table.ensures ∙ c.in_ok-preview.ensures ∙ made.0.groups)) follows.new_numbers)
 
 pub returns : goal.returns
 returns c k m h made =
@@ -27,4 +27,4 @@ returns c k m h made =
     (c.place.ensures (nodes k.trail) (nodes (new_trail c.args.self.now.program.now k m))
     (c.deref-2.ensures.value ∙ c.in_ok-old.ensures k.trail (c.table-2.ensures ∙ h.holds.0))
     (c.deref-3.ensures.value ∙ c.in_ok-new.ensures (new_trail c.args.self.now.program.now k m)
-    (c.table.ensures ∙ made.0.groups)) follows.old_numbers follows.new_numbers)
+    (c.table.ensures ∙ c.in_ok-preview.ensures ∙ made.0.groups)) follows.old_numbers follows.new_numbers)

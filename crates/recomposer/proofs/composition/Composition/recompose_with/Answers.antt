@@ -9,7 +9,10 @@ use Rattle.recomposer.proofs.composition.Composition.recompose_with.Goals as goa
 
 pub apply-requires : goal.apply-requires
 apply-requires g c =
-    record { tree = may_be_called _ _ _ c.requires.tree (λ k at. (at.0, at.1, c.in-Ok.ensures.made k at.0 at.1 at.2)) }
+    record {
+      tree = may_be_called _ _ _ c.requires.tree (λ k at. (at.0, at.1, c.in-Ok.ensures.made k at.0 at.1 at.2));
+      olds = c.in-Ok.ensures.olds;
+    }
 
 pub returns-in-Ok-clause-good : goal.returns-in-Ok-clause-good
 returns-in-Ok-clause-good g c k m h shows = c.apply.ensures.good k m h (c.in-Ok.ensures.made k m h shows)
