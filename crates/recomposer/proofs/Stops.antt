@@ -28,6 +28,42 @@ unless_fault (Err TooManyGroups) x = x
 unless_fault (Err Spent) x = x
 unless_fault (Err NoMemory) x = x
 
+-- A result that stopped, and a good one.
+abbrev pub stops : {E : Type 0} (U : Type 0) → E → Result U E
+stops U stop = Err stop
+
+abbrev pub goods : {U : Type 0} (E : Type 0) → U → Result U E
+goods E u = Ok u
+
+-- A good frame did not stop, and a frame stopped for one reason.
+
+pub same_stop : {U E : Type 0} {a b : E} → stops U a ≡ stops U b → a ≡ b
+same_stop is = cc
+
+pub same_good : {U E : Type 0} {a b : U} → goods E a ≡ goods E b → a ≡ b
+same_good is = cc
+
+pub err_not_good : {U E A : Type 0} {u : U} {e : E} → Err e ≡ Ok u → A
+err_not_good is = absurd cc
+
+pub good_not_err : {U E A : Type 0} {u : U} {e : E} → Ok u ≡ Err e → A
+good_not_err is = absurd cc
+
+pub memory_not_fault : {U A : Type 0} → stops U NoMemory ≡ stops U ApplierFault → A
+memory_not_fault is = absurd cc
+
+pub memory_not_many : {U A : Type 0} → stops U NoMemory ≡ stops U TooManyGroups → A
+memory_not_many is = absurd cc
+
+pub memory_not_spent : {U A : Type 0} → stops U NoMemory ≡ stops U Spent → A
+memory_not_spent is = absurd cc
+
+pub fault_not_many : {U A : Type 0} → stops U ApplierFault ≡ stops U TooManyGroups → A
+fault_not_many is = absurd cc
+
+pub fault_not_spent : {U A : Type 0} → stops U ApplierFault ≡ stops U Spent → A
+fault_not_spent is = absurd cc
+
 -- A count of faults that stays, if there is no fault of the applier.
 pub no_cause : {U : Type 0} (n : ℕ) (r : Result U FrameStop) → (r ≡ Err ApplierFault → ⊥) → FaultHasCause n n r
 no_cause n r none = record { later = omega arith; failed = λ e. absurd (none e) }

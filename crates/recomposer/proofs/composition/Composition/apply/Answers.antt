@@ -7,6 +7,7 @@ use Rattle.recomposer.specs.AppliedFrames.{Applies}
 use Rattle.recomposer.specs.Composed.{IsComposed}
 use Rattle.recomposer.proofs.Applied.{may_carry}
 use Rattle.recomposer.proofs.Frames.{no_calls, calls_may, frame_applies, none_applies, detached_after, idle_applies}
+use Rattle.recomposer.proofs.Stops.{good_not_err, memory_not_fault, memory_not_many, memory_not_spent, fault_not_many, fault_not_spent}
 use Rattle.recomposer.proofs.composition.Composition.apply.Goals as goal
 
 pub returns-in_default-clause-applied : goal.returns-in_default-clause-applied
@@ -59,3 +60,91 @@ returns-in-Err-clause-detached g c k m h composed stop =
     subst (λ (o : Option DraftGroups). IsComposed c.args.self.now k m o) c.in-Some.is composed in
     detached_after c.args.self.now k m c.in-Some.draft h made.1 c.in-Ok.ops (c.in-Ok.ensures k m h made)
     (λ none. c.if-len-eq0.false (c.len.ensures ∙ none))
+
+pub returns-in_default-clause-fault : goal.returns-in_default-clause-fault
+returns-in_default-clause-fault g c k m h composed stop =
+    good_not_err stop
+
+pub returns-in_default-clause-detached : goal.returns-in_default-clause-detached
+returns-in_default-clause-detached g c k m h composed stop =
+    good_not_err stop
+
+pub returns-in_default-clause-few : goal.returns-in_default-clause-few
+returns-in_default-clause-few g c stop =
+    good_not_err stop
+
+pub returns-in_default-clause-not_spent : goal.returns-in_default-clause-not_spent
+returns-in_default-clause-not_spent g c stop =
+    good_not_err stop
+
+pub returns-in_default-list_calls-clause-fault : goal.returns-in_default-list_calls-clause-fault
+returns-in_default-list_calls-clause-fault g c k m h composed stop =
+    memory_not_fault stop
+
+pub returns-in_default-list_calls-clause-detached : goal.returns-in_default-list_calls-clause-detached
+returns-in_default-list_calls-clause-detached g c k m h composed stop =
+    memory_not_fault stop
+
+pub returns-in_default-list_calls-clause-few : goal.returns-in_default-list_calls-clause-few
+returns-in_default-list_calls-clause-few g c stop =
+    memory_not_many stop
+
+pub returns-in_default-list_calls-clause-not_spent : goal.returns-in_default-list_calls-clause-not_spent
+returns-in_default-list_calls-clause-not_spent g c stop =
+    memory_not_spent stop
+
+pub returns-then-len-eq0-clause-fault : goal.returns-then-len-eq0-clause-fault
+returns-then-len-eq0-clause-fault g c k m h composed stop =
+    good_not_err stop
+
+pub returns-then-len-eq0-clause-detached : goal.returns-then-len-eq0-clause-detached
+returns-then-len-eq0-clause-detached g c k m h composed stop =
+    good_not_err stop
+
+pub returns-then-len-eq0-clause-few : goal.returns-then-len-eq0-clause-few
+returns-then-len-eq0-clause-few g c stop =
+    good_not_err stop
+
+pub returns-then-len-eq0-clause-not_spent : goal.returns-then-len-eq0-clause-not_spent
+returns-then-len-eq0-clause-not_spent g c stop =
+    good_not_err stop
+
+pub returns-in_default-take_memory-clause-fault : goal.returns-in_default-take_memory-clause-fault
+returns-in_default-take_memory-clause-fault g c k m h composed stop =
+    memory_not_fault stop
+
+pub returns-in_default-take_memory-clause-detached : goal.returns-in_default-take_memory-clause-detached
+returns-in_default-take_memory-clause-detached g c k m h composed stop =
+    memory_not_fault stop
+
+pub returns-in_default-take_memory-clause-few : goal.returns-in_default-take_memory-clause-few
+returns-in_default-take_memory-clause-few g c stop =
+    memory_not_many stop
+
+pub returns-in_default-take_memory-clause-not_spent : goal.returns-in_default-take_memory-clause-not_spent
+returns-in_default-take_memory-clause-not_spent g c stop =
+    memory_not_spent stop
+
+pub returns-in-Ok-carry-clause-fault : goal.returns-in-Ok-carry-clause-fault
+returns-in-Ok-carry-clause-fault g c k m h composed stop =
+    good_not_err stop
+
+pub returns-in-Ok-carry-clause-detached : goal.returns-in-Ok-carry-clause-detached
+returns-in-Ok-carry-clause-detached g c k m h composed stop =
+    good_not_err stop
+
+pub returns-in-Ok-carry-clause-few : goal.returns-in-Ok-carry-clause-few
+returns-in-Ok-carry-clause-few g c stop =
+    good_not_err stop
+
+pub returns-in-Ok-carry-clause-not_spent : goal.returns-in-Ok-carry-clause-not_spent
+returns-in-Ok-carry-clause-not_spent g c stop =
+    good_not_err stop
+
+pub returns-in-Err-clause-few : goal.returns-in-Err-clause-few
+returns-in-Err-clause-few g c stop =
+    fault_not_many stop
+
+pub returns-in-Err-clause-not_spent : goal.returns-in-Err-clause-not_spent
+returns-in-Err-clause-not_spent g c stop =
+    fault_not_spent stop

@@ -1,14 +1,13 @@
-use Rattle.std.proofs.Common.{rules, ◌≡◌, ◌∙◌, refl, sym, ap, subst, Err, Ok, None}
+use Rattle.std.proofs.Common.{◌≡◌, ◌∙◌, refl, sym, ap, subst, Err, None}
 use Rattle.snap_api.specs.Calls.{dispose_reply}
 use Rattle.rt_values.specs.Views.{Grew}
 use Rattle.rt_groups.specs.declared.report.Report.{Report}
 use Rattle.composer.specs.declared.stop.ComposeStop.TheVariants.{TooManyGroups}
-use Rattle.recomposer.specs.declared.composition.FrameStop.TheVariants.{ApplierFault}
 use Rattle.recomposer.specs.Compositions.{frame_reads}
 use Rattle.recomposer.proofs.Frames.{grew_in_all}
 use Rattle.recomposer.proofs.QuietFrames.{quiet_at, quiet_ends}
 use Rattle.recomposer.proofs.Draws.{grows_finish}
-use Rattle.recomposer.proofs.Stops.{on_ok, on_err, unless_fault, no_cause, may_be_called}
+use Rattle.recomposer.proofs.Stops.{same_stop, same_good, err_not_good, memory_not_fault, memory_not_many, memory_not_spent, on_ok, on_err, unless_fault, no_cause, may_be_called}
 use Rattle.recomposer.proofs.Logs.{always_disposed, closes, ends_of, ends_part}
 use Rattle.recomposer.proofs.composition.Composition.finish.Goals as goal
 
@@ -87,7 +86,8 @@ returns-clause-part g c k m h shows =
 
 pub returns-clause-many : goal.returns-clause-many
 returns-clause-many g c k m h shows stop =
-    let is : c.compose_owed-composed.result ≡ Err TooManyGroups = search rules in
+    let is : c.compose_owed-composed.result ≡ Err TooManyGroups =
+    c.in-Err.is ∙ ap Err (c.frame_stop.ensures.many (same_stop stop)) in
     c.compose_owed-composed.ensures.many k m h shows is
 
 pub returns-in-Ok-composed-clause-good : goal.returns-in-Ok-composed-clause-good
@@ -144,8 +144,7 @@ returns-in-Ok-composed-clause-refused g c k m h shows inner =
 pub returns-in-Ok-composed-clause-idle : goal.returns-in-Ok-composed-clause-idle
 returns-in-Ok-composed-clause-idle g c h =
     let idle = c.compose_owed-composed.ensures.idle h in
-    let none : c.in-Ok-composed.draft ≡ None =
-    let both : Ok c.in-Ok-composed.draft ≡ Ok None = sym c.in-Ok-composed.is ∙ idle.0 in cc in
+    let none : c.in-Ok-composed.draft ≡ None = same_good (sym c.in-Ok-composed.is ∙ idle.0) in
     let calls = c.apply.ensures.idle none in
     (calls.0, c.dispose.ensures.asks ∙ ap (λ d. g.D.View.asked d) idle.1, idle.2, calls.1)
 
@@ -156,16 +155,15 @@ returns-in_default-clause-idle g c h =
 
 pub returns-clause-idle : goal.returns-clause-idle
 returns-clause-idle g c h =
-    let both : Err c.in-Err.stop ≡ Ok None = sym c.in-Err.is ∙ (c.compose_owed-composed.ensures.idle h).0 in
-    absurd cc
+    err_not_good (sym c.in-Err.is ∙ (c.compose_owed-composed.ensures.idle h).0)
 
 pub returns-clause-fault : goal.returns-clause-fault
 returns-clause-fault g c k m h shows stop =
-    absurd (c.frame_stop.ensures.no_fault (let e : c.frame_stop.result ≡ ApplierFault = cc in e))
+    absurd (c.frame_stop.ensures.no_fault (same_stop stop))
 
 pub returns-clause-cause : goal.returns-clause-cause
 returns-clause-cause g c =
-    no_cause _ _ (λ stop. c.frame_stop.ensures.no_fault (let e : c.frame_stop.result ≡ ApplierFault = cc in e))
+    no_cause _ _ (λ stop. c.frame_stop.ensures.no_fault (same_stop stop))
 
 pub returns-clause-err : goal.returns-clause-err
 returns-clause-err g c =
@@ -315,4 +313,98 @@ returns-in-Ok-composed-clause-quiet g c k m h shows quiet =
 
 pub returns-clause-detached : goal.returns-clause-detached
 returns-clause-detached g c k m h shows stop =
-    absurd (c.frame_stop.ensures.no_fault (let e : c.frame_stop.result ≡ ApplierFault = cc in e))
+    absurd (c.frame_stop.ensures.no_fault (same_stop stop))
+
+pub returns-in_default-clause-many : goal.returns-in_default-clause-many
+returns-in_default-clause-many g c k m h shows stop =
+    memory_not_many stop
+
+pub returns-in_default-clause-fault : goal.returns-in_default-clause-fault
+returns-in_default-clause-fault g c k m h shows stop =
+    memory_not_fault stop
+
+pub returns-in_default-clause-detached : goal.returns-in_default-clause-detached
+returns-in_default-clause-detached g c k m h shows stop =
+    memory_not_fault stop
+
+pub returns-in_default-clause-quiet : goal.returns-in_default-clause-quiet
+returns-in_default-clause-quiet g c k m h shows quiet =
+    (refl, tt)
+
+pub returns-in_default-clause-cause : goal.returns-in_default-clause-cause
+returns-in_default-clause-cause g c =
+    no_cause _ _ memory_not_fault
+
+pub returns-in_default-clause-not_spent : goal.returns-in_default-clause-not_spent
+returns-in_default-clause-not_spent g c stop =
+    memory_not_spent stop
+
+pub returns-in_default-clause-last : goal.returns-in_default-clause-last
+returns-in_default-clause-last g c n types l last free =
+    let kept = c.compose_owed-composed.ensures.keeps in
+    let alone = c.dispose.ensures.alone n free in
+    c.dispose.ensures.last n types l (g.met.D.Desk.last_kept _ _ n types l kept alone last) free
+
+pub returns-in_default-clause-alone : goal.returns-in_default-clause-alone
+returns-in_default-clause-alone g c n free =
+    g.met.D.Desk.alone_before _ _ n c.compose_owed-composed.ensures.keeps (c.dispose.ensures.alone n free)
+
+pub returns-clause-quiet : goal.returns-clause-quiet
+returns-clause-quiet g c k m h shows quiet =
+    (refl, tt)
+
+pub returns-clause-not_spent : goal.returns-clause-not_spent
+returns-clause-not_spent g c stop =
+    c.frame_stop.ensures.not_spent (same_stop stop)
+
+pub returns-clause-last : goal.returns-clause-last
+returns-clause-last g c n types l last free =
+    let kept = c.compose_owed-composed.ensures.keeps in
+    let alone = c.dispose.ensures.alone n free in
+    c.dispose.ensures.last n types l (g.met.D.Desk.last_kept _ _ n types l kept alone last) free
+
+pub returns-clause-alone : goal.returns-clause-alone
+returns-clause-alone g c n free =
+    g.met.D.Desk.alone_before _ _ n c.compose_owed-composed.ensures.keeps (c.dispose.ensures.alone n free)
+
+pub returns-in-Ok-composed-clause-err : goal.returns-in-Ok-composed-clause-err
+returns-in-Ok-composed-clause-err g c =
+    c.apply.ensures.err
+
+pub returns-in-Ok-composed-clause-still : goal.returns-in-Ok-composed-clause-still
+returns-in-Ok-composed-clause-still g c =
+    c.apply.ensures.still
+
+pub returns-in-Ok-composed-clause-cause : goal.returns-in-Ok-composed-clause-cause
+returns-in-Ok-composed-clause-cause g c =
+    c.apply.ensures.cause
+
+pub returns-in-Ok-composed-clause-lent : goal.returns-in-Ok-composed-clause-lent
+returns-in-Ok-composed-clause-lent g c =
+    c.apply.ensures.lent
+
+pub returns-in-Ok-composed-clause-uncalled : goal.returns-in-Ok-composed-clause-uncalled
+returns-in-Ok-composed-clause-uncalled g c =
+    c.apply.ensures.uncalled
+
+pub returns-in-Ok-composed-clause-program : goal.returns-in-Ok-composed-clause-program
+returns-in-Ok-composed-clause-program g c =
+    c.apply.ensures.program
+
+pub returns-in-Ok-composed-clause-watcher : goal.returns-in-Ok-composed-clause-watcher
+returns-in-Ok-composed-clause-watcher g c =
+    c.apply.ensures.watcher
+
+pub returns-in-Ok-composed-clause-not_spent : goal.returns-in-Ok-composed-clause-not_spent
+returns-in-Ok-composed-clause-not_spent g c =
+    c.apply.ensures.not_spent
+
+pub returns-in-Ok-composed-clause-last : goal.returns-in-Ok-composed-clause-last
+returns-in-Ok-composed-clause-last g c n types l last free =
+    let kept = c.compose_owed-composed.ensures.keeps in
+    let alone = c.dispose.ensures.alone n free in
+    c.dispose.ensures.last n types l (g.met.D.Desk.last_kept _ _ n types l kept alone last) free
+
+pub returns-in-Ok-composed-clause-alone : goal.returns-in-Ok-composed-clause-alone
+returns-in-Ok-composed-clause-alone g c n free =
+    g.met.D.Desk.alone_before _ _ n c.compose_owed-composed.ensures.keeps (c.dispose.ensures.alone n free)
