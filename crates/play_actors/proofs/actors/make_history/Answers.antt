@@ -1,4 +1,4 @@
-use Rattle.std.proofs.Common.{◌≡◌, sym, ap, ◌∙◌, subst, length, rules}
+use Rattle.std.proofs.Common.{◌≡◌, ℕ, ◌<◌, sym, ap, ◌∙◌, subst, length, rules}
 use Rattle.std.proofs.lemmas.List.{length-map}
 use Rattle.snap_shared.specs.Seats.{IsNewSeat}
 use Rattle.snap_shared.specs.SharedCalls.{HasOnlyCallersBelow, numbers_below}
@@ -47,3 +47,34 @@ returns g c =
       others = subst (λ k. HasOnlyCallersBelow k c.into_parts-world.result.1.items) (c.in-Ok.ensures.count ∙ long)
           c.into_parts-world.ensures.others;
     }
+
+pub run_together-requires-clause-some : goal.run_together-requires-clause-some
+run_together-requires-clause-some g c κs lives =
+    let n = length c.args.job.now.script.actors.items in
+    let long : c.len.result ≡ n = search rules in
+    let actors = c.in-Ok-actors_for.actors.items in
+    let count : length actors ≡ n = sym (length-map actors (λ x. x.seat))
+    ∙ ap (λ l. length l) c.in-Ok-actors_for.ensures.seats ∙ c.in-Ok.ensures.many ∙ long in
+    subst (λ (k : ℕ). 0 < k) (sym count) c.requires.some
+
+pub into_parts-world-requires-clause-some : goal.into_parts-world-requires-clause-some
+into_parts-world-requires-clause-some g c =
+    let n = length c.args.job.now.script.actors.items in
+    let long : c.len.result ≡ n = search rules in
+    let actors = c.in-Ok-actors_for.actors.items in
+    let count : length actors ≡ n = sym (length-map actors (λ x. x.seat))
+    ∙ ap (λ l. length l) c.in-Ok-actors_for.ensures.seats ∙ c.in-Ok.ensures.many ∙ long in
+    let all : length c.seats_of-seats.result.0.items ≡ n = ap (λ l. length l) c.seats_of-seats.ensures.seats
+    ∙ length-map c.run_together.new.actors.items (λ x. x.seat) ∙ c.run_together.ensures.many ∙ count in
+    subst (λ (k : ℕ). 0 < k) (sym all) c.requires.some
+
+pub into_parts-world-requires-clause-count : goal.into_parts-world-requires-clause-count
+into_parts-world-requires-clause-count g c =
+    let n = length c.args.job.now.script.actors.items in
+    let long : c.len.result ≡ n = search rules in
+    let actors = c.in-Ok-actors_for.actors.items in
+    let count : length actors ≡ n = sym (length-map actors (λ x. x.seat))
+    ∙ ap (λ l. length l) c.in-Ok-actors_for.ensures.seats ∙ c.in-Ok.ensures.many ∙ long in
+    let all : length c.seats_of-seats.result.0.items ≡ n = ap (λ l. length l) c.seats_of-seats.ensures.seats
+    ∙ length-map c.run_together.new.actors.items (λ x. x.seat) ∙ c.run_together.ensures.many ∙ count in
+    all ∙ sym (c.in-Ok.ensures.count ∙ long)
