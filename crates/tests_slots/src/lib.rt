@@ -1,5 +1,5 @@
-//! Tests of `gap_buffer`, `node_tree`, `slot_table`, `slot_anchors`, `slot_edit`, `group_keys`, `read_links` and
-//! `remember_cells` from outside.
+//! Tests of `gap_buffer`, `node_tree`, `slot_table`, `slot_anchors`, `slot_edit`, `group_keys`, `read_links`,
+//! `recompose_scopes` and `remember_cells` from outside.
 #![tactic(auto)]
 
 #[cfg(test)]
@@ -18,5 +18,7 @@ mod links;
 mod node_trees;
 #[cfg(test)]
 mod rows;
+#[cfg(test)]
+mod scopes;
 #[cfg(test)]
 mod tables;

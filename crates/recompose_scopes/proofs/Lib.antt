@@ -1,0 +1,7 @@
+mod Members
+mod ScopeLinks
+mod ScopeAnchors
+mod AddedScopes
+mod CollectedPlaces
+mod SplitPlaces
+pub mod OwedRuns
