@@ -6,3 +6,4 @@ mod OpenGroups
 mod Siblings
 mod GroupRuns
 mod JoinedGroups
+mod KeptReads

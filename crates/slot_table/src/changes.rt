@@ -1,5 +1,5 @@
 // The changes that take a table to the groups of a new frame.
-ghost use Rattle.std.specs.Prelude.{◌≡◌, ◌≤◌, ◌<◌, ◌-◌, ◌++◌, ◌∷◌, [], List, length, drop, take, slice_set, slice_index_or, true, false, IfOk, IfSome, OnOk, OnErr};
+ghost use Rattle.std.specs.Prelude.{◌≡◌, ◌≤◌, ◌<◌, ◌-◌, ◌++◌, ◌∷◌, [], List, length, map, drop, take, slice_set, slice_index_or, true, false, IfOk, IfSome, OnOk, OnErr};
 ghost use Rattle.rt_groups.specs.declared.groups.Group.{Group as group_data};
 ghost use Rattle.slot_table.specs.TableGroups.{group_at, with_reads};
 ghost use Rattle.slot_table.specs.ChangeLists.{nodes_in};
@@ -9,7 +9,7 @@ use crate::groups_before::GroupsBefore;
 use crate::storage::{SharedGroup, TableBuilder, make_room};
 use crate::table::Table;
 use rt_groups::Deps;
-use rt_values::NoMemory;
+use rt_values::{NoMemory, ObjectNo};
 use std::alloc::Global;
 use std::marker::Model;
 
@@ -356,6 +356,62 @@ impl ChangeList {
         };
         Ok(Preview { form })
     }
+
+    /// Returns whether the new frame has the same number of groups as `table`, and each group has
+    /// the reads of the group of `table` at its index. Takes no memory. Takes time linear in the
+    /// number of new groups and their reads if only new groups change, and else in the number of
+    /// all groups and their reads.
+    pub fn keeps_reads(&self, table: &Table) -> bool
+        requires { table.now.groups ≡ self.now.olds }
+        ensures { result ≡ true →
+            map (λ g. g.reads) self.now.news ≡ map (λ g. g.reads) self.now.olds }
+    {
+        match &self.change {
+            Change::Whole(other) => have_same_reads(table, other),
+            Change::InPlace(fresh, places) => keep_reads_in_place(table, fresh, places),
+        }
+    }
+}
+
+// Returns whether both lists have the same objects in the same order.
+#[inline(always)]
+fn same_reads(reads: &[ObjectNo], others: &[ObjectNo]) -> bool
+    ensures { result ≡ true → reads.now ≡ others.now }
+{
+    reads == others
+}
+
+// Returns whether both tables have the same number of groups, and the groups at each index have the
+// same reads.
+fn have_same_reads(table: &Table, other: &Table) -> bool
+    ensures { result ≡ true →
+        map (λ g. g.reads) other.now.groups ≡ map (λ g. g.reads) table.now.groups }
+{
+    if table.len() != other.len() {
+        return false;
+    }
+    for i in 0..table.len() {
+        if !same_reads(other.reads(i), table.reads(i)) {
+            return false;
+        }
+    }
+    true
+}
+
+// Returns whether each new group has the reads of the old group at its place.
+fn keep_reads_in_place(table: &Table, fresh: &TableBuilder, places: &[usize]) -> bool
+    requires long { length places.now ≡ length fresh.now }
+    requires depths { KeepDepths table.now.groups places.now fresh.now }
+    ensures { result ≡ true →
+        map (λ g. g.reads) (set_all table.now.groups places.now fresh.now)
+        ≡ map (λ g. g.reads) table.now.groups }
+{
+    for i in 0..fresh.len() {
+        if !same_reads(fresh.reads(i), table.reads(places[i])) {
+            return false;
+        }
+    }
+    true
 }
 
 // Puts the new groups at their places. They share their slots.

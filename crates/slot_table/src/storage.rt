@@ -407,12 +407,12 @@ impl TableBuilder {
         self.head(i).depth()
     }
 
-    /// Returns whether the group at index `i` is a node.
-    pub fn is_node(&self, i: usize) -> bool
+    // Returns what the group at index `i` depends on itself.
+    pub(crate) fn reads(&self, i: usize) -> &[ObjectNo]
         requires { i < length self.now }
-        ensures { result ≡ is_node_kind (group_at self.now i).what }
+        ensures { result.now ≡ (group_at self.now i).reads }
     {
-        self.head(i).is_node()
+        self.slot(i).reads()
     }
 
     /// Makes the spare capacity at least `n` groups. The groups stay.

@@ -164,8 +164,8 @@ impl Table {
         SharedGroup::sharing(self.head(i).unpacked(), self.slot(i))
     }
 
-    /// Appends the groups from index `from` to before index `to` to `groups`. They share their slots with this table.
-    pub fn share_run(
+    // Appends the groups from index `from` to before index `to` to `groups`. They share their slots with this table.
+    pub(crate) fn share_run(
         &self,
         from: usize,
         to: usize,

@@ -3,7 +3,7 @@ ghost use Rattle.std.specs.Prelude.{◌≡◌, IfOk};
 
 use crate::rows::row_groups;
 use rt_groups::GroupKind;
-use rt_values::{NoMemory, Value};
+use rt_values::{NoMemory, Objects, Value};
 use slot_table::{ChangeList, ChangeListWriter, Table};
 use std::alloc::Global;
 use std::test::Fail;
@@ -20,11 +20,22 @@ fn keys_of(alloc: Global, table: &Table) -> Result<Vec<i64>, NoMemory> {
     Ok(keys)
 }
 
-// Returns the changes of `table` to the groups of `runs`, where an empty run stands for the second group of `new_row`.
+// Returns a table of the rows 8 and 9. The group of key 8 is at index 1, and the group of key 9 is
+// at index 3. The group of key 9 read object 5, and each other group read object 7.
+fn new_rows(alloc: Global) -> Result<Table, NoMemory> {
+    let mut groups = row_groups(alloc, &[8, 9])?;
+    if 3 < groups.len() {
+        groups.set_reads(alloc, 3, Objects::of(vec![in alloc; 5]?))?;
+    }
+    Table::from_groups(alloc, groups)
+}
+
+// Returns the changes of `table` to the groups of `runs`, where an empty run stands for the group
+// of `others` at its index.
 fn changes_to(
     alloc: Global,
     table: &Table,
-    new_row: &Table,
+    others: &Table,
     runs: &[(usize, usize)],
 ) -> Result<ChangeList, NoMemory>
     ensures { IfOk result (λ c. c.olds ≡ table.now.groups) }
@@ -33,8 +44,8 @@ fn changes_to(
     for (from, to) in runs {
         if *from < *to && *to <= table.len() {
             writer.keep(*from, *to)?;
-        } else if 1 < new_row.len() {
-            writer.push(new_row.share(1)?)?;
+        } else if *from < others.len() {
+            writer.push(others.share(*from)?)?;
         }
     }
     writer.into_change_list(alloc)
@@ -48,15 +59,20 @@ fn previewed_keys(alloc: Global, changes: &ChangeList, table: &Table) -> Result<
     keys_of(alloc, preview.table())
 }
 
-// Changes a table of the rows 1, 2 and 3 to the groups of `runs`, where an empty run stands for a new group with key 8.
-// Returns the keys of the preview and then those of the table after the changes.
-fn changed_keys(alloc: Global, runs: &[(usize, usize)]) -> Result<(Vec<i64>, Vec<i64>), NoMemory> {
+// Changes a table of the rows 1, 2 and 3 to the groups of `runs`, where an empty run stands for the
+// group of `new_rows` at its index. Returns the keys of the preview, those of the table after the
+// changes, and whether the changes keep the reads.
+fn changed_keys(
+    alloc: Global,
+    runs: &[(usize, usize)],
+) -> Result<(Vec<i64>, Vec<i64>, bool), NoMemory> {
     let mut table = Table::from_groups(alloc, row_groups(alloc, &[1, 2, 3])?)?;
-    let new_row = Table::from_groups(alloc, row_groups(alloc, &[8])?)?;
-    let changes = changes_to(alloc, &table, &new_row, runs)?;
+    let others = new_rows(alloc)?;
+    let changes = changes_to(alloc, &table, &others, runs)?;
     let before = previewed_keys(alloc, &changes, &table)?;
+    let keeps = changes.keeps_reads(&table);
     table.apply(changes);
-    Ok((before, keys_of(alloc, &table)?))
+    Ok((before, keys_of(alloc, &table)?, keeps))
 }
 
 #[test]
@@ -68,19 +84,24 @@ fn changes_keep_move_and_replace_groups(rt: HostRuntime) -> Result<(), Fail> {
     let moved: &[i64] = &[0, 3, 0, 1, 0, 2, 0];
     let inserted: &[i64] = &[0, 1, 0, 2, 0, 8, 3, 0];
     let deeper: &[i64] = &[0, 8, 0, 2, 0, 3, 8];
-    let rows: [(&[(usize, usize)], &[i64]); 7] = [
-        (&[(0, 7)], all),
-        (&[(0, 3), (3, 7)], all),
-        (&[(0, 3), (0, 0), (4, 7)], replaced),
-        (&[(0, 1), (3, 7)], removed),
-        (&[(0, 1), (5, 7), (1, 5)], moved),
-        (&[(0, 5), (0, 0), (5, 7)], inserted),
-        (&[(0, 1), (0, 0), (2, 6), (0, 0)], deeper),
+    let read_other: &[i64] = &[0, 1, 0, 9, 0, 3, 0];
+    let moved_other: &[i64] = &[0, 3, 0, 9, 0, 2, 0];
+    let rows: [(&[(usize, usize)], &[i64], bool); 9] = [
+        (&[(0, 7)], all, true),
+        (&[(0, 3), (3, 7)], all, true),
+        (&[(0, 3), (1, 1), (4, 7)], replaced, true),
+        (&[(0, 3), (3, 3), (4, 7)], read_other, false),
+        (&[(0, 1), (3, 7)], removed, false),
+        (&[(0, 1), (5, 7), (1, 5)], moved, true),
+        (&[(0, 1), (5, 7), (3, 3), (2, 5)], moved_other, false),
+        (&[(0, 5), (1, 1), (5, 7)], inserted, false),
+        (&[(0, 1), (1, 1), (2, 6), (1, 1)], deeper, true),
     ];
-    for (runs, keys) in &rows {
-        let (before, after) = changed_keys(alloc, runs)?;
+    for (runs, keys, keep) in &rows {
+        let (before, after, keeps) = changed_keys(alloc, runs)?;
         assert_eq!(rt; before.as_slice(), *keys);
         assert_eq!(rt; after.as_slice(), *keys);
+        assert_eq!(rt; keeps, *keep);
     }
     Ok(())
 }
