@@ -9,7 +9,7 @@ use Rattle.slot_table.specs.ReaderStates.{after_deep}
 use Rattle.composer.specs.OldGroups.{Ends, Begins, FirstGroup, from_first_group}
 use Rattle.composer.proofs.OldMatches.{ends_deeper, first_same, next_of}
 
-past_end : (d : ℕ) (more : List TableGroup) → Ends d more → after_deep d more ≡ more
+pub past_end : (d : ℕ) (more : List TableGroup) → Ends d more → after_deep d more ≡ more
 past_end d [] e = refl
 past_end d (g ∷ gs) e = by (nat_le d g.depth) refl
   where
@@ -17,7 +17,7 @@ past_end d (g ∷ gs) e = by (nat_le d g.depth) refl
     by false f = refl
     by true f = absurd (let le = leb-true d g.depth f in omega (arith, le, e))
 
-past_preorder : (d e : ℕ) (t : GroupForest) (more : List TableGroup) → d ≤ e
+pub past_preorder : (d e : ℕ) (t : GroupForest) (more : List TableGroup) → d ≤ e
     → after_deep d (preorder e t ++ more) ≡ after_deep d more
 past_preorder d e End more le = refl
 past_preorder d e (Read x rest) more le = past_preorder d e rest more le

@@ -1,11 +1,14 @@
 -- Old groups that follow each other, in which no call is owed.
-use Rattle.std.proofs.Common.{◌≡◌, ◌≤◌, ◌<◌, ℕ, zero, suc, ◌+◌, ◌-◌, Bool, true, false, ◌||◌, List, [], ◌∷◌, ◌++◌, length, length-append, length-drop, take, drop, drop-cons, get_or, refl, ap, sym, ◌∙◌, arith, append_assoc, append-nil}
+use Rattle.std.proofs.Common.{◌≡◌, ◌≤◌, ◌<◌, ℕ, zero, suc, ◌+◌, ◌-◌, nat_le, Bool, true, false, ◌||◌, if◌then◌else◌, List, [], ◌∷◌, ◌++◌, length, length-append, length-drop, take, drop, drop-cons, get_or, refl, ap, sym, ◌∙◌, arith, append_assoc, append-nil}
+use Rattle.std.proofs.lemmas.Bool.{true≢false}
 use Rattle.std.proofs.lemmas.List.{drop-drop, get_or-drop}
-use Rattle.rt_values.specs.Maps.{Map}
+use Rattle.rt_values.specs.Maps.{Map, contains}
 use Rattle.rt_groups.specs.declared.groups.Group.{Group as TableGroup}
 use Rattle.rt_groups.specs.GroupForest.{GroupForest, End, Read, Group, GroupKind, Call, Node, Key, Cell}
 use Rattle.rt_groups.specs.PreorderGroups.{flat_kind, flat_reads, flat_group, preorder}
 use Rattle.rt_groups.specs.Frames.{meets}
+use Rattle.recompose_scopes.specs.Scopes.{own_reads, reads_at}
+use Rattle.recompose_scopes.specs.Owed.{IsOwedList}
 use Rattle.lang_ast.specs.Terms.{Func}
 use Rattle.recompose_laws.specs.Refreshing.{is_owed}
 use Rattle.recompose_laws.specs.Numbering.{kept_number}
@@ -14,10 +17,10 @@ use Rattle.slot_table.specs.TableGroups.{group_at}
 use Rattle.slot_table.specs.ReaderStates.{after_deep}
 use Rattle.composer.specs.ComposerState.{ComposerState, put_group, skipped_inside, skipped_groups}
 use Rattle.composer.specs.OldGroups.{Begins}
-use Rattle.composer.specs.QuietRuns.{has_owed, group_run, with_run, QuietRun}
+use Rattle.composer.specs.QuietRuns.{has_owed, group_run, with_run, IsLevelEnd, QuietRun}
 use Rattle.composer.proofs.Machine.{same_state}
-use Rattle.composer.proofs.OldParts.{part_rest, part_after_read}
-use Rattle.composer.proofs.OldWalks.{no_group, past_inside}
+use Rattle.composer.proofs.OldParts.{part_end, part_rest, part_after_read}
+use Rattle.composer.proofs.OldWalks.{no_group, past_end, past_preorder, past_inside}
 
 -- Neither list has an owed object among its reads.
 
@@ -174,6 +177,106 @@ pub quiet_more : (owed : List ℕ) (groups : List TableGroup) (from i : ℕ) →
 quiet_more owed groups from i low inside own quiet =
     ap (λ l. has_owed owed l) (run_grows groups from i low inside)
     ∙ owed_both owed (group_run groups from i) (group_at groups i ∷ []) quiet (ap (λ b. b || false) own)
+
+-- The own reads of the group at an index.
+own_reads_at : (gs : List TableGroup) (i : ℕ) → reads_at (own_reads gs) i ≡ (group_at gs i).reads
+own_reads_at [] i = refl
+own_reads_at (g ∷ gs) zero = refl
+own_reads_at (g ∷ gs) (suc i) = own_reads_at gs i
+
+quiet_steps : (owed : List ℕ) (groups : List TableGroup) (from n : ℕ) → (0 < n → from + n ≤ length groups)
+    → ((i : ℕ) → from ≤ i → i < from + n → meets (group_at groups i).reads owed ≡ false)
+    → has_owed owed (group_run groups from (from + n)) ≡ false
+quiet_steps owed groups from zero inside quiet =
+    let none : (from + 0) - from ≡ 0 = omega arith in ap (λ k. has_owed owed (take k (drop from groups))) none
+quiet_steps owed groups from (suc n) inside quiet =
+    let all = inside (omega arith) in
+    let before = quiet_steps owed groups from n (λ some. omega (arith, all))
+    (λ i low high. quiet i low (omega (arith, high))) in
+    let sum : from + suc n ≡ (from + n) + 1 = omega arith in
+    ap (λ k. has_owed owed (group_run groups from k)) sum
+    ∙ quiet_more owed groups from (from + n) (omega arith) (omega (arith, all))
+    (quiet (from + n) (omega arith) (omega arith)) before
+
+-- A group that is not in the list of owed calls has no owed object among its reads.
+quiet_at : (owed : List ℕ) (groups : List TableGroup) (calls : List ℕ) → IsOwedList (own_reads groups) owed calls
+    → (i : ℕ) → contains i calls ≡ false → meets (group_at groups i).reads owed ≡ false
+quiet_at owed groups calls is i none =
+    sym (ap (λ l. meets l owed) (own_reads_at groups i)) ∙ by (meets (reads_at (own_reads groups) i) owed) refl
+  where
+    by : (b : Bool) → meets (reads_at (own_reads groups) i) owed ≡ b → b ≡ false
+    by false e = refl
+    by true e = absurd (true≢false (sym (is.all i e) ∙ none))
+
+-- No group of a run is in the list of owed calls.
+pub quiet_between : (owed : List ℕ) (groups : List TableGroup) (calls : List ℕ)
+    → IsOwedList (own_reads groups) owed calls → (from to : ℕ) → to ≤ length groups
+    → ((i : ℕ) → from ≤ i → i < to → contains i calls ≡ false) → has_owed owed (group_run groups from to) ≡ false
+quiet_between owed groups calls is from to inside none =
+    let n : ℕ = to - from in
+    let same : n ≡ (from + n) - from = omega arith in
+    ap (λ k. has_owed owed (take k (drop from groups))) same
+    ∙ quiet_steps owed groups from n (λ some. omega (arith, some, inside))
+    (λ i low high. quiet_at owed groups calls is i (none i low (omega (arith, low, high))))
+
+-- The rest of a level.
+
+-- The groups after a level are the same from each group of the level.
+deep_on : (d : ℕ) (groups : List TableGroup) (i n j : ℕ) → i + n ≤ j → j ≤ length groups
+    → drop j groups ≡ after_deep d (drop i groups) → drop j groups ≡ after_deep d (drop (i + n) groups)
+deep_on d groups i zero j low inside e =
+    let same : i ≡ i + 0 = omega arith in e ∙ ap (λ k. after_deep d (drop k groups)) same
+deep_on d groups i (suc n) j low inside e =
+    let next : suc i + n ≡ i + suc n = omega arith in
+    deep_on d groups (suc i) n j (omega (arith, low)) inside (by (nat_le d g.depth) (e ∙ ap (λ l. after_deep d l) first))
+    ∙ ap (λ k. after_deep d (drop k groups)) next
+  where
+    g : TableGroup
+    g = group_at groups i
+
+    first : drop i groups ≡ g ∷ drop (suc i) groups
+    first = drop-cons groups i (group_at [] i) (omega (arith, low, inside))
+
+    by : (b : Bool) → drop j groups ≡ (if b then after_deep d (drop (suc i) groups) else g ∷ drop (suc i) groups)
+        → drop j groups ≡ after_deep d (drop (suc i) groups)
+    by true f = f
+    by false f =
+        let same = ap (λ (l : List TableGroup). length l) (f ∙ sym first) in
+        let here = length-drop i groups in
+        let there = length-drop j groups in absurd (omega (arith, same, here, there, low, inside))
+
+-- The groups inside a group end where the groups from one of them on end.
+pub level_end_is : (groups : List TableGroup) (around first j depth : ℕ) → around < first → first ≤ j
+    → j ≤ length groups → depth ≡ (group_at groups around).depth + 1
+    → ((g : TableGroup) (rest : List TableGroup) → drop around groups ≡ g ∷ rest
+    → drop j groups ≡ after_deep (g.depth + 1) rest) → IsLevelEnd depth groups first j
+level_end_is groups around first j depth low high inside depth_is after =
+    let n : ℕ = first - suc around in
+    let sum : suc around + n ≡ first = omega (arith, low) in
+    let there = after (group_at groups around) (drop (suc around) groups)
+    (drop-cons groups around (group_at [] around) (omega (arith, low, high, inside)))
+    ∙ ap (λ d. after_deep d (drop (suc around) groups)) (sym depth_is) in
+    let here = deep_on depth groups (suc around) n j (omega (arith, low, high)) inside there
+    ∙ ap (λ k. after_deep depth (drop k groups)) sum in record {
+      order = high;
+      inside = inside;
+      after = sym here;
+    }
+
+pub quiet_level : (owed : List ℕ) (groups : List TableGroup) (d i j : ℕ) (t : GroupForest) → IsLevelEnd d groups i j
+    → has_owed owed (group_run groups i j) ≡ false → Begins d (drop i groups) t → QuietRun owed d groups i j t
+quiet_level owed groups d i j t level quiet b =
+    let later : drop j groups ≡ b.more = sym level.after ∙ ap (λ l. after_deep d l) b.is
+    ∙ past_preorder d d t b.more (omega arith) ∙ past_end d b.more b.ends in
+    let run : group_run groups i j ≡ preorder d t =
+    run_is groups i j (preorder d t) b.more level.order level.inside b.is later in
+    let none = sym (ap (λ l. has_owed owed l) run) ∙ quiet in record {
+      rest = End;
+      begins = record { more = b.more; is = later; ends = b.ends };
+      part = λ l m p. part_end l owed m;
+      numbered = λ h. tt;
+      kept = λ h m fs s. ap (λ l. with_run l s) run ∙ sym (quiet_kept m owed t d h none fs s);
+    }
 
 -- One group with the groups inside it.
 quiet_one : (owed : List ℕ) (groups : List TableGroup) (d i j : ℕ) (t : GroupForest) → Begins d (drop i groups) t

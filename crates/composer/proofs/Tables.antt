@@ -17,7 +17,7 @@ fits_after e f few = record { few = few; same = e ∙ f.same }
 
 -- More groups, and the same old siblings.
 pub stays_with : (level : Level) (made : Progress) {U : Type 0} (result : Result U ComposeStop)
-    → made.pending.table.now.groups ≡ level.table.now.groups → OnOk result (FitsIn level.table.now.groups made.writer)
+    → made.pending.table.now.groups ≡ level.last.now.groups → OnOk result (FitsIn level.last.now.groups made.writer)
     → OnOk result (StaysIn level made)
 stays_with level made (Ok u) e f = record { written = f; pending = e }
 stays_with level made (Err x) e f = tt

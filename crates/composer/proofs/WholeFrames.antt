@@ -224,6 +224,7 @@ module _ (functions : List Func) (root : ℕ) (owed : OwedObjects) (k : LastFram
         report = draft.report ∙ same_report calls cells
             (few_reads (length (reads owed.objects k.trail new)) written.reads (omega (arith, counted, read)) most)
             count nodes;
+        scopes = draft.scopes;
       }
 
   pub frame_fits : state_of written asked' [] ≡ target → length written.groups ≤ most_groups
@@ -296,3 +297,19 @@ module _ (functions : List Func) (root : ℕ) (owed : OwedObjects) (k : LastFram
           ∙ ap (λ (w : WrittenGroups). (target_from w).asked) e;
     };
   }
+
+-- Nothing was composed for want of memory, and no object was read.
+pub nothing_composed : (functions : List Func) (root : ℕ) (owed : OwedObjects) (k : LastFrame) (m : Map)
+    (asked asked' : List ℕ) (result : Result DraftGroups ComposeStop) → asked' ≡ asked → result ≡ Err NoMemory
+    → ComposesFrame functions root owed k m asked asked' result
+nothing_composed functions root owed k m asked asked' (Ok d) same is = cc
+nothing_composed functions root owed k m asked asked' (Err z) same is = record {
+  made = tt;
+  fits = tt;
+  came = tt;
+  many = λ y. cc;
+  part = record {
+    rest = reads owed.objects k.trail (forest functions root m);
+    is = ap (λ l. l ++ reads owed.objects k.trail (forest functions root m)) same;
+  };
+}

@@ -6,6 +6,12 @@ use Rattle.slot_table.specs.TableGroups.{group_at}
 use Rattle.slot_table.specs.ReaderStates.{group_key}
 use Rattle.group_keys.specs.Queues.{queue_of}
 use Rattle.group_keys.specs.declared.queues.SiblingQueues.{SiblingQueues}
+use Rattle.composer.specs.OwedObjects.{OwedObjects}
+
+-- The groups of the last frame in preorder, and what is owed since that frame.
+pub record LastFrameGroups : Type 0 where
+  pub groups : List Group
+  pub owed : OwedObjects
 
 -- A group of the last frame: all groups of that frame in preorder, and its index among them.
 pub record KeyInfo : Type 0 where

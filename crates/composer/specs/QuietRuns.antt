@@ -1,14 +1,16 @@
 -- Internal: old groups that follow each other, in which no call is owed.
-use Rattle.std.specs.Prelude.{ℕ, ◌-◌, ◌++◌, ◌≡◌, List, [], ◌∷◌, take, drop, Bool, false, ◌||◌}
+use Rattle.std.specs.Prelude.{ℕ, ◌-◌, ◌++◌, ◌≡◌, ◌≤◌, List, [], ◌∷◌, length, take, drop, Bool, false, ◌||◌}
 use Rattle.rt_values.specs.Maps.{Map}
 use Rattle.rt_groups.specs.declared.groups.Group.{Group as TableGroup}
 use Rattle.rt_groups.specs.GroupForest.{GroupForest}
 use Rattle.rt_groups.specs.Frames.{meets}
+use Rattle.slot_table.specs.ReaderStates.{after_deep}
 use Rattle.lang_ast.specs.Terms.{Func}
 use Rattle.recompose_laws.specs.Idle.{IsNumbered}
 use Rattle.composer.specs.ComposerState.{ComposerState, skipped_groups}
 use Rattle.composer.specs.BesideContracts.{LastComposition, IsOldPart}
 use Rattle.composer.specs.OldGroups.{Begins}
+use Rattle.composer.specs.OldSiblings.{LastFrameGroups}
 
 -- Whether a group has an owed object among its reads.
 abbrev pub has_owed : List ℕ → List TableGroup → Bool
@@ -18,6 +20,17 @@ has_owed owed (g ∷ gs) = meets g.reads owed || has_owed owed gs
 -- The groups from index i to before index j.
 abbrev pub group_run : List TableGroup → ℕ → ℕ → List TableGroup
 group_run groups i j = take (j - i) (drop i groups)
+
+-- From index i to before index n no group has an owed object among its reads.
+abbrev pub IsQuietUpTo : LastFrameGroups → ℕ → ℕ → Type 0
+IsQuietUpTo l i n = (from to : ℕ) → i ≤ from → to ≤ n → to ≤ length l.groups
+    → has_owed l.owed.objects (group_run l.groups from to) ≡ false
+
+-- The groups from index i to before index j are at least this deep, and the group at index j, if any, is not.
+pub record IsLevelEnd (depth : ℕ) (groups : List TableGroup) (i j : ℕ) : Type 0 where
+  pub order : i ≤ j
+  pub inside : j ≤ length groups
+  pub after : after_deep depth (drop i groups) ≡ drop j groups
 
 -- The state with more groups.
 abbrev pub with_run : List TableGroup → ComposerState → ComposerState

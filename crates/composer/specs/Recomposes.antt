@@ -24,11 +24,10 @@ use Rattle.composer.specs.BesideContracts.{Reaches, LastComposition, IsSince, Ol
 use Rattle.composer.specs.declared.pending.Pending.{Pending}
 use Rattle.rt_groups.specs.PreorderGroups.{preorder}
 use Rattle.lang_ast.specs.declared.program.Program.{Program}
-use Rattle.composer.specs.OwedObjects.{OwedObjects}
 use Rattle.composer.specs.FrameDrafts.{root_of, IsOwing}
 use Rattle.lang_ast.specs.Programs.{functions_of}
 use Rattle.composer.specs.FrameStates.{frame_state}
-use Rattle.composer.specs.OldSiblings.{KeyInfo}
+use Rattle.composer.specs.OldSiblings.{KeyInfo, LastFrameGroups}
 use Rattle.composer.specs.OldGroups.{Fits, Alike, Begins}
 use Rattle.composer.specs.WrittenGroups.{WrittenGroups, state_of}
 
@@ -97,12 +96,12 @@ pub record FitsIn (olds : List Listed) (written : WrittenGroups) : Type 0 where
 -- The depth is possible after these groups, which change those of the level's table.
 pub record HasRoomToWrite (level : Level) (written : WrittenGroups) : Type 0 where
   pub deep : level.depth ≤ length written.groups
-  pub fits : FitsIn level.table.now.groups written
+  pub fits : FitsIn level.last.now.groups written
 
 -- The old siblings are groups of the level's table, and the new groups change that table.
 pub record StaysIn (level : Level) (made : Progress) : Type 0 where
-  pub written : FitsIn level.table.now.groups made.writer
-  pub pending : made.pending.table.now.groups ≡ level.table.now.groups
+  pub written : FitsIn level.last.now.groups made.writer
+  pub pending : made.pending.table.now.groups ≡ level.last.now.groups
 
 pub record HasRoom (level : Level) (made : Progress) : Type 0 where
   pub deep : level.depth ≤ length made.writer.groups
@@ -126,10 +125,10 @@ pub record Continues {W : Type 0} (shown : W → Map → Type 0) (asked : W → 
 abbrev pub RanBeside : Level → (Map → GroupForest) → (Calculation → Type 0) → Map → List ℕ → List ℕ → Progress
     → Progress → {U : Type 0} → Result U ComposeStop → Type 0
 RanBeside level t calculates m asked asked' made made' result =
-    (o : OldSiblings) → IsBeside o level.owed.now.objects m (functions_view level.functions.now) level.depth
+    (o : OldSiblings) → IsBeside o level.last.now.owed.objects m (functions_view level.functions.now) level.depth
     made.pending →
     calculates o.last.calculation →
-    ComposesBeside level.owed.now.objects o.old level.depth o.seen (t m) (state_of made.writer asked made.reads)
+    ComposesBeside level.last.now.owed.objects o.old level.depth o.seen (t m) (state_of made.writer asked made.reads)
     (state_of made'.writer asked' made'.reads) made'.pending result
 
 -- The contract of composing a part of a program: `t m` is the forest of the part in the map `m`, and `calculates` says
@@ -146,9 +145,9 @@ pub record Recomposes {W : Type 0} (shown : W → Map → Type 0) (asked : W →
   pub counted : (m : Map) → shown view m → OnOk result (made'.writer.reads + length made'.reads + length (asked view)
       ≡ made.writer.reads + length made.reads + length (asked view'))
   pub ran : (m : Map) (o : OldSiblings) → shown view m →
-      IsBeside o level.owed.now.objects m (functions_view level.functions.now) level.depth made.pending →
+      IsBeside o level.last.now.owed.objects m (functions_view level.functions.now) level.depth made.pending →
       calculates o.last.calculation →
-      ComposesBeside level.owed.now.objects o.old level.depth o.seen (t m)
+      ComposesBeside level.last.now.owed.objects o.old level.depth o.seen (t m)
       (state_of made.writer (asked view) made.reads)
       (state_of made'.writer (asked view') made'.reads) made'.pending result
 
@@ -172,8 +171,8 @@ abbrev pub BodyRan : Level → Map → ℕ → ℕ → List Value → Option Key
     → {U : Type 0} → Result U ComposeStop → Type 0
 BodyRan level m site function arguments found asked asked' written written' result =
     (l : LastComposition) (there : Option Found) (own : List ℕ) → IsSince l (functions_view level.functions.now) →
-    IsOldPart l level.owed.now.objects m (inside_of there) → Alike level.depth found there →
-    Reaches (run_beside level.owed.now.objects (inside_of there) level.depth site (Call function arguments)
+    IsOldPart l level.last.now.owed.objects m (inside_of there) → Alike level.depth found there →
+    Reaches (run_beside level.last.now.owed.objects (inside_of there) level.depth site (Call function arguments)
     (meaning_at (meanings m (functions_view level.functions.now)) function arguments) (state_of written asked own))
     (state_of written' asked' own) result
 
@@ -182,10 +181,10 @@ abbrev pub GroupSkipped : Level → Map → ℕ → KeyInfo → List ℕ → Lis
     → Result U ComposeStop → Type 0
 GroupSkipped level m site old asked asked' written written' result =
     (l : LastComposition) (f : Found) (own : List ℕ) → IsSince l (functions_view level.functions.now) →
-    IsOldPart l level.owed.now.objects m f.inside → Alike level.depth (Some old) (Some f) →
-    Reaches (skipped_inside m level.owed.now.objects (functions_view level.functions.now) level.depth site f.number
+    IsOldPart l level.last.now.owed.objects m f.inside → Alike level.depth (Some old) (Some f) →
+    Reaches (skipped_inside m level.last.now.owed.objects (functions_view level.functions.now) level.depth site f.number
     f.what
-    (is_owed level.owed.now.objects f.inside) f.inside (skipped_groups m level.owed.now.objects f.inside)
+    (is_owed level.last.now.owed.objects f.inside) f.inside (skipped_groups m level.last.now.owed.objects f.inside)
     (state_of written asked own))
     (state_of written' asked' own) result
 
@@ -194,16 +193,16 @@ abbrev pub GroupsSkipped : Level → Map → List Listed → List ℕ → List �
     → Result U ComposeStop → Type 0
 GroupsSkipped level m groups asked asked' written written' result =
     (l : LastComposition) (t : GroupForest) (own : List ℕ) → IsSince l (functions_view level.functions.now) →
-    IsOldPart l level.owed.now.objects m t → Begins level.depth groups t →
-    Reaches (skipped_groups m level.owed.now.objects t (functions_view level.functions.now) level.depth
+    IsOldPart l level.last.now.owed.objects m t → Begins level.depth groups t →
+    Reaches (skipped_groups m level.last.now.owed.objects t (functions_view level.functions.now) level.depth
     (state_of written asked own))
     (state_of written' asked' own) result
 
 -- The groups of a frame were written after those of `written`.
-abbrev pub FrameWritten : Program → List Listed → OwedObjects → Map → List ℕ → List ℕ → WrittenGroups → WrittenGroups
+abbrev pub FrameWritten : Program → LastFrameGroups → Map → List ℕ → List ℕ → WrittenGroups → WrittenGroups
     → {U : Type 0} → Result U ComposeStop → Type 0
-FrameWritten p groups owed m asked asked' written written' result =
-    (seen : Option Map) (t : GroupForest) (own : List ℕ) → groups ≡ preorder 0 t →
-    IsOwing (functions_of p) (root_of p) seen t m owed →
-    Reaches (frame_state (functions_of p) (root_of p) owed.objects t written.next m (state_of written asked own))
+FrameWritten p last m asked asked' written written' result =
+    (seen : Option Map) (t : GroupForest) (own : List ℕ) → last.groups ≡ preorder 0 t →
+    IsOwing (functions_of p) (root_of p) seen t m last.owed →
+    Reaches (frame_state (functions_of p) (root_of p) last.owed.objects t written.next m (state_of written asked own))
     (state_of written' asked' own) result

@@ -13,7 +13,7 @@ use Rattle.composer.specs.declared.writer.NewKind.TheVariants as new
 use Rattle.composer.specs.declared.writer.CallArguments.{CallArguments}
 use Rattle.composer.specs.declared.writer.CallArguments.TheVariants as arguments
 use Rattle.composer.specs.OldSiblings.{KeyInfo, old_group}
-use Rattle.composer.specs.FrameDrafts.{DraftGroups}
+use Rattle.composer.specs.FrameDrafts.{DraftGroups, HaveScopes}
 use Rattle.composer.specs.Comparisons.{other_keys}
 use Rattle.composer.specs.ComposerState.{ComposerState, one_if}
 
@@ -158,6 +158,7 @@ pub record IsDraftOf (w : WrittenGroups) (d : DraftGroups) : Type 0 where
     groups = length w.groups;
     nodes = nodes_in w.groups;
   }
+  pub scopes : HaveScopes d.olds d.groups d.scopes
 
 -- The group at an index is at this depth and site, has this number, and has no reads.
 pub record IsPlacedAt (groups : List Group) (at depth site number : ℕ) : Type 0 where

@@ -8,8 +8,8 @@ ghost use Rattle.slot_table.specs.ReaderStates.{group_key};
 ghost use Rattle.composer.specs.Comparisons.{same_attribute, same_attributes, same_call, call_runs, has_keys, other_keys};
 ghost use Rattle.composer.specs.WrittenGroups.{kept_of};
 
+use crate::last_groups::LastGroups;
 use crate::old_groups::OldGroup;
-use crate::owed::Owed;
 use lang_meaning::Env;
 use rt_groups::{Attribute, GroupKind};
 use rt_values::{NoMemory, ObjectNo, Value, Word};
@@ -109,17 +109,17 @@ fn is_same_call(what: &GroupKind, function: usize, arguments: &[Value]) -> bool
 
 /// Returns whether a call runs: it has no old group, its arguments differ, or its own reads include an owed object.
 pub fn call_is_run(
-    owed: &Owed,
+    last: &LastGroups,
     found: &Option<OldGroup>,
     function: usize,
     arguments: &[Value],
 ) -> bool
-    ensures { result ≡ call_runs owed.now.objects found.now (kinds.Call function arguments.now) }
+    ensures { result ≡ call_runs last.now.owed.objects found.now (kinds.Call function arguments.now) }
 {
     let Some(old) = found else {
         return true;
     };
-    !is_same_call(old.kind(), function, arguments) || meet(old.reads(), owed)
+    !is_same_call(old.kind(), function, arguments) || meet(old.reads(), last)
 }
 
 // Returns whether it is a cell that was calculated for the values of these keys.
@@ -166,19 +166,12 @@ pub fn kept_value(
     }
 }
 
-/// Returns whether both lists have the same objects in the same order.
-pub fn same_reads(reads: &[ObjectNo], others: &[ObjectNo]) -> bool
-    ensures { result ≡ true → reads.now ≡ others.now }
-{
-    reads == others
-}
-
 /// Returns whether a call with these reads reads an owed object.
-pub fn meet(reads: &[ObjectNo], owed: &Owed) -> bool
-    ensures { result ≡ meets reads.now owed.now.objects }
+pub fn meet(reads: &[ObjectNo], last: &LastGroups) -> bool
+    ensures { result ≡ meets reads.now last.now.owed.objects }
 {
     for x in reads {
-        if owed.has(*x) {
+        if last.owes(*x) {
             return true;
         }
     }

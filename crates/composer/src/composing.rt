@@ -4,7 +4,7 @@ ghost use Rattle.rt_values.specs.declared.value.Value.{Value as value_data};
 ghost use Rattle.rt_values.specs.Maps.{Map};
 ghost use Rattle.rt_values.specs.Views.{Grew};
 ghost use Rattle.rt_groups.specs.GroupForest.{GroupKind as kind_data};
-ghost use Rattle.rt_groups.specs.PreorderGroups.{flat_kind};
+ghost use Rattle.rt_groups.specs.PreorderGroups.{flat_kind, preorder};
 ghost use Rattle.rt_groups.specs.Frames.{LastFrame, most_groups};
 ghost use Rattle.lang_ast.specs.Terms.{Node, Key, If, For, Let, Remember};
 ghost use Rattle.lang_ast.specs.SyntaxView.{expr_view, exprs_view, nameds_view, stmt_view, stmts_view};
@@ -20,6 +20,7 @@ ghost use Rattle.composer.specs.Recomposes.{Recomposes, Continues, RanBeside, Wr
 use crate::compared::{call_is_run, kept_value, meet};
 use crate::draft::{Draft, Held};
 use crate::entering::{enter_body, enter_group, keep_group, push_name};
+use crate::last_groups::LastGroups;
 use crate::old_groups::OldGroup;
 use crate::owed::Owed;
 use crate::pending::Pending;
@@ -33,19 +34,17 @@ use lang_checks::Checked;
 use lang_meaning::{Env, eval_noting, evaluate_all, evaluate_attributes, evaluate_keys};
 use rt_groups::{Deps, GroupKind, Values};
 use rt_values::{NoMemory, Steps, Value, View};
-use slot_table::Table;
 use std::alloc::Global;
 use std::mem;
 use std::sync::ledger::Ledger;
 
-/// Where statements are composed: the functions that their calls reach, the groups of the last frame, what is owed,
+/// Where statements are composed: the functions that their calls reach, the groups of the last frame with what is owed,
 /// lists whose memory is used again, and the depth of the new groups.
 #[derive(Clone, Copy)]
 pub struct Level<'a> {
     pub alloc: Global,
     pub functions: &'a [Function],
-    pub table: &'a Table,
-    pub owed: &'a Owed,
+    pub last: &'a LastGroups<'a>,
     pub spares: &'a Spares,
     pub depth: u32,
 }
@@ -193,12 +192,11 @@ fn run_group<'a, V: View, L: Ledger>(
     let inside = Level {
         alloc: level.alloc,
         functions: level.functions,
-        table: level.table,
-        owed: level.owed,
+        last: level.last,
         spares: level.spares,
         depth: level.depth + 1,
     };
-    let within = Pending::inside_found(level.table, &found);
+    let within = Pending::inside_found(level.last, &found);
     let around = mem::replace(&mut made.pending, within);
     run_all(&inside, body, made, view, steps)?;
     made.pending = around;
@@ -497,7 +495,7 @@ fn run_call<'a, V: View, L: Ledger>(
     let found = made
         .pending
         .take(level.alloc, &SiblingKey::new(site, None))?;
-    if call_is_run(level.owed, &found, function, arguments.items()) {
+    if call_is_run(level.last, &found, function, arguments.items()) {
         return run_body(
             level,
             site,
@@ -539,9 +537,9 @@ fn run_body<'a, V: View, L: Ledger>(
     steps: &mut Steps<L>,
 ) -> Result<(), ComposeStop>
     requires room { HasRoomToWrite level.now writer.old }
-    requires found { IsFoundIn level.now.table.now.groups found.now }
+    requires found { IsFoundIn level.now.last.now.groups found.now }
     requires arguments { AreArguments function arguments found.now }
-    ensures { Writes V.shows V.asked V.keeps level.now.table.now.groups view.old view.new writer.old writer.new
+    ensures { Writes V.shows V.asked V.keeps level.now.last.now.groups view.old view.new writer.old writer.new
         result
         (λ m. BodyRan level.now m site function (arguments_of arguments.entry) found.now (V.asked view.old)
         (V.asked view.new) writer.old writer.new result) }
@@ -557,8 +555,7 @@ fn run_body<'a, V: View, L: Ledger>(
     let inside = Level {
         alloc: level.alloc,
         functions: &level.functions[..function],
-        table: level.table,
-        owed: level.owed,
+        last: level.last,
         spares: level.spares,
         depth: level.depth + 1,
     };
@@ -594,8 +591,8 @@ fn skip_group<'a, V: View, L: Ledger>(
     steps: &mut Steps<L>,
 ) -> Result<(), ComposeStop>
     requires room { HasRoomToWrite level.now writer.old }
-    requires table { old.now.groups ≡ level.now.table.now.groups }
-    ensures { Writes V.shows V.asked V.keeps level.now.table.now.groups view.old view.new writer.old writer.new
+    requires table { old.now.groups ≡ level.now.last.now.groups }
+    ensures { Writes V.shows V.asked V.keeps level.now.last.now.groups view.old view.new writer.old writer.new
         result
         (λ m. GroupSkipped level.now m site old.now (V.asked view.old) (V.asked view.new) writer.old writer.new
         result) }
@@ -606,7 +603,7 @@ fn skip_group<'a, V: View, L: Ledger>(
             function,
             arguments,
         } => {
-            if meet(old.reads(), level.owed) {
+            if meet(old.reads(), level.last) {
                 let found = Some(old.copy());
                 let arguments = CallArguments::Old(arguments);
                 return run_body(
@@ -617,8 +614,7 @@ fn skip_group<'a, V: View, L: Ledger>(
             let inside = Level {
                 alloc: level.alloc,
                 functions: front(level.functions, *function),
-                table: level.table,
-                owed: level.owed,
+                last: level.last,
                 spares: level.spares,
                 depth: level.depth + 1,
             };
@@ -641,9 +637,9 @@ fn skip_inside<'a, V: View, L: Ledger>(
     steps: &mut Steps<L>,
 ) -> Result<(), ComposeStop>
     requires room { HasRoomToWrite level.now writer.old }
-    requires table { old.now.groups ≡ level.now.table.now.groups }
+    requires table { old.now.groups ≡ level.now.last.now.groups }
     ensures { is_call_kept (old_group old.now).what ≡ false
-        → Writes V.shows V.asked V.keeps level.now.table.now.groups view.old view.new writer.old writer.new
+        → Writes V.shows V.asked V.keeps level.now.last.now.groups view.old view.new writer.old writer.new
         result
         (λ m. GroupSkipped level.now m site old.now (V.asked view.old) (V.asked view.new) writer.old writer.new
         result) }
@@ -652,8 +648,7 @@ fn skip_inside<'a, V: View, L: Ledger>(
     let inside = Level {
         alloc: level.alloc,
         functions: level.functions,
-        table: level.table,
-        owed: level.owed,
+        last: level.last,
         spares: level.spares,
         depth: level.depth + 1,
     };
@@ -671,22 +666,23 @@ fn skip_all<'a, V: View, L: Ledger>(
     steps: &mut Steps<L>,
 ) -> Result<(), ComposeStop>
     requires { HasRoomToWrite level.now writer.old }
-    ensures { Writes V.shows V.asked V.keeps level.now.table.now.groups view.old view.new writer.old writer.new
+    ensures { Writes V.shows V.asked V.keeps level.now.last.now.groups view.old view.new writer.old writer.new
         result
-        (λ m. GroupsSkipped level.now m (drop first level.now.table.now.groups) (V.asked view.old) (V.asked view.new) writer.old
+        (λ m. GroupsSkipped level.now m (drop first level.now.last.now.groups) (V.asked view.old) (V.asked view.new) writer.old
         writer.new result) }
 {
-    let table = level.table;
+    let last = level.last;
+    let around = first.saturating_sub(1);
     let mut at = first;
-    while at < table.len() {
-        let stop = quiet_end(table, level.owed, level.depth, at);
+    while at < last.len() {
+        let stop = quiet_end(last, level.depth, around, at);
         writer.keep_run(at, stop)?;
-        if is_end(table, level.depth, stop) {
+        if is_end(last, level.depth, stop) {
             return Ok(());
         }
-        let old = OldGroup::new(table, stop);
+        let old = last.group(stop);
         skip_group(level, old.site(), &old, writer, view, steps)?;
-        at = table.index_after(stop);
+        at = last.index_after(stop);
     }
     Ok(())
 }
@@ -695,28 +691,26 @@ fn skip_all<'a, V: View, L: Ledger>(
 fn write_frame<'a, V: View, L: Ledger>(
     alloc: Global,
     program: &'a Checked,
-    table: &'a Table,
-    owed: &'a Owed,
+    last: &'a LastGroups<'a>,
     spares: &'a Spares,
     writer: &mut Writer<'a>,
     view: &mut V,
     steps: &mut Steps<L>,
 ) -> Result<(), ComposeStop>
-    requires { FitsIn table.now.groups writer.old }
-    ensures { Writes V.shows V.asked V.keeps table.now.groups view.old view.new writer.old writer.new
+    requires { FitsIn last.now.groups writer.old }
+    ensures { Writes V.shows V.asked V.keeps last.now.groups view.old view.new writer.old writer.new
         result
-        (λ m. FrameWritten program.now table.now.groups owed.now m (V.asked view.old) (V.asked view.new) writer.old
-        writer.new result) }
+        (λ m. FrameWritten program.now last.now m (V.asked view.old) (V.asked view.new) writer.old writer.new
+        result) }
 {
     let level = Level {
         alloc,
         functions: program.functions(),
-        table,
-        owed,
+        last,
         spares,
         depth: 0,
     };
-    if owed.is_all() {
+    if last.owes_all() {
         let root = program.root();
         return run_body(
             &level,
@@ -736,32 +730,22 @@ fn write_frame<'a, V: View, L: Ledger>(
 fn compose_draft<'a, V: View, L: Ledger>(
     alloc: Global,
     program: &'a Checked,
-    held: &'a Held,
-    owed: &'a Owed,
+    last: &'a LastGroups<'a>,
+    next: u64,
     spares: &'a Spares,
     view: &mut V,
     steps: &mut Steps<L>,
 ) -> Result<Draft, ComposeStop>
     ensures keeps { V.keeps view.old view.new }
     ensures same { (m : Map) → V.shows view.old m → V.shows view.new m }
-    ensures olds { IfOk result (λ d. d.olds ≡ held.now.groups) }
-    ensures frame { (k : LastFrame) (m : Map) → V.shows view.old m → Holds held.now k →
-        IsOwing (functions_of program.now) (root_of program.now) k.seen k.trail m owed.now →
-        ComposesFrame (functions_of program.now) (root_of program.now) owed.now k m (V.asked view.old)
+    ensures olds { IfOk result (λ d. d.olds ≡ last.now.groups) }
+    ensures frame { (k : LastFrame) (m : Map) → V.shows view.old m → last.now.groups ≡ preorder 0 k.trail →
+        next ≡ k.next → IsOwing (functions_of program.now) (root_of program.now) k.seen k.trail m last.now.owed →
+        ComposesFrame (functions_of program.now) (root_of program.now) last.now.owed k m (V.asked view.old)
         (V.asked view.new) result }
 {
-    let table = held.table();
-    let mut writer = Writer::new(alloc, table, held.next());
-    write_frame(
-        alloc,
-        program,
-        table,
-        owed,
-        spares,
-        &mut writer,
-        view,
-        steps,
-    )?;
+    let mut writer = Writer::new(alloc, last.table(), next);
+    write_frame(alloc, program, last, spares, &mut writer, view, steps)?;
     Ok(writer.into_draft(alloc)?)
 }
 
@@ -788,6 +772,7 @@ pub fn compose<V: View, L: Ledger>(
         ComposesFrame (functions_of program.now) (root_of program.now) owed.now k m (V.asked view.old)
         (V.asked view.new) result }
 {
+    let last = LastGroups::new(alloc, held, owed)?;
     let spares = Spares::new(alloc);
-    compose_draft(alloc, program, held, owed, &spares, view, steps)
+    compose_draft(alloc, program, &last, held.next(), &spares, view, steps)
 }

@@ -74,8 +74,8 @@ pub fn enter_body<'a>(
     requires arguments { AreArguments function arguments found.now }
     ensures scope { IfOk result (λ p. p.scope ≡ bind callee.now.parameters.items (arguments_of arguments.entry)) }
     ensures pending { IfOk result (λ p. (s : GroupKey) → waiting_siblings p.pending s ≡ found_siblings found.now s) }
-    ensures table { IsFoundIn level.now.table.now.groups found.now →
-        IfOk result (λ p. p.pending.table.now.groups ≡ level.now.table.now.groups) }
+    ensures table { IsFoundIn level.now.last.now.groups found.now →
+        IfOk result (λ p. p.pending.table.now.groups ≡ level.now.last.now.groups) }
     ensures reads { IfOk result (λ p. p.reads ≡ []) }
     ensures entered { IfOk result (λ p. p.writer ≡ running_call level.now.depth site
         (kinds.Call function (arguments_of arguments.entry)) (first_reads arguments.entry found.now) writer.old) }
@@ -84,9 +84,9 @@ pub fn enter_body<'a>(
 {
     let room = level.spares.take_scope(level.alloc);
     let scope = bind(level.alloc, room, &callee.parameters, arguments.values())?;
-    let pending = Pending::inside_found(level.table, found);
+    let pending = Pending::inside_found(level.last, found);
     writer.enter_running(level.alloc, level.depth, site, function, arguments, found)?;
-    let taken = mem::replace(writer, Writer::new(level.alloc, level.table, 0));
+    let taken = mem::replace(writer, Writer::new(level.alloc, level.last.table(), 0));
     let reads = level.spares.take_reads(level.alloc);
     Ok(Progress {
         scope,

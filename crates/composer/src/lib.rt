@@ -13,6 +13,7 @@ mod compared;
 mod composing;
 mod draft;
 mod entering;
+mod last_groups;
 mod old_groups;
 mod owed;
 mod pending;

@@ -80,6 +80,13 @@ impl Owed {
         x < self.marks.len() as u64 && self.marks[x as usize]
     }
 
+    /// Returns the marked objects in ascending order.
+    pub fn objects(&self, alloc: Global) -> Result<Vec<ObjectNo>, NoMemory>
+        ensures { IfOk result (λ xs. xs.items ≡ self.now.objects) }
+    {
+        marked_objects(alloc, &self.marks)
+    }
+
     /// Returns whether no object is owed.
     pub fn is_nothing(&self) -> bool
         ensures { result ≡ (not self.now.all && (length self.now.objects == 0)) }
@@ -98,6 +105,19 @@ fn set_marks(marks: &mut Vec<bool>, objects: &[ObjectNo])
             marks[*x as usize] = true;
         }
     }
+}
+
+// Returns the numbers of the marks that are set.
+fn marked_objects(alloc: Global, marks: &[bool]) -> Result<Vec<ObjectNo>, NoMemory>
+    ensures { IfOk result (λ xs. xs.items ≡ marked_numbers 0 marks.now) }
+{
+    let mut objects = Vec::new(alloc);
+    for x in 0..marks.len() {
+        if marks[x] {
+            objects.push(x as u64)?;
+        }
+    }
+    Ok(objects)
 }
 
 // Returns whether no mark is set.

@@ -7,6 +7,7 @@ ghost use Rattle.group_keys.specs.Queues.{queue_of};
 ghost use Rattle.composer.specs.OldSiblings.{sibling_key, level_indexes, is_level as is_group_at, inner_siblings, found_siblings, indexes_in, IsFoundIn};
 
 use crate::compared::key_of;
+use crate::last_groups::LastGroups;
 use crate::old_groups::OldGroup;
 use group_keys::{SiblingKey, SiblingQueues};
 use rt_values::NoMemory;
@@ -67,12 +68,12 @@ impl<'a> Pending<'a> {
 
     /// Returns the groups directly inside `found`, which a new group is matched with, or no siblings if there is no
     /// such group.
-    pub fn inside_found(table: &'a Table, found: &Option<OldGroup<'a>>) -> Pending<'a>
+    pub fn inside_found(last: &LastGroups<'a>, found: &Option<OldGroup<'a>>) -> Pending<'a>
         ensures waiting { (s : GroupKey) → waiting_siblings result s ≡ found_siblings found.now s }
-        ensures table { IsFoundIn table.now.groups found.now → result.table.now.groups ≡ table.now.groups }
+        ensures table { IsFoundIn last.now.groups found.now → result.table.now.groups ≡ last.now.groups }
     {
         match found {
-            None => Pending::none(table),
+            None => Pending::none(last.table()),
             Some(old) => Pending::inside(old),
         }
     }

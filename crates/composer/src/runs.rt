@@ -1,44 +1,63 @@
 // Runs of old groups in which no call is owed.
-ghost use Rattle.std.specs.Prelude.{◌≡◌, ◌≤◌, ◌<◌, length, drop, true, false};
+ghost use Rattle.std.specs.Prelude.{◌≡◌, ◌≤◌, ◌<◌, length, drop, true, false, IfSome};
 ghost use Rattle.rt_groups.specs.GroupForest.{GroupForest};
 ghost use Rattle.slot_table.specs.TableGroups.{group_at};
 ghost use Rattle.composer.specs.OldGroups.{Begins, Ends};
-ghost use Rattle.composer.specs.QuietRuns.{has_owed, group_run, QuietRun};
+ghost use Rattle.composer.specs.QuietRuns.{IsLevelEnd, IsQuietUpTo, QuietRun};
 
-use crate::compared::meet;
-use crate::owed::Owed;
-use slot_table::Table;
+use crate::last_groups::LastGroups;
 
-// Returns whether no group from index `from` to before index `to` has an owed object among its reads.
-fn is_quiet(table: &Table, owed: &Owed, from: usize, to: usize) -> bool
-    requires order { from ≤ to }
-    requires inside { to ≤ length table.now.groups }
-    ensures { result ≡ true → has_owed owed.now.objects (group_run table.now.groups from to) ≡ false }
+// Returns the index after the groups inside the group at index `around`, if these are at `depth` and include the group
+// at index `first` or end there.
+fn level_end(last: &LastGroups, depth: u32, around: usize, first: usize) -> Option<usize>
+    ensures { IfSome result (λ end. IsLevelEnd depth last.now.groups first end) }
 {
-    for i in from..to {
-        if meet(table.reads(i), owed) {
-            return false;
-        }
+    if around >= first || first > last.len() || depth == 0 || last.depth(around) != depth - 1 {
+        return None;
     }
-    true
+    let end = last.index_after(around);
+    if end < first {
+        return None;
+    }
+    Some(end)
 }
 
 /// Returns the index after the siblings at `depth` from index `first` on, up to the first sibling that is an owed call
-/// or contains one.
-pub fn quiet_end(table: &Table, owed: &Owed, depth: u32, first: usize) -> usize
-    requires { first ≤ length table.now.groups }
+/// or contains one. Takes constant time if no sibling is or contains one and they are inside the group at index
+/// `around`, and else time linear in the number of these siblings.
+pub fn quiet_end(last: &LastGroups, depth: u32, around: usize, first: usize) -> usize
+    requires { first ≤ length last.now.groups }
     ensures order { first ≤ result }
-    ensures inside { result ≤ length table.now.groups }
-    ensures quiet { (t : GroupForest) → Begins depth (drop first table.now.groups) t →
-        QuietRun owed.now.objects depth table.now.groups first result t }
+    ensures inside { result ≤ length last.now.groups }
+    ensures quiet { (t : GroupForest) → Begins depth (drop first last.now.groups) t →
+        QuietRun last.now.owed.objects depth last.now.groups first result t }
+{
+    let owed = last.next_owed(first);
+    if let Some(end) = level_end(last, depth, around, first) {
+        if end <= owed {
+            return end;
+        }
+    }
+    siblings_end(last, depth, first, owed)
+}
+
+// Returns the index after the siblings at `depth` from index `first` on, up to the first sibling that ends after index
+// `owed`.
+fn siblings_end(last: &LastGroups, depth: u32, first: usize, owed: usize) -> usize
+    requires inside { first ≤ length last.now.groups }
+    requires quiet { IsQuietUpTo last.now first owed }
+    ensures order { first ≤ result }
+    ensures inside { result ≤ length last.now.groups }
+    ensures quiet { (t : GroupForest) → Begins depth (drop first last.now.groups) t →
+        QuietRun last.now.owed.objects depth last.now.groups first result t }
 {
     let mut next = first;
-    while next < table.len() {
-        if table.depth(next) < depth {
+    while next < last.len() {
+        if last.depth(next) < depth {
             return next;
         }
-        let after = table.index_after(next);
-        if !is_quiet(table, owed, next, after) {
+        let after = last.index_after(next);
+        if after > owed {
             return next;
         }
         next = after;
@@ -47,12 +66,12 @@ pub fn quiet_end(table: &Table, owed: &Owed, depth: u32, first: usize) -> usize
 }
 
 /// Returns whether the group at index `at` is less deep, or there is no such group.
-pub fn is_end(table: &Table, depth: u32, at: usize) -> bool
-    ensures end { result ≡ true → Ends depth (drop at table.now.groups) }
-    ensures more { result ≡ false → (at < length table.now.groups) × (depth ≤ (group_at table.now.groups at).depth) }
+pub fn is_end(last: &LastGroups, depth: u32, at: usize) -> bool
+    ensures end { result ≡ true → Ends depth (drop at last.now.groups) }
+    ensures more { result ≡ false → (at < length last.now.groups) × (depth ≤ (group_at last.now.groups at).depth) }
 {
-    if at >= table.len() {
+    if at >= last.len() {
         return true;
     }
-    table.depth(at) < depth
+    last.depth(at) < depth
 }

@@ -12,7 +12,7 @@ ghost use Rattle.composer.specs.OldSiblings.{old_group};
 ghost use Rattle.composer.specs.QuietRuns.{group_run};
 ghost use Rattle.composer.specs.WrittenGroups.{group_kind, arguments_of, AreArguments, first_reads, number_for, enter_group, with_call, running_call, written_kept, written_run, IsDraftOf, IsPlacedAt, IsKeptAt};
 
-use crate::compared::{has_other_keys, is_same_key, is_same_node, same_reads};
+use crate::compared::{has_other_keys, is_same_key, is_same_node};
 use crate::draft::Draft;
 use crate::old_groups::OldGroup;
 use crate::spares::Spares;
@@ -20,7 +20,7 @@ use crate::stop::ComposeStop;
 use lang_meaning::Env;
 use rt_groups::{Attribute, Attributes, Deps, Group, GroupKind, Report, Values};
 use rt_values::{NoMemory, ObjectNo, Value, Word};
-use slot_table::{ChangeListWriter, SharedGroup, Table};
+use slot_table::{ChangeListWriter, SharedGroup, Table, same_reads};
 use std::alloc::Global;
 use std::marker::Model;
 
@@ -174,8 +174,9 @@ impl<'t> Writer<'t> {
             groups: self.groups.len() as u64,
             nodes: self.groups.nodes() as u64,
         };
+        let table = self.groups.table();
         let changes = self.groups.into_change_list(alloc)?;
-        Ok(Draft::new(changes, self.next, report))
+        Draft::new(alloc, table, changes, self.next, report)
     }
 
     // Appends a group. Fails if there are 1,000,000 groups already.

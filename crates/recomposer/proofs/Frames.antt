@@ -14,6 +14,7 @@ use Rattle.recompose_laws.specs.Numbering.{without_numbers}
 use Rattle.recompose_laws.specs.Idle.{unchanged_report}
 use Rattle.recompose_laws.proofs.Idles.{idle_frame, kept_is_numbered}
 use Rattle.recompose_laws.proofs.Plain.{kept_trail_is_the_forest}
+use Rattle.recompose_scopes.specs.Scopes.{AreScopesOf, own_reads}
 use Rattle.composer.specs.OwedObjects.{OwedObjects}
 use Rattle.composer.specs.FrameDrafts.{DraftGroups, HeldGroups, Holds, IsOwing, IsFrameDraft, root_of}
 use Rattle.lang_ast.specs.Programs.{program_view, functions_of}
@@ -92,10 +93,12 @@ module _ (p : Program) (k : LastFrame) (m : Map) where
 pub finished_at : (c c' : Composition) (k : LastFrame) (m : Map) (d : DraftGroups) → IsAt c k (Some m)
     → how_many (forest (functions_of c.program.now) (root_of c.program.now) m) ≤ most_groups →
     IsFrameDraft (functions_of c.program.now) (root_of c.program.now) c.owed k m d → c'.program ≡ c.program
-    → c'.held.groups ≡ d.groups → c'.held.next ≡ d.next → c'.groups ≡ d.report.groups → c'.nodes ≡ d.report.nodes →
+    → c'.held.groups ≡ d.groups → c'.held.next ≡ d.next
+    → AreScopesOf (own_reads c'.held.groups) c'.held.scopes → c'.groups ≡ d.report.groups
+    → c'.nodes ≡ d.report.nodes →
     c'.owed ≡ record { all = false; objects = []; states = c.owed.states }
     → IsAt c' (kept_after k (frame (functions_of c.program.now) k m)) (Some m)
-finished_at c c' k m d h few draft program held_groups held_next groups nodes owed =
+finished_at c c' k m d h few draft program held_groups held_next scopes groups nodes owed =
     let p = c.program.now in
     let new = forest (functions_of p) (root_of p) m in
     let left = (good_frame k m new).left in
@@ -108,7 +111,7 @@ finished_at c c' k m d h few draft program held_groups held_next groups nodes ow
     } in
     subst (λ (o : Option FrameResult). IsAt c' (kept_after k o) (Some m)) (sym (good_is p k m few)) (record {
       checked = subst (λ (q : Program). IsChecked (program_view q)) (sym same) h.checked;
-      holds = (held_groups ∙ draft.groups, held_next ∙ draft.next);
+      holds = (held_groups ∙ draft.groups, held_next ∙ draft.next, scopes);
       owes = subst (λ (q : Program). Owes q (Some m) left.trail (Some m) c'.owed) (sym same)
           (owes_nothing p m left.trail c'.owed (ap (λ (o : OwedObjects). o.all) owed)
           (ap (λ (o : OwedObjects). o.objects) owed) kept);
@@ -124,14 +127,15 @@ finished_at c c' k m d h few draft program held_groups held_next groups nodes ow
 pub detached_at : (c c' : Composition) (k : LastFrame) (m : Map) (d : DraftGroups) → IsAt c k (Some m)
     → how_many (forest (functions_of c.program.now) (root_of c.program.now) m) ≤ most_groups →
     IsFrameDraft (functions_of c.program.now) (root_of c.program.now) c.owed k m d → c'.program ≡ c.program
-    → c'.held.groups ≡ [] → c'.held.next ≡ d.next → c'.groups ≡ 0 → c'.nodes ≡ 0 →
+    → c'.held.groups ≡ [] → c'.held.next ≡ d.next → AreScopesOf (own_reads c'.held.groups) c'.held.scopes
+    → c'.groups ≡ 0 → c'.nodes ≡ 0 →
     c'.owed ≡ record { all = true; objects = c.owed.objects; states = c.owed.states }
     → IsAt c' (kept_after_fault k (frame (functions_of c.program.now) k m)) (Some m)
-detached_at c c' k m d h few draft program held_groups held_next groups nodes owed =
+detached_at c c' k m d h few draft program held_groups held_next scopes groups nodes owed =
     subst (λ (o : Option FrameResult). IsAt c' (kept_after_fault k o) (Some m)) (sym (good_is c.program.now k m few))
     (record {
       checked = subst (λ (q : Bor Program). IsChecked (program_view q.now)) (sym program) h.checked;
-      holds = (held_groups, held_next ∙ draft.next);
+      holds = (held_groups, held_next ∙ draft.next, scopes);
       owes = (refl, ap (λ (o : OwedObjects). o.all) owed);
       numbers = λ x. (omega arith, λ above. refl);
       from_one = ((still_from_one c.program.now k (Some m) m c.owed h.checked h.owes h.from_one).0, refl);

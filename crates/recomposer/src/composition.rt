@@ -12,6 +12,7 @@ ghost use Rattle.snap_api.specs.Calls.{Calls, Logs};
 ghost use Rattle.snap_api.specs.Desks.{FollowsLast};
 ghost use Rattle.snap_api.specs.World.{World};
 ghost use Rattle.node_tree.specs.Calls.{insert_count};
+ghost use Rattle.recompose_scopes.specs.Scopes.{AreScopesOf, own_reads};
 ghost use Rattle.recomposer.specs.AppliedFrames.{MayCall, Applies, UnlessFault, FaultHasCause, OwesNothing, kept_after_fault, ops_of};
 ghost use Rattle.recomposer.specs.Composed.{IsComposed, IsForHeld};
 ghost use Rattle.recomposer.specs.Compositions.{IsAt, StopsAtEnd, refused_take, frame_reads, BeginsFrame, EndsFrame, EndsPart, ClosesFrame, GrowsFor, MakesFrame, MakesNoFrame, MakesReads, OwesNoCall, seen_again, LogsFrame, LogsNoFrame, world_of_frame};
@@ -19,6 +20,7 @@ ghost use Rattle.recomposer.specs.Compositions.{IsAt, StopsAtEnd, refused_take, 
 use composer::{ComposeStop, Draft, Held, Owed, compose};
 use lang_checks::Checked;
 use node_tree::{Applier, Ops, carry, list_nodes, place, place_anew};
+use recompose_scopes::RecomposeScopes;
 use rt_groups::Report;
 use rt_values::{Name, NoMemory, ObjectNo, Objects, Steps, View, WatcherNo};
 use slot_table::Table;
@@ -112,6 +114,15 @@ impl<'p> Composition<'p> {
         ensures { (k : LastFrame) (l : Option Map) → IsAt self.now k l → result.now.groups ≡ preorder 0 k.trail }
     {
         self.held.table()
+    }
+
+    /// Returns the scopes of the calls of the last good frame, each with its anchor and with the objects that the call
+    /// read itself (`observations`).
+    pub fn scopes(&self) -> &RecomposeScopes
+        ensures { (k : LastFrame) (l : Option Map) → IsAt self.now k l →
+            AreScopesOf (own_reads (preorder 0 k.trail)) result.now }
+    {
+        self.held.scopes()
     }
 
     /// Returns the number of the next new node.

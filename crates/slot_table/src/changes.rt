@@ -373,9 +373,9 @@ impl ChangeList {
     }
 }
 
-// Returns whether both lists have the same objects in the same order.
+/// Returns whether both lists have the same objects in the same order.
 #[inline(always)]
-fn same_reads(reads: &[ObjectNo], others: &[ObjectNo]) -> bool
+pub fn same_reads(reads: &[ObjectNo], others: &[ObjectNo]) -> bool
     ensures { result ≡ true → reads.now ≡ others.now }
 {
     reads == others

@@ -18,7 +18,7 @@ mod reader;
 mod storage;
 mod table;
 
-pub use changes::{ChangeList, ChangeListWriter, Preview};
+pub use changes::{ChangeList, ChangeListWriter, Preview, same_reads};
 pub use reader::Reader;
 pub use storage::{SharedGroup, TableBuilder};
 pub use table::Table;

@@ -5,9 +5,10 @@ use crate::map_view::view_of;
 use crate::programs::checked_program;
 use crate::recomposing::recompose;
 use lang_meaning::scratch;
+use recompose_scopes::RecomposeScopes;
 use recomposer::Composition;
 use rt_groups::{Attributes, Group, GroupKind, Groups, Values};
-use rt_values::{NoMemory, Objects};
+use rt_values::{NoMemory, ObjectNo, Objects};
 use slot_table::Table;
 use std::alloc::Global;
 use std::process::Abort;
@@ -121,6 +122,51 @@ fn has_groups(table: &Table, groups: &Groups) -> bool {
     i == table.len()
 }
 
+// Whether a call read the object itself.
+fn has_read(reads: &[ObjectNo], object: ObjectNo) -> bool {
+    for x in reads {
+        if *x == object {
+            return true;
+        }
+    }
+    false
+}
+
+// Whether the group at index `i` has a scope that depends on the object.
+fn has_scope(scopes: &RecomposeScopes, object: ObjectNo, i: usize) -> bool {
+    for scope in scopes.scopes_of(object) {
+        if scopes.place(*scope) == Some(i) {
+            return true;
+        }
+    }
+    false
+}
+
+// Whether exactly the groups that read the object have a scope that depends on it.
+fn has_scopes_of(table: &Table, scopes: &RecomposeScopes, object: ObjectNo) -> bool {
+    let mut readers = 0;
+    for i in 0..table.len() {
+        let read = has_read(table.reads(i), object);
+        if read != has_scope(scopes, object, i) {
+            return false;
+        }
+        if read {
+            readers += 1;
+        }
+    }
+    readers == scopes.scopes_of(object).len()
+}
+
+// Whether this is so for each state.
+fn has_scopes(table: &Table, scopes: &RecomposeScopes) -> bool {
+    for object in 0..3 {
+        if !has_scopes_of(table, scopes, object) {
+            return false;
+        }
+    }
+    true
+}
+
 // Returns the states that differ.
 fn changes(alloc: Global, last: &States, now: &States) -> Result<Objects, NoMemory> {
     let mut changed = Objects::new(alloc);
@@ -155,6 +201,7 @@ fn try_program<A: Abort>(rt: &A, alloc: Global, text: &str) -> Result<(), Fail> 
         )?;
         assert!(rt; groups.len() > 1);
         assert!(rt; has_groups(composition.table(), &groups));
+        assert!(rt; has_scopes(composition.table(), composition.scopes()));
         last = states;
     }
     Ok(())

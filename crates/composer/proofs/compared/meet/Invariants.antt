@@ -3,4 +3,4 @@ use Rattle.rt_groups.specs.Frames.{meets}
 use Rattle.composer.proofs.compared.meet.Given as goal
 
 abbrev pub invariant-loop-x : goal.invariant-loop-x
-invariant-loop-x l = meets (drop l.x-index l.reads) l.owed.objects ≡ meets l.reads l.owed.objects
+invariant-loop-x l = meets (drop l.x-index l.reads) l.last.owed.objects ≡ meets l.reads l.last.owed.objects

@@ -76,7 +76,7 @@ run_all-returns-in_err-run_one g t c =
       counted = λ m h. stopped _ _ _ e;
       ran = λ m o h b calc.
           let k = c.loop-statement.invariant.going m o h b calc in
-          let P : List Binding → Type 0 = λ env. ComposesBeside c.args.level.now.owed.now.objects o.old
+          let P : List Binding → Type 0 = λ env. ComposesBeside c.args.level.now.last.now.owed.objects o.old
           c.args.level.now.depth k.now
           (statement_forest m c.args.level.now.functions.now (stmt_view c.statement-item.result) env)
           (state_of c.loop-statement.made.writer (g.V.View.asked c.loop-statement.view) c.loop-statement.made.reads)
@@ -101,7 +101,7 @@ run_all-loop-statement-preserved g t c = record {
       let f = c.in_ok-run_one.ensures.counted m (c.loop-statement.invariant.same m h) in omega (arith, e, f);
   going = λ m o h b calc.
       let k = c.loop-statement.invariant.going m o h b calc in
-      let P : List Binding → Type 0 = λ env. ComposesBeside c.args.level.now.owed.now.objects o.old
+      let P : List Binding → Type 0 = λ env. ComposesBeside c.args.level.now.last.now.owed.objects o.old
       c.args.level.now.depth k.now
       (statement_forest m c.args.level.now.functions.now (stmt_view c.statement-item.result) env)
       (state_of c.loop-statement.made.writer (g.V.View.asked c.loop-statement.view) c.loop-statement.made.reads)
@@ -379,7 +379,7 @@ run_key-returns g t c = record {
   counted = λ m h. counted_after _ _ _ _ _ _ _ _ _ _ (c.in_ok-key.ensures.asks m h) (c.in_ok-key.ensures.reads m h)
       (c.run_group.ensures.part.counted m (c.eval_noting.ensures.same m h));
   ran = λ m o h b calc.
-      let P : Value → Type 0 = λ v. ComposesBeside c.args.level.now.owed.now.objects o.old c.args.level.now.depth o.seen
+      let P : Value → Type 0 = λ v. ComposesBeside c.args.level.now.last.now.owed.objects o.old c.args.level.now.depth o.seen
       (GroupForest.Group c.args.site 0 (Key v)
       (body_forest m c.args.level.now.functions.now (stmts_view c.args.body.now) c.args.made.now.scope) End)
       (state_of c.args.made.now.writer (g.V.View.asked c.eval_noting.new.view) c.eval_noting.new.reads)
@@ -528,7 +528,7 @@ run_bound-returns g t c = record {
       let e : c.push_name.new.scope ≡ c.args.made.now.scope ++ new_binding c.args.name.now.text c.args.value ∷ [] =
       c.in_ok-push_name.ensures in
       let P : List Binding → Type 0 =
-      λ env. ComposesBeside c.args.level.now.owed.now.objects o.old c.args.level.now.depth o.seen
+      λ env. ComposesBeside c.args.level.now.last.now.owed.objects o.old c.args.level.now.depth o.seen
       (body_forest m c.args.level.now.functions.now (stmts_view c.args.body.now) env)
       (state_of c.args.made.now.writer (g.V.View.asked c.args.view.now) c.args.made.now.reads)
       (state_of c.run_all.new.made.writer (g.V.View.asked c.run_all.new.view) c.run_all.new.made.reads)
@@ -563,7 +563,7 @@ run_let-returns g t c = record {
   counted = λ m h. counted_after _ _ _ _ _ _ _ _ _ _ (c.in_ok-value.ensures.asks m h) (c.in_ok-value.ensures.reads m h)
       (c.run_bound.ensures.counted m (c.eval_noting.ensures.same m h));
   ran = λ m o h b calc.
-      let P : Value → Type 0 = λ v. ComposesBeside c.args.level.now.owed.now.objects o.old c.args.level.now.depth o.seen
+      let P : Value → Type 0 = λ v. ComposesBeside c.args.level.now.last.now.owed.objects o.old c.args.level.now.depth o.seen
       (body_forest m c.args.level.now.functions.now (stmts_view c.args.body.now)
       (c.args.made.now.scope ++ new_binding c.args.name.now.text v ∷ []))
       (state_of c.args.made.now.writer (g.V.View.asked c.eval_noting.new.view) c.eval_noting.new.reads)
@@ -602,7 +602,7 @@ run_for-returns g t c = record {
   counted = λ m h. counted_after _ _ _ _ _ _ _ _ _ _ (c.in_ok-list.ensures.asks m h) (c.in_ok-list.ensures.reads m h)
       (c.run_turns.ensures.counted m (c.eval_noting.ensures.same m h));
   ran = λ m o h b calc.
-      let P : List ℤ → Type 0 = λ is. ComposesBeside c.args.level.now.owed.now.objects o.old c.args.level.now.depth
+      let P : List ℤ → Type 0 = λ is. ComposesBeside c.args.level.now.last.now.owed.objects o.old c.args.level.now.depth
       o.seen (loop_forest m c.args.level.now.functions.now c.args.name.now.text (stmts_view c.args.body.now)
       c.args.made.now.scope is) (state_of c.args.made.now.writer (g.V.View.asked c.eval_noting.new.view)
       c.eval_noting.new.reads)
@@ -653,7 +653,7 @@ run_turns-returns-in_err-run_bound g t c =
       ran = λ m o h b calc.
           let fits : to_z w64 (of_z w64 (get_or c.args.items.now c.loop-item.item-index (pos 0))) ≡ get_or c.args.items.now c.loop-item.item-index (pos 0) = search rules in
           let k = c.loop-item.invariant.going m o h b calc in
-          let P : List Binding → ℤ → Type 0 = λ env i. ComposesBeside c.args.level.now.owed.now.objects o.old
+          let P : List Binding → ℤ → Type 0 = λ env i. ComposesBeside c.args.level.now.last.now.owed.objects o.old
           c.args.level.now.depth k.now
           (body_forest m c.args.level.now.functions.now (stmts_view c.args.body.now)
           (env ++ new_binding c.args.name.now.text (value.Int i) ∷ []))
@@ -683,7 +683,7 @@ run_turns-loop-item-preserved g t c = record {
   going = λ m o h b calc.
       let fits : to_z w64 (of_z w64 (get_or c.args.items.now c.loop-item.item-index (pos 0))) ≡ get_or c.args.items.now c.loop-item.item-index (pos 0) = search rules in
       let k = c.loop-item.invariant.going m o h b calc in
-      let P : List Binding → ℤ → Type 0 = λ env i. ComposesBeside c.args.level.now.owed.now.objects o.old
+      let P : List Binding → ℤ → Type 0 = λ env i. ComposesBeside c.args.level.now.last.now.owed.objects o.old
       c.args.level.now.depth k.now
       (body_forest m c.args.level.now.functions.now (stmts_view c.args.body.now)
       (env ++ new_binding c.args.name.now.text (value.Int i) ∷ []))
@@ -831,7 +831,7 @@ run_remember-returns g t c = record {
       c.in_ok-found.found old c.args.made.now.writer c.enter_cell.new.self (g.V.View.asked c.remember.new.view)
       c.remember.new.reads refl k.like made c.in_ok-enter_cell.ensures.entered in
       let now = x ∷ o.seen in
-      let P : Value → Type 0 = λ y. ComposesBeside c.args.level.now.owed.now.objects o.old c.args.level.now.depth now
+      let P : Value → Type 0 = λ y. ComposesBeside c.args.level.now.last.now.owed.objects o.old c.args.level.now.depth now
       (body_forest m c.args.level.now.functions.now (stmts_view c.args.body.now)
       (c.args.made.now.scope ++ new_binding c.args.name.now.text y ∷ []))
       (state_of c.enter_cell.new.self (g.V.View.asked c.remember.new.view) c.remember.new.reads)
@@ -889,7 +889,7 @@ run_arguments-returns g t c = record {
   counted = λ m h. counted_after _ _ _ _ _ _ _ _ _ _ (c.in_ok-arguments.ensures.asks m h)
       (c.in_ok-arguments.ensures.reads m h) (c.run_call.ensures.counted m (c.evaluate_all.ensures.same m h));
   ran = λ m o h b calc.
-      let P : List Value → Type 0 = λ vs. ComposesBeside c.args.level.now.owed.now.objects o.old c.args.level.now.depth
+      let P : List Value → Type 0 = λ vs. ComposesBeside c.args.level.now.last.now.owed.objects o.old c.args.level.now.depth
       o.seen (call_forest m c.args.level.now.functions.now c.args.site c.args.function vs)
       (state_of c.args.made.now.writer (g.V.View.asked c.evaluate_all.new.view) c.evaluate_all.new.reads)
       (state_of c.run_call.new.made.writer (g.V.View.asked c.run_call.new.view) c.run_call.new.made.reads)
@@ -929,11 +929,11 @@ run_call-returns-then-call_is_run g t c = record {
       let k = matched {left = c.take.new.self} x c.new.result c.new.ensures b c.in_ok-found.ensures.found
       c.in_ok-found.ensures.left in
       let there = matching_sibling x (occurrence x o.seen) o.old in
-      let runs : true ≡ runs_after c.args.level.now.owed.now.objects there call =
+      let runs : true ≡ runs_after c.args.level.now.last.now.owed.objects there call =
       sym c.if-call_is_run.true ∙ c.call_is_run.ensures
-      ∙ ap (λ (vs : List Value). call_runs c.args.level.now.owed.now.objects c.in_ok-found.found
+      ∙ ap (λ (vs : List Value). call_runs c.args.level.now.last.now.owed.objects c.in_ok-found.found
       (what.Call c.args.function vs)) c.items.ensures
-      ∙ call_runs_kept c.args.level.now.owed.now.objects c.args.level.now.depth c.in_ok-found.found there call
+      ∙ call_runs_kept c.args.level.now.last.now.owed.objects c.args.level.now.depth c.in_ok-found.found there call
       k.like in
       beside_run true runs k.fits (c.run_body.ensures.ran m h o.last there c.args.made.now.reads b.since k.part k.like);
 }
@@ -969,15 +969,15 @@ run_call-returns-then-function-level g t c = record {
       let k = matched {left = c.take.new.self} x c.new.result c.new.ensures b c.in_ok-found.ensures.found
       c.in_ok-found.ensures.left in
       let there = matching_sibling x (occurrence x o.seen) o.old in
-      let runs : false ≡ runs_after c.args.level.now.owed.now.objects there call =
+      let runs : false ≡ runs_after c.args.level.now.last.now.owed.objects there call =
       sym c.if-call_is_run.false ∙ c.call_is_run.ensures
-      ∙ ap (λ (vs : List Value). call_runs c.args.level.now.owed.now.objects c.in_ok-found.found
+      ∙ ap (λ (vs : List Value). call_runs c.args.level.now.last.now.owed.objects c.in_ok-found.found
       (what.Call c.args.function vs)) c.items.ensures
-      ∙ call_runs_kept c.args.level.now.owed.now.objects c.args.level.now.depth c.in_ok-found.found there call
+      ∙ call_runs_kept c.args.level.now.last.now.owed.objects c.args.level.now.depth c.in_ok-found.found there call
       k.like in
       let none = body_none m c.args.level.now.functions.now c.args.function c.args.arguments (omega arith) in
       beside_run false runs k.fits (record {
-        all = call_alone c.args.level.now.owed.now.objects (inside_of there) there c.args.level.now.depth c.args.site
+        all = call_alone c.args.level.now.last.now.owed.objects (inside_of there) there c.args.level.now.depth c.args.site
             c.args.function c.args.arguments false
             (meaning_at (meanings m (functions_view c.args.level.now.functions.now)) c.args.function c.args.arguments)
             c.args.made.now.writer c.enter_call.new.self (g.V.View.asked c.args.view.now) c.args.made.now.reads none
@@ -1001,22 +1001,22 @@ run_call-returns-in-Some g t c = record {
       let k = matched {left = c.take.new.self} x c.new.result c.new.ensures b c.in_ok-found.ensures.found
       c.in_ok-found.ensures.left in
       let there = matching_sibling x (occurrence x o.seen) o.old in
-      let runs : false ≡ runs_after c.args.level.now.owed.now.objects there call =
+      let runs : false ≡ runs_after c.args.level.now.last.now.owed.objects there call =
       sym c.if-call_is_run.false ∙ c.call_is_run.ensures
-      ∙ ap (λ (vs : List Value). call_runs c.args.level.now.owed.now.objects c.in_ok-found.found
+      ∙ ap (λ (vs : List Value). call_runs c.args.level.now.last.now.owed.objects c.in_ok-found.found
       (what.Call c.args.function vs)) c.items.ensures
-      ∙ call_runs_kept c.args.level.now.owed.now.objects c.args.level.now.depth c.in_ok-found.found there call
+      ∙ call_runs_kept c.args.level.now.last.now.owed.objects c.args.level.now.depth c.in_ok-found.found there call
       k.like in
       let many = how_many_functions c.args.level.now.functions.now in
-      let s = skips c.args.level.now.owed.now.objects m (functions_view c.args.level.now.functions.now) o.last
+      let s = skips c.args.level.now.last.now.owed.objects m (functions_view c.args.level.now.functions.now) o.last
       c.args.site c.args.function c.args.arguments there b.since (omega (arith, many)) k.there (sym runs) in
       let some : c.in_ok-found.found ≡ Some c.in-Some.old = search rules in
       let like = subst (λ (y : Option KeyInfo). Alike c.args.level.now.depth y there) some k.like in
       let like_call = subst (λ (f : Option Found). Alike c.args.level.now.depth (Some c.in-Some.old) f) s.is like in
       let r = c.skip_group.ensures.ran m h o.last s.call c.args.made.now.reads b.since
-      (subst (λ (f : Option Found). IsOldPart o.last c.args.level.now.owed.now.objects m (inside_of f)) s.is k.part)
+      (subst (λ (f : Option Found). IsOldPart o.last c.args.level.now.last.now.owed.objects m (inside_of f)) s.is k.part)
       like_call in
-      beside_run false runs k.fits (reached_at (skips_as c.args.level.now.owed.now.objects m
+      beside_run false runs k.fits (reached_at (skips_as c.args.level.now.last.now.owed.objects m
       (functions_view c.args.level.now.functions.now) o.last c.args.level.now.depth c.args.site c.args.function
       c.args.arguments there (state_of c.args.made.now.writer (g.V.View.asked c.args.view.now)
       c.args.made.now.reads) k.there s) r);
@@ -1036,7 +1036,7 @@ run_body-returns-then-function-level g t c = record {
       let none = body_none m c.args.level.now.functions.now c.args.function (arguments_of c.args.arguments)
       (omega arith) in
       record {
-        all = call_alone c.args.level.now.owed.now.objects (inside_of there) None c.args.level.now.depth c.args.site
+        all = call_alone c.args.level.now.last.now.owed.objects (inside_of there) None c.args.level.now.depth c.args.site
             c.args.function (arguments_of c.args.arguments) true
             (meaning_at (meanings m (functions_view c.args.level.now.functions.now)) c.args.function
             (arguments_of c.args.arguments)) c.args.writer.now c.enter_empty.new.self
@@ -1056,13 +1056,13 @@ run_body-returns-in_err-enter_empty g t c =
       fits = stopped _ _ _ e;
       counted = λ m h. stopped _ _ _ e;
       ran = λ m h l there mine since part like.
-          let one = longer_ran c.args.level.now.owed.now.objects (inside_of there) c.args.level.now.depth c.args.site
+          let one = longer_ran c.args.level.now.last.now.owed.objects (inside_of there) c.args.level.now.depth c.args.site
           c.args.function (arguments_of c.args.arguments)
           (meaning_at (meanings m (functions_view c.args.level.now.functions.now)) c.args.function
           (arguments_of c.args.arguments)) (state_of c.args.writer.now (g.V.View.asked c.args.view.now) mine) in
           reached_full _ (failed _ _ e)
           (λ e. let full : length c.args.writer.now.groups ≡ most_groups = search rules in omega (arith, one, full))
-          (part_ran c.args.level.now.owed.now.objects (inside_of there) c.args.level.now.depth c.args.site c.args.function
+          (part_ran c.args.level.now.last.now.owed.objects (inside_of there) c.args.level.now.depth c.args.site c.args.function
           (arguments_of c.args.arguments)
           (meaning_at (meanings m (functions_view c.args.level.now.functions.now)) c.args.function
           (arguments_of c.args.arguments)) (state_of c.args.writer.now (g.V.View.asked c.args.view.now) mine));
@@ -1078,13 +1078,13 @@ run_body-returns-in_err-inner g t c =
       fits = stopped _ _ _ e;
       counted = λ m h. stopped _ _ _ e;
       ran = λ m h l there mine since part like.
-          let one = longer_ran c.args.level.now.owed.now.objects (inside_of there) c.args.level.now.depth c.args.site
+          let one = longer_ran c.args.level.now.last.now.owed.objects (inside_of there) c.args.level.now.depth c.args.site
           c.args.function (arguments_of c.args.arguments)
           (meaning_at (meanings m (functions_view c.args.level.now.functions.now)) c.args.function
           (arguments_of c.args.arguments)) (state_of c.args.writer.now (g.V.View.asked c.args.view.now) mine) in
           reached_full _ (failed _ _ e)
           (λ e. let full : length c.args.writer.now.groups ≡ most_groups = search rules in omega (arith, one, full))
-          (part_ran c.args.level.now.owed.now.objects (inside_of there) c.args.level.now.depth c.args.site c.args.function
+          (part_ran c.args.level.now.last.now.owed.objects (inside_of there) c.args.level.now.depth c.args.site c.args.function
           (arguments_of c.args.arguments)
           (meaning_at (meanings m (functions_view c.args.level.now.functions.now)) c.args.function
           (arguments_of c.args.arguments)) (state_of c.args.writer.now (g.V.View.asked c.args.view.now) mine));
@@ -1114,12 +1114,12 @@ run_body-returns-in_err-run_all g t c =
           let slice : c.deref.result.now ≡ c.index-level-function.result.body.items = c.deref.ensures.value
           ∙ sym (ap (λ (q : Function). q.body.items) c.index-level-function.is) in
           let at = body_reached m c.args.level.now.functions.now c.args.function (arguments_of c.args.arguments)
-          c.index-level-function.result c.deref.result.now _ c.in_ok-inner.inner.scope c.args.level.now.owed.now.objects
+          c.index-level-function.result c.deref.result.now _ c.in_ok-inner.inner.scope c.args.level.now.last.now.owed.objects
           c.args.level.now.depth l there c.args.found.now c.in_ok-inner.inner.pending below c.index-level-function.is slice
           (ap (λ (q : Function). q.parameters.items) (sym c.index-level-function.is)) c.in_ok-inner.ensures.scope since part
           like c.in_ok-inner.ensures.pending (λ o b calc. c.in_err-run_all.ensures.ran m o h b calc) in
           let entered_is = c.in_ok-inner.ensures.entered in
-          body_stop c.args.level.now.owed.now.objects (inside_of there) c.args.level.now.depth c.args.site c.args.function
+          body_stop c.args.level.now.last.now.owed.objects (inside_of there) c.args.level.now.depth c.args.site c.args.function
           (arguments_of c.args.arguments) (meaning_at (meanings m (functions_view c.args.level.now.functions.now))
           c.args.function (arguments_of c.args.arguments)) c.args.writer.now c.in_ok-inner.inner.writer
           c.run_all.new.made.writer (g.V.View.asked c.args.view.now) (g.V.View.asked c.run_all.new.view) mine
@@ -1141,12 +1141,12 @@ run_body-returns-in_err-end_call g t c =
           let slice : c.deref.result.now ≡ c.index-level-function.result.body.items = c.deref.ensures.value
           ∙ sym (ap (λ (q : Function). q.body.items) c.index-level-function.is) in
           let at = body_reached m c.args.level.now.functions.now c.args.function (arguments_of c.args.arguments)
-          c.index-level-function.result c.deref.result.now _ c.in_ok-inner.inner.scope c.args.level.now.owed.now.objects
+          c.index-level-function.result c.deref.result.now _ c.in_ok-inner.inner.scope c.args.level.now.last.now.owed.objects
           c.args.level.now.depth l there c.args.found.now c.in_ok-inner.inner.pending below c.index-level-function.is slice
           (ap (λ (q : Function). q.parameters.items) (sym c.index-level-function.is)) c.in_ok-inner.ensures.scope since part
           like c.in_ok-inner.ensures.pending (λ o b calc. c.in_ok-run_all.ensures.ran m o h b calc) in
           let entered_is = c.in_ok-inner.ensures.entered in
-          reached_stop _ e (body_part c.args.level.now.owed.now.objects (inside_of there) c.args.level.now.depth c.args.site
+          reached_stop _ e (body_part c.args.level.now.last.now.owed.objects (inside_of there) c.args.level.now.depth c.args.site
           c.args.function (arguments_of c.args.arguments)
           (meaning_at (meanings m (functions_view c.args.level.now.functions.now)) c.args.function
           (arguments_of c.args.arguments)) c.args.writer.now c.in_ok-inner.inner.writer c.run_all.new.made.writer
@@ -1170,12 +1170,12 @@ run_body-returns g t c = record {
       let slice : c.deref.result.now ≡ c.index-level-function.result.body.items = c.deref.ensures.value
       ∙ sym (ap (λ (q : Function). q.body.items) c.index-level-function.is) in
       let at = body_reached m c.args.level.now.functions.now c.args.function (arguments_of c.args.arguments)
-      c.index-level-function.result c.deref.result.now _ c.in_ok-inner.inner.scope c.args.level.now.owed.now.objects
+      c.index-level-function.result c.deref.result.now _ c.in_ok-inner.inner.scope c.args.level.now.last.now.owed.objects
       c.args.level.now.depth l there c.args.found.now c.in_ok-inner.inner.pending below c.index-level-function.is slice
       (ap (λ (q : Function). q.parameters.items) (sym c.index-level-function.is)) c.in_ok-inner.ensures.scope since part
       like c.in_ok-inner.ensures.pending (λ o b calc. c.in_ok-run_all.ensures.ran m o h b calc) in
       let entered_is = c.in_ok-inner.ensures.entered in
-      body_done c.args.level.now.owed.now.objects (inside_of there) c.args.level.now.depth c.args.site c.args.function
+      body_done c.args.level.now.last.now.owed.objects (inside_of there) c.args.level.now.depth c.args.site c.args.function
       (arguments_of c.args.arguments) (meaning_at (meanings m (functions_view c.args.level.now.functions.now))
       c.args.function (arguments_of c.args.arguments)) c.args.writer.now c.in_ok-inner.inner.writer
       c.run_all.new.made.writer c.end_call.new.self (g.V.View.asked c.args.view.now)
@@ -1235,13 +1235,13 @@ skip_group-returns-then-meet g t c = record {
   ran = λ m h l f mine since part like.
       let what_is = call_what f.what c.in-Call.function c.in-Call.arguments
       (sym (sym c.kind.ensures ∙ c.in-Call.is) ∙ like.kind) in
-      let anew : is_owed c.args.level.now.owed.now.objects f.inside ≡ true =
+      let anew : is_owed c.args.level.now.last.now.owed.objects f.inside ≡ true =
       sym (owed_is c.args.level.now.depth c.args.old.now f c.in-Call.function c.in-Call.arguments
-      c.args.level.now.owed.now.objects like what_is)
-      ∙ sym (ap (λ l. meets l c.args.level.now.owed.now.objects) c.reads.ensures) ∙ sym c.meet.ensures
+      c.args.level.now.last.now.owed.objects like what_is)
+      ∙ sym (ap (λ l. meets l c.args.level.now.last.now.owed.objects) c.reads.ensures) ∙ sym c.meet.ensures
       ∙ c.if-meet.true in
       let r = c.run_body.ensures.ran m h l (Some f) mine since part (search rules) in
-      reached_at (owed_call m c.args.level.now.owed.now.objects (functions_view c.args.level.now.functions.now)
+      reached_at (owed_call m c.args.level.now.last.now.owed.objects (functions_view c.args.level.now.functions.now)
       c.args.level.now.depth c.args.site f c.in-Call.function c.in-Call.arguments
       (state_of c.args.writer.now (g.V.View.asked c.args.view.now) mine) what_is anew) r;
 }
@@ -1256,11 +1256,11 @@ skip_group-returns-in_err-keep_group-in-Call g t c =
       fits = stopped _ _ _ e;
       counted = λ m h. stopped _ _ _ e;
       ran = λ m h l f mine since part like.
-          let one = longer_than m c.args.level.now.owed.now.objects (functions_view c.args.level.now.functions.now)
+          let one = longer_than m c.args.level.now.last.now.owed.objects (functions_view c.args.level.now.functions.now)
           c.args.level.now.depth c.args.site f (state_of c.args.writer.now (g.V.View.asked c.args.view.now) mine) in
           reached_full _ (failed _ _ e)
           (λ e. let full : length c.args.writer.now.groups ≡ most_groups = search rules in omega (arith, one, full))
-          (part_one m c.args.level.now.owed.now.objects (functions_view c.args.level.now.functions.now)
+          (part_one m c.args.level.now.last.now.owed.objects (functions_view c.args.level.now.functions.now)
           c.args.level.now.depth c.args.site f (state_of c.args.writer.now (g.V.View.asked c.args.view.now) mine));
     }
 
@@ -1276,20 +1276,20 @@ skip_group-returns-in_ok-keep_group-in-Call g t c = record {
   ran = λ m h l f mine since part like.
       let what_is = call_what f.what c.in-Call.function c.in-Call.arguments
       (sym (sym c.kind.ensures ∙ c.in-Call.is) ∙ like.kind) in
-      let quiet : is_owed c.args.level.now.owed.now.objects f.inside ≡ false =
+      let quiet : is_owed c.args.level.now.last.now.owed.objects f.inside ≡ false =
       sym (owed_is c.args.level.now.depth c.args.old.now f c.in-Call.function c.in-Call.arguments
-      c.args.level.now.owed.now.objects like what_is)
-      ∙ sym (ap (λ l. meets l c.args.level.now.owed.now.objects) c.reads.ensures) ∙ sym c.meet.ensures
+      c.args.level.now.last.now.owed.objects like what_is)
+      ∙ sym (ap (λ l. meets l c.args.level.now.last.now.owed.objects) c.reads.ensures) ∙ sym c.meet.ensures
       ∙ c.if-meet.false in
       let state = kept_state c.args.level.now.depth c.args.site c.args.old.now f c.args.writer.now
       c.keep_group.new.writer (g.V.View.asked c.args.view.now) mine like c.in_ok-keep_group-in-Call.ensures.added in
       let r = c.skip_all.ensures.ran m h l f.inside mine
       (since_slice c.args.level.now.functions.now c.front.result.now c.in-Call.function c.front.ensures since) part
       (begins_after _ c.args.old.now f _ _ (sym c.requires.table) c.first_inside.ensures like) in
-      reached_at (ap (λ (fs : List Func). skipped_groups m c.args.level.now.owed.now.objects f.inside fs
+      reached_at (ap (λ (fs : List Func). skipped_groups m c.args.level.now.last.now.owed.objects f.inside fs
       (c.args.level.now.depth + 1) (state_of c.keep_group.new.writer (g.V.View.asked c.args.view.now) mine))
       (slice_is c.args.level.now.functions.now c.front.result.now c.in-Call.function c.front.ensures)
-      ∙ kept_call m c.args.level.now.owed.now.objects (functions_view c.args.level.now.functions.now)
+      ∙ kept_call m c.args.level.now.last.now.owed.objects (functions_view c.args.level.now.functions.now)
       c.args.level.now.depth c.args.site f c.in-Call.function c.in-Call.arguments
       (state_of c.args.writer.now (g.V.View.asked c.args.view.now) mine)
       (state_of c.keep_group.new.writer (g.V.View.asked c.args.view.now) mine) what_is quiet state) r;
@@ -1305,11 +1305,11 @@ skip_inside-returns-in_err-keep_group g t c plain =
       fits = stopped _ _ _ e;
       counted = λ m h. stopped _ _ _ e;
       ran = λ m h l f mine since part like.
-          let one = longer_than m c.args.level.now.owed.now.objects (functions_view c.args.level.now.functions.now)
+          let one = longer_than m c.args.level.now.last.now.owed.objects (functions_view c.args.level.now.functions.now)
           c.args.level.now.depth c.args.site f (state_of c.args.writer.now (g.V.View.asked c.args.view.now) mine) in
           reached_full _ (failed _ _ e)
           (λ e. let full : length c.args.writer.now.groups ≡ most_groups = search rules in omega (arith, one, full))
-          (part_one m c.args.level.now.owed.now.objects (functions_view c.args.level.now.functions.now)
+          (part_one m c.args.level.now.last.now.owed.objects (functions_view c.args.level.now.functions.now)
           c.args.level.now.depth c.args.site f (state_of c.args.writer.now (g.V.View.asked c.args.view.now) mine));
     }
 
@@ -1326,7 +1326,7 @@ skip_inside-returns g t c plain = record {
       c.keep_group.new.writer (g.V.View.asked c.args.view.now) mine like c.in_ok-keep_group.ensures.added in
       let r = c.skip_all.ensures.ran m h l f.inside mine since part
       (begins_after _ c.args.old.now f _ _ (sym c.requires.table) c.first_inside.ensures like) in
-      reached_at (kept_other m c.args.level.now.owed.now.objects (functions_view c.args.level.now.functions.now)
+      reached_at (kept_other m c.args.level.now.last.now.owed.objects (functions_view c.args.level.now.functions.now)
       c.args.level.now.depth c.args.site f (state_of c.args.writer.now (g.V.View.asked c.args.view.now) mine)
       (state_of c.keep_group.new.writer (g.V.View.asked c.args.view.now) mine)
       (no_call c.args.level.now.depth c.args.old.now f like plain) state) r;
@@ -1381,7 +1381,7 @@ skip_all-returns g t c = record {
   fits = c.loop-at.invariant.fits;
   counted = λ m h. c.loop-at.invariant.counted m h;
   ran = λ m h l tr mine since part begins. left_done (c.loop-at.invariant.going m h l tr mine since part begins)
-      (ends_past c.args.level.now.table.now.groups c.args.level.now.depth c.loop-at.at (search (rules, arith)));
+      (ends_past c.args.level.now.last.now.groups c.args.level.now.depth c.loop-at.at (search (rules, arith)));
 }
 
 pub skip_all-returns-in_err-skip_group : goal.skip_all-returns-in_err-skip_group
@@ -1395,17 +1395,17 @@ skip_all-returns-in_err-skip_group g t c =
       counted = λ m h. stopped _ _ _ e;
       ran = λ m h l tr mine since part begins.
           let i = c.quiet_end-stop.result in
-          let owed = c.args.level.now.owed.now.objects in
+          let owed = c.args.level.now.last.now.owed.objects in
           let fs = functions_view c.args.level.now.functions.now in
           let d = c.args.level.now.depth in
           let k0 = c.loop-at.invariant.going m h l tr mine since part begins in
           let added = run_added _ _ (g.V.View.asked c.loop-at.view) mine c.in_ok-keep_run.ensures.added c.loop-at.invariant.fits in
           let k = left_run k0 (c.quiet_end-stop.ensures.quiet k0.rest k0.begins) added in
           let here = c.is_end.ensures.more c.if-is_end.false in
-          let f = first_of_all c.args.level.now.table.now.groups d i (index_behind c.args.level.now.table.now.groups i) k.rest k.begins here.0
-          here.1 (behind_is c.args.level.now.table.now.groups i) in
-          let like = subst (λ (q : KeyInfo). SameGroup d q f.found) (sym c.new-old.ensures) f.same in
-          let site = c.site.ensures ∙ ap (λ (q : KeyInfo). (old_group q).site) c.new-old.ensures ∙ f.site_is in
+          let f = first_of_all c.args.level.now.last.now.groups d i (index_behind c.args.level.now.last.now.groups i) k.rest k.begins here.0
+          here.1 (behind_is c.args.level.now.last.now.groups i) in
+          let like = subst (λ (q : KeyInfo). SameGroup d q f.found) (sym c.group-old.ensures) f.same in
+          let site = c.site.ensures ∙ ap (λ (q : KeyInfo). (old_group q).site) c.group-old.ensures ∙ f.site_is in
           let s = state_of c.keep_run.new.self (g.V.View.asked c.loop-at.view) mine in
           let move : skipped_inside m owed fs d c.site.result f.found.number f.found.what (is_owed owed f.found.inside) f.found.inside (skipped_groups m owed f.found.inside) s ≡ skipped_inside m owed fs d f.site f.found.number f.found.what (is_owed owed f.found.inside) f.found.inside (skipped_groups m owed f.found.inside) s =
           ap (λ n. skipped_inside m owed fs d n f.found.number f.found.what (is_owed owed f.found.inside) f.found.inside
@@ -1428,17 +1428,17 @@ skip_all-loop-at-preserved g t c = record {
       let f = c.in_ok-skip_group.ensures.counted m (c.loop-at.invariant.same m h) in omega (arith, e, reads, f);
   going = λ m h l tr mine since part begins.
       let i = c.quiet_end-stop.result in
-      let owed = c.args.level.now.owed.now.objects in
+      let owed = c.args.level.now.last.now.owed.objects in
       let fs = functions_view c.args.level.now.functions.now in
       let d = c.args.level.now.depth in
       let k0 = c.loop-at.invariant.going m h l tr mine since part begins in
       let added = run_added _ _ (g.V.View.asked c.loop-at.view) mine c.in_ok-keep_run.ensures.added c.loop-at.invariant.fits in
       let k = left_run k0 (c.quiet_end-stop.ensures.quiet k0.rest k0.begins) added in
       let here = c.is_end.ensures.more c.if-is_end.false in
-      let f = first_of_all c.args.level.now.table.now.groups d i c.index_after-at.result k.rest k.begins here.0 here.1
+      let f = first_of_all c.args.level.now.last.now.groups d i c.index_after-at.result k.rest k.begins here.0 here.1
       c.index_after-at.ensures.after in
-      let like = subst (λ (q : KeyInfo). SameGroup d q f.found) (sym c.new-old.ensures) f.same in
-      let site = c.site.ensures ∙ ap (λ (q : KeyInfo). (old_group q).site) c.new-old.ensures ∙ f.site_is in
+      let like = subst (λ (q : KeyInfo). SameGroup d q f.found) (sym c.group-old.ensures) f.same in
+      let site = c.site.ensures ∙ ap (λ (q : KeyInfo). (old_group q).site) c.group-old.ensures ∙ f.site_is in
       let s = state_of c.keep_run.new.self (g.V.View.asked c.loop-at.view) mine in
       let move : skipped_inside m owed fs d c.site.result f.found.number f.found.what (is_owed owed f.found.inside) f.found.inside (skipped_groups m owed f.found.inside) s ≡ skipped_inside m owed fs d f.site f.found.number f.found.what (is_owed owed f.found.inside) f.found.inside (skipped_groups m owed f.found.inside) s =
       ap (λ n. skipped_inside m owed fs d n f.found.number f.found.what (is_owed owed f.found.inside) f.found.inside
@@ -1451,7 +1451,7 @@ skip_all-loop-at-preserved g t c = record {
 pub skip_all-loop-at-smaller : goal.skip_all-loop-at-smaller
 skip_all-loop-at-smaller g t c =
     let here = c.is_end.ensures.more c.if-is_end.false in
-    let less = index_grows c.args.level.now.table.now.groups c.quiet_end-stop.result c.index_after-at.result here.0
+    let less = index_grows c.args.level.now.last.now.groups c.quiet_end-stop.result c.index_after-at.result here.0
     c.index_after-at.ensures.after c.index_after-at.ensures.inside in
     let low = c.quiet_end-stop.ensures.order in
     omega (arith, less, low)

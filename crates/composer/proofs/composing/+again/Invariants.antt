@@ -24,9 +24,9 @@ invariant-run_all-loop-statement g l = record {
       → l.made.writer.reads + length l.made.reads + length (g.V.View.asked l.initial.view)
       ≡ l.initial.made.writer.reads + length l.initial.made.reads + length (g.V.View.asked l.view);
   going : (m : Map) (o : OldSiblings) → g.V.View.shows l.initial.view m
-      → IsBeside o l.level.owed.now.objects m (functions_view l.level.functions.now) l.level.depth
+      → IsBeside o l.level.last.now.owed.objects m (functions_view l.level.functions.now) l.level.depth
       l.initial.made.pending → StmtsCalculate o.last.calculation (stmts_view l.body) →
-      BesideProgress l.level.owed.now.objects o.old l.level.depth o.seen
+      BesideProgress l.level.last.now.owed.objects o.old l.level.depth o.seen
       (body_forest m l.level.functions.now (stmts_view (drop l.statement-index l.body)) l.initial.made.scope)
       (body_forest m l.level.functions.now (stmts_view l.body) l.initial.made.scope)
       (state_of l.initial.made.writer (g.V.View.asked l.initial.view) l.initial.made.reads)
@@ -44,9 +44,9 @@ invariant-run_turns-loop-item g l = record {
       → l.made.writer.reads + length l.made.reads + length (g.V.View.asked l.initial.view)
       ≡ l.initial.made.writer.reads + length l.initial.made.reads + length (g.V.View.asked l.view);
   going : (m : Map) (o : OldSiblings) → g.V.View.shows l.initial.view m
-      → IsBeside o l.level.owed.now.objects m (functions_view l.level.functions.now) l.level.depth
+      → IsBeside o l.level.last.now.owed.objects m (functions_view l.level.functions.now) l.level.depth
       l.initial.made.pending → StmtsCalculate o.last.calculation (stmts_view l.body) →
-      BesideProgress l.level.owed.now.objects o.old l.level.depth o.seen
+      BesideProgress l.level.last.now.owed.objects o.old l.level.depth o.seen
       (loop_forest m l.level.functions.now l.name.text (stmts_view l.body) l.initial.made.scope
       (drop l.item-index l.items))
       (loop_forest m l.level.functions.now l.name.text (stmts_view l.body) l.initial.made.scope l.items)
@@ -59,20 +59,20 @@ invariant-skip_all-loop-at g l = record {
   keeps : g.V.View.keeps l.initial.view l.view;
   same : (m : Map) → g.V.View.shows l.initial.view m → g.V.View.shows l.view m;
   longer : length l.initial.writer.groups ≤ length l.writer.groups;
-  fits : FitsIn l.level.table.now.groups l.writer;
+  fits : FitsIn l.level.last.now.groups l.writer;
   counted : (m : Map) → g.V.View.shows l.initial.view m
       → l.writer.reads + length (g.V.View.asked l.initial.view)
       ≡ l.initial.writer.reads + length (g.V.View.asked l.view);
   going : (m : Map) → g.V.View.shows l.initial.view m → (a : LastComposition) (t : GroupForest) (mine : List ℕ)
-      → IsSince a (functions_view l.level.functions.now) → IsOldPart a l.level.owed.now.objects m t
-      → Begins l.level.depth (drop l.first l.level.table.now.groups) t →
-      GroupsLeft m l.level.owed.now.objects a (functions_view l.level.functions.now) l.level.depth t
-      (drop l.at l.level.table.now.groups) (state_of l.initial.writer (g.V.View.asked l.initial.view) mine)
+      → IsSince a (functions_view l.level.functions.now) → IsOldPart a l.level.last.now.owed.objects m t
+      → Begins l.level.depth (drop l.first l.level.last.now.groups) t →
+      GroupsLeft m l.level.last.now.owed.objects a (functions_view l.level.functions.now) l.level.depth t
+      (drop l.at l.level.last.now.groups) (state_of l.initial.writer (g.V.View.asked l.initial.view) mine)
       (state_of l.writer (g.V.View.asked l.view) mine);
 }
 
 abbrev pub decreases-skip_all-loop-at : goal.decreases-skip_all-loop-at
-decreases-skip_all-loop-at g l = length l.level.table.now.groups - l.at
+decreases-skip_all-loop-at g l = length l.level.last.now.groups - l.at
 
 abbrev pub decreases-run_all : goal.decreases-run_all
 decreases-run_all g l =

@@ -13,37 +13,34 @@ abbrev written_at : List Group → ℕ → WrittenGroups
 written_at olds n = record { olds = olds; groups = []; next = n; ran = 0; calculated = 0; reads = 0 }
 
 pub returns-clause-frame : goal.returns-clause-frame
-returns-clause-frame g c k m h holds owing =
+returns-clause-frame g c k m h table next owing =
     let fs = functions_of c.args.program.now in
     let root = root_of c.args.program.now in
-    let table = c.table-table.ensures ∙ holds.0 in
-    let first = c.new-writer.ensures ∙ ap (λ gs. written_at gs c.next.result) table
-    ∙ ap (written_at (preorder 0 k.trail)) (c.next.ensures ∙ holds.1) in
-    frame_made fs root c.args.owed.now k m (g.V.View.asked c.args.view.now) (g.V.View.asked c.write_frame.new.view)
+    let first = c.new-writer.ensures ∙ ap (λ gs. written_at gs c.args.next) (c.table.ensures ∙ table)
+    ∙ ap (written_at (preorder 0 k.trail)) next in
+    frame_made fs root c.args.last.now.owed k m (g.V.View.asked c.args.view.now) (g.V.View.asked c.write_frame.new.view)
     c.write_frame.new.writer c.new-writer.result first
     (c.in_ok-write_frame.ensures.ran m h k.seen k.trail [] table owing)
     (c.in_ok-write_frame.ensures.counted m h) c.in_ok-into_draft.ensures.bound c.in_ok-write_frame.ensures.fits.few _ c.in_ok-into_draft.ensures.draft
 
 pub returns-in_err-write_frame-clause-frame : goal.returns-in_err-write_frame-clause-frame
-returns-in_err-write_frame-clause-frame g c k m h holds owing =
+returns-in_err-write_frame-clause-frame g c k m h table next owing =
     let fs = functions_of c.args.program.now in
     let root = root_of c.args.program.now in
-    let table = c.table-table.ensures ∙ holds.0 in
-    let first = c.new-writer.ensures ∙ ap (λ gs. written_at gs c.next.result) table
-    ∙ ap (written_at (preorder 0 k.trail)) (c.next.ensures ∙ holds.1) in
+    let first = c.new-writer.ensures ∙ ap (λ gs. written_at gs c.args.next) (c.table.ensures ∙ table)
+    ∙ ap (written_at (preorder 0 k.trail)) next in
     let e : c.from_residual.result ≡ Err c.in_err-write_frame.field-0.0 = search rules in
-    frame_stopped fs root c.args.owed.now k m (g.V.View.asked c.args.view.now) (g.V.View.asked c.write_frame.new.view)
+    frame_stopped fs root c.args.last.now.owed k m (g.V.View.asked c.args.view.now) (g.V.View.asked c.write_frame.new.view)
     c.write_frame.new.writer c.new-writer.result c.in_err-write_frame.field-0.0 _ first
     (c.in_err-write_frame.ensures.ran m h k.seen k.trail [] table owing) e
 
 pub returns-in_err-into_draft-clause-frame : goal.returns-in_err-into_draft-clause-frame
-returns-in_err-into_draft-clause-frame g c k m h holds owing =
+returns-in_err-into_draft-clause-frame g c k m h table next owing =
     let fs = functions_of c.args.program.now in
     let root = root_of c.args.program.now in
-    let table = c.table-table.ensures ∙ holds.0 in
-    let first = c.new-writer.ensures ∙ ap (λ gs. written_at gs c.next.result) table
-    ∙ ap (written_at (preorder 0 k.trail)) (c.next.ensures ∙ holds.1) in
+    let first = c.new-writer.ensures ∙ ap (λ gs. written_at gs c.args.next) (c.table.ensures ∙ table)
+    ∙ ap (written_at (preorder 0 k.trail)) next in
     let e : c.from_residual-in_err-into_draft.result ≡ Err NoMemory = search rules in
-    frame_lost fs root c.args.owed.now k m (g.V.View.asked c.args.view.now) (g.V.View.asked c.write_frame.new.view)
+    frame_lost fs root c.args.last.now.owed k m (g.V.View.asked c.args.view.now) (g.V.View.asked c.write_frame.new.view)
     c.write_frame.new.writer c.new-writer.result _ first
     (c.in_ok-write_frame.ensures.ran m h k.seen k.trail [] table owing) e

@@ -6,6 +6,7 @@ use Rattle.recomposer.proofs.composition.Composition.keep.Goals as goal
 pub returns-clause-good : goal.returns-clause-good
 returns-clause-good c k m h made =
     finished_at c.args.self.now _ k m c.args.draft h made.1 made.0 refl c.apply.ensures.groups c.apply.ensures.next
+    c.apply.ensures.scopes
     (ap (λ (r : Report). r.groups) c.report-report.ensures) (ap (λ (r : Report). r.nodes) c.report-report.ensures)
     c.clear.ensures
 

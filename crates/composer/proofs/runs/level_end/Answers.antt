@@ -1,0 +1,12 @@
+use Rattle.std.proofs.Common.{rules, arith, ◌≡◌, ◌<◌, ◌≤◌, ◌+◌}
+use Rattle.slot_table.specs.TableGroups.{group_at}
+use Rattle.composer.proofs.QuietRuns.{level_end_is}
+use Rattle.composer.proofs.runs.level_end.Goals as goal
+
+pub returns : goal.returns
+returns c =
+    let low : c.args.around < c.args.first = search (rules, arith) in
+    let high : c.args.first ≤ c.index_after-end.result = search (rules, arith) in
+    let depth : c.args.depth ≡ (group_at c.args.last.now.groups c.args.around).depth + 1 = search (rules, arith) in
+    level_end_is c.args.last.now.groups c.args.around c.args.first c.index_after-end.result c.args.depth low high
+    c.index_after-end.ensures.inside depth c.index_after-end.ensures.after
