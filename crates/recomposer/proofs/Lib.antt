@@ -4,6 +4,7 @@ pub mod Owings
 pub mod Applied
 pub mod Stops
 pub mod Frames
+pub mod FrameEnds
 pub mod QuietFrames
 pub mod Logs
 pub mod Draws

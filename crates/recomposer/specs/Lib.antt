@@ -1,3 +1,4 @@
 pub mod AppliedFrames
 pub mod Compositions
 pub mod Composed
+pub mod FrameEnds

@@ -15,6 +15,7 @@ ghost use Rattle.node_tree.specs.Calls.{insert_count};
 ghost use Rattle.recompose_scopes.specs.Scopes.{AreScopesOf, own_reads};
 ghost use Rattle.recomposer.specs.AppliedFrames.{MayCall, Applies, UnlessFault, FaultHasCause, OwesNothing, kept_after_fault, ops_of};
 ghost use Rattle.recomposer.specs.Composed.{IsComposed, IsForHeld};
+ghost use Rattle.recomposer.specs.FrameEnds.{InFrames, EndsComposed};
 ghost use Rattle.recomposer.specs.Compositions.{IsAt, StopsAtEnd, refused_take, frame_reads, BeginsFrame, EndsFrame, EndsPart, ClosesFrame, GrowsFor, MakesFrame, MakesNoFrame, MakesReads, OwesNoCall, seen_again, LogsFrame, LogsNoFrame, world_of_frame};
 
 use composer::{ComposeStop, Draft, Held, Owed, compose};
@@ -336,32 +337,8 @@ impl<'p> Composition<'p> {
         requires tree { MayCall (A.tree applier.old)
             (λ k. (m : Map) × IsAt self.old k (Some m) × IsComposed self.old k m composed) }
         requires olds { IsForHeld self.old composed }
-        ensures good { (k : LastFrame) (m : Map) → IsAt self.old k (Some m) → IsComposed self.old k m composed →
-            OnOk result (IsAt self.new (kept_after k (frame_of (functions_of self.old.program.now) k m)) (Some m)) }
-        ensures report { (k : LastFrame) (m : Map) → IsAt self.old k (Some m) → IsComposed self.old k m composed →
-            IfOk result (λ r. Some r ≡ option_map (λ g. g.told) (frame_of (functions_of self.old.program.now) k m)) }
-        ensures applied { (k : LastFrame) (m : Map) → IsAt self.old k (Some m) → IsComposed self.old k m composed →
-            OnOk result (Applies (A.tree applier.old) (A.tree applier.new) self.new.ops k
-            (frame_of (functions_of self.old.program.now) k m)) }
-        ensures fault { (k : LastFrame) (m : Map) → IsAt self.old k (Some m) → IsComposed self.old k m composed →
-            result ≡ Err FrameStop.ApplierFault →
-            IsAt self.new (kept_after_fault k (frame_of (functions_of self.old.program.now) k m)) (Some m) }
-        ensures err { UnlessFault (self.new ≡ self.old) result }
-        ensures still { UnlessFault (A.tree applier.new ≡ A.tree applier.old) result }
-        ensures cause { FaultHasCause (A.faults applier.old) (A.faults applier.new) result }
-        ensures lent { OnErr result (self.new.ops ≡ self.old.ops) }
-        ensures detached { (k : LastFrame) (m : Map) → IsAt self.old k (Some m) → IsComposed self.old k m composed →
-            result ≡ Err FrameStop.ApplierFault →
-            is_detached (kept_after_fault k (frame_of (functions_of self.old.program.now) k m)) ≡ true }
-        ensures uncalled { OnOk result (self.new.ops ≡ [] → applier.new ≡ applier.old) }
-        ensures unchanged { (k : LastFrame) (m : Map) → IsAt self.old k (Some m) → IsComposed self.old k m composed →
-            ops_of k (frame_of (functions_of self.old.program.now) k m) ≡ [] →
-            (applier.new ≡ applier.old) × OnOk result (self.new.ops ≡ []) }
-        ensures idle { composed ≡ None → (applier.new ≡ applier.old) × OnOk result (self.new.ops ≡ []) }
-        ensures few { result ≡ Err FrameStop.TooManyGroups → ⊥ }
-        ensures not_spent { result ≡ Err FrameStop.Spent → ⊥ }
-        ensures program { self.new.program ≡ self.old.program }
-        ensures watcher { self.new.watcher ≡ self.old.watcher }
+        ensures { EndsComposed self.old self.new composed (A.tree applier.old) (A.tree applier.new)
+            (A.faults applier.old) (A.faults applier.new) (applier.new ≡ applier.old) result }
     {
         let Some(draft) = composed else {
             return Ok(self.keep_idle(alloc));
@@ -372,6 +349,27 @@ impl<'p> Composition<'p> {
         if ops.len() == 0 {
             return Ok(self.keep(draft, ops));
         }
+        self.apply_calls(alloc, draft, ops, applier)
+    }
+
+    // Applies a composed frame that has calls to make: takes all memory, makes the calls `ops` on the applier, and then
+    // keeps the groups. If a call fails, keeps nothing except the number of the next new node.
+    fn apply_calls<A: Applier>(
+        &mut self,
+        alloc: Global,
+        draft: Draft,
+        ops: Ops,
+        applier: &mut A,
+    ) -> Result<Report, FrameStop>
+        requires tree { MayCall (A.tree applier.old)
+            (λ k. (m : Map) × IsAt self.old k (Some m) × IsComposed self.old k m (Some draft)) }
+        requires olds { draft.olds ≡ self.old.held.groups }
+        requires some { ops ≡ [] → ⊥ }
+        requires ops { InFrames self.old (Some draft)
+            (λ k m. ops ≡ ops_of k (frame_of (functions_of self.old.program.now) k m)) }
+        ensures { EndsComposed self.old self.new (Some draft) (A.tree applier.old) (A.tree applier.new)
+            (A.faults applier.old) (A.faults applier.new) (applier.new ≡ applier.old) result }
+    {
         let Ok(calls) = take_memory(alloc, &ops, applier) else {
             return Err(FrameStop::NoMemory);
         };

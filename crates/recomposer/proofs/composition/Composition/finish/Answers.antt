@@ -307,8 +307,9 @@ pub returns-in-Ok-composed-clause-quiet : goal.returns-in-Ok-composed-clause-qui
 returns-in-Ok-composed-clause-quiet g c k m h shows quiet =
     let made = c.in-Ok-composed.ensures.made k m h shows in
     let nothing = quiet_at c.args.self.now k m h quiet in
-    quiet_ends c.args.self.now.program.now k m nothing c.apply.new.self (g.D.View.asked c.args.desk.now)
-    (g.D.View.asked c.dispose.new.self) c.apply.result (c.apply.ensures.unchanged k m h made nothing.calls_none)
+    quiet_ends c.args.self.now.program.now k m nothing {Same = c.apply.new.applier ≡ c.args.applier.now}
+    c.apply.new.self (g.D.View.asked c.args.desk.now) (g.D.View.asked c.dispose.new.self) c.apply.result
+    (c.apply.ensures.unchanged k m h made nothing.calls_none)
     (c.dispose.ensures.asks ∙ c.in-Ok-composed.ensures.asks k m h shows) (c.apply.ensures.good k m h made)
 
 pub returns-clause-detached : goal.returns-clause-detached
