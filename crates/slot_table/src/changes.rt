@@ -167,17 +167,12 @@ impl<'t> ChangeListWriter<'t> {
             let change = Change::Whole(Table::from_groups(alloc, self.fresh)?);
             return Ok(ChangeList { olds, change });
         }
-        if self.len == self.table.len()
-            && have_own_indexes(&self.runs)
-            && keep_depths(self.table, &self.fresh, &self.places)
-        {
+        if fits_in_place(self.table, &self.fresh, &self.places, &self.runs, self.len) {
             let change = Change::InPlace(self.fresh, self.places);
             return Ok(ChangeList { olds, change });
         }
-        let mut all = TableBuilder::new(alloc);
-        all.reserve(self.len)?;
-        share_all(self.table, &self.fresh, &self.runs, &mut all)?;
-        let change = Change::Whole(Table::from_groups(alloc, all)?);
+        let whole = share_table(alloc, self.table, &self.fresh, &self.runs, self.len)?;
+        let change = Change::Whole(whole);
         Ok(ChangeList { olds, change })
     }
 }
@@ -256,6 +251,23 @@ fn find_place(places: &[usize], place: usize, kept: usize) -> Option<usize>
     None
 }
 
+// Returns whether the changes can be made in place: there are as many groups as before, each kept group keeps its index,
+// and each new group has the depth of the old group at its place. `len` is the number of groups of the new frame.
+fn fits_in_place(
+    table: &Table,
+    fresh: &TableBuilder,
+    places: &[usize],
+    runs: &[KeptRun],
+    len: usize,
+) -> bool
+    requires { length places.now ≡ length fresh.now }
+    ensures size { result ≡ true → len ≡ length table.now.groups }
+    ensures own { result ≡ true → HaveOwnIndexes 0 runs.now }
+    ensures depths { result ≡ true → KeepDepths table.now.groups places.now fresh.now }
+{
+    len == table.len() && have_own_indexes(runs) && keep_depths(table, fresh, places)
+}
+
 // Returns whether each kept group has the same index in the new frame.
 fn have_own_indexes(runs: &[KeptRun]) -> bool
     ensures { result ≡ true → HaveOwnIndexes 0 runs.now }
@@ -288,6 +300,24 @@ fn keeps_depth(table: &Table, place: usize, depth: u32) -> bool
     ensures { result ≡ true → (place < length table.now.groups) × (depth ≡ (group_at table.now.groups place).depth) }
 {
     place < table.len() && table.depth(place) == depth
+}
+
+// Returns the table of the groups of the new frame, which share their slots. `len` is their number.
+fn share_table(
+    alloc: Global,
+    table: &Table,
+    fresh: &TableBuilder,
+    runs: &[KeptRun],
+    len: usize,
+) -> Result<Table, NoMemory>
+    requires inside { AreInside table.now.groups runs.now }
+    requires gaps { gaps runs.now ≤ length fresh.now }
+    ensures { IfOk result (λ t. t.groups ≡ patched table.now.groups fresh.now runs.now) }
+{
+    let mut all = TableBuilder::new(alloc);
+    all.reserve(len)?;
+    share_all(table, fresh, runs, &mut all)?;
+    Table::from_groups(alloc, all)
 }
 
 // Appends the groups of the new frame to `groups`. They share their slots.
