@@ -104,6 +104,14 @@ fn named(alloc: Global, name: &[u8], value: Expression) -> Result<Named, NoMemor
     Ok(Named { name, value })
 }
 
+// Returns the variable `of` with a name.
+fn named_variable(alloc: Global, name: &[u8], of: &[u8]) -> Result<Named, NoMemory>
+    ensures { IfOk result (λ n. named_view n ≡ named_value name.now (variable of.now)) }
+{
+    let value = variable(alloc, of)?;
+    named(alloc, name, value)
+}
+
 // Returns the node of this kind.
 #[tactic(auto, using(crate::proofs::Parts::parts))]
 fn node(
@@ -147,15 +155,31 @@ fn call(
     })
 }
 
+// Returns the item of a row times the state `scale`.
+fn scaled_item(alloc: Global) -> Result<Expression, NoMemory>
+    ensures { IfOk result (λ e. expr_view e ≡ product (variable (codes "i")) (state_value (codes "scale") 3)) }
+{
+    let item = variable(alloc, b"i")?;
+    let scale = state_value(alloc, b"scale", 3)?;
+    product(alloc, item, scale)
+}
+
+// Returns the square of a variable.
+fn square_of(alloc: Global, name: &[u8]) -> Result<Expression, NoMemory>
+    ensures { IfOk result (λ e. expr_view e ≡ product (variable name.now) (variable name.now)) }
+{
+    let left = variable(alloc, name)?;
+    let right = variable(alloc, name)?;
+    product(alloc, left, right)
+}
+
 // Returns the node of a row.
 fn row_node(alloc: Global) -> Result<Statement, NoMemory>
     ensures { IfOk result (λ s. stmt_view s ≡ row_node) }
 {
-    let item = named(alloc, b"item", variable(alloc, b"i")?)?;
-    let square = named(alloc, b"square", variable(alloc, b"sq")?)?;
-    let scale = state_value(alloc, b"scale", 3)?;
-    let scaled = product(alloc, variable(alloc, b"i")?, scale)?;
-    let scaled = named(alloc, b"scaled", scaled)?;
+    let item = named_variable(alloc, b"item", b"i")?;
+    let square = named_variable(alloc, b"square", b"sq")?;
+    let scaled = named(alloc, b"scaled", scaled_item(alloc)?)?;
     let attributes = vec![in alloc; item, square, scaled]?;
     node(alloc, 2, b"Row", attributes, Vec::new(alloc))
 }
@@ -166,9 +190,8 @@ fn row_cell(alloc: Global) -> Result<Statement, NoMemory>
     ensures { IfOk result (λ s. stmt_view s ≡ row_cell) }
 {
     let name = ident(alloc, b"sq")?;
-    let key = named(alloc, b"n", variable(alloc, b"i")?)?;
-    let value = product(alloc, variable(alloc, b"n")?, variable(alloc, b"n")?)?;
-    let keys = vec![in alloc; key]?;
+    let keys = vec![in alloc; named_variable(alloc, b"n", b"i")?]?;
+    let value = square_of(alloc, b"n")?;
     let body = vec![in alloc; row_node(alloc)?]?;
     Ok(Statement::Remember {
         at: 0,
