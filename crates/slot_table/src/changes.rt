@@ -251,8 +251,9 @@ fn find_place(places: &[usize], place: usize, kept: usize) -> Option<usize>
     None
 }
 
-// Returns whether the changes can be made in place: there are as many groups as before, each kept group keeps its index,
-// and each new group has the depth of the old group at its place. `len` is the number of groups of the new frame.
+// Returns whether the changes can be made in place: there are as many groups as before, each kept group keeps its
+// index, and each new group has the depth of the old group at its place. `len` is the number of groups of the new
+// frame.
 fn fits_in_place(
     table: &Table,
     fresh: &TableBuilder,
