@@ -155,6 +155,13 @@ fn call(
     })
 }
 
+// Returns the body that has only `statement`.
+fn body_of(alloc: Global, statement: Statement) -> Result<Vec<Statement>, NoMemory>
+    ensures { IfOk result (λ v. v.items ≡ statement ∷ []) }
+{
+    Ok(vec![in alloc; statement]?)
+}
+
 // Returns the item of a row times the state `scale`.
 fn scaled_item(alloc: Global) -> Result<Expression, NoMemory>
     ensures { IfOk result (λ e. expr_view e ≡ product (variable (codes "i")) (state_value (codes "scale") 3)) }
@@ -162,6 +169,15 @@ fn scaled_item(alloc: Global) -> Result<Expression, NoMemory>
     let item = variable(alloc, b"i")?;
     let scale = state_value(alloc, b"scale", 3)?;
     product(alloc, item, scale)
+}
+
+// Returns the attribute `scaled` of the node of a row.
+fn scaled_attribute(alloc: Global) -> Result<Named, NoMemory>
+    ensures { IfOk result (λ n. named_view n ≡
+        named_value (codes "scaled") (product (variable (codes "i")) (state_value (codes "scale") 3))) }
+{
+    let value = scaled_item(alloc)?;
+    named(alloc, b"scaled", value)
 }
 
 // Returns the square of a variable.
@@ -173,14 +189,25 @@ fn square_of(alloc: Global, name: &[u8]) -> Result<Expression, NoMemory>
     product(alloc, left, right)
 }
 
+// Returns the attributes of the node of a row.
+fn row_attributes(alloc: Global) -> Result<Vec<Named>, NoMemory>
+    ensures { IfOk result (λ v. nameds_view v.items ≡
+        named_value (codes "item") (variable (codes "i"))
+        ∷ named_value (codes "square") (variable (codes "sq"))
+        ∷ named_value (codes "scaled") (product (variable (codes "i")) (state_value (codes "scale") 3))
+        ∷ []) }
+{
+    let item = named_variable(alloc, b"item", b"i")?;
+    let square = named_variable(alloc, b"square", b"sq")?;
+    let scaled = scaled_attribute(alloc)?;
+    Ok(vec![in alloc; item, square, scaled]?)
+}
+
 // Returns the node of a row.
 fn row_node(alloc: Global) -> Result<Statement, NoMemory>
     ensures { IfOk result (λ s. stmt_view s ≡ row_node) }
 {
-    let item = named_variable(alloc, b"item", b"i")?;
-    let square = named_variable(alloc, b"square", b"sq")?;
-    let scaled = named(alloc, b"scaled", scaled_item(alloc)?)?;
-    let attributes = vec![in alloc; item, square, scaled]?;
+    let attributes = row_attributes(alloc)?;
     node(alloc, 2, b"Row", attributes, Vec::new(alloc))
 }
 
@@ -192,7 +219,7 @@ fn row_cell(alloc: Global) -> Result<Statement, NoMemory>
     let name = ident(alloc, b"sq")?;
     let keys = vec![in alloc; named_variable(alloc, b"n", b"i")?]?;
     let value = square_of(alloc, b"n")?;
-    let body = vec![in alloc; row_node(alloc)?]?;
+    let body = body_of(alloc, row_node(alloc)?)?;
     Ok(Statement::Remember {
         at: 0,
         site: 1,
@@ -207,8 +234,8 @@ fn row_cell(alloc: Global) -> Result<Statement, NoMemory>
 fn function(alloc: Global, name: &[u8], statement: Statement) -> Result<Function, NoMemory>
     ensures { IfOk result (λ f. function_view f ≡ function name.now [] (stmt_view statement ∷ [])) }
 {
+    let body = body_of(alloc, statement)?;
     let name = ident(alloc, name)?;
-    let body = vec![in alloc; statement]?;
     Ok(Function {
         at: 0,
         name,
@@ -227,7 +254,7 @@ fn row_function(alloc: Global) -> Result<Function, NoMemory>
         ty: Ty::Int,
     };
     let parameters = vec![in alloc; parameter]?;
-    let body = vec![in alloc; row_cell(alloc)?]?;
+    let body = body_of(alloc, row_cell(alloc)?)?;
     Ok(Function {
         at: 0,
         name,
@@ -243,7 +270,7 @@ fn keyed_row(alloc: Global) -> Result<Statement, NoMemory>
 {
     let key = variable(alloc, b"i")?;
     let arguments = vec![in alloc; variable(alloc, b"i")?]?;
-    let body = vec![in alloc; call(alloc, 5, b"row", 0, arguments)?]?;
+    let body = body_of(alloc, call(alloc, 5, b"row", 0, arguments)?)?;
     Ok(Statement::Key {
         at: 0,
         site: 4,
@@ -259,7 +286,7 @@ fn all_rows(alloc: Global) -> Result<Statement, NoMemory>
 {
     let name = ident(alloc, b"i")?;
     let list = state_value(alloc, b"items", 0)?;
-    let body = vec![in alloc; keyed_row(alloc)?]?;
+    let body = body_of(alloc, keyed_row(alloc)?)?;
     Ok(Statement::For {
         at: 0,
         site: 3,
@@ -283,9 +310,8 @@ fn total_node(alloc: Global) -> Result<Statement, NoMemory>
 fn page_node(alloc: Global) -> Result<Statement, NoMemory>
     ensures { IfOk result (λ s. stmt_view s ≡ page_node) }
 {
-    let total = total_node(alloc)?;
-    let list = call(alloc, 8, b"list", 1, Vec::new(alloc))?;
-    let body = vec![in alloc; total, list]?;
+    let mut body = body_of(alloc, total_node(alloc)?)?;
+    body.push(call(alloc, 8, b"list", 1, Vec::new(alloc))?)?;
     node(alloc, 6, b"Page", Vec::new(alloc), body)
 }
 

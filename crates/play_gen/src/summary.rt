@@ -2,10 +2,12 @@
 ghost use Rattle.std.specs.Prelude.{◌≡◌, ◌<◌, ◌≤◌, None, [], ◌∷◌, codes, length, IfOk, OnOk};
 ghost use Rattle.rt_values.specs.declared.value.Value.{Value as value_data};
 ghost use Rattle.lang_ast.specs.declared.script.SnapshotRef.{SnapshotRef as snapshot_ref};
+ghost use Rattle.lang_ast.specs.Programs.{program_view};
 ghost use Rattle.script_lang.specs.Scripts.{actors_of};
-ghost use Rattle.script_lang.specs.StepCalls.{script_parts};
+ghost use Rattle.script_lang.specs.StepCalls.{opening_world, script_parts};
 ghost use Rattle.snap_api.specs.World.{start};
 ghost use Rattle.play_gen.specs.Draws.{next_state};
+ghost use Rattle.play_gen.specs.GeneratedProgram.{generated_program};
 ghost use Rattle.play_gen.specs.GeneratedScript.{rotated_list, items_after, write_step, change_steps, rounds, generated_script};
 ghost use Rattle.play_gen.specs.Tallies.{generated_counts};
 ghost use Rattle.play_gen.specs.Counting.{CountsParts, forms_parts};
@@ -16,6 +18,7 @@ use crate::inputs::checked_program;
 use crate::program::first_items;
 use crate::rounds::{Change, change_drawn, rotate};
 use crate::tally::Tally;
+use lang_checks::Checked;
 use play_run::{RunMemory, set_up_world};
 use rt_values::{IntList, NoMemory, Value};
 use snap_api::Versions;
@@ -122,6 +125,28 @@ fn count_steps<V: Versions<P = BuiltIn>>(
     )
 }
 
+// Makes the steps of the generated script on `program`, and returns the counts of their history.
+// The world is that after `set_up_world` for `program`.
+fn count_program<V: Versions<P = BuiltIn>>(
+    alloc: Global,
+    program: &Checked,
+    number: u32,
+    size: u32,
+    world: &mut V,
+) -> Result<Tally, NoMemory>
+    requires program { program_view program.now ≡ generated_program size }
+    requires some { 1 ≤ size }
+    requires few { size ≤ 1000 }
+    requires opened { V.stands world.old (opening_world program.now.states.items) }
+    ensures { IfOk result (λ t. t ≡ generated_counts number size) }
+{
+    let memory = RunMemory::new(alloc, program)?;
+    let tally = Tally::new();
+    let mut counting = Counting { memory, tally };
+    count_steps(alloc, number, size, &mut counting, world)?;
+    Ok(counting.tally)
+}
+
 /// Makes the steps of the generated script on the generated program in a new world, draw by draw, and returns the
 /// counts of their history.
 ///
@@ -138,10 +163,6 @@ pub fn count_input<V: Versions<P = BuiltIn>>(
     ensures { IfOk result (λ t. t ≡ generated_counts number size) }
 {
     let program = checked_program(alloc, size)?;
-    let memory = RunMemory::new(alloc, &program)?;
     set_up_world(alloc, &program, world)?;
-    let tally = Tally::new();
-    let mut counting = Counting { memory, tally };
-    count_steps(alloc, number, size, &mut counting, world)?;
-    Ok(counting.tally)
+    count_program(alloc, &program, number, size, world)
 }
