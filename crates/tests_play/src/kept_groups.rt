@@ -144,14 +144,14 @@ fn has_scope(scopes: &RecomposeScopes, object: ObjectNo, i: usize) -> bool {
 
 // Whether exactly the groups that read the object have a scope that depends on it.
 fn has_scopes_of(table: &Table, scopes: &RecomposeScopes, object: ObjectNo) -> bool {
-    let mut readers = 0;
+    let mut readers: usize = 0;
     for i in 0..table.len() {
         let read = has_read(table.reads(i), object);
         if read != has_scope(scopes, object, i) {
             return false;
         }
         if read {
-            readers += 1;
+            readers = readers.saturating_add(1);
         }
     }
     readers == scopes.scopes_of(object).len()
