@@ -3,24 +3,36 @@ use remember_cells::{Cell, CellAnswer, cell};
 use rt_values::Value;
 use std::test::Fail;
 
+// Returns the answers of `cell`: for an old cell with these keys and four lists of new keys, of which the first has
+// equal keys, without an old cell, and for an old cell and a new one without keys.
+fn answers<'a>(value: &'a Value, keys: &'a [Value], others: &[Value; 3]) -> [CellAnswer; 6] {
+    let old = Cell { keys, value };
+    let none = Cell { keys: &[], value };
+    [
+        cell(Some(&old), keys),
+        cell(Some(&old), &others[..2]),
+        cell(Some(&old), &others[..1]),
+        cell(Some(&old), others),
+        cell(None, keys),
+        cell(Some(&none), &[]),
+    ]
+}
+
 #[test]
 fn cells_are_kept_for_equal_keys(rt: HostRuntime) -> Result<(), Fail> {
-    let value = Value::Int(6);
     let keys = [Value::Int(2), Value::Bool(true)];
     let others = [Value::Int(2), Value::Bool(false), Value::Int(2)];
-    let old = Cell {
-        keys: &keys,
-        value: &value,
-    };
-    assert_eq!(rt; cell(Some(&old), &keys), CellAnswer::Kept);
-    assert_eq!(rt; cell(Some(&old), &others[..2]), CellAnswer::Calculate);
-    assert_eq!(rt; cell(Some(&old), &others[..1]), CellAnswer::Calculate);
-    assert_eq!(rt; cell(Some(&old), &others), CellAnswer::Calculate);
-    assert_eq!(rt; cell(None, &keys), CellAnswer::Calculate);
-    let none = Cell {
-        keys: &[],
-        value: &value,
-    };
-    assert_eq!(rt; cell(Some(&none), &[]), CellAnswer::Kept);
+    assert_eq!(rt;
+        answers(&Value::Int(6), &keys, &others).as_slice(),
+        [
+            CellAnswer::Kept,
+            CellAnswer::Calculate,
+            CellAnswer::Calculate,
+            CellAnswer::Calculate,
+            CellAnswer::Calculate,
+            CellAnswer::Kept,
+        ]
+        .as_slice()
+    );
     Ok(())
 }

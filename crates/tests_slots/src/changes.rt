@@ -1,23 +1,32 @@
 // Changes of a table: groups that stay, move or are replaced.
 ghost use Rattle.std.specs.Prelude.{◌≡◌, IfOk};
 
-use crate::rows::row_groups;
+use crate::rows::{row_groups, three_rows};
 use rt_groups::GroupKind;
 use rt_values::{NoMemory, Objects, Value};
 use slot_table::{ChangeList, ChangeListWriter, Table};
 use std::alloc::Global;
 use std::test::Fail;
 
-// Returns for each group the value of a key, or 0 for another kind.
-fn keys_of(alloc: Global, table: &Table) -> Result<Vec<i64>, NoMemory> {
-    let mut keys = Vec::new(alloc);
-    for i in 0..table.len() {
-        match table.kind(i) {
-            GroupKind::Key(Value::Int(key)) => keys.push(*key)?,
-            _ => keys.push(0)?,
+// Returns the value of a key, or 0 for another kind.
+fn key_of(kind: &GroupKind) -> i64 {
+    match kind {
+        GroupKind::Key(Value::Int(key)) => *key,
+        _ => 0,
+    }
+}
+
+// Whether these are the values of the keys, with 0 for each other group.
+fn has_keys(table: &Table, keys: &[i64]) -> bool {
+    if table.len() != keys.len() {
+        return false;
+    }
+    for (index, key) in keys.iter().enumerate() {
+        if index >= table.len() || key_of(table.kind(index)) != *key {
+            return false;
         }
     }
-    Ok(keys)
+    true
 }
 
 // Returns a table of the rows 8 and 9. The group of key 8 is at index 1, and the group of key 9 is
@@ -51,28 +60,59 @@ fn changes_to(
     writer.into_change_list(alloc)
 }
 
-// Returns the keys of the groups that the changes give.
-fn previewed_keys(alloc: Global, changes: &ChangeList, table: &Table) -> Result<Vec<i64>, NoMemory>
+// Returns the changes of `table` to the groups of `runs`, where an empty run stands for the group
+// of `new_rows` at its index.
+fn changes_to_rows(
+    alloc: Global,
+    table: &Table,
+    runs: &[(usize, usize)],
+) -> Result<ChangeList, NoMemory>
+    ensures { IfOk result (λ c. c.olds ≡ table.now.groups) }
+{
+    let others = new_rows(alloc)?;
+    changes_to(alloc, table, &others, runs)
+}
+
+// Whether these are the keys of the groups that the changes give.
+fn previews(
+    alloc: Global,
+    changes: &ChangeList,
+    table: &Table,
+    keys: &[i64],
+) -> Result<bool, NoMemory>
     requires { table.now.groups ≡ changes.now.olds }
 {
     let preview = changes.preview(alloc, table)?;
-    keys_of(alloc, preview.table())
+    Ok(has_keys(preview.table(), keys))
 }
 
-// Changes a table of the rows 1, 2 and 3 to the groups of `runs`, where an empty run stands for the
-// group of `new_rows` at its index. Returns the keys of the preview, those of the table after the
-// changes, and whether the changes keep the reads.
-fn changed_keys(
+// Changes `table` to the groups of `runs`, where an empty run stands for the group of `new_rows` at
+// its index. Returns whether the keys of the preview are `keys`, and whether the changes keep the
+// reads.
+fn change(
+    alloc: Global,
+    table: &mut Table,
+    runs: &[(usize, usize)],
+    keys: &[i64],
+) -> Result<(bool, bool), NoMemory> {
+    let changes = changes_to_rows(alloc, table, runs)?;
+    let is_previewed = previews(alloc, &changes, table, keys)?;
+    let keeps = changes.keeps_reads(table);
+    table.apply(changes);
+    Ok((is_previewed, keeps))
+}
+
+// Whether a table of the rows 1, 2 and 3 and its preview have these keys with the groups of `runs`,
+// and the changes keep the reads if and only if `keep`.
+fn has_changes(
     alloc: Global,
     runs: &[(usize, usize)],
-) -> Result<(Vec<i64>, Vec<i64>, bool), NoMemory> {
-    let mut table = Table::from_groups(alloc, row_groups(alloc, &[1, 2, 3])?)?;
-    let others = new_rows(alloc)?;
-    let changes = changes_to(alloc, &table, &others, runs)?;
-    let before = previewed_keys(alloc, &changes, &table)?;
-    let keeps = changes.keeps_reads(&table);
-    table.apply(changes);
-    Ok((before, keys_of(alloc, &table)?, keeps))
+    keys: &[i64],
+    keep: bool,
+) -> Result<bool, NoMemory> {
+    let mut table = three_rows(alloc)?;
+    let (is_previewed, keeps) = change(alloc, &mut table, runs, keys)?;
+    Ok(is_previewed && has_keys(&table, keys) && keeps == keep)
 }
 
 #[test]
@@ -98,10 +138,7 @@ fn changes_keep_move_and_replace_groups(rt: HostRuntime) -> Result<(), Fail> {
         (&[(0, 1), (1, 1), (2, 6), (1, 1)], deeper, true),
     ];
     for (runs, keys, keep) in &rows {
-        let (before, after, keeps) = changed_keys(alloc, runs)?;
-        assert_eq!(rt; before.as_slice(), *keys);
-        assert_eq!(rt; after.as_slice(), *keys);
-        assert_eq!(rt; keeps, *keep);
+        assert!(rt; has_changes(alloc, runs, keys, *keep)?);
     }
     Ok(())
 }

@@ -1,27 +1,56 @@
 // Patches that reorder, remove and insert rows.
-use crate::rows::row_groups;
+use crate::rows::{row_groups, three_rows};
+use rt_values::NoMemory;
 use slot_anchors::{Anchor, Anchors};
 use slot_edit::{Patch, apply, reserve};
 use slot_table::Table;
 use std::alloc::Global;
 use std::test::Fail;
 
-// Returns where the anchors of the key groups 1, 2 and 3 and of row 3 are after the patch to these rows.
+// Returns anchors at the key groups 1, 2 and 3 of a table of rows and at row 3.
+fn mark_rows(alloc: Global) -> Result<Anchors, NoMemory> {
+    let mut anchors = Anchors::new(alloc);
+    for group in [1, 3, 5, 6] {
+        anchors.mark(group)?;
+    }
+    Ok(anchors)
+}
+
+// Returns the patch to these rows.
+fn row_patch(alloc: Global, keys: &[i64], olds: &[Option<usize>]) -> Result<Patch, Fail> {
+    let groups = row_groups(alloc, keys)?;
+    Ok(Patch::new(alloc, groups, olds.to_vec(alloc)?)?)
+}
+
+// Reserves the capacity for `patch` and applies it.
+fn apply_patch(table: &mut Table, anchors: &mut Anchors, patch: Patch) -> Result<(), Fail> {
+    reserve(table, anchors, &patch)?;
+    apply(table, anchors, patch);
+    Ok(())
+}
+
+// Changes a table of the rows 1, 2 and 3 to these rows. Returns the number of groups after the patch.
+fn patch_rows(
+    alloc: Global,
+    anchors: &mut Anchors,
+    keys: &[i64],
+    olds: &[Option<usize>],
+) -> Result<usize, Fail> {
+    let mut table = three_rows(alloc)?;
+    apply_patch(&mut table, anchors, row_patch(alloc, keys, olds)?)?;
+    Ok(table.len())
+}
+
+// Returns the number of groups after the patch to these rows, and the indexes of the anchors of `mark_rows`.
 fn indexes_after(
     alloc: Global,
     keys: &[i64],
     olds: &[Option<usize>],
 ) -> Result<Vec<Option<usize>>, Fail> {
-    let mut table = Table::from_groups(alloc, row_groups(alloc, &[1, 2, 3])?)?;
-    let mut anchors = Anchors::new(alloc);
-    for group in [1, 3, 5, 6] {
-        anchors.mark(group)?;
-    }
-    let patch = Patch::new(alloc, row_groups(alloc, keys)?, olds.to_vec(alloc)?)?;
-    reserve(&mut table, &mut anchors, &patch)?;
-    apply(&mut table, &mut anchors, patch);
+    let mut anchors = mark_rows(alloc)?;
+    let count = patch_rows(alloc, &mut anchors, keys, olds)?;
     let mut indexes = Vec::new(alloc);
-    indexes.push(Some(table.len()))?;
+    indexes.push(Some(count))?;
     for number in 0..anchors.len() {
         indexes.push(anchors.place(Anchor { number }))?;
     }

@@ -19,41 +19,105 @@ fn filled(alloc: Global, bytes: &[u8]) -> Result<GapBuf<u8>, AllocError> {
     Ok(buf)
 }
 
-// Returns the bytes before and after the gap.
-fn all_bytes(alloc: Global, buf: &GapBuf<u8>) -> Result<Vec<u8>, AllocError> {
+// Whether these are the bytes of the buffer, in both parts and at each index.
+fn has_bytes(buf: &GapBuf<u8>, bytes: &[u8]) -> bool {
     let (front, back) = buf.slices();
-    let mut all = Vec::new(alloc);
-    all.extend_from_slice(front)?;
-    all.extend_from_slice(back)?;
-    Ok(all)
+    if buf.len() != bytes.len() || front.len() > bytes.len() {
+        return false;
+    }
+    for (index, byte) in bytes.iter().enumerate() {
+        if index >= buf.len() || buf.get(index) != byte {
+            return false;
+        }
+    }
+    front == &bytes[..front.len()] && back == &bytes[front.len()..]
+}
+
+// An edit of a buffer of at most six bytes.
+#[derive(Drop, Clone, Copy)]
+enum Edit {
+    Move {
+        from: usize,
+        to: usize,
+        count: usize,
+    },
+    Insert {
+        index: usize,
+        byte: u8,
+    },
+    // Removes `byte` at `index`.
+    Remove {
+        index: usize,
+        byte: u8,
+    },
+    Set {
+        index: usize,
+        byte: u8,
+    },
+}
+
+// Moves a block of a buffer. Returns whether the buffer has these indexes.
+fn move_block(buf: &mut GapBuf<u8>, from: usize, to: usize, count: usize) -> bool {
+    let is_inside = from < 6 && count < 6 && from + count <= buf.len() && to <= buf.len();
+    if is_inside {
+        buf.move_range(from, to, count);
+    }
+    is_inside
+}
+
+// Applies `edit` to `buf`. Returns whether the buffer has its indexes and the byte that it removes.
+fn run(buf: &mut GapBuf<u8>, edit: &Edit) -> Result<bool, AllocError> {
+    match edit {
+        Edit::Move { from, to, count } => Ok(move_block(buf, *from, *to, *count)),
+        Edit::Insert { index, byte } => {
+            buf.reserve(1)?;
+            if *index <= buf.len() {
+                buf.insert(*index, *byte);
+                return Ok(true);
+            }
+            Ok(false)
+        }
+        Edit::Remove { index, byte } => Ok(*index < buf.len() && buf.remove(*index) == *byte),
+        Edit::Set { index, byte } => {
+            if *index < buf.len() {
+                buf.set(*index, *byte);
+                return Ok(true);
+            }
+            Ok(false)
+        }
+    }
+}
+
+// Whether a buffer with the bytes 1 to 5 has the bytes of each row after its edit.
+fn edits_give(alloc: Global, rows: &[(Edit, &[u8])]) -> Result<bool, AllocError> {
+    let mut buf = filled(alloc, &[1, 2, 3, 4, 5])?;
+    if !has_bytes(&buf, &[1, 2, 3, 4, 5]) {
+        return Ok(false);
+    }
+    for (edit, bytes) in rows {
+        if !run(&mut buf, edit)? || !has_bytes(&buf, bytes) {
+            return Ok(false);
+        }
+    }
+    Ok(true)
 }
 
 #[test]
 fn edits_are_those_of_a_list(rt: HostRuntime) -> Result<(), Fail> {
-    let alloc = rt.alloc();
-    let mut buf = filled(alloc, &[1, 2, 3, 4, 5])?;
-    assert_eq!(rt; buf.len(), 5usize);
-    buf.move_range(1, 3, 1);
-    assert_eq!(rt;
-        all_bytes(alloc, &buf)?.as_slice(),
-        [1u8, 3, 2, 4, 5].as_slice()
-    );
-    buf.reserve(1)?;
-    buf.insert(2, 9);
-    assert_eq!(rt;
-        all_bytes(alloc, &buf)?.as_slice(),
-        [1u8, 3, 9, 2, 4, 5].as_slice()
-    );
-    assert_eq!(rt; buf.len(), 6usize);
-    assert_eq!(rt; buf.remove(0), 1u8);
-    assert_eq!(rt;
-        all_bytes(alloc, &buf)?.as_slice(),
-        [3u8, 9, 2, 4, 5].as_slice()
-    );
-    assert_eq!(rt; buf.len(), 5usize);
-    buf.set(1, 7);
-    assert_eq!(rt; *buf.get(1), 7u8);
-    assert_eq!(rt; *buf.get(4), 5u8);
+    let rows: [(Edit, &[u8]); 4] = [
+        (
+            Edit::Move {
+                from: 1,
+                to: 3,
+                count: 1,
+            },
+            &[1, 3, 2, 4, 5],
+        ),
+        (Edit::Insert { index: 2, byte: 9 }, &[1, 3, 9, 2, 4, 5]),
+        (Edit::Remove { index: 0, byte: 1 }, &[3, 9, 2, 4, 5]),
+        (Edit::Set { index: 1, byte: 7 }, &[3, 7, 2, 4, 5]),
+    ];
+    assert!(rt; edits_give(rt.alloc(), &rows)?);
     Ok(())
 }
 
@@ -69,11 +133,12 @@ fn blocks_move_as_the_applier_counts(rt: HostRuntime) -> Result<(), Fail> {
         (2, 2, 0, [1, 2, 3, 4, 5]),
     ];
     for (from, to, count, expected) in &rows {
-        let mut buf = filled(alloc, &[1, 2, 3, 4, 5])?;
-        assert_eq!(rt; buf.len(), 5usize);
-        assert!(rt; *from < 5 && *count < 5 && *from + *count <= 5 && *to <= 5);
-        buf.move_range(*from, *to, *count);
-        assert_eq!(rt; all_bytes(alloc, &buf)?.as_slice(), expected.as_slice());
+        let edit = Edit::Move {
+            from: *from,
+            to: *to,
+            count: *count,
+        };
+        assert!(rt; edits_give(alloc, &[(edit, expected.as_slice())])?);
     }
     Ok(())
 }

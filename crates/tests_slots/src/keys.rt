@@ -13,43 +13,74 @@ fn siblings<'a>(alloc: Global, keys: &'a [Value]) -> Result<Vec<SiblingKey<'a>>,
     Ok(all)
 }
 
+// Returns the old index of the sibling that each new one is matched with.
+fn indexes(alloc: Global, old: &[Value], new: &[Value]) -> Result<Vec<Option<usize>>, NoMemory> {
+    let old = siblings(alloc, old)?;
+    let new = siblings(alloc, new)?;
+    matches(alloc, &old, &new)
+}
+
 #[test]
 fn equal_siblings_are_matched_in_order(rt: HostRuntime) -> Result<(), Fail> {
-    let alloc = rt.alloc();
     let five = [Value::Int(5), Value::Int(5), Value::Int(5)];
-    let old = siblings(alloc, &five[..2])?;
-    let new = siblings(alloc, &five)?;
     assert_eq!(rt;
-        matches(alloc, &old, &new)?.as_slice(),
+        indexes(rt.alloc(), &five[..2], &five)?.as_slice(),
         [Some(0usize), Some(1), None].as_slice()
     );
     Ok(())
 }
 
-#[test]
-fn site_and_value_tell_siblings_apart(rt: HostRuntime) -> Result<(), Fail> {
-    let alloc = rt.alloc();
+// Returns the number 3, the text 3, a list with the number 3, and a flag.
+fn four_values(alloc: Global) -> Result<[Value; 4], NoMemory> {
     let mut three = IntList::new(alloc)?;
     three.push(3)?;
-    let values = [
+    Ok([
         Value::Int(3),
         Value::Text(Txt::of(alloc, b"3")?),
         Value::Ints(three),
         Value::Bool(true),
+    ])
+}
+
+// Returns the siblings with these keys, and two siblings without a key at the sites 4 and 5.
+fn old_siblings<'a>(alloc: Global, keys: &'a [Value]) -> Result<Vec<SiblingKey<'a>>, NoMemory> {
+    let mut all = siblings(alloc, keys)?;
+    all.push(SiblingKey::new(4, None))?;
+    all.push(SiblingKey::new(5, None))?;
+    Ok(all)
+}
+
+// Returns the siblings of `old_siblings` in another order, and at index 1 a new one.
+fn new_siblings<'a>(alloc: Global, keys: &'a [Value; 4]) -> Result<Vec<SiblingKey<'a>>, NoMemory> {
+    let rows: [(u32, Option<&'a Value>); 7] = [
+        (5, None),
+        (5, Some(&keys[0])),
+        (4, Some(&keys[2])),
+        (4, None),
+        (4, Some(&keys[1])),
+        (4, Some(&keys[3])),
+        (4, Some(&keys[0])),
     ];
-    let mut old = siblings(alloc, &values)?;
-    old.push(SiblingKey::new(4, None))?;
-    old.push(SiblingKey::new(5, None))?;
-    let mut new = Vec::new(alloc);
-    new.push(SiblingKey::new(5, None))?;
-    new.push(SiblingKey::new(5, Some(&values[0])))?;
-    new.push(SiblingKey::new(4, Some(&values[2])))?;
-    new.push(SiblingKey::new(4, None))?;
-    new.push(SiblingKey::new(4, Some(&values[1])))?;
-    new.push(SiblingKey::new(4, Some(&values[3])))?;
-    new.push(SiblingKey::new(4, Some(&values[0])))?;
+    let mut all = Vec::new(alloc);
+    for (site, key) in rows {
+        all.push(SiblingKey::new(site, key))?;
+    }
+    Ok(all)
+}
+
+// Returns the old index of each sibling of `new_siblings`.
+fn old_indexes(alloc: Global, keys: &[Value; 4]) -> Result<Vec<Option<usize>>, NoMemory> {
+    let old = old_siblings(alloc, keys)?;
+    let new = new_siblings(alloc, keys)?;
+    matches(alloc, &old, &new)
+}
+
+#[test]
+fn site_and_value_tell_siblings_apart(rt: HostRuntime) -> Result<(), Fail> {
+    let alloc = rt.alloc();
+    let values = four_values(alloc)?;
     assert_eq!(rt;
-        matches(alloc, &old, &new)?.as_slice(),
+        old_indexes(alloc, &values)?.as_slice(),
         [
             Some(5usize),
             None,
@@ -64,39 +95,68 @@ fn site_and_value_tell_siblings_apart(rt: HostRuntime) -> Result<(), Fail> {
     Ok(())
 }
 
+// Returns the numbers from 0 to 3,999, in order or reversed.
+fn numbers(alloc: Global, reversed: bool) -> Result<Vec<Value>, NoMemory> {
+    let mut all = Vec::new(alloc);
+    for number in 0..4000i64 {
+        all.push(Value::Int(if reversed {
+            3999i64.saturating_sub(number)
+        } else {
+            number
+        }))?;
+    }
+    Ok(all)
+}
+
+// Whether these are the indexes from 3,999 down to 0.
+fn is_falling(indexes: &[Option<usize>]) -> bool {
+    if indexes.len() != 4000 {
+        return false;
+    }
+    for (at, index) in indexes.iter().enumerate() {
+        if *index != Some(3999usize.saturating_sub(at)) {
+            return false;
+        }
+    }
+    true
+}
+
 #[test]
 fn reversed_rows_are_matched(rt: HostRuntime) -> Result<(), Fail> {
     let alloc = rt.alloc();
-    let mut rows = Vec::new(alloc);
-    let mut reversed = Vec::new(alloc);
-    for number in 0..4000i64 {
-        rows.push(Value::Int(number))?;
-        reversed.push(Value::Int(3999i64.saturating_sub(number)))?;
-    }
-    let found = matches(
-        alloc,
-        &siblings(alloc, &rows)?,
-        &siblings(alloc, &reversed)?,
-    )?;
-    assert_eq!(rt; found.len(), 4000usize);
-    for at in 0..4000usize {
-        assert_eq!(rt; found[at], Some(3999 - at));
-    }
+    let rows = numbers(alloc, false)?;
+    let reversed = numbers(alloc, true)?;
+    assert!(rt; is_falling(&indexes(alloc, &rows, &reversed)?));
     Ok(())
+}
+
+// Returns queues with the indexes 8 and 10 of `key` and 9 of the sibling without a key.
+fn three_siblings<'a>(alloc: Global, key: &'a Value) -> Result<SiblingQueues<'a>, NoMemory> {
+    let mut queues = SiblingQueues::new(alloc);
+    queues.push(alloc, SiblingKey::new(4, Some(key)), 8)?;
+    queues.push(alloc, SiblingKey::new(4, None), 9)?;
+    queues.push(alloc, SiblingKey::new(4, Some(key)), 10)?;
+    Ok(queues)
+}
+
+// Takes an index of `row` three times, and then one of the sibling without a key.
+fn take_four(queues: &mut SiblingQueues, row: &SiblingKey) -> [Option<usize>; 4] {
+    [
+        queues.take(row),
+        queues.take(&row.copy()),
+        queues.take(row),
+        queues.take(&SiblingKey::new(4, None)),
+    ]
 }
 
 #[test]
 fn queues_give_the_first_index_first(rt: HostRuntime) -> Result<(), Fail> {
-    let alloc = rt.alloc();
     let key = Value::Int(1);
-    let mut queues = SiblingQueues::new(alloc);
-    queues.push(alloc, SiblingKey::new(4, Some(&key)), 8)?;
-    queues.push(alloc, SiblingKey::new(4, None), 9)?;
-    queues.push(alloc, SiblingKey::new(4, Some(&key)), 10)?;
-    let row = SiblingKey::new(4, Some(&key));
-    assert_eq!(rt; queues.take(&row), Some(8usize));
-    assert_eq!(rt; queues.take(&row.copy()), Some(10usize));
-    assert_eq!(rt; queues.take(&row), None);
-    assert_eq!(rt; queues.take(&SiblingKey::new(4, None)), Some(9usize));
+    let mut queues = three_siblings(rt.alloc(), &key)?;
+    let taken = take_four(&mut queues, &SiblingKey::new(4, Some(&key)));
+    assert_eq!(rt;
+        taken.as_slice(),
+        [Some(8usize), Some(10), None, Some(9)].as_slice()
+    );
     Ok(())
 }

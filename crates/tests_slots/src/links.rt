@@ -1,37 +1,56 @@
 // Scopes that depend on objects.
 use read_links::Links;
+use rt_values::NoMemory;
+use std::alloc::Global;
 use std::test::Fail;
+
+// Returns the links of the scopes 1, 2 and 3 with their objects.
+fn three_scopes(alloc: Global) -> Result<Links, NoMemory> {
+    let rows: [(usize, &[u64]); 3] = [(1, &[7, 8, 7]), (2, &[8]), (3, &[8, 9, 8])];
+    let mut links = Links::new(alloc);
+    for (scope, objects) in &rows {
+        links.put(alloc, *scope, objects)?;
+    }
+    Ok(links)
+}
+
+// Whether these are the scopes of the object of each row.
+fn has_scopes(links: &Links, rows: &[(u64, &[usize])]) -> bool {
+    for (object, scopes) in rows {
+        if links.scopes_of(*object) != *scopes {
+            return false;
+        }
+    }
+    true
+}
 
 #[test]
 fn scopes_are_those_put_and_not_dropped(rt: HostRuntime) -> Result<(), Fail> {
     let alloc = rt.alloc();
-    let mut links = Links::new(alloc);
-    links.put(alloc, 1, &[7, 8, 7])?;
-    links.put(alloc, 2, &[8])?;
-    links.put(alloc, 3, &[8, 9, 8])?;
-    assert_eq!(rt; links.scopes_of(7), [1usize].as_slice());
-    assert_eq!(rt; links.scopes_of(8), [1usize, 2, 3].as_slice());
-    assert_eq!(rt; links.scopes_of(9), [3usize].as_slice());
-    assert_eq!(rt; links.scopes_of(6).len(), 0usize);
+    let mut links = three_scopes(alloc)?;
+    let all: [(u64, &[usize]); 4] = [(7, &[1]), (8, &[1, 2, 3]), (9, &[3]), (6, &[])];
+    assert!(rt; has_scopes(&links, &all));
     links.drop_scope(1);
-    assert_eq!(rt; links.scopes_of(7).len(), 0usize);
-    assert_eq!(rt; links.scopes_of(8), [2usize, 3].as_slice());
+    assert!(rt; has_scopes(&links, &[(7, &[]), (8, &[2, 3])]));
     links.put(alloc, 1, &[8])?;
-    assert_eq!(rt; links.scopes_of(8), [2usize, 3, 1].as_slice());
+    assert!(rt; has_scopes(&links, &[(8, &[2, 3, 1])]));
     Ok(())
 }
 
-#[test]
-fn reserved_pairs_are_put(rt: HostRuntime) -> Result<(), Fail> {
-    let alloc = rt.alloc();
+// Returns links for which capacity was reserved after the first scope, without this scope.
+fn reserved_scopes(alloc: Global) -> Result<Links, NoMemory> {
     let mut links = Links::new(alloc);
     links.put(alloc, 1, &[7])?;
     links.reserve(alloc, 4)?;
     links.put(alloc, 2, &[7, 8])?;
     links.drop_scope(1);
     links.put(alloc, 3, &[7, 9])?;
-    assert_eq!(rt; links.scopes_of(7), [2usize, 3].as_slice());
-    assert_eq!(rt; links.scopes_of(8), [2usize].as_slice());
-    assert_eq!(rt; links.scopes_of(9), [3usize].as_slice());
+    Ok(links)
+}
+
+#[test]
+fn reserved_pairs_are_put(rt: HostRuntime) -> Result<(), Fail> {
+    let links = reserved_scopes(rt.alloc())?;
+    assert!(rt; has_scopes(&links, &[(7, &[2, 3]), (8, &[2]), (9, &[3])]));
     Ok(())
 }

@@ -1,5 +1,5 @@
 // Calls between two node trees.
-use node_tree::{NodeRef, Op, place};
+use node_tree::{NodeRef, Op, Ops, place};
 use rt_groups::Attribute;
 use rt_values::{Value, Word};
 use std::alloc::{AllocError, Global};
@@ -68,13 +68,16 @@ fn line(alloc: Global, op: &Op) -> Result<String, AllocError> {
     }
 }
 
-// Returns the lines of the calls between two lists of rows, each with one blank after it.
+// Returns the calls between two lists of rows.
+fn calls(alloc: Global, old: &Rows, new: &Rows, nested: bool) -> Result<Ops, Fail> {
+    let old = nodes(alloc, old, nested)?;
+    let new = nodes(alloc, new, nested)?;
+    Ok(place(alloc, &old, &new)?)
+}
+
+// Returns the lines of the calls between two lists of rows, each with a semicolon after it.
 fn lines(alloc: Global, old: &Rows, new: &Rows, nested: bool) -> Result<String, Fail> {
-    let ops = place(
-        alloc,
-        &nodes(alloc, old, nested)?,
-        &nodes(alloc, new, nested)?,
-    )?;
+    let ops = calls(alloc, old, new, nested)?;
     let mut all = String::new(alloc);
     for op in ops.items() {
         all.push_str(line(alloc, op)?.as_str())?;
@@ -83,11 +86,25 @@ fn lines(alloc: Global, old: &Rows, new: &Rows, nested: bool) -> Result<String, 
     Ok(all)
 }
 
-// Whether the calls between these lists of rows have these lines. The rows have their numbers as items.
+// The numbers and the items of rows.
+type RowList<'a> = (&'a [u64], &'a [i64]);
+
+// Whether the calls between these lists of rows have these lines.
+fn has_lines(
+    alloc: Global,
+    (old, old_items): RowList,
+    (new, new_items): RowList,
+    nested: bool,
+    expected: &str,
+) -> Result<bool, Fail> {
+    let old = make_rows(alloc, old, old_items)?;
+    let new = make_rows(alloc, new, new_items)?;
+    Ok(lines(alloc, &old, &new, nested)?.as_str() == expected)
+}
+
+// Whether the calls between these lists of rows, all with the item 7, have these lines.
 fn keyed(alloc: Global, old: &[u64], new: &[u64], expected: &str) -> Result<bool, Fail> {
-    let old = make_rows(alloc, old, &[7; 8])?;
-    let new = make_rows(alloc, new, &[7; 8])?;
-    Ok(lines(alloc, &old, &new, false)?.as_str() == expected)
+    has_lines(alloc, (old, &[7; 8]), (new, &[7; 8]), false, expected)
 }
 
 #[test]
@@ -114,42 +131,28 @@ fn keyed_rows_are_removed_then_inserted_and_moved(rt: HostRuntime) -> Result<(),
 
 #[test]
 fn kept_rows_get_only_their_new_values(rt: HostRuntime) -> Result<(), Fail> {
-    let alloc = rt.alloc();
-    let old = make_rows(alloc, &[1, 2, 3], &[1, 2, 3])?;
-    let new = make_rows(alloc, &[1, 2, 3], &[3, 2, 1])?;
-    assert_eq!(rt;
-        lines(alloc, &old, &new, false)?.as_str(),
-        "down 0;set;up;down 2;set;up;"
-    );
+    let old: RowList = (&[1, 2, 3], &[1, 2, 3]);
+    let new: RowList = (&[1, 2, 3], &[3, 2, 1]);
+    let expected = "down 0;set;up;down 2;set;up;";
+    assert!(rt; has_lines(rt.alloc(), old, new, false, expected)?);
     Ok(())
 }
 
 #[test]
 fn nodes_inside_an_inserted_node_are_inserted_after_it(rt: HostRuntime) -> Result<(), Fail> {
-    let alloc = rt.alloc();
-    let none = make_rows(alloc, &[], &[])?;
-    let new = make_rows(alloc, &[1, 2, 3], &[1, 2, 3])?;
-    assert_eq!(rt;
-        lines(alloc, &none, &new, true)?.as_str(),
-        "insertTopDown 0 #1;down 0;insertTopDown 0 #2;insertTopDown 1 #3;up;"
-    );
+    let new: RowList = (&[1, 2, 3], &[1, 2, 3]);
+    let expected = "insertTopDown 0 #1;down 0;insertTopDown 0 #2;insertTopDown 1 #3;up;";
+    assert!(rt; has_lines(rt.alloc(), (&[], &[]), new, true, expected)?);
     Ok(())
 }
 
-// Returns the number of calls from one list of 4,000 rows to the next.
-fn count_calls(alloc: Global, old: &[u64], new: &[u64]) -> Result<usize, Fail> {
+// Returns at most 4,000 rows with these numbers and the item 0.
+fn equal_rows(alloc: Global, numbers: &[u64]) -> Result<Rows, Fail> {
     let mut items = Vec::new(alloc);
     for _ in 0..4000u32 {
         items.push(0)?;
     }
-    let old = make_rows(alloc, old, &items)?;
-    let new = make_rows(alloc, new, &items)?;
-    let ops = place(
-        alloc,
-        &nodes(alloc, &old, false)?,
-        &nodes(alloc, &new, false)?,
-    )?;
-    Ok(ops.len())
+    make_rows(alloc, numbers, &items)
 }
 
 // Returns the numbers from 1 to 4,000 from `first` on and then those before it, each times `factor` modulo 4,001.
@@ -162,17 +165,36 @@ fn spread(alloc: Global, first: u64, factor: u64) -> Result<Vec<u64>, Fail> {
     Ok(numbers)
 }
 
+// Returns 4,000 rows with the numbers of `spread`, or no row.
+fn spread_rows(alloc: Global, order: Option<(u64, u64)>) -> Result<Rows, Fail> {
+    match order {
+        Some((first, factor)) => equal_rows(alloc, &spread(alloc, first, factor)?),
+        None => equal_rows(alloc, &[]),
+    }
+}
+
+// Returns the number of calls from the rows of one order to those of the next.
+fn count_calls(
+    alloc: Global,
+    old: Option<(u64, u64)>,
+    new: Option<(u64, u64)>,
+) -> Result<usize, Fail> {
+    let old = spread_rows(alloc, old)?;
+    let new = spread_rows(alloc, new)?;
+    Ok(calls(alloc, &old, &new, false)?.len())
+}
+
 #[test]
 fn four_thousand_rows_are_filled_turned_shuffled_and_emptied(rt: HostRuntime) -> Result<(), Fail> {
     let alloc = rt.alloc();
-    let rising = spread(alloc, 0, 1)?;
-    let falling = spread(alloc, 0, 4000)?;
-    let shuffled = spread(alloc, 0, 1234)?;
-    let rotated = spread(alloc, 1, 1234)?;
-    assert_eq!(rt; count_calls(alloc, &[], &rising)?, 4000usize);
-    assert_eq!(rt; count_calls(alloc, &rising, &falling)?, 3999usize);
-    assert!(rt; count_calls(alloc, &falling, &shuffled)? < 4000);
-    assert_eq!(rt; count_calls(alloc, &shuffled, &rotated)?, 3999usize);
-    assert_eq!(rt; count_calls(alloc, &rotated, &[])?, 4000usize);
+    let rising = Some((0, 1));
+    let falling = Some((0, 4000));
+    let shuffled = Some((0, 1234));
+    let rotated = Some((1, 1234));
+    assert_eq!(rt; count_calls(alloc, None, rising)?, 4000usize);
+    assert_eq!(rt; count_calls(alloc, rising, falling)?, 3999usize);
+    assert!(rt; count_calls(alloc, falling, shuffled)? < 4000);
+    assert_eq!(rt; count_calls(alloc, shuffled, rotated)?, 3999usize);
+    assert_eq!(rt; count_calls(alloc, rotated, None)?, 4000usize);
     Ok(())
 }

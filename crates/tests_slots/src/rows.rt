@@ -1,7 +1,7 @@
 // The groups of a composition with one row for each key.
 use rt_groups::{Attribute, Attributes, Group, GroupKind, Values};
 use rt_values::{NoMemory, Objects, Value, Word};
-use slot_table::{SharedGroup, TableBuilder};
+use slot_table::{SharedGroup, Table, TableBuilder};
 use std::alloc::Global;
 
 // Appends a group with the number 9 that read object 7.
@@ -51,4 +51,9 @@ pub fn row_groups(alloc: Global, keys: &[i64]) -> Result<TableBuilder, NoMemory>
         append(alloc, &mut groups, 2, 3, row)?;
     }
     Ok(groups)
+}
+
+// Returns a table of the rows 1, 2 and 3.
+pub fn three_rows(alloc: Global) -> Result<Table, NoMemory> {
+    Table::from_groups(alloc, row_groups(alloc, &[1, 2, 3])?)
 }

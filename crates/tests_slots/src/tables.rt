@@ -1,7 +1,7 @@
 // A reader of a table.
-ghost use Rattle.std.specs.Prelude.{◌≡◌, ◌<◌};
+ghost use Rattle.std.specs.Prelude.{◌≡◌, ◌<◌, length};
 
-use crate::rows::row_groups;
+use crate::rows::three_rows;
 use rt_groups::GroupKind;
 use rt_values::{NoMemory, Steps, Value};
 use slot_table::{Reader, Table};
@@ -39,8 +39,28 @@ fn kind_code(kind: &GroupKind) -> i64 {
     }
 }
 
-// Opens the next group and appends its kind, its number, its first read and its first value, each as 0 if it is not
-// what the rows have, and closes the group if `closes`. Appends -9 if there is no next group.
+// Returns the kind, the number, the reads and the first value of the open group, each as 0 if it is not what the rows
+// have.
+fn open_values(reader: &Reader) -> [i64; 4]
+    requires { 0 < length reader.now.open_groups }
+{
+    [
+        kind_code(reader.kind()),
+        if reader.number() == 9 { 9 } else { 0 },
+        if reader.reads() == [7u64].as_slice() {
+            7
+        } else {
+            0
+        },
+        if reader.payload_count() == 0 {
+            0
+        } else {
+            int_of(reader.payload(0))
+        },
+    ]
+}
+
+// Opens the next group, appends its values, and closes the group if `closes`. Appends -9 if there is no next group.
 fn visit_next<L: Ledger>(
     reader: &mut Reader,
     steps: &mut Steps<L>,
@@ -52,18 +72,7 @@ fn visit_next<L: Ledger>(
         return Ok(());
     }
     reader.open_group(steps)?;
-    values.push(kind_code(reader.kind()))?;
-    values.push(if reader.number() == 9 { 9 } else { 0 })?;
-    values.push(if reader.reads() == [7u64].as_slice() {
-        7
-    } else {
-        0
-    })?;
-    values.push(if reader.payload_count() == 0 {
-        0
-    } else {
-        int_of(reader.payload(0))
-    })?;
+    values.extend_from_slice(&open_values(reader))?;
     if closes {
         reader.close_group();
     }
@@ -96,7 +105,7 @@ fn values_read<L: Ledger>(alloc: Global, table: &Table, blank: Blank) -> Result<
 #[test]
 fn reader_opens_and_skips_groups(rt: HostRuntime) -> Result<(), Fail> {
     let alloc = rt.alloc();
-    let table = Table::from_groups(alloc, row_groups(alloc, &[1, 2, 3])?)?;
+    let table = three_rows(alloc)?;
     assert_eq!(rt; table.len(), 7usize);
     let values = values_read::<Brand>(alloc, &table, Blank::new(1))?;
     // The root with its argument; the keys of rows 1 and 2; row 2 with its key; the node with its attribute; no next
@@ -108,15 +117,24 @@ fn reader_opens_and_skips_groups(rt: HostRuntime) -> Result<(), Fail> {
     Ok(())
 }
 
+// Whether these are the indexes after the groups of a table, and no other.
+fn has_indexes_after(table: &Table, expected: &[usize]) -> bool {
+    if table.len() != expected.len() {
+        return false;
+    }
+    for (at, index) in expected.iter().enumerate() {
+        if at >= table.len() || table.index_after(at) != *index {
+            return false;
+        }
+    }
+    true
+}
+
 #[test]
 fn indexes_after_groups_skip_what_is_inside(rt: HostRuntime) -> Result<(), Fail> {
     let alloc = rt.alloc();
-    let table = Table::from_groups(alloc, row_groups(alloc, &[1, 2, 3])?)?;
-    assert_eq!(rt; table.len(), 7usize);
-    let expected = [7usize, 3, 3, 5, 5, 7, 7];
-    for at in 0..7 {
-        assert_eq!(rt; table.index_after(at), expected[at]);
-    }
+    let table = three_rows(alloc)?;
+    assert!(rt; has_indexes_after(&table, &[7, 3, 3, 5, 5, 7, 7]));
     assert_eq!(rt; Table::new(alloc).len(), 0usize);
     Ok(())
 }
