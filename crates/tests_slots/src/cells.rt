@@ -3,8 +3,9 @@ use remember_cells::{Cell, CellAnswer, cell};
 use rt_values::Value;
 use std::test::Fail;
 
-// Returns the answers of `cell`: for an old cell with these keys and four lists of new keys, of which the first has
-// equal keys, without an old cell, and for an old cell and a new one without keys.
+// Returns six answers of `cell`. In the first four the old cell has `keys`, and the new keys are the same, the first two
+// of `others`, the first of `others`, and all of `others`. In the fifth there is no old cell. In the last neither cell
+// has keys.
 fn answers<'a>(value: &'a Value, keys: &'a [Value], others: &[Value; 3]) -> [CellAnswer; 6] {
     let old = Cell { keys, value };
     let none = Cell { keys: &[], value };

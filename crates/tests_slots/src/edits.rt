@@ -7,7 +7,7 @@ use slot_table::Table;
 use std::alloc::Global;
 use std::test::Fail;
 
-// Returns anchors at the key groups 1, 2 and 3 of a table of rows and at row 3.
+// Returns anchors at the three keys of a table of rows and at its last node.
 fn mark_rows(alloc: Global) -> Result<Anchors, NoMemory> {
     let mut anchors = Anchors::new(alloc);
     for group in [1, 3, 5, 6] {
@@ -29,7 +29,7 @@ fn apply_patch(table: &mut Table, anchors: &mut Anchors, patch: Patch) -> Result
     Ok(())
 }
 
-// Changes a table of the rows 1, 2 and 3 to these rows. Returns the number of groups after the patch.
+// Patches a table of the rows 1, 2 and 3 to these rows. Returns the number of groups afterwards.
 fn patch_rows(
     alloc: Global,
     anchors: &mut Anchors,

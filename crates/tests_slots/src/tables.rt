@@ -79,7 +79,7 @@ fn visit_next<L: Ledger>(
     Ok(())
 }
 
-// Reads a table of the rows 1, 2 and 3: opens the root, skips row 1, opens row 2 and the node inside it, and closes
+// Reads a table of three rows: opens the root, skips the first row, opens the second and the node inside it, and closes
 // the node.
 fn values_read<L: Ledger>(alloc: Global, table: &Table, blank: Blank) -> Result<Vec<i64>, NoMemory>
     requires name { blank.name ≡ L.name }
@@ -108,8 +108,8 @@ fn reader_opens_and_skips_groups(rt: HostRuntime) -> Result<(), Fail> {
     let table = three_rows(alloc)?;
     assert_eq!(rt; table.len(), 7usize);
     let values = values_read::<Brand>(alloc, &table, Blank::new(1))?;
-    // The root with its argument; the keys of rows 1 and 2; row 2 with its key; the node with its attribute; no next
-    // group.
+    // The root with its argument; the keys of the first two rows; the second row with its key; the node with its
+    // attribute; no next group.
     assert_eq!(rt;
         values.as_slice(),
         [1i64, 9, 7, -1, 1, 2, 3, 9, 7, 2, 2, 9, 7, 2, -9].as_slice()
