@@ -6,8 +6,8 @@
 //! `remove` gives one back.
 #![tactic(auto)]
 
-ghost use Rattle.std.specs.Prelude.{◌≡◌, ◌≤◌, ◌<◌, ◌+◌, ◌++◌, [], length, slice_index_or, slice_set, OnOk};
-ghost use Rattle.std.specs.List.{insert, remove};
+ghost use Rattle.std.specs.Prelude.{◌≡◌, ◌≤◌, ◌<◌, ◌+◌, ◌++◌, [], length, take, slice_index_or, slice_set, OnOk};
+ghost use Rattle.std.specs.List.{insert, remove, swap};
 ghost use Rattle.gap_buffer.specs.Buffer.{exchanged_list, list_after_move};
 
 use std::alloc::{AllocError, Global};
@@ -82,6 +82,25 @@ impl<T> GapBuf<T> {
         ensures spare { self.new.spare ≡ self.old.spare }
     {
         self.items[i] = v;
+    }
+
+    /// Exchanges the items at indexes `i` and `j`.
+    pub fn swap(&mut self, i: usize, j: usize)
+        requires first { i < length self.old.items }
+        requires second { j < length self.old.items }
+        ensures items { self.new.items ≡ swap self.old.items i j }
+        ensures spare { self.new.spare ≡ self.old.spare }
+    {
+        self.items.swap(i, j);
+    }
+
+    /// Keeps the first `n` items and drops the others.
+    pub fn truncate(&mut self, n: usize)
+    where
+        T: Drop,
+        ensures { self.new.items ≡ take n self.old.items }
+    {
+        self.items.truncate(n);
     }
 
     /// Makes the spare capacity at least `n`. After an error the list is unchanged.

@@ -4,7 +4,7 @@ use Rattle.std.proofs.lemmas.List.{take-append-drop, length-take-le, take_all, d
 use Rattle.std.proofs.Math.Seq.{set-append_seam, get_or-append_seam, take-append_seam, drop-append_seam, take-suc}
 use Rattle.rt_groups.specs.declared.groups.Group.{Group}
 use Rattle.slot_table.specs.TableGroups.{group_at}
-use Rattle.slot_table.specs.declared.changes.KeptRun.{KeptRun}
+use Rattle.slot_table.specs.declared.runs.KeptRun.{KeptRun}
 use Rattle.slot_table.specs.KeptRuns.{run_groups, patched, gaps, AreInside, HaveOwnIndexes, ArePlaces, IsWritten, set_all, KeepDepths}
 use Rattle.slot_table.proofs.KeptRuns.{long_patched}
 

@@ -6,7 +6,7 @@ use Rattle.rt_groups.specs.declared.groups.Group.{Group}
 use Rattle.slot_table.proofs.GroupRuns.{run_grows}
 use Rattle.slot_table.specs.TableGroups.{group_at, is_node_kind, with_reads}
 use Rattle.slot_table.specs.ChangeLists.{ChangedGroups, nodes_in}
-use Rattle.slot_table.specs.declared.changes.KeptRun.{KeptRun}
+use Rattle.slot_table.specs.declared.runs.KeptRun.{KeptRun}
 use Rattle.slot_table.specs.KeptRuns.{run_groups, patched, gaps, AreInside, ArePlaces, IsWritten, IsRunAdded}
 
 drop_last : (k : ℕ) (gs : List Group) (g : Group) → k ≤ length gs → drop k (gs ++ g ∷ []) ≡ drop k gs ++ g ∷ []

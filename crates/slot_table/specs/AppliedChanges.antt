@@ -1,8 +1,8 @@
--- Internal: the two forms of a change list and of its preview. No public clause cites this module.
-use Rattle.std.specs.Prelude.{◌≡◌, List, length}
+-- Internal: the forms of a change list and of its preview. No public clause cites this module.
+use Rattle.std.specs.Prelude.{◌≡◌, ◌<◌, ◌^◌, List, length}
 use Rattle.rt_groups.specs.declared.groups.Group.{Group}
 use Rattle.slot_table.specs.TableGroups.{TableGroups}
-use Rattle.slot_table.specs.KeptRuns.{set_all, KeepDepths}
+use Rattle.slot_table.specs.KeptRuns.{set_all, KeepDepths, patched, IsShrunk}
 use Rattle.slot_table.specs.declared.changes.Change.{Change}
 use Rattle.slot_table.specs.declared.changes.Change.TheVariants as change
 use Rattle.slot_table.specs.declared.changes.PreviewForm.{PreviewForm}
@@ -12,11 +12,13 @@ use Rattle.slot_table.specs.declared.changes.PreviewForm.TheVariants as form
 abbrev pub changed_groups : List Group → Change → List Group
 changed_groups olds (change.Whole table) = table.groups
 changed_groups olds (change.InPlace fresh places) = set_all olds places.items fresh
+changed_groups olds (change.Shrunk fresh runs len) = patched olds fresh runs.items
 
--- Groups that are changed in place keep their depths.
+-- Groups that are changed in place keep their depths. Kept groups of a table that shrinks do not move to later indexes.
 abbrev pub IsChange : List Group → Change → Type 0
 IsChange olds (change.Whole table) = Unit {0}
 IsChange olds (change.InPlace fresh places) = (length places.items ≡ length fresh) × KeepDepths olds places.items fresh
+IsChange olds (change.Shrunk fresh runs len) = IsShrunk olds fresh runs.items len × (len < 2 ^ 32)
 
 -- The table of a preview.
 abbrev pub preview_table : PreviewForm → TableGroups

@@ -3,15 +3,15 @@ use Rattle.std.specs.Prelude.{ℕ, ◌+◌, ◌-◌, ◌≡◌, ◌≤◌, ◌<�
 use Rattle.rt_groups.specs.declared.groups.Group.{Group}
 use Rattle.slot_table.specs.TableGroups.{group_at}
 use Rattle.slot_table.specs.ChangeLists.{nodes_in}
-use Rattle.slot_table.specs.declared.changes.KeptRun.{KeptRun}
+use Rattle.slot_table.specs.declared.runs.KeptRun.{KeptRun}
 
--- The old groups of a run.
-abbrev pub run_groups : List Group → KeptRun → List Group
+-- The old groups of a run, or their heads or slots.
+abbrev pub run_groups : {X : Type 0} → List X → KeptRun → List X
 run_groups olds r = take (r.to - r.from) (drop r.from olds)
 
--- The groups of the new frame: before each run its number of new groups, then the old groups of the run, and after the
--- last run the other new groups.
-abbrev pub patched : List Group → List Group → List KeptRun → List Group
+-- The groups of the new frame, or their heads or slots: before each run its number of new groups, then the old groups
+-- of the run, and after the last run the other new groups.
+abbrev pub patched : {X : Type 0} → List X → List X → List KeptRun → List X
 patched olds fresh [] = fresh
 patched olds fresh (r ∷ rs) = take r.gap fresh ++ (run_groups olds r ++ patched olds (drop r.gap fresh) rs)
 
@@ -21,7 +21,7 @@ gaps [] = 0
 gaps (r ∷ rs) = r.gap + gaps rs
 
 -- Each run is inside the old groups.
-abbrev pub AreInside : List Group → List KeptRun → Type 0
+abbrev pub AreInside : {X : Type 0} → List X → List KeptRun → Type 0
 AreInside olds [] = Unit {0}
 AreInside olds (r ∷ rs) = (r.from ≤ r.to) × (r.to ≤ length olds) × AreInside olds rs
 
@@ -29,6 +29,22 @@ AreInside olds (r ∷ rs) = (r.from ≤ r.to) × (r.to ≤ length olds) × AreIn
 abbrev pub HaveOwnIndexes : ℕ → List KeptRun → Type 0
 HaveOwnIndexes at [] = Unit {0}
 HaveOwnIndexes at (r ∷ rs) = (r.from ≡ at + r.gap) × HaveOwnIndexes r.to rs
+
+-- No kept group moves to a later index, and the runs are in the order of the old groups. There are `at` groups of the
+-- new frame before the runs, and the runs are after the first `past` old groups.
+abbrev pub MoveDown : ℕ → ℕ → List KeptRun → Type 0
+MoveDown at past [] = Unit {0}
+MoveDown at past (r ∷ rs) =
+    (past ≤ r.from) × (at + r.gap ≤ r.from) × MoveDown (at + r.gap + (r.to - r.from)) r.to rs
+
+-- The old groups become the groups of the new frame by moving kept groups to earlier indexes only. There are `len`
+-- groups in the new frame, and no more than before.
+pub record IsShrunk {X : Type 0} (olds fresh : List X) (rs : List KeptRun) (len : ℕ) : Type 0 where
+  pub inside : AreInside olds rs
+  pub gaps_fit : gaps rs ≤ length fresh
+  pub down : MoveDown 0 0 rs
+  pub len_is : len ≡ length (patched olds fresh rs)
+  pub fewer : len ≤ length olds
 
 -- Each of `n` new groups is at its place in the new frame, whatever the new groups are.
 abbrev pub ArePlaces : List Group → List KeptRun → ℕ → List ℕ → Type 0

@@ -1,26 +1,18 @@
 // The changes that take a table to the groups of a new frame.
-ghost use Rattle.std.specs.Prelude.{◌≡◌, ◌≤◌, ◌<◌, ◌-◌, ◌++◌, ◌∷◌, [], List, length, map, drop, take, slice_set, slice_index_or, true, false, IfOk, IfSome, OnOk, OnErr};
+ghost use Rattle.std.specs.Prelude.{◌≡◌, ◌≤◌, ◌<◌, ◌-◌, ◌^◌, ◌++◌, ◌∷◌, [], List, length, map, drop, take, slice_set, slice_index_or, true, false, IfOk, IfSome, OnOk, OnErr};
 ghost use Rattle.rt_groups.specs.declared.groups.Group.{Group as group_data};
 ghost use Rattle.slot_table.specs.TableGroups.{group_at, with_reads};
 ghost use Rattle.slot_table.specs.ChangeLists.{nodes_in};
-ghost use Rattle.slot_table.specs.KeptRuns.{patched, gaps, AreInside, HaveOwnIndexes, IsRunAdded, set_all, KeepDepths};
+ghost use Rattle.slot_table.specs.KeptRuns.{patched, gaps, AreInside, HaveOwnIndexes, IsRunAdded, set_all, KeepDepths, MoveDown};
 
 use crate::groups_before::GroupsBefore;
+use crate::runs::KeptRun;
 use crate::storage::{SharedGroup, TableBuilder, make_room};
 use crate::table::Table;
 use rt_groups::Deps;
 use rt_values::{NoMemory, ObjectNo};
 use std::alloc::Global;
 use std::marker::Model;
-
-// Groups of the table that stay: those from index `from` to before index `to`.
-#[derive(Clone, Copy)]
-struct KeptRun {
-    // The number of new groups between the previous run and this run.
-    gap: usize,
-    from: usize,
-    to: usize,
-}
 
 /// Writes the groups of a new frame in preorder, as changes of a table (`ComposerChangeListWriter`). Groups of the
 /// table that stay are not copied, and the other groups are new.
@@ -157,8 +149,9 @@ impl<'t> ChangeListWriter<'t> {
     }
 
     /// Returns the changes. Changes only the new groups if each kept group keeps its index and each new group has the
-    /// depth of the old group at its index. Else the changes have a whole new table, which shares the slots of kept
-    /// groups. Takes time linear in the number of new groups and of kept runs, or in the number of groups.
+    /// depth of the old group at its index. Shrinks the table if there are fewer groups than before and no kept group
+    /// moves to a later index. Else the changes have a whole new table, which shares the slots of kept groups. Takes
+    /// time linear in the number of new groups and of kept runs, or for a whole new table in the number of groups.
     pub fn into_change_list(self, alloc: Global) -> Result<ChangeList, NoMemory>
         ensures { IfOk result (λ c. c ≡ self.entry) }
     {
@@ -169,6 +162,10 @@ impl<'t> ChangeListWriter<'t> {
         }
         if fits_in_place(self.table, &self.fresh, &self.places, &self.runs, self.len) {
             let change = Change::InPlace(self.fresh, self.places);
+            return Ok(ChangeList { olds, change });
+        }
+        if shrinks(self.table, &self.runs, self.len) {
+            let change = Change::Shrunk(self.fresh, self.runs, self.len);
             return Ok(ChangeList { olds, change });
         }
         let whole = share_table(alloc, self.table, &self.fresh, &self.runs, self.len)?;
@@ -303,6 +300,34 @@ fn keeps_depth(table: &Table, place: usize, depth: u32) -> bool
     place < table.len() && table.depth(place) == depth
 }
 
+// Returns whether the table can be shrunk: there are fewer groups than before, their number fits in 32 bits, and no kept
+// group moves to a later index. `len` is the number of groups of the new frame.
+fn shrinks(table: &Table, runs: &[KeptRun], len: usize) -> bool
+    requires { AreInside table.now.groups runs.now }
+    ensures fewer { result ≡ true → len < length table.now.groups }
+    ensures small { result ≡ true → len < 2 ^ 32 }
+    ensures down { result ≡ true → MoveDown 0 0 runs.now }
+{
+    len < table.len() && len <= u32::MAX as usize && move_down(table, runs)
+}
+
+// Returns whether no kept group moves to a later index, and each run is after the previous run in the table too.
+fn move_down(table: &Table, runs: &[KeptRun]) -> bool
+    requires { AreInside table.now.groups runs.now }
+    ensures { result ≡ true → MoveDown 0 0 runs.now }
+{
+    let mut at = 0;
+    let mut past = 0;
+    for run in runs {
+        if run.from < past || run.from - at < run.gap {
+            return false;
+        }
+        at += run.gap + (run.to - run.from);
+        past = run.to;
+    }
+    true
+}
+
 // Returns the table of the groups of the new frame, which share their slots. `len` is their number.
 fn share_table(
     alloc: Global,
@@ -342,13 +367,16 @@ fn share_all(
     fresh.share_run(next, len, groups)
 }
 
-// The two forms of changes.
+// The three forms of changes.
 #[derive(Drop)]
 enum Change {
     // A whole new table.
     Whole(Table),
     // New groups, and for each the index of the old group that the new group replaces.
     InPlace(TableBuilder, Vec<usize>),
+    // New groups, the runs of groups that stay, and the number of groups of the new frame. No kept group moves to a
+    // later index.
+    Shrunk(TableBuilder, Vec<KeptRun>, usize),
 }
 
 /// Changes that take a table to the groups of a new frame (`ChangeList`).
@@ -384,6 +412,9 @@ impl ChangeList {
                 set_sharing(&mut all, fresh, places)?;
                 PreviewForm::Made(Table::from_groups(alloc, all)?)
             }
+            Change::Shrunk(fresh, runs, len) => {
+                PreviewForm::Made(share_table(alloc, table, fresh, runs, *len)?)
+            }
         };
         Ok(Preview { form })
     }
@@ -391,7 +422,7 @@ impl ChangeList {
     /// Returns whether the new frame has the same number of groups as `table`, and each group has
     /// the reads of the group of `table` at its index. Takes no memory. Takes time linear in the
     /// number of new groups and their reads if only new groups change, and else in the number of
-    /// all groups and their reads.
+    /// all groups and their reads. A table that shrinks has fewer groups, so the answer is `false`.
     pub fn keeps_reads(&self, table: &Table) -> bool
         requires { table.now.groups ≡ self.now.olds }
         ensures { result ≡ true →
@@ -400,6 +431,7 @@ impl ChangeList {
         match &self.change {
             Change::Whole(other) => have_same_reads(table, other),
             Change::InPlace(fresh, places) => keep_reads_in_place(table, fresh, places),
+            Change::Shrunk(_, _, _) => false,
         }
     }
 }
@@ -502,7 +534,8 @@ impl<'c> Preview<'c> {
 
 impl Table {
     /// Changes the groups to those of the new frame (`executeAndFlushAllPendingChanges`). Takes no memory. Takes time
-    /// linear in the number of new groups if only new groups change, and else the time of dropping the old table.
+    /// linear in the number of new groups if only new groups change, and in the number of old groups if the table
+    /// shrinks. Else takes the time of dropping the old table.
     pub fn apply(&mut self, changes: ChangeList)
         requires { changes.olds ≡ self.old.groups }
         ensures { self.new.groups ≡ changes.news }
@@ -511,6 +544,7 @@ impl Table {
         match change {
             Change::Whole(table) => *self = table,
             Change::InPlace(fresh, places) => self.set_groups(fresh, places),
+            Change::Shrunk(fresh, runs, len) => self.shrink(fresh, &runs, len),
         }
     }
 

@@ -15,6 +15,7 @@ ghost use Rattle.slot_table.specs.Siblings.{SkippingLeavesTheSiblings};
 mod changes;
 mod groups_before;
 mod reader;
+mod runs;
 mod storage;
 mod table;
 

@@ -541,10 +541,10 @@ impl TableBuilder {
     }
 
     // Returns the parts of all groups.
-    pub(crate) fn into_parts(self) -> (GapBuf<PackedHead>, GapBuf<Slots>)
+    pub(crate) fn into_parts(self) -> (Vec<PackedHead>, Vec<Slots>)
         ensures { AreParts result.0.items result.1.items self }
     {
         let TableBuilder { heads, slots } = self;
-        (GapBuf::from_vec(heads), GapBuf::from_vec(slots))
+        (heads, slots)
     }
 }

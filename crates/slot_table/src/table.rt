@@ -1,12 +1,14 @@
 // The groups of a composition.
-ghost use Rattle.std.specs.Prelude.{◌≡◌, ◌≤◌, ◌<◌, ◌+◌, ◌-◌, ◌++◌, ◌∷◌, [], List, length, drop, take, slice_index_or, slice_set, IfOk, OnOk};
+ghost use Rattle.std.specs.Prelude.{◌≡◌, ◌≤◌, ◌<◌, ◌+◌, ◌-◌, ◌^◌, ◌++◌, ◌∷◌, [], List, length, drop, take, slice_index_or, slice_set, IfOk, OnOk};
 ghost use Rattle.rt_groups.specs.declared.groups.Group.{Group as group_data};
 ghost use Rattle.slot_table.specs.TableGroups.{group_at, is_node_kind};
 ghost use Rattle.rt_groups.specs.PreorderGroups.{flat_group};
 ghost use Rattle.slot_table.specs.ChangeLists.{nodes_in};
 ghost use Rattle.slot_table.specs.ReaderStates.{after_deep};
-ghost use Rattle.slot_table.specs.InnerCounts.{leading_deep, inner_counts};
+ghost use Rattle.slot_table.specs.InnerCounts.{leading_deep, inner_counts, bare_groups};
+ghost use Rattle.slot_table.specs.KeptRuns.{patched, IsShrunk};
 
+use crate::runs::{KeptRun, shrink_items};
 use crate::storage::{PackedHead, SharedGroup, Slots, TableBuilder};
 use gap_buffer::GapBuf;
 use rt_groups::GroupKind;
@@ -60,11 +62,12 @@ impl Table {
     {
         let mut groups = groups;
         groups.give_back_spare();
+        let (heads, slots) = groups.into_parts();
+        let groups = GapBuf::from_vec(heads);
         let counts = count_all_inside(alloc, &groups)?;
-        let (groups, slots) = groups.into_parts();
         Ok(Table {
             groups,
-            slots,
+            slots: GapBuf::from_vec(slots),
             counts,
         })
     }
@@ -218,6 +221,20 @@ impl Table {
         self.slots.set(i, slots);
     }
 
+    // Removes the groups that no run keeps, and puts the new groups before, between and after the runs. `len` is the
+    // number of groups afterwards. Takes no memory.
+    pub(crate) fn shrink(&mut self, fresh: TableBuilder, runs: &[KeptRun], len: usize)
+        requires shrunk { IsShrunk self.old.groups fresh runs.now len }
+        requires small { len < 2 ^ 32 }
+        ensures { self.new.groups ≡ patched self.old.groups fresh runs.now }
+    {
+        let (heads, slots) = fresh.into_parts();
+        shrink_items(&mut self.groups, heads, runs, len);
+        shrink_items(&mut self.slots, slots, runs, len);
+        self.counts.truncate(len);
+        set_counts(&self.groups, &mut self.counts);
+    }
+
     /// Returns the index after the group at index `i` and all groups inside it.
     #[tactic(auto, using(crate::proofs::InnerCounts::length_counts))]
     pub fn index_after(&self, i: usize) -> usize
@@ -231,18 +248,28 @@ impl Table {
     }
 }
 
-// Counts the groups inside the group at index `i`. The counts of the groups after it are known.
-fn count_inside(groups: &TableBuilder, counts: &[u32], i: usize) -> usize
-    requires inside { i < length groups.now }
-    requires long { length counts.now ≡ length groups.now }
-    requires after { drop (i + 1) counts.now ≡ inner_counts (drop (i + 1) groups.now) }
-    ensures { (g : group_data) (rest : List group_data) → drop i groups.now ≡ g ∷ rest →
-        result ≡ length (leading_deep (g.depth + 1) rest) }
+// Returns the depth of the head at index `i`.
+#[inline(always)]
+fn depth_at(heads: &GapBuf<PackedHead>, i: usize) -> u32
+    requires { i < length heads.now.items }
+    ensures { result ≡ (group_at (bare_groups heads.now.items) i).depth }
 {
-    let depth = groups.depth(i);
+    heads.get(i).depth()
+}
+
+// Counts the groups inside the group at index `i`. The counts of the groups after it are known.
+fn count_inside(heads: &GapBuf<PackedHead>, counts: &[u32], i: usize) -> usize
+    requires inside { i < length heads.now.items }
+    requires long { length counts.now ≡ length heads.now.items }
+    requires after { drop (i + 1) counts.now ≡ inner_counts (drop (i + 1) (bare_groups heads.now.items)) }
+    ensures count { (g : group_data) (rest : List group_data) → drop i (bare_groups heads.now.items) ≡ g ∷ rest →
+        result ≡ length (leading_deep (g.depth + 1) rest) }
+    ensures fewer { result < length heads.now.items }
+{
+    let depth = depth_at(heads, i);
     let mut next = i + 1;
-    while next < groups.len() {
-        if groups.depth(next) <= depth {
+    while next < heads.len() {
+        if depth_at(heads, next) <= depth {
             return next - i - 1;
         }
         next = next + 1 + counts[next] as usize;
@@ -250,19 +277,29 @@ fn count_inside(groups: &TableBuilder, counts: &[u32], i: usize) -> usize
     next - i - 1
 }
 
-// Counts for each group the groups inside it, from the last group to the first. Returns `NoMemory` for 2^32 groups or
-// more inside one: no memory holds them.
-fn count_all_inside(alloc: Global, groups: &TableBuilder) -> Result<Vec<u32>, NoMemory>
-    ensures { IfOk result (λ counts. counts.items ≡ inner_counts groups.now) }
+// Counts for each group the groups inside it, from the last group to the first.
+fn set_counts(heads: &GapBuf<PackedHead>, counts: &mut [u32])
+    requires long { length counts.old ≡ length heads.now.items }
+    requires small { length heads.now.items ≤ 2 ^ 32 }
+    ensures { counts.new ≡ inner_counts (bare_groups heads.now.items) }
 {
-    let mut at = groups.len();
-    let mut counts = vec![in alloc; 0; at]?;
+    let mut at = heads.len();
     while 0 < at {
         at -= 1;
-        let Ok(count) = u32::try_from(count_inside(groups, &counts, at)) else {
-            return Err(NoMemory);
-        };
-        counts[at] = count;
+        counts[at] = count_inside(heads, counts, at) as u32;
     }
+}
+
+// Returns for each group the number of groups inside it. Returns `NoMemory` for 2^32 groups or more: no memory holds
+// them.
+fn count_all_inside(alloc: Global, heads: &GapBuf<PackedHead>) -> Result<Vec<u32>, NoMemory>
+    ensures { IfOk result (λ counts. counts.items ≡ inner_counts (bare_groups heads.now.items)) }
+{
+    let len = heads.len();
+    if len > u32::MAX as usize {
+        return Err(NoMemory);
+    }
+    let mut counts = vec![in alloc; 0; len]?;
+    set_counts(heads, &mut counts);
     Ok(counts)
 }

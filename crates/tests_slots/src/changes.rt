@@ -126,7 +126,10 @@ fn changes_keep_move_and_replace_groups(rt: HostRuntime) -> Result<(), Fail> {
     let deeper: &[i64] = &[0, 8, 0, 2, 0, 3, 8];
     let read_other: &[i64] = &[0, 1, 0, 9, 0, 3, 0];
     let moved_other: &[i64] = &[0, 3, 0, 9, 0, 2, 0];
-    let rows: [(&[(usize, usize)], &[i64], bool); 9] = [
+    let moved_fewer: &[i64] = &[0, 3, 0, 1, 0];
+    let repeated: &[i64] = &[0, 1, 0, 1, 0];
+    let pushed_later: &[i64] = &[0, 8, 9, 1, 0];
+    let rows: [(&[(usize, usize)], &[i64], bool); 12] = [
         (&[(0, 7)], all, true),
         (&[(0, 3), (3, 7)], all, true),
         (&[(0, 3), (1, 1), (4, 7)], replaced, true),
@@ -136,9 +139,82 @@ fn changes_keep_move_and_replace_groups(rt: HostRuntime) -> Result<(), Fail> {
         (&[(0, 1), (5, 7), (3, 3), (2, 5)], moved_other, false),
         (&[(0, 5), (1, 1), (5, 7)], inserted, false),
         (&[(0, 1), (1, 1), (2, 6), (1, 1)], deeper, true),
+        (&[(0, 1), (5, 7), (1, 3)], moved_fewer, false),
+        (&[(0, 3), (1, 3)], repeated, false),
+        (&[(0, 1), (1, 1), (3, 3), (1, 3)], pushed_later, false),
     ];
     for (runs, keys, keep) in &rows {
         assert!(rt; has_changes(alloc, runs, keys, *keep)?);
+    }
+    Ok(())
+}
+
+#[test]
+fn changes_shrink_the_table(rt: HostRuntime) -> Result<(), Fail> {
+    let alloc = rt.alloc();
+    let removed: &[i64] = &[0, 2, 0, 3];
+    let replaced: &[i64] = &[0, 8, 0, 3, 0];
+    let first: &[i64] = &[8, 0, 2, 0];
+    let ended: &[i64] = &[0, 2, 0, 8];
+    let cut: &[i64] = &[0, 1, 0];
+    let deeper: &[i64] = &[0, 1, 0, 0, 3, 0];
+    let new: &[i64] = &[8, 0, 9, 0, 8];
+    let rows: [(&[(usize, usize)], &[i64]); 7] = [
+        (&[(0, 1), (3, 6)], removed),
+        (&[(0, 1), (1, 1), (4, 7)], replaced),
+        (&[(1, 1), (2, 5)], first),
+        (&[(0, 1), (3, 5), (1, 1)], ended),
+        (&[(0, 3)], cut),
+        (&[(0, 3), (4, 7)], deeper),
+        (&[(1, 1), (2, 3), (3, 3), (6, 7), (1, 1)], new),
+    ];
+    for (runs, keys) in &rows {
+        assert!(rt; has_changes(alloc, runs, keys, false)?);
+    }
+    Ok(())
+}
+
+// Whether the table and the table of the preview of its changes to the groups of `runs` skip to the
+// same index at each group.
+fn skips_as_previewed(
+    alloc: Global,
+    runs: &[(usize, usize)],
+    ends: &[usize],
+) -> Result<bool, NoMemory> {
+    let mut table = three_rows(alloc)?;
+    let changes = changes_to_rows(alloc, &table, runs)?;
+    let is_previewed = {
+        let preview = changes.preview(alloc, &table)?;
+        has_ends(preview.table(), ends)
+    };
+    table.apply(changes);
+    Ok(is_previewed && has_ends(&table, ends))
+}
+
+// Whether these are the indexes after the groups and all groups inside them.
+fn has_ends(table: &Table, ends: &[usize]) -> bool {
+    if table.len() != ends.len() {
+        return false;
+    }
+    for (index, end) in ends.iter().enumerate() {
+        if index >= table.len() || table.index_after(index) != *end {
+            return false;
+        }
+    }
+    true
+}
+
+#[test]
+fn shrunk_table_counts_again(rt: HostRuntime) -> Result<(), Fail> {
+    let alloc = rt.alloc();
+    let joined: &[usize] = &[6, 4, 3, 4, 6, 6];
+    let without_root: &[usize] = &[2, 2, 4, 4];
+    let rows: [(&[(usize, usize)], &[usize]); 2] = [
+        (&[(0, 3), (4, 7)], joined),
+        (&[(1, 5)], without_root),
+    ];
+    for (runs, ends) in &rows {
+        assert!(rt; skips_as_previewed(alloc, runs, ends)?);
     }
     Ok(())
 }
