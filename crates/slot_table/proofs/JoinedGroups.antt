@@ -107,6 +107,17 @@ long_last : (hs : List GroupHead) (ss : List GroupSlots) (h : GroupHead) (s : Gr
 long_last hs ss h s e = let one = length-append hs (h ∷ []) in let other = length-append ss (s ∷ []) in
     omega (arith, one, other, e)
 
+-- Equal heads and equal slots are parts of the same groups.
+pub same_parts : (hs hs' : List GroupHead) (ss ss' : List GroupSlots) (gs : List Group) → hs' ≡ hs → ss' ≡ ss
+    → AreParts hs ss gs → AreParts hs' ss' gs
+same_parts hs hs' ss ss' gs eh es parts =
+    subst (λ l. AreParts l ss' gs) (sym eh) (subst (λ l. AreParts hs l gs) (sym es) parts)
+
+-- There are as many heads as groups.
+pub heads_long : (hs : List GroupHead) (ss : List GroupSlots) (gs : List Group) → AreParts hs ss gs
+    → length hs ≡ length gs
+heads_long hs ss gs parts = sym (joined_count hs ss parts.long) ∙ ap (λ l. length l) parts.joined
+
 -- A group is appended by appending its head and its slots.
 pub parts_after : (hs : List GroupHead) (ss : List GroupSlots) (gs : List Group) (h : GroupHead) (s : GroupSlots)
     → AreParts hs ss gs → h.is_node ≡ is_node_kind s.what

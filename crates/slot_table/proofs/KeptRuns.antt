@@ -80,11 +80,12 @@ run_added olds rs r all low high = record {
   groups_are = λ fresh e. patched_run olds fresh rs r e;
 }
 
-take_more_of : (gs : List Group) (k j : ℕ) → take (k + j) gs ≡ take k gs ++ take j (drop k gs)
+-- The first items of a list in two parts.
+pub take_more_of : {X : Type 0} (gs : List X) (k j : ℕ) → take (k + j) gs ≡ take k gs ++ take j (drop k gs)
 take_more_of gs zero j = ap (λ n. take n gs) (omega arith)
-take_more_of [] (suc k) j = nothing (suc k + j) ∙ sym (nothing j)
+take_more_of {X = X} [] (suc k) j = nothing (suc k + j) ∙ sym (nothing j)
   where
-    nothing : (n : ℕ) → take {A = Group} n [] ≡ []
+    nothing : (n : ℕ) → take {A = X} n [] ≡ []
     nothing zero = refl
     nothing (suc n) = refl
 take_more_of (g ∷ gs) (suc k) j =

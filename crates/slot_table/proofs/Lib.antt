@@ -7,3 +7,5 @@ mod Siblings
 mod GroupRuns
 mod JoinedGroups
 mod KeptReads
+mod ShrunkItems
+mod ShrunkParts

@@ -1,5 +1,5 @@
 // Runs of groups that stay, and lists that keep only the items of such runs.
-ghost use Rattle.std.specs.Prelude.{◌≡◌, ◌≤◌, ◌+◌, ◌++◌, length, take, drop};
+ghost use Rattle.std.specs.Prelude.{◌≡◌, ◌≤◌, ◌+◌, ◌-◌, ◌++◌, length, take, drop};
 ghost use Rattle.std.specs.Vec.Iter.{into_iter_items};
 ghost use Rattle.slot_table.specs.KeptRuns.{patched, IsShrunk};
 
@@ -49,6 +49,7 @@ where
     ensures after { drop (at + count) items.new.items ≡ drop (at + count) items.old.items }
     ensures rest { into_iter_items fresh.new ≡ drop count (into_iter_items fresh.old) }
 {
+    let _length = items.len();
     for i in 0..count {
         match fresh.next() {
             Some(item) => items.set(at + i, item),

@@ -1,0 +1,232 @@
+-- A list that keeps only the items of some runs, with new items before, between and after the runs.
+use Rattle.std.proofs.Common.{◌≡◌, ◌≤◌, ◌<◌, ℕ, zero, suc, ◌+◌, ◌-◌, List, [], ◌∷◌, ◌++◌, length, length-append, length-drop, length-set, take, drop, drop-cons, get_or, set, refl, ap, ◌∙◌, sym, subst, arith, append_assoc}
+use Rattle.std.specs.List.{swap}
+use Rattle.std.proofs.lemmas.List.{length-take, length-take-le, take_all, take-set-le, take_more_set, drop-set-lt, drop-drop}
+use Rattle.std.proofs.lemmas.List.Edits.{swap_is}
+use Rattle.slot_table.specs.declared.runs.KeptRun.{KeptRun}
+use Rattle.slot_table.specs.KeptRuns.{run_groups, patched, gaps, AreInside, MoveDown, IsShrunk}
+use Rattle.slot_table.proofs.KeptRuns.{take_more_of}
+
+-- A list from an index is an item and the later items.
+pub first_of_drop : {X : Type 0} (xs rest : List X) (x : X) (i : ℕ) → drop i xs ≡ x ∷ rest
+    → (take (suc i) xs ≡ take i xs ++ x ∷ []) × (drop (suc i) xs ≡ rest) × (get_or xs i x ≡ x)
+first_of_drop [] rest x zero e = absurd cc
+first_of_drop [] rest x (suc i) e = absurd cc
+first_of_drop (y ∷ xs) rest x zero e = (cc, cc, cc)
+first_of_drop (y ∷ xs) rest x (suc i) e = let later = first_of_drop xs rest x i e in
+    (ap (λ l. y ∷ l) later.0, later.1, later.2)
+
+-- The items put so far: `i` of `count` new items, at index `at` and the indexes after it.
+pub record IsPut {X : Type 0} (olds items fresh rest : List X) (at count i : ℕ) : Type 0 where
+  pub long : length items ≡ length olds
+  pub before : take (at + i) items ≡ take at olds ++ take i fresh
+  pub after : drop (at + count) items ≡ drop (at + count) olds
+  pub rest_is : rest ≡ drop i fresh
+
+pub put_more : {X : Type 0} (olds items items' fresh rest rest' : List X) (x : X) (at count i : ℕ)
+    → IsPut olds items fresh rest at count i → i < count → at + count ≤ length olds → rest ≡ x ∷ rest'
+    → items' ≡ set items (at + i) x → IsPut olds items' fresh rest' at count (i + 1)
+put_more olds items items' fresh rest rest' x at count i put more inside is written =
+    let long = put.long in
+    let first = first_of_drop fresh rest' x i (sym put.rest_is ∙ is) in
+    let next : i + 1 ≡ suc i = omega arith in
+    let place : at + (i + 1) ≡ (at + i) + 1 = omega arith in
+    subst (λ l. IsPut olds l fresh rest' at count (i + 1)) (sym written) (record {
+      long = length-set items (at + i) x ∙ long;
+      before = ap (λ n. take n (set items (at + i) x)) place
+          ∙ take_more_set items (at + i) x (omega (arith, long, more, inside))
+          ∙ ap (λ l. l ++ x ∷ []) put.before
+          ∙ append_assoc (take at olds) (take i fresh) (x ∷ [])
+          ∙ ap (λ l. take at olds ++ l) (sym first.0)
+          ∙ ap (λ n. take at olds ++ take n fresh) (sym next);
+      after = drop-set-lt (at + count) items (at + i) x (omega (arith, more)) ∙ put.after;
+      rest_is = sym first.1 ∙ ap (λ n. drop n fresh) (sym next);
+    })
+
+-- An item of a list, with the later items.
+record IsItem {X : Type 0} (xs : List X) (i : ℕ) : Type 0 where
+  first : X
+  is : drop i xs ≡ first ∷ drop (suc i) xs
+
+item_at : {X : Type 0} (xs : List X) (i : ℕ) → i < length xs → IsItem xs i
+item_at [] i inside = absurd (omega (arith, inside))
+item_at (x ∷ xs) zero inside = record { first = x; is = refl }
+item_at (x ∷ xs) (suc i) inside = let later = item_at xs i (omega (arith, inside)) in
+    record { first = later.first; is = later.is }
+
+-- The items from index `from` to before index `i` are moved down to index `at`.
+pub record IsMoved {X : Type 0} (olds items : List X) (at from i : ℕ) : Type 0 where
+  pub low : from ≤ i
+  pub long : length items ≡ length olds
+  pub before : take (at + (i - from)) items ≡ take at olds ++ take (i - from) (drop from olds)
+  pub after : drop i items ≡ drop i olds
+
+pub moved_more : {X : Type 0} (olds items items' : List X) (at from i : ℕ) → IsMoved olds items at from i → at < from
+    → i < length olds → items' ≡ swap items (at + (i - from)) i → IsMoved olds items' at from (i + 1)
+moved_more olds items items' at from i moved down inside swapped =
+    let low = moved.low in
+    let long = moved.long in
+    let k : ℕ = i - from in
+    let w : ℕ = at + k in
+    let at_olds = item_at olds i inside in
+    let x = at_olds.first in
+    let y = get_or items w x in
+    let first = first_of_drop items (drop (suc i) olds) x i (moved.after ∙ at_olds.is) in
+    let sum : from + k ≡ i = omega (arith, low) in
+    let in_run = first_of_drop (drop from olds) (drop (suc i) olds) x k
+    (drop-drop k from olds ∙ ap (λ n. drop n olds) sum ∙ at_olds.is) in
+    let next : i + 1 ≡ suc i = omega arith in
+    let count : (i + 1) - from ≡ suc k = omega (arith, low) in
+    let place : at + ((i + 1) - from) ≡ w + 1 = omega (arith, low) in
+    let is : items' ≡ set (set items w x) i y = swapped
+    ∙ sym (swap_is items w i x (omega (arith, low, long, inside, down)) (omega (arith, long, inside)))
+    ∙ ap (λ z. set (set items w z) i y) first.2 in
+    subst (λ l. IsMoved olds l at from (i + 1)) (sym is) (record {
+      low = omega (arith, low);
+      long = length-set (set items w x) i y ∙ length-set items w x ∙ long;
+      before = ap (λ n. take n (set (set items w x) i y)) place
+          ∙ take-set-le (w + 1) (set items w x) i y (omega (arith, low, down))
+          ∙ take_more_set items w x (omega (arith, low, long, inside, down))
+          ∙ ap (λ l. l ++ x ∷ []) moved.before
+          ∙ append_assoc (take at olds) (take k (drop from olds)) (x ∷ [])
+          ∙ ap (λ l. take at olds ++ l) (sym in_run.0)
+          ∙ ap (λ n. take at olds ++ take n (drop from olds)) (sym count);
+      after = ap (λ n. drop n (set (set items w x) i y)) next
+          ∙ drop-set-lt (suc i) (set items w x) i y (omega arith)
+          ∙ drop-set-lt (suc i) items w x (omega (arith, low, down))
+          ∙ first.1
+          ∙ ap (λ n. drop n olds) (sym next);
+    })
+
+-- Items that are at their new index already.
+pub moved_nowhere : {X : Type 0} (items : List X) (at from count : ℕ) → at ≡ from
+    → take (at + count) items ≡ take at items ++ take count (drop from items)
+moved_nowhere items at from count same =
+    take_more_of items at count ∙ ap (λ n. take at items ++ take count (drop n items)) same
+
+-- Lists that are equal from an index are equal from each later index.
+drop_later : {X : Type 0} (xs ys : List X) (a b : ℕ) → a ≤ b → drop a xs ≡ drop a ys → drop b xs ≡ drop b ys
+drop_later xs ys a b le same =
+    let sum : b ≡ a + (b - a) = omega (arith, le) in
+    ap (λ n. drop n xs) sum ∙ sym (drop-drop (b - a) a xs) ∙ ap (λ l. drop (b - a) l) same ∙ drop-drop (b - a) a ys
+    ∙ ap (λ n. drop n ys) (sym sum)
+
+-- The items between two runs: the first `at` items are those of the new list, and the items from index `past` on have
+-- not changed.
+pub record IsSwept {X : Type 0} (olds fresh : List X) (rs : List KeptRun) (items rest : List X) (at : ℕ)
+    (left : List KeptRun) : Type 0 where
+  pub past : ℕ
+  pub low : at ≤ past
+  pub high : past ≤ length olds
+  pub long : length items ≡ length olds
+  pub kept : drop past items ≡ drop past olds
+  pub inside : AreInside olds left
+  pub gaps_fit : gaps left ≤ length rest
+  pub down : MoveDown at past left
+  pub same : take at items ++ patched olds rest left ≡ patched olds fresh rs
+
+pub swept_none : {X : Type 0} (olds fresh rest : List X) (rs : List KeptRun) (len : ℕ) → IsShrunk olds fresh rs len
+    → rest ≡ fresh → IsSwept olds fresh rs olds rest 0 rs
+swept_none olds fresh rest rs len shrunk is = subst (λ l. IsSwept olds fresh rs olds l 0 rs) (sym is) (record {
+  past = 0;
+  low = omega arith;
+  high = omega arith;
+  long = refl;
+  kept = refl;
+  inside = shrunk.inside;
+  gaps_fit = shrunk.gaps_fit;
+  down = shrunk.down;
+  same = refl;
+})
+
+-- The next run.
+pub next_run : {X : Type 0} (olds fresh : List X) (rs : List KeptRun) (items rest : List X) (at i : ℕ) (r : KeptRun)
+    → IsSwept olds fresh rs items rest at (drop i rs) → i < length rs → r ≡ get_or rs i r
+    → IsSwept olds fresh rs items rest at (r ∷ drop (i + 1) rs)
+next_run olds fresh rs items rest at i r swept inside is =
+    let next : suc i ≡ i + 1 = omega arith in
+    subst (λ l. IsSwept olds fresh rs items rest at l)
+    (drop-cons rs i r inside ∙ ap (λ x. x ∷ drop (suc i) rs) (sym is) ∙ ap (λ n. r ∷ drop n rs) next) swept
+
+pub swept_more : {X : Type 0} (olds fresh : List X) (rs : List KeptRun) (items items1 items2 rest rest1 : List X)
+    (at : ℕ) (r : KeptRun) (left : List KeptRun) → IsSwept olds fresh rs items rest at (r ∷ left)
+    → length items1 ≡ length items → take (at + r.gap) items1 ≡ take at items ++ take r.gap rest
+    → drop (at + r.gap) items1 ≡ drop (at + r.gap) items → rest1 ≡ drop r.gap rest
+    → length items2 ≡ length items1
+    → take ((at + r.gap) + (r.to - r.from)) items2
+    ≡ take (at + r.gap) items1 ++ take (r.to - r.from) (drop r.from items1)
+    → drop r.to items2 ≡ drop r.to items1
+    → IsSwept olds fresh rs items2 rest1 (at + r.gap + (r.to - r.from)) left
+swept_more {X = X} olds fresh rs items items1 items2 rest rest1 at r left swept long1 before1 after1 is long2 before2 after2 =
+    let low = swept.low in
+    let long = swept.long in
+    let order = swept.inside.0 in
+    let high = swept.inside.1 in
+    let later = swept.down.0 in
+    let down = swept.down.1 in
+    let fits = swept.gaps_fit in
+    let more = length-drop r.gap rest in
+    let later_olds : List X = patched olds (drop r.gap rest) left in
+    let same_run : take (r.to - r.from) (drop r.from items1) ≡ run_groups olds r =
+    ap (λ l. take (r.to - r.from) l) (drop_later items1 items (at + r.gap) r.from down after1
+    ∙ drop_later items olds swept.past r.from later swept.kept) in
+    subst (λ l. IsSwept olds fresh rs items2 l (at + r.gap + (r.to - r.from)) left) (sym is) (record {
+      past = r.to;
+      low = omega (arith, order, down);
+      high = high;
+      long = long2 ∙ long1 ∙ long;
+      kept = after2
+          ∙ drop_later items1 items (at + r.gap) r.to (omega (arith, down, order)) after1
+          ∙ drop_later items olds swept.past r.to (omega (arith, later, order)) swept.kept;
+      inside = swept.inside.2;
+      gaps_fit = omega (arith, fits, more);
+      down = swept.down.2;
+      same = ap (λ l. l ++ later_olds) before2
+          ∙ ap (λ l. (l ++ take (r.to - r.from) (drop r.from items1)) ++ later_olds) before1
+          ∙ ap (λ l. ((take at items ++ take r.gap rest) ++ l) ++ later_olds) same_run
+          ∙ append_assoc (take at items ++ take r.gap rest) (run_groups olds r) later_olds
+          ∙ append_assoc (take at items) (take r.gap rest) (run_groups olds r ++ later_olds)
+          ∙ swept.same;
+    })
+
+-- The items after the last run.
+pub record IsLastGap {X : Type 0} (olds fresh : List X) (rs : List KeptRun) (items rest : List X) (at len : ℕ)
+    : Type 0 where
+  pub low : at ≤ len
+  pub long : length rest ≡ len - at
+  pub inside : at + (len - at) ≤ length items
+  pub same : take at items ++ rest ≡ patched olds fresh rs
+
+pub swept_all : {X : Type 0} (olds fresh : List X) (rs : List KeptRun) (items rest : List X) (at len : ℕ)
+    (left : List KeptRun) → IsShrunk olds fresh rs len → left ≡ [] → IsSwept olds fresh rs items rest at left
+    → IsLastGap olds fresh rs items rest at len
+swept_all olds fresh rs items rest at len left shrunk none swept =
+    let low = swept.low in
+    let high = swept.high in
+    let long = swept.long in
+    let count = shrunk.len_is in
+    let fewer = shrunk.fewer in
+    let same : take at items ++ rest ≡ patched olds fresh rs =
+    ap (λ l. take at items ++ patched olds rest l) (sym none) ∙ swept.same in
+    let whole : length (take at items ++ rest) ≡ length (patched olds fresh rs) = ap (λ l. length l) same in
+    let both = length-append (take at items) rest in
+    let first = length-take-le at items (omega (arith, low, high, long)) in
+    record {
+      low = omega (arith, count, whole, both, first);
+      long = omega (arith, count, whole, both, first);
+      inside = omega (arith, count, whole, both, first, fewer, long);
+      same = same;
+    }
+
+-- The new items of the last gap are put, and the other items are dropped.
+pub last_put : {X : Type 0} (olds fresh : List X) (rs : List KeptRun) (items items' items'' rest : List X)
+    (at len : ℕ) → IsLastGap olds fresh rs items rest at len
+    → take (at + (len - at)) items' ≡ take at items ++ take (len - at) rest → items'' ≡ take len items'
+    → items'' ≡ patched olds fresh rs
+last_put olds fresh rs items items' items'' rest at len gap before is =
+    let low = gap.low in
+    let long = gap.long in
+    let sum : len ≡ at + (len - at) = omega (arith, low) in
+    is ∙ ap (λ n. take n items') sum ∙ before
+    ∙ ap (λ l. take at items ++ l) (take_all (len - at) rest (omega (arith, long)))
+    ∙ gap.same
