@@ -140,13 +140,13 @@ swept_none olds fresh rest rs len shrunk is = subst (λ l. IsSwept olds fresh rs
 })
 
 -- The next run.
-pub next_run : {X : Type 0} (olds fresh : List X) (rs : List KeptRun) (items rest : List X) (at i : ℕ) (r : KeptRun)
-    → IsSwept olds fresh rs items rest at (drop i rs) → i < length rs → r ≡ get_or rs i r
-    → IsSwept olds fresh rs items rest at (r ∷ drop (i + 1) rs)
-next_run olds fresh rs items rest at i r swept inside is =
+pub next_run : {X : Type 0} (olds fresh : List X) (rs : List KeptRun) (items rest : List X) (at i : ℕ) (d : KeptRun)
+    → IsSwept olds fresh rs items rest at (drop i rs) → i < length rs
+    → IsSwept olds fresh rs items rest at (get_or rs i d ∷ drop (i + 1) rs)
+next_run olds fresh rs items rest at i d swept inside =
     let next : suc i ≡ i + 1 = omega arith in
     subst (λ l. IsSwept olds fresh rs items rest at l)
-    (drop-cons rs i r inside ∙ ap (λ x. x ∷ drop (suc i) rs) (sym is) ∙ ap (λ n. r ∷ drop n rs) next) swept
+    (drop-cons rs i d inside ∙ ap (λ n. get_or rs i d ∷ drop n rs) next) swept
 
 pub swept_more : {X : Type 0} (olds fresh : List X) (rs : List KeptRun) (items items1 items2 rest rest1 : List X)
     (at : ℕ) (r : KeptRun) (left : List KeptRun) → IsSwept olds fresh rs items rest at (r ∷ left)

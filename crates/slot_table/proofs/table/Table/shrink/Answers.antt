@@ -1,5 +1,5 @@
 use Rattle.std.proofs.Common.{◌≡◌, ◌≤◌, arith, ap, ◌∙◌, sym, length, take, ◌++◌}
-use Rattle.std.proofs.lemmas.List.{length-take-le, length-map}
+use Rattle.std.proofs.lemmas.List.{take-append-le, take_all}
 use Rattle.slot_table.specs.InnerCounts.{inner_counts, bare_groups}
 use Rattle.slot_table.specs.Storage.{joined_groups, AreParts}
 use Rattle.slot_table.specs.KeptRuns.{patched}
@@ -41,10 +41,37 @@ set_counts-requires-clause-long c =
     omega (arith, long, is, first, kept)
 
 pub set_counts-requires-clause-small : goal.set_counts-requires-clause-small
-set_counts-requires-clause-small c = ?
+set_counts-requires-clause-small c =
+    let w = c.self.inside in
+    let news = parts_shrunk w.groups.items c.shrink_items.new.items.items c.into_parts-heads.result.0.items
+    w.slots.items c.shrink_items-2.new.items.items c.into_parts-heads.result.1.items c.args.self.now.groups
+    c.args.fresh c.args.runs.now
+    (record { joined = ap (λ t. t.groups) c.self.view_is; long = c.self.invariant.0; nodes = c.self.invariant.2 })
+    c.into_parts-heads.ensures c.shrink_items.ensures c.shrink_items-2.ensures in
+    let long = heads_long c.shrink_items.new.items.items c.shrink_items-2.new.items.items _ news in
+    let is = c.requires.shrunk.len_is in
+    let small = c.requires.small in
+    omega (arith, long, is, small)
 
 pub invariant_of-self : goal.invariant_of-self
-invariant_of-self c = ?
+invariant_of-self c =
+    let w = c.self.inside in
+    let news = parts_shrunk w.groups.items c.shrink_items.new.items.items c.into_parts-heads.result.0.items
+    w.slots.items c.shrink_items-2.new.items.items c.into_parts-heads.result.1.items c.args.self.now.groups
+    c.args.fresh c.args.runs.now
+    (record { joined = ap (λ t. t.groups) c.self.view_is; long = c.self.invariant.0; nodes = c.self.invariant.2 })
+    c.into_parts-heads.ensures c.shrink_items.ensures c.shrink_items-2.ensures in
+    let heads = c.shrink_items.new.items.items in
+    let counts = c.set_counts.new.counts in
+    let kept = c.set_counts.auto.counts in
+    let count = c.deref_mut.ensures.len in (
+      news.long,
+      take-append-le c.truncate.new.self.len counts _ (omega (arith, kept, count))
+          ∙ take_all c.truncate.new.self.len counts (omega (arith, kept, count))
+          ∙ c.set_counts.ensures
+          ∙ sym (counts_bare heads c.shrink_items-2.new.items.items news.long),
+      news.nodes,
+    )
 
 pub returns : goal.returns
 returns c =
