@@ -98,7 +98,8 @@ impl<T> GapBuf<T> {
     pub fn truncate(&mut self, n: usize)
     where
         T: Drop,
-        ensures { self.new.items ≡ take n self.old.items }
+        ensures items { self.new.items ≡ take n self.old.items }
+        ensures spare { self.new.spare + length self.new.items ≡ self.old.spare + length self.old.items }
     {
         self.items.truncate(n);
     }

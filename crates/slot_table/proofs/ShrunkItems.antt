@@ -1,7 +1,7 @@
 -- A list that keeps only the items of some runs, with new items before, between and after the runs.
 use Rattle.std.proofs.Common.{◌≡◌, ◌≤◌, ◌<◌, ℕ, zero, suc, ◌+◌, ◌-◌, List, [], ◌∷◌, ◌++◌, length, length-append, length-drop, length-set, take, drop, drop-cons, get_or, set, refl, ap, ◌∙◌, sym, subst, arith, append_assoc}
 use Rattle.std.specs.List.{swap}
-use Rattle.std.proofs.lemmas.List.{length-take, length-take-le, take_all, take-set-le, take_more_set, drop-set-lt, drop-drop}
+use Rattle.std.proofs.lemmas.List.{length-take-le, take_all, take-set-le, take_more_set, drop-set-lt, drop-drop}
 use Rattle.std.proofs.lemmas.List.Edits.{swap_is}
 use Rattle.slot_table.specs.declared.runs.KeptRun.{KeptRun}
 use Rattle.slot_table.specs.KeptRuns.{run_groups, patched, gaps, AreInside, MoveDown, IsShrunk}

@@ -7,7 +7,7 @@ use Rattle.slot_table.specs.declared.runs.KeptRun.{KeptRun}
 use Rattle.slot_table.specs.declared.storage.GroupHead.{GroupHead}
 use Rattle.slot_table.specs.SharedSlots.{GroupSlots}
 use Rattle.slot_table.specs.TableGroups.{is_node_kind}
-use Rattle.slot_table.specs.Storage.{joined_groups, KnowNodes, AreParts}
+use Rattle.slot_table.specs.Storage.{joined_groups, AreParts}
 use Rattle.slot_table.specs.InnerCounts.{leading_deep, inner_counts, bare_groups}
 use Rattle.slot_table.specs.KeptRuns.{run_groups, patched, AreInside, IsShrunk}
 use Rattle.slot_table.proofs.InnerCounts.{length_counts}
@@ -155,14 +155,14 @@ pub parts_shrunk : (hs hs' fh : List GroupHead) (ss ss' fs : List GroupSlots) (g
     → AreParts hs' ss' (patched gs fresh rs)
 parts_shrunk hs hs' fh ss ss' fs gs fresh rs parts news eh es = same_parts (patched hs fh rs) hs' (patched ss fs rs) ss'
     (patched gs fresh rs) eh es (record {
-  joined = joined_patched hs fh ss fs rs parts.long news.long
-      ∙ ap (λ l. patched l (joined_groups fh fs) rs) parts.joined ∙ ap (λ l. patched gs l rs) news.joined;
-  long = same_patched hs fh ss fs rs parts.long news.long;
-  nodes = map_patched (λ h. h.is_node) hs fh rs
-      ∙ ap (λ l. patched l (map (λ h. h.is_node) fh) rs) parts.nodes
-      ∙ ap (λ l. patched (map (λ s. is_node_kind s.what) ss) l rs) news.nodes
-      ∙ sym (map_patched (λ s. is_node_kind s.what) ss fs rs);
-})
+      joined = joined_patched hs fh ss fs rs parts.long news.long
+          ∙ ap (λ l. patched l (joined_groups fh fs) rs) parts.joined ∙ ap (λ l. patched gs l rs) news.joined;
+      long = same_patched hs fh ss fs rs parts.long news.long;
+      nodes = map_patched (λ h. h.is_node) hs fh rs
+          ∙ ap (λ l. patched l (map (λ h. h.is_node) fh) rs) parts.nodes
+          ∙ ap (λ l. patched (map (λ s. is_node_kind s.what) ss) l rs) news.nodes
+          ∙ sym (map_patched (λ s. is_node_kind s.what) ss fs rs);
+    })
 
 leading_bare : (depth : ℕ) (hs : List GroupHead) (ss : List GroupSlots) → length hs ≡ length ss
     → length (leading_deep depth (joined_groups hs ss)) ≡ length (leading_deep depth (bare_groups hs))

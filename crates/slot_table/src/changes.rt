@@ -165,7 +165,11 @@ impl<'t> ChangeListWriter<'t> {
             return Ok(ChangeList { olds, change });
         }
         if shrinks(self.table, &self.runs, self.len) {
-            let change = Change::Shrunk(self.fresh, self.runs, self.len);
+            let change = Change::Shrunk {
+                fresh: self.fresh,
+                runs: self.runs,
+                len: self.len,
+            };
             return Ok(ChangeList { olds, change });
         }
         let whole = share_table(alloc, self.table, &self.fresh, &self.runs, self.len)?;
@@ -300,26 +304,24 @@ fn keeps_depth(table: &Table, place: usize, depth: u32) -> bool
     place < table.len() && table.depth(place) == depth
 }
 
-// Returns whether the table can be shrunk: there are fewer groups than before, their number fits in 32 bits, and no kept
-// group moves to a later index. `len` is the number of groups of the new frame.
+// Returns whether the table can be shrunk: there are fewer groups than before, their number fits in 32 bits, and no
+// kept group moves to a later index. `len` is the number of groups of the new frame.
 fn shrinks(table: &Table, runs: &[KeptRun], len: usize) -> bool
-    requires { AreInside table.now.groups runs.now }
     ensures fewer { result ≡ true → len < length table.now.groups }
     ensures small { result ≡ true → len < 2 ^ 32 }
     ensures down { result ≡ true → MoveDown 0 0 runs.now }
 {
-    len < table.len() && len <= u32::MAX as usize && move_down(table, runs)
+    len < table.len() && len <= u32::MAX as usize && move_down(runs)
 }
 
 // Returns whether no kept group moves to a later index, and each run is after the previous run in the table too.
-fn move_down(table: &Table, runs: &[KeptRun]) -> bool
-    requires { AreInside table.now.groups runs.now }
+fn move_down(runs: &[KeptRun]) -> bool
     ensures { result ≡ true → MoveDown 0 0 runs.now }
 {
     let mut at = 0;
     let mut past = 0;
     for run in runs {
-        if run.from < past || run.from - at < run.gap {
+        if run.from < past || run.to < run.from || run.from - at < run.gap {
             return false;
         }
         at += run.gap + (run.to - run.from);
@@ -374,9 +376,13 @@ enum Change {
     Whole(Table),
     // New groups, and for each the index of the old group that the new group replaces.
     InPlace(TableBuilder, Vec<usize>),
-    // New groups, the runs of groups that stay, and the number of groups of the new frame. No kept group moves to a
-    // later index.
-    Shrunk(TableBuilder, Vec<KeptRun>, usize),
+    // New groups, the runs of groups that stay, and the number of groups of the new frame, which is less than before.
+    // No kept group moves to a later index.
+    Shrunk {
+        fresh: TableBuilder,
+        runs: Vec<KeptRun>,
+        len: usize,
+    },
 }
 
 /// Changes that take a table to the groups of a new frame (`ChangeList`).
@@ -412,7 +418,7 @@ impl ChangeList {
                 set_sharing(&mut all, fresh, places)?;
                 PreviewForm::Made(Table::from_groups(alloc, all)?)
             }
-            Change::Shrunk(fresh, runs, len) => {
+            Change::Shrunk { fresh, runs, len } => {
                 PreviewForm::Made(share_table(alloc, table, fresh, runs, *len)?)
             }
         };
@@ -431,7 +437,7 @@ impl ChangeList {
         match &self.change {
             Change::Whole(other) => have_same_reads(table, other),
             Change::InPlace(fresh, places) => keep_reads_in_place(table, fresh, places),
-            Change::Shrunk(_, _, _) => false,
+            Change::Shrunk { .. } => false,
         }
     }
 }
@@ -544,7 +550,7 @@ impl Table {
         match change {
             Change::Whole(table) => *self = table,
             Change::InPlace(fresh, places) => self.set_groups(fresh, places),
-            Change::Shrunk(fresh, runs, len) => self.shrink(fresh, &runs, len),
+            Change::Shrunk { fresh, runs, len } => self.shrink(fresh, &runs, len),
         }
     }
 

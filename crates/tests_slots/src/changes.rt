@@ -174,8 +174,8 @@ fn changes_shrink_the_table(rt: HostRuntime) -> Result<(), Fail> {
     Ok(())
 }
 
-// Whether the table and the table of the preview of its changes to the groups of `runs` skip to the
-// same index at each group.
+// Whether these are the indexes after the groups and all groups inside them, in a table of the rows
+// 1, 2 and 3 with the groups of `runs` and in its preview.
 fn skips_as_previewed(
     alloc: Global,
     runs: &[(usize, usize)],
@@ -191,7 +191,7 @@ fn skips_as_previewed(
     Ok(is_previewed && has_ends(&table, ends))
 }
 
-// Whether these are the indexes after the groups and all groups inside them.
+// Whether these are the indexes after the groups of the table and all groups inside them.
 fn has_ends(table: &Table, ends: &[usize]) -> bool {
     if table.len() != ends.len() {
         return false;

@@ -54,6 +54,13 @@ enum Edit {
         index: usize,
         byte: u8,
     },
+    Swap {
+        index: usize,
+        other: usize,
+    },
+    Truncate {
+        len: usize,
+    },
 }
 
 // Moves a block of a buffer. Returns whether the buffer has these indexes.
@@ -85,6 +92,17 @@ fn run(buf: &mut GapBuf<u8>, edit: &Edit) -> Result<bool, AllocError> {
             }
             Ok(false)
         }
+        Edit::Swap { index, other } => {
+            if *index < buf.len() && *other < buf.len() {
+                buf.swap(*index, *other);
+                return Ok(true);
+            }
+            Ok(false)
+        }
+        Edit::Truncate { len } => {
+            buf.truncate(*len);
+            Ok(true)
+        }
     }
 }
 
@@ -104,7 +122,7 @@ fn edits_give(alloc: Global, rows: &[(Edit, &[u8])]) -> Result<bool, AllocError>
 
 #[test]
 fn edits_are_those_of_a_list(rt: HostRuntime) -> Result<(), Fail> {
-    let rows: [(Edit, &[u8]); 4] = [
+    let rows: [(Edit, &[u8]); 7] = [
         (
             Edit::Move {
                 from: 1,
@@ -116,6 +134,9 @@ fn edits_are_those_of_a_list(rt: HostRuntime) -> Result<(), Fail> {
         (Edit::Insert { index: 2, byte: 9 }, &[1, 3, 9, 2, 4, 5]),
         (Edit::Remove { index: 0, byte: 1 }, &[3, 9, 2, 4, 5]),
         (Edit::Set { index: 1, byte: 7 }, &[3, 7, 2, 4, 5]),
+        (Edit::Swap { index: 0, other: 4 }, &[5, 7, 2, 4, 3]),
+        (Edit::Truncate { len: 9 }, &[5, 7, 2, 4, 3]),
+        (Edit::Truncate { len: 2 }, &[5, 7]),
     ];
     assert!(rt; edits_give(rt.alloc(), &rows)?);
     Ok(())

@@ -1,10 +1,9 @@
 use Rattle.std.proofs.Common.{◌≤◌, drop}
-use Rattle.slot_table.specs.KeptRuns.{AreInside, MoveDown}
+use Rattle.slot_table.specs.KeptRuns.{MoveDown}
 use Rattle.slot_table.proofs.changes.move_down.Given as goal
 
 abbrev pub invariant-loop-run : goal.invariant-loop-run
 invariant-loop-run l = record {
   low : l.at ≤ l.past;
-  inside : AreInside l.table.groups (drop l.run-index l.runs);
   down : MoveDown l.at l.past (drop l.run-index l.runs) → MoveDown 0 0 l.runs;
 }

@@ -1,4 +1,3 @@
-use Rattle.std.proofs.Common.{arith}
 use Rattle.std.specs.Vec.Iter.{into_iter_items}
 use Rattle.slot_table.proofs.ShrunkItems.{put_more}
 use Rattle.slot_table.proofs.runs.put_items.Goals as goal

@@ -1,4 +1,4 @@
-use Rattle.std.proofs.Common.{get_or, drop, refl, ◌+◌}
+use Rattle.std.proofs.Common.{get_or, drop, ◌+◌}
 use Rattle.std.specs.Vec.Iter.{into_iter_items}
 use Rattle.slot_table.specs.declared.runs.KeptRun.{KeptRun}
 use Rattle.slot_table.proofs.ShrunkItems.{next_run, swept_more}

@@ -1,9 +1,6 @@
-use Rattle.std.proofs.Common.{◌≡◌, ◌≤◌, arith, ap, ◌∙◌, sym, length, take, ◌++◌}
+use Rattle.std.proofs.Common.{◌≡◌, arith, ap, ◌∙◌, sym, length, take}
 use Rattle.std.proofs.lemmas.List.{take-append-le, take_all}
-use Rattle.slot_table.specs.InnerCounts.{inner_counts, bare_groups}
-use Rattle.slot_table.specs.Storage.{joined_groups, AreParts}
-use Rattle.slot_table.specs.KeptRuns.{patched}
-use Rattle.slot_table.proofs.InnerCounts.{length_counts}
+use Rattle.slot_table.specs.Storage.{AreParts}
 use Rattle.slot_table.proofs.JoinedGroups.{heads_long}
 use Rattle.slot_table.proofs.ShrunkParts.{heads_shrunk, slots_shrunk, parts_shrunk, counts_bare, first_counts}
 use Rattle.slot_table.proofs.table.Table.shrink.Goals as goal
