@@ -23,6 +23,7 @@ pub record IsPut {X : Type 0} (olds items fresh rest : List X) (at count i : ℕ
   pub after : drop (at + count) items ≡ drop (at + count) olds
   pub rest_is : rest ≡ drop i fresh
 
+-- One more new item is put.
 pub put_more : {X : Type 0} (olds items items' fresh rest rest' : List X) (x : X) (at count i : ℕ)
     → IsPut olds items fresh rest at count i → i < count → at + count ≤ length olds → rest ≡ x ∷ rest'
     → items' ≡ set items (at + i) x → IsPut olds items' fresh rest' at count (i + 1)
@@ -48,6 +49,7 @@ record IsItem {X : Type 0} (xs : List X) (i : ℕ) : Type 0 where
   first : X
   is : drop i xs ≡ first ∷ drop (suc i) xs
 
+-- Each index inside a list has an item.
 item_at : {X : Type 0} (xs : List X) (i : ℕ) → i < length xs → IsItem xs i
 item_at [] i inside = absurd (omega (arith, inside))
 item_at (x ∷ xs) zero inside = record { first = x; is = refl }
@@ -61,6 +63,7 @@ pub record IsMoved {X : Type 0} (olds items : List X) (at from i : ℕ) : Type 0
   pub before : take (at + (i - from)) items ≡ take at olds ++ take (i - from) (drop from olds)
   pub after : drop i items ≡ drop i olds
 
+-- One more item is moved down, by exchanging it with the item at its new index.
 pub moved_more : {X : Type 0} (olds items items' : List X) (at from i : ℕ) → IsMoved olds items at from i → at < from
     → i < length olds → items' ≡ swap items (at + (i - from)) i → IsMoved olds items' at from (i + 1)
 moved_more olds items items' at from i moved down inside swapped =
@@ -125,6 +128,7 @@ pub record IsSwept {X : Type 0} (olds fresh : List X) (rs : List KeptRun) (items
   pub down : MoveDown at past left
   pub same : take at items ++ patched olds rest left ≡ patched olds fresh rs
 
+-- Before the first run no item has changed.
 pub swept_none : {X : Type 0} (olds fresh rest : List X) (rs : List KeptRun) (len : ℕ) → IsShrunk olds fresh rs len
     → rest ≡ fresh → IsSwept olds fresh rs olds rest 0 rs
 swept_none olds fresh rest rs len shrunk is = subst (λ l. IsSwept olds fresh rs olds l 0 rs) (sym is) (record {
@@ -148,6 +152,7 @@ next_run olds fresh rs items rest at i d swept inside =
     subst (λ l. IsSwept olds fresh rs items rest at l)
     (drop-cons rs i d inside ∙ ap (λ n. get_or rs i d ∷ drop n rs) next) swept
 
+-- The new items of a gap are put, and the items of the run after the gap are moved down.
 pub swept_more : {X : Type 0} (olds fresh : List X) (rs : List KeptRun) (items items1 items2 rest rest1 : List X)
     (at : ℕ) (r : KeptRun) (left : List KeptRun) → IsSwept olds fresh rs items rest at (r ∷ left)
     → length items1 ≡ length items → take (at + r.gap) items1 ≡ take at items ++ take r.gap rest
@@ -157,7 +162,8 @@ pub swept_more : {X : Type 0} (olds fresh : List X) (rs : List KeptRun) (items i
     ≡ take (at + r.gap) items1 ++ take (r.to - r.from) (drop r.from items1)
     → drop r.to items2 ≡ drop r.to items1
     → IsSwept olds fresh rs items2 rest1 (at + r.gap + (r.to - r.from)) left
-swept_more {X = X} olds fresh rs items items1 items2 rest rest1 at r left swept long1 before1 after1 is long2 before2 after2 =
+swept_more {X = X} olds fresh rs items items1 items2 rest rest1 at r left swept long1 before1 after1 is long2 before2
+    after2 =
     let low = swept.low in
     let long = swept.long in
     let order = swept.inside.0 in
@@ -197,6 +203,7 @@ pub record IsLastGap {X : Type 0} (olds fresh : List X) (rs : List KeptRun) (ite
   pub inside : at + (len - at) ≤ length items
   pub same : take at items ++ rest ≡ patched olds fresh rs
 
+-- After the last run only the new items of the last gap are left to put, and they fit.
 pub swept_all : {X : Type 0} (olds fresh : List X) (rs : List KeptRun) (items rest : List X) (at len : ℕ)
     (left : List KeptRun) → IsShrunk olds fresh rs len → left ≡ [] → IsSwept olds fresh rs items rest at left
     → IsLastGap olds fresh rs items rest at len

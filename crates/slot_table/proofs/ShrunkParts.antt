@@ -13,6 +13,7 @@ use Rattle.slot_table.specs.KeptRuns.{run_groups, patched, AreInside, IsShrunk}
 use Rattle.slot_table.proofs.InnerCounts.{length_counts}
 use Rattle.slot_table.proofs.JoinedGroups.{same_parts, heads_long}
 
+-- Lists of the same length have first items of the same number.
 same_take : {X Y : Type 0} (n : ℕ) (xs : List X) (ys : List Y) → length xs ≡ length ys
     → length (take n xs) ≡ length (take n ys)
 same_take zero xs ys e = refl
@@ -21,6 +22,7 @@ same_take (suc n) [] (y ∷ ys) e = absurd (omega (arith, e))
 same_take (suc n) (x ∷ xs) [] e = absurd (omega (arith, e))
 same_take (suc n) (x ∷ xs) (y ∷ ys) e = ap suc (same_take n xs ys (omega (arith, e)))
 
+-- Lists of the same length have later items of the same number.
 same_drop : {X Y : Type 0} (n : ℕ) (xs : List X) (ys : List Y) → length xs ≡ length ys
     → length (drop n xs) ≡ length (drop n ys)
 same_drop n xs ys e = let one = length-drop n xs in let two = length-drop n ys in omega (arith, one, two, e)
@@ -39,6 +41,7 @@ same_patched xs fx ys fy (r ∷ rs) e f =
     let four = length-append (run_groups ys r) (patched ys (drop r.gap fy) rs) in
     omega (arith, later, first, run, one, two, three, four)
 
+-- Runs are inside each list of the same length.
 same_inside : {X Y : Type 0} (xs : List X) (ys : List Y) (rs : List KeptRun) → length xs ≡ length ys
     → AreInside xs rs → AreInside ys rs
 same_inside xs ys [] e inside = tt
@@ -60,17 +63,19 @@ same_shrunk xs fx ys fy rs len e f shrunk =
       fewer = omega (arith, fewer, e);
     }
 
--- The heads and the slots of a table shrink as the groups do.
+-- The heads of a table shrink as the groups do.
 pub heads_shrunk : (hs fh : List GroupHead) (ss fs : List GroupSlots) (gs fresh : List Group) (rs : List KeptRun)
     (len : ℕ) → AreParts hs ss gs → AreParts fh fs fresh → IsShrunk gs fresh rs len → IsShrunk hs fh rs len
 heads_shrunk hs fh ss fs gs fresh rs len parts news shrunk = same_shrunk gs fresh hs fh rs len
     (sym (heads_long hs ss gs parts)) (sym (heads_long fh fs fresh news)) shrunk
 
+-- The slots of a table shrink as the groups do.
 pub slots_shrunk : (hs fh : List GroupHead) (ss fs : List GroupSlots) (gs fresh : List Group) (rs : List KeptRun)
     (len : ℕ) → AreParts hs ss gs → AreParts fh fs fresh → IsShrunk gs fresh rs len → IsShrunk ss fs rs len
 slots_shrunk hs fh ss fs gs fresh rs len parts news shrunk = same_shrunk hs fh ss fs rs len parts.long news.long
     (heads_shrunk hs fh ss fs gs fresh rs len parts news shrunk)
 
+-- The groups of two lists of heads and two lists of slots, each after the other.
 joined_append : (hs hs' : List GroupHead) (ss ss' : List GroupSlots) → length hs ≡ length ss
     → joined_groups (hs ++ hs') (ss ++ ss') ≡ joined_groups hs ss ++ joined_groups hs' ss'
 joined_append [] hs' [] ss' e = refl
@@ -79,6 +84,7 @@ joined_append (h ∷ hs) hs' [] ss' e = absurd (omega (arith, e))
 joined_append (h ∷ hs) hs' (s ∷ ss) ss' e = ap (λ l. flat_group h.depth h.site h.number s.what s.reads ∷ l)
     (joined_append hs hs' ss ss' (omega (arith, e)))
 
+-- The first groups are those of the first heads and slots.
 joined_take : (n : ℕ) (hs : List GroupHead) (ss : List GroupSlots)
     → joined_groups (take n hs) (take n ss) ≡ take n (joined_groups hs ss)
 joined_take zero hs ss = refl
@@ -87,10 +93,12 @@ joined_take (suc n) (h ∷ hs) [] = refl
 joined_take (suc n) (h ∷ hs) (s ∷ ss) =
     ap (λ l. flat_group h.depth h.site h.number s.what s.reads ∷ l) (joined_take n hs ss)
 
+-- Heads without slots are no groups.
 joined_none : (hs : List GroupHead) → joined_groups hs [] ≡ []
 joined_none [] = refl
 joined_none (h ∷ hs) = refl
 
+-- The later groups are those of the later heads and slots.
 joined_drop : (n : ℕ) (hs : List GroupHead) (ss : List GroupSlots)
     → joined_groups (drop n hs) (drop n ss) ≡ drop n (joined_groups hs ss)
 joined_drop zero hs ss = refl
@@ -98,6 +106,7 @@ joined_drop (suc n) [] ss = refl
 joined_drop (suc n) (h ∷ hs) [] = joined_none (drop n hs)
 joined_drop (suc n) (h ∷ hs) (s ∷ ss) = joined_drop n hs ss
 
+-- The heads and the slots of the new frame are those of its groups.
 joined_patched : (hs fh : List GroupHead) (ss fs : List GroupSlots) (rs : List KeptRun) → length hs ≡ length ss
     → length fh ≡ length fs
     → joined_groups (patched hs fh rs) (patched ss fs rs) ≡ patched (joined_groups hs ss) (joined_groups fh fs) rs
@@ -124,16 +133,19 @@ joined_patched hs fh ss fs (r ∷ rs) e f =
     ∙ ap (λ l. run_groups gs r ++ l) later
     )
 
+-- A function of each of the first items.
 map_take : {X Y : Type 0} (f : X → Y) (n : ℕ) (xs : List X) → map f (take n xs) ≡ take n (map f xs)
 map_take f zero xs = refl
 map_take f (suc n) [] = refl
 map_take f (suc n) (x ∷ xs) = ap (λ l. f x ∷ l) (map_take f n xs)
 
+-- A function of each of the later items.
 map_drop : {X Y : Type 0} (f : X → Y) (n : ℕ) (xs : List X) → map f (drop n xs) ≡ drop n (map f xs)
 map_drop f zero xs = refl
 map_drop f (suc n) [] = refl
 map_drop f (suc n) (x ∷ xs) = map_drop f n xs
 
+-- A function of each item of the new frame.
 map_patched : {X Y : Type 0} (f : X → Y) (xs fresh : List X) (rs : List KeptRun)
     → map f (patched xs fresh rs) ≡ patched (map f xs) (map f fresh) rs
 map_patched f xs fresh [] = refl
@@ -164,6 +176,7 @@ parts_shrunk hs hs' fh ss ss' fs gs fresh rs parts news eh es = same_parts (patc
           ∙ sym (map_patched (λ s. is_node_kind s.what) ss fs rs);
     })
 
+-- The leading groups of a depth depend on the heads only.
 leading_bare : (depth : ℕ) (hs : List GroupHead) (ss : List GroupSlots) → length hs ≡ length ss
     → length (leading_deep depth (joined_groups hs ss)) ≡ length (leading_deep depth (bare_groups hs))
 leading_bare depth [] ss e = refl

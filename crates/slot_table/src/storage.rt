@@ -1,10 +1,9 @@
-// The parts of the groups of a table, in two gap buffers.
+// The parts of the groups of a table, in two lists.
 ghost use Rattle.std.specs.Prelude.{◌≡◌, ◌≤◌, ◌<◌, ◌-◌, ◌++◌, ◌∷◌, [], IfOk, OnOk, OnErr, MatchOption, length, take, drop, slice_set, vec_len, vec_capacity};
 ghost use Rattle.rt_groups.specs.PreorderGroups.{flat_group};
 ghost use Rattle.slot_table.specs.Storage.{AreParts, IsPopped};
 ghost use Rattle.slot_table.specs.TableGroups.{group_at, is_node_kind, with_reads};
 
-use gap_buffer::GapBuf;
 use rt_groups::{Deps, Group, GroupKind};
 use rt_values::{NoMemory, ObjectNo};
 use std::alloc::Global;
