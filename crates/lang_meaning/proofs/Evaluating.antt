@@ -128,22 +128,6 @@ get_stop m e at name x env noting free asked asked' reads reads' result is err p
     (subst (λ (r : Reading Value). Grew asked asked' r.reads) (sym (get_reading m e at name x env is)) part)
     (λ n q g. f n q (get_flat m e at name x env is g))
 
--- The value of the object.
-pub get_evaluated : {E : Type 0} (m : Map) (e : Expression) (at : ℕ) (name : Ident) (x : ℕ) (env : Bindings)
-    (noting : Bool) (free : Type 0) (asked asked' reads reads' : List ℕ) (v : Value) → e ≡ GetOf at name x
-    → v ≡ value_at m x → asked' ≡ asked ++ x ∷ [] → (noting ≡ true → reads' ≡ reads ++ x ∷ [])
-    → EvaluatesReading {E = E} (eval m (expr_view e) env) noting free (is_flat_expr m (expr_view e) env) asked asked'
-    reads reads' (Ok v)
-get_evaluated m e at name x env noting free asked asked' reads reads' v is value came noted =
-    let r = get_reading m e at name x env is in
-    record {
-      value = value ∙ ap (λ (y : Reading Value). y.value) (sym r);
-      came = came ∙ ap (λ (y : Reading Value). asked ++ y.reads) (sym r);
-      noted = λ n. noted n ∙ ap (λ (y : Reading Value). reads ++ y.reads) (sym r);
-      part = tt;
-      no_error = λ n q g. tt;
-    }
-
 -- Operators.
 
 pub apply_view : (e : Expression) (at : ℕ) (op : Operator) (operands : Vec Expression Global) (slice : List Expression)

@@ -28,6 +28,7 @@ impl Pair {
     }
 
     /// Returns the pair with the operand at index `place` replaced. Operands after the first two are discarded.
+    #[inline(always)]
     pub fn with(self, place: usize, value: Value) -> Self
         ensures { result ≡ pair_with self place value }
     {
@@ -85,6 +86,7 @@ pub fn is_plain(operator: Operator) -> bool
 
 /// Applies an operator of one or two operands, using the memory of the first operand again. An operator that gives a
 /// number or a truth value takes no memory.
+#[inline(always)]
 pub fn apply(
     alloc: Global,
     operator: Operator,

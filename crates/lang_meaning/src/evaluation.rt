@@ -48,6 +48,7 @@ pub fn eval<V: View>(
 
 /// Evaluates an expression as `eval` does, and appends its reads to `reads`, the reads of the call that evaluates it
 /// (the current recompose scope). After `NoMemory` the list of reads has no meaning.
+#[inline(always)]
 pub fn eval_noting<V: View>(
     alloc: Global,
     expression: &Expression,
@@ -68,7 +69,7 @@ pub fn eval_noting<V: View>(
         OnErr result (Grew (V.asked view.old) (V.asked view.new)
         (eval m (expr_view expression.now) scope.now).reads) }
 {
-    eval_part(alloc, expression, scope, view, reads, true)
+    eval_inlined(alloc, expression, scope, view, reads, true)
 }
 
 // Evaluates an expression. Appends its reads to `reads` if `is_noting` is true.
@@ -123,6 +124,29 @@ fn eval_part<V: View>(
     }
 }
 
+// Evaluates an expression as `eval_part` does. A literal or a variable takes no call.
+#[inline(always)]
+#[cycle(evaluate)]
+fn eval_inlined<V: View>(
+    alloc: Global,
+    expression: &Expression,
+    scope: &Env,
+    view: &mut V,
+    reads: &mut Objects,
+    is_noting: bool,
+) -> Result<Value, NoMemory>
+    ensures { Evaluates V.shows V.asked V.keeps V.reads_free is_noting
+        (λ m. eval m (expr_view expression.now) scope.now)
+        (λ m. is_flat_expr m (expr_view expression.now) scope.now)
+        view.old view.new reads.old reads.new result }
+{
+    match expression {
+        Expression::Literal { value, .. } => value.copy(alloc),
+        Expression::Variable { name } => scope.value_of(alloc, &name.text),
+        _ => eval_part(alloc, expression, scope, view, reads, is_noting),
+    }
+}
+
 // Returns the value of the operand at index `place`, or 0 if there is none. The other operands are not evaluated.
 #[cycle(evaluate)]
 fn eval_operand<V: View>(
@@ -164,7 +188,7 @@ fn eval_pair<V: View>(
     for (place, expression) in operands.iter().enumerate() {
         pair = pair.with(
             place,
-            eval_part(alloc, expression, scope, view, reads, is_noting)?,
+            eval_inlined(alloc, expression, scope, view, reads, is_noting)?,
         );
     }
     Ok(pair)

@@ -68,6 +68,7 @@ impl Env {
 
     /// Returns a copy of the value of the latest variable with this name, or the number 0 if there is none. Copying a
     /// number or a truth value takes no memory.
+    #[inline(always)]
     #[tactic(auto, using(crate::proofs::Lookups::lookup_last))]
     pub fn value_of(&self, alloc: Global, name: &Word) -> Result<Value, NoMemory>
         ensures value { IfOk result (λ v. v ≡ lookup self.now name.now) }

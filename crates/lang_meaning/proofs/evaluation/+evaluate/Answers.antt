@@ -150,6 +150,23 @@ eval_operand-returns-in-None g t c =
           refl (λ f. tt);
     }
 
+-- An expression that is often a literal or a variable.
+
+pub eval_inlined-returns-in-Literal : goal.eval_inlined-returns-in-Literal
+eval_inlined-returns-in-Literal g t c = record {
+  keeps = g.met.V.View.keeps_itself _;
+  same = λ m h. h;
+  gives = λ m h. literal_evaluated m _ _ _ _ _ _ _ _ _ c.in-Literal.is c.copy.ensures.same c.copy.ensures.flat;
+}
+
+pub eval_inlined-returns-in-Variable : goal.eval_inlined-returns-in-Variable
+eval_inlined-returns-in-Variable g t c = record {
+  keeps = g.met.V.View.keeps_itself _;
+  same = λ m h. h;
+  gives = λ m h. variable_evaluated m _ _ _ _ _ _ _ _ _ c.in-Variable.is refl c.value_of.ensures.value
+      c.value_of.ensures.free;
+}
+
 -- The first two values.
 
 pub eval_pair-loop-place-init : goal.eval_pair-loop-place-init
@@ -161,24 +178,24 @@ eval_pair-loop-place-init g t c = record {
 
 pub eval_pair-loop-place-preserved : goal.eval_pair-loop-place-preserved
 eval_pair-loop-place-preserved g t c = record {
-  keeps = g.met.V.View.keeps_on _ _ _ c.loop-place.invariant.keeps c.in_ok-eval_part.ensures.keeps;
-  same = λ m h. c.in_ok-eval_part.ensures.same m (c.loop-place.invariant.same m h);
-  going = λ m h. let r = c.in_ok-eval_part.ensures.gives m (c.loop-place.invariant.same m h) in
+  keeps = g.met.V.View.keeps_on _ _ _ c.loop-place.invariant.keeps c.in_ok-eval_inlined.ensures.keeps;
+  same = λ m h. c.in_ok-eval_inlined.ensures.same m (c.loop-place.invariant.same m h);
+  going = λ m h. let r = c.in_ok-eval_inlined.ensures.gives m (c.loop-place.invariant.same m h) in
       progress_more m c.args.operands.now c.loop-place.place c.index-operands-place.result c.args.scope.now
       (pair_from c.loop-place.pair c.loop-place.place) (pair_from c.with-pair.result (c.loop-place.place + 1)) _ _ _ _ _ _
       _ _ _ c.loop-place-test.true c.index-operands-place.is (c.loop-place.invariant.going m h) r.value r.came r.noted
       (λ vs. ap (λ (q : Pair). pair_from q (c.loop-place.place + 1) vs) c.with-pair.ensures
-      ∙ ap (λ (n : ℕ). pair_from (pair_with c.loop-place.pair c.loop-place.place c.in_ok-eval_part.field-0) n vs)
+      ∙ ap (λ (n : ℕ). pair_from (pair_with c.loop-place.pair c.loop-place.place c.in_ok-eval_inlined.field-0) n vs)
       (add-one c.loop-place.place));
 }
 
-pub eval_pair-returns-in_err-eval_part : goal.eval_pair-returns-in_err-eval_part
-eval_pair-returns-in_err-eval_part g t c =
+pub eval_pair-returns-in_err-eval_inlined : goal.eval_pair-returns-in_err-eval_inlined
+eval_pair-returns-in_err-eval_inlined g t c =
     let err : IsErr c.from_residual.result = c.from_residual.ensures.0 in
     record {
-      keeps = g.met.V.View.keeps_on _ _ _ c.loop-place.invariant.keeps c.in_err-eval_part.ensures.keeps;
-      same = λ m h. c.in_err-eval_part.ensures.same m (c.loop-place.invariant.same m h);
-      gives = λ m h. let r = c.in_err-eval_part.ensures.gives m (c.loop-place.invariant.same m h) in
+      keeps = g.met.V.View.keeps_on _ _ _ c.loop-place.invariant.keeps c.in_err-eval_inlined.ensures.keeps;
+      same = λ m h. c.in_err-eval_inlined.ensures.same m (c.loop-place.invariant.same m h);
+      gives = λ m h. let r = c.in_err-eval_inlined.ensures.gives m (c.loop-place.invariant.same m h) in
           progress_stop m c.args.operands.now c.loop-place.place c.index-operands-place.result c.args.scope.now
           (pair_from c.loop-place.pair c.loop-place.place) (λ vs. pair (first vs) (second vs)) _ _ _ _ _ _ _ _ _ _ err c.loop-place-test.true
           c.index-operands-place.is (c.loop-place.invariant.going m h) r.part
