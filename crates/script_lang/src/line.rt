@@ -52,8 +52,11 @@ pub fn add_number(text: &mut Vec<u8>, number: u64) -> Result<(), NoMemory>
 fn add_digits(text: &mut Vec<u8>, number: u64) -> Result<(), NoMemory>
     ensures { OnOk result (text.new.items ≡ text.old.items ++ decimal number) }
 {
-    let mut digits = Buffer::new();
-    add(text, digits.format(number).as_bytes())
+    let mut buffer = Buffer::new();
+    let digits = buffer.format(number).as_bytes();
+    text.reserve(digits.len())?;
+    put_bytes(text, digits);
+    Ok(())
 }
 
 // Appends bytes, for which there is capacity. Most names have few bytes, which a loop copies faster than a call does.
