@@ -3,6 +3,7 @@ pub mod BesideSteps
 pub mod CalledFunctions
 pub mod Comparisons
 pub mod EqualKinds
+pub mod InHand
 pub mod LevelIndexes
 pub mod Marks
 pub mod Machine

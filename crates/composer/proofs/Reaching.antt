@@ -1,17 +1,15 @@
 -- When a part of a composition reaches a state, for each way to make a forest.
-use Rattle.std.proofs.Common.{ℕ, ◌++◌, ◌<◌, List, ◌≡◌, ap, ◌∙◌, sym, subst, length, length-append, Result, Ok, Err, IsErr, OnOk, Bool, true, arith}
+use Rattle.std.proofs.Common.{ℕ, ◌<◌, List, ◌≡◌, ap, ◌∙◌, sym, subst, length, length-append, Result, Ok, Err, IsErr, OnOk, Bool, arith}
 use Rattle.rt_groups.specs.GroupForest.{GroupForest, Group, GroupKind}
 use Rattle.rt_groups.specs.Paths.{GroupKey}
 use Rattle.rt_groups.specs.PreorderGroups.{preorder}
 use Rattle.rt_groups.specs.Frames.{most_groups}
-use Rattle.lang_ast.specs.ResultsWithReads.{Reading}
-use Rattle.compose_model.specs.Composing.{forest_after}
 use Rattle.composer.specs.declared.stop.ComposeStop.{ComposeStop}
 use Rattle.composer.specs.declared.stop.ComposeStop.TheVariants.{TooManyGroups, NoMemory}
 use Rattle.recompose_laws.specs.Numbering.{numbered_by_siblings}
 use Rattle.composer.specs.ComposerState.{ComposerState, composed_beside}
 use Rattle.composer.specs.BesideContracts.{IsPrefix, Reaches}
-use Rattle.composer.proofs.Machine.{read_all, composed_is, composed-reads_then, part_of, part_on}
+use Rattle.composer.proofs.Machine.{composed_is}
 
 pub on_ok : {T E X : Type 0} (result : Result T E) → X → OnOk result X
 on_ok (Ok u) x = x
@@ -44,22 +42,6 @@ reached_as x (Err z) e h = record {
 pub reached_at : {U : Type 0} {target target' s : ComposerState} {result : Result U ComposeStop} → target ≡ target'
     → Reaches target s result → Reaches target' s result
 reached_at {s = s} {result = result} e h = subst (λ (q : ComposerState). Reaches q s result) e h
-
--- Some of the reads of a result were made before the composition ran out of memory.
-pub part_after : {A : Type 0} (owed : List ℕ) (old : GroupForest) (d : ℕ) (seen : List GroupKey) (s : ComposerState)
-    (asked : List ℕ) (r : Reading A) (go : A → GroupForest) (rest : List ℕ) → asked ++ rest ≡ s.asked ++ r.reads →
-    IsPrefix asked (composed_beside owed old d true seen (forest_after r go) s).asked
-unfolding forest_after
-part_after owed old d seen s asked r go rest p =
-    subst (λ (q : ComposerState). IsPrefix asked q.asked)
-    (sym (composed-reads_then owed old d seen r.reads (go r.value) s))
-    (part_on (record { rest = rest; is = p }) (part_of owed old d true seen (go r.value) (read_all r.reads s)))
-
--- Nothing was read before the composition stopped.
-pub part_here : (owed : List ℕ) (old : GroupForest) (d : ℕ) (seen : List GroupKey) (t : GroupForest) (s : ComposerState)
-    (asked : List ℕ) → asked ≡ s.asked → IsPrefix asked (composed_beside owed old d true seen t s).asked
-part_here owed old d seen t s asked h = subst (λ (l : List ℕ). IsPrefix l
-    (composed_beside owed old d true seen t s).asked) (sym h) (part_of owed old d true seen t s)
 
 -- A forest that begins with a group has at least one group.
 pub longer_one : (owed : List ℕ) (old : GroupForest) (d : ℕ) (running : Bool) (seen : List GroupKey) (site n : ℕ)

@@ -32,12 +32,6 @@ pub stopped : {U E : Type 0} (A : Type 0) (result : Result U E) (x : E) → resu
 stopped A (Ok u) x e = cc
 stopped A (Err y) x e = tt
 
--- The number of reads where the reads of the innermost call stay the same.
-pub counted_beside : {U E : Type 0} (result : Result U E) (w now own a a1 : ℕ) → OnOk result (now + a ≡ w + a1)
-    → OnOk result (now + own + a ≡ w + own + a1)
-counted_beside (Ok u) w now own a a1 h = omega (arith, h)
-counted_beside (Err x) w now own a a1 h = tt
-
 -- The number of reads after a group that is kept. The writer has `was` reads after it.
 pub counted_kept : {U E : Type 0} (result : Result U E) (w was now a a1 : ℕ) → was ≡ w
     → OnOk result (now + a ≡ was + a1) → OnOk result (now + a ≡ w + a1)

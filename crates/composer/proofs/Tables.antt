@@ -1,26 +1,15 @@
 -- The table that a frame changes stays the same.
-use Rattle.std.proofs.Common.{◌≡◌, ◌≤◌, ◌<◌, ◌+◌, ◌∙◌, ℕ, List, length, Result, Ok, Err, ap, subst}
-use Rattle.std.specs.Prelude.{OnOk}
+use Rattle.std.proofs.Common.{◌≡◌, ◌≤◌, ◌<◌, ◌+◌, ◌∙◌, ℕ, List, length, ap, subst}
 use Rattle.rt_groups.specs.declared.groups.Group.{Group as Listed}
 use Rattle.rt_groups.specs.Frames.{most_groups}
-use Rattle.composer.specs.declared.composing.Level.{Level}
-use Rattle.composer.specs.declared.composing.Progress.{Progress}
-use Rattle.composer.specs.declared.stop.ComposeStop.{ComposeStop}
 use Rattle.composer.specs.WrittenGroups.{WrittenGroups, state_of, written_run}
 use Rattle.composer.specs.QuietRuns.{group_run, with_run}
-use Rattle.composer.specs.Recomposes.{FitsIn, StaysIn}
+use Rattle.composer.specs.Recomposes.{FitsIn}
 
 -- More groups for the same table.
 pub fits_after : {olds : List Listed} {w w' : WrittenGroups} → w'.olds ≡ w.olds → FitsIn olds w
     → length w'.groups ≤ most_groups → FitsIn olds w'
 fits_after e f few = record { few = few; same = e ∙ f.same }
-
--- More groups, and the same old siblings.
-pub stays_with : (level : Level) (made : Progress) {U : Type 0} (result : Result U ComposeStop)
-    → made.pending.table.now.groups ≡ level.last.now.groups → OnOk result (FitsIn level.last.now.groups made.writer)
-    → OnOk result (StaysIn level made)
-stays_with level made (Ok u) e f = record { written = f; pending = e }
-stays_with level made (Err x) e f = tt
 
 -- A run of old groups is appended.
 pub run_added : {olds : List Listed} {w w' : WrittenGroups} (i j : ℕ) (asked own : List ℕ)

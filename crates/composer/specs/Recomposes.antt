@@ -151,18 +151,24 @@ pub record Recomposes {W : Type 0} (shown : W → Map → Type 0) (asked : W →
       (state_of made.writer (asked view) made.reads)
       (state_of made'.writer (asked view') made'.reads) made'.pending result
 
+-- What is in hand stays: the variables in scope, the old siblings that are not matched yet, and the reads of the call.
+pub record StaysInHand (made made' : Progress) : Type 0 where
+  pub scope : made'.scope ≡ made.scope
+  pub pending : made'.pending ≡ made.pending
+  pub reads : made'.reads ≡ made.reads
+
 -- The contract of writing the groups of a call that runs, or of groups that are skipped: `reaches m` is what was
 -- reached in the map `m`.
 pub record Writes {W : Type 0} (shown : W → Map → Type 0) (asked : W → List ℕ) (kept : W → W → Type 0)
-    (olds : List Listed) (view view' : W)
-    (written written' : WrittenGroups) {U : Type 0} (result : Result U ComposeStop)
+    (olds : List Listed) (view view' : W) (made made' : Progress) {U : Type 0} (result : Result U ComposeStop)
     (reaches : Map → Type 0) : Type 0 where
   pub keeps : kept view view'
   pub same : (m : Map) → shown view m → shown view' m
-  pub longer : OnOk result (length written.groups ≤ length written'.groups)
-  pub fits : OnOk result (FitsIn olds written')
-  pub counted : (m : Map) → shown view m
-      → OnOk result (written'.reads + length (asked view) ≡ written.reads + length (asked view'))
+  pub in_hand : OnOk result (StaysInHand made made')
+  pub longer : OnOk result (length made.writer.groups ≤ length made'.writer.groups)
+  pub fits : OnOk result (FitsIn olds made'.writer)
+  pub counted : (m : Map) → shown view m → OnOk result (made'.writer.reads + length (asked view)
+      ≡ made.writer.reads + length (asked view'))
   pub ran : (m : Map) → shown view m → reaches m
 
 -- A call ran next to the old groups inside the group `there`, which is `found` in the table. `own` has the reads of the

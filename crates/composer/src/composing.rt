@@ -14,12 +14,14 @@ ghost use Rattle.recompose_laws.specs.CalculatedCells.{Calculation, CalculatesAt
 ghost use Rattle.composer.specs.WrittenGroups.{kept_of, group_kind, arguments_of, AreArguments};
 ghost use Rattle.composer.specs.FrameDrafts.{Holds, IsOwing, ComposesFrame, root_of};
 ghost use Rattle.lang_ast.specs.Programs.{functions_of};
-ghost use Rattle.composer.specs.OldSiblings.{old_group, IsFoundIn};
+ghost use Rattle.rt_groups.specs.Paths.{GroupKey};
+ghost use Rattle.composer.specs.OldSiblings.{old_group, found_siblings, IsFoundIn};
+ghost use Rattle.composer.specs.Waiting.{waiting_siblings};
 ghost use Rattle.composer.specs.Recomposes.{Recomposes, Continues, RanBeside, Writes, HasRoom, HasRoomToWrite, FitsIn, group_at_level, statement_at, body_at, call_at, loop_at, BodyRan, GroupSkipped, GroupsSkipped, FrameWritten, any_calculation, is_container, is_call_kept};
 
 use crate::compared::{call_is_run, kept_value, meet};
 use crate::draft::{Draft, Held};
-use crate::entering::{enter_body, enter_group, keep_group, push_name};
+use crate::entering::{enter_group, keep_group, push_name};
 use crate::last_groups::LastGroups;
 use crate::old_groups::OldGroup;
 use crate::owed::Owed;
@@ -31,7 +33,7 @@ use crate::writer::{CallArguments, NewKind, Writer};
 use group_keys::SiblingKey;
 use lang_ast::{Expression, Function, Ident, Named, Statement};
 use lang_checks::Checked;
-use lang_meaning::{Env, eval_noting, evaluate_all, evaluate_attributes, evaluate_keys};
+use lang_meaning::{Env, bind, eval_noting, evaluate_all, evaluate_attributes, evaluate_keys};
 use rt_groups::{Deps, GroupKind, Values};
 use rt_values::{NoMemory, Steps, Value, View};
 use std::alloc::Global;
@@ -39,24 +41,85 @@ use std::mem;
 use std::sync::ledger::Ledger;
 
 /// Where statements are composed: the functions that their calls reach, the groups of the last frame with what is owed,
-/// lists whose memory is used again, and the depth of the new groups.
+/// and the depth of the new groups.
 #[derive(Clone, Copy)]
 pub struct Level<'a> {
     pub alloc: Global,
     pub functions: &'a [Function],
     pub last: &'a LastGroups<'a>,
-    pub spares: &'a Spares,
     pub depth: u32,
 }
 
 /// What composing has made so far: the variables in scope, the old siblings that are not matched yet, the reads of the
-/// innermost call, the groups.
+/// innermost call, the groups. `spares` has lists whose memory is used again.
 #[derive(Drop)]
 pub struct Progress<'a> {
     pub scope: Env,
     pub pending: Pending<'a>,
     pub reads: Deps,
     pub writer: Writer<'a>,
+    pub spares: Spares,
+}
+
+/// What is in hand around the body of a call, while the body is composed: the variables in scope, the old siblings that
+/// are not matched yet, and the reads of the call around it.
+#[derive(Drop)]
+pub struct Around<'a> {
+    pub scope: Env,
+    pub pending: Pending<'a>,
+    pub reads: Deps,
+}
+
+impl<'a> Progress<'a> {
+    // Goes into the body of a call, whose variables are `scope`, next to the old groups inside `found`. Returns what is
+    // in hand around the body.
+    #[inline(always)]
+    fn enter_body(
+        &mut self,
+        level: &Level<'a>,
+        found: &Option<OldGroup<'a>>,
+        scope: Env,
+    ) -> Around<'a>
+        ensures around { result ≡ record {
+          scope = self.old.scope;
+          pending = self.old.pending;
+          reads = self.old.reads;
+        } }
+        ensures scope { self.new.scope ≡ scope }
+        ensures pending { (s : GroupKey) → waiting_siblings self.new.pending s ≡ found_siblings found.now s }
+        ensures table { IsFoundIn level.now.last.now.groups found.now →
+            self.new.pending.table.now.groups ≡ level.now.last.now.groups }
+        ensures reads { self.new.reads ≡ [] }
+        ensures writer { self.new.writer ≡ self.old.writer }
+    {
+        let pending = Pending::inside_found(level.last, found);
+        let reads = self.spares.take_reads(level.alloc);
+        Around {
+            scope: mem::replace(&mut self.scope, scope),
+            pending: mem::replace(&mut self.pending, pending),
+            reads: mem::replace(&mut self.reads, reads),
+        }
+    }
+
+    // Leaves the body of a call. Returns the reads of the call.
+    #[inline(always)]
+    fn leave_body(&mut self, around: Around<'a>) -> Deps
+        ensures own { result ≡ self.old.reads }
+        ensures scope { self.new.scope ≡ around.entry.scope }
+        ensures pending { self.new.pending ≡ around.entry.pending }
+        ensures reads { self.new.reads ≡ around.entry.reads }
+        ensures writer { self.new.writer ≡ self.old.writer }
+    {
+        let Around {
+            scope,
+            pending,
+            reads,
+        } = around;
+        let variables = mem::replace(&mut self.scope, scope);
+        self.spares.keep_scope(variables);
+        self.pending = pending;
+        mem::replace(&mut self.reads, reads)
+    }
 }
 
 /// What a cell remembers: the keys and the calculation of a `remember` at a site.
@@ -168,6 +231,7 @@ fn run_one<'a, V: View, L: Ledger>(
 
 // Composes a node or a key: matches its group with an old sibling, appends it, and composes the statements inside it.
 #[cycle(again)]
+#[inline(always)]
 fn run_group<'a, V: View, L: Ledger>(
     level: &Level<'a>,
     site: u32,
@@ -185,7 +249,14 @@ fn run_group<'a, V: View, L: Ledger>(
         (λ calc. StmtsCalculate calc (stmts_view body.now)) m (V.asked view.old) (V.asked view.new) made.old made.new
         result }
 {
-    let found = enter_group(level, site, what, &mut made.pending, &mut made.writer)?;
+    let found = enter_group(
+        level,
+        site,
+        what,
+        &mut made.pending,
+        &mut made.writer,
+        &mut made.spares,
+    )?;
     if body.is_empty() {
         return Ok(());
     }
@@ -193,7 +264,6 @@ fn run_group<'a, V: View, L: Ledger>(
         alloc: level.alloc,
         functions: level.functions,
         last: level.last,
-        spares: level.spares,
         depth: level.depth + 1,
     };
     let within = Pending::inside_found(level.last, &found);
@@ -222,7 +292,7 @@ fn run_node<'a, V: View, L: Ledger>(
         (λ calc. StmtsCalculate calc (stmts_view body.now))
         view.old view.new made.old made.new result }
 {
-    let room = level.spares.take_attributes(level.alloc, attributes.len())?;
+    let room = made.spares.take_attributes(level.alloc, attributes.len())?;
     let attributes = evaluate_attributes(
         level.alloc,
         room,
@@ -421,7 +491,7 @@ fn run_remember<'a, V: View, L: Ledger>(
         (expr_view cell.entry.value.now) × StmtsCalculate calc (stmts_view body.now))
         view.old view.new made.old made.new result }
 {
-    let room = level.spares.take_scope(level.alloc);
+    let room = made.spares.take_scope(level.alloc);
     let env = evaluate_keys(
         level.alloc,
         room,
@@ -436,7 +506,7 @@ fn run_remember<'a, V: View, L: Ledger>(
     let value = remember(level.alloc, &found, &env, cell.value, view, &mut made.reads)?;
     made.writer.enter_cell(
         level.alloc,
-        level.spares,
+        &mut made.spares,
         level.depth,
         cell.site,
         env,
@@ -463,7 +533,7 @@ fn run_arguments<'a, V: View, L: Ledger>(
         (λ vs. call_at level.now site function vs m)) any_calculation
         view.old view.new made.old made.new result }
 {
-    let all = level.spares.take_values(level.alloc, arguments.len())?;
+    let all = made.spares.take_values(level.alloc, arguments.len())?;
     let arguments = evaluate_all(
         level.alloc,
         all,
@@ -502,7 +572,7 @@ fn run_call<'a, V: View, L: Ledger>(
             function,
             CallArguments::New(arguments),
             &found,
-            &mut made.writer,
+            made,
             view,
             steps,
         );
@@ -516,9 +586,9 @@ fn run_call<'a, V: View, L: Ledger>(
             .enter_call(level.alloc, level.depth, site, call, false)?;
         return Ok(());
     }
-    level.spares.keep_values(level.alloc, arguments);
+    made.spares.keep_values(arguments);
     match &found {
-        Some(old) => skip_group(level, site, old, &mut made.writer, view, steps),
+        Some(old) => skip_group(level, site, old, made, view, steps),
         None => Err(ComposeStop::NoMemory), // A call without an old group runs.
     }
 }
@@ -532,39 +602,40 @@ fn run_body<'a, V: View, L: Ledger>(
     function: usize,
     arguments: CallArguments,
     found: &Option<OldGroup<'a>>,
-    writer: &mut Writer<'a>,
+    made: &mut Progress<'a>,
     view: &mut V,
     steps: &mut Steps<L>,
 ) -> Result<(), ComposeStop>
-    requires room { HasRoomToWrite level.now writer.old }
+    requires room { HasRoomToWrite level.now made.old.writer }
     requires found { IsFoundIn level.now.last.now.groups found.now }
     requires arguments { AreArguments function arguments found.now }
-    ensures { Writes V.shows V.asked V.keeps level.now.last.now.groups view.old view.new writer.old writer.new
-        result
+    ensures { Writes V.shows V.asked V.keeps level.now.last.now.groups view.old view.new made.old made.new result
         (λ m. BodyRan level.now m site function (arguments_of arguments.entry) found.now (V.asked view.old)
-        (V.asked view.new) writer.old writer.new result) }
+        (V.asked view.new) made.old.writer made.new.writer result) }
 {
     if function >= level.functions.len() {
-        writer.enter_empty(level.alloc, level.depth, site, function, arguments, found)?;
+        made.writer
+            .enter_empty(level.alloc, level.depth, site, function, arguments, found)?;
         return Ok(());
     }
     let callee = &level.functions[function];
-    let place = writer.len();
+    let place = made.writer.len();
     let first = arguments.first_reads(found);
-    let mut inner = enter_body(level, site, function, callee, arguments, found, writer)?;
+    let room = made.spares.take_scope(level.alloc);
+    let scope = bind(level.alloc, room, &callee.parameters, arguments.values())?;
+    made.writer
+        .enter_running(level.alloc, level.depth, site, function, arguments, found)?;
+    let around = made.enter_body(level, found, scope);
     let inside = Level {
         alloc: level.alloc,
         functions: &level.functions[..function],
         last: level.last,
-        spares: level.spares,
         depth: level.depth + 1,
     };
-    run_all(&inside, &callee.body, &mut inner, view, steps)?;
-    level.spares.keep_scope(level.alloc, inner.scope);
-    let own = inner.reads;
-    let mut written = inner.writer;
-    written.end_call(level.alloc, level.spares, place, first, own)?;
-    *writer = written;
+    run_all(&inside, &callee.body, made, view, steps)?;
+    let own = made.leave_body(around);
+    made.writer
+        .end_call(level.alloc, &mut made.spares, place, first, own)?;
     Ok(())
 }
 
@@ -586,15 +657,14 @@ fn skip_group<'a, V: View, L: Ledger>(
     level: &Level<'a>,
     site: u32,
     old: &OldGroup<'a>,
-    writer: &mut Writer<'a>,
+    made: &mut Progress<'a>,
     view: &mut V,
     steps: &mut Steps<L>,
 ) -> Result<(), ComposeStop>
-    requires room { HasRoomToWrite level.now writer.old }
+    requires room { HasRoomToWrite level.now made.old.writer }
     requires table { old.now.groups ≡ level.now.last.now.groups }
-    ensures { Writes V.shows V.asked V.keeps level.now.last.now.groups view.old view.new writer.old writer.new
-        result
-        (λ m. GroupSkipped level.now m site old.now (V.asked view.old) (V.asked view.new) writer.old writer.new
+    ensures { Writes V.shows V.asked V.keeps level.now.last.now.groups view.old view.new made.old made.new result
+        (λ m. GroupSkipped level.now m site old.now (V.asked view.old) (V.asked view.new) made.old.writer made.new.writer
         result) }
 {
     steps.tick();
@@ -606,23 +676,20 @@ fn skip_group<'a, V: View, L: Ledger>(
             if meet(old.reads(), level.last) {
                 let found = Some(old.copy());
                 let arguments = CallArguments::Old(arguments);
-                return run_body(
-                    level, site, *function, arguments, &found, writer, view, steps,
-                );
+                return run_body(level, site, *function, arguments, &found, made, view, steps);
             }
-            keep_group(level, site, old, writer)?;
+            keep_group(level, site, old, &mut made.writer)?;
             let inside = Level {
                 alloc: level.alloc,
                 functions: front(level.functions, *function),
                 last: level.last,
-                spares: level.spares,
                 depth: level.depth + 1,
             };
-            skip_all(&inside, old.first_inside(), writer, view, steps)
+            skip_all(&inside, old.first_inside(), made, view, steps)
         }
-        GroupKind::Node { .. } => skip_inside(level, site, old, writer, view, steps),
-        GroupKind::Key(_) => skip_inside(level, site, old, writer, view, steps),
-        GroupKind::Cell { .. } => skip_inside(level, site, old, writer, view, steps),
+        GroupKind::Node { .. } => skip_inside(level, site, old, made, view, steps),
+        GroupKind::Key(_) => skip_inside(level, site, old, made, view, steps),
+        GroupKind::Cell { .. } => skip_inside(level, site, old, made, view, steps),
     }
 }
 
@@ -632,27 +699,25 @@ fn skip_inside<'a, V: View, L: Ledger>(
     level: &Level<'a>,
     site: u32,
     old: &OldGroup<'a>,
-    writer: &mut Writer<'a>,
+    made: &mut Progress<'a>,
     view: &mut V,
     steps: &mut Steps<L>,
 ) -> Result<(), ComposeStop>
-    requires room { HasRoomToWrite level.now writer.old }
+    requires room { HasRoomToWrite level.now made.old.writer }
     requires table { old.now.groups ≡ level.now.last.now.groups }
     ensures { is_call_kept (old_group old.now).what ≡ false
-        → Writes V.shows V.asked V.keeps level.now.last.now.groups view.old view.new writer.old writer.new
-        result
-        (λ m. GroupSkipped level.now m site old.now (V.asked view.old) (V.asked view.new) writer.old writer.new
+        → Writes V.shows V.asked V.keeps level.now.last.now.groups view.old view.new made.old made.new result
+        (λ m. GroupSkipped level.now m site old.now (V.asked view.old) (V.asked view.new) made.old.writer made.new.writer
         result) }
 {
-    keep_group(level, site, old, writer)?;
+    keep_group(level, site, old, &mut made.writer)?;
     let inside = Level {
         alloc: level.alloc,
         functions: level.functions,
         last: level.last,
-        spares: level.spares,
         depth: level.depth + 1,
     };
-    skip_all(&inside, old.first_inside(), writer, view, steps)
+    skip_all(&inside, old.first_inside(), made, view, steps)
 }
 
 // Skips the old groups from index `first` on, up to the first that is less deep. Siblings in which no call is owed are
@@ -661,27 +726,26 @@ fn skip_inside<'a, V: View, L: Ledger>(
 fn skip_all<'a, V: View, L: Ledger>(
     level: &Level<'a>,
     first: usize,
-    writer: &mut Writer<'a>,
+    made: &mut Progress<'a>,
     view: &mut V,
     steps: &mut Steps<L>,
 ) -> Result<(), ComposeStop>
-    requires { HasRoomToWrite level.now writer.old }
-    ensures { Writes V.shows V.asked V.keeps level.now.last.now.groups view.old view.new writer.old writer.new
-        result
-        (λ m. GroupsSkipped level.now m (drop first level.now.last.now.groups) (V.asked view.old) (V.asked view.new) writer.old
-        writer.new result) }
+    requires { HasRoomToWrite level.now made.old.writer }
+    ensures { Writes V.shows V.asked V.keeps level.now.last.now.groups view.old view.new made.old made.new result
+        (λ m. GroupsSkipped level.now m (drop first level.now.last.now.groups) (V.asked view.old) (V.asked view.new) made.old.writer
+        made.new.writer result) }
 {
     let last = level.last;
     let around = first.saturating_sub(1);
     let mut at = first;
     while at < last.len() {
         let stop = quiet_end(last, level.depth, around, at);
-        writer.keep_run(at, stop)?;
+        made.writer.keep_run(at, stop)?;
         if is_end(last, level.depth, stop) {
             return Ok(());
         }
         let old = last.group(stop);
-        skip_group(level, old.site(), &old, writer, view, steps)?;
+        skip_group(level, old.site(), &old, made, view, steps)?;
         at = last.index_after(stop);
     }
     Ok(())
@@ -692,22 +756,19 @@ fn write_frame<'a, V: View, L: Ledger>(
     alloc: Global,
     program: &'a Checked,
     last: &'a LastGroups<'a>,
-    spares: &'a Spares,
-    writer: &mut Writer<'a>,
+    made: &mut Progress<'a>,
     view: &mut V,
     steps: &mut Steps<L>,
 ) -> Result<(), ComposeStop>
-    requires { FitsIn last.now.groups writer.old }
-    ensures { Writes V.shows V.asked V.keeps last.now.groups view.old view.new writer.old writer.new
-        result
-        (λ m. FrameWritten program.now last.now m (V.asked view.old) (V.asked view.new) writer.old writer.new
+    requires { FitsIn last.now.groups made.old.writer }
+    ensures { Writes V.shows V.asked V.keeps last.now.groups view.old view.new made.old made.new result
+        (λ m. FrameWritten program.now last.now m (V.asked view.old) (V.asked view.new) made.old.writer made.new.writer
         result) }
 {
     let level = Level {
         alloc,
         functions: program.functions(),
         last,
-        spares,
         depth: 0,
     };
     if last.owes_all() {
@@ -718,12 +779,12 @@ fn write_frame<'a, V: View, L: Ledger>(
             root,
             CallArguments::New(Values::new(alloc)),
             &None,
-            writer,
+            made,
             view,
             steps,
         );
     }
-    skip_all(&level, 0, writer, view, steps)
+    skip_all(&level, 0, made, view, steps)
 }
 
 // Composes a frame and returns its draft.
@@ -732,7 +793,6 @@ fn compose_draft<'a, V: View, L: Ledger>(
     program: &'a Checked,
     last: &'a LastGroups<'a>,
     next: u64,
-    spares: &'a Spares,
     view: &mut V,
     steps: &mut Steps<L>,
 ) -> Result<Draft, ComposeStop>
@@ -744,9 +804,16 @@ fn compose_draft<'a, V: View, L: Ledger>(
         ComposesFrame (functions_of program.now) (root_of program.now) last.now.owed k m (V.asked view.old)
         (V.asked view.new) result }
 {
-    let mut writer = Writer::new(alloc, last.table(), next);
-    write_frame(alloc, program, last, spares, &mut writer, view, steps)?;
-    Ok(writer.into_draft(alloc)?)
+    let writer = Writer::new(alloc, last.table(), next);
+    let mut made = Progress {
+        scope: Env::new(alloc),
+        pending: Pending::none(last.table()),
+        reads: Deps::new(alloc),
+        writer,
+        spares: Spares::new(alloc),
+    };
+    write_frame(alloc, program, last, &mut made, view, steps)?;
+    Ok(made.writer.into_draft(alloc)?)
 }
 
 /// Composes a frame next to the groups of the last good frame (`recompose`), or everything before the first one
@@ -773,6 +840,5 @@ pub fn compose<V: View, L: Ledger>(
         (V.asked view.new) result }
 {
     let last = LastGroups::new(alloc, held, owed)?;
-    let spares = Spares::new(alloc);
-    compose_draft(alloc, program, &last, held.next(), &spares, view, steps)
+    compose_draft(alloc, program, &last, held.next(), view, steps)
 }

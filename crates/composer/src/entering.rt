@@ -10,17 +10,17 @@ ghost use Rattle.composer.specs.WrittenGroups.{number_kept, written_kept, runnin
 ghost use Rattle.composer.specs.OldSiblings.{old_group, found_siblings, IsFoundIn};
 ghost use Rattle.composer.specs.Waiting.{waiting_siblings};
 
-use crate::composing::{Level, Progress};
+use crate::composing::Level;
 use crate::old_groups::OldGroup;
 use crate::pending::Pending;
+use crate::spares::Spares;
 use crate::stop::ComposeStop;
-use crate::writer::{CallArguments, NewKind, Writer};
+use crate::writer::{NewKind, Writer};
 use group_keys::SiblingKey;
-use lang_ast::{Function, Ident};
-use lang_meaning::{Env, bind};
+use lang_ast::Ident;
+use lang_meaning::Env;
 use rt_groups::GroupKind;
 use rt_values::{NoMemory, Value};
-use std::mem;
 
 /// Matches a node or a key with an old sibling, and appends its group. Returns the old sibling.
 #[inline(always)]
@@ -30,6 +30,7 @@ pub fn enter_group<'a>(
     what: NewKind,
     pending: &mut Pending<'a>,
     writer: &mut Writer<'a>,
+    spares: &mut Spares,
 ) -> Result<Option<OldGroup<'a>>, ComposeStop>
     requires { length writer.old.groups ≤ most_groups }
     ensures found { IfOk result (λ found. found ≡ slice_get (waiting_siblings pending.old
@@ -45,7 +46,7 @@ pub fn enter_group<'a>(
     ensures full { result ≡ Err ComposeStop.TooManyGroups → length writer.old.groups ≡ most_groups }
 {
     let found = pending.take(level.alloc, &SiblingKey::new(site, what.key()))?;
-    writer.enter(level.alloc, level.depth, site, what, &found, level.spares)?;
+    writer.enter(level.alloc, level.depth, site, what, &found, spares)?;
     Ok(found)
 }
 
@@ -56,44 +57,6 @@ pub fn push_name(name: &Ident, value: Value, scope: &mut Env) -> Result<(), NoMe
 {
     let name = name.text.copy()?;
     scope.push(name, value)
-}
-
-/// Starts a call that runs: binds the parameters of its function, and appends its group. What is made moves out of
-/// `writer`, which has no meaning afterwards.
-#[inline(always)]
-pub fn enter_body<'a>(
-    level: &Level<'a>,
-    site: u32,
-    function: usize,
-    callee: &Function,
-    arguments: CallArguments,
-    found: &Option<OldGroup<'a>>,
-    writer: &mut Writer<'a>,
-) -> Result<Progress<'a>, ComposeStop>
-    requires room { length writer.old.groups ≤ most_groups }
-    requires arguments { AreArguments function arguments found.now }
-    ensures scope { IfOk result (λ p. p.scope ≡ bind callee.now.parameters.items (arguments_of arguments.entry)) }
-    ensures pending { IfOk result (λ p. (s : GroupKey) → waiting_siblings p.pending s ≡ found_siblings found.now s) }
-    ensures table { IsFoundIn level.now.last.now.groups found.now →
-        IfOk result (λ p. p.pending.table.now.groups ≡ level.now.last.now.groups) }
-    ensures reads { IfOk result (λ p. p.reads ≡ []) }
-    ensures entered { IfOk result (λ p. p.writer ≡ running_call level.now.depth site
-        (kinds.Call function (arguments_of arguments.entry)) (first_reads arguments.entry found.now) writer.old) }
-    ensures fits { IfOk result (λ p. length p.writer.groups ≤ most_groups) }
-    ensures full { result ≡ Err ComposeStop.TooManyGroups → length writer.old.groups ≡ most_groups }
-{
-    let room = level.spares.take_scope(level.alloc);
-    let scope = bind(level.alloc, room, &callee.parameters, arguments.values())?;
-    let pending = Pending::inside_found(level.last, found);
-    writer.enter_running(level.alloc, level.depth, site, function, arguments, found)?;
-    let taken = mem::replace(writer, Writer::new(level.alloc, level.last.table(), 0));
-    let reads = level.spares.take_reads(level.alloc);
-    Ok(Progress {
-        scope,
-        pending,
-        reads,
-        writer: taken,
-    })
 }
 
 /// Appends an old group, which is kept.

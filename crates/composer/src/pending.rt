@@ -81,6 +81,7 @@ impl<'a> Pending<'a> {
     /// Removes and returns the first unmatched sibling with the site and the key of `key` (`getNext`). While new groups
     /// come in the order of the old ones it takes constant time and no memory. All calls together take time linear in
     /// the siblings.
+    #[inline(always)]
     pub fn take(
         &mut self,
         alloc: Global,
@@ -105,6 +106,7 @@ impl<'a> Pending<'a> {
     }
 
     // Removes and returns the next sibling.
+    #[inline(always)]
     fn take_next(&mut self) -> OldGroup<'a>
         requires ordered { is_some self.old.queues ≡ false }
         requires level { is_group_at self.old.table.now.groups self.old.depth self.old.next ≡ true }
@@ -165,6 +167,7 @@ fn take_index(queues: &mut Option<Box<SiblingQueues>>, key: &SiblingKey) -> Opti
 }
 
 // Returns whether index `i` is that of a group of this depth.
+#[inline(always)]
 fn is_level(table: &Table, depth: usize, i: usize) -> bool
     ensures { result ≡ is_group_at table.now.groups depth i }
 {
@@ -172,6 +175,7 @@ fn is_level(table: &Table, depth: usize, i: usize) -> bool
 }
 
 // Returns the site and the key of the group at index `i`.
+#[inline(always)]
 fn sibling_at<'a>(table: &'a Table, i: usize) -> SiblingKey<'a>
     requires { i < length table.now.groups }
     ensures { result ≡ sibling_key (group_at table.now.groups i) }

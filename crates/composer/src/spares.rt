@@ -5,67 +5,34 @@ use lang_meaning::Env;
 use rt_groups::{Attributes, Deps, Values};
 use rt_values::NoMemory;
 use std::alloc::Global;
-use std::cell::Cell;
-
-// Lists of one kind that are not in use.
-#[derive(Drop)]
-struct Shelf<T> {
-    lists: Cell<Vec<T>>,
-}
-
-impl<T: Drop> Shelf<T> {
-    // Returns no lists.
-    fn new(alloc: Global) -> Self {
-        Shelf {
-            lists: Cell::new(Vec::new(alloc)),
-        }
-    }
-
-    // Removes and returns a list, if there is one.
-    #[inline(always)]
-    fn take(&self, alloc: Global) -> Option<T> {
-        let mut lists = self.lists.replace(Vec::new(alloc));
-        let list = lists.pop();
-        self.lists.set(lists);
-        list
-    }
-
-    // Adds `list`, or drops it if there is no memory for one more.
-    #[inline(always)]
-    fn keep(&self, alloc: Global, list: T) {
-        let mut lists = self.lists.replace(Vec::new(alloc));
-        let _ = lists.push(list);
-        self.lists.set(lists);
-    }
-}
 
 /// Lists that are not in use, whose memory the next list of the same kind takes: the variables of a call or the keys
 /// of a cell, the reads and the arguments of a call, and the attributes of a node.
 #[derive(Drop)]
 pub struct Spares {
-    scopes: Shelf<Env>,
-    reads: Shelf<Deps>,
-    values: Shelf<Values>,
-    attributes: Shelf<Attributes>,
+    scopes: Vec<Env>,
+    reads: Vec<Deps>,
+    values: Vec<Values>,
+    attributes: Vec<Attributes>,
 }
 
 impl Spares {
     /// Returns no lists.
     pub(crate) fn new(alloc: Global) -> Self {
         Spares {
-            scopes: Shelf::new(alloc),
-            reads: Shelf::new(alloc),
-            values: Shelf::new(alloc),
-            attributes: Shelf::new(alloc),
+            scopes: Vec::new(alloc),
+            reads: Vec::new(alloc),
+            values: Vec::new(alloc),
+            attributes: Vec::new(alloc),
         }
     }
 
     /// Returns a scope without variables.
     #[inline(always)]
-    pub(crate) fn take_scope(&self, alloc: Global) -> Env
+    pub(crate) fn take_scope(&mut self, alloc: Global) -> Env
         ensures { result ≡ [] }
     {
-        match self.scopes.take(alloc) {
+        match self.scopes.pop() {
             Some(mut scope) => {
                 scope.clear();
                 scope
@@ -74,18 +41,18 @@ impl Spares {
         }
     }
 
-    /// Keeps the memory of `scope` for later.
+    /// Keeps the memory of `scope` for later, or drops it if there is no memory for one more list.
     #[inline(always)]
-    pub(crate) fn keep_scope(&self, alloc: Global, scope: Env) {
-        self.scopes.keep(alloc, scope);
+    pub(crate) fn keep_scope(&mut self, scope: Env) {
+        let _ = self.scopes.push(scope);
     }
 
     /// Returns no reads.
     #[inline(always)]
-    pub(crate) fn take_reads(&self, alloc: Global) -> Deps
+    pub(crate) fn take_reads(&mut self, alloc: Global) -> Deps
         ensures { result ≡ [] }
     {
-        match self.reads.take(alloc) {
+        match self.reads.pop() {
             Some(mut reads) => {
                 reads.clear();
                 reads
@@ -94,18 +61,18 @@ impl Spares {
         }
     }
 
-    /// Keeps the memory of `reads` for later.
+    /// Keeps the memory of `reads` for later, or drops it if there is no memory for one more list.
     #[inline(always)]
-    pub(crate) fn keep_reads(&self, alloc: Global, reads: Deps) {
-        self.reads.keep(alloc, reads);
+    pub(crate) fn keep_reads(&mut self, reads: Deps) {
+        let _ = self.reads.push(reads);
     }
 
     /// Returns the empty list of values. A new one has capacity for `count` values.
     #[inline(always)]
-    pub(crate) fn take_values(&self, alloc: Global, count: usize) -> Result<Values, NoMemory>
+    pub(crate) fn take_values(&mut self, alloc: Global, count: usize) -> Result<Values, NoMemory>
         ensures { IfOk result (λ all. all ≡ []) }
     {
-        match self.values.take(alloc) {
+        match self.values.pop() {
             Some(mut values) => {
                 values.clear();
                 Ok(values)
@@ -114,22 +81,22 @@ impl Spares {
         }
     }
 
-    /// Keeps the memory of `values` for later.
+    /// Keeps the memory of `values` for later, or drops it if there is no memory for one more list.
     #[inline(always)]
-    pub(crate) fn keep_values(&self, alloc: Global, values: Values) {
-        self.values.keep(alloc, values);
+    pub(crate) fn keep_values(&mut self, values: Values) {
+        let _ = self.values.push(values);
     }
 
     /// Returns the empty list of attributes. A new one has capacity for `count` attributes.
     #[inline(always)]
     pub(crate) fn take_attributes(
-        &self,
+        &mut self,
         alloc: Global,
         count: usize,
     ) -> Result<Attributes, NoMemory>
         ensures { IfOk result (λ all. all ≡ []) }
     {
-        match self.attributes.take(alloc) {
+        match self.attributes.pop() {
             Some(mut attributes) => {
                 attributes.clear();
                 Ok(attributes)
@@ -138,9 +105,9 @@ impl Spares {
         }
     }
 
-    /// Keeps the memory of `attributes` for later.
+    /// Keeps the memory of `attributes` for later, or drops it if there is no memory for one more list.
     #[inline(always)]
-    pub(crate) fn keep_attributes(&self, alloc: Global, attributes: Attributes) {
-        self.attributes.keep(alloc, attributes);
+    pub(crate) fn keep_attributes(&mut self, attributes: Attributes) {
+        let _ = self.attributes.push(attributes);
     }
 }

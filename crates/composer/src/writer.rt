@@ -238,7 +238,7 @@ impl<'t> Writer<'t> {
         site: u32,
         what: NewKind,
         found: &Option<OldGroup>,
-        spares: &Spares,
+        spares: &mut Spares,
     ) -> Result<(), ComposeStop>
         requires { length self.old.groups ≤ most_groups }
         ensures entered { OnOk result (self.new ≡ enter_group depth site (group_kind what.entry) found.now self.old) }
@@ -255,7 +255,7 @@ impl<'t> Writer<'t> {
                 };
                 match kept_node(self.groups.table(), found, place, kind, attributes.items()) {
                     Some(at) => {
-                        spares.keep_attributes(alloc, attributes);
+                        spares.keep_attributes(attributes);
                         self.keep_one(at)?;
                     }
                     None => {
@@ -282,7 +282,7 @@ impl<'t> Writer<'t> {
     pub fn enter_cell(
         &mut self,
         alloc: Global,
-        spares: &Spares,
+        spares: &mut Spares,
         depth: u32,
         site: u32,
         keys: Env,
@@ -302,7 +302,7 @@ impl<'t> Writer<'t> {
         let place = Place::without_number(depth, site);
         match kept_cell(self.groups.table(), found, place, &keys, value) {
             Some(at) => {
-                spares.keep_scope(alloc, keys);
+                spares.keep_scope(keys);
                 self.keep_one(at)?;
             }
             None => {
@@ -460,7 +460,7 @@ impl<'t> Writer<'t> {
     pub fn end_call(
         &mut self,
         alloc: Global,
-        spares: &Spares,
+        spares: &mut Spares,
         place: usize,
         first: &[ObjectNo],
         own: Deps,
@@ -480,7 +480,7 @@ impl<'t> Writer<'t> {
             return Err(NoMemory); // No memory holds so many reads.
         };
         if same_reads(first, own.numbers()) {
-            spares.keep_reads(alloc, own);
+            spares.keep_reads(own);
         } else {
             self.groups.set_reads(alloc, place, own)?;
         }

@@ -6,7 +6,7 @@ use Rattle.rt_values.specs.Operators.{is_true, items_of}
 use Rattle.rt_values.specs.Views.{Grew}
 use Rattle.rt_groups.specs.declared.groups.GroupKind.TheVariants as what
 use Rattle.rt_groups.specs.declared.groups.Attribute.{Attribute}
-use Rattle.rt_groups.specs.PreorderGroups.{flat_kind}
+use Rattle.rt_groups.specs.PreorderGroups.{flat_kind, flat_group}
 use Rattle.rt_groups.specs.Frames.{most_groups, runs_after, meets}
 use Rattle.rt_groups.specs.GroupForest.{GroupForest, End, Node, Key, Call, Cell}
 use Rattle.rt_groups.specs.Paths.{sibling, occurrence, matching_sibling, inside_of, Found}
@@ -16,7 +16,7 @@ use Rattle.lang_ast.specs.ResultsWithReads.{Reading}
 use Rattle.lang_ast.specs.Terms.{Func}
 use Rattle.lang_ast.specs.Evaluation.{new_binding, eval, eval_named}
 use Rattle.lang_ast.specs.SyntaxView.{expr_view, nameds_view, stmt_view, stmts_view, functions_view}
-use Rattle.compose_model.specs.Composing.{attribute, meaning_at, meanings}
+use Rattle.compose_model.specs.Composing.{attribute, bind, meaning_at, meanings}
 use Rattle.lang_meaning.specs.ComposesForest.{statement_forest, body_forest, call_forest, loop_forest}
 use Rattle.lang_meaning.proofs.Sizes.{size_at, falls_at}
 use Rattle.lang_meaning.proofs.StatementCases.{all_at, all_end}
@@ -26,6 +26,7 @@ use Rattle.composer.specs.declared.stop.ComposeStop.TheVariants.{NoMemory}
 use Rattle.composer.specs.Comparisons.{call_runs}
 use Rattle.composer.specs.OldSiblings.{KeyInfo, old_group}
 use Rattle.composer.specs.OldGroups.{Alike, SameGroup, Fits}
+use Rattle.composer.specs.declared.composing.Around.{Around}
 use Rattle.composer.specs.declared.pending.Pending.{Pending}
 use Rattle.composer.specs.ComposerState.{skipped_groups, skipped_inside}
 use Rattle.composer.specs.BesideContracts.{IsOldPart}
@@ -33,7 +34,7 @@ use Rattle.composer.specs.WrittenGroups.{WrittenGroups, state_of, kept_of, group
 use Rattle.composer.specs.Recomposes.{ComposesBeside, is_call_kept}
 use Rattle.composer.proofs.BesideCases.{node_beside, call_beside, key_beside, choice_beside, loop_beside, binding_beside, remember_beside, node_calculates, key_calculates, then_calculates, else_calculates, loop_calculates, binding_calculates, cell_calculates, remember_calculates}
 use Rattle.composer.proofs.Machine.{same_state}
-use Rattle.composer.proofs.Reaching.{reached_stop, reached_full, reached_at, on_ok}
+use Rattle.composer.proofs.Reaching.{reached_stop, reached_full, reached_at}
 use Rattle.composer.proofs.BesideSteps.{beside_stop_here, beside_stop_after, beside_after, beside_full, beside_group, beside_alone, beside_cell, beside_run, going_first, going_more, going_done, going_stop, beside_err, beside_first, beside_second}
 use Rattle.composer.proofs.OldParts.{inside_old}
 use Rattle.composer.proofs.OldMatches.{fits_inside}
@@ -42,11 +43,12 @@ use Rattle.composer.proofs.Comparisons.{call_runs_kept}
 use Rattle.composer.proofs.CalledFunctions.{how_many_functions, slice_is, since_slice, statement_calculates, body_none}
 use Rattle.composer.proofs.SkippedCalls.{skips, skips_as}
 use Rattle.composer.proofs.RunBodies.{body_reached}
-use Rattle.composer.proofs.Tables.{fits_after, stays_with, run_added, run_is}
+use Rattle.composer.proofs.Tables.{fits_after, run_added, run_is}
+use Rattle.composer.proofs.InHand.{in_hand_on, scope_stays, stays_in_hand, counted_in_hand, beside_in_hand}
 use Rattle.composer.proofs.RunCalls.{call_alone, part_ran, longer_ran, body_done, body_stop, part_one, longer_than, call_what, owed_call, kept_call, kept_other, kept_state, owed_is, no_call, body_part, begins_after}
 use Rattle.composer.proofs.OldWalks.{first_of_all}
 use Rattle.composer.proofs.SkipLoops.{first_parts, left_first, left_run, left_full, left_more, left_stop, left_done, ends_past, index_behind, behind_is, index_grows}
-use Rattle.composer.proofs.ReadCounts.{counted_after, counted_cell, counted_beside, counted_kept, longer_on, stopped, failed}
+use Rattle.composer.proofs.ReadCounts.{counted_after, counted_cell, counted_kept, longer_on, stopped, failed}
 use Rattle.composer.proofs.composing.+again.Goals as goal
 
 -- Statements one after another.
@@ -919,10 +921,11 @@ pub run_call-returns-then-call_is_run : goal.run_call-returns-then-call_is_run
 run_call-returns-then-call_is_run g t c = record {
   keeps = c.run_body.ensures.keeps;
   same = c.run_body.ensures.same;
-  same_scope = on_ok _ refl;
+  same_scope = scope_stays _ _ _ c.run_body.ensures.in_hand;
   longer = c.run_body.ensures.longer;
-  fits = stays_with _ _ _ (c.in_ok-found.ensures.table ∙ c.requires.stays.pending) c.run_body.ensures.fits;
-  counted = λ m h. counted_beside _ _ _ _ _ _ (c.run_body.ensures.counted m h);
+  fits = stays_in_hand _ _ _ _ (c.in_ok-found.ensures.table ∙ c.requires.stays.pending) c.run_body.ensures.in_hand
+      c.run_body.ensures.fits;
+  counted = λ m h. counted_in_hand _ _ _ _ _ _ _ c.run_body.ensures.in_hand (c.run_body.ensures.counted m h);
   ran = λ m o h b calc.
       let call = Call c.args.function c.args.arguments in
       let x = sibling c.args.site call in
@@ -935,7 +938,8 @@ run_call-returns-then-call_is_run g t c = record {
       (what.Call c.args.function vs)) c.items.ensures
       ∙ call_runs_kept c.args.level.now.last.now.owed.objects c.args.level.now.depth c.in_ok-found.found there call
       k.like in
-      beside_run true runs k.fits (c.run_body.ensures.ran m h o.last there c.args.made.now.reads b.since k.part k.like);
+      beside_in_hand _ _ _ c.run_body.ensures.in_hand
+      (beside_run true runs k.fits (c.run_body.ensures.ran m h o.last there c.args.made.now.reads b.since k.part k.like));
 }
 
 pub run_call-returns-in_err-enter_call : goal.run_call-returns-in_err-enter_call
@@ -991,10 +995,11 @@ pub run_call-returns-in-Some : goal.run_call-returns-in-Some
 run_call-returns-in-Some g t c = record {
   keeps = c.skip_group.ensures.keeps;
   same = c.skip_group.ensures.same;
-  same_scope = on_ok _ refl;
+  same_scope = scope_stays _ _ _ c.skip_group.ensures.in_hand;
   longer = c.skip_group.ensures.longer;
-  fits = stays_with _ _ _ (c.in_ok-found.ensures.table ∙ c.requires.stays.pending) c.skip_group.ensures.fits;
-  counted = λ m h. counted_beside _ _ _ _ _ _ (c.skip_group.ensures.counted m h);
+  fits = stays_in_hand _ _ _ _ (c.in_ok-found.ensures.table ∙ c.requires.stays.pending) c.skip_group.ensures.in_hand
+      c.skip_group.ensures.fits;
+  counted = λ m h. counted_in_hand _ _ _ _ _ _ _ c.skip_group.ensures.in_hand (c.skip_group.ensures.counted m h);
   ran = λ m o h b calc.
       let call = Call c.args.function c.args.arguments in
       let x = sibling c.args.site call in
@@ -1016,10 +1021,10 @@ run_call-returns-in-Some g t c = record {
       let r = c.skip_group.ensures.ran m h o.last s.call c.args.made.now.reads b.since
       (subst (λ (f : Option Found). IsOldPart o.last c.args.level.now.last.now.owed.objects m (inside_of f)) s.is k.part)
       like_call in
-      beside_run false runs k.fits (reached_at (skips_as c.args.level.now.last.now.owed.objects m
+      beside_in_hand _ _ _ c.skip_group.ensures.in_hand (beside_run false runs k.fits (reached_at (skips_as c.args.level.now.last.now.owed.objects m
       (functions_view c.args.level.now.functions.now) o.last c.args.level.now.depth c.args.site c.args.function
       c.args.arguments there (state_of c.args.made.now.writer (g.V.View.asked c.args.view.now)
-      c.args.made.now.reads) k.there s) r);
+      c.args.made.now.reads) k.there s) r));
 }
 
 -- A call that runs.
@@ -1028,6 +1033,7 @@ pub run_body-returns-then-function-level : goal.run_body-returns-then-function-l
 run_body-returns-then-function-level g t c = record {
   keeps = g.met.V.View.keeps_itself _;
   same = λ m h. h;
+  in_hand = record { scope = refl; pending = refl; reads = refl };
   longer = call_longer _ _ _ true _ _ c.in_ok-enter_empty.ensures.added;
   fits = fits_after (ap (λ (q : WrittenGroups). q.olds) c.in_ok-enter_empty.ensures.added) c.requires.room.fits
       c.in_ok-enter_empty.ensures.fits;
@@ -1039,7 +1045,7 @@ run_body-returns-then-function-level g t c = record {
         all = call_alone c.args.level.now.last.now.owed.objects (inside_of there) None c.args.level.now.depth c.args.site
             c.args.function (arguments_of c.args.arguments) true
             (meaning_at (meanings m (functions_view c.args.level.now.functions.now)) c.args.function
-            (arguments_of c.args.arguments)) c.args.writer.now c.enter_empty.new.self
+            (arguments_of c.args.arguments)) c.args.made.now.writer c.enter_empty.new.self
             (g.V.View.asked c.args.view.now) mine none c.in_ok-enter_empty.ensures.added;
         part = tt;
         many = λ y. cc;
@@ -1052,6 +1058,7 @@ run_body-returns-in_err-enter_empty g t c =
     record {
       keeps = g.met.V.View.keeps_itself _;
       same = λ m h. h;
+      in_hand = stopped _ _ _ e;
       longer = stopped _ _ _ e;
       fits = stopped _ _ _ e;
       counted = λ m h. stopped _ _ _ e;
@@ -1059,21 +1066,39 @@ run_body-returns-in_err-enter_empty g t c =
           let one = longer_ran c.args.level.now.last.now.owed.objects (inside_of there) c.args.level.now.depth c.args.site
           c.args.function (arguments_of c.args.arguments)
           (meaning_at (meanings m (functions_view c.args.level.now.functions.now)) c.args.function
-          (arguments_of c.args.arguments)) (state_of c.args.writer.now (g.V.View.asked c.args.view.now) mine) in
+          (arguments_of c.args.arguments)) (state_of c.args.made.now.writer (g.V.View.asked c.args.view.now) mine) in
           reached_full _ (failed _ _ e)
-          (λ e. let full : length c.args.writer.now.groups ≡ most_groups = search rules in omega (arith, one, full))
+          (λ e. let full : length c.args.made.now.writer.groups ≡ most_groups = search rules in omega (arith, one, full))
           (part_ran c.args.level.now.last.now.owed.objects (inside_of there) c.args.level.now.depth c.args.site c.args.function
           (arguments_of c.args.arguments)
           (meaning_at (meanings m (functions_view c.args.level.now.functions.now)) c.args.function
-          (arguments_of c.args.arguments)) (state_of c.args.writer.now (g.V.View.asked c.args.view.now) mine));
+          (arguments_of c.args.arguments)) (state_of c.args.made.now.writer (g.V.View.asked c.args.view.now) mine));
     }
 
-pub run_body-returns-in_err-inner : goal.run_body-returns-in_err-inner
-run_body-returns-in_err-inner g t c =
-    let e : c.from_residual-in_err-inner.result ≡ Err c.in_err-inner.field-0.0 = search rules in
+pub run_body-returns-in_err-scope : goal.run_body-returns-in_err-scope
+run_body-returns-in_err-scope g t c =
+    let e : c.from_residual-in_err-scope.result ≡ Err NoMemory = search rules in
     record {
       keeps = g.met.V.View.keeps_itself _;
       same = λ m h. h;
+      in_hand = stopped _ _ _ e;
+      longer = stopped _ _ _ e;
+      fits = stopped _ _ _ e;
+      counted = λ m h. stopped _ _ _ e;
+      ran = λ m h l there mine since part like. reached_stop _ e
+          (part_ran c.args.level.now.last.now.owed.objects (inside_of there) c.args.level.now.depth c.args.site c.args.function
+          (arguments_of c.args.arguments)
+          (meaning_at (meanings m (functions_view c.args.level.now.functions.now)) c.args.function
+          (arguments_of c.args.arguments)) (state_of c.args.made.now.writer (g.V.View.asked c.args.view.now) mine));
+    }
+
+pub run_body-returns-in_err-enter_running : goal.run_body-returns-in_err-enter_running
+run_body-returns-in_err-enter_running g t c =
+    let e : c.from_residual-in_err-enter_running.result ≡ Err c.in_err-enter_running.field-0.0 = search rules in
+    record {
+      keeps = g.met.V.View.keeps_itself _;
+      same = λ m h. h;
+      in_hand = stopped _ _ _ e;
       longer = stopped _ _ _ e;
       fits = stopped _ _ _ e;
       counted = λ m h. stopped _ _ _ e;
@@ -1081,23 +1106,23 @@ run_body-returns-in_err-inner g t c =
           let one = longer_ran c.args.level.now.last.now.owed.objects (inside_of there) c.args.level.now.depth c.args.site
           c.args.function (arguments_of c.args.arguments)
           (meaning_at (meanings m (functions_view c.args.level.now.functions.now)) c.args.function
-          (arguments_of c.args.arguments)) (state_of c.args.writer.now (g.V.View.asked c.args.view.now) mine) in
+          (arguments_of c.args.arguments)) (state_of c.args.made.now.writer (g.V.View.asked c.args.view.now) mine) in
           reached_full _ (failed _ _ e)
-          (λ e. let full : length c.args.writer.now.groups ≡ most_groups = search rules in omega (arith, one, full))
+          (λ e. let full : length c.args.made.now.writer.groups ≡ most_groups = search rules in omega (arith, one, full))
           (part_ran c.args.level.now.last.now.owed.objects (inside_of there) c.args.level.now.depth c.args.site c.args.function
           (arguments_of c.args.arguments)
           (meaning_at (meanings m (functions_view c.args.level.now.functions.now)) c.args.function
-          (arguments_of c.args.arguments)) (state_of c.args.writer.now (g.V.View.asked c.args.view.now) mine));
+          (arguments_of c.args.arguments)) (state_of c.args.made.now.writer (g.V.View.asked c.args.view.now) mine));
     }
 
 pub run_body-run_all-requires : goal.run_body-run_all-requires
 run_body-run_all-requires g t c κs w =
-    let body : c.deref.result.now ≡ c.index-level-function.result.body.items = c.deref.ensures.value
+    let body : c.deref-2.result.now ≡ c.index-level-function.result.body.items = c.deref-2.ensures.value
     ∙ sym (ap (λ (q : Function). q.body.items) c.index-level-function.is) in
-    let h = falls_at c.args.level.now.functions.now c.args.function c.index-level-function.result c.deref.result.now
+    let h = falls_at c.args.level.now.functions.now c.args.function c.index-level-function.result c.deref-2.result.now
     (omega arith) c.index-level-function.is body in
-    let long = ap (λ (q : WrittenGroups). length q.groups) c.in_ok-inner.ensures.entered
-    ∙ length-append c.args.writer.now.groups _ in
+    let is = c.enter_body-around.ensures.writer ∙ c.in_ok-enter_running.ensures.added in
+    let long = ap (λ (q : WrittenGroups). length q.groups) is ∙ length-append c.args.made.now.writer.groups _ in
     search rules
 
 pub run_body-returns-in_err-run_all : goal.run_body-returns-in_err-run_all
@@ -1106,25 +1131,32 @@ run_body-returns-in_err-run_all g t c =
     record {
       keeps = c.in_err-run_all.ensures.keeps;
       same = c.in_err-run_all.ensures.same;
+      in_hand = stopped _ _ _ e;
       longer = stopped _ _ _ e;
       fits = stopped _ _ _ e;
       counted = λ m h. stopped _ _ _ e;
       ran = λ m h l there mine since part like.
           let below : c.args.function < length c.args.level.now.functions.now = omega arith in
-          let slice : c.deref.result.now ≡ c.index-level-function.result.body.items = c.deref.ensures.value
+          let slice : c.deref-2.result.now ≡ c.index-level-function.result.body.items = c.deref-2.ensures.value
           ∙ sym (ap (λ (q : Function). q.body.items) c.index-level-function.is) in
+          let names = c.deref.ensures.value
+          ∙ sym (ap (λ (q : Function). q.parameters.items) c.index-level-function.is) in
+          let scope_is = c.enter_body-around.ensures.scope ∙ c.in_ok-scope.ensures
+          ∙ ap (λ (vs : List Value). bind c.deref.result.now vs) c.values.ensures in
           let at = body_reached m c.args.level.now.functions.now c.args.function (arguments_of c.args.arguments)
-          c.index-level-function.result c.deref.result.now _ c.in_ok-inner.inner.scope c.args.level.now.last.now.owed.objects
-          c.args.level.now.depth l there c.args.found.now c.in_ok-inner.inner.pending below c.index-level-function.is slice
-          (ap (λ (q : Function). q.parameters.items) (sym c.index-level-function.is)) c.in_ok-inner.ensures.scope since part
-          like c.in_ok-inner.ensures.pending (λ o b calc. c.in_err-run_all.ensures.ran m o h b calc) in
-          let entered_is = c.in_ok-inner.ensures.entered in
+          c.index-level-function.result c.deref-2.result.now _ c.enter_body-around.new.self.scope
+          c.args.level.now.last.now.owed.objects c.args.level.now.depth l there c.args.found.now
+          c.enter_body-around.new.self.pending below c.index-level-function.is slice
+          names
+          scope_is since part like
+          c.enter_body-around.ensures.pending (λ o b calc. c.in_err-run_all.ensures.ran m o h b calc) in
+          let entered_is = c.enter_body-around.ensures.writer ∙ c.in_ok-enter_running.ensures.added in
           body_stop c.args.level.now.last.now.owed.objects (inside_of there) c.args.level.now.depth c.args.site c.args.function
           (arguments_of c.args.arguments) (meaning_at (meanings m (functions_view c.args.level.now.functions.now))
-          c.args.function (arguments_of c.args.arguments)) c.args.writer.now c.in_ok-inner.inner.writer
+          c.args.function (arguments_of c.args.arguments)) c.args.made.now.writer c.enter_body-around.new.self.writer
           c.run_all.new.made.writer (g.V.View.asked c.args.view.now) (g.V.View.asked c.run_all.new.view) mine
-          c.run_all.new.made.reads c.in_ok-inner.inner.reads (first_reads c.args.arguments c.args.found.now) _ _
-          c.in_ok-inner.ensures.reads entered_is at e refl;
+          c.run_all.new.made.reads c.enter_body-around.new.self.reads (first_reads c.args.arguments c.args.found.now) _ _
+          c.enter_body-around.ensures.reads entered_is at e refl;
     }
 
 pub run_body-returns-in_err-end_call : goal.run_body-returns-in_err-end_call
@@ -1133,58 +1165,89 @@ run_body-returns-in_err-end_call g t c =
     record {
       keeps = c.in_ok-run_all.ensures.keeps;
       same = c.in_ok-run_all.ensures.same;
+      in_hand = stopped _ _ _ e;
       longer = stopped _ _ _ e;
       fits = stopped _ _ _ e;
       counted = λ m h. stopped _ _ _ e;
       ran = λ m h l there mine since part like.
           let below : c.args.function < length c.args.level.now.functions.now = omega arith in
-          let slice : c.deref.result.now ≡ c.index-level-function.result.body.items = c.deref.ensures.value
+          let slice : c.deref-2.result.now ≡ c.index-level-function.result.body.items = c.deref-2.ensures.value
           ∙ sym (ap (λ (q : Function). q.body.items) c.index-level-function.is) in
+          let names = c.deref.ensures.value
+          ∙ sym (ap (λ (q : Function). q.parameters.items) c.index-level-function.is) in
+          let scope_is = c.enter_body-around.ensures.scope ∙ c.in_ok-scope.ensures
+          ∙ ap (λ (vs : List Value). bind c.deref.result.now vs) c.values.ensures in
           let at = body_reached m c.args.level.now.functions.now c.args.function (arguments_of c.args.arguments)
-          c.index-level-function.result c.deref.result.now _ c.in_ok-inner.inner.scope c.args.level.now.last.now.owed.objects
-          c.args.level.now.depth l there c.args.found.now c.in_ok-inner.inner.pending below c.index-level-function.is slice
-          (ap (λ (q : Function). q.parameters.items) (sym c.index-level-function.is)) c.in_ok-inner.ensures.scope since part
-          like c.in_ok-inner.ensures.pending (λ o b calc. c.in_ok-run_all.ensures.ran m o h b calc) in
-          let entered_is = c.in_ok-inner.ensures.entered in
+          c.index-level-function.result c.deref-2.result.now _ c.enter_body-around.new.self.scope
+          c.args.level.now.last.now.owed.objects c.args.level.now.depth l there c.args.found.now
+          c.enter_body-around.new.self.pending below c.index-level-function.is slice
+          names
+          scope_is since part like
+          c.enter_body-around.ensures.pending (λ o b calc. c.in_ok-run_all.ensures.ran m o h b calc) in
+          let entered_is = c.enter_body-around.ensures.writer ∙ c.in_ok-enter_running.ensures.added in
           reached_stop _ e (body_part c.args.level.now.last.now.owed.objects (inside_of there) c.args.level.now.depth c.args.site
           c.args.function (arguments_of c.args.arguments)
           (meaning_at (meanings m (functions_view c.args.level.now.functions.now)) c.args.function
-          (arguments_of c.args.arguments)) c.args.writer.now c.in_ok-inner.inner.writer c.run_all.new.made.writer
+          (arguments_of c.args.arguments)) c.args.made.now.writer c.enter_body-around.new.self.writer c.run_all.new.made.writer
           (g.V.View.asked c.args.view.now) (g.V.View.asked c.run_all.new.view) mine c.run_all.new.made.reads
-          c.in_ok-inner.inner.reads (first_reads c.args.arguments c.args.found.now) c.in_ok-inner.ensures.reads entered_is at);
+          c.enter_body-around.new.self.reads (first_reads c.args.arguments c.args.found.now) c.enter_body-around.ensures.reads
+          entered_is at);
     }
 
 pub run_body-returns : goal.run_body-returns
 run_body-returns g t c = record {
   keeps = c.in_ok-run_all.ensures.keeps;
   same = c.in_ok-run_all.ensures.same;
-  longer = let e = running_longer _ _ _ _ _ _ c.in_ok-inner.ensures.entered in
-      omega (arith, e, c.in_ok-run_all.ensures.longer, c.in_ok-end_call.ensures.len);
-  fits = fits_after c.in_ok-end_call.ensures.olds c.in_ok-run_all.ensures.fits.written
-      (let e = c.in_ok-end_call.ensures.len in omega (arith, e, c.in_ok-run_all.ensures.fits.written.few));
-  counted = λ m h. let a = ap (λ (q : WrittenGroups). q.reads) c.in_ok-inner.ensures.entered in
-      let n = ap (λ (l : List ℕ). length l) c.in_ok-inner.ensures.reads in let f = c.in_ok-run_all.ensures.counted m h in
-      let e = c.in_ok-end_call.ensures.reads in omega (arith, a, n, e, f);
+  in_hand = record {
+    scope = c.leave_body-own.ensures.scope ∙ ap (λ (a : Around). a.scope) c.enter_body-around.ensures.around;
+    pending = c.leave_body-own.ensures.pending ∙ ap (λ (a : Around). a.pending) c.enter_body-around.ensures.around;
+    reads = c.leave_body-own.ensures.reads ∙ ap (λ (a : Around). a.reads) c.enter_body-around.ensures.around;
+  };
+  longer = let e = running_longer _ _ _ _ _ _ (c.enter_body-around.ensures.writer ∙ c.in_ok-enter_running.ensures.added) in
+      let n = ap (λ (q : WrittenGroups). length q.groups) c.leave_body-own.ensures.writer in
+      omega (arith, e, n, c.in_ok-run_all.ensures.longer, c.in_ok-end_call.ensures.len);
+  fits = fits_after (c.in_ok-end_call.ensures.olds ∙ ap (λ (q : WrittenGroups). q.olds) c.leave_body-own.ensures.writer)
+      c.in_ok-run_all.ensures.fits.written
+      (let e = c.in_ok-end_call.ensures.len in
+      let n = ap (λ (q : WrittenGroups). length q.groups) c.leave_body-own.ensures.writer in
+      omega (arith, e, n, c.in_ok-run_all.ensures.fits.written.few));
+  counted = λ m h. let a = ap (λ (q : WrittenGroups). q.reads)
+      (c.enter_body-around.ensures.writer ∙ c.in_ok-enter_running.ensures.added) in
+      let n = ap (λ (l : List ℕ). length l) c.enter_body-around.ensures.reads in
+      let f = c.in_ok-run_all.ensures.counted m h in
+      let w = ap (λ (q : WrittenGroups). q.reads) c.leave_body-own.ensures.writer in
+      let o = ap (λ (l : List ℕ). length l) c.leave_body-own.ensures.own in
+      let e = c.in_ok-end_call.ensures.reads in omega (arith, a, n, e, f, w, o);
   ran = λ m h l there mine since part like.
       let below : c.args.function < length c.args.level.now.functions.now = omega arith in
-      let slice : c.deref.result.now ≡ c.index-level-function.result.body.items = c.deref.ensures.value
+      let slice : c.deref-2.result.now ≡ c.index-level-function.result.body.items = c.deref-2.ensures.value
       ∙ sym (ap (λ (q : Function). q.body.items) c.index-level-function.is) in
+      let names = c.deref.ensures.value
+      ∙ sym (ap (λ (q : Function). q.parameters.items) c.index-level-function.is) in
+      let scope_is = c.enter_body-around.ensures.scope ∙ c.in_ok-scope.ensures
+      ∙ ap (λ (vs : List Value). bind c.deref.result.now vs) c.values.ensures in
       let at = body_reached m c.args.level.now.functions.now c.args.function (arguments_of c.args.arguments)
-      c.index-level-function.result c.deref.result.now _ c.in_ok-inner.inner.scope c.args.level.now.last.now.owed.objects
-      c.args.level.now.depth l there c.args.found.now c.in_ok-inner.inner.pending below c.index-level-function.is slice
-      (ap (λ (q : Function). q.parameters.items) (sym c.index-level-function.is)) c.in_ok-inner.ensures.scope since part
-      like c.in_ok-inner.ensures.pending (λ o b calc. c.in_ok-run_all.ensures.ran m o h b calc) in
-      let entered_is = c.in_ok-inner.ensures.entered in
+      c.index-level-function.result c.deref-2.result.now _ c.enter_body-around.new.self.scope c.args.level.now.last.now.owed.objects
+      c.args.level.now.depth l there c.args.found.now c.enter_body-around.new.self.pending below c.index-level-function.is slice
+      names
+      scope_is since part like c.enter_body-around.ensures.pending
+      (λ o b calc. c.in_ok-run_all.ensures.ran m o h b calc) in
+      let entered_is = c.enter_body-around.ensures.writer ∙ c.in_ok-enter_running.ensures.added in
+      let left = c.leave_body-own.ensures.writer in
       body_done c.args.level.now.last.now.owed.objects (inside_of there) c.args.level.now.depth c.args.site c.args.function
       (arguments_of c.args.arguments) (meaning_at (meanings m (functions_view c.args.level.now.functions.now))
-      c.args.function (arguments_of c.args.arguments)) c.args.writer.now c.in_ok-inner.inner.writer
+      c.args.function (arguments_of c.args.arguments)) c.args.made.now.writer c.enter_body-around.new.self.writer
       c.run_all.new.made.writer c.end_call.new.self (g.V.View.asked c.args.view.now)
-      (g.V.View.asked c.run_all.new.view) mine c.run_all.new.made.reads c.in_ok-inner.inner.reads
+      (g.V.View.asked c.run_all.new.view) mine c.run_all.new.made.reads c.enter_body-around.new.self.reads
       (first_reads c.args.arguments c.args.found.now)
-      c.in_ok-inner.ensures.reads entered_is at
-      (λ before behind y e is reads. c.in_ok-end_call.ensures.groups before behind y (e ∙ sym c.len-place.ensures) is
-      (reads ∙ sym c.first_reads-first.ensures))
-      (c.in_ok-end_call.ensures.next, c.in_ok-end_call.ensures.ran, c.in_ok-end_call.ensures.calculated);
+      c.enter_body-around.ensures.reads entered_is at
+      (λ before behind y e is reads. c.in_ok-end_call.ensures.groups before behind y (e ∙ sym c.len-place.ensures)
+      (ap (λ (q : WrittenGroups). q.groups) left ∙ is) (reads ∙ sym c.first_reads-first.ensures)
+      ∙ ap (λ (r : List ℕ). before ++ (flat_group y.depth y.site y.number y.what r ∷ behind)) c.leave_body-own.ensures.own) (
+        c.in_ok-end_call.ensures.next ∙ ap (λ (q : WrittenGroups). q.next) left,
+        c.in_ok-end_call.ensures.ran ∙ ap (λ (q : WrittenGroups). q.ran) left,
+        c.in_ok-end_call.ensures.calculated ∙ ap (λ (q : WrittenGroups). q.calculated) left,
+      );
 }
 
 -- Old groups that are skipped.
@@ -1195,6 +1258,7 @@ skip_group-returns-in-Node g t c =
     record {
       keeps = k.keeps;
       same = k.same;
+      in_hand = k.in_hand;
       longer = k.longer;
       fits = k.fits;
       counted = k.counted;
@@ -1207,6 +1271,7 @@ skip_group-returns-in-Key g t c =
     record {
       keeps = k.keeps;
       same = k.same;
+      in_hand = k.in_hand;
       longer = k.longer;
       fits = k.fits;
       counted = k.counted;
@@ -1219,6 +1284,7 @@ skip_group-returns-in-Cell g t c =
     record {
       keeps = k.keeps;
       same = k.same;
+      in_hand = k.in_hand;
       longer = k.longer;
       fits = k.fits;
       counted = k.counted;
@@ -1229,6 +1295,7 @@ pub skip_group-returns-then-meet : goal.skip_group-returns-then-meet
 skip_group-returns-then-meet g t c = record {
   keeps = c.run_body.ensures.keeps;
   same = c.run_body.ensures.same;
+  in_hand = c.run_body.ensures.in_hand;
   longer = c.run_body.ensures.longer;
   fits = c.run_body.ensures.fits;
   counted = c.run_body.ensures.counted;
@@ -1243,7 +1310,7 @@ skip_group-returns-then-meet g t c = record {
       let r = c.run_body.ensures.ran m h l (Some f) mine since part (search rules) in
       reached_at (owed_call m c.args.level.now.last.now.owed.objects (functions_view c.args.level.now.functions.now)
       c.args.level.now.depth c.args.site f c.in-Call.function c.in-Call.arguments
-      (state_of c.args.writer.now (g.V.View.asked c.args.view.now) mine) what_is anew) r;
+      (state_of c.args.made.now.writer (g.V.View.asked c.args.view.now) mine) what_is anew) r;
 }
 
 pub skip_group-returns-in_err-keep_group-in-Call : goal.skip_group-returns-in_err-keep_group-in-Call
@@ -1252,22 +1319,24 @@ skip_group-returns-in_err-keep_group-in-Call g t c =
     record {
       keeps = g.met.V.View.keeps_itself _;
       same = λ m h. h;
+      in_hand = stopped _ _ _ e;
       longer = stopped _ _ _ e;
       fits = stopped _ _ _ e;
       counted = λ m h. stopped _ _ _ e;
       ran = λ m h l f mine since part like.
           let one = longer_than m c.args.level.now.last.now.owed.objects (functions_view c.args.level.now.functions.now)
-          c.args.level.now.depth c.args.site f (state_of c.args.writer.now (g.V.View.asked c.args.view.now) mine) in
+          c.args.level.now.depth c.args.site f (state_of c.args.made.now.writer (g.V.View.asked c.args.view.now) mine) in
           reached_full _ (failed _ _ e)
-          (λ e. let full : length c.args.writer.now.groups ≡ most_groups = search rules in omega (arith, one, full))
+          (λ e. let full : length c.args.made.now.writer.groups ≡ most_groups = search rules in omega (arith, one, full))
           (part_one m c.args.level.now.last.now.owed.objects (functions_view c.args.level.now.functions.now)
-          c.args.level.now.depth c.args.site f (state_of c.args.writer.now (g.V.View.asked c.args.view.now) mine));
+          c.args.level.now.depth c.args.site f (state_of c.args.made.now.writer (g.V.View.asked c.args.view.now) mine));
     }
 
 pub skip_group-returns-in_ok-keep_group-in-Call : goal.skip_group-returns-in_ok-keep_group-in-Call
 skip_group-returns-in_ok-keep_group-in-Call g t c = record {
   keeps = c.skip_all.ensures.keeps;
   same = c.skip_all.ensures.same;
+  in_hand = in_hand_on _ _ _ _ (record { scope = refl; pending = refl; reads = refl }) c.skip_all.ensures.in_hand;
   longer =
       longer_on _ _ _ _ (kept_longer _ _ _ _ _ _ _ c.in_ok-keep_group-in-Call.ensures.added) c.skip_all.ensures.longer;
   fits = c.skip_all.ensures.fits;
@@ -1281,7 +1350,7 @@ skip_group-returns-in_ok-keep_group-in-Call g t c = record {
       c.args.level.now.last.now.owed.objects like what_is)
       ∙ sym (ap (λ l. meets l c.args.level.now.last.now.owed.objects) c.reads.ensures) ∙ sym c.meet.ensures
       ∙ c.if-meet.false in
-      let state = kept_state c.args.level.now.depth c.args.site c.args.old.now f c.args.writer.now
+      let state = kept_state c.args.level.now.depth c.args.site c.args.old.now f c.args.made.now.writer
       c.keep_group.new.writer (g.V.View.asked c.args.view.now) mine like c.in_ok-keep_group-in-Call.ensures.added in
       let r = c.skip_all.ensures.ran m h l f.inside mine
       (since_slice c.args.level.now.functions.now c.front.result.now c.in-Call.function c.front.ensures since) part
@@ -1291,7 +1360,7 @@ skip_group-returns-in_ok-keep_group-in-Call g t c = record {
       (slice_is c.args.level.now.functions.now c.front.result.now c.in-Call.function c.front.ensures)
       ∙ kept_call m c.args.level.now.last.now.owed.objects (functions_view c.args.level.now.functions.now)
       c.args.level.now.depth c.args.site f c.in-Call.function c.in-Call.arguments
-      (state_of c.args.writer.now (g.V.View.asked c.args.view.now) mine)
+      (state_of c.args.made.now.writer (g.V.View.asked c.args.view.now) mine)
       (state_of c.keep_group.new.writer (g.V.View.asked c.args.view.now) mine) what_is quiet state) r;
 }
 
@@ -1301,33 +1370,35 @@ skip_inside-returns-in_err-keep_group g t c plain =
     record {
       keeps = g.met.V.View.keeps_itself _;
       same = λ m h. h;
+      in_hand = stopped _ _ _ e;
       longer = stopped _ _ _ e;
       fits = stopped _ _ _ e;
       counted = λ m h. stopped _ _ _ e;
       ran = λ m h l f mine since part like.
           let one = longer_than m c.args.level.now.last.now.owed.objects (functions_view c.args.level.now.functions.now)
-          c.args.level.now.depth c.args.site f (state_of c.args.writer.now (g.V.View.asked c.args.view.now) mine) in
+          c.args.level.now.depth c.args.site f (state_of c.args.made.now.writer (g.V.View.asked c.args.view.now) mine) in
           reached_full _ (failed _ _ e)
-          (λ e. let full : length c.args.writer.now.groups ≡ most_groups = search rules in omega (arith, one, full))
+          (λ e. let full : length c.args.made.now.writer.groups ≡ most_groups = search rules in omega (arith, one, full))
           (part_one m c.args.level.now.last.now.owed.objects (functions_view c.args.level.now.functions.now)
-          c.args.level.now.depth c.args.site f (state_of c.args.writer.now (g.V.View.asked c.args.view.now) mine));
+          c.args.level.now.depth c.args.site f (state_of c.args.made.now.writer (g.V.View.asked c.args.view.now) mine));
     }
 
 pub skip_inside-returns : goal.skip_inside-returns
 skip_inside-returns g t c plain = record {
   keeps = c.skip_all.ensures.keeps;
   same = c.skip_all.ensures.same;
+  in_hand = in_hand_on _ _ _ _ (record { scope = refl; pending = refl; reads = refl }) c.skip_all.ensures.in_hand;
   longer = longer_on _ _ _ _ (kept_longer _ _ _ _ _ _ _ c.in_ok-keep_group.ensures.added) c.skip_all.ensures.longer;
   fits = c.skip_all.ensures.fits;
   counted = λ m h. counted_kept _ _ _ _ _ _ (ap (λ (q : WrittenGroups). q.reads) c.in_ok-keep_group.ensures.added)
       (c.skip_all.ensures.counted m h);
   ran = λ m h l f mine since part like.
-      let state = kept_state c.args.level.now.depth c.args.site c.args.old.now f c.args.writer.now
+      let state = kept_state c.args.level.now.depth c.args.site c.args.old.now f c.args.made.now.writer
       c.keep_group.new.writer (g.V.View.asked c.args.view.now) mine like c.in_ok-keep_group.ensures.added in
       let r = c.skip_all.ensures.ran m h l f.inside mine since part
       (begins_after _ c.args.old.now f _ _ (sym c.requires.table) c.first_inside.ensures like) in
       reached_at (kept_other m c.args.level.now.last.now.owed.objects (functions_view c.args.level.now.functions.now)
-      c.args.level.now.depth c.args.site f (state_of c.args.writer.now (g.V.View.asked c.args.view.now) mine)
+      c.args.level.now.depth c.args.site f (state_of c.args.made.now.writer (g.V.View.asked c.args.view.now) mine)
       (state_of c.keep_group.new.writer (g.V.View.asked c.args.view.now) mine)
       (no_call c.args.level.now.depth c.args.old.now f like plain) state) r;
 }
@@ -1336,6 +1407,7 @@ pub skip_all-loop-at-init : goal.skip_all-loop-at-init
 skip_all-loop-at-init g t c = record {
   keeps = g.met.V.View.keeps_itself _;
   same = λ m h. h;
+  in_hand = record { scope = refl; pending = refl; reads = refl };
   longer = omega arith;
   fits = search rules;
   counted = λ m h. refl;
@@ -1346,6 +1418,11 @@ pub skip_all-returns-then-is_end : goal.skip_all-returns-then-is_end
 skip_all-returns-then-is_end g t c = record {
   keeps = c.loop-at.invariant.keeps;
   same = c.loop-at.invariant.same;
+  in_hand = record {
+    scope = c.loop-at.invariant.in_hand.scope;
+    pending = c.loop-at.invariant.in_hand.pending;
+    reads = c.loop-at.invariant.in_hand.reads;
+  };
   longer = omega (arith, c.loop-at.invariant.longer, c.in_ok-keep_run.ensures.longer);
   fits = fits_after (ap (λ (q : WrittenGroups). q.olds) c.in_ok-keep_run.ensures.added) c.loop-at.invariant.fits
       c.in_ok-keep_run.ensures.fits;
@@ -1364,6 +1441,7 @@ skip_all-returns-in_err-keep_run g t c =
     record {
       keeps = c.loop-at.invariant.keeps;
       same = c.loop-at.invariant.same;
+      in_hand = stopped _ _ _ e;
       longer = stopped _ _ _ e;
       fits = stopped _ _ _ e;
       counted = λ m h. stopped _ _ _ e;
@@ -1377,6 +1455,7 @@ pub skip_all-returns : goal.skip_all-returns
 skip_all-returns g t c = record {
   keeps = c.loop-at.invariant.keeps;
   same = c.loop-at.invariant.same;
+  in_hand = c.loop-at.invariant.in_hand;
   longer = c.loop-at.invariant.longer;
   fits = c.loop-at.invariant.fits;
   counted = λ m h. c.loop-at.invariant.counted m h;
@@ -1390,6 +1469,7 @@ skip_all-returns-in_err-skip_group g t c =
     record {
       keeps = g.met.V.View.keeps_on _ _ _ c.loop-at.invariant.keeps c.in_err-skip_group.ensures.keeps;
       same = λ m h. c.in_err-skip_group.ensures.same m (c.loop-at.invariant.same m h);
+      in_hand = stopped _ _ _ e;
       longer = stopped _ _ _ e;
       fits = stopped _ _ _ e;
       counted = λ m h. stopped _ _ _ e;
@@ -1419,6 +1499,11 @@ pub skip_all-loop-at-preserved : goal.skip_all-loop-at-preserved
 skip_all-loop-at-preserved g t c = record {
   keeps = g.met.V.View.keeps_on _ _ _ c.loop-at.invariant.keeps c.in_ok-skip_group.ensures.keeps;
   same = λ m h. c.in_ok-skip_group.ensures.same m (c.loop-at.invariant.same m h);
+  in_hand = record {
+    scope = c.in_ok-skip_group.ensures.in_hand.scope ∙ c.loop-at.invariant.in_hand.scope;
+    pending = c.in_ok-skip_group.ensures.in_hand.pending ∙ c.loop-at.invariant.in_hand.pending;
+    reads = c.in_ok-skip_group.ensures.in_hand.reads ∙ c.loop-at.invariant.in_hand.reads;
+  };
   longer =
       omega (arith, c.loop-at.invariant.longer, c.in_ok-keep_run.ensures.longer, c.in_ok-skip_group.ensures.longer);
   fits = c.in_ok-skip_group.ensures.fits;

@@ -9,7 +9,7 @@ use Rattle.recompose_laws.specs.CalculatedCells.{StmtsCalculate}
 use Rattle.composer.specs.BesideContracts.{LastComposition, IsSince, OldSiblings, IsOldPart}
 use Rattle.composer.specs.OldGroups.{Begins}
 use Rattle.composer.specs.WrittenGroups.{state_of}
-use Rattle.composer.specs.Recomposes.{BesideProgress, IsBeside, StaysIn, FitsIn}
+use Rattle.composer.specs.Recomposes.{BesideProgress, IsBeside, StaysIn, StaysInHand, FitsIn}
 use Rattle.composer.proofs.SkipLoops.{GroupsLeft}
 use Rattle.composer.proofs.composing.+again.Given as goal
 
@@ -58,17 +58,18 @@ abbrev pub invariant-skip_all-loop-at : goal.invariant-skip_all-loop-at
 invariant-skip_all-loop-at g l = record {
   keeps : g.V.View.keeps l.initial.view l.view;
   same : (m : Map) → g.V.View.shows l.initial.view m → g.V.View.shows l.view m;
-  longer : length l.initial.writer.groups ≤ length l.writer.groups;
-  fits : FitsIn l.level.last.now.groups l.writer;
+  in_hand : StaysInHand l.initial.made l.made;
+  longer : length l.initial.made.writer.groups ≤ length l.made.writer.groups;
+  fits : FitsIn l.level.last.now.groups l.made.writer;
   counted : (m : Map) → g.V.View.shows l.initial.view m
-      → l.writer.reads + length (g.V.View.asked l.initial.view)
-      ≡ l.initial.writer.reads + length (g.V.View.asked l.view);
+      → l.made.writer.reads + length (g.V.View.asked l.initial.view)
+      ≡ l.initial.made.writer.reads + length (g.V.View.asked l.view);
   going : (m : Map) → g.V.View.shows l.initial.view m → (a : LastComposition) (t : GroupForest) (mine : List ℕ)
       → IsSince a (functions_view l.level.functions.now) → IsOldPart a l.level.last.now.owed.objects m t
       → Begins l.level.depth (drop l.first l.level.last.now.groups) t →
       GroupsLeft m l.level.last.now.owed.objects a (functions_view l.level.functions.now) l.level.depth t
-      (drop l.at l.level.last.now.groups) (state_of l.initial.writer (g.V.View.asked l.initial.view) mine)
-      (state_of l.writer (g.V.View.asked l.view) mine);
+      (drop l.at l.level.last.now.groups) (state_of l.initial.made.writer (g.V.View.asked l.initial.view) mine)
+      (state_of l.made.writer (g.V.View.asked l.view) mine);
 }
 
 abbrev pub decreases-skip_all-loop-at : goal.decreases-skip_all-loop-at

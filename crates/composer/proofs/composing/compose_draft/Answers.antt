@@ -19,7 +19,7 @@ returns-clause-frame g c k m h table next owing =
     let first = c.new-writer.ensures ∙ ap (λ gs. written_at gs c.args.next) (c.table.ensures ∙ table)
     ∙ ap (written_at (preorder 0 k.trail)) next in
     frame_made fs root c.args.last.now.owed k m (g.V.View.asked c.args.view.now) (g.V.View.asked c.write_frame.new.view)
-    c.write_frame.new.writer c.new-writer.result first
+    c.write_frame.new.made.writer c.new-writer.result first
     (c.in_ok-write_frame.ensures.ran m h k.seen k.trail [] table owing)
     (c.in_ok-write_frame.ensures.counted m h) c.in_ok-into_draft.ensures.bound c.in_ok-write_frame.ensures.fits.few _ c.in_ok-into_draft.ensures.draft
 
@@ -31,7 +31,7 @@ returns-in_err-write_frame-clause-frame g c k m h table next owing =
     ∙ ap (written_at (preorder 0 k.trail)) next in
     let e : c.from_residual.result ≡ Err c.in_err-write_frame.field-0.0 = search rules in
     frame_stopped fs root c.args.last.now.owed k m (g.V.View.asked c.args.view.now) (g.V.View.asked c.write_frame.new.view)
-    c.write_frame.new.writer c.new-writer.result c.in_err-write_frame.field-0.0 _ first
+    c.write_frame.new.made.writer c.new-writer.result c.in_err-write_frame.field-0.0 _ first
     (c.in_err-write_frame.ensures.ran m h k.seen k.trail [] table owing) e
 
 pub returns-in_err-into_draft-clause-frame : goal.returns-in_err-into_draft-clause-frame
@@ -42,5 +42,5 @@ returns-in_err-into_draft-clause-frame g c k m h table next owing =
     ∙ ap (written_at (preorder 0 k.trail)) next in
     let e : c.from_residual-in_err-into_draft.result ≡ Err NoMemory = search rules in
     frame_lost fs root c.args.last.now.owed k m (g.V.View.asked c.args.view.now) (g.V.View.asked c.write_frame.new.view)
-    c.write_frame.new.writer c.new-writer.result _ first
+    c.write_frame.new.made.writer c.new-writer.result _ first
     (c.in_ok-write_frame.ensures.ran m h k.seen k.trail [] table owing) e

@@ -18,6 +18,7 @@ pub returns-then-owes_all : goal.returns-then-owes_all
 returns-then-owes_all g c = record {
   keeps = c.run_body.ensures.keeps;
   same = c.run_body.ensures.same;
+  in_hand = c.run_body.ensures.in_hand;
   longer = c.run_body.ensures.longer;
   fits = c.run_body.ensures.fits;
   counted = c.run_body.ensures.counted;
@@ -28,7 +29,7 @@ returns-then-owes_all g c = record {
       let l : LastComposition = record { map = m; functions = fs; calculation = p.calculation } in
       let same : functions_view c.functions.result.now ≡ fs = ap functions_view c.functions.ensures.functions in
       let since = subst (λ (gs : List Func). IsSince l gs) (sym same) (since_map fs p m) in
-      let s = state_of c.args.writer.now (g.V.View.asked c.args.view.now) own in
+      let s = state_of c.args.made.now.writer (g.V.View.asked c.args.view.now) own in
       let r = c.run_body.ensures.ran m h l None own since (part_end l c.args.last.now.owed.objects m) tt in
       anew_reached fs (root_of c.args.program.now) seen t m c.args.last.now.owed [] s refl owing
       (sym c.owes_all.ensures ∙ c.if-owes_all.true)
@@ -44,6 +45,7 @@ pub returns : goal.returns
 returns g c = record {
   keeps = c.skip_all.ensures.keeps;
   same = c.skip_all.ensures.same;
+  in_hand = c.skip_all.ensures.in_hand;
   longer = c.skip_all.ensures.longer;
   fits = c.skip_all.ensures.fits;
   counted = c.skip_all.ensures.counted;
@@ -56,7 +58,7 @@ returns g c = record {
       let l : LastComposition = record { map = k.seen; functions = fs; calculation = p.calculation } in
       let same : functions_view c.functions.result.now ≡ fs = ap functions_view c.functions.ensures.functions in
       let since = subst (λ (gs : List Func). IsSince l gs) (sym same) (since_map fs p k.seen) in
-      let s = state_of c.args.writer.now (g.V.View.asked c.args.view.now) own in
+      let s = state_of c.args.made.now.writer (g.V.View.asked c.args.view.now) own in
       let r = c.skip_all.ensures.ran m h l t own since k.part (begins_whole c.args.last.now.groups t e) in
       skipped_reached fs p (root_of c.args.program.now) t m c.args.last.now.owed.objects s k
       (reached_at (ap (λ (gs : List Func). skipped_groups m c.args.last.now.owed.objects t gs 0 s) same) r);
