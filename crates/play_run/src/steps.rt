@@ -23,6 +23,7 @@ use script_lang::{Flags, index_of};
 use snap_api::Versions;
 use snap_policy::BuiltIn;
 use std::alloc::Global;
+use std::mem;
 
 // Makes a step.
 fn run_step<V: Versions<P = BuiltIn>, K: Sink>(
@@ -219,5 +220,7 @@ pub fn run_script<V: Versions<P = BuiltIn>, K: Sink>(
     let Ok(()) = set_up_world(alloc, &job.program, world) else {
         return Err(Stop::NoMemory);
     };
-    run_do_forms(alloc, job, flags, &mut memory, world, sink)
+    let done = run_do_forms(alloc, job, flags, &mut memory, world, sink);
+    mem::forget(memory);
+    done
 }
