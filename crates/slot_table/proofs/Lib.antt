@@ -7,5 +7,6 @@ mod Siblings
 mod GroupRuns
 mod JoinedGroups
 mod KeptReads
+mod ReadsLeft
 mod ShrunkItems
 mod ShrunkParts

@@ -7,6 +7,7 @@ ghost use Rattle.slot_table.specs.KeptRuns.{patched, gaps, AreInside, HaveOwnInd
 
 use crate::groups_before::GroupsBefore;
 use crate::runs::KeptRun;
+use crate::shrunk_reads::ShrunkReads;
 use crate::storage::{SharedGroup, TableBuilder, make_room};
 use crate::table::Table;
 use rt_groups::Deps;
@@ -423,6 +424,18 @@ impl ChangeList {
             }
         };
         Ok(Preview { form })
+    }
+
+    /// Returns the reads of the new groups in preorder if the table shrinks, and else `None`. Takes no memory, and
+    /// constant time. A rule of this project.
+    pub fn shrunk_reads<'c>(&'c self, table: &'c Table) -> Option<ShrunkReads<'c>>
+        requires { table.now.groups ≡ self.now.olds }
+        ensures { IfSome result (λ reads. reads ≡ map (λ g. g.reads) self.now.news) }
+    {
+        match &self.change {
+            Change::Whole(_) | Change::InPlace(..) => None,
+            Change::Shrunk { fresh, runs, .. } => Some(ShrunkReads::new(table, fresh, runs)),
+        }
     }
 
     /// Returns whether the new frame has the same number of groups as `table`, and each group has

@@ -5,7 +5,8 @@
 //! (`specs/ReaderStates.antt`). The table keeps for each group the number of groups inside it, so a skip takes constant
 //! time. The fields of fixed size and the slots are in two gap buffers, and tables that have the same group
 //! share its slots. `ChangeListWriter` writes a new frame as changes of a table, as the `ComposerChangeListWriter` of
-//! Compose, and `Table::apply` applies the changes. `slot_edit` changes a table group by group; other crates read it.
+//! Compose, and `Table::apply` applies the changes. `ShrunkReads` lends the reads of a table that shrinks before the
+//! changes are applied. `slot_edit` changes a table group by group; other crates read it.
 //! Promises: a reader visits exactly the table's groups, counts one step for each group that it opens, and lends their
 //! values without a copy. Applied changes give exactly the groups that were written.
 #![tactic(auto)]
@@ -16,11 +17,13 @@ mod changes;
 mod groups_before;
 mod reader;
 mod runs;
+mod shrunk_reads;
 mod storage;
 mod table;
 
 pub use changes::{ChangeList, ChangeListWriter, Preview, same_reads};
 pub use reader::Reader;
+pub use shrunk_reads::ShrunkReads;
 pub use storage::{SharedGroup, TableBuilder};
 pub use table::Table;
 
