@@ -1,6 +1,7 @@
 -- The scopes of the first groups of a table, while scopes are added.
-use Rattle.std.proofs.Common.{◌≡◌, inl, inr, ◌<◌, ◌≤◌, ◌+◌, ◌==◌, ℕ, zero, suc, true, false, List, [], ◌∷◌, ◌++◌, length, get_or, Some, None, if◌then◌else◌, refl, ap, sym, ◌∙◌, subst, arith}
+use Rattle.std.proofs.Common.{◌≡◌, inl, inr, ◌<◌, ◌≤◌, ◌+◌, ◌==◌, ℕ, zero, suc, true, false, List, [], ◌∷◌, ◌++◌, length, length-drop, drop, get_or, Some, None, if◌then◌else◌, refl, ap, sym, ◌∙◌, subst, arith}
 use Rattle.std.proofs.lemmas.Bool.{cases_lt, eqb-true}
+use Rattle.std.proofs.lemmas.List.{get_or-drop, drop-drop}
 use Rattle.rt_values.specs.Maps.{contains}
 use Rattle.rt_groups.specs.declared.groups.Group.{Group}
 use Rattle.read_links.specs.LinkLists.{links_with_all}
@@ -135,3 +136,21 @@ pub reads_of_group : (gs : List Group) (k : ℕ) → (group_at gs k).reads ≡ r
 reads_of_group [] k = refl
 reads_of_group (g ∷ gs) zero = refl
 reads_of_group (g ∷ gs) (suc k) = reads_of_group gs k
+
+-- The first of the reads that are left is that of group k.
+pub next_reads : (k : ℕ) (reads left : List (List ℕ)) (xs : List ℕ) → drop k reads ≡ xs ∷ left
+    → xs ≡ reads_at reads k
+next_reads k reads left xs is =
+    sym (ap (λ l. get_or l 0 []) is) ∙ get_or-drop k reads 0 [] ∙ ap (λ n. get_or reads n []) (omega arith)
+
+-- The reads that are left after those of group k.
+pub later_reads : (k : ℕ) (reads left : List (List ℕ)) (xs : List ℕ) → drop k reads ≡ xs ∷ left
+    → drop (k + 1) reads ≡ left
+later_reads k reads left xs is = sym (drop-drop 1 k reads) ∙ ap (drop 1) is
+
+-- No reads are left after those of all groups.
+pub no_reads_left : (k : ℕ) (reads : List (List ℕ)) → drop k reads ≡ [] → length reads ≤ k
+no_reads_left k reads is =
+    let rest = length-drop k reads in
+    let none : length (drop k reads) ≡ 0 = ap length is in
+    omega (arith, rest, none)

@@ -11,7 +11,7 @@ use read_links::{Links, Scope};
 use rt_groups::Dep;
 use rt_values::{NoMemory, ObjectNo};
 use slot_anchors::{Anchor, Anchors};
-use slot_table::Table;
+use slot_table::{ShrunkReads, Table};
 use std::alloc::Global;
 use std::marker::Model;
 
@@ -59,6 +59,24 @@ impl RecomposeScopes {
         let mut scopes = RecomposeScopes::empty(alloc);
         for group in 0..table.len() {
             scopes.add(alloc, group, table.reads(group))?;
+        }
+        Ok(scopes)
+    }
+
+    /// Returns the scopes of the groups of a new frame that have reads, where `reads` are the reads of all groups. Takes
+    /// time linear in the groups and their reads, each of which is hashed once. A rule of this project.
+    pub fn of_reads(alloc: Global, reads: ShrunkReads<'_>) -> Result<Self, NoMemory>
+        ensures { IfOk result (λ s. AreScopesOf reads.entry s) }
+    {
+        let mut reads = reads;
+        let mut scopes = RecomposeScopes::empty(alloc);
+        let mut group: usize = 0;
+        while let Some(own) = reads.next() {
+            scopes.add(alloc, group, own)?;
+            let Some(next) = group.checked_add(1) else {
+                return Err(NoMemory); // No memory holds so many groups.
+            };
+            group = next;
         }
         Ok(scopes)
     }
