@@ -192,6 +192,9 @@ fn other_scopes(
     if changes.keeps_reads(table) {
         return Ok(None);
     }
+    if let Some(reads) = changes.shrunk_reads(table) {
+        return Ok(Some(RecomposeScopes::of_reads(alloc, reads)?));
+    }
     let preview = changes.preview(alloc, table)?;
     Ok(Some(RecomposeScopes::of(alloc, preview.table())?))
 }
