@@ -4,7 +4,7 @@ ghost use Rattle.std.specs.Prelude.{◌≡◌, IfOk};
 use crate::rows::{row_groups, three_rows};
 use rt_groups::GroupKind;
 use rt_values::{NoMemory, Objects, Value};
-use slot_table::{ChangeList, ChangeListWriter, Table};
+use slot_table::{ChangeList, ChangeListWriter, Table, TableBuilder, same_reads};
 use std::alloc::Global;
 use std::test::Fail;
 
@@ -215,6 +215,80 @@ fn shrunk_table_counts_again(rt: HostRuntime) -> Result<(), Fail> {
     ];
     for (runs, ends) in &rows {
         assert!(rt; skips_as_previewed(alloc, runs, ends)?);
+    }
+    Ok(())
+}
+
+// Returns the table of `groups` with reads that differ from group to group: the group at index `i` reads the object
+// `first + i`, and reads it 0, 1 or 2 times.
+fn with_different_reads(
+    alloc: Global,
+    groups: TableBuilder,
+    first: u64,
+) -> Result<Table, NoMemory> {
+    let mut groups = groups;
+    for index in 0..groups.len() {
+        let object = first.saturating_add(index as u64);
+        let reads = Objects::of(vec![in alloc; object; index % 3]?);
+        if index < groups.len() {
+            groups.set_reads(alloc, index, reads)?;
+        }
+    }
+    Table::from_groups(alloc, groups)
+}
+
+// Returns the number of groups whose reads the changes lend without a preview, or `None` if they lend no reads, or
+// reads that differ from those of the preview.
+fn count_lent_reads(
+    alloc: Global,
+    changes: &ChangeList,
+    table: &Table,
+) -> Result<Option<usize>, NoMemory>
+    requires { table.now.groups ≡ changes.now.olds }
+{
+    let Some(lent) = changes.shrunk_reads(table) else {
+        return Ok(None);
+    };
+    let mut lent = lent;
+    let preview = changes.preview(alloc, table)?;
+    let previewed = preview.table();
+    for index in 0..previewed.len() {
+        match lent.next() {
+            Some(reads) if same_reads(reads, previewed.reads(index)) => {}
+            _ => return Ok(None),
+        }
+    }
+    match lent.next() {
+        Some(_) => Ok(None),
+        None => Ok(Some(previewed.len())),
+    }
+}
+
+// Returns what `count_lent_reads` returns for a table of the rows 1, 2 and 3 with the groups of `runs`, where an empty
+// run stands for the group of the rows 8 and 9 at its index.
+fn count_reads_of_rows(alloc: Global, runs: &[(usize, usize)]) -> Result<Option<usize>, NoMemory> {
+    let table = with_different_reads(alloc, row_groups(alloc, &[1, 2, 3])?, 10)?;
+    let others = with_different_reads(alloc, row_groups(alloc, &[8, 9])?, 20)?;
+    let changes = changes_to(alloc, &table, &others, runs)?;
+    count_lent_reads(alloc, &changes, &table)
+}
+
+#[test]
+fn shrunk_changes_lend_the_reads_of_their_preview(rt: HostRuntime) -> Result<(), Fail> {
+    let alloc = rt.alloc();
+    let rows: [(&[(usize, usize)], Option<usize>); 9] = [
+        (&[(0, 1), (3, 6)], Some(4)),
+        (&[(0, 1), (1, 1), (4, 7)], Some(5)),
+        (&[(1, 1), (2, 5)], Some(4)),
+        (&[(0, 1), (3, 5), (1, 1), (2, 2)], Some(5)),
+        (&[(0, 3)], Some(3)),
+        (&[(1, 1), (2, 3), (3, 3), (6, 7), (1, 1)], Some(5)),
+        (&[(0, 3), (1, 1), (4, 7)], None),
+        (&[(0, 1), (5, 7), (1, 3)], None),
+        (&[(1, 1), (2, 2)], None),
+    ];
+    for (runs, count) in &rows {
+        assert_eq!(rt; count_reads_of_rows(alloc, runs)?, *count);
     }
     Ok(())
 }

@@ -2,7 +2,7 @@
 use recompose_scopes::RecomposeScopes;
 use rt_groups::{Group, GroupKind, Values};
 use rt_values::{NoMemory, Objects};
-use slot_table::{SharedGroup, Table, TableBuilder};
+use slot_table::{ChangeListWriter, SharedGroup, Table, TableBuilder};
 use std::alloc::Global;
 use std::test::Fail;
 
@@ -64,5 +64,39 @@ fn owed_calls_are_those_that_read_an_owed_object(rt: HostRuntime) -> Result<(), 
     }
 
     assert_eq!(rt; scopes.owed_calls(alloc, &[])?.next_from(0), usize::MAX);
+    Ok(())
+}
+
+// Returns the scopes of `table` without its groups at the indexes 0 and 3, or no scopes if it is not a table of 7 groups.
+fn scopes_of_fewer_calls(alloc: Global, table: &Table) -> Result<RecomposeScopes, NoMemory> {
+    let mut writer = ChangeListWriter::new(alloc, table);
+    if 7 <= table.len() {
+        writer.keep(1, 3)?;
+        writer.keep(4, 7)?;
+    }
+    let changes = writer.into_change_list(alloc)?;
+    match changes.shrunk_reads(table) {
+        Some(reads) => RecomposeScopes::of_reads(alloc, reads),
+        None => Ok(RecomposeScopes::new(alloc)),
+    }
+}
+
+#[test]
+fn scopes_of_a_shrunk_table_have_the_new_indexes(rt: HostRuntime) -> Result<(), Fail> {
+    let alloc = rt.alloc();
+    let scopes = scopes_of_fewer_calls(alloc, &table_of_calls(alloc)?)?;
+    assert_eq!(rt; scopes.scopes_of(7), [0usize].as_slice());
+    assert_eq!(rt; scopes.scopes_of(8), [0usize, 2, 3].as_slice());
+    assert_eq!(rt; scopes.scopes_of(9), [1usize, 3].as_slice());
+    let places = [
+        (0usize, Some(0usize)),
+        (1, Some(1)),
+        (2, Some(2)),
+        (3, Some(4)),
+        (4, None),
+    ];
+    for (scope, place) in places {
+        assert_eq!(rt; scopes.place(scope), place);
+    }
     Ok(())
 }
