@@ -1,4 +1,4 @@
-use Rattle.std.proofs.Common.{◌≡◌, ◌≤◌, ◌<◌, ◌⊎◌, inl, inr, ◌+◌, ◌∷◌, ℕ, List, [], map, drop, arith, ap, sym, ◌∙◌}
+use Rattle.std.proofs.Common.{◌≡◌, ◌≤◌, ◌⊎◌, inl, inr, ◌+◌, ◌∷◌, ℕ, List, map, drop, arith, ap, sym, ◌∙◌}
 use Rattle.rt_groups.specs.declared.groups.Group.{Group}
 use Rattle.slot_table.specs.KeptRuns.{patched}
 use Rattle.slot_table.specs.declared.runs.KeptRun.{KeptRun}
