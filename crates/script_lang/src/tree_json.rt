@@ -11,7 +11,7 @@ ghost use Rattle.script_lang.specs.GroupLines.{plain_attribute};
 ghost use Rattle.script_lang.specs.GroupJson.{JsonState, json_state, node_start, node_end, ends_from, state_at, json_of, json_after, initial_json};
 ghost use Rattle.script_lang.specs.SortedAttributes.{sorted_members};
 
-use crate::line::{add, add_number, or_empty};
+use crate::line::{add, add_number, add_printed, or_empty};
 use rt_groups::{Attribute, GroupKind};
 use rt_values::{NoMemory, Value, Word};
 use std::alloc::Global;
@@ -111,8 +111,8 @@ fn add_value(text: &mut Vec<u8>, value: &Value) -> Result<(), NoMemory>
     ensures { OnOk result (text.new.items ≡ text.old.items ++ compact_text (value_data value.now)) }
 {
     match value {
-        Value::Int(_) => value.put(text),
-        Value::Bool(_) => value.put(text),
+        Value::Int(_) => add_printed(text, value),
+        Value::Bool(_) => add_printed(text, value),
         Value::Text(chars) => add_quoted(text, chars.bytes()),
         Value::Ints(list) => add_integers(text, list.items()),
     }
