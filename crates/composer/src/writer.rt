@@ -231,6 +231,7 @@ impl<'t> Writer<'t> {
 
     /// Appends a node or a key that is matched with `found`. A node gets the number of `found`, or the next number.
     /// The list of the attributes is spare if the group does not need it.
+    #[inline(always)]
     pub fn enter(
         &mut self,
         alloc: Global,

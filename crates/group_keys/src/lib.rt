@@ -69,6 +69,7 @@ impl<'a> SiblingKey<'a> {
 }
 
 // Returns whether both are equal values or both are missing.
+#[inline(always)]
 pub(crate) fn same_keys(key: &Option<&Value>, other: &Option<&Value>) -> bool
     ensures { result
         ≡ option_eq same_value (option_map (λ k. k.now) key.now) (option_map (λ k. k.now) other.now) }

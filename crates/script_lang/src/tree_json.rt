@@ -3,7 +3,7 @@ ghost use Rattle.std.specs.Prelude.{◌≡◌, ◌≤◌, ◌<◌, ◌++◌, ◌
 ghost use Rattle.std.specs.Char.{digit_char};
 ghost use Rattle.std.specs.Ordering.{nat_cmp};
 ghost use Rattle.std.specs.Cmp.Lexicographic.{slice_cmp};
-ghost use Rattle.json.specs.Print.{escape_byte, quoted};
+ghost use Rattle.json.specs.Print.{escape, escape_byte, quoted};
 ghost use Rattle.serde_json.specs.Data.{array, no_members, put};
 ghost use Rattle.serde_json.specs.Written.{comma_if, number_text, compact_text, members_text};
 ghost use Rattle.script_lang.specs.TreeJson.{value_data, integer_data, integers_data, with_attributes};
@@ -11,7 +11,7 @@ ghost use Rattle.script_lang.specs.GroupLines.{plain_attribute};
 ghost use Rattle.script_lang.specs.GroupJson.{JsonState, json_state, node_start, node_end, ends_from, state_at, json_of, json_after, initial_json};
 ghost use Rattle.script_lang.specs.SortedAttributes.{sorted_members};
 
-use crate::line::{add, add_number, add_printed, or_empty};
+use crate::line::{add, add_number, add_printed, or_empty, put_bytes};
 use rt_groups::{Attribute, GroupKind};
 use rt_values::{NoMemory, Value, Word};
 use std::alloc::Global;
@@ -56,17 +56,63 @@ fn add_escaped(text: &mut Vec<u8>, byte: u8) -> Result<(), NoMemory>
     }
 }
 
+// Returns whether a string has this byte without an escape.
+#[inline(always)]
+#[tactic(auto, unfolding(json::specs::Print::escape_byte))]
+fn is_plain_byte(byte: u8) -> bool
+    ensures { result ≡ true → escape_byte byte ≡ byte ∷ [] }
+{
+    byte >= 32 && byte != b'"' && byte != b'\\'
+}
+
+// Returns whether a string has these bytes without an escape.
+#[inline(always)]
+fn is_plain(bytes: &[u8]) -> bool
+    ensures { result ≡ true → escape bytes.now ≡ bytes.now }
+{
+    let mut rest = bytes;
+    while let Some((byte, more)) = rest.split_first() {
+        if !is_plain_byte(*byte) {
+            return false;
+        }
+        rest = more;
+    }
+    true
+}
+
+// Appends bytes of a string, with escapes.
+#[tactic(auto, using(crate::proofs::Texts::joins))]
+fn add_escapes(text: &mut Vec<u8>, bytes: &[u8]) -> Result<(), NoMemory>
+    ensures { OnOk result (text.new.items ≡ text.old.items ++ escape bytes.now) }
+{
+    let mut rest = bytes;
+    while let Some((byte, more)) = rest.split_first() {
+        add_escaped(text, *byte)?;
+        rest = more;
+    }
+    Ok(())
+}
+
+// Appends the bytes of a string. Most names need no escapes.
+#[inline(always)]
+fn add_string_bytes(text: &mut Vec<u8>, bytes: &[u8]) -> Result<(), NoMemory>
+    ensures { OnOk result (text.new.items ≡ text.old.items ++ escape bytes.now) }
+{
+    if !is_plain(bytes) {
+        return add_escapes(text, bytes);
+    }
+    text.reserve(bytes.len())?;
+    put_bytes(text, bytes);
+    Ok(())
+}
+
 // Appends a string with its quotes.
 #[tactic(auto, using(crate::proofs::Texts::joins))]
 fn add_quoted(text: &mut Vec<u8>, bytes: &[u8]) -> Result<(), NoMemory>
     ensures { OnOk result (text.new.items ≡ text.old.items ++ quoted bytes.now) }
 {
     text.push(b'"')?;
-    let mut rest = bytes;
-    while let Some((byte, more)) = rest.split_first() {
-        add_escaped(text, *byte)?;
-        rest = more;
-    }
+    add_string_bytes(text, bytes)?;
     text.push(b'"')?;
     Ok(())
 }

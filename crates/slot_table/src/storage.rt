@@ -153,6 +153,7 @@ impl Model for Slots {
 
 impl Slots {
     // Returns the slots of a group.
+    #[inline(always)]
     fn new(alloc: Global, what: GroupKind, reads: Deps) -> Result<Self, NoMemory>
         ensures { IfOk result (λ s. s ≡ record { what = what; reads = reads }) }
     {
@@ -160,6 +161,7 @@ impl Slots {
     }
 
     // Returns the slots of a group that shares the kind `what`. Takes memory only for reads.
+    #[inline(always)]
     fn from_kind(alloc: Global, what: Rc<GroupKind>, reads: Deps) -> Result<Self, NoMemory>
         ensures { IfOk result (λ s. s ≡ record { what = what.value; reads = reads }) }
     {
@@ -256,6 +258,7 @@ fn is_node_kind(what: &GroupKind) -> bool
 
 impl SharedGroup {
     /// Returns `group`, whose slots can be shared.
+    #[inline(always)]
     pub fn new(alloc: Global, group: Group) -> Result<Self, NoMemory>
         ensures { IfOk result (λ g. g ≡ group) }
     {
@@ -301,6 +304,7 @@ impl SharedGroup {
     }
 
     /// Returns the group at another depth and site, with another number.
+    #[inline(always)]
     pub fn placed(self, depth: u32, site: u32, number: u64) -> Self
         ensures { result ≡ flat_group depth site number self.what self.reads }
     {
