@@ -72,6 +72,9 @@ impl Held {
     pub(crate) fn owed_calls(&self, alloc: Global, owed: &Owed) -> Result<OwedCalls, NoMemory>
         ensures { IfOk result (λ calls. IsOwedList (own_reads self.now.groups) owed.now.objects calls) }
     {
+        if self.scopes.is_empty() {
+            return Ok(self.scopes.no_calls(alloc));
+        }
         let objects = owed.objects(alloc)?;
         self.scopes.owed_calls(alloc, &objects)
     }

@@ -1,5 +1,5 @@
 -- The places of the scopes of some objects.
-use Rattle.std.proofs.Common.{◌≡◌, ◌⊎◌, inl, inr, ◌==◌, ℕ, true, List, [], ◌∷◌, get_or, Option, Some, None, refl, ap, sym, ◌∙◌, subst, eq-eqb}
+use Rattle.std.proofs.Common.{◌≡◌, ◌⊎◌, inl, inr, ◌==◌, ℕ, true, false, List, [], ◌∷◌, get_or, Option, Some, None, refl, ap, sym, ◌∙◌, subst, eq-eqb}
 use Rattle.std.proofs.lemmas.Bool.{eqb-true}
 use Rattle.std.proofs.lemmas.Option.{same_Some}
 use Rattle.rt_values.specs.Maps.{contains}
@@ -124,4 +124,17 @@ owed_list l objects places same reads h = record {
         common_meets owed.object (reads_at reads i) objects
         (ap (λ k. contains owed.object (reads_at reads k)) (sym is) ∙ reader.read) owed.listed
   ];
+}
+
+-- Without scopes no call reads anything, so none is owed.
+pub none_owed : (l : ScopeLists) (places : List ℕ) (reads : List (List ℕ)) (objects : List ℕ) → l.anchors ≡ []
+    → ((i : ℕ) → contains i places ≡ false) → AreScopesOf reads l → IsOwedList reads objects places
+none_owed l places reads objects none empty h = record {
+  all = λ i met.
+      let both = common_of (reads_at reads i) objects met in
+      let has = h.all i both.member both.left in
+      let missing : None ≡ Some i =
+      sym (ap (λ (as_ : List (Option ℕ)). get_or as_ has.scope None) none) ∙ has.anchored in
+      absurd cc;
+  only = λ i has. let no = empty i in absurd cc;
 }

@@ -4,4 +4,3 @@ mod ScopeAnchors
 mod AddedScopes
 mod CollectedPlaces
 mod SplitPlaces
-pub mod OwedRuns

@@ -1,5 +1,5 @@
 // The recompose scopes of a composition.
-ghost use Rattle.std.specs.Prelude.{◌≡◌, ℕ, List, [], None, slice_index_or, IfOk, OnOk};
+ghost use Rattle.std.specs.Prelude.{◌≡◌, ℕ, List, [], None, true, slice_index_or, IfOk, OnOk};
 ghost use Rattle.rt_values.specs.Maps.{contains};
 ghost use Rattle.read_links.specs.LinkLists.{scopes_in};
 ghost use Rattle.recompose_scopes.specs.Scopes.{own_reads, AreScopesOf};
@@ -135,6 +135,23 @@ impl RecomposeScopes {
             self.append_places(self.scopes_of(*object), &mut places)?;
         }
         Ok(places)
+    }
+
+    /// Returns whether no call reads anything.
+    pub fn is_empty(&self) -> bool
+        ensures { result ≡ true → self.now.anchors ≡ [] }
+    {
+        self.anchors.len() == 0
+    }
+
+    /// Returns the calls that are owed, whatever changes: none, since no call reads anything.
+    #[tactic(auto, using(crate::proofs::CollectedPlaces::none_owed))]
+    pub fn no_calls(&self, alloc: Global) -> OwedCalls
+        requires { self.now.anchors ≡ [] }
+        ensures { (reads : List (List ℕ)) (objects : List ℕ) → AreScopesOf reads self.now →
+            IsOwedList reads objects result }
+    {
+        OwedCalls::of(Vec::new(alloc))
     }
 
     /// Returns the calls whose own reads contain one of `objects`, by the indexes of their groups, as
