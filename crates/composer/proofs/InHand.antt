@@ -3,8 +3,8 @@ use Rattle.std.proofs.Common.{◌≡◌, ◌∙◌, ◌+◌, ℕ, List, length, 
 use Rattle.std.specs.Prelude.{OnOk}
 use Rattle.rt_groups.specs.GroupForest.{GroupForest}
 use Rattle.rt_groups.specs.Paths.{GroupKey}
-use Rattle.composer.specs.declared.composing.Level.{Level}
-use Rattle.composer.specs.declared.composing.Progress.{Progress}
+use Rattle.composer.specs.declared.progress.Level.{Level}
+use Rattle.composer.specs.declared.progress.Progress.{Progress}
 use Rattle.composer.specs.declared.pending.Pending.{Pending}
 use Rattle.composer.specs.declared.stop.ComposeStop.{ComposeStop}
 use Rattle.composer.specs.ComposerState.{ComposerState}

@@ -16,8 +16,8 @@ use Rattle.lang_meaning.specs.ComposesForest.{statement_forest, body_forest, cal
 use Rattle.recompose_laws.specs.Work.{siblings}
 use Rattle.recompose_laws.specs.Refreshing.{is_owed}
 use Rattle.recompose_laws.specs.CalculatedCells.{Calculation}
-use Rattle.composer.specs.declared.composing.Level.{Level}
-use Rattle.composer.specs.declared.composing.Progress.{Progress}
+use Rattle.composer.specs.declared.progress.Level.{Level}
+use Rattle.composer.specs.declared.progress.Progress.{Progress}
 use Rattle.composer.specs.declared.stop.ComposeStop.{ComposeStop}
 use Rattle.composer.specs.ComposerState.{ComposerState, composed_beside, run_beside, skipped_inside, skipped_groups}
 use Rattle.composer.specs.BesideContracts.{Reaches, LastComposition, IsSince, OldSiblings, IsOldPart}

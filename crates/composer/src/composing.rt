@@ -14,9 +14,7 @@ ghost use Rattle.recompose_laws.specs.CalculatedCells.{Calculation, CalculatesAt
 ghost use Rattle.composer.specs.WrittenGroups.{kept_of, group_kind, arguments_of, AreArguments};
 ghost use Rattle.composer.specs.FrameDrafts.{Holds, IsOwing, ComposesFrame, root_of};
 ghost use Rattle.lang_ast.specs.Programs.{functions_of};
-ghost use Rattle.rt_groups.specs.Paths.{GroupKey};
-ghost use Rattle.composer.specs.OldSiblings.{old_group, found_siblings, IsFoundIn};
-ghost use Rattle.composer.specs.Waiting.{waiting_siblings};
+ghost use Rattle.composer.specs.OldSiblings.{old_group, IsFoundIn};
 ghost use Rattle.composer.specs.Recomposes.{Recomposes, Continues, RanBeside, Writes, HasRoom, HasRoomToWrite, FitsIn, group_at_level, statement_at, body_at, call_at, loop_at, BodyRan, GroupSkipped, GroupsSkipped, FrameWritten, any_calculation, is_container, is_call_kept};
 
 use crate::compared::{call_is_run, kept_value, meet};
@@ -26,6 +24,7 @@ use crate::last_groups::LastGroups;
 use crate::old_groups::OldGroup;
 use crate::owed::Owed;
 use crate::pending::Pending;
+use crate::progress::{Level, Progress};
 use crate::runs::{is_end, quiet_end};
 use crate::spares::Spares;
 use crate::stop::ComposeStop;
@@ -39,88 +38,6 @@ use rt_values::{NoMemory, Steps, Value, View};
 use std::alloc::Global;
 use std::mem;
 use std::sync::ledger::Ledger;
-
-/// Where statements are composed: the functions that their calls reach, the groups of the last frame with what is owed,
-/// and the depth of the new groups.
-#[derive(Clone, Copy)]
-pub struct Level<'a> {
-    pub alloc: Global,
-    pub functions: &'a [Function],
-    pub last: &'a LastGroups<'a>,
-    pub depth: u32,
-}
-
-/// What composing has made so far: the variables in scope, the old siblings that are not matched yet, the reads of the
-/// innermost call, the groups. `spares` has lists whose memory is used again.
-#[derive(Drop)]
-pub struct Progress<'a> {
-    pub scope: Env,
-    pub pending: Pending<'a>,
-    pub reads: Deps,
-    pub writer: Writer<'a>,
-    pub spares: Spares,
-}
-
-/// What is in hand around the body of a call, while the body is composed: the variables in scope, the old siblings that
-/// are not matched yet, and the reads of the call around it.
-#[derive(Drop)]
-pub struct Around<'a> {
-    pub scope: Env,
-    pub pending: Pending<'a>,
-    pub reads: Deps,
-}
-
-impl<'a> Progress<'a> {
-    // Goes into the body of a call, whose variables are `scope`, next to the old groups inside `found`. Returns what is
-    // in hand around the body.
-    #[inline(always)]
-    fn enter_body(
-        &mut self,
-        level: &Level<'a>,
-        found: &Option<OldGroup<'a>>,
-        scope: Env,
-    ) -> Around<'a>
-        ensures around { result ≡ record {
-          scope = self.old.scope;
-          pending = self.old.pending;
-          reads = self.old.reads;
-        } }
-        ensures scope { self.new.scope ≡ scope }
-        ensures pending { (s : GroupKey) → waiting_siblings self.new.pending s ≡ found_siblings found.now s }
-        ensures table { IsFoundIn level.now.last.now.groups found.now →
-            self.new.pending.table.now.groups ≡ level.now.last.now.groups }
-        ensures reads { self.new.reads ≡ [] }
-        ensures writer { self.new.writer ≡ self.old.writer }
-    {
-        let pending = Pending::inside_found(level.last, found);
-        let reads = self.spares.take_reads(level.alloc);
-        Around {
-            scope: mem::replace(&mut self.scope, scope),
-            pending: mem::replace(&mut self.pending, pending),
-            reads: mem::replace(&mut self.reads, reads),
-        }
-    }
-
-    // Leaves the body of a call. Returns the reads of the call.
-    #[inline(always)]
-    fn leave_body(&mut self, around: Around<'a>) -> Deps
-        ensures own { result ≡ self.old.reads }
-        ensures scope { self.new.scope ≡ around.entry.scope }
-        ensures pending { self.new.pending ≡ around.entry.pending }
-        ensures reads { self.new.reads ≡ around.entry.reads }
-        ensures writer { self.new.writer ≡ self.old.writer }
-    {
-        let Around {
-            scope,
-            pending,
-            reads,
-        } = around;
-        let variables = mem::replace(&mut self.scope, scope);
-        self.spares.keep_scope(variables);
-        self.pending = pending;
-        mem::replace(&mut self.reads, reads)
-    }
-}
 
 /// What a cell remembers: the keys and the calculation of a `remember` at a site.
 #[derive(Clone, Copy)]

@@ -10,9 +10,9 @@ ghost use Rattle.composer.specs.WrittenGroups.{number_kept, written_kept, runnin
 ghost use Rattle.composer.specs.OldSiblings.{old_group, found_siblings, IsFoundIn};
 ghost use Rattle.composer.specs.Waiting.{waiting_siblings};
 
-use crate::composing::Level;
 use crate::old_groups::OldGroup;
 use crate::pending::Pending;
+use crate::progress::Level;
 use crate::spares::Spares;
 use crate::stop::ComposeStop;
 use crate::writer::{NewKind, Writer};

@@ -17,6 +17,7 @@ mod last_groups;
 mod old_groups;
 mod owed;
 mod pending;
+mod progress;
 mod runs;
 mod spares;
 mod stop;

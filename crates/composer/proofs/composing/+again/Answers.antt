@@ -26,7 +26,7 @@ use Rattle.composer.specs.declared.stop.ComposeStop.TheVariants.{NoMemory}
 use Rattle.composer.specs.Comparisons.{call_runs}
 use Rattle.composer.specs.OldSiblings.{KeyInfo, old_group}
 use Rattle.composer.specs.OldGroups.{Alike, SameGroup, Fits}
-use Rattle.composer.specs.declared.composing.Around.{Around}
+use Rattle.composer.specs.declared.progress.Around.{Around}
 use Rattle.composer.specs.declared.pending.Pending.{Pending}
 use Rattle.composer.specs.ComposerState.{skipped_groups, skipped_inside}
 use Rattle.composer.specs.BesideContracts.{IsOldPart}
