@@ -63,8 +63,8 @@ impl RecomposeScopes {
         Ok(scopes)
     }
 
-    /// Returns the scopes of the groups of a new frame that have reads, where `reads` are the reads of all groups. Takes
-    /// time linear in the groups and their reads, each of which is hashed once. A rule of this project.
+    /// Returns the scopes of the groups of a new frame that have reads, where `reads` are the reads of all groups.
+    /// Takes time linear in the groups and their reads, each of which is hashed once. A rule of this project.
     pub fn of_reads(alloc: Global, reads: ShrunkReads<'_>) -> Result<Self, NoMemory>
         ensures { IfOk result (λ s. AreScopesOf reads.entry s) }
     {

@@ -67,7 +67,8 @@ fn owed_calls_are_those_that_read_an_owed_object(rt: HostRuntime) -> Result<(), 
     Ok(())
 }
 
-// Returns the scopes of `table` without its groups at the indexes 0 and 3, or no scopes if it is not a table of 7 groups.
+// Returns the scopes of `table` without its groups at the indexes 0 and 3, or no scopes if `table` has fewer than 7
+// groups.
 fn scopes_of_fewer_calls(alloc: Global, table: &Table) -> Result<RecomposeScopes, NoMemory> {
     let mut writer = ChangeListWriter::new(alloc, table);
     if 7 <= table.len() {
