@@ -17,10 +17,10 @@ returns-clause-says g c =
     let p = c.args.job.now.program in
     let parts = script_parts c.args.job.now.script.actors.items c.args.job.now.script.forms.items in
     let fit = program-fits p.header p.states.items (functions_view p.functions.items) c.args.job.now.fine in
-    says_same c.run_do_forms.result _ _ _ _
+    says_same c.run_do_forms-done.result _ _ _ _
     (sym (run_text_is (job_style c.args.job.now c.args.flags) (job_functions c.args.job.now)
     (g.V.Versions.log c.args.world.now) parts))
-    (c.run_do_forms.ensures.runs (first_run p.states.items (g.V.Versions.log c.args.world.now))
+    (c.run_do_forms-done.ensures.runs (first_run p.states.items (g.V.Versions.log c.args.world.now))
     (opened 0 p.states.items (g.V.Versions.log c.args.world.now) fit c.set_up_world.ensures.log
     c.in-Ok-set_up_world.ensures.opened c.in-Ok.ensures.composition (ap functions_of c.in-Ok.ensures.program)
     c.in-Ok.ensures.names)).says
@@ -31,10 +31,10 @@ returns-clause-log g c =
     let parts = script_parts c.args.job.now.script.actors.items c.args.job.now.script.forms.items in
     let log = g.V.Versions.log c.args.world.now in
     let fit = program-fits p.header p.states.items (functions_view p.functions.items) c.args.job.now.fine in
-    let ran = (c.run_do_forms.ensures.runs (first_run p.states.items log)
+    let ran = (c.run_do_forms-done.ensures.runs (first_run p.states.items log)
     (opened 0 p.states.items log fit c.set_up_world.ensures.log c.in-Ok-set_up_world.ensures.opened
     c.in-Ok.ensures.composition (ap functions_of c.in-Ok.ensures.program) c.in-Ok.ensures.names)).left in
-    logged_after (λ (h : IsRun (job_functions c.args.job.now) g.V.Versions.stands g.V.Versions.log c.run_do_forms.new.world c.run_do_forms.new.memory 0 None (parts_after (job_functions c.args.job.now) (first_run p.states.items log) parts)). run_logged (job_titles c.args.job.now) (job_functions c.args.job.now) parts log (g.V.Versions.log c.run_do_forms.new.world) h.logged) c.run_do_forms.result ran
+    logged_after (λ (h : IsRun (job_functions c.args.job.now) g.V.Versions.stands g.V.Versions.log c.run_do_forms-done.new.world c.run_do_forms-done.new.memory 0 None (parts_after (job_functions c.args.job.now) (first_run p.states.items log) parts)). run_logged (job_titles c.args.job.now) (job_functions c.args.job.now) parts log (g.V.Versions.log c.run_do_forms-done.new.world) h.logged) c.run_do_forms-done.result ran
 
 pub returns-clause-stops : goal.returns-clause-stops
 returns-clause-stops g c =
@@ -42,9 +42,9 @@ returns-clause-stops g c =
     let parts = script_parts c.args.job.now.script.actors.items c.args.job.now.script.forms.items in
     let log = g.V.Versions.log c.args.world.now in
     let fit = program-fits p.header p.states.items (functions_view p.functions.items) c.args.job.now.fine in
-    let ran = (c.run_do_forms.ensures.runs (first_run p.states.items log)
+    let ran = (c.run_do_forms-done.ensures.runs (first_run p.states.items log)
     (opened 0 p.states.items log fit c.set_up_world.ensures.log c.in-Ok-set_up_world.ensures.opened
     c.in-Ok.ensures.composition (ap functions_of c.in-Ok.ensures.program) c.in-Ok.ensures.names)).stops in
-    after_error c.run_do_forms.result
+    after_error c.run_do_forms-done.result
     (script_stopped (job_style c.args.job.now c.args.flags) (job_functions c.args.job.now) parts log
-    (g.V.Versions.log c.run_do_forms.new.world) _ _) ran
+    (g.V.Versions.log c.run_do_forms-done.new.world) _ _) ran
