@@ -386,6 +386,33 @@ const ROWS: [Row; 17] = [
     },
 ];
 
+// Makes one watcher and the objects of a row.
+fn make_objects<V: Versions, A: Abort>(
+    rt: &A,
+    alloc: Global,
+    world: &mut V,
+    row: &Row,
+    policies: Vec<V::P>,
+) -> Result<(), Fail> {
+    assert!(rt; world.watchers() < 65536);
+    world.watch(alloc)?;
+    for ((ty, _, initial), policy) in row.states.iter().zip(policies) {
+        assert!(rt; world.objects() < 65536);
+        let made = world.make(alloc, *ty, policy, initial.value(alloc)?);
+        assert!(rt; made.is_ok());
+    }
+    Ok(())
+}
+
+// The calls of a row, each with its caller.
+fn calls_of(alloc: Global, row: &Row) -> Result<Vec<(u64, Request)>, Fail> {
+    let mut calls = Vec::new(alloc);
+    for (caller, call, _) in row.calls {
+        calls.push((*caller, call.request(alloc)?))?;
+    }
+    Ok(calls)
+}
+
 // Makes one watcher and these objects, then the calls, and returns their replies.
 fn replies_of<V: Versions, A: Abort>(
     rt: &A,
@@ -394,17 +421,8 @@ fn replies_of<V: Versions, A: Abort>(
     row: &Row,
     policies: Vec<V::P>,
 ) -> Result<Vec<Reply>, Fail> {
-    assert!(rt; world.watchers() < 65536);
-    world.watch(alloc)?;
-    for ((ty, _, initial), policy) in row.states.iter().zip(policies) {
-        assert!(rt; world.objects() < 65536);
-        let made = world.make(alloc, *ty, policy, initial.value(alloc)?);
-        assert!(rt; made.is_ok());
-    }
-    let mut calls = Vec::new(alloc);
-    for (caller, call, _) in row.calls {
-        calls.push((*caller, call.request(alloc)?))?;
-    }
+    make_objects(rt, alloc, world, row, policies)?;
+    let calls = calls_of(alloc, row)?;
     Ok(run_calls(alloc, world, &calls)?)
 }
 

@@ -31,20 +31,40 @@ fn the_highest_valid_record_is_read(rt: HostRuntime) -> Result<(), Fail> {
 }
 
 #[test]
-fn records_are_overwritten_and_invalidated(rt: HostRuntime) -> Result<(), Fail> {
+fn records_are_overwritten(rt: HostRuntime) -> Result<(), Fail> {
     let alloc = rt.alloc();
     let mut chains = Chains::new(alloc);
     let x = chains.add_object(alloc)?;
-    let y = chains.add_object_with(alloc, 1, Value::Int(4), 0)?;
     let r = chains.prepend(x, 2, Value::Int(20), 3)?;
     chains.overwrite(r, 6, Value::Int(60), 7);
     assert_eq!(rt; chains.count(x), 1);
     assert_eq!(rt; chains.id(r), 6);
     assert_eq!(rt; chains.stamp(r), 7);
     assert!(rt; chains.value(r).same(&Value::Int(60)));
+    Ok(())
+}
+
+#[test]
+fn records_are_invalidated(rt: HostRuntime) -> Result<(), Fail> {
+    let alloc = rt.alloc();
+    let mut chains = Chains::new(alloc);
+    let x = chains.add_object(alloc)?;
+    let r = chains.prepend(x, 2, Value::Int(20), 3)?;
     chains.invalidate(r);
     assert_eq!(rt; chains.id(r), 0);
     assert!(rt; chains.readable(x, 9, &IdSet::new(alloc)).is_none());
+    Ok(())
+}
+
+#[test]
+fn records_of_other_objects_stay(rt: HostRuntime) -> Result<(), Fail> {
+    let alloc = rt.alloc();
+    let mut chains = Chains::new(alloc);
+    let x = chains.add_object(alloc)?;
+    let y = chains.add_object_with(alloc, 1, Value::Int(4), 0)?;
+    let r = chains.prepend(x, 2, Value::Int(20), 3)?;
+    chains.overwrite(r, 6, Value::Int(60), 7);
+    chains.invalidate(r);
     assert_eq!(rt; chains.count(y), 1);
     let first = chains.at(y, 0);
     assert_eq!(rt; chains.id(first), 1);
