@@ -43,6 +43,7 @@ fn same_lists(values: &[Value], others: &[Value]) -> bool
 }
 
 // Returns whether both attributes have equal names and values.
+#[inline(always)]
 fn is_same_attribute(attribute: &Attribute, other: &Attribute) -> bool
     ensures { result ≡ same_attribute attribute.now other.now }
 {
@@ -50,6 +51,7 @@ fn is_same_attribute(attribute: &Attribute, other: &Attribute) -> bool
 }
 
 // Returns whether both lists have equal attributes in the same order.
+#[inline(always)]
 fn same_attributes(attributes: &[Attribute], others: &[Attribute]) -> bool
     ensures { result ≡ same_attributes attributes.now others.now }
 {
@@ -67,6 +69,7 @@ fn same_attributes(attributes: &[Attribute], others: &[Attribute]) -> bool
 }
 
 /// Returns whether it is a node with this kind and equal attributes.
+#[inline(always)]
 pub fn is_same_node(what: &GroupKind, kind: &Word, attributes: &[Attribute]) -> bool
     ensures { result ≡ true → what.now ≡ kinds.Node kind.now attributes.now }
 {
@@ -108,6 +111,7 @@ fn is_same_call(what: &GroupKind, function: usize, arguments: &[Value]) -> bool
 }
 
 /// Returns whether a call runs: it has no old group, its arguments differ, or its own reads include an owed object.
+#[inline(always)]
 pub fn call_is_run(
     last: &LastGroups,
     found: &Option<OldGroup>,
@@ -167,6 +171,7 @@ pub fn kept_value(
 }
 
 /// Returns whether a call with these reads reads an owed object.
+#[inline(always)]
 pub fn meet(reads: &[ObjectNo], last: &LastGroups) -> bool
     ensures { result ≡ meets reads.now last.now.owed.objects }
 {

@@ -273,6 +273,7 @@ fn run_if<'a, V: View, L: Ledger>(
 
 // Composes statements with a new variable in scope, which is removed afterwards.
 #[cycle(again)]
+#[inline(always)]
 fn run_bound<'a, V: View, L: Ledger>(
     level: &Level<'a>,
     name: &Ident,
@@ -557,6 +558,7 @@ fn run_body<'a, V: View, L: Ledger>(
 }
 
 // Returns the functions before one, or all.
+#[inline(always)]
 fn front(functions: &[Function], count: usize) -> &[Function]
     ensures { result.now ≡ take count functions.now }
 {
@@ -570,6 +572,7 @@ fn front(functions: &[Function], count: usize) -> &[Function]
 // Skips an old group. If it is a call that is owed, the call runs. Everything else is kept, and the groups inside are
 // skipped.
 #[cycle(again)]
+#[inline(always)]
 fn skip_group<'a, V: View, L: Ledger>(
     level: &Level<'a>,
     site: u32,
@@ -612,6 +615,7 @@ fn skip_group<'a, V: View, L: Ledger>(
 
 // Keeps an old group that is no call, and skips the groups inside it.
 #[cycle(again)]
+#[inline(always)]
 fn skip_inside<'a, V: View, L: Ledger>(
     level: &Level<'a>,
     site: u32,

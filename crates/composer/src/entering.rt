@@ -60,6 +60,7 @@ pub fn push_name(name: &Ident, value: Value, scope: &mut Env) -> Result<(), NoMe
 }
 
 /// Appends an old group, which is kept.
+#[inline(always)]
 pub fn keep_group(
     level: &Level,
     site: u32,
@@ -79,6 +80,7 @@ pub fn keep_group(
 }
 
 // Returns the number that a group keeps: that of a node.
+#[inline(always)]
 fn kept_number(what: &GroupKind, number: u64) -> u64
     ensures { result ≡ number_kept what.now number }
 {

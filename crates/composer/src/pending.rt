@@ -137,6 +137,7 @@ impl<'a> Pending<'a> {
     }
 
     // Removes and returns the first queued sibling with the site and the key of `key`.
+    #[inline(always)]
     fn take_queued(&mut self, key: &SiblingKey) -> Option<OldGroup<'a>>
         requires { is_some self.old.queues ≡ true }
         ensures found { result ≡ slice_get (waiting_siblings self.old key.now) 0 }
@@ -153,6 +154,7 @@ impl<'a> Pending<'a> {
 }
 
 // Removes and returns the index of the first queued sibling with the site and the key of `key`.
+#[inline(always)]
 fn take_index(queues: &mut Option<Box<SiblingQueues>>, key: &SiblingKey) -> Option<usize>
     requires { is_some queues.old ≡ true }
     ensures same { is_some queues.new ≡ true }

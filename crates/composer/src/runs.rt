@@ -9,6 +9,7 @@ use crate::last_groups::LastGroups;
 
 // Returns the index after the groups inside the group at index `around`, if these are at `depth` and include the group
 // at index `first` or end there.
+#[inline(always)]
 fn level_end(last: &LastGroups, depth: u32, around: usize, first: usize) -> Option<usize>
     ensures { IfSome result (λ end. IsLevelEnd depth last.now.groups first end) }
 {
@@ -25,6 +26,7 @@ fn level_end(last: &LastGroups, depth: u32, around: usize, first: usize) -> Opti
 /// Returns the index after the siblings at `depth` from index `first` on, up to the first sibling that is an owed call
 /// or contains one. Takes constant time if no sibling is or contains one and they are inside the group at index
 /// `around`, and else time linear in the number of these siblings.
+#[inline(always)]
 pub fn quiet_end(last: &LastGroups, depth: u32, around: usize, first: usize) -> usize
     requires { first ≤ length last.now.groups }
     ensures order { first ≤ result }
@@ -66,6 +68,7 @@ fn siblings_end(last: &LastGroups, depth: u32, first: usize, owed: usize) -> usi
 }
 
 /// Returns whether the group at index `at` is less deep, or there is no such group.
+#[inline(always)]
 pub fn is_end(last: &LastGroups, depth: u32, at: usize) -> bool
     ensures end { result ≡ true → Ends depth (drop at last.now.groups) }
     ensures more { result ≡ false → (at < length last.now.groups) × (depth ≤ (group_at last.now.groups at).depth) }

@@ -280,6 +280,7 @@ impl<'t> Writer<'t> {
 
     /// Appends a cell that remembers `value` for the values of `keys` and is matched with `found`. It counts if it is
     /// calculated.
+    #[inline(always)]
     pub fn enter_cell(
         &mut self,
         alloc: Global,
@@ -341,6 +342,7 @@ impl<'t> Writer<'t> {
     /// Appends the group of a call that runs and is matched with `found`. The group shares the slots of `found`, with
     /// the reads of the last frame, if the arguments are those of `found`. Else it has no reads. `end_call` sets its
     /// reads.
+    #[inline(always)]
     pub fn enter_running(
         &mut self,
         alloc: Global,
@@ -398,6 +400,7 @@ impl<'t> Writer<'t> {
     }
 
     // Appends the group of an old call that runs again. It shares the slots of `old`.
+    #[inline(always)]
     fn enter_again(&mut self, depth: u32, site: u32, old: &OldGroup) -> Result<(), ComposeStop>
         requires { length self.old.groups ≤ most_groups }
         ensures added { OnOk result (self.new
@@ -414,6 +417,7 @@ impl<'t> Writer<'t> {
     }
 
     /// Appends an old group that is kept, with its reads.
+    #[inline(always)]
     pub fn keep(
         &mut self,
         depth: u32,
@@ -436,6 +440,7 @@ impl<'t> Writer<'t> {
 
     /// Appends the groups of the table from index `from` to before index `to`, which are kept as they are. Fails if
     /// there would be more than 1,000,000 groups.
+    #[inline(always)]
     pub fn keep_run(&mut self, from: usize, to: usize) -> Result<(), ComposeStop>
         requires room { length self.old.groups ≤ most_groups }
         requires order { from ≤ to }
@@ -458,6 +463,7 @@ impl<'t> Writer<'t> {
     /// Gives the call at index `place`, which ran, its own reads, and counts them. `first` has the reads of its group
     /// so far, which stay if they are equal: other tables share them.
     #[tactic(auto, using(rt_groups::proofs::ReplacedItems::set_seam, rt_groups::proofs::ReplacedItems::got_seam))]
+    #[inline(always)]
     pub fn end_call(
         &mut self,
         alloc: Global,
