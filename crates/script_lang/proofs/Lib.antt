@@ -1,4 +1,5 @@
 pub mod Texts
+pub mod Digits
 pub mod Trees
 pub mod Jsons
 pub mod SortedNames

@@ -6,6 +6,7 @@ pub mod StepLaws
 pub mod NamesInMemory
 pub mod NameScans
 pub mod TreeJson
+pub mod LastDigits
 pub mod Lines
 pub mod PrintedCalls
 pub mod GroupLines

@@ -1,8 +1,9 @@
 // Lines of calls.
-ghost use Rattle.std.specs.Prelude.{◌≡◌, ◌≤◌, ◌+◌, ◌++◌, ◌∷◌, [], List, ℕ, OnOk, OnErr, codes, length, vec_len, vec_capacity};
+ghost use Rattle.std.specs.Prelude.{◌≡◌, ◌≤◌, ◌<◌, ◌+◌, ◌%◌, ◌++◌, ◌∷◌, [], List, ℕ, OnOk, OnErr, codes, length, vec_len, vec_capacity};
 ghost use Rattle.std.specs.Fmt.{decimal};
 ghost use Rattle.rt_values.specs.Values.{value_text};
 ghost use Rattle.rt_values.specs.Keywords.{kind_word};
+ghost use Rattle.script_lang.specs.LastDigits.{last_two_digits};
 ghost use Rattle.script_lang.specs.Lines.{Titles, titles_of, actor_name, state_name, state_names, snapshot, snapshot_number_text, request_text, refusal_text, reply_text, call_text, entry_line, line};
 
 use crate::Script;
@@ -48,8 +49,84 @@ pub fn add_number(text: &mut Vec<u8>, number: u64) -> Result<(), NoMemory>
     add_digits(text, number)
 }
 
-// Appends the decimal digits of a number with several digits.
+// Returns the last decimal digit of a number.
+#[inline(always)]
+fn last_digit(number: u64) -> u8
+    ensures { result ≡ 48 + number % 10 }
+{
+    b'0' + (number % 10) as u8
+}
+
+// Appends the last two decimal digits of a number, for which there is capacity.
+#[inline(always)]
+#[tactic(auto, using(crate::proofs::Texts::joins))]
+fn put_last_two(text: &mut Vec<u8>, number: u64)
+    requires { vec_len text.old + 2 ≤ vec_capacity text.old }
+    ensures items { text.new.items ≡ text.old.items ++ last_two_digits number }
+    ensures len { vec_len text.new ≡ vec_len text.old + 2 }
+    ensures capacity { vec_capacity text.new ≡ vec_capacity text.old }
+{
+    text.push_reserved(last_digit(number / 10));
+    text.push_reserved(last_digit(number));
+}
+
+// Appends the decimal digits of a number below 100, for which there is capacity.
+#[inline(always)]
+#[tactic(auto, using(crate::proofs::Texts::joins, crate::proofs::Digits::one_digit, crate::proofs::Digits::two_digits))]
+fn put_one_or_two(text: &mut Vec<u8>, number: u64)
+    requires few { number < 100 }
+    requires room { vec_len text.old + 2 ≤ vec_capacity text.old }
+    ensures items { text.new.items ≡ text.old.items ++ decimal number }
+    ensures len { vec_len text.new ≤ vec_len text.old + 2 }
+    ensures capacity { vec_capacity text.new ≡ vec_capacity text.old }
+{
+    if number < 10 {
+        text.push_reserved(last_digit(number));
+    } else {
+        put_last_two(text, number);
+    }
+}
+
+// Appends the decimal digits of a number below 10,000, for which there is capacity.
+#[inline(always)]
+#[tactic(auto, using(crate::proofs::Texts::joins, crate::proofs::Digits::two_more))]
+fn put_few_digits(text: &mut Vec<u8>, number: u64)
+    requires few { number < 10000 }
+    requires room { vec_len text.old + 4 ≤ vec_capacity text.old }
+    ensures items { text.new.items ≡ text.old.items ++ decimal number }
+    ensures len { vec_len text.new ≤ vec_len text.old + 4 }
+    ensures capacity { vec_capacity text.new ≡ vec_capacity text.old }
+{
+    if number < 100 {
+        put_one_or_two(text, number);
+    } else {
+        put_one_or_two(text, number / 100);
+        put_last_two(text, number);
+    }
+}
+
+// Appends the decimal digits of a number with several digits. Most numbers are small, and need no buffer.
+#[tactic(auto, using(crate::proofs::Texts::joins, crate::proofs::Digits::four_more))]
 fn add_digits(text: &mut Vec<u8>, number: u64) -> Result<(), NoMemory>
+    ensures { OnOk result (text.new.items ≡ text.old.items ++ decimal number) }
+{
+    if number >= 100000000 {
+        return add_many_digits(text, number);
+    }
+    text.reserve(8)?;
+    if number < 10000 {
+        put_few_digits(text, number);
+    } else {
+        put_few_digits(text, number / 10000);
+        put_last_two(text, number / 100);
+        put_last_two(text, number);
+    }
+    Ok(())
+}
+
+// Appends the decimal digits of any number.
+#[inline(never)]
+fn add_many_digits(text: &mut Vec<u8>, number: u64) -> Result<(), NoMemory>
     ensures { OnOk result (text.new.items ≡ text.old.items ++ decimal number) }
 {
     let mut buffer = Buffer::new();

@@ -1,5 +1,5 @@
 // The tree of a frame as JSON.
-ghost use Rattle.std.specs.Prelude.{◌≡◌, ◌≤◌, ◌<◌, ◌++◌, ◌∷◌, [], List, ℕ, Bool, true, false, OnOk, OnErr, IfOk, IfSome, IsNone, codes, map, reverse, nat_le};
+ghost use Rattle.std.specs.Prelude.{◌≡◌, ◌≤◌, ◌<◌, ◌+◌, ◌++◌, ◌∷◌, [], List, ℕ, Bool, true, false, OnOk, OnErr, IfOk, IfSome, IsNone, codes, length, map, reverse, nat_le, vec_len, vec_capacity};
 ghost use Rattle.std.specs.Char.{digit_char};
 ghost use Rattle.std.specs.Ordering.{nat_cmp};
 ghost use Rattle.std.specs.Cmp.Lexicographic.{slice_cmp};
@@ -11,7 +11,7 @@ ghost use Rattle.script_lang.specs.GroupLines.{plain_attribute};
 ghost use Rattle.script_lang.specs.GroupJson.{JsonState, json_state, node_start, node_end, ends_from, state_at, json_of, json_after, initial_json};
 ghost use Rattle.script_lang.specs.SortedAttributes.{sorted_members};
 
-use crate::line::{add, add_number, add_printed, or_empty, put_bytes};
+use crate::line::{add, add_number, add_printed, or_empty};
 use rt_groups::{Attribute, GroupKind};
 use rt_values::{NoMemory, Value, Word};
 use std::alloc::Global;
@@ -65,22 +65,28 @@ fn is_plain_byte(byte: u8) -> bool
     byte >= 32 && byte != b'"' && byte != b'\\'
 }
 
-// Returns whether a string has these bytes without an escape.
+// Appends the bytes before the first one that needs an escape, for which there is capacity. Returns the other bytes.
 #[inline(always)]
-fn is_plain(bytes: &[u8]) -> bool
-    ensures { result ≡ true → escape bytes.now ≡ bytes.now }
+#[tactic(auto, using(crate::proofs::Texts::joins))]
+fn put_plain<'b>(text: &mut Vec<u8>, bytes: &'b [u8]) -> &'b [u8]
+    requires { vec_len text.old + length bytes.now ≤ vec_capacity text.old }
+    ensures items { text.new.items ++ escape result.now ≡ text.old.items ++ escape bytes.now }
+    ensures len { vec_len text.new + length result.now ≡ vec_len text.old + length bytes.now }
+    ensures capacity { vec_capacity text.new ≡ vec_capacity text.old }
 {
     let mut rest = bytes;
     while let Some((byte, more)) = rest.split_first() {
         if !is_plain_byte(*byte) {
-            return false;
+            return rest;
         }
+        text.push_reserved(*byte);
         rest = more;
     }
-    true
+    rest
 }
 
 // Appends bytes of a string, with escapes.
+#[inline(never)]
 #[tactic(auto, using(crate::proofs::Texts::joins))]
 fn add_escapes(text: &mut Vec<u8>, bytes: &[u8]) -> Result<(), NoMemory>
     ensures { OnOk result (text.new.items ≡ text.old.items ++ escape bytes.now) }
@@ -93,26 +99,22 @@ fn add_escapes(text: &mut Vec<u8>, bytes: &[u8]) -> Result<(), NoMemory>
     Ok(())
 }
 
-// Appends the bytes of a string. Most names need no escapes.
-#[inline(always)]
-fn add_string_bytes(text: &mut Vec<u8>, bytes: &[u8]) -> Result<(), NoMemory>
-    ensures { OnOk result (text.new.items ≡ text.old.items ++ escape bytes.now) }
-{
-    if !is_plain(bytes) {
-        return add_escapes(text, bytes);
-    }
-    text.reserve(bytes.len())?;
-    put_bytes(text, bytes);
-    Ok(())
-}
-
-// Appends a string with its quotes.
+// Appends a string with its quotes. Most names need no escapes.
 #[tactic(auto, using(crate::proofs::Texts::joins))]
 fn add_quoted(text: &mut Vec<u8>, bytes: &[u8]) -> Result<(), NoMemory>
     ensures { OnOk result (text.new.items ≡ text.old.items ++ quoted bytes.now) }
 {
-    text.push(b'"')?;
-    add_string_bytes(text, bytes)?;
+    let Some(most) = bytes.len().checked_add(2) else {
+        return Err(NoMemory); // No memory holds so many bytes.
+    };
+    text.reserve(most)?;
+    text.push_reserved(b'"');
+    let rest = put_plain(text, bytes);
+    if rest.is_empty() {
+        text.push_reserved(b'"');
+        return Ok(());
+    }
+    add_escapes(text, rest)?;
     text.push(b'"')?;
     Ok(())
 }
