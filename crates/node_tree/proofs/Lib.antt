@@ -10,6 +10,7 @@ pub mod NamedAttributes
 pub mod TreeSteps
 pub mod CountLevels
 pub mod NextSiblings
+pub mod SiblingIndexes
 pub mod CopiedNodes
 pub mod SiblingNodes
 pub mod SiblingCalls

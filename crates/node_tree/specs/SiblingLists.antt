@@ -1,6 +1,7 @@
 -- Internal: the siblings of a list of nodes in preorder, their numbers, and those that are left.
-use Rattle.std.specs.Prelude.{◌≡◌, ℕ, zero, suc, ◌+◌, ◌==◌, List, [], ◌∷◌, ◌++◌, ◌-◌, map, length, min, take, drop, slice_get, slice_set, slice_index_or, Option, Some, None, if◌then◌else◌}
+use Rattle.std.specs.Prelude.{◌≡◌, ℕ, zero, suc, ◌+◌, ◌<◌, ◌==◌, Bool, false, List, [], ◌∷◌, ◌++◌, ◌-◌, map, length, min, take, drop, slice_get, slice_set, slice_index_or, Option, Some, None, if◌then◌else◌}
 use Rattle.std.specs.Option.{is_some}
+use Rattle.std.specs.List.{AllAdjacentBelow}
 use Rattle.rt_groups.specs.Nodes.{Nodes, Branch}
 use Rattle.rt_groups.specs.Nodes as nodes
 use Rattle.rt_groups.specs.PreorderGroups.{flat_attribute}
@@ -35,6 +36,15 @@ last_index number at last (s ∷ ss) = last_index number (at + 1) (if s.number =
 -- The index of the last sibling with this number.
 abbrev pub index_in : ℕ → List Sibling → Option ℕ
 index_in number siblings = last_index number 0 None siblings
+
+-- Whether there is a sibling, and it has this number.
+abbrev pub is_numbered : ℕ → Option Sibling → Bool
+is_numbered number None = false
+is_numbered number (Some s) = s.number == number
+
+-- Each sibling has a smaller number than the next one.
+abbrev pub Ascend : List Sibling → Type 0
+Ascend siblings = AllAdjacentBelow (λ a b. a.number < b.number) siblings (length siblings)
 
 -- For each old sibling 1 if a new one has its number, else 0.
 abbrev pub kept_counts : List Sibling → List Sibling → List ℕ

@@ -1,20 +1,17 @@
 // The calls that turn the old children of one node into the new ones.
-ghost use Rattle.std.specs.Prelude.{◌≡◌, ◌++◌, ◌∷◌, [], ℕ, map, slice_get, OnOk, IfOk};
-ghost use Rattle.std.specs.Ordering.{nat_cmp};
-ghost use Rattle.std.specs.BTreeMap.{get as mapped};
-ghost use Rattle.std.specs.declared.option.Option.{Option};
+ghost use Rattle.std.specs.Prelude.{◌≡◌, ◌++◌, ◌∷◌, [], map, slice_get, OnOk, IfOk};
 ghost use Rattle.node_tree.specs.Calls.{attribute_of};
 ghost use Rattle.node_tree.specs.Placing.{move_to, set_calls};
-ghost use Rattle.node_tree.specs.SiblingLists.{removals_at, arrange_at, insert_of, flat_new, part, part_of, distance_of, counts_after};
+ghost use Rattle.node_tree.specs.SiblingLists.{index_in, removals_at, arrange_at, insert_of, flat_new, part, part_of, distance_of, counts_after};
 
 use crate::counts::Counts;
 use crate::flat::NodeRef;
 use crate::ops::{NewNode, NodeAttributes, Op, Ops};
+use crate::sibling_index::SiblingIndex;
 use crate::siblings::Sibling;
 use rt_groups::Attribute;
 use rt_values::NoMemory;
 use std::alloc::Global;
-use std::collections::BTreeMap;
 
 // Appends a removal of each old sibling whose count is 0, from the last to the first.
 pub(crate) fn push_removals(counts: &[usize], ops: &mut Ops) -> Result<(), NoMemory>
@@ -87,31 +84,30 @@ fn push_insert<'n>(
 
 // Takes the old sibling with the number out of those that are left, and returns the number of those before it. Returns
 // `None` if none is left.
-fn take_left(counts: &mut Counts, indexes: &BTreeMap<u64, usize>, number: u64) -> Option<usize>
-    ensures distance { result ≡ distance_of (mapped nat_cmp indexes.now number) counts.old }
-    ensures counts { counts.new ≡ counts_after (mapped nat_cmp indexes.now number) counts.old }
+fn take_left<'s>(counts: &mut Counts, old: &SiblingIndex<'s>, number: u64) -> Option<usize>
+    ensures distance { result ≡ distance_of (index_in number old.now) counts.old }
+    ensures counts { counts.new ≡ counts_after (index_in number old.now) counts.old }
 {
-    match indexes.get(&number) {
-        Some(index) => counts.take_out(*index),
+    match old.get(number) {
+        Some(index) => counts.take_out(index),
         None => None,
     }
 }
 
 // Appends a move of each new sibling that is left of the old ones and not at its index yet, and an insert of each other
 // one, in order.
-pub(crate) fn push_arrangements<'n>(
+pub(crate) fn push_arrangements<'s, 'n>(
     alloc: Global,
     mut counts: Counts,
-    indexes: &BTreeMap<u64, usize>,
+    old: &SiblingIndex<'s>,
     siblings: &[Sibling],
     new: &[NodeRef<'n>],
     ops: &mut Ops,
 ) -> Result<(), NoMemory>
-    ensures { (find : ℕ → Option ℕ) → ((number : ℕ) → mapped nat_cmp indexes.now number ≡ find number) →
-        OnOk result (ops.new ≡ ops.old ++ arrange_at 0 find counts new.now siblings.now) }
+    ensures { OnOk result (ops.new ≡ ops.old ++ arrange_at 0 (λ number. index_in number old.now) counts new.now siblings.now) }
 {
     for (index, sibling) in siblings.iter().enumerate() {
-        match take_left(&mut counts, indexes, sibling.number) {
+        match take_left(&mut counts, old, sibling.number) {
             Some(distance) => push_move(index, distance, ops)?,
             None => push_insert(alloc, index, sibling.start, new, ops)?,
         }
@@ -190,18 +186,17 @@ pub(crate) fn part_of_nodes<'s, 'n>(
 }
 
 // Returns the old sibling with the number and the nodes inside it, or nothing if there is none.
-pub(crate) fn old_part<'s, 'n>(
+pub(crate) fn old_part<'s, 'l, 'n>(
     nodes: &'s [NodeRef<'n>],
-    siblings: &[Sibling],
-    indexes: &BTreeMap<u64, usize>,
+    siblings: &SiblingIndex<'l>,
     number: u64,
 ) -> &'s [NodeRef<'n>]
-    ensures { result.now ≡ part_of siblings.now nodes.now (mapped nat_cmp indexes.now number) }
+    ensures { result.now ≡ part_of siblings.now nodes.now (index_in number siblings.now) }
 {
-    let Some(index) = indexes.get(&number) else {
+    let Some(index) = siblings.get(number) else {
         return part_of_nodes(nodes, 0, 0);
     };
-    let Some(sibling) = siblings.get(*index) else {
+    let Some(sibling) = siblings.siblings().get(index) else {
         return part_of_nodes(nodes, 0, 0);
     };
     part_of_nodes(nodes, sibling.start, sibling.end)

@@ -25,6 +25,7 @@ mod listing;
 mod lists;
 mod ops;
 mod placing;
+mod sibling_index;
 mod siblings;
 mod tree;
 mod unit;

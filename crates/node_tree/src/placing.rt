@@ -1,7 +1,5 @@
 // The calls that turn one tree of nodes into the next.
 ghost use Rattle.std.specs.Prelude.{◌≡◌, ◌≤◌, ◌<◌, ◌-◌, ◌++◌, ◌∷◌, ℕ, List, Option, length, drop, OnOk, IfOk, IsTrue};
-ghost use Rattle.std.specs.Ordering.{nat_cmp};
-ghost use Rattle.std.specs.BTreeMap.{get as mapped};
 ghost use Rattle.rt_groups.specs.Nodes.{Nodes, None as no_nodes};
 ghost use Rattle.node_tree.specs.declared.ops.Op.{Op as op_data};
 ghost use Rattle.node_tree.specs.declared.ops.Op.TheVariants as op;
@@ -9,34 +7,31 @@ ghost use Rattle.node_tree.specs.NodeTrees.{TreeNode, node_list};
 ghost use Rattle.node_tree.specs.Placing.{set_calls, sets_since, children_since, calls_inside, ops_between, ops};
 ghost use Rattle.node_tree.specs.Premises.{AreDistinct, ChildrenAreDistinct};
 ghost use Rattle.node_tree.specs.FlatNodes.{FlatNode, flat_nodes};
-ghost use Rattle.node_tree.specs.SiblingLists.{index_in, sibling_calls, flat_before, first_node, nodes_from, BeginAlike, HaveSameNumbers};
+ghost use Rattle.node_tree.specs.SiblingLists.{sibling_calls, flat_before, first_node, nodes_from, BeginAlike, HaveSameNumbers};
 
 use crate::counts::Counts;
 use crate::flat::NodeRef;
 use crate::level::{old_part, part_of_nodes, push_arrangements, push_removals, push_sets};
 use crate::ops::{Op, Ops};
-use crate::siblings::{Sibling, count_kept, index_siblings, list_siblings};
+use crate::sibling_index::SiblingIndex;
+use crate::siblings::{Sibling, count_kept, list_siblings};
 use rt_values::NoMemory;
 use std::alloc::Global;
-use std::collections::BTreeMap;
 
 // Appends the removals, inserts and moves that turn the old siblings into the new ones.
-fn push_child_calls<'n>(
+fn push_child_calls<'s, 'n>(
     alloc: Global,
-    old: &[Sibling],
-    indexes: &BTreeMap<u64, usize>,
+    old: &SiblingIndex<'s>,
     new: &[Sibling],
     nodes: &[NodeRef<'n>],
     ops: &mut Ops,
 ) -> Result<(), NoMemory>
-    ensures { ((number : ℕ) → mapped nat_cmp indexes.now number ≡ index_in number old.now) →
-        OnOk result (ops.new ≡ ops.old ++ sibling_calls old.now new.now nodes.now) }
+    ensures { OnOk result (ops.new ≡ ops.old ++ sibling_calls old.now new.now nodes.now) }
 {
-    let new_indexes = index_siblings(alloc, new)?;
-    let counts = count_kept(alloc, old, &new_indexes)?;
+    let counts = count_kept(alloc, old.siblings(), new)?;
     push_removals(&counts, ops)?;
     let left = Counts::new(alloc, counts)?;
-    push_arrangements(alloc, left, indexes, new, nodes, ops)?;
+    push_arrangements(alloc, left, old, new, nodes, ops)?;
     Ok(())
 }
 
@@ -209,10 +204,10 @@ fn push_other_level<'o, 'n>(
 {
     let old_siblings = list_siblings(alloc, old)?;
     let new_siblings = list_siblings(alloc, new)?;
-    let indexes = index_siblings(alloc, &old_siblings)?;
-    push_child_calls(alloc, &old_siblings, &indexes, &new_siblings, new, ops)?;
+    let old_index = SiblingIndex::new(alloc, &old_siblings)?;
+    push_child_calls(alloc, &old_index, &new_siblings, new, ops)?;
     for (index, sibling) in new_siblings.iter().enumerate() {
-        let before = old_part(old, &old_siblings, &indexes, sibling.number);
+        let before = old_part(old, &old_index, sibling.number);
         let after = part_of_nodes(new, sibling.start, sibling.end);
         push_inner(alloc, index, before, after, ops)?;
     }

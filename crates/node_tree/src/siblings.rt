@@ -1,16 +1,13 @@
 // The siblings of a list of nodes in preorder.
-ghost use Rattle.std.specs.Prelude.{◌≡◌, ◌≤◌, ℕ, List, length, IfOk, if◌then◌else◌};
+ghost use Rattle.std.specs.Prelude.{◌≡◌, ◌≤◌, length, IfOk, if◌then◌else◌};
 ghost use Rattle.std.specs.Option.{is_some};
-ghost use Rattle.std.specs.Ordering.{nat_cmp};
-ghost use Rattle.std.specs.BTreeMap.{get as mapped};
-ghost use Rattle.node_tree.specs.declared.siblings.Sibling.{Sibling as sibling_data};
 ghost use Rattle.node_tree.specs.Counting.{total};
-ghost use Rattle.node_tree.specs.SiblingLists.{sibling_list, index_in, kept_counts};
+ghost use Rattle.node_tree.specs.SiblingLists.{sibling_list, kept_counts};
 
 use crate::flat::NodeRef;
+use crate::sibling_index::SiblingIndex;
 use rt_values::NoMemory;
 use std::alloc::Global;
-use std::collections::BTreeMap;
 
 // A sibling: the number and the index of its node, and the index after the nodes inside it.
 #[derive(Clone, Copy, Debug)]
@@ -42,42 +39,42 @@ pub(crate) fn list_siblings<'n>(
     Ok(siblings)
 }
 
-// Returns the index of the last sibling of each number.
-pub(crate) fn index_siblings(
-    alloc: Global,
-    siblings: &[Sibling],
-) -> Result<BTreeMap<u64, usize>, NoMemory>
-    ensures { IfOk result (λ m. (number : ℕ) → mapped nat_cmp m number ≡ index_in number siblings.now) }
-{
-    let mut indexes = BTreeMap::new(alloc);
-    for (index, sibling) in siblings.iter().enumerate() {
-        indexes.insert(sibling.number, index)?;
-    }
-    Ok(indexes)
-}
-
-// Returns 1 if a sibling has the number, else 0.
-fn count_of(indexes: &BTreeMap<u64, usize>, number: u64) -> usize
-    ensures count { result ≡ (if is_some (mapped nat_cmp indexes.now number) then 1 else 0) }
+// Returns 1 if there is an index, else 0.
+fn count_of(found: Option<usize>) -> usize
+    ensures count { result ≡ (if is_some found then 1 else 0) }
     ensures few { result ≤ 1 }
 {
-    if indexes.get(&number).is_some() { 1 } else { 0 }
+    if found.is_some() { 1 } else { 0 }
+}
+
+// Returns for each old sibling 1 if a new one has its number, else 0.
+fn count_found<'s>(
+    alloc: Global,
+    old: &[Sibling],
+    new: &SiblingIndex<'s>,
+) -> Result<Vec<usize>, NoMemory>
+    ensures counts { IfOk result (λ v. v.items ≡ kept_counts new.now old.now) }
+    ensures few { IfOk result (λ v. total v.items ≤ length old.now) }
+{
+    let mut counts = Vec::new(alloc);
+    for sibling in old {
+        counts.push(count_of(new.get(sibling.number)))?;
+    }
+    Ok(counts)
 }
 
 // Returns for each old sibling 1 if a new one has its number, else 0.
 pub(crate) fn count_kept(
     alloc: Global,
     old: &[Sibling],
-    new_indexes: &BTreeMap<u64, usize>,
+    new: &[Sibling],
 ) -> Result<Vec<usize>, NoMemory>
-    ensures counts { (new : List sibling_data) →
-        ((number : ℕ) → mapped nat_cmp new_indexes.now number ≡ index_in number new) →
-        IfOk result (λ v. v.items ≡ kept_counts new old.now) }
+    ensures counts { IfOk result (λ v. v.items ≡ kept_counts new.now old.now) }
     ensures few { IfOk result (λ v. total v.items ≤ length old.now) }
 {
-    let mut counts = Vec::new(alloc);
-    for sibling in old {
-        counts.push(count_of(new_indexes, sibling.number))?;
+    if old.is_empty() {
+        return Ok(Vec::new(alloc));
     }
-    Ok(counts)
+    let index = SiblingIndex::new(alloc, new)?;
+    count_found(alloc, old, &index)
 }

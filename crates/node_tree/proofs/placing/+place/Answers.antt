@@ -1,6 +1,4 @@
-use Rattle.std.proofs.Common.{◌≡◌, ◌<◌, ℕ, ap, sym, ◌∙◌, ◌++◌, length, arith, eqb-true}
-use Rattle.std.specs.Ordering.{nat_cmp}
-use Rattle.std.specs.BTreeMap.{get}
+use Rattle.std.proofs.Common.{◌≡◌, ◌<◌, refl, sym, ◌∙◌, ◌++◌, length, arith, eqb-true}
 use Rattle.std.proofs.Common.{get_or}
 use Rattle.node_tree.specs.Placing.{sets_since, children_since, ops_between}
 use Rattle.node_tree.specs.SiblingLists.{index_in}
@@ -25,31 +23,26 @@ push_inner-returns t c = λ before node children e f d distinct.
 
 pub push_other_level-loop-index-init : goal.push_other_level-loop-index-init
 push_other_level-loop-index-init t c = λ o n e f d distinct.
-    let old = listed o c.args.old.now c.deref-2.result.now c.in_ok-old_siblings.old_siblings.items e
-    c.deref-2.ensures.value c.in_ok-old_siblings.ensures in
-    let new = listed n c.args.new.now c.deref-3.result.now c.in_ok-new_siblings.new_siblings.items f
-    c.deref-3.ensures.value c.in_ok-new_siblings.ensures in
-    let found : (number : ℕ) → get nat_cmp c.in_ok-indexes.indexes number ≡ index_in number c.deref-2.result.now =
-    λ number. c.in_ok-indexes.ensures number
-    ∙ ap (λ l. index_in number l) (c.deref.ensures.value ∙ sym c.deref-2.ensures.value) in
-    level_begins o n c.deref-2.result.now c.deref-3.result.now c.args.new.now c.args.ops.now c.push_child_calls.new.ops
-    old new f d distinct (c.in_ok-push_child_calls.ensures found)
+    let old = c.in_ok-old_index.ensures ∙ listed o c.args.old.now c.deref.result.now
+    c.in_ok-old_siblings.old_siblings.items e c.deref.ensures.value c.in_ok-old_siblings.ensures in
+    let new = listed n c.args.new.now c.deref-2.result.now c.in_ok-new_siblings.new_siblings.items f
+    c.deref-2.ensures.value c.in_ok-new_siblings.ensures in
+    level_begins o n c.in_ok-old_index.old_index c.deref-2.result.now c.args.new.now c.args.ops.now
+    c.push_child_calls.new.ops
+    old new f d distinct c.in_ok-push_child_calls.ensures
 
 pub push_other_level-loop-index-preserved : goal.push_other_level-loop-index-preserved
 push_other_level-loop-index-preserved t c = λ o n e f d distinct.
-    let old = listed o c.args.old.now c.deref-in-loop-index.result.now c.in_ok-old_siblings.old_siblings.items e
-    c.deref-in-loop-index.ensures.value c.in_ok-old_siblings.ensures in
+    let old = c.in_ok-old_index.ensures ∙ listed o c.args.old.now c.deref.result.now
+    c.in_ok-old_siblings.old_siblings.items e c.deref.ensures.value c.in_ok-old_siblings.ensures in
     let new = listed n c.args.new.now c.deref-sibling-items.result.now c.in_ok-new_siblings.new_siblings.items f
     c.deref-sibling-items.ensures.value c.in_ok-new_siblings.ensures in
     let s = get_or c.deref-sibling-items.result.now c.loop-index.index (record { number = 0; start = 0; end = 0 }) in
-    let found : get nat_cmp c.in_ok-indexes.indexes s.number ≡ index_in s.number c.deref-in-loop-index.result.now =
-    c.in_ok-indexes.ensures s.number
-    ∙ ap (λ l. index_in s.number l) (c.deref.ensures.value ∙ sym c.deref-in-loop-index.ensures.value) in
-    level_goes_on o n c.deref-in-loop-index.result.now c.deref-sibling-items.result.now
-    (record { number = 0; start = 0; end = 0 }) (get nat_cmp c.in_ok-indexes.indexes s.number)
+    level_goes_on o n c.in_ok-old_index.old_index c.deref-sibling-items.result.now
+    (record { number = 0; start = 0; end = 0 }) (index_in s.number c.in_ok-old_index.old_index)
     c.args.old.now c.args.new.now c.old_part-before.result.now c.part_of_nodes-after.result.now c.loop-index.index
     c.loop-index.ops c.push_inner.new.ops _
-    old new e f d distinct c.loop-index-test.true found c.old_part-before.ensures c.part_of_nodes-after.ensures
+    old new e f d distinct c.loop-index-test.true refl c.old_part-before.ensures c.part_of_nodes-after.ensures
     c.in_ok-push_inner.ensures (c.loop-index.invariant o n e f d distinct)
 
 pub push_other_level-returns : goal.push_other_level-returns

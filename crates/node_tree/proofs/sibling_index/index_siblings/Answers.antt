@@ -2,7 +2,7 @@ use Rattle.std.specs.Ordering.{nat_cmp}
 use Rattle.std.specs.BTreeMap.{get}
 use Rattle.node_tree.specs.SiblingLists.{index_in}
 use Rattle.node_tree.proofs.NextSiblings.{one_index}
-use Rattle.node_tree.proofs.siblings.index_siblings.Goals as goal
+use Rattle.node_tree.proofs.sibling_index.index_siblings.Goals as goal
 
 pub loop-index-preserved : goal.loop-index-preserved
 loop-index-preserved c = λ number.
