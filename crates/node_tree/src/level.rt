@@ -104,7 +104,8 @@ pub(crate) fn push_arrangements<'s, 'n>(
     new: &[NodeRef<'n>],
     ops: &mut Ops,
 ) -> Result<(), NoMemory>
-    ensures { OnOk result (ops.new ≡ ops.old ++ arrange_at 0 (λ number. index_in number old.now) counts new.now siblings.now) }
+    ensures { OnOk result (ops.new ≡
+        ops.old ++ arrange_at 0 (λ number. index_in number old.now) counts new.now siblings.now) }
 {
     for (index, sibling) in siblings.iter().enumerate() {
         match take_left(&mut counts, old, sibling.number) {
