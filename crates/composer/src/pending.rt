@@ -9,7 +9,7 @@ ghost use Rattle.composer.specs.OldSiblings.{sibling_key, level_indexes, is_leve
 use crate::compared::key_of;
 use crate::last_groups::LastGroups;
 use crate::old_groups::OldGroup;
-use group_keys::{SiblingKey, SiblingQueues};
+use group_keys::{KeySurvey, SiblingKey, SiblingQueues};
 use rt_values::NoMemory;
 use slot_table::Table;
 use std::alloc::Global;
@@ -185,18 +185,18 @@ fn sibling_at<'a>(table: &'a Table, i: usize) -> SiblingKey<'a>
     SiblingKey::new(table.site(i), key_of(table.kind(i)))
 }
 
-// Counts the siblings at `depth` from the index `next` on.
-fn count_siblings(table: &Table, depth: usize, next: usize) -> usize {
-    let mut count = 0;
+// Returns the survey of the siblings at `depth` from the index `next` on.
+fn survey_siblings(table: &Table, depth: usize, next: usize) -> KeySurvey {
+    let mut survey = KeySurvey::new();
     let mut at = next;
     while at < table.len() {
         if table.depth(at) as usize != depth {
-            return count;
+            return survey;
         }
-        count += 1;
+        survey.add(&sibling_at(table, at));
         at = table.index_after(at);
     }
-    count
+    survey
 }
 
 // Returns the queues of the siblings at `depth` from the index `next` on.
@@ -212,7 +212,7 @@ fn queue_from<'a>(
     ensures inside { IfOk result (λ queues. (s : GroupKey) (k i : ℕ) → slice_get (queue_of queues s) k ≡ Some i →
         i < length table.now.groups) }
 {
-    let mut queues = SiblingQueues::with_room(alloc, count_siblings(table, depth, next))?;
+    let mut queues = SiblingQueues::for_siblings(alloc, &survey_siblings(table, depth, next))?;
     let mut at = next;
     while is_level(table, depth, at) {
         queues.push(alloc, sibling_at(table, at), at)?;

@@ -1,8 +1,14 @@
 -- The queue of each sibling after a change of one queue.
-use Rattle.std.proofs.Common.{◌≡◌, ℕ, Bool, true, false, List, [], drop, Option, Some, None, cond, if◌then◌else◌, refl, ap, sym, ◌∙◌}
+use Rattle.std.proofs.Common.{◌≡◌, ℕ, Bool, true, false, List, [], ◌∷◌, ◌++◌, drop, Option, Some, None, cond, if◌then◌else◌, refl, ap, sym, ◌∙◌}
+use Rattle.std.specs.Prelude.{option_to_list}
 use Rattle.std.specs.Option.{option_map_or}
+use Rattle.std.specs.Map.{lookup}
+use Rattle.std.proofs.lemmas.List.{nil_from_length}
+use Rattle.indexmap.specs.IndexMap.{index_map_len}
 use Rattle.rt_groups.specs.Paths.{GroupKey, same_sibling}
 use Rattle.group_paths.specs.SiblingEquality.{same_is}
+use Rattle.group_keys.specs.declared.queues.SiblingQueues.{SiblingQueues}
+use Rattle.group_keys.specs.Queues.{queued_indexes, mapped_queue}
 
 -- The queue of any sibling after `f` changes the queue of one sibling.
 pub queue_after : {V : Type 0} (items : V → List ℕ) (find : GroupKey → Option V) (t s : GroupKey) (w : V)
@@ -37,3 +43,38 @@ pub replaced_twice : {V : Type 0} (b : Bool) (was now after : Option V) (v w : V
     → after ≡ cond b (Some w) now → after ≡ cond b (Some w) was
 replaced_twice true was now after v w first last = last
 replaced_twice false was now after v w first last = last ∙ first
+
+-- The whole queue of any sibling after the listed index of one sibling is taken.
+pub listed_after_take : (same : Bool) (was now : Option ℕ) (mapped : List ℕ) (i : ℕ) → (same ≡ true → was ≡ Some i)
+    → now ≡ (if same then None else was)
+    → option_to_list now ++ mapped
+    ≡ (if same then drop 1 (option_to_list was ++ mapped) else option_to_list was ++ mapped)
+listed_after_take true was now mapped i found left =
+    ap (λ o. option_to_list o ++ mapped) left ∙ sym (ap (λ o. drop 1 (option_to_list o ++ mapped)) (found refl))
+listed_after_take false was now mapped i found left = ap (λ o. option_to_list o ++ mapped) left
+
+-- The whole queue of any sibling after an index of one sibling without a listed index is taken.
+pub mapped_after_take : (same : Bool) (was now : Option ℕ) (mapped rest : List ℕ) → (same ≡ true → was ≡ None)
+    → now ≡ (if same then None else was) → rest ≡ (if same then drop 1 mapped else mapped)
+    → option_to_list now ++ rest
+    ≡ (if same then drop 1 (option_to_list was ++ mapped) else option_to_list was ++ mapped)
+mapped_after_take true was now mapped rest none left taken =
+    ap (λ o. option_to_list o ++ rest) left ∙ taken
+    ∙ sym (ap (λ o. drop 1 (option_to_list o ++ mapped)) (none refl))
+mapped_after_take false was now mapped rest none left taken =
+    ap (λ o. option_to_list o ++ rest) left ∙ ap (λ l. option_to_list was ++ l) taken
+
+-- The whole queue of any sibling after an index of one sibling is listed, while the map is empty.
+pub listed_after_push : (same : Bool) (was now : Option ℕ) (mapped : List ℕ) (i : ℕ) → mapped ≡ []
+    → (same ≡ true → was ≡ None) → now ≡ (if same then Some i else was)
+    → option_to_list now ++ mapped
+    ≡ (if same then option_to_list was ++ mapped ++ i ∷ [] else option_to_list was ++ mapped)
+listed_after_push true was now mapped i empty free put =
+    ap (λ o. option_to_list o ++ mapped) put ∙ ap (λ l. i ∷ l) empty
+    ∙ sym (ap (λ l. l ++ i ∷ []) empty) ∙ sym (ap (λ o. option_to_list o ++ mapped ++ i ∷ []) (free refl))
+listed_after_push false was now mapped i empty free put = ap (λ o. option_to_list o ++ mapped) put
+
+-- An empty map has no queues.
+pub nothing_mapped : (p : SiblingQueues) (s : GroupKey) → index_map_len p.queues ≡ 0 → mapped_queue p s ≡ []
+nothing_mapped p s none =
+    ap (λ es. option_map_or queued_indexes (lookup (same_sibling s) es) []) (nil_from_length p.queues.entries none)

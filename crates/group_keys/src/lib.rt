@@ -2,7 +2,8 @@
 //!
 //! A group is the one of the last frame that has its site, its key and its occurrence among its siblings (`KeyInfo` and
 //! `Pending` of Compose). Composing takes old siblings from `SiblingQueues` one by one; `matches` does it for two whole
-//! lists. The queues are in an `IndexMap`, so reordered siblings take no longer than others.
+//! lists. The queues are in an `IndexMap`, or in a list by number if `KeySurvey` finds siblings of one site with integer
+//! keys that lie close together. Reordered siblings take no longer than others.
 //! Promises: `matches` finds exactly the old sibling with equal site, key and occurrence.
 #![tactic(auto)]
 
@@ -17,7 +18,9 @@ ghost use Rattle.group_keys.specs.Lookups.{lookup_key};
 
 mod lookups;
 mod matching;
+mod numbered;
 mod queues;
+mod survey;
 
 use crate::lookups::Lookup;
 pub use matching::matches;
@@ -25,6 +28,7 @@ pub use queues::SiblingQueues;
 use rt_values::Value;
 use std::hash::{Hash, Hasher};
 use std::marker::Model;
+pub use survey::KeySurvey;
 
 /// The identity of a group among its siblings, except for repeats: its site, and the value of a key group (`KeyInfo`).
 #[derive(Drop)]

@@ -1,5 +1,5 @@
 // Old siblings that new ones are matched with.
-use group_keys::{SiblingKey, SiblingQueues, matches};
+use group_keys::{KeySurvey, SiblingKey, SiblingQueues, matches};
 use rt_values::{IntList, NoMemory, Txt, Value};
 use std::alloc::Global;
 use std::test::Fail;
@@ -157,6 +157,149 @@ fn queues_give_the_first_index_first(rt: HostRuntime) -> Result<(), Fail> {
     assert_eq!(rt;
         taken.as_slice(),
         [Some(8usize), Some(10), None, Some(9)].as_slice()
+    );
+    Ok(())
+}
+
+// Returns a number as a value for each site and number.
+fn number_rows(alloc: Global, rows: &[(u32, i64)]) -> Result<Vec<(u32, Value)>, NoMemory> {
+    let mut all = Vec::new(alloc);
+    for (site, number) in rows {
+        all.push((*site, Value::Int(*number)))?;
+    }
+    Ok(all)
+}
+
+// Surveys and queues siblings with these sites and keys, under their indexes.
+fn queue_rows<'a>(alloc: Global, rows: &'a [(u32, Value)]) -> Result<SiblingQueues<'a>, NoMemory> {
+    let mut survey = KeySurvey::new();
+    for (site, key) in rows {
+        survey.add(&SiblingKey::new(*site, Some(key)));
+    }
+    let mut queues = SiblingQueues::for_siblings(alloc, &survey)?;
+    for (at, (site, key)) in rows.iter().enumerate() {
+        queues.push(alloc, SiblingKey::new(*site, Some(key)), at)?;
+    }
+    Ok(queues)
+}
+
+// Returns the indexes that siblings with the sites and numbers `new` take from the queues of `old`.
+fn taken_rows(
+    alloc: Global,
+    old: &[(u32, i64)],
+    new: &[(u32, i64)],
+) -> Result<Vec<Option<usize>>, NoMemory> {
+    let rows = number_rows(alloc, old)?;
+    let mut queues = queue_rows(alloc, &rows)?;
+    let mut taken = Vec::new(alloc);
+    for (site, number) in new {
+        let key = Value::Int(*number);
+        taken.push(queues.take(&SiblingKey::new(*site, Some(&key))))?;
+    }
+    Ok(taken)
+}
+
+#[test]
+fn close_numbers_are_taken_by_site_and_number(rt: HostRuntime) -> Result<(), Fail> {
+    let old = [(4, -3), (4, 5), (4, -3), (4, 0)];
+    let new = [
+        (4, -3),
+        (4, -3),
+        (4, -3),
+        (4, 0),
+        (5, 5),
+        (4, 5),
+        (4, 6),
+        (4, -4),
+    ];
+    assert_eq!(rt;
+        taken_rows(rt.alloc(), &old, &new)?.as_slice(),
+        [
+            Some(0usize),
+            Some(2),
+            None,
+            Some(3),
+            None,
+            Some(1),
+            None,
+            None
+        ]
+        .as_slice()
+    );
+    Ok(())
+}
+
+#[test]
+fn far_numbers_are_taken_by_number(rt: HostRuntime) -> Result<(), Fail> {
+    let alloc = rt.alloc();
+    let far = [(4, i64::MAX), (4, i64::MIN), (4, 0), (4, i64::MIN)];
+    let lowest = [(4, i64::MIN), (4, i64::MIN + 1)];
+    assert_eq!(rt;
+        taken_rows(
+            alloc,
+            &far,
+            &[(4, i64::MIN), (4, i64::MIN), (4, i64::MAX), (4, 1)]
+        )?
+        .as_slice(),
+        [Some(1usize), Some(3), Some(0), None].as_slice()
+    );
+    assert_eq!(rt;
+        taken_rows(
+            alloc,
+            &lowest,
+            &[(4, i64::MAX), (4, i64::MIN + 1), (4, i64::MIN)]
+        )?
+        .as_slice(),
+        [None, Some(1usize), Some(0)].as_slice()
+    );
+    Ok(())
+}
+
+#[test]
+fn numbers_of_two_sites_are_taken_by_site(rt: HostRuntime) -> Result<(), Fail> {
+    assert_eq!(rt;
+        taken_rows(
+            rt.alloc(),
+            &[(4, 1), (5, 1), (5, 2)],
+            &[(5, 1), (4, 2), (5, 2), (4, 1)]
+        )?
+        .as_slice(),
+        [Some(1usize), None, Some(2), Some(0)].as_slice()
+    );
+    Ok(())
+}
+
+// Returns queues for siblings with the numbers 1 and 2. The first was queued, taken and queued again. Then the second,
+// the number 99, which the survey does not have, and the first were queued.
+fn requeued<'a>(alloc: Global, keys: &'a [Value; 3]) -> Result<SiblingQueues<'a>, NoMemory> {
+    let mut survey = KeySurvey::new();
+    survey.add(&SiblingKey::new(4, Some(&keys[0])));
+    survey.add(&SiblingKey::new(4, Some(&keys[1])));
+    let mut queues = SiblingQueues::for_siblings(alloc, &survey)?;
+    queues.push(alloc, SiblingKey::new(4, Some(&keys[0])), 6)?;
+    queues.take(&SiblingKey::new(4, Some(&keys[0])));
+    queues.push(alloc, SiblingKey::new(4, Some(&keys[0])), 7)?;
+    queues.push(alloc, SiblingKey::new(4, Some(&keys[1])), usize::MAX)?;
+    queues.push(alloc, SiblingKey::new(4, Some(&keys[2])), 9)?;
+    queues.push(alloc, SiblingKey::new(4, Some(&keys[0])), 10)?;
+    Ok(queues)
+}
+
+#[test]
+fn siblings_are_queued_after_a_take(rt: HostRuntime) -> Result<(), Fail> {
+    let keys = [Value::Int(1), Value::Int(2), Value::Int(99)];
+    let mut queues = requeued(rt.alloc(), &keys)?;
+    let first = SiblingKey::new(4, Some(&keys[0]));
+    let taken = [
+        queues.take(&first),
+        queues.take(&SiblingKey::new(4, Some(&keys[2]))),
+        queues.take(&first),
+        queues.take(&first),
+        queues.take(&SiblingKey::new(4, Some(&keys[1]))),
+    ];
+    assert_eq!(rt;
+        taken.as_slice(),
+        [Some(7usize), Some(9), Some(10), None, Some(usize::MAX)].as_slice()
     );
     Ok(())
 }

@@ -1,28 +1,27 @@
-use Rattle.std.proofs.Common.{drop, [], if◌then◌else◌, refl, ap, sym, subst, ◌∙◌}
-use Rattle.std.specs.Prelude.{IsSome}
-use Rattle.std.specs.Option.{option_map_or}
-use Rattle.indexmap.specs.IndexMap.{get}
-use Rattle.rt_groups.specs.Paths.{GroupKey, same_sibling}
-use Rattle.group_keys.specs.Queues.{queue_of, queued_indexes}
-use Rattle.group_keys.specs.Lookups.{lookup_key}
-use Rattle.group_keys.proofs.Queue.{queue_after, none_after}
+use Rattle.std.proofs.Common.{ap, sym, ◌∙◌}
+use Rattle.rt_groups.specs.Paths.{same_sibling}
+use Rattle.group_paths.specs.SiblingEquality.{same_is}
+use Rattle.group_keys.specs.Queues.{queue_of, listed_index, mapped_queue}
+use Rattle.group_keys.proofs.Queue.{listed_after_take, mapped_after_take}
 use Rattle.group_keys.proofs.queues.SiblingQueues.take.Goals as goal
 
 pub returns-in-Some-clause-left : goal.returns-in-Some-clause-left
+unfolding queue_of
 returns-in-Some-clause-left c = λ s.
-    let w = c.pop.new.self in
-    let some = subst (λ o. IsSome o) c.in-Some.ensures.value refl in
-    queue_after queued_indexes (λ (t : GroupKey). get same_sibling c.args.self.now.queues t)
-    (lookup_key c.lookup.result) s w (get same_sibling (c.get_mut.follows.lender w) s) (λ l. drop 1 l)
-    (c.pop.ensures.left ∙ ap (λ o. drop 1 (option_map_or queued_indexes o [])) c.in-Some.ensures.value)
-    (((c.get_mut.follows.holds w).3 some).0 s)
-    ∙ ap (λ (t : GroupKey). if same_sibling t s then drop 1 (queue_of c.args.self.now s)
-    else queue_of c.args.self.now s) c.lookup.ensures
+    let key = c.args.key.now in
+    let list = c.args.self.now.numbered in
+    listed_after_take (same_sibling key s) (listed_index list s) (listed_index c.take.new.self s)
+    (mapped_queue c.args.self.now s) c.in-Some.index
+    (λ e. ap (listed_index list) (sym (same_is key s e)) ∙ sym c.take.ensures.found ∙ c.in-Some.is)
+    (c.take.ensures.left s)
 
 pub returns-in-None-clause-left : goal.returns-in-None-clause-left
+unfolding queue_of
 returns-in-None-clause-left c = λ s.
-    ap (λ m. option_map_or queued_indexes (get same_sibling m s) []) c.get_mut.follows.holds-at-none
-    ∙ none_after queued_indexes (λ (t : GroupKey). get same_sibling c.args.self.now.queues t)
-    (lookup_key c.lookup.result) s (sym c.in-None.ensures.value)
-    ∙ ap (λ (t : GroupKey). if same_sibling t s then drop 1 (queue_of c.args.self.now s)
-    else queue_of c.args.self.now s) c.lookup.ensures
+    let key = c.args.key.now in
+    let list = c.args.self.now.numbered in
+    mapped_after_take (same_sibling key s) (listed_index list s) (listed_index c.take_mapped.new.self.numbered s)
+    (mapped_queue c.args.self.now s) (mapped_queue c.take_mapped.new.self s)
+    (λ e. ap (listed_index list) (sym (same_is key s e)) ∙ sym c.take.ensures.found ∙ c.in-None.is)
+    (ap (λ n. listed_index n s) c.take_mapped.ensures.list ∙ c.take.ensures.left s)
+    (c.take_mapped.ensures.left s)

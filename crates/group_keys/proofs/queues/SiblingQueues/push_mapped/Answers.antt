@@ -4,10 +4,10 @@ use Rattle.indexmap.specs.IndexMap.{get}
 use Rattle.rt_groups.specs.Paths.{GroupKey, same_sibling}
 use Rattle.group_keys.specs.Queues.{queued_indexes}
 use Rattle.group_keys.proofs.Queue.{queue_after, replaced_twice}
-use Rattle.group_keys.proofs.queues.SiblingQueues.push.Goals as goal
+use Rattle.group_keys.proofs.queues.SiblingQueues.push_mapped.Goals as goal
 
-pub returns-in-None : goal.returns-in-None
-returns-in-None c = λ s.
+pub returns-in-None-clause-queue : goal.returns-in-None-clause-queue
+returns-in-None-clause-queue c = λ s.
     let w = c.with.result in
     queue_after queued_indexes (λ (t : GroupKey). get same_sibling c.args.self.now.queues t) c.args.key s w
     (get same_sibling c.insert.new.self s) (λ l. l ++ c.args.index ∷ [])
@@ -15,8 +15,8 @@ returns-in-None c = λ s.
     (sym c.in-None.is ∙ c.in_ok-insert.ensures.old))
     (c.in_ok-insert.ensures.updates.0 s)
 
-pub returns-in_ok-insert-in-Some : goal.returns-in_ok-insert-in-Some
-returns-in_ok-insert-in-Some c = λ s.
+pub returns-in_ok-insert-in-Some-clause-queue : goal.returns-in_ok-insert-in-Some-clause-queue
+returns-in_ok-insert-in-Some-clause-queue c = λ s.
     let w = c.push.new.self in
     queue_after queued_indexes (λ (t : GroupKey). get same_sibling c.args.self.now.queues t) c.args.key s w
     (get same_sibling c.insert-in-Some.new.self s) (λ l. l ++ c.args.index ∷ [])
