@@ -4,6 +4,7 @@ pub mod CalledFunctions
 pub mod Comparisons
 pub mod EqualKinds
 pub mod InHand
+pub mod Layers
 pub mod LevelIndexes
 pub mod Marks
 pub mod Machine

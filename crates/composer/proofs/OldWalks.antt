@@ -6,7 +6,8 @@ use Rattle.rt_groups.specs.GroupForest.{GroupForest, End, Read, Group}
 use Rattle.rt_groups.specs.PreorderGroups.{flat_kind, flat_reads, flat_group, preorder}
 use Rattle.slot_table.specs.TableGroups.{group_at}
 use Rattle.slot_table.specs.ReaderStates.{after_deep}
-use Rattle.composer.specs.OldGroups.{Ends, Begins, FirstGroup, from_first_group}
+use Rattle.slot_table.specs.InnerCounts.{leading_deep}
+use Rattle.composer.specs.OldGroups.{Ends}
 use Rattle.composer.proofs.OldMatches.{ends_deeper, first_same, next_of}
 
 pub past_end : (d : ℕ) (more : List TableGroup) → Ends d more → after_deep d more ≡ more
@@ -37,53 +38,6 @@ past_inside d inside rest more e =
     ∙ past_preorder (d + 1) (d + 1) inside (preorder d rest ++ more) (omega arith)
     ∙ past_end (d + 1) (preorder d rest ++ more) (ends_deeper d rest more e)
 
-pub no_group : (d : ℕ) (g : TableGroup) (gs more : List TableGroup) → g ∷ gs ≡ more → Ends d more → d ≤ g.depth → ⊥
-no_group d g gs [] e ends deep = absurd cc
-no_group d g gs (h ∷ hs) e ends deep = let same : g.depth ≡ h.depth =
-    ap (λ (k : TableGroup). k.depth) (let k : g ≡ h = cc in k) in omega (arith, same, deep, ends)
-
--- The first of some old groups, and those after it and the groups inside it.
-pub first_of_all : (groups : List TableGroup) (d i j : ℕ) (t : GroupForest) → Begins d (drop i groups) t
-    → i < length groups → d ≤ (group_at groups i).depth
-    → ((g : TableGroup) (rest : List TableGroup) → drop i groups ≡ g ∷ rest
-    → drop j groups ≡ after_deep (g.depth + 1) rest) → FirstGroup d groups i j t
-first_of_all groups d i j End b inside deep after =
-    let first : drop i groups ≡ group_at groups i ∷ drop (suc i) groups = drop-cons groups i (group_at [] i) inside in
-    absurd (no_group d (group_at groups i) (drop (suc i) groups) b.more (sym first ∙ b.is) b.ends deep)
-first_of_all groups d i j (Read x rest) b inside deep after =
-    let r = first_of_all groups d i j rest (record { more = b.more; is = b.is; ends = b.ends }) inside deep after in
-    record {
-      site = r.site;
-      found = r.found;
-      rest = r.rest;
-      is = r.is;
-      site_is = r.site_is;
-      same = r.same;
-      begins = r.begins;
-    }
-first_of_all groups d i j (Group site n what within rest) b inside deep after =
-    let g : TableGroup = flat_group d site n (flat_kind what) (flat_reads what within) in
-    let gs : List TableGroup = (preorder (d + 1) within ++ preorder d rest) ++ b.more in
-    record {
-      site = site;
-      found = record { number = n; what = what; inside = within };
-      rest = rest;
-      is = refl;
-      site_is = ap (λ h. h.site) (next_of groups gs g i b.is).0;
-      same = first_same groups d i site n what within rest b.more b.is b.ends;
-      begins = record { more = b.more; is = after g gs b.is ∙ past_inside d within rest b.more b.ends; ends = b.ends };
-    }
-
--- No old group is left.
-pub none_left : (d : ℕ) (gs : List TableGroup) (t : GroupForest) → Begins d gs t → Ends d gs → from_first_group t ≡ End
-none_left d gs End b e = refl
-none_left d gs (Read x rest) b e = none_left d gs rest (record { more = b.more; is = b.is; ends = b.ends }) e
-none_left d [] (Group site n what inside rest) b e = absurd (let none = b.is in cc)
-none_left d (g ∷ gs) (Group site n what inside rest) b e =
-    let is : g ≡ flat_group d site n (flat_kind what) (flat_reads what inside) = let all = b.is in cc in
-    let same = ap (λ (k : TableGroup). k.depth) is in
-    absurd (omega (arith, same, e))
-
 -- The groups from an index on end where no group is as deep.
 pub ends_at : (groups : List TableGroup) (d i : ℕ)
     → ((g : TableGroup) (rest : List TableGroup) → drop i groups ≡ g ∷ rest → g.depth < d) → Ends d (drop i groups)
@@ -92,3 +46,13 @@ ends_at groups d i shallow = by (drop i groups) refl
     by : (gs : List TableGroup) → drop i groups ≡ gs → Ends d gs
     by [] e = tt
     by (g ∷ gs) e = shallow g gs e
+
+-- The groups that are deep enough, and those after them.
+pub split_deep : (d : ℕ) (gs : List TableGroup) → gs ≡ leading_deep d gs ++ after_deep d gs
+split_deep d [] = refl
+split_deep d (g ∷ gs) = by (nat_le d g.depth) (split_deep d gs)
+  where
+    by : (b : Bool) → gs ≡ leading_deep d gs ++ after_deep d gs
+        → g ∷ gs ≡ (if b then g ∷ leading_deep d gs else []) ++ (if b then after_deep d gs else g ∷ gs)
+    by true e = ap (λ l. g ∷ l) e
+    by false e = refl

@@ -16,19 +16,16 @@ use Rattle.recompose_laws.specs.Idle.{IsNumbered}
 use Rattle.slot_table.specs.TableGroups.{group_at}
 use Rattle.slot_table.specs.ReaderStates.{after_deep}
 use Rattle.composer.specs.ComposerState.{ComposerState, put_group, skipped_inside, skipped_groups}
-use Rattle.composer.specs.OldGroups.{Begins}
-use Rattle.composer.specs.QuietRuns.{has_owed, group_run, with_run, IsLevelEnd, QuietRun}
+use Rattle.composer.specs.QuietRuns.{has_owed, group_run, with_run, IsLevelEnd}
 use Rattle.composer.proofs.Machine.{same_state}
-use Rattle.composer.proofs.OldParts.{part_end, part_rest, part_after_read}
-use Rattle.composer.proofs.OldWalks.{no_group, past_end, past_preorder, past_inside}
 
 -- Neither list has an owed object among its reads.
 
-none_of_both : (a b : Bool) → (a || b) ≡ false → (a ≡ false) × (b ≡ false)
+pub none_of_both : (a b : Bool) → (a || b) ≡ false → (a ≡ false) × (b ≡ false)
 none_of_both true b e = absurd cc
 none_of_both false b e = (refl, e)
 
-owed_parts : (owed : List ℕ) (xs ys : List TableGroup) → has_owed owed (xs ++ ys) ≡ false
+pub owed_parts : (owed : List ℕ) (xs ys : List TableGroup) → has_owed owed (xs ++ ys) ≡ false
     → (has_owed owed xs ≡ false) × (has_owed owed ys ≡ false)
 owed_parts owed [] ys e = (refl, e)
 owed_parts owed (x ∷ xs) ys e =
@@ -40,10 +37,10 @@ owed_parts owed (x ∷ xs) ys e =
 
 -- One run after another.
 
-run_none : (s : ComposerState) → with_run [] s ≡ s
+pub run_none : (s : ComposerState) → with_run [] s ≡ s
 run_none s = same_state (append-nil s.groups) refl refl refl refl refl
 
-run_both : (xs ys : List TableGroup) (s : ComposerState) → with_run ys (with_run xs s) ≡ with_run (xs ++ ys) s
+pub run_both : (xs ys : List TableGroup) (s : ComposerState) → with_run ys (with_run xs s) ≡ with_run (xs ++ ys) s
 run_both xs ys s = same_state (append_assoc s.groups xs ys) refl refl refl refl refl
 
 run_put : (g : TableGroup) (gs : List TableGroup) (s : ComposerState)
@@ -56,7 +53,7 @@ abbrev KeepsInside : Map → List ℕ → GroupForest → ℕ → Type 0
 KeepsInside m owed inside d =
     (fs : List Func) (s : ComposerState) → skipped_groups m owed inside fs d s ≡ with_run (preorder d inside) s
 
-quiet_inside : (m : Map) (owed : List ℕ) (what : GroupKind) (d site n : ℕ) (inside : GroupForest) (fs : List Func)
+pub quiet_inside : (m : Map) (owed : List ℕ) (what : GroupKind) (d site n : ℕ) (inside : GroupForest) (fs : List Func)
     (s : ComposerState) → n ≡ kept_number what n → meets (flat_reads what inside) owed ≡ false
     → KeepsInside m owed inside (d + 1) →
     skipped_inside m owed fs d site n what (is_owed owed inside) inside (skipped_groups m owed inside) s
@@ -82,7 +79,7 @@ quiet_inside m owed (Cell ks v) d site n inside fs s number quiet keeps =
     ∙ run_put g (preorder (d + 1) inside) s
     ∙ ap (λ k. with_run (flat_group d site k (flat_kind (Cell ks v)) [] ∷ preorder (d + 1) inside) s) (sym number)
 
-quiet_kept : (m : Map) (owed : List ℕ) (t : GroupForest) (d : ℕ) → IsNumbered t → has_owed owed (preorder d t) ≡ false
+pub quiet_kept : (m : Map) (owed : List ℕ) (t : GroupForest) (d : ℕ) → IsNumbered t → has_owed owed (preorder d t) ≡ false
     → KeepsInside m owed t d
 quiet_kept m owed End d numbered quiet fs s = sym (run_none s)
 quiet_kept m owed (Read x rest) d numbered quiet fs s = quiet_kept m owed rest d numbered quiet fs s
@@ -117,7 +114,7 @@ run_length groups i j xs ys low inside all later =
     omega (arith, low, inside, a, b, c, d, e)
 
 -- A list that begins with some groups, up to the index after them.
-run_is : (groups : List TableGroup) (i j : ℕ) (xs ys : List TableGroup) → i ≤ j → j ≤ length groups
+pub run_is : (groups : List TableGroup) (i j : ℕ) (xs ys : List TableGroup) → i ≤ j → j ≤ length groups
     → drop i groups ≡ xs ++ ys → drop j groups ≡ ys → group_run groups i j ≡ xs
 run_is groups i j xs ys low inside all later =
     ap (λ l. take (j - i) l) all ∙ front_taken xs ys (j - i) (run_length groups i j xs ys low inside all later)
@@ -133,7 +130,7 @@ take_sum (g ∷ gs) (suc a) b =
     let sum : suc a + b ≡ suc (a + b) = omega arith in
     ap (λ n. take n (g ∷ gs)) sum ∙ ap (λ l. g ∷ l) (take_sum gs a b)
 
-runs_joined : (groups : List TableGroup) (i j k : ℕ) → i ≤ j → j ≤ k
+pub runs_joined : (groups : List TableGroup) (i j k : ℕ) → i ≤ j → j ≤ k
     → group_run groups i k ≡ group_run groups i j ++ group_run groups j k
 runs_joined groups i j k low high =
     let sum : k - i ≡ (j - i) + (k - j) = omega (arith, low, high) in
@@ -261,81 +258,4 @@ level_end_is groups around first j depth low high inside depth_is after =
       order = high;
       inside = inside;
       after = sym here;
-    }
-
-pub quiet_level : (owed : List ℕ) (groups : List TableGroup) (d i j : ℕ) (t : GroupForest) → IsLevelEnd d groups i j
-    → has_owed owed (group_run groups i j) ≡ false → Begins d (drop i groups) t → QuietRun owed d groups i j t
-quiet_level owed groups d i j t level quiet b =
-    let later : drop j groups ≡ b.more = sym level.after ∙ ap (λ l. after_deep d l) b.is
-    ∙ past_preorder d d t b.more (omega arith) ∙ past_end d b.more b.ends in
-    let run : group_run groups i j ≡ preorder d t =
-    run_is groups i j (preorder d t) b.more level.order level.inside b.is later in
-    let none = sym (ap (λ l. has_owed owed l) run) ∙ quiet in record {
-      rest = End;
-      begins = record { more = b.more; is = later; ends = b.ends };
-      part = λ l m p. part_end l owed m;
-      numbered = λ h. tt;
-      kept = λ h m fs s. ap (λ l. with_run l s) run ∙ sym (quiet_kept m owed t d h none fs s);
-    }
-
--- One group with the groups inside it.
-quiet_one : (owed : List ℕ) (groups : List TableGroup) (d i j : ℕ) (t : GroupForest) → Begins d (drop i groups) t
-    → i < length groups → j ≤ length groups → d ≤ (group_at groups i).depth
-    → ((g : TableGroup) (rest : List TableGroup) → drop i groups ≡ g ∷ rest
-    → drop j groups ≡ after_deep (g.depth + 1) rest) → i ≤ j → has_owed owed (group_run groups i j) ≡ false
-    → QuietRun owed d groups i j t
-quiet_one owed groups d i j End b inside most deep after low quiet =
-    let first : drop i groups ≡ group_at groups i ∷ drop (suc i) groups = drop-cons groups i (group_at [] i) inside in
-    absurd (no_group d (group_at groups i) (drop (suc i) groups) b.more (sym first ∙ b.is) b.ends deep)
-quiet_one owed groups d i j (Read x rest) b inside most deep after low quiet =
-    let q = quiet_one owed groups d i j rest (record { more = b.more; is = b.is; ends = b.ends }) inside most deep after
-    low quiet in
-    record {
-      rest = q.rest;
-      begins = q.begins;
-      part = λ l m p. q.part l m (part_after_read x rest p);
-      numbered = λ h. q.numbered h;
-      kept = λ h m fs s. q.kept h m fs s;
-    }
-quiet_one owed groups d i j (Group site n what within rest) b inside most deep after low quiet =
-    let g : TableGroup = flat_group d site n (flat_kind what) (flat_reads what within) in
-    let gs : List TableGroup = (preorder (d + 1) within ++ preorder d rest) ++ b.more in
-    let later : drop j groups ≡ preorder d rest ++ b.more = after g gs b.is ∙ past_inside d within rest b.more b.ends in
-    let all : drop i groups ≡ (g ∷ preorder (d + 1) within) ++ (preorder d rest ++ b.more) = b.is
-    ∙ ap (λ l. g ∷ l) (append_assoc (preorder (d + 1) within) (preorder d rest) b.more) in
-    let run : group_run groups i j ≡ g ∷ preorder (d + 1) within =
-    run_is groups i j (g ∷ preorder (d + 1) within) (preorder d rest ++ b.more) low most all later in
-    let parts = none_of_both (meets (flat_reads what within) owed) (has_owed owed (preorder (d + 1) within))
-    (sym (ap (λ l. has_owed owed l) run) ∙ quiet) in
-    record {
-      rest = rest;
-      begins = record { more = b.more; is = later; ends = b.ends };
-      part = λ l m p. part_rest site n what within rest p;
-      numbered = λ h. h.2;
-      kept = λ h m fs s.
-          ap (λ l. skipped_groups m owed rest fs d (with_run l s)) run
-          ∙ ap (λ q. skipped_groups m owed rest fs d q)
-          (sym (quiet_inside m owed what d site n within fs s h.0 parts.0
-          (quiet_kept m owed within (d + 1) h.1 parts.1)));
-    }
-
--- One run after another.
-pub quiet_on : (owed : List ℕ) (groups : List TableGroup) (d i j k : ℕ) (t : GroupForest)
-    (q : QuietRun owed d groups i j t) → i ≤ j → j < length groups → k ≤ length groups → d ≤ (group_at groups j).depth
-    → ((g : TableGroup) (rest : List TableGroup) → drop j groups ≡ g ∷ rest
-    → drop k groups ≡ after_deep (g.depth + 1) rest) → j ≤ k → has_owed owed (group_run groups j k) ≡ false
-    → QuietRun owed d groups i k t
-quiet_on owed groups d i j k t q low inside most deep after high quiet =
-    let one = quiet_one owed groups d j k q.rest q.begins inside most deep after high quiet in
-    record {
-      rest = one.rest;
-      begins = one.begins;
-      part = λ l m p. one.part l m (q.part l m p);
-      numbered = λ h. one.numbered (q.numbered h);
-      kept = λ h m fs s.
-          ap (λ l. skipped_groups m owed one.rest fs d (with_run l s)) (runs_joined groups i j k low high)
-          ∙ ap (λ x. skipped_groups m owed one.rest fs d x)
-          (sym (run_both (group_run groups i j) (group_run groups j k) s))
-          ∙ one.kept (q.numbered h) m fs (with_run (group_run groups i j) s)
-          ∙ q.kept h m fs s;
     }

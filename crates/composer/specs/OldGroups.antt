@@ -39,20 +39,3 @@ Alike depth (Some k) (Some f) = SameGroup depth k f
 abbrev pub Fits : ℕ → Pending → GroupForest → List GroupKey → Type 0
 Fits depth pending old seen = (s : GroupKey) (n : ℕ)
     → Alike depth (slice_get (waiting_siblings pending s) n) (matching_sibling s (occurrence s seen + n) old)
-
--- The forest from its first group on.
-abbrev pub from_first_group : GroupForest → GroupForest
-from_first_group End = End
-from_first_group (Read x rest) = from_first_group rest
-from_first_group (Group site n what inside rest) = Group site n what inside rest
-
--- The groups from index i on begin with the group `found` of the forest t, and those from index j on with its later
--- siblings.
-pub record FirstGroup (depth : ℕ) (groups : List TableGroup) (i j : ℕ) (t : GroupForest) : Type 0 where
-  pub site : ℕ
-  pub found : Found
-  pub rest : GroupForest
-  pub is : from_first_group t ≡ Group site found.number found.what found.inside rest
-  pub site_is : (old_group (record { groups = groups; index = i })).site ≡ site
-  pub same : SameGroup depth (record { groups = groups; index = i }) found
-  pub begins : Begins depth (drop j groups) rest

@@ -25,7 +25,7 @@ use crate::old_groups::OldGroup;
 use crate::owed::Owed;
 use crate::pending::Pending;
 use crate::progress::{Level, Progress};
-use crate::runs::{is_end, quiet_end};
+use crate::runs::{is_end, next_call, quiet_call_end};
 use crate::spares::Spares;
 use crate::stop::ComposeStop;
 use crate::writer::{CallArguments, NewKind, Writer};
@@ -506,7 +506,7 @@ fn run_call<'a, V: View, L: Ledger>(
     }
     made.spares.keep_values(arguments);
     match &found {
-        Some(old) => skip_group(level, site, old, made, view, steps),
+        Some(old) => skip_call(level, site, old, made, view, steps),
         None => Err(ComposeStop::NoMemory), // A call without an old group runs.
     }
 }
@@ -569,11 +569,11 @@ fn front(functions: &[Function], count: usize) -> &[Function]
     }
 }
 
-// Skips an old group. If it is a call that is owed, the call runs. Everything else is kept, and the groups inside are
-// skipped.
+// Skips an old call. If it is owed it runs, else it is kept, and the groups inside are skipped. If no call is owed from
+// it to the last group inside, all of them are kept at once.
 #[cycle(again)]
 #[inline(always)]
-fn skip_group<'a, V: View, L: Ledger>(
+fn skip_call<'a, V: View, L: Ledger>(
     level: &Level<'a>,
     site: u32,
     old: &OldGroup<'a>,
@@ -593,6 +593,10 @@ fn skip_group<'a, V: View, L: Ledger>(
             function,
             arguments,
         } => {
+            if let Some(after) = quiet_call_end(level.last, level.depth, site, old) {
+                made.writer.keep_run(old.index(), after)?;
+                return Ok(());
+            }
             if meet(old.reads(), level.last) {
                 let found = Some(old.copy());
                 let arguments = CallArguments::Old(arguments);
@@ -607,42 +611,13 @@ fn skip_group<'a, V: View, L: Ledger>(
             };
             skip_all(&inside, old.first_inside(), made, view, steps)
         }
-        GroupKind::Node { .. } => skip_inside(level, site, old, made, view, steps),
-        GroupKind::Key(_) => skip_inside(level, site, old, made, view, steps),
-        GroupKind::Cell { .. } => skip_inside(level, site, old, made, view, steps),
+        _ => Err(ComposeStop::NoMemory), // Only a call is skipped by itself.
     }
 }
 
-// Keeps an old group that is no call, and skips the groups inside it.
-#[cycle(again)]
-#[inline(always)]
-fn skip_inside<'a, V: View, L: Ledger>(
-    level: &Level<'a>,
-    site: u32,
-    old: &OldGroup<'a>,
-    made: &mut Progress<'a>,
-    view: &mut V,
-    steps: &mut Steps<L>,
-) -> Result<(), ComposeStop>
-    requires room { HasRoomToWrite level.now made.old.writer }
-    requires table { old.now.groups ≡ level.now.last.now.groups }
-    ensures { is_call_kept (old_group old.now).what ≡ false
-        → Writes V.shows V.asked V.keeps level.now.last.now.groups view.old view.new made.old made.new result
-        (λ m. GroupSkipped level.now m site old.now (V.asked view.old) (V.asked view.new) made.old.writer made.new.writer
-        result) }
-{
-    keep_group(level, site, old, &mut made.writer)?;
-    let inside = Level {
-        alloc: level.alloc,
-        functions: level.functions,
-        last: level.last,
-        depth: level.depth + 1,
-    };
-    skip_all(&inside, old.first_inside(), made, view, steps)
-}
-
-// Skips the old groups from index `first` on, up to the first that is less deep. Siblings in which no call is owed are
-// kept all at once.
+// Skips the old groups from index `first` on, up to the first that is less deep. Groups between owed calls are kept all
+// at once, at whatever depth they are. A call that contains an owed one is skipped for itself, since the calls inside
+// reach fewer functions.
 #[cycle(again)]
 fn skip_all<'a, V: View, L: Ledger>(
     level: &Level<'a>,
@@ -660,13 +635,22 @@ fn skip_all<'a, V: View, L: Ledger>(
     let around = first.saturating_sub(1);
     let mut at = first;
     while at < last.len() {
-        let stop = quiet_end(last, level.depth, around, at);
+        let stop = next_call(last, level.depth, around, at);
         made.writer.keep_run(at, stop)?;
         if is_end(last, level.depth, stop) {
             return Ok(());
         }
         let old = last.group(stop);
-        skip_group(level, old.site(), &old, made, view, steps)?;
+        let here = Level {
+            alloc: level.alloc,
+            functions: level.functions,
+            last,
+            depth: old.depth(),
+        };
+        if made.writer.len() < here.depth as usize {
+            return Err(ComposeStop::NoMemory); // A group is after the groups that contain it.
+        }
+        skip_call(&here, old.site(), &old, made, view, steps)?;
         at = last.index_after(stop);
     }
     Ok(())

@@ -1,11 +1,13 @@
 // Runs of old groups in which no call is owed.
 ghost use Rattle.std.specs.Prelude.{◌≡◌, ◌≤◌, ◌<◌, length, drop, true, false, IfSome};
-ghost use Rattle.rt_groups.specs.GroupForest.{GroupForest};
 ghost use Rattle.slot_table.specs.TableGroups.{group_at};
-ghost use Rattle.composer.specs.OldGroups.{Begins, Ends};
-ghost use Rattle.composer.specs.QuietRuns.{IsLevelEnd, IsQuietUpTo, QuietRun};
+ghost use Rattle.composer.specs.OldGroups.{Ends};
+ghost use Rattle.composer.specs.QuietRuns.{Layers, AreLayers, IsLevelEnd, IsQuietGroup, IsQuietUpTo, QuietWalk};
+ghost use Rattle.composer.specs.Recomposes.{is_call_kept};
 
 use crate::last_groups::LastGroups;
+use crate::old_groups::OldGroup;
+use rt_groups::GroupKind;
 
 // Returns the index after the groups inside the group at index `around`, if these are at `depth` and include the group
 // at index `first` or end there.
@@ -23,16 +25,17 @@ fn level_end(last: &LastGroups, depth: u32, around: usize, first: usize) -> Opti
     Some(end)
 }
 
-/// Returns the index after the siblings at `depth` from index `first` on, up to the first sibling that is an owed call
-/// or contains one. Takes constant time if no sibling is or contains one and they are inside the group at index
-/// `around`, and else time linear in the number of these siblings.
+/// Returns an index up to which no call is owed from index `first` on: that of the next call that is owed or contains an
+/// owed one, or of the next group that is less deep than `depth`, or the number of groups. The groups before the index
+/// are kept. Takes constant time if no call is owed in the groups inside the group at index `around` from `first` on,
+/// and else time linear in the number of siblings and of groups around the call that is found.
 #[inline(always)]
-pub fn quiet_end(last: &LastGroups, depth: u32, around: usize, first: usize) -> usize
+pub fn next_call(last: &LastGroups, depth: u32, around: usize, first: usize) -> usize
     requires { first ≤ length last.now.groups }
     ensures order { first ≤ result }
     ensures inside { result ≤ length last.now.groups }
-    ensures quiet { (t : GroupForest) → Begins depth (drop first last.now.groups) t →
-        QuietRun last.now.owed.objects depth last.now.groups first result t }
+    ensures quiet { (ls : Layers) → AreLayers depth ls (drop first last.now.groups) →
+        QuietWalk last.now.owed.objects depth last.now.groups first result ls }
 {
     let owed = last.next_owed(first);
     if let Some(end) = level_end(last, depth, around, first) {
@@ -40,18 +43,19 @@ pub fn quiet_end(last: &LastGroups, depth: u32, around: usize, first: usize) -> 
             return end;
         }
     }
-    siblings_end(last, depth, first, owed)
+    next_call_around(last, depth, first, owed)
 }
 
-// Returns the index after the siblings at `depth` from index `first` on, up to the first sibling that ends after index
-// `owed`.
-fn siblings_end(last: &LastGroups, depth: u32, first: usize, owed: usize) -> usize
+// Returns the index of the next call from index `first` on that ends after index `owed`, or that of the next group that
+// is less deep than `depth`, or the number of groups.
+#[inline(always)]
+fn next_call_around(last: &LastGroups, depth: u32, first: usize, owed: usize) -> usize
     requires inside { first ≤ length last.now.groups }
     requires quiet { IsQuietUpTo last.now first owed }
     ensures order { first ≤ result }
     ensures inside { result ≤ length last.now.groups }
-    ensures quiet { (t : GroupForest) → Begins depth (drop first last.now.groups) t →
-        QuietRun last.now.owed.objects depth last.now.groups first result t }
+    ensures quiet { (ls : Layers) → AreLayers depth ls (drop first last.now.groups) →
+        QuietWalk last.now.owed.objects depth last.now.groups first result ls }
 {
     let mut next = first;
     while next < last.len() {
@@ -59,12 +63,47 @@ fn siblings_end(last: &LastGroups, depth: u32, first: usize, owed: usize) -> usi
             return next;
         }
         let after = last.index_after(next);
-        if after > owed {
+        if after <= owed {
+            next = after;
+        } else if is_call(last, next) {
             return next;
+        } else {
+            next += 1;
         }
-        next = after;
     }
     next
+}
+
+// Returns whether the group at index `at` is a call.
+#[inline(always)]
+fn is_call(last: &LastGroups, at: usize) -> bool
+    requires { at < length last.now.groups }
+    ensures { result ≡ is_call_kept (group_at last.now.groups at).what }
+{
+    match last.group(at).kind() {
+        GroupKind::Call { .. } => true,
+        GroupKind::Node { .. } => false,
+        GroupKind::Key(_) => false,
+        GroupKind::Cell { .. } => false,
+    }
+}
+
+/// Returns the index after an old call and the groups inside it if no call is owed there, and the call stays at this
+/// depth and site.
+#[inline(always)]
+pub fn quiet_call_end(last: &LastGroups, depth: u32, site: u32, old: &OldGroup) -> Option<usize>
+    requires { old.now.groups ≡ last.now.groups }
+    ensures { IfSome result (λ after. IsQuietGroup last.now depth site old.now.index after) }
+{
+    let index = old.index();
+    if old.depth() != depth || old.site() != site || old.number() != 0 {
+        return None;
+    }
+    let after = last.index_after(index);
+    if last.next_owed(index) < after {
+        return None;
+    }
+    Some(after)
 }
 
 /// Returns whether the group at index `at` is less deep, or there is no such group.

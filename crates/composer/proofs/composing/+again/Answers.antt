@@ -28,7 +28,8 @@ use Rattle.composer.specs.OldSiblings.{KeyInfo, old_group}
 use Rattle.composer.specs.OldGroups.{Alike, SameGroup, Fits}
 use Rattle.composer.specs.declared.progress.Around.{Around}
 use Rattle.composer.specs.declared.pending.Pending.{Pending}
-use Rattle.composer.specs.ComposerState.{skipped_groups, skipped_inside}
+use Rattle.composer.specs.ComposerState.{ComposerState, skipped_groups}
+use Rattle.composer.specs.QuietRuns.{group_run}
 use Rattle.composer.specs.BesideContracts.{IsOldPart}
 use Rattle.composer.specs.WrittenGroups.{WrittenGroups, state_of, kept_of, group_kind, arguments_of, first_reads}
 use Rattle.composer.specs.Recomposes.{ComposesBeside, is_call_kept}
@@ -45,9 +46,8 @@ use Rattle.composer.proofs.SkippedCalls.{skips, skips_as}
 use Rattle.composer.proofs.RunBodies.{body_reached}
 use Rattle.composer.proofs.Tables.{fits_after, run_added, run_is}
 use Rattle.composer.proofs.InHand.{in_hand_on, scope_stays, stays_in_hand, counted_in_hand, beside_in_hand}
-use Rattle.composer.proofs.RunCalls.{call_alone, part_ran, longer_ran, body_done, body_stop, part_one, longer_than, call_what, owed_call, kept_call, kept_other, kept_state, owed_is, no_call, body_part, begins_after}
-use Rattle.composer.proofs.OldWalks.{first_of_all}
-use Rattle.composer.proofs.SkipLoops.{first_parts, left_first, left_run, left_full, left_more, left_stop, left_done, ends_past, index_behind, behind_is, index_grows}
+use Rattle.composer.proofs.RunCalls.{call_alone, part_ran, longer_ran, body_done, body_stop, part_one, longer_than, call_what, owed_call, kept_call, kept_state, owed_is, body_part, begins_after}
+use Rattle.composer.proofs.SkipLoops.{layer_found, layer_same, layer_site, layer_part, moved_group, quiet_group, left_first, left_group, left_run, left_full, left_memory, left_more, left_stop, left_done, ends_past, index_grows}
 use Rattle.composer.proofs.ReadCounts.{counted_after, counted_cell, counted_kept, longer_on, stopped, failed}
 use Rattle.composer.proofs.composing.+again.Goals as goal
 
@@ -993,13 +993,13 @@ run_call-returns-then-function-level g t c = record {
 
 pub run_call-returns-in-Some : goal.run_call-returns-in-Some
 run_call-returns-in-Some g t c = record {
-  keeps = c.skip_group.ensures.keeps;
-  same = c.skip_group.ensures.same;
-  same_scope = scope_stays _ _ _ c.skip_group.ensures.in_hand;
-  longer = c.skip_group.ensures.longer;
-  fits = stays_in_hand _ _ _ _ (c.in_ok-found.ensures.table ∙ c.requires.stays.pending) c.skip_group.ensures.in_hand
-      c.skip_group.ensures.fits;
-  counted = λ m h. counted_in_hand _ _ _ _ _ _ _ c.skip_group.ensures.in_hand (c.skip_group.ensures.counted m h);
+  keeps = c.skip_call.ensures.keeps;
+  same = c.skip_call.ensures.same;
+  same_scope = scope_stays _ _ _ c.skip_call.ensures.in_hand;
+  longer = c.skip_call.ensures.longer;
+  fits = stays_in_hand _ _ _ _ (c.in_ok-found.ensures.table ∙ c.requires.stays.pending) c.skip_call.ensures.in_hand
+      c.skip_call.ensures.fits;
+  counted = λ m h. counted_in_hand _ _ _ _ _ _ _ c.skip_call.ensures.in_hand (c.skip_call.ensures.counted m h);
   ran = λ m o h b calc.
       let call = Call c.args.function c.args.arguments in
       let x = sibling c.args.site call in
@@ -1018,10 +1018,10 @@ run_call-returns-in-Some g t c = record {
       let some : c.in_ok-found.found ≡ Some c.in-Some.old = search rules in
       let like = subst (λ (y : Option KeyInfo). Alike c.args.level.now.depth y there) some k.like in
       let like_call = subst (λ (f : Option Found). Alike c.args.level.now.depth (Some c.in-Some.old) f) s.is like in
-      let r = c.skip_group.ensures.ran m h o.last s.call c.args.made.now.reads b.since
+      let r = c.skip_call.ensures.ran m h o.last s.call c.args.made.now.reads b.since
       (subst (λ (f : Option Found). IsOldPart o.last c.args.level.now.last.now.owed.objects m (inside_of f)) s.is k.part)
       like_call in
-      beside_in_hand _ _ _ c.skip_group.ensures.in_hand (beside_run false runs k.fits (reached_at (skips_as c.args.level.now.last.now.owed.objects m
+      beside_in_hand _ _ _ c.skip_call.ensures.in_hand (beside_run false runs k.fits (reached_at (skips_as c.args.level.now.last.now.owed.objects m
       (functions_view c.args.level.now.functions.now) o.last c.args.level.now.depth c.args.site c.args.function
       c.args.arguments there (state_of c.args.made.now.writer (g.V.View.asked c.args.view.now)
       c.args.made.now.reads) k.there s) r));
@@ -1252,47 +1252,8 @@ run_body-returns g t c = record {
 
 -- Old groups that are skipped.
 
-pub skip_group-returns-in-Node : goal.skip_group-returns-in-Node
-skip_group-returns-in-Node g t c =
-    let k = c.skip_inside.ensures (ap is_call_kept (sym c.kind.ensures ∙ c.in-Node.is)) in
-    record {
-      keeps = k.keeps;
-      same = k.same;
-      in_hand = k.in_hand;
-      longer = k.longer;
-      fits = k.fits;
-      counted = k.counted;
-      ran = k.ran;
-    }
-
-pub skip_group-returns-in-Key : goal.skip_group-returns-in-Key
-skip_group-returns-in-Key g t c =
-    let k = c.skip_inside-in-Key.ensures (ap is_call_kept (sym c.kind.ensures ∙ c.in-Key.is)) in
-    record {
-      keeps = k.keeps;
-      same = k.same;
-      in_hand = k.in_hand;
-      longer = k.longer;
-      fits = k.fits;
-      counted = k.counted;
-      ran = k.ran;
-    }
-
-pub skip_group-returns-in-Cell : goal.skip_group-returns-in-Cell
-skip_group-returns-in-Cell g t c =
-    let k = c.skip_inside-in-Cell.ensures (ap is_call_kept (sym c.kind.ensures ∙ c.in-Cell.is)) in
-    record {
-      keeps = k.keeps;
-      same = k.same;
-      in_hand = k.in_hand;
-      longer = k.longer;
-      fits = k.fits;
-      counted = k.counted;
-      ran = k.ran;
-    }
-
-pub skip_group-returns-then-meet : goal.skip_group-returns-then-meet
-skip_group-returns-then-meet g t c = record {
+pub skip_call-returns-then-meet : goal.skip_call-returns-then-meet
+skip_call-returns-then-meet g t c = record {
   keeps = c.run_body.ensures.keeps;
   same = c.run_body.ensures.same;
   in_hand = c.run_body.ensures.in_hand;
@@ -1313,9 +1274,69 @@ skip_group-returns-then-meet g t c = record {
       (state_of c.args.made.now.writer (g.V.View.asked c.args.view.now) mine) what_is anew) r;
 }
 
-pub skip_group-returns-in_err-keep_group-in-Call : goal.skip_group-returns-in_err-keep_group-in-Call
-skip_group-returns-in_err-keep_group-in-Call g t c =
-    let e : c.from_residual.result ≡ Err c.in_err-keep_group-in-Call.field-0.0 = search rules in
+pub skip_call-returns-in_default : goal.skip_call-returns-in_default
+skip_call-returns-in_default g t c = record {
+  keeps = g.met.V.View.keeps_itself _;
+  same = λ m h. h;
+  in_hand = tt;
+  longer = tt;
+  fits = tt;
+  counted = λ m h. tt;
+  ran = λ m h l f mine since part like.
+      reached_stop _ refl (part_one m c.args.level.now.last.now.owed.objects
+      (functions_view c.args.level.now.functions.now) c.args.level.now.depth c.args.site f
+      (state_of c.args.made.now.writer (g.V.View.asked c.args.view.now) mine));
+}
+
+pub skip_call-returns-in_err-keep_run-in-Call : goal.skip_call-returns-in_err-keep_run-in-Call
+skip_call-returns-in_err-keep_run-in-Call g t c =
+    let e : c.from_residual.result ≡ Err c.in_err-keep_run-in-Call.field-0.0 = search rules in
+    record {
+      keeps = g.met.V.View.keeps_itself _;
+      same = λ m h. h;
+      in_hand = stopped _ _ _ e;
+      longer = stopped _ _ _ e;
+      fits = stopped _ _ _ e;
+      counted = λ m h. stopped _ _ _ e;
+      ran = λ m h l f mine since part like.
+          let owed = c.args.level.now.last.now.owed.objects in
+          let fs = functions_view c.args.level.now.functions.now in
+          let groups = c.args.level.now.last.now.groups in
+          let s = state_of c.args.made.now.writer (g.V.View.asked c.args.view.now) mine in
+          let index = c.index.ensures.index in
+          let whole = quiet_group c.args.level.now.last.now c.args.old.now c.index.result f fs s index c.requires.table
+          (search rules) c.in-Some.ensures like part in
+          let len = ap (λ (x : ComposerState). length x.groups) whole in
+          let sum = length-append c.args.made.now.writer.groups (group_run groups c.index.result c.in-Some.after) in
+          reached_full _ (failed _ _ e)
+          (λ e. let big = run_is _ _ c.requires.room.fits (c.keep_run.ensures.full (search rules)) in omega (arith, big, len, sum))
+          (part_one m owed fs c.args.level.now.depth c.args.site f s);
+    }
+
+pub skip_call-returns-in-Some : goal.skip_call-returns-in-Some
+skip_call-returns-in-Some g t c = record {
+  keeps = g.met.V.View.keeps_itself _;
+  same = λ m h. h;
+  in_hand = record { scope = refl; pending = refl; reads = refl };
+  longer = c.in_ok-keep_run-in-Call.ensures.longer;
+  fits = fits_after (ap (λ (q : WrittenGroups). q.olds) c.in_ok-keep_run-in-Call.ensures.added) c.requires.room.fits
+      c.in_ok-keep_run-in-Call.ensures.fits;
+  counted = λ m h. let reads = ap (λ (w : WrittenGroups). w.reads) c.in_ok-keep_run-in-Call.ensures.added in omega (arith, reads);
+  ran = λ m h l f mine since part like.
+      let s = state_of c.args.made.now.writer (g.V.View.asked c.args.view.now) mine in
+      record {
+        all = run_added _ _ (g.V.View.asked c.args.view.now) mine c.in_ok-keep_run-in-Call.ensures.added c.requires.room.fits
+            ∙ quiet_group c.args.level.now.last.now c.args.old.now c.index.result f
+            (functions_view c.args.level.now.functions.now) s c.index.ensures.index c.requires.table (search rules)
+            c.in-Some.ensures like part;
+        part = tt;
+        many = λ y. cc;
+      };
+}
+
+pub skip_call-returns-in_err-keep_group-in-Call : goal.skip_call-returns-in_err-keep_group-in-Call
+skip_call-returns-in_err-keep_group-in-Call g t c =
+    let e : c.from_residual-in_err-keep_group-in-Call.result ≡ Err c.in_err-keep_group-in-Call.field-0.0 = search rules in
     record {
       keeps = g.met.V.View.keeps_itself _;
       same = λ m h. h;
@@ -1332,8 +1353,8 @@ skip_group-returns-in_err-keep_group-in-Call g t c =
           c.args.level.now.depth c.args.site f (state_of c.args.made.now.writer (g.V.View.asked c.args.view.now) mine));
     }
 
-pub skip_group-returns-in_ok-keep_group-in-Call : goal.skip_group-returns-in_ok-keep_group-in-Call
-skip_group-returns-in_ok-keep_group-in-Call g t c = record {
+pub skip_call-returns-in_ok-keep_group-in-Call : goal.skip_call-returns-in_ok-keep_group-in-Call
+skip_call-returns-in_ok-keep_group-in-Call g t c = record {
   keeps = c.skip_all.ensures.keeps;
   same = c.skip_all.ensures.same;
   in_hand = in_hand_on _ _ _ _ (record { scope = refl; pending = refl; reads = refl }) c.skip_all.ensures.in_hand;
@@ -1364,45 +1385,6 @@ skip_group-returns-in_ok-keep_group-in-Call g t c = record {
       (state_of c.keep_group.new.writer (g.V.View.asked c.args.view.now) mine) what_is quiet state) r;
 }
 
-pub skip_inside-returns-in_err-keep_group : goal.skip_inside-returns-in_err-keep_group
-skip_inside-returns-in_err-keep_group g t c plain =
-    let e : c.from_residual.result ≡ Err c.in_err-keep_group.field-0.0 = search rules in
-    record {
-      keeps = g.met.V.View.keeps_itself _;
-      same = λ m h. h;
-      in_hand = stopped _ _ _ e;
-      longer = stopped _ _ _ e;
-      fits = stopped _ _ _ e;
-      counted = λ m h. stopped _ _ _ e;
-      ran = λ m h l f mine since part like.
-          let one = longer_than m c.args.level.now.last.now.owed.objects (functions_view c.args.level.now.functions.now)
-          c.args.level.now.depth c.args.site f (state_of c.args.made.now.writer (g.V.View.asked c.args.view.now) mine) in
-          reached_full _ (failed _ _ e)
-          (λ e. let full : length c.args.made.now.writer.groups ≡ most_groups = search rules in omega (arith, one, full))
-          (part_one m c.args.level.now.last.now.owed.objects (functions_view c.args.level.now.functions.now)
-          c.args.level.now.depth c.args.site f (state_of c.args.made.now.writer (g.V.View.asked c.args.view.now) mine));
-    }
-
-pub skip_inside-returns : goal.skip_inside-returns
-skip_inside-returns g t c plain = record {
-  keeps = c.skip_all.ensures.keeps;
-  same = c.skip_all.ensures.same;
-  in_hand = in_hand_on _ _ _ _ (record { scope = refl; pending = refl; reads = refl }) c.skip_all.ensures.in_hand;
-  longer = longer_on _ _ _ _ (kept_longer _ _ _ _ _ _ _ c.in_ok-keep_group.ensures.added) c.skip_all.ensures.longer;
-  fits = c.skip_all.ensures.fits;
-  counted = λ m h. counted_kept _ _ _ _ _ _ (ap (λ (q : WrittenGroups). q.reads) c.in_ok-keep_group.ensures.added)
-      (c.skip_all.ensures.counted m h);
-  ran = λ m h l f mine since part like.
-      let state = kept_state c.args.level.now.depth c.args.site c.args.old.now f c.args.made.now.writer
-      c.keep_group.new.writer (g.V.View.asked c.args.view.now) mine like c.in_ok-keep_group.ensures.added in
-      let r = c.skip_all.ensures.ran m h l f.inside mine since part
-      (begins_after _ c.args.old.now f _ _ (sym c.requires.table) c.first_inside.ensures like) in
-      reached_at (kept_other m c.args.level.now.last.now.owed.objects (functions_view c.args.level.now.functions.now)
-      c.args.level.now.depth c.args.site f (state_of c.args.made.now.writer (g.V.View.asked c.args.view.now) mine)
-      (state_of c.keep_group.new.writer (g.V.View.asked c.args.view.now) mine)
-      (no_call c.args.level.now.depth c.args.old.now f like plain) state) r;
-}
-
 pub skip_all-loop-at-init : goal.skip_all-loop-at-init
 skip_all-loop-at-init g t c = record {
   keeps = g.met.V.View.keeps_itself _;
@@ -1430,9 +1412,23 @@ skip_all-returns-then-is_end g t c = record {
       let reads = ap (λ (w : WrittenGroups). w.reads) c.in_ok-keep_run.ensures.added in omega (arith, e, reads);
   ran = λ m h l tr mine since part begins.
       let k = c.loop-at.invariant.going m h l tr mine since part begins in
-      let q = c.quiet_end-stop.ensures.quiet k.rest k.begins in
+      let q = c.next_call-stop.ensures.quiet k.rest k.begins in
       let added = run_added _ _ (g.V.View.asked c.loop-at.view) mine c.in_ok-keep_run.ensures.added c.loop-at.invariant.fits in
       left_done (left_run k q added) (c.is_end.ensures.end c.if-is_end.true);
+}
+
+pub skip_all-returns-then-len-here : goal.skip_all-returns-then-len-here
+skip_all-returns-then-len-here g t c = record {
+  keeps = c.loop-at.invariant.keeps;
+  same = c.loop-at.invariant.same;
+  in_hand = tt;
+  longer = tt;
+  fits = tt;
+  counted = λ m h. tt;
+  ran = λ m h l tr mine since part begins.
+      let k = c.loop-at.invariant.going m h l tr mine since part begins in
+      let added = run_added _ _ (g.V.View.asked c.loop-at.view) mine c.in_ok-keep_run.ensures.added c.loop-at.invariant.fits in
+      left_memory _ (left_run k (c.next_call-stop.ensures.quiet k.rest k.begins) added) refl;
 }
 
 pub skip_all-returns-in_err-keep_run : goal.skip_all-returns-in_err-keep_run
@@ -1447,7 +1443,7 @@ skip_all-returns-in_err-keep_run g t c =
       counted = λ m h. stopped _ _ _ e;
       ran = λ m h l tr mine since part begins.
           let k = c.loop-at.invariant.going m h l tr mine since part begins in
-          let q = c.quiet_end-stop.ensures.quiet k.rest k.begins in
+          let q = c.next_call-stop.ensures.quiet k.rest k.begins in
           left_full _ k q (failed _ _ e) (λ e. run_is _ _ c.loop-at.invariant.fits (c.keep_run.ensures.full (search rules))) refl;
     }
 
@@ -1463,80 +1459,82 @@ skip_all-returns g t c = record {
       (ends_past c.args.level.now.last.now.groups c.args.level.now.depth c.loop-at.at (search (rules, arith)));
 }
 
-pub skip_all-returns-in_err-skip_group : goal.skip_all-returns-in_err-skip_group
-skip_all-returns-in_err-skip_group g t c =
-    let e : c.from_residual-in_err-skip_group.result ≡ Err c.in_err-skip_group.field-0.0 = search rules in
+pub skip_all-returns-in_err-skip_call : goal.skip_all-returns-in_err-skip_call
+skip_all-returns-in_err-skip_call g t c =
+    let e : c.from_residual-in_err-skip_call.result ≡ Err c.in_err-skip_call.field-0.0 = search rules in
     record {
-      keeps = g.met.V.View.keeps_on _ _ _ c.loop-at.invariant.keeps c.in_err-skip_group.ensures.keeps;
-      same = λ m h. c.in_err-skip_group.ensures.same m (c.loop-at.invariant.same m h);
+      keeps = g.met.V.View.keeps_on _ _ _ c.loop-at.invariant.keeps c.in_err-skip_call.ensures.keeps;
+      same = λ m h. c.in_err-skip_call.ensures.same m (c.loop-at.invariant.same m h);
       in_hand = stopped _ _ _ e;
       longer = stopped _ _ _ e;
       fits = stopped _ _ _ e;
       counted = λ m h. stopped _ _ _ e;
       ran = λ m h l tr mine since part begins.
-          let i = c.quiet_end-stop.result in
+          let i = c.next_call-stop.result in
           let owed = c.args.level.now.last.now.owed.objects in
           let fs = functions_view c.args.level.now.functions.now in
           let d = c.args.level.now.depth in
           let k0 = c.loop-at.invariant.going m h l tr mine since part begins in
           let added = run_added _ _ (g.V.View.asked c.loop-at.view) mine c.in_ok-keep_run.ensures.added c.loop-at.invariant.fits in
-          let k = left_run k0 (c.quiet_end-stop.ensures.quiet k0.rest k0.begins) added in
+          let k = left_run k0 (c.next_call-stop.ensures.quiet k0.rest k0.begins) added in
           let here = c.is_end.ensures.more c.if-is_end.false in
-          let f = first_of_all c.args.level.now.last.now.groups d i (index_behind c.args.level.now.last.now.groups i) k.rest k.begins here.0
-          here.1 (behind_is c.args.level.now.last.now.groups i) in
-          let like = subst (λ (q : KeyInfo). SameGroup d q f.found) (sym c.group-old.ensures) f.same in
-          let site = c.site.ensures ∙ ap (λ (q : KeyInfo). (old_group q).site) c.group-old.ensures ∙ f.site_is in
+          let groups = c.args.level.now.last.now.groups in
+          let f = left_group groups i k here.0 here.1 in
+          let found = layer_found f in
+          let same = layer_same groups i f in
+          let at : c.depth.result ≡ f.at = c.depth.ensures ∙ ap (λ (q : KeyInfo). (old_group q).depth) c.group-old.ensures ∙ same.depth_is in
+          let like = subst (λ n. SameGroup n c.group-old.result found) (sym at)
+          (subst (λ (q : KeyInfo). SameGroup f.at q found) (sym c.group-old.ensures) same) in
+          let site = c.site.ensures ∙ ap (λ (q : KeyInfo). (old_group q).site) c.group-old.ensures ∙ layer_site groups i f in
           let s = state_of c.keep_run.new.self (g.V.View.asked c.loop-at.view) mine in
-          let move : skipped_inside m owed fs d c.site.result f.found.number f.found.what (is_owed owed f.found.inside) f.found.inside (skipped_groups m owed f.found.inside) s ≡ skipped_inside m owed fs d f.site f.found.number f.found.what (is_owed owed f.found.inside) f.found.inside (skipped_groups m owed f.found.inside) s =
-          ap (λ n. skipped_inside m owed fs d n f.found.number f.found.what (is_owed owed f.found.inside) f.found.inside
-          (skipped_groups m owed f.found.inside) s) site in
-          left_stop _ k f (reached_at move
-          (c.in_err-skip_group.ensures.ran m (c.loop-at.invariant.same m h) l f.found mine since
-          (first_parts f k.part).0 like)) e;
+          left_stop _ k f (reached_at (moved_group m owed fs found s at site)
+          (c.in_err-skip_call.ensures.ran m (c.loop-at.invariant.same m h) l found mine since
+          (layer_part f k.parts) like)) e;
     }
 
 pub skip_all-loop-at-preserved : goal.skip_all-loop-at-preserved
 skip_all-loop-at-preserved g t c = record {
-  keeps = g.met.V.View.keeps_on _ _ _ c.loop-at.invariant.keeps c.in_ok-skip_group.ensures.keeps;
-  same = λ m h. c.in_ok-skip_group.ensures.same m (c.loop-at.invariant.same m h);
+  keeps = g.met.V.View.keeps_on _ _ _ c.loop-at.invariant.keeps c.in_ok-skip_call.ensures.keeps;
+  same = λ m h. c.in_ok-skip_call.ensures.same m (c.loop-at.invariant.same m h);
   in_hand = record {
-    scope = c.in_ok-skip_group.ensures.in_hand.scope ∙ c.loop-at.invariant.in_hand.scope;
-    pending = c.in_ok-skip_group.ensures.in_hand.pending ∙ c.loop-at.invariant.in_hand.pending;
-    reads = c.in_ok-skip_group.ensures.in_hand.reads ∙ c.loop-at.invariant.in_hand.reads;
+    scope = c.in_ok-skip_call.ensures.in_hand.scope ∙ c.loop-at.invariant.in_hand.scope;
+    pending = c.in_ok-skip_call.ensures.in_hand.pending ∙ c.loop-at.invariant.in_hand.pending;
+    reads = c.in_ok-skip_call.ensures.in_hand.reads ∙ c.loop-at.invariant.in_hand.reads;
   };
   longer =
-      omega (arith, c.loop-at.invariant.longer, c.in_ok-keep_run.ensures.longer, c.in_ok-skip_group.ensures.longer);
-  fits = c.in_ok-skip_group.ensures.fits;
+      omega (arith, c.loop-at.invariant.longer, c.in_ok-keep_run.ensures.longer, c.in_ok-skip_call.ensures.longer);
+  fits = c.in_ok-skip_call.ensures.fits;
   counted = λ m h.
       let e = c.loop-at.invariant.counted m h in
       let reads = ap (λ (w : WrittenGroups). w.reads) c.in_ok-keep_run.ensures.added in
-      let f = c.in_ok-skip_group.ensures.counted m (c.loop-at.invariant.same m h) in omega (arith, e, reads, f);
+      let f = c.in_ok-skip_call.ensures.counted m (c.loop-at.invariant.same m h) in omega (arith, e, reads, f);
   going = λ m h l tr mine since part begins.
-      let i = c.quiet_end-stop.result in
+      let i = c.next_call-stop.result in
       let owed = c.args.level.now.last.now.owed.objects in
       let fs = functions_view c.args.level.now.functions.now in
       let d = c.args.level.now.depth in
       let k0 = c.loop-at.invariant.going m h l tr mine since part begins in
       let added = run_added _ _ (g.V.View.asked c.loop-at.view) mine c.in_ok-keep_run.ensures.added c.loop-at.invariant.fits in
-      let k = left_run k0 (c.quiet_end-stop.ensures.quiet k0.rest k0.begins) added in
+      let k = left_run k0 (c.next_call-stop.ensures.quiet k0.rest k0.begins) added in
       let here = c.is_end.ensures.more c.if-is_end.false in
-      let f = first_of_all c.args.level.now.last.now.groups d i c.index_after-at.result k.rest k.begins here.0 here.1
-      c.index_after-at.ensures.after in
-      let like = subst (λ (q : KeyInfo). SameGroup d q f.found) (sym c.group-old.ensures) f.same in
-      let site = c.site.ensures ∙ ap (λ (q : KeyInfo). (old_group q).site) c.group-old.ensures ∙ f.site_is in
+      let groups = c.args.level.now.last.now.groups in
+      let f = left_group groups i k here.0 here.1 in
+      let found = layer_found f in
+      let same = layer_same groups i f in
+      let at : c.depth.result ≡ f.at = c.depth.ensures ∙ ap (λ (q : KeyInfo). (old_group q).depth) c.group-old.ensures ∙ same.depth_is in
+      let like = subst (λ n. SameGroup n c.group-old.result found) (sym at)
+      (subst (λ (q : KeyInfo). SameGroup f.at q found) (sym c.group-old.ensures) same) in
+      let site = c.site.ensures ∙ ap (λ (q : KeyInfo). (old_group q).site) c.group-old.ensures ∙ layer_site groups i f in
       let s = state_of c.keep_run.new.self (g.V.View.asked c.loop-at.view) mine in
-      let move : skipped_inside m owed fs d c.site.result f.found.number f.found.what (is_owed owed f.found.inside) f.found.inside (skipped_groups m owed f.found.inside) s ≡ skipped_inside m owed fs d f.site f.found.number f.found.what (is_owed owed f.found.inside) f.found.inside (skipped_groups m owed f.found.inside) s =
-      ap (λ n. skipped_inside m owed fs d n f.found.number f.found.what (is_owed owed f.found.inside) f.found.inside
-      (skipped_groups m owed f.found.inside) s) site in
-      left_more k f (reached_at move
-      (c.in_ok-skip_group.ensures.ran m (c.loop-at.invariant.same m h) l f.found mine since
-      (first_parts f k.part).0 like));
+      left_more groups i c.index_after-at.result k f c.index_after-at.ensures.after (reached_at (moved_group m owed fs found s at site)
+      (c.in_ok-skip_call.ensures.ran m (c.loop-at.invariant.same m h) l found mine since
+      (layer_part f k.parts) like));
 }
 
 pub skip_all-loop-at-smaller : goal.skip_all-loop-at-smaller
 skip_all-loop-at-smaller g t c =
     let here = c.is_end.ensures.more c.if-is_end.false in
-    let less = index_grows c.args.level.now.last.now.groups c.quiet_end-stop.result c.index_after-at.result here.0
+    let less = index_grows c.args.level.now.last.now.groups c.next_call-stop.result c.index_after-at.result here.0
     c.index_after-at.ensures.after c.index_after-at.ensures.inside in
-    let low = c.quiet_end-stop.ensures.order in
+    let low = c.next_call-stop.ensures.order in
     omega (arith, less, low)

@@ -126,11 +126,8 @@ decreases-run_call g l = 8 * weight l.level.now.functions.now + 2 + 3 * (most_gr
 abbrev pub decreases-run_body : goal.decreases-run_body
 decreases-run_body g l = 8 * weight l.level.now.functions.now + 3 * (most_groups - l.level.now.depth)
 
-abbrev pub decreases-skip_group : goal.decreases-skip_group
-decreases-skip_group g l = 8 * weight l.level.now.functions.now + 1 + 3 * (most_groups - l.level.now.depth)
-
-abbrev pub decreases-skip_inside : goal.decreases-skip_inside
-decreases-skip_inside g l = 8 * weight l.level.now.functions.now + 3 * (most_groups - l.level.now.depth)
+abbrev pub decreases-skip_call : goal.decreases-skip_call
+decreases-skip_call g l = 8 * weight l.level.now.functions.now + 1 + 3 * (most_groups - l.level.now.depth)
 
 abbrev pub decreases-skip_all : goal.decreases-skip_all
 decreases-skip_all g l = 8 * weight l.level.now.functions.now + 2 + 3 * (most_groups - l.level.now.depth)
