@@ -12,6 +12,7 @@ ghost use Rattle.gap_buffer.specs.Buffer.{exchanged_list, list_after_move};
 
 use std::alloc::{AllocError, Global};
 use std::marker::Model;
+use std::mem;
 
 /// A list with spare capacity.
 #[derive(Drop)]
@@ -82,6 +83,16 @@ impl<T> GapBuf<T> {
         ensures spare { self.new.spare ≡ self.old.spare }
     {
         self.items[i] = v;
+    }
+
+    /// Replaces the item at index `i` and returns the one that was there.
+    pub fn replace(&mut self, i: usize, v: T) -> T
+        requires { i < length self.old.items }
+        ensures value { result ≡ slice_index_or self.old.items i result }
+        ensures items { self.new.items ≡ slice_set self.old.items i v }
+        ensures spare { self.new.spare ≡ self.old.spare }
+    {
+        mem::replace(&mut self.items[i], v)
     }
 
     /// Exchanges the items at indexes `i` and `j`.

@@ -1,14 +1,16 @@
 // The changes that take a table to the groups of a new frame.
 ghost use Rattle.std.specs.Prelude.{◌≡◌, ◌≤◌, ◌<◌, ◌-◌, ◌^◌, ◌++◌, ◌∷◌, [], List, length, map, drop, take, slice_set, slice_index_or, true, false, IfOk, IfSome, OnOk, OnErr};
 ghost use Rattle.rt_groups.specs.declared.groups.Group.{Group as group_data};
-ghost use Rattle.slot_table.specs.TableGroups.{group_at, with_reads};
+ghost use Rattle.rt_groups.specs.PreorderGroups.{flat_group};
+ghost use Rattle.slot_table.specs.TableGroups.{group_at, is_node_kind, with_reads};
 ghost use Rattle.slot_table.specs.ChangeLists.{nodes_in};
 ghost use Rattle.slot_table.specs.KeptRuns.{patched, gaps, AreInside, HaveOwnIndexes, IsRunAdded, set_all, KeepDepths, MoveDown};
 
 use crate::groups_before::GroupsBefore;
+use crate::replaced::ReplacedGroups;
 use crate::runs::KeptRun;
 use crate::shrunk_reads::ShrunkReads;
-use crate::storage::{SharedGroup, TableBuilder, make_room};
+use crate::storage::{PackedHead, SharedGroup, Slots, TableBuilder, make_room};
 use crate::table::Table;
 use rt_groups::Deps;
 use rt_values::{NoMemory, ObjectNo};
@@ -455,12 +457,16 @@ impl ChangeList {
     }
 }
 
-/// Returns whether both lists have the same objects in the same order.
+/// Returns whether both lists have the same objects in the same order. Two lists of one object, as most calls have,
+/// need no loop.
 #[inline(always)]
 pub fn same_reads(reads: &[ObjectNo], others: &[ObjectNo]) -> bool
     ensures { result ≡ true → reads.now ≡ others.now }
 {
-    reads == others
+    match (reads, others) {
+        ([read], [other]) => read == other,
+        _ => reads == others,
+    }
 }
 
 // Returns whether both tables have the same number of groups, and the groups at each index have the
@@ -473,7 +479,7 @@ fn have_same_reads(table: &Table, other: &Table) -> bool
         return false;
     }
     for i in 0..table.len() {
-        if !same_reads(other.reads(i), table.reads(i)) {
+        if !table.has_reads_of(i, other.slot(i)) {
             return false;
         }
     }
@@ -489,7 +495,7 @@ fn keep_reads_in_place(table: &Table, fresh: &TableBuilder, places: &[usize]) ->
         ≡ map (λ g. g.reads) table.now.groups }
 {
     for i in 0..fresh.len() {
-        if !same_reads(fresh.reads(i), table.reads(places[i])) {
+        if !table.has_reads_of(places[i], fresh.slot(i)) {
             return false;
         }
     }
@@ -552,23 +558,24 @@ impl<'c> Preview<'c> {
 }
 
 impl Table {
-    /// Changes the groups to those of the new frame (`executeAndFlushAllPendingChanges`). Takes no memory. Takes time
-    /// linear in the number of new groups if only new groups change, and in the number of old groups if the table
-    /// shrinks. Else takes the time of dropping the old table.
-    pub fn apply(&mut self, changes: ChangeList)
+    /// Changes the groups to those of the new frame (`executeAndFlushAllPendingChanges`). Cannot fail. If only new
+    /// groups change, adds the nodes that they replace to `replaced`, or drops them when out of memory. Drops all other
+    /// old groups at once. Takes time linear in the number of new groups if only new groups change, and in the number
+    /// of old groups if the table shrinks. Else takes the time of dropping the old table.
+    pub fn apply(&mut self, changes: ChangeList, replaced: &mut ReplacedGroups)
         requires { changes.olds ≡ self.old.groups }
         ensures { self.new.groups ≡ changes.news }
     {
         let ChangeList { olds: _, change } = changes;
         match change {
             Change::Whole(table) => *self = table,
-            Change::InPlace(fresh, places) => self.set_groups(fresh, places),
+            Change::InPlace(fresh, places) => self.set_groups(fresh, places, replaced),
             Change::Shrunk { fresh, runs, len } => self.shrink(fresh, &runs, len),
         }
     }
 
-    // Puts the new groups at their places.
-    fn set_groups(&mut self, fresh: TableBuilder, places: Vec<usize>)
+    // Puts the new groups at their places, and adds the nodes that they replace to `replaced`.
+    fn set_groups(&mut self, fresh: TableBuilder, places: Vec<usize>, replaced: &mut ReplacedGroups)
         requires long { length places.items ≡ length fresh }
         requires depths { KeepDepths self.old.groups places.items fresh }
         ensures { self.new.groups ≡ set_all self.old.groups places.items fresh }
@@ -577,9 +584,32 @@ impl Table {
         let mut places = places;
         while let Some(place) = places.pop() {
             match fresh.pop() {
-                Some((head, slots)) => self.set_group(place, head, slots),
+                Some((head, slots)) => self.replace_group(place, head, slots, replaced),
                 None => unreachable!(),
             }
+        }
+    }
+
+    // Replaces the group at index `i` by the group with this head and these slots, which has the same depth. Adds a
+    // node that was there to `replaced`, since nodes own lists of attributes. Drops a group of another kind.
+    #[inline(always)]
+    fn replace_group(
+        &mut self,
+        i: usize,
+        head: PackedHead,
+        slots: Slots,
+        replaced: &mut ReplacedGroups,
+    )
+        requires index { i < length self.old.groups }
+        requires node { head.is_node ≡ is_node_kind slots.what }
+        requires depth { head.depth ≡ (group_at self.old.groups i).depth }
+        ensures { self.new.groups
+            ≡ slice_set self.old.groups i (flat_group head.depth head.site head.number slots.what slots.reads) }
+    {
+        let is_node = self.is_node(i);
+        let old = self.set_group(i, head, slots);
+        if is_node {
+            replaced.add(old);
         }
     }
 }

@@ -5,8 +5,9 @@
 //! (`specs/ReaderStates.antt`). The table keeps for each group the number of groups inside it, so a skip takes constant
 //! time. The fields of fixed size and the slots are in two gap buffers, and tables that have the same group
 //! share its slots. `ChangeListWriter` writes a new frame as changes of a table, as the `ComposerChangeListWriter` of
-//! Compose, and `Table::apply` applies the changes. `ShrunkReads` lends the reads of a table that shrinks before the
-//! changes are applied. `slot_edit` changes a table group by group; other crates read it.
+//! Compose, and `Table::apply` applies the changes. `ReplacedGroups` has the nodes that applied changes replaced, until
+//! new nodes need their memory. `ShrunkReads` lends the reads of a table that shrinks before the changes are applied.
+//! `slot_edit` changes a table group by group; other crates read it.
 //! Promises: a reader visits exactly the table's groups, counts one step for each group that it opens, and lends their
 //! values without a copy. Applied changes give exactly the groups that were written.
 #![tactic(auto)]
@@ -16,6 +17,7 @@ ghost use Rattle.slot_table.specs.Siblings.{SkippingLeavesTheSiblings};
 mod changes;
 mod groups_before;
 mod reader;
+mod replaced;
 mod runs;
 mod shrunk_reads;
 mod storage;
@@ -23,6 +25,7 @@ mod table;
 
 pub use changes::{ChangeList, ChangeListWriter, Preview, same_reads};
 pub use reader::Reader;
+pub use replaced::ReplacedGroups;
 pub use shrunk_reads::ShrunkReads;
 pub use storage::{SharedGroup, TableBuilder};
 pub use table::Table;

@@ -1,9 +1,10 @@
 // The parts of the groups of a table, in two lists.
-ghost use Rattle.std.specs.Prelude.{◌≡◌, ◌≤◌, ◌<◌, ◌-◌, ◌++◌, ◌∷◌, [], IfOk, OnOk, OnErr, MatchOption, length, take, drop, slice_set, vec_len, vec_capacity};
+ghost use Rattle.std.specs.Prelude.{◌≡◌, ◌≤◌, ◌<◌, ◌-◌, ◌++◌, ◌∷◌, [], IfOk, OnOk, OnErr, MatchOption, length, take, drop, slice_set, vec_len, vec_capacity, true};
 ghost use Rattle.rt_groups.specs.PreorderGroups.{flat_group};
 ghost use Rattle.slot_table.specs.Storage.{AreParts, IsPopped};
 ghost use Rattle.slot_table.specs.TableGroups.{group_at, is_node_kind, with_reads};
 
+use crate::changes::same_reads;
 use rt_groups::{Deps, Group, GroupKind};
 use rt_values::{NoMemory, ObjectNo};
 use std::alloc::Global;
@@ -227,6 +228,17 @@ impl Slots {
             Parts::WithReads(both) => both.reads.numbers(),
         }
     }
+
+    // Returns whether both groups have the same reads in the same order. Two groups without reads need no comparison.
+    #[inline(always)]
+    pub(crate) fn has_reads_of(&self, other: &Slots) -> bool
+        ensures { result ≡ true → self.now.reads ≡ other.now.reads }
+    {
+        match (&self.parts, &other.parts) {
+            (Parts::Plain(_), Parts::Plain(_)) => true,
+            _ => same_reads(self.reads(), other.reads()),
+        }
+    }
 }
 
 /// A group for a table. Copies share its slots.
@@ -393,7 +405,7 @@ impl TableBuilder {
     }
 
     // Returns the slots of the group at index `i`.
-    fn slot(&self, i: usize) -> &Slots
+    pub(crate) fn slot(&self, i: usize) -> &Slots
         requires { i < length self.now }
         ensures what { result.now.what ≡ (group_at self.now i).what }
         ensures reads { result.now.reads ≡ (group_at self.now i).reads }

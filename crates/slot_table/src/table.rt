@@ -1,5 +1,5 @@
 // The groups of a composition.
-ghost use Rattle.std.specs.Prelude.{◌≡◌, ◌≤◌, ◌<◌, ◌+◌, ◌-◌, ◌^◌, ◌++◌, ◌∷◌, [], List, length, drop, take, slice_index_or, slice_set, IfOk, OnOk};
+ghost use Rattle.std.specs.Prelude.{◌≡◌, ◌≤◌, ◌<◌, ◌+◌, ◌-◌, ◌^◌, ◌++◌, ◌∷◌, [], List, length, drop, take, slice_index_or, slice_set, IfOk, OnOk, true};
 ghost use Rattle.rt_groups.specs.declared.groups.Group.{Group as group_data};
 ghost use Rattle.slot_table.specs.TableGroups.{group_at, is_node_kind};
 ghost use Rattle.rt_groups.specs.PreorderGroups.{flat_group};
@@ -102,7 +102,7 @@ impl Table {
     }
 
     // Returns the slots of the group at index `i`.
-    fn slot(&self, i: usize) -> &Slots
+    pub(crate) fn slot(&self, i: usize) -> &Slots
         requires { i < length self.now.groups }
         ensures what { result.now.what ≡ (group_at self.now.groups i).what }
         ensures reads { result.now.reads ≡ (group_at self.now.groups i).reads }
@@ -158,6 +158,15 @@ impl Table {
         self.slot(i).reads()
     }
 
+    // Returns whether the group at index `i` has the reads of `slots`, in the same order.
+    #[inline(always)]
+    pub(crate) fn has_reads_of(&self, i: usize, slots: &Slots) -> bool
+        requires { i < length self.now.groups }
+        ensures { result ≡ true → slots.now.reads ≡ (group_at self.now.groups i).reads }
+    {
+        slots.has_reads_of(self.slot(i))
+    }
+
     /// Returns the group at index `i`, which shares its slots with this table.
     #[inline(always)]
     pub fn share(&self, i: usize) -> Result<SharedGroup, NoMemory>
@@ -208,9 +217,10 @@ impl Table {
         if self.is_node(i) { 1 } else { 0 }
     }
 
-    // Replaces the group at index `i` by the group with this head and these slots, which has the same depth.
+    // Replaces the group at index `i` by the group with this head and these slots, which has the same depth. Returns
+    // the slots that were replaced.
     #[inline(always)]
-    pub(crate) fn set_group(&mut self, i: usize, head: PackedHead, slots: Slots)
+    pub(crate) fn set_group(&mut self, i: usize, head: PackedHead, slots: Slots) -> Slots
         requires index { i < length self.old.groups }
         requires node { head.is_node ≡ is_node_kind slots.what }
         requires depth { head.depth ≡ (group_at self.old.groups i).depth }
@@ -218,7 +228,7 @@ impl Table {
             ≡ slice_set self.old.groups i (flat_group head.depth head.site head.number slots.what slots.reads) }
     {
         self.groups.set(i, head);
-        self.slots.set(i, slots);
+        self.slots.replace(i, slots)
     }
 
     // Removes the groups that no run keeps, and puts the new groups before, between and after the runs. `len` is the

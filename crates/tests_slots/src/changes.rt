@@ -2,9 +2,9 @@
 ghost use Rattle.std.specs.Prelude.{◌≡◌, IfOk};
 
 use crate::rows::{row_groups, three_rows};
-use rt_groups::GroupKind;
+use rt_groups::{Attribute, GroupKind};
 use rt_values::{NoMemory, Objects, Value};
-use slot_table::{ChangeList, ChangeListWriter, Table, TableBuilder, same_reads};
+use slot_table::{ChangeList, ChangeListWriter, ReplacedGroups, Table, TableBuilder, same_reads};
 use std::alloc::Global;
 use std::test::Fail;
 
@@ -98,7 +98,7 @@ fn change(
     let changes = changes_to_rows(alloc, table, runs)?;
     let is_previewed = previews(alloc, &changes, table, keys)?;
     let keeps = changes.keeps_reads(table);
-    table.apply(changes);
+    table.apply(changes, &mut ReplacedGroups::none(alloc));
     Ok((is_previewed, keeps))
 }
 
@@ -187,7 +187,7 @@ fn skips_as_previewed(
         let preview = changes.preview(alloc, &table)?;
         has_ends(preview.table(), ends)
     };
-    table.apply(changes);
+    table.apply(changes, &mut ReplacedGroups::none(alloc));
     Ok(is_previewed && has_ends(&table, ends))
 }
 
@@ -289,6 +289,98 @@ fn shrunk_changes_lend_the_reads_of_their_preview(rt: HostRuntime) -> Result<(),
     ];
     for (runs, count) in &rows {
         assert_eq!(rt; count_reads_of_rows(alloc, runs)?, *count);
+    }
+    Ok(())
+}
+
+// Returns the number of a key or of the first attribute of a node, or 0 for another kind.
+fn number_in(kind: &GroupKind) -> i64 {
+    match kind {
+        GroupKind::Key(Value::Int(key)) => *key,
+        GroupKind::Node { attributes, .. } => match attributes.items() {
+            [
+                Attribute {
+                    value: Value::Int(number),
+                    ..
+                },
+                ..
+            ] => *number,
+            _ => 0,
+        },
+        _ => 0,
+    }
+}
+
+// Whether these are the numbers in the groups of the table.
+fn has_numbers(table: &Table, numbers: &[i64]) -> bool {
+    if table.len() != numbers.len() {
+        return false;
+    }
+    for (index, number) in numbers.iter().enumerate() {
+        if index >= table.len() || number_in(table.kind(index)) != *number {
+            return false;
+        }
+    }
+    true
+}
+
+// Returns a table that shares the slots of all groups of `table`.
+fn sharing(alloc: Global, table: &Table) -> Result<Table, NoMemory> {
+    let mut groups = TableBuilder::new(alloc);
+    for index in 0..table.len() {
+        groups.push(table.share(index)?)?;
+    }
+    Table::from_groups(alloc, groups)
+}
+
+// Drops one of the replaced groups, `count` times.
+fn drop_times(replaced: &mut ReplacedGroups, count: usize) {
+    for _ in 0..count {
+        replaced.drop_one();
+    }
+}
+
+// Whether a table of the rows 1, 2 and 3 gets these numbers with the groups of `runs`, and another table, which shares
+// the slots of the three rows, keeps its numbers. Drops a replaced group `count` times before the other table is
+// dropped, and `count` times afterwards.
+fn has_numbers_after_drops(
+    alloc: Global,
+    runs: &[(usize, usize)],
+    numbers: &[i64],
+    count: usize,
+) -> Result<bool, NoMemory> {
+    let mut table = three_rows(alloc)?;
+    let shared = sharing(alloc, &table)?;
+    let mut replaced = ReplacedGroups::none(alloc);
+    let changes = changes_to_rows(alloc, &table, runs)?;
+    table.apply(changes, &mut replaced);
+    drop_times(&mut replaced, count);
+    let is_kept = has_numbers(&shared, &[0, 1, 1, 2, 2, 3, 3]);
+    drop(shared);
+    drop_times(&mut replaced, count);
+    Ok(is_kept && has_numbers(&table, numbers))
+}
+
+#[test]
+fn dropped_groups_stay_where_they_are_shared(rt: HostRuntime) -> Result<(), Fail> {
+    let alloc = rt.alloc();
+    let all: &[i64] = &[0, 1, 1, 2, 2, 3, 3];
+    let one_node: &[i64] = &[0, 1, 8, 2, 2, 3, 3];
+    let one_key: &[i64] = &[0, 1, 1, 8, 2, 3, 3];
+    let all_nodes: &[i64] = &[0, 8, 8, 2, 9, 3, 8];
+    let removed: &[i64] = &[0, 2, 8, 3, 3];
+    let all_replaced: &[(usize, usize)] = &[(0, 1), (1, 1), (2, 2), (3, 4), (4, 4), (5, 6), (2, 2)];
+    let rows: [(&[(usize, usize)], &[i64], usize); 7] = [
+        (&[(0, 7)], all, 2),
+        (&[(0, 2), (2, 2), (3, 7)], one_node, 5),
+        (&[(0, 3), (1, 1), (4, 7)], one_key, 5),
+        (all_replaced, all_nodes, 0),
+        (all_replaced, all_nodes, 1),
+        (all_replaced, all_nodes, 9),
+        (&[(0, 1), (3, 4), (2, 2), (5, 7)], removed, 2),
+    ];
+    for (runs, numbers, count) in &rows {
+        assert!(rt; has_numbers_after_drops(alloc, runs, numbers, *count)?);
     }
     Ok(())
 }

@@ -54,6 +54,12 @@ enum Edit {
         index: usize,
         byte: u8,
     },
+    // Replaces `old` at `index` by `byte`.
+    Replace {
+        index: usize,
+        byte: u8,
+        old: u8,
+    },
     Swap {
         index: usize,
         other: usize,
@@ -72,7 +78,8 @@ fn move_block(buf: &mut GapBuf<u8>, from: usize, to: usize, count: usize) -> boo
     is_inside
 }
 
-// Applies `edit` to `buf`. Returns whether the buffer has its indexes and the byte that it removes.
+// Applies `edit` to `buf`. Returns whether the buffer has its indexes and the byte that it removes or
+// replaces.
 fn run(buf: &mut GapBuf<u8>, edit: &Edit) -> Result<bool, AllocError> {
     match edit {
         Edit::Move { from, to, count } => Ok(move_block(buf, *from, *to, *count)),
@@ -91,6 +98,9 @@ fn run(buf: &mut GapBuf<u8>, edit: &Edit) -> Result<bool, AllocError> {
                 return Ok(true);
             }
             Ok(false)
+        }
+        Edit::Replace { index, byte, old } => {
+            Ok(*index < buf.len() && buf.replace(*index, *byte) == *old)
         }
         Edit::Swap { index, other } => {
             if *index < buf.len() && *other < buf.len() {
@@ -122,7 +132,7 @@ fn edits_give(alloc: Global, rows: &[(Edit, &[u8])]) -> Result<bool, AllocError>
 
 #[test]
 fn edits_are_those_of_a_list(rt: HostRuntime) -> Result<(), Fail> {
-    let rows: [(Edit, &[u8]); 7] = [
+    let rows: [(Edit, &[u8]); 8] = [
         (
             Edit::Move {
                 from: 1,
@@ -134,8 +144,16 @@ fn edits_are_those_of_a_list(rt: HostRuntime) -> Result<(), Fail> {
         (Edit::Insert { index: 2, byte: 9 }, &[1, 3, 9, 2, 4, 5]),
         (Edit::Remove { index: 0, byte: 1 }, &[3, 9, 2, 4, 5]),
         (Edit::Set { index: 1, byte: 7 }, &[3, 7, 2, 4, 5]),
-        (Edit::Swap { index: 0, other: 4 }, &[5, 7, 2, 4, 3]),
-        (Edit::Truncate { len: 9 }, &[5, 7, 2, 4, 3]),
+        (
+            Edit::Replace {
+                index: 2,
+                byte: 6,
+                old: 2,
+            },
+            &[3, 7, 6, 4, 5],
+        ),
+        (Edit::Swap { index: 0, other: 4 }, &[5, 7, 6, 4, 3]),
+        (Edit::Truncate { len: 9 }, &[5, 7, 6, 4, 3]),
         (Edit::Truncate { len: 2 }, &[5, 7]),
     ];
     assert!(rt; edits_give(rt.alloc(), &rows)?);

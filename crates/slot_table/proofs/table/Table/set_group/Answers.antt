@@ -11,8 +11,8 @@ pub set-requires : goal.set-requires
 set-requires c = inside_heads c.args.self.now.groups c.self.inside.groups.items c.self.inside.slots.items c.args.i
     (ap (λ t. t.groups) c.self.view_is) c.self.invariant.0 c.requires.index
 
-pub set-requires-2 : goal.set-requires-2
-set-requires-2 c =
+pub replace-requires : goal.replace-requires
+replace-requires c =
     let inside = inside_heads c.args.self.now.groups c.self.inside.groups.items c.self.inside.slots.items c.args.i
     (ap (λ t. t.groups) c.self.view_is) c.self.invariant.0 c.requires.index in
     let same = c.self.invariant.0 in
@@ -25,10 +25,10 @@ invariant_of-self c =
     let joined = ap (λ t. t.groups) c.self.view_is in
     let g : Group = flat_group c.args.head.depth c.args.head.site c.args.head.number c.args.slots.what
     c.args.slots.reads in
-    let parts = put_parts w.groups.items c.set.new.self.items w.slots.items c.set-2.new.self.items gs c.args.i
+    let parts = put_parts w.groups.items c.set.new.self.items w.slots.items c.replace.new.self.items gs c.args.i
     c.args.head c.args.slots
     (record { joined = joined; long = c.self.invariant.0; nodes = c.self.invariant.2 }) c.requires.node
-    c.set.ensures.items c.set-2.ensures.items in
+    c.set.ensures.items c.replace.ensures.items in
     let counts : w.counts.items ≡ inner_counts gs = c.self.invariant.1 ∙ ap inner_counts joined in (
       parts.long,
       counts ∙ sym (counts_set gs c.args.i g (group_at [] c.args.i) c.requires.depth)
@@ -39,7 +39,7 @@ invariant_of-self c =
 pub returns : goal.returns
 returns c =
     let w = c.self.inside in
-    (put_parts w.groups.items c.set.new.self.items w.slots.items c.set-2.new.self.items c.args.self.now.groups c.args.i
+    (put_parts w.groups.items c.set.new.self.items w.slots.items c.replace.new.self.items c.args.self.now.groups c.args.i
     c.args.head c.args.slots
     (record { joined = ap (λ t. t.groups) c.self.view_is; long = c.self.invariant.0; nodes = c.self.invariant.2 })
-    c.requires.node c.set.ensures.items c.set-2.ensures.items).joined
+    c.requires.node c.set.ensures.items c.replace.ensures.items).joined

@@ -14,8 +14,8 @@ loop-place-preserved c =
     c.loop-place.invariant.long c.loop-place.invariant.depths c.in-Some.ensures.items popped.last in
     record {
       long = one.long;
-      depths = subst (λ l. KeepDepths l c.pop.new.self.items c.pop-in-Some.new.self) (sym c.set_group.ensures)
+      depths = subst (λ l. KeepDepths l c.pop.new.self.items c.pop-in-Some.new.self) (sym c.replace_group.ensures)
           one.depths;
-      same = ap (λ l. set_all l c.pop.new.self.items c.pop-in-Some.new.self) c.set_group.ensures ∙ one.same
+      same = ap (λ l. set_all l c.pop.new.self.items c.pop-in-Some.new.self) c.replace_group.ensures ∙ one.same
           ∙ c.loop-place.invariant.same;
     }
