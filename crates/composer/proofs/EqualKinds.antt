@@ -1,5 +1,5 @@
 -- Groups that are equal with their values.
-use Rattle.std.proofs.Common.{ℕ, suc, List, [], ◌∷◌, ◌≡◌, refl, ap, sym, ◌∙◌, Bool, true, false, ◌&&◌, ◌==◌, length}
+use Rattle.std.proofs.Common.{ℕ, suc, List, [], ◌∷◌, ◌≡◌, refl, ap, ◌∙◌, Bool, true, false, ◌&&◌, ◌==◌, length}
 use Rattle.std.specs.Bool.{Decides}
 use Rattle.std.specs.Str.{bytes_eq}
 use Rattle.std.proofs.lemmas.Bool.{eqb-true}
@@ -32,7 +32,7 @@ same_attribute_decides a b =
           (name.1 (ap (λ (x : Attribute). x.name) e)),
     )
 
-equal_values : (vs ws : List Value) → same_values vs ws ≡ true → vs ≡ ws
+pub equal_values : (vs ws : List Value) → same_values vs ws ≡ true → vs ≡ ws
 equal_values vs ws e = (slice_eq-Decides same_value_decides vs ws (same_values vs ws) refl).0 e
 
 equal_attributes : (xs ys : List Attribute) → same_attributes xs ys ≡ true → xs ≡ ys
@@ -43,15 +43,6 @@ pub equal_nodes : (w : GroupKind) (k l : List ℕ) (xs ys : List Attribute) → 
     → same_attributes ys xs ≡ true → w ≡ what.Node k xs
 equal_nodes w k l xs ys is kinds attributes = is ∙ ap (λ n. what.Node n ys) ((bytes_eq-Decides l k).0 kinds)
     ∙ ap (λ z. what.Node k z) (equal_attributes ys xs attributes)
-
--- A cell with equal keys and an equal value.
-pub equal_cells : (w : GroupKind) (js ks : List Value) (u v : Value) → w ≡ what.Cell js u → same_values js ks ≡ true
-    → same_value u v ≡ true → (w ≡ what.Cell ks v) × (same_values ks ks ≡ true)
-equal_cells w js ks u v is keys value =
-    let same = equal_values js ks keys in (
-      is ∙ ap (λ l. what.Cell l u) same ∙ ap (λ x. what.Cell ks x) ((same_value_decides u v).0 value),
-      sym (ap (λ l. same_values l ks) same) ∙ keys,
-    )
 
 pub no_items : (xs : List ℕ) → (length xs == 0) ≡ true → xs ≡ []
 no_items [] e = refl

@@ -5,6 +5,7 @@ pub mod Comparisons
 pub mod EqualKinds
 pub mod InHand
 pub mod Layers
+pub mod KeptCells
 pub mod LevelIndexes
 pub mod Marks
 pub mod Machine

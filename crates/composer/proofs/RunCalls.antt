@@ -5,7 +5,7 @@ use Rattle.rt_groups.specs.declared.groups.Group.{Group as Listed}
 use Rattle.rt_groups.specs.declared.groups.GroupKind.{GroupKind as ListedKind}
 use Rattle.rt_groups.specs.declared.groups.GroupKind.TheVariants as listed
 use Rattle.rt_values.specs.Maps.{Map}
-use Rattle.rt_groups.specs.GroupForest.{GroupForest, End, Group, GroupKind, Call, Node, Key, Cell, is_call, asks, own_part}
+use Rattle.rt_groups.specs.GroupForest.{GroupForest, End, Group, GroupKind, Call, Node, Key, Cell, asks, own_part}
 use Rattle.rt_groups.specs.Paths.{Found}
 use Rattle.rt_groups.specs.PreorderGroups.{flat_kind, flat_reads, flat_group, preorder}
 use Rattle.rt_groups.specs.Frames.{meets}
@@ -22,7 +22,6 @@ use Rattle.composer.specs.OldGroups.{Alike, Begins}
 use Rattle.composer.specs.ComposerState.{ComposerState, put_group, opened_group, closed_group, composed_beside, run_beside, skipped_inside, skipped_groups}
 use Rattle.composer.specs.BesideContracts.{IsPrefix, Reaches}
 use Rattle.composer.specs.WrittenGroups.{WrittenGroups, state_of, with_call, running_call, written_kept, number_kept}
-use Rattle.composer.specs.Recomposes.{is_call_kept}
 use Rattle.composer.proofs.Machine.{same_state, composed_is, part_of, longer, state_after_work, state_after_walk, skipped_is, skip_group}
 
 -- A call that has no work inside it.

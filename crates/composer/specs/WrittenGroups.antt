@@ -12,6 +12,7 @@ use Rattle.composer.specs.declared.writer.NewKind.{NewKind}
 use Rattle.composer.specs.declared.writer.NewKind.TheVariants as new
 use Rattle.composer.specs.declared.writer.CallArguments.{CallArguments}
 use Rattle.composer.specs.declared.writer.CallArguments.TheVariants as arguments
+use Rattle.composer.specs.declared.writer.CellValue.{CellValue}
 use Rattle.composer.specs.OldSiblings.{KeyInfo, old_group}
 use Rattle.composer.specs.FrameDrafts.{DraftGroups, HaveScopes}
 use Rattle.composer.specs.Comparisons.{other_keys}
@@ -145,6 +146,10 @@ kept_in (what.Cell js v) ks = if same_values js ks then Some v else None
 abbrev pub kept_of : Option KeyInfo → List Value → Option Value
 kept_of None ks = None
 kept_of (Some k) ks = kept_in (old_group k).what ks
+
+-- The value of a cell if it is that of the old cell.
+abbrev pub value_kept : CellValue → Option Value
+value_kept c = if c.is_kept then Some c.value else None
 
 -- The draft is that of a frame with these groups.
 pub record IsDraftOf (w : WrittenGroups) (d : DraftGroups) : Type 0 where

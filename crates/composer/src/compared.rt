@@ -5,7 +5,7 @@ ghost use Rattle.rt_values.specs.Values.{same_values};
 ghost use Rattle.rt_groups.specs.declared.groups.GroupKind.TheVariants as kinds;
 ghost use Rattle.rt_groups.specs.Frames.{meets};
 ghost use Rattle.slot_table.specs.ReaderStates.{group_key};
-ghost use Rattle.composer.specs.Comparisons.{same_attribute, same_attributes, same_call, call_runs, has_keys, other_keys};
+ghost use Rattle.composer.specs.Comparisons.{same_attribute, same_attributes, same_call, call_runs};
 ghost use Rattle.composer.specs.WrittenGroups.{kept_of};
 
 use crate::last_groups::LastGroups;
@@ -126,27 +126,8 @@ pub fn call_is_run(
     !is_same_call(old.kind(), function, arguments) || meet(old.reads(), last)
 }
 
-// Returns whether it is a cell that was calculated for the values of these keys.
-fn is_kept_for(what: &GroupKind, keys: &Env) -> bool
-    ensures { result ≡ has_keys (map (λ b. b.value) keys.now) what.now }
-{
-    match what {
-        GroupKind::Cell { keys: kept, .. } => keys.has_values(kept.items()),
-        _ => false,
-    }
-}
-
-/// Returns whether no old cell was found that was calculated for the values of these keys.
-pub fn has_other_keys(found: &Option<OldGroup>, keys: &Env) -> bool
-    ensures { result ≡ other_keys found.now (map (λ b. b.value) keys.now) }
-{
-    match found {
-        None => true,
-        Some(old) => !is_kept_for(old.kind(), keys),
-    }
-}
-
 /// Returns a copy of the value of an old cell if it was calculated for the values of these variables.
+#[inline(always)]
 pub fn kept_value(
     alloc: Global,
     found: &Option<OldGroup>,

@@ -11,7 +11,7 @@ ghost use Rattle.lang_ast.specs.SyntaxView.{expr_view, exprs_view, nameds_view, 
 ghost use Rattle.lang_ast.specs.Evaluation.{new_binding, eval, eval_all};
 ghost use Rattle.compose_model.specs.Composing.{forest_after};
 ghost use Rattle.recompose_laws.specs.CalculatedCells.{Calculation, CalculatesAtSite, StmtCalculates, StmtsCalculate};
-ghost use Rattle.composer.specs.WrittenGroups.{kept_of, group_kind, arguments_of, AreArguments};
+ghost use Rattle.composer.specs.WrittenGroups.{kept_of, value_kept, group_kind, arguments_of, AreArguments};
 ghost use Rattle.composer.specs.FrameDrafts.{Holds, IsOwing, ComposesFrame, root_of};
 ghost use Rattle.lang_ast.specs.Programs.{functions_of};
 ghost use Rattle.composer.specs.OldSiblings.{old_group, IsFoundIn};
@@ -28,7 +28,7 @@ use crate::progress::{Level, Progress};
 use crate::runs::{is_end, next_call, quiet_call_end};
 use crate::spares::Spares;
 use crate::stop::ComposeStop;
-use crate::writer::{CallArguments, NewKind, Writer};
+use crate::writer::{CallArguments, CellValue, NewKind, Writer};
 use group_keys::SiblingKey;
 use lang_ast::{Expression, Function, Ident, Named, Statement};
 use lang_checks::Checked;
@@ -368,12 +368,13 @@ fn remember<V: View>(
     value: &Expression,
     view: &mut V,
     reads: &mut Deps,
-) -> Result<Value, NoMemory>
+) -> Result<CellValue, NoMemory>
     ensures keeps { V.keeps view.old view.new }
     ensures same { (m : Map) → V.shows view.old m → V.shows view.new m }
     ensures value { (m : Map) (v : value_data) → V.shows view.old m →
         ((w : value_data) → kept_of found.now (map (λ b. b.value) env.now) ≡ Some w → w ≡ v) →
-        (eval m (expr_view value.now) env.now).value ≡ v → IfOk result (λ w. w ≡ v) }
+        (eval m (expr_view value.now) env.now).value ≡ v → IfOk result (λ w. w.value ≡ v) }
+    ensures kept { IfOk result (λ w. kept_of found.now (map (λ b. b.value) env.now) ≡ value_kept w) }
     ensures asks { (m : Map) → V.shows view.old m → (eval m (expr_view value.now) env.now).reads ≡ [] →
         OnOk result (V.asked view.new ≡ V.asked view.old) }
     ensures reads { (m : Map) → V.shows view.old m → (eval m (expr_view value.now) env.now).reads ≡ [] →
@@ -384,8 +385,14 @@ fn remember<V: View>(
         OnOk result (length reads.new + length (V.asked view.old) ≡ length reads.old + length (V.asked view.new)) }
 {
     match kept_value(alloc, found, env)? {
-        Some(kept) => Ok(kept),
-        None => Ok(eval_noting(alloc, value, env, view, reads)?),
+        Some(kept) => Ok(CellValue {
+            value: kept,
+            is_kept: true,
+        }),
+        None => Ok(CellValue {
+            value: eval_noting(alloc, value, env, view, reads)?,
+            is_kept: false,
+        }),
     }
 }
 
@@ -421,17 +428,17 @@ fn run_remember<'a, V: View, L: Ledger>(
     let found = made
         .pending
         .take(level.alloc, &SiblingKey::new(cell.site, None))?;
-    let value = remember(level.alloc, &found, &env, cell.value, view, &mut made.reads)?;
+    let remembered = remember(level.alloc, &found, &env, cell.value, view, &mut made.reads)?;
     made.writer.enter_cell(
         level.alloc,
         &mut made.spares,
         level.depth,
         cell.site,
         env,
-        &value,
+        &remembered,
         &found,
     )?;
-    run_bound(level, name, value, body, made, view, steps)
+    run_bound(level, name, remembered.value, body, made, view, steps)
 }
 
 // Composes a call: evaluates its arguments, which its caller reads, and then the call itself.

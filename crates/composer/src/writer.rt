@@ -1,6 +1,7 @@
 // The groups of a new frame, as they are written.
-ghost use Rattle.std.specs.Prelude.{◌≡◌, ◌≤◌, ◌<◌, ◌+◌, ◌-◌, ◌^◌, ◌++◌, ◌∷◌, [], List, ℕ, Err, length, map, Bool, true, IfOk, IfSome, OnOk};
+ghost use Rattle.std.specs.Prelude.{◌≡◌, ◌≤◌, ◌<◌, ◌+◌, ◌-◌, ◌^◌, ◌++◌, ◌∷◌, [], List, ℕ, Some, Err, length, map, Bool, true, IfOk, IfSome, OnOk};
 ghost use Rattle.std.specs.Option.{option_map};
+ghost use Rattle.rt_values.specs.declared.value.Value.{Value as value_data};
 ghost use Rattle.rt_groups.specs.declared.groups.Group.{Group as group_data};
 ghost use Rattle.rt_groups.specs.declared.groups.GroupKind.TheVariants as kinds;
 ghost use Rattle.rt_groups.specs.PreorderGroups.{flat_group};
@@ -8,11 +9,11 @@ ghost use Rattle.rt_groups.specs.Frames.{most_groups};
 ghost use Rattle.slot_table.specs.TableGroups.{group_at};
 ghost use Rattle.slot_table.specs.ReaderStates.{group_key};
 ghost use Rattle.composer.specs.ComposerState.{one_if};
-ghost use Rattle.composer.specs.OldSiblings.{old_group};
+ghost use Rattle.composer.specs.OldSiblings.{old_group, IsFoundIn};
 ghost use Rattle.composer.specs.QuietRuns.{group_run};
-ghost use Rattle.composer.specs.WrittenGroups.{group_kind, arguments_of, AreArguments, first_reads, number_for, enter_group, with_call, running_call, written_kept, written_run, IsDraftOf, IsPlacedAt, IsKeptAt};
+ghost use Rattle.composer.specs.WrittenGroups.{group_kind, arguments_of, AreArguments, first_reads, number_for, enter_group, with_call, running_call, written_kept, written_run, kept_of, value_kept, IsDraftOf, IsPlacedAt, IsKeptAt};
 
-use crate::compared::{has_other_keys, is_same_key, is_same_node};
+use crate::compared::{is_same_key, is_same_node};
 use crate::draft::Draft;
 use crate::old_groups::OldGroup;
 use crate::spares::Spares;
@@ -84,6 +85,13 @@ impl<'a> CallArguments<'a> {
             },
         }
     }
+}
+
+/// The value of a cell, and whether it is that of the old cell.
+#[derive(Drop)]
+pub struct CellValue {
+    pub value: Value,
+    pub is_kept: bool,
 }
 
 // Where a new group goes, and its number: that of a node, or 0.
@@ -278,8 +286,9 @@ impl<'t> Writer<'t> {
         }
     }
 
-    /// Appends a cell that remembers `value` for the values of `keys` and is matched with `found`. It counts if it is
-    /// calculated.
+    /// Appends a cell with the value of `remembered` for the values of `keys`, which is matched with `found`. The cell
+    /// counts if it is calculated.
+    #[tactic(auto, using(crate::proofs::KeptCells::kept_keys))]
     #[inline(always)]
     pub fn enter_cell(
         &mut self,
@@ -288,28 +297,30 @@ impl<'t> Writer<'t> {
         depth: u32,
         site: u32,
         keys: Env,
-        value: &Value,
+        remembered: &CellValue,
         found: &Option<OldGroup>,
     ) -> Result<(), ComposeStop>
-        requires { length self.old.groups ≤ most_groups }
-        ensures entered { OnOk result
-            (self.new ≡ enter_group depth site (kinds.Cell (map (λ b. b.value) keys) value.now) found.now self.old) }
+        requires room { length self.old.groups ≤ most_groups }
+        requires table { IsFoundIn self.old.olds found.now }
+        requires kept { kept_of found.now (map (λ b. b.value) keys) ≡ value_kept remembered.now }
+        ensures entered { OnOk result (self.new
+            ≡ enter_group depth site (kinds.Cell (map (λ b. b.value) keys) remembered.now.value) found.now self.old) }
         ensures fits { OnOk result (length self.new.groups ≤ most_groups) }
         ensures full { result ≡ Err ComposeStop.TooManyGroups → length self.old.groups ≡ most_groups }
     {
-        let counts = one_where(has_other_keys(found, &keys));
+        let counts = one_where(!remembered.is_kept);
         let Some(calculated) = self.calculated.checked_add(counts) else {
             return Err(ComposeStop::NoMemory); // There are fewer cells than groups.
         };
         let place = Place::without_number(depth, site);
-        match kept_cell(self.groups.table(), found, place, &keys, value) {
+        match kept_cell(self.groups.table(), found, place, remembered) {
             Some(at) => {
                 spares.keep_scope(keys);
                 self.keep_one(at)?;
             }
             None => {
                 let keys = keys.into_values(alloc)?;
-                let value = value.copy(alloc)?;
+                let value = remembered.value.copy(alloc)?;
                 self.push_new(alloc, place, GroupKind::Cell { keys, value })?;
             }
         }
@@ -515,7 +526,8 @@ fn new_group(alloc: Global, what: GroupKind) -> Result<SharedGroup, NoMemory>
 // Returns the index of the old group that was found if it is at this place in the table and has no reads.
 #[inline(always)]
 fn kept_index(table: &Table, found: &Option<OldGroup>, place: Place) -> Option<usize>
-    ensures { IfSome result (λ at. IsPlacedAt table.now.groups at place.depth place.site place.number) }
+    ensures placed { IfSome result (λ at. IsPlacedAt table.now.groups at place.depth place.site place.number) }
+    ensures index { IfSome result (λ at. option_map (λ k. k.index) found.now ≡ Some at) }
 {
     let Some(old) = found else {
         return None;
@@ -567,39 +579,24 @@ fn kept_key(table: &Table, found: &Option<OldGroup>, place: Place, value: &Value
     None
 }
 
-// Returns the index of the old cell that was found if it stays as it is: at this place, remembering `value` for the
-// values of `keys`.
+// Returns the index of the old cell that was found if it stays as it is: at this place, with its value kept.
+#[tactic(auto, using(crate::proofs::KeptCells::kept_kind))]
 #[inline(always)]
 fn kept_cell(
     table: &Table,
     found: &Option<OldGroup>,
     place: Place,
-    keys: &Env,
-    value: &Value,
+    remembered: &CellValue,
 ) -> Option<usize>
-    ensures kept { IfSome result (λ at. IsKeptAt table.now.groups at place.depth place.site place.number
-        (kinds.Cell (map (λ b. b.value) keys.now) value.now)) }
+    requires { IsFoundIn table.now.groups found.now }
+    ensures { (ks : List value_data) → kept_of found.now ks ≡ value_kept remembered.now →
+        IfSome result (λ at. IsKeptAt table.now.groups at place.depth place.site place.number
+        (kinds.Cell ks remembered.now.value)) }
 {
-    let Some(at) = kept_index(table, found, place) else {
+    if !remembered.is_kept {
         return None;
-    };
-    if is_same_cell(table.kind(at), keys, value) {
-        return Some(at);
     }
-    None
-}
-
-// Returns whether it is a cell that remembers `value` for the values of `keys`.
-fn is_same_cell(what: &GroupKind, keys: &Env, value: &Value) -> bool
-    ensures { result ≡ true → what.now ≡ kinds.Cell (map (λ b. b.value) keys.now) value.now }
-{
-    match what {
-        GroupKind::Cell {
-            keys: kept,
-            value: remembered,
-        } => keys.has_values(kept.items()) && remembered.same(value),
-        _ => false,
-    }
+    kept_index(table, found, place)
 }
 
 // Returns the number of a node and the next unused number: the number of the old group, or the next one.

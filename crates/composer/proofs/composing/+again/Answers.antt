@@ -736,12 +736,12 @@ run_remember-returns-in_err-found g t c =
           (c.in_ok-env.ensures.reads m h)) (beside_stop_here _ e refl);
     }
 
-pub run_remember-returns-in_err-value : goal.run_remember-returns-in_err-value
-run_remember-returns-in_err-value g t c =
-    let e : c.from_residual-in_err-value.result ≡ Err NoMemory = search rules in
+pub run_remember-returns-in_err-remembered : goal.run_remember-returns-in_err-remembered
+run_remember-returns-in_err-remembered g t c =
+    let e : c.from_residual-in_err-remembered.result ≡ Err NoMemory = search rules in
     record {
-      keeps = g.met.V.View.keeps_on _ _ _ c.in_ok-env.ensures.keeps c.in_err-value.ensures.keeps;
-      same = λ m h. c.in_err-value.ensures.same m (c.in_ok-env.ensures.same m h);
+      keeps = g.met.V.View.keeps_on _ _ _ c.in_ok-env.ensures.keeps c.in_err-remembered.ensures.keeps;
+      same = λ m h. c.in_err-remembered.ensures.same m (c.in_ok-env.ensures.same m h);
       same_scope = stopped _ _ _ e;
       longer = stopped _ _ _ e;
       fits = stopped _ _ _ e;
@@ -750,7 +750,7 @@ run_remember-returns-in_err-value g t c =
           let ev = ap (λ (k : List Binding). eval m (expr_view c.args.cell.value.now) k) (c.in_ok-env.ensures.value m h) in
           let p = subst (λ (r : Reading Value). Grew (g.V.View.asked c.evaluate_keys.new.view)
           (g.V.View.asked c.remember.new.view) r.reads) ev
-          (c.in_err-value.ensures.part m (c.in_ok-env.ensures.same m h)) in
+          (c.in_err-remembered.ensures.part m (c.in_ok-env.ensures.same m h)) in
           beside_after _ _ (state_of c.args.made.now.writer (g.V.View.asked c.evaluate_keys.new.view)
           c.evaluate_keys.new.reads) (same_state refl refl refl refl (c.in_ok-env.ensures.asks m h)
           (c.in_ok-env.ensures.reads m h)) (beside_stop_after _ _ _ e p.rest p.is);
@@ -760,8 +760,8 @@ pub run_remember-returns-in_err-enter_cell : goal.run_remember-returns-in_err-en
 run_remember-returns-in_err-enter_cell g t c =
     let e : c.from_residual-in_err-enter_cell.result ≡ Err c.in_err-enter_cell.field-0.0 = search rules in
     record {
-      keeps = g.met.V.View.keeps_on _ _ _ c.in_ok-env.ensures.keeps c.in_ok-value.ensures.keeps;
-      same = λ m h. c.in_ok-value.ensures.same m (c.in_ok-env.ensures.same m h);
+      keeps = g.met.V.View.keeps_on _ _ _ c.in_ok-env.ensures.keeps c.in_ok-remembered.ensures.keeps;
+      same = λ m h. c.in_ok-remembered.ensures.same m (c.in_ok-env.ensures.same m h);
       same_scope = stopped _ _ _ e;
       longer = stopped _ _ _ e;
       fits = stopped _ _ _ e;
@@ -774,10 +774,10 @@ run_remember-returns-in_err-enter_cell g t c =
           let quiet : (eval m (expr_view c.args.cell.value.now) c.in_ok-env.env).reads ≡ [] =
           ap (λ (r : Reading Value). r.reads) ev ∙ none in
           let asks : g.V.View.asked c.remember.new.view ≡ g.V.View.asked c.evaluate_keys.new.view ++ (eval m (expr_view c.args.cell.value.now) env).reads =
-          c.in_ok-value.ensures.asks m there quiet ∙ sym (append-nil (g.V.View.asked c.evaluate_keys.new.view))
+          c.in_ok-remembered.ensures.asks m there quiet ∙ sym (append-nil (g.V.View.asked c.evaluate_keys.new.view))
           ∙ ap (λ l. g.V.View.asked c.evaluate_keys.new.view ++ l) (sym none) in
           let reads : c.remember.new.reads ≡ c.evaluate_keys.new.reads ++ (eval m (expr_view c.args.cell.value.now) env).reads =
-          c.in_ok-value.ensures.reads m there quiet ∙ sym (append-nil c.evaluate_keys.new.reads)
+          c.in_ok-remembered.ensures.reads m there quiet ∙ sym (append-nil c.evaluate_keys.new.reads)
           ∙ ap (λ l. c.evaluate_keys.new.reads ++ l) (sym none) in
           beside_after _ _ (state_of c.args.made.now.writer (g.V.View.asked c.evaluate_keys.new.view)
           c.evaluate_keys.new.reads) (same_state refl refl refl refl (c.in_ok-env.ensures.asks m h)
@@ -788,17 +788,17 @@ run_remember-returns-in_err-enter_cell g t c =
 
 pub run_remember-returns : goal.run_remember-returns
 run_remember-returns g t c = record {
-  keeps = g.met.V.View.keeps_on _ _ _ c.in_ok-env.ensures.keeps (g.met.V.View.keeps_on _ _ _ c.in_ok-value.ensures.keeps c.run_bound.ensures.keeps);
-  same = λ m h. c.run_bound.ensures.same m (c.in_ok-value.ensures.same m (c.in_ok-env.ensures.same m h));
+  keeps = g.met.V.View.keeps_on _ _ _ c.in_ok-env.ensures.keeps (g.met.V.View.keeps_on _ _ _ c.in_ok-remembered.ensures.keeps c.run_bound.ensures.keeps);
+  same = λ m h. c.run_bound.ensures.same m (c.in_ok-remembered.ensures.same m (c.in_ok-env.ensures.same m h));
   same_scope = c.run_bound.ensures.same_scope;
   longer = longer_on _ _ _ _ (entered_longer _ _
-      (what.Cell (map (λ (k : Binding). k.value) c.in_ok-env.env) c.in_ok-value.value) c.in_ok-found.found
+      (what.Cell (map (λ (k : Binding). k.value) c.in_ok-env.env) c.in_ok-remembered.remembered.value) c.in_ok-found.found
       c.args.made.now.writer _ c.in_ok-enter_cell.ensures.entered) c.run_bound.ensures.longer;
   fits = c.run_bound.ensures.fits;
   counted = λ m h. counted_cell _ _ _ _ _ _ _ _ _ _ _ _ _ (c.in_ok-env.ensures.asks m h) (c.in_ok-env.ensures.reads m h)
-      (c.in_ok-value.ensures.counted m (c.in_ok-env.ensures.same m h))
+      (c.in_ok-remembered.ensures.counted m (c.in_ok-env.ensures.same m h))
       (ap (λ (q : WrittenGroups). q.reads) c.in_ok-enter_cell.ensures.entered)
-      (c.run_bound.ensures.counted m (c.in_ok-value.ensures.same m (c.in_ok-env.ensures.same m h)));
+      (c.run_bound.ensures.counted m (c.in_ok-remembered.ensures.same m (c.in_ok-env.ensures.same m h)));
   ran = λ m o h b calc.
       let env = (eval_named m (nameds_view c.args.cell.keys.now) c.args.made.now.scope).value in
       let ev = ap (λ (k : List Binding). eval m (expr_view c.args.cell.value.now) k) (c.in_ok-env.ensures.value m h) in
@@ -807,10 +807,10 @@ run_remember-returns g t c = record {
       let quiet : (eval m (expr_view c.args.cell.value.now) c.in_ok-env.env).reads ≡ [] =
       ap (λ (r : Reading Value). r.reads) ev ∙ none in
       let asks : g.V.View.asked c.remember.new.view ≡ g.V.View.asked c.evaluate_keys.new.view ++ (eval m (expr_view c.args.cell.value.now) env).reads =
-      c.in_ok-value.ensures.asks m there quiet ∙ sym (append-nil (g.V.View.asked c.evaluate_keys.new.view))
+      c.in_ok-remembered.ensures.asks m there quiet ∙ sym (append-nil (g.V.View.asked c.evaluate_keys.new.view))
       ∙ ap (λ l. g.V.View.asked c.evaluate_keys.new.view ++ l) (sym none) in
       let reads : c.remember.new.reads ≡ c.evaluate_keys.new.reads ++ (eval m (expr_view c.args.cell.value.now) env).reads =
-      c.in_ok-value.ensures.reads m there quiet ∙ sym (append-nil c.evaluate_keys.new.reads)
+      c.in_ok-remembered.ensures.reads m there quiet ∙ sym (append-nil c.evaluate_keys.new.reads)
       ∙ ap (λ l. c.evaluate_keys.new.reads ++ l) (sym none) in
       let ks = map (λ (k : Binding). k.value) env in
       let v = (eval m (expr_view c.args.cell.value.now) env).value in
@@ -821,15 +821,15 @@ run_remember-returns g t c = record {
       let k = matched {left = c.take.new.self} x c.new.result c.new.ensures b c.in_ok-found.ensures.found
       c.in_ok-found.ensures.left in
       let old = matching_sibling x (occurrence x o.seen) o.old in
-      let value : c.in_ok-value.value ≡ v = c.in_ok-value.ensures.value m v there
+      let value : c.in_ok-remembered.remembered.value ≡ v = c.in_ok-remembered.ensures.value m v there
       (λ u e. kept_is_calculated o.last.calculation c.args.level.now.depth c.args.cell.site ks c.in_ok-found.found old u
       k.like k.there.cells (ap (λ (l : List Binding). kept_of c.in_ok-found.found (map (λ b. b.value) l))
       (sym (c.in_ok-env.ensures.value m h)) ∙ e) ∙ sym (calc.0 m c.args.made.now.scope).0)
       (ap (λ (r : Reading Value). r.value) ev) in
-      let made : what.Cell keys c.in_ok-value.value ≡ flat_kind w =
-      ap (λ (l : List Value). what.Cell l c.in_ok-value.value) keys_are
+      let made : what.Cell keys c.in_ok-remembered.remembered.value ≡ flat_kind w =
+      ap (λ (l : List Value). what.Cell l c.in_ok-remembered.remembered.value) keys_are
       ∙ ap (λ (y : Value). what.Cell ks y) value in
-      let state = matched_state c.args.level.now.depth c.args.cell.site w (what.Cell keys c.in_ok-value.value) End
+      let state = matched_state c.args.level.now.depth c.args.cell.site w (what.Cell keys c.in_ok-remembered.remembered.value) End
       c.in_ok-found.found old c.args.made.now.writer c.enter_cell.new.self (g.V.View.asked c.remember.new.view)
       c.remember.new.reads refl k.like made c.in_ok-enter_cell.ensures.entered in
       let now = x ∷ o.seen in
@@ -839,7 +839,7 @@ run_remember-returns g t c = record {
       (state_of c.enter_cell.new.self (g.V.View.asked c.remember.new.view) c.remember.new.reads)
       (state_of c.run_bound.new.made.writer (g.V.View.asked c.run_bound.new.view) c.run_bound.new.made.reads)
       c.run_bound.new.made.pending c.run_bound.result in
-      let inner = subst P value (c.run_bound.ensures.ran m (at_now o now) (c.in_ok-value.ensures.same m there)
+      let inner = subst P value (c.run_bound.ensures.ran m (at_now o now) (c.in_ok-remembered.ensures.same m there)
       (beside_now now b k.fits) calc.1) in
       beside_after _ _ (state_of c.args.made.now.writer (g.V.View.asked c.evaluate_keys.new.view)
       c.evaluate_keys.new.reads) (same_state refl refl refl refl (c.in_ok-env.ensures.asks m h)
