@@ -13,7 +13,7 @@ use Rattle.slot_table.specs.TableGroups.{group_at}
 use Rattle.slot_table.specs.ReaderStates.{after_deep}
 use Rattle.slot_table.specs.InnerCounts.{leading_deep}
 use Rattle.composer.specs.ComposerState.{ComposerState, skipped_inside, skipped_groups}
-use Rattle.composer.specs.BesideContracts.{LastComposition, IsOldPart}
+use Rattle.composer.specs.BesideContracts.{LastComposition}
 use Rattle.composer.specs.OldGroups.{Begins, Ends}
 use Rattle.composer.specs.QuietRuns.{has_owed, group_run, with_run, IsLevelEnd, Layers, NoLayer, Layer, AreLayers, AreOldParts, skipped_layers, QuietWalk}
 use Rattle.composer.specs.Recomposes.{is_call_kept}

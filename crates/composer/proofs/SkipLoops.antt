@@ -3,7 +3,6 @@ use Rattle.std.proofs.Common.{ℕ, suc, ◌+◌, ◌++◌, append-nil, List, [],
 use Rattle.std.proofs.lemmas.List.{drop_all}
 use Rattle.slot_table.specs.TableGroups.{group_at}
 use Rattle.slot_table.specs.ReaderStates.{after_deep}
-use Rattle.slot_table.specs.InnerCounts.{leading_deep}
 use Rattle.rt_values.specs.Maps.{Map}
 use Rattle.rt_groups.specs.declared.groups.GroupKind.{GroupKind as ListedKind}
 use Rattle.rt_groups.specs.GroupForest.{GroupForest, End, Read, Group, GroupKind, Call, Node, Key, Cell}
@@ -23,7 +22,7 @@ use Rattle.composer.specs.QuietRuns.{group_run, with_run, has_owed, IsQuietGroup
 use Rattle.composer.proofs.Reaching.{reached_full, reached_stop}
 use Rattle.composer.specs.OldGroups.{Begins, Ends, SameGroup}
 use Rattle.composer.proofs.Layers.{FirstLayer, layer_at, one_layer}
-use Rattle.composer.proofs.OldMatches.{first_same, next_of, later_groups}
+use Rattle.composer.proofs.OldMatches.{first_same, next_of}
 use Rattle.composer.proofs.OldWalks.{ends_at, past_end, past_inside, past_preorder}
 use Rattle.composer.proofs.QuietRuns.{none_of_both, quiet_inside, quiet_kept, run_is}
 use Rattle.composer.proofs.OldParts.{part_inside, part_rest}

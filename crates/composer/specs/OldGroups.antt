@@ -1,7 +1,7 @@
 -- Internal: how old groups in preorder represent a forest of the last frame.
-use Rattle.std.specs.Prelude.{ℕ, ◌+◌, ◌<◌, ◌≡◌, List, [], ◌∷◌, ◌++◌, drop, Option, Some, None, slice_get}
+use Rattle.std.specs.Prelude.{ℕ, ◌+◌, ◌<◌, ◌≡◌, List, [], ◌∷◌, ◌++◌, Option, Some, None, slice_get}
 use Rattle.rt_groups.specs.declared.groups.Group.{Group as TableGroup}
-use Rattle.rt_groups.specs.GroupForest.{GroupForest, End, Read, Group}
+use Rattle.rt_groups.specs.GroupForest.{GroupForest}
 use Rattle.rt_groups.specs.Paths.{GroupKey, occurrence, Found, matching_sibling}
 use Rattle.rt_groups.specs.PreorderGroups.{flat_kind, flat_reads, preorder}
 use Rattle.composer.specs.declared.pending.Pending.{Pending}

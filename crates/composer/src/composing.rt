@@ -704,7 +704,7 @@ fn compose_draft<'a, V: View, L: Ledger>(
     alloc: Global,
     program: &'a Checked,
     last: &'a LastGroups<'a>,
-    next: u64,
+    held: &Held,
     view: &mut V,
     steps: &mut Steps<L>,
 ) -> Result<Draft, ComposeStop>
@@ -712,19 +712,21 @@ fn compose_draft<'a, V: View, L: Ledger>(
     ensures same { (m : Map) → V.shows view.old m → V.shows view.new m }
     ensures olds { IfOk result (λ d. d.olds ≡ last.now.groups) }
     ensures frame { (k : LastFrame) (m : Map) → V.shows view.old m → last.now.groups ≡ preorder 0 k.trail →
-        next ≡ k.next → IsOwing (functions_of program.now) (root_of program.now) k.seen k.trail m last.now.owed →
+        held.now.next ≡ k.next →
+        IsOwing (functions_of program.now) (root_of program.now) k.seen k.trail m last.now.owed →
         ComposesFrame (functions_of program.now) (root_of program.now) last.now.owed k m (V.asked view.old)
         (V.asked view.new) result }
 {
-    let writer = Writer::new(alloc, last.table(), next);
+    let writer = Writer::new(alloc, last.table(), held.next());
     let mut made = Progress {
         scope: Env::new(alloc),
         pending: Pending::none(last.table()),
         reads: Deps::new(alloc),
         writer,
-        spares: Spares::new(alloc),
+        spares: Spares::new(alloc, held.take_replaced(alloc)),
     };
     write_frame(alloc, program, last, &mut made, view, steps)?;
+    held.keep_replaced(made.spares.into_replaced());
     Ok(made.writer.into_draft(alloc)?)
 }
 
@@ -752,5 +754,5 @@ pub fn compose<V: View, L: Ledger>(
         (V.asked view.new) result }
 {
     let last = LastGroups::new(alloc, held, owed)?;
-    compose_draft(alloc, program, &last, held.next(), view, steps)
+    compose_draft(alloc, program, &last, held, view, steps)
 }

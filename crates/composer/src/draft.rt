@@ -9,8 +9,9 @@ use crate::owed::Owed;
 use recompose_scopes::{OwedCalls, RecomposeScopes};
 use rt_groups::Report;
 use rt_values::NoMemory;
-use slot_table::{ChangeList, Preview, Table};
+use slot_table::{ChangeList, Preview, ReplacedGroups, Table};
 use std::alloc::Global;
+use std::cell::Cell;
 use std::marker::Model;
 
 /// What a composition keeps between frames: the groups of the last good frame with the scopes of their calls, and the
@@ -20,6 +21,8 @@ pub struct Held {
     table: Table,
     scopes: RecomposeScopes,
     next: u64,
+    // Nodes that earlier frames replaced, whose memory new nodes take.
+    replaced: Cell<ReplacedGroups>,
 }
 
 impl Model for Held {
@@ -43,7 +46,18 @@ impl Held {
             table: Table::new(alloc),
             scopes: RecomposeScopes::new(alloc),
             next: 1,
+            replaced: Cell::new(ReplacedGroups::none(alloc)),
         }
+    }
+
+    // Returns the nodes that earlier frames replaced, and keeps none of them.
+    pub(crate) fn take_replaced(&self, alloc: Global) -> ReplacedGroups {
+        self.replaced.replace(ReplacedGroups::none(alloc))
+    }
+
+    // Keeps nodes that earlier frames replaced, for the next frame.
+    pub(crate) fn keep_replaced(&self, replaced: ReplacedGroups) {
+        self.replaced.set(replaced);
     }
 
     /// Returns the groups of the last good frame.
@@ -92,7 +106,7 @@ impl Held {
             next,
             report: _,
         } = draft;
-        self.table.apply(changes);
+        self.table.apply(changes, self.replaced.get_mut());
         match scopes {
             Some(scopes) => self.scopes = scopes,
             None => {}

@@ -4,6 +4,7 @@ ghost use Rattle.std.specs.Prelude.{◌≡◌, [], IfOk};
 use lang_meaning::Env;
 use rt_groups::{Attributes, Deps, Values};
 use rt_values::NoMemory;
+use slot_table::ReplacedGroups;
 use std::alloc::Global;
 
 /// Lists that are not in use, whose memory the next list of the same kind takes: the variables of a call or the keys
@@ -14,17 +15,25 @@ pub struct Spares {
     reads: Vec<Deps>,
     values: Vec<Values>,
     attributes: Vec<Attributes>,
+    // Nodes that earlier frames replaced: one is dropped before a new list of attributes is made.
+    replaced: ReplacedGroups,
 }
 
 impl Spares {
-    /// Returns no lists.
-    pub(crate) fn new(alloc: Global) -> Self {
+    /// Returns no lists. New lists of attributes take the memory of the nodes in `replaced`.
+    pub(crate) fn new(alloc: Global, replaced: ReplacedGroups) -> Self {
         Spares {
             scopes: Vec::new(alloc),
             reads: Vec::new(alloc),
             values: Vec::new(alloc),
             attributes: Vec::new(alloc),
+            replaced,
         }
+    }
+
+    /// Returns the replaced nodes that are left. Drops the lists.
+    pub(crate) fn into_replaced(self) -> ReplacedGroups {
+        self.replaced
     }
 
     /// Returns a scope without variables.
@@ -101,7 +110,10 @@ impl Spares {
                 attributes.clear();
                 Ok(attributes)
             }
-            None => Attributes::with_room(alloc, count),
+            None => {
+                self.replaced.drop_one();
+                Attributes::with_room(alloc, count)
+            }
         }
     }
 

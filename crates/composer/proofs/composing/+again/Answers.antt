@@ -32,7 +32,7 @@ use Rattle.composer.specs.ComposerState.{ComposerState, skipped_groups}
 use Rattle.composer.specs.QuietRuns.{group_run}
 use Rattle.composer.specs.BesideContracts.{IsOldPart}
 use Rattle.composer.specs.WrittenGroups.{WrittenGroups, state_of, kept_of, group_kind, arguments_of, first_reads}
-use Rattle.composer.specs.Recomposes.{ComposesBeside, is_call_kept}
+use Rattle.composer.specs.Recomposes.{ComposesBeside}
 use Rattle.composer.proofs.BesideCases.{node_beside, call_beside, key_beside, choice_beside, loop_beside, binding_beside, remember_beside, node_calculates, key_calculates, then_calculates, else_calculates, loop_calculates, binding_calculates, cell_calculates, remember_calculates}
 use Rattle.composer.proofs.Machine.{same_state}
 use Rattle.composer.proofs.Reaching.{reached_stop, reached_full, reached_at}

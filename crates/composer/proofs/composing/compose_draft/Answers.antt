@@ -16,8 +16,8 @@ pub returns-clause-frame : goal.returns-clause-frame
 returns-clause-frame g c k m h table next owing =
     let fs = functions_of c.args.program.now in
     let root = root_of c.args.program.now in
-    let first = c.new-writer.ensures ∙ ap (λ gs. written_at gs c.args.next) (c.table.ensures ∙ table)
-    ∙ ap (written_at (preorder 0 k.trail)) next in
+    let first = c.new-writer.ensures ∙ ap (λ gs. written_at gs c.next.result) (c.table.ensures ∙ table)
+    ∙ ap (written_at (preorder 0 k.trail)) (c.next.ensures ∙ next) in
     frame_made fs root c.args.last.now.owed k m (g.V.View.asked c.args.view.now) (g.V.View.asked c.write_frame.new.view)
     c.write_frame.new.made.writer c.new-writer.result first
     (c.in_ok-write_frame.ensures.ran m h k.seen k.trail [] table owing)
@@ -27,8 +27,8 @@ pub returns-in_err-write_frame-clause-frame : goal.returns-in_err-write_frame-cl
 returns-in_err-write_frame-clause-frame g c k m h table next owing =
     let fs = functions_of c.args.program.now in
     let root = root_of c.args.program.now in
-    let first = c.new-writer.ensures ∙ ap (λ gs. written_at gs c.args.next) (c.table.ensures ∙ table)
-    ∙ ap (written_at (preorder 0 k.trail)) next in
+    let first = c.new-writer.ensures ∙ ap (λ gs. written_at gs c.next.result) (c.table.ensures ∙ table)
+    ∙ ap (written_at (preorder 0 k.trail)) (c.next.ensures ∙ next) in
     let e : c.from_residual.result ≡ Err c.in_err-write_frame.field-0.0 = search rules in
     frame_stopped fs root c.args.last.now.owed k m (g.V.View.asked c.args.view.now) (g.V.View.asked c.write_frame.new.view)
     c.write_frame.new.made.writer c.new-writer.result c.in_err-write_frame.field-0.0 _ first
@@ -38,8 +38,8 @@ pub returns-in_err-into_draft-clause-frame : goal.returns-in_err-into_draft-clau
 returns-in_err-into_draft-clause-frame g c k m h table next owing =
     let fs = functions_of c.args.program.now in
     let root = root_of c.args.program.now in
-    let first = c.new-writer.ensures ∙ ap (λ gs. written_at gs c.args.next) (c.table.ensures ∙ table)
-    ∙ ap (written_at (preorder 0 k.trail)) next in
+    let first = c.new-writer.ensures ∙ ap (λ gs. written_at gs c.next.result) (c.table.ensures ∙ table)
+    ∙ ap (written_at (preorder 0 k.trail)) (c.next.ensures ∙ next) in
     let e : c.from_residual-in_err-into_draft.result ≡ Err NoMemory = search rules in
     frame_lost fs root c.args.last.now.owed k m (g.V.View.asked c.args.view.now) (g.V.View.asked c.write_frame.new.view)
     c.write_frame.new.made.writer c.new-writer.result _ first

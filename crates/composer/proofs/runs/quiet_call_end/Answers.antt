@@ -1,6 +1,4 @@
-use Rattle.std.proofs.Common.{rules, ◌≡◌, ◌≤◌, ◌<◌, ◌∙◌, ap, sym, length, arith}
-use Rattle.slot_table.specs.TableGroups.{group_at}
-use Rattle.composer.specs.OldSiblings.{KeyInfo, old_group}
+use Rattle.std.proofs.Common.{rules, ◌≡◌, ◌≤◌, ◌<◌, length, arith}
 use Rattle.composer.proofs.SkipLoops.{index_grows}
 use Rattle.composer.proofs.runs.quiet_call_end.Goals as goal
 
