@@ -68,6 +68,23 @@ fn same_attributes(attributes: &[Attribute], others: &[Attribute]) -> bool
     rest.is_empty()
 }
 
+// Returns whether both lists have equal values. Nodes that change mostly do so in a value, so this test comes before
+// that of the names. Its answer decides about time alone.
+#[inline(always)]
+fn may_be_same(attributes: &[Attribute], others: &[Attribute]) -> bool {
+    let mut rest = others;
+    for attribute in attributes {
+        let Some((other, more)) = rest.split_first() else {
+            return false;
+        };
+        if !attribute.value.same(&other.value) {
+            return false;
+        }
+        rest = more;
+    }
+    true
+}
+
 /// Returns whether it is a node with this kind and equal attributes.
 #[inline(always)]
 pub fn is_same_node(what: &GroupKind, kind: &Word, attributes: &[Attribute]) -> bool
@@ -78,10 +95,11 @@ pub fn is_same_node(what: &GroupKind, kind: &Word, attributes: &[Attribute]) -> 
             kind: word,
             attributes: others,
         } => {
-            if !word.is(kind.bytes()) {
+            let olds = others.items();
+            if !may_be_same(olds, attributes) || !word.is(kind.bytes()) {
                 return false;
             }
-            same_attributes(others.items(), attributes)
+            same_attributes(olds, attributes)
         }
         _ => false,
     }

@@ -53,7 +53,7 @@ impl Spares {
     /// Keeps the memory of `scope` for later, or drops it if there is no memory for one more list.
     #[inline(always)]
     pub(crate) fn keep_scope(&mut self, scope: Env) {
-        let _ = self.scopes.push(scope);
+        keep(&mut self.scopes, scope);
     }
 
     /// Returns no reads.
@@ -73,7 +73,7 @@ impl Spares {
     /// Keeps the memory of `reads` for later, or drops it if there is no memory for one more list.
     #[inline(always)]
     pub(crate) fn keep_reads(&mut self, reads: Deps) {
-        let _ = self.reads.push(reads);
+        keep(&mut self.reads, reads);
     }
 
     /// Returns the empty list of values. A new one has capacity for `count` values.
@@ -93,7 +93,7 @@ impl Spares {
     /// Keeps the memory of `values` for later, or drops it if there is no memory for one more list.
     #[inline(always)]
     pub(crate) fn keep_values(&mut self, values: Values) {
-        let _ = self.values.push(values);
+        keep(&mut self.values, values);
     }
 
     /// Returns the empty list of attributes. A new one has capacity for `count` attributes.
@@ -120,6 +120,19 @@ impl Spares {
     /// Keeps the memory of `attributes` for later, or drops it if there is no memory for one more list.
     #[inline(always)]
     pub(crate) fn keep_attributes(&mut self, attributes: Attributes) {
-        let _ = self.attributes.push(attributes);
+        keep(&mut self.attributes, attributes);
+    }
+}
+
+// Appends a list, or drops it if there is no memory for one more. Mostly there is spare capacity, which takes no call.
+#[inline(always)]
+fn keep<T>(lists: &mut Vec<T>, list: T)
+where
+    T: Drop,
+{
+    if lists.len() < lists.capacity() {
+        lists.push_reserved(list);
+    } else {
+        let _ = lists.push(list);
     }
 }

@@ -9,5 +9,5 @@ pub returns-else-not-is : goal.returns-else-not-is
 returns-else-not-is c e =
     equal_nodes c.args.what.now c.args.kind.now c.in-Node.word c.args.attributes.now c.in-Node.others c.in-Node.is
     (ap (λ (k : List ℕ). bytes_eq c.in-Node.word k) (sym c.bytes.ensures) ∙ sym c.is.ensures ∙ c.if-not-is.false)
-    (ap (λ (l : List Attribute). same_attributes l c.args.attributes.now) (sym c.items.ensures)
+    (ap (λ (l : List Attribute). same_attributes l c.args.attributes.now) (sym c.items-olds.ensures)
     ∙ sym c.same_attributes.ensures ∙ e)
