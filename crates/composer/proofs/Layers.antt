@@ -174,7 +174,7 @@ layer_at owed groups d i ls a inside deep =
     subst (λ xs. FirstLayer owed d xs ls) (sym first)
     (first_layer owed d (group_at groups i) (drop (suc i) groups) ls (subst (λ xs. AreLayers d ls xs) first a) deep)
 
--- No layer at all.
+-- The groups of one forest are one layer.
 pub one_layer : (d : ℕ) (t : GroupForest) (gs : List TableGroup) → Begins d gs t → AreLayers d (Layer d t NoLayer) gs
 one_layer d t gs b = (omega arith, b, b.ends)
 
@@ -205,14 +205,14 @@ walk_over owed groups d i j k ls q low within most deep after high quiet =
           (part_rest f.site f.number f.what f.inside f.rest x.0, x.1);
       kept = λ l m p fs s.
           let x = f.parts l m (q.parts l m p) in
-          let s1 = with_run (group_run groups i j) s in
+          let kept = with_run (group_run groups i j) s in
           ap (λ xs. skipped_layers m owed fs left (with_run xs s)) (runs_joined groups i j k low high)
           ∙ ap (λ y. skipped_layers m owed fs left y) (sym (run_both (group_run groups i j) (group_run groups j k) s))
-          ∙ ap (λ xs. skipped_layers m owed fs left (with_run xs s1)) run
+          ∙ ap (λ xs. skipped_layers m owed fs left (with_run xs kept)) run
           ∙ ap (λ y. skipped_layers m owed fs left y)
-          (sym (quiet_inside m owed f.what f.at f.site f.number f.inside fs s1 x.0.numbered.0 none.0
+          (sym (quiet_inside m owed f.what f.at f.site f.number f.inside fs kept x.0.numbered.0 none.0
           (quiet_kept m owed f.inside (f.at + 1) x.0.numbered.1 none.1)))
-          ∙ f.same m fs s1
+          ∙ f.same m fs kept
           ∙ q.kept l m p fs s;
     }
 
@@ -267,15 +267,15 @@ walk_into owed groups d i j ls q low within deep plain =
       );
       kept = λ l m p fs s.
           let x = f.parts l m (q.parts l m p) in
-          let s1 = with_run (group_run groups i j) s in
+          let kept = with_run (group_run groups i j) s in
           let outer : Layers = Layer f.at f.rest f.outer in
           ap (λ xs. skipped_layers m owed fs left (with_run xs s)) (runs_joined groups i j (j + 1) low high)
           ∙ ap (λ y. skipped_layers m owed fs left y)
           (sym (run_both (group_run groups i j) (group_run groups j (j + 1)) s))
-          ∙ ap (λ xs. skipped_layers m owed fs left (with_run xs s1)) run
+          ∙ ap (λ xs. skipped_layers m owed fs left (with_run xs kept)) run
           ∙ ap (λ y. skipped_layers m owed fs outer y)
-          (opened_kept m owed fs f.at f.site f.number f.what f.inside s1 no_call x.0.numbered.0)
-          ∙ f.same m fs s1
+          (opened_kept m owed fs f.at f.site f.number f.what f.inside kept no_call x.0.numbered.0)
+          ∙ f.same m fs kept
           ∙ q.kept l m p fs s;
     }
 

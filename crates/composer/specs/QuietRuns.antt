@@ -67,8 +67,8 @@ pub record QuietWalk (owed : List ℕ) (depth : ℕ) (groups : List TableGroup) 
       (s : ComposerState) → skipped_layers m owed functions rest (with_run (group_run groups i j) s)
       ≡ skipped_layers m owed functions layers s
 
--- The group at index i is at this depth and site and has no number, index j is after the groups inside it, and no call is owed
--- from it up to there.
+-- The group at index i is at this depth and site and has no number, index j is after the groups inside it, and no call
+-- is owed from it up to there.
 pub record IsQuietGroup (last : LastFrameGroups) (depth site i j : ℕ) : Type 0 where
   pub order : i ≤ j
   pub inside : j ≤ length last.groups
