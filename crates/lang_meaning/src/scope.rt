@@ -74,9 +74,10 @@ impl Env {
         ensures value { IfOk result (λ v. v ≡ lookup self.now name.now) }
         ensures free { is_flat (lookup self.now name.now) ≡ true → OnErr result ⊥ }
     {
+        let letters = name.bytes();
         let mut rest = self.bindings.as_slice();
         while let Some((binding, before)) = rest.split_last() {
-            if binding.name.is(name.bytes()) {
+            if binding.name.is(letters) {
                 return Ok(binding.value.copy(alloc)?);
             }
             rest = before;

@@ -77,6 +77,18 @@ impl Value {
         ensures same { IfOk result (λ v. v ≡ self.now) }
         ensures flat { is_flat self.now ≡ true → OnErr result ⊥ }
     {
+        if let Value::Int(number) = self {
+            return Ok(Value::Int(*number));
+        }
+        self.copy_any()
+    }
+
+    // Returns a copy of any value. `copy` calls it for all values but numbers, which are most frequent.
+    #[inline(never)]
+    fn copy_any(&self) -> Result<Value, NoMemory>
+        ensures same { IfOk result (λ v. v ≡ self.now) }
+        ensures flat { is_flat self.now ≡ true → OnErr result ⊥ }
+    {
         match self {
             Value::Int(number) => Ok(Value::Int(*number)),
             Value::Bool(truth) => Ok(Value::Bool(*truth)),
@@ -88,6 +100,18 @@ impl Value {
     /// Returns whether both values are equal, as `structuralEqualityPolicy` tests it. Values of two types differ.
     #[inline(always)]
     pub fn same(&self, other: &Value) -> bool
+        ensures value { result ≡ same_value self.now other.now }
+        ensures equal { (result ≡ true) ↔ (self.now ≡ other.now) }
+    {
+        if let (Value::Int(a), Value::Int(b)) = (self, other) {
+            return *a == *b;
+        }
+        self.same_any(other)
+    }
+
+    // Returns whether any two values are equal. `same` calls it unless both are numbers, which is most frequent.
+    #[inline(never)]
+    fn same_any(&self, other: &Value) -> bool
         ensures value { result ≡ same_value self.now other.now }
         ensures equal { (result ≡ true) ↔ (self.now ≡ other.now) }
     {

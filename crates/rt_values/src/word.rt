@@ -101,7 +101,7 @@ fn same_bytes(a: &[u8], b: &[u8]) -> bool
         return false;
     }
     if a.len() > 4 {
-        return a == b;
+        return same_slices(a, b);
     }
     let mut place = 0;
     while place < a.len() {
@@ -111,4 +111,12 @@ fn same_bytes(a: &[u8], b: &[u8]) -> bool
         place += 1;
     }
     true
+}
+
+// Returns whether both lists have the same bytes. It is not inlined, so that short words need no memory for the slices.
+#[inline(never)]
+fn same_slices(a: &[u8], b: &[u8]) -> bool
+    ensures { result ≡ bytes_eq a.now b.now }
+{
+    a == b
 }
