@@ -717,13 +717,14 @@ fn compose_draft<'a, V: View, L: Ledger>(
         ComposesFrame (functions_of program.now) (root_of program.now) last.now.owed k m (V.asked view.old)
         (V.asked view.new) result }
 {
-    let writer = Writer::new(alloc, last.table(), held.next());
+    let mut spares = Spares::new(alloc, held.take_replaced(alloc));
+    let writer = Writer::new(alloc, last.table(), held.next(), &mut spares);
     let mut made = Progress {
         scope: Env::new(alloc),
         pending: Pending::none(last.table()),
         reads: Deps::new(alloc),
         writer,
-        spares: Spares::new(alloc, held.take_replaced(alloc)),
+        spares,
     };
     write_frame(alloc, program, last, &mut made, view, steps)?;
     held.keep_replaced(made.spares.into_replaced());

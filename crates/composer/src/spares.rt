@@ -1,10 +1,11 @@
 // Lists whose memory composing uses again.
 ghost use Rattle.std.specs.Prelude.{◌≡◌, [], IfOk};
+ghost use Rattle.rt_groups.specs.declared.groups.GroupKind.TheVariants as kinds;
 
 use lang_meaning::Env;
 use rt_groups::{Attributes, Deps, Values};
-use rt_values::NoMemory;
-use slot_table::ReplacedGroups;
+use rt_values::{NoMemory, Word};
+use slot_table::{ChangeListWriter, ReplacedGroups, SharedGroup, Table};
 use std::alloc::Global;
 
 /// Lists that are not in use, whose memory the next list of the same kind takes: the variables of a call or the keys
@@ -15,12 +16,12 @@ pub struct Spares {
     reads: Vec<Deps>,
     values: Vec<Values>,
     attributes: Vec<Attributes>,
-    // Nodes that earlier frames replaced: one is dropped before a new list of attributes is made.
+    // What earlier frames replaced: its memory serves new nodes, and the writer of the frame.
     replaced: ReplacedGroups,
 }
 
 impl Spares {
-    /// Returns no lists. New lists of attributes take the memory of the nodes in `replaced`.
+    /// Returns no lists. New nodes and the writer of the frame take memory of `replaced`.
     pub(crate) fn new(alloc: Global, replaced: ReplacedGroups) -> Self {
         Spares {
             scopes: Vec::new(alloc),
@@ -31,7 +32,7 @@ impl Spares {
         }
     }
 
-    /// Returns the replaced nodes that are left. Drops the lists.
+    /// Returns what is left of the memory of earlier frames. Drops the lists.
     pub(crate) fn into_replaced(self) -> ReplacedGroups {
         self.replaced
     }
@@ -110,11 +111,33 @@ impl Spares {
                 attributes.clear();
                 Ok(attributes)
             }
-            None => {
-                self.replaced.drop_one();
-                Attributes::with_room(alloc, count)
-            }
+            None => self.replaced.take_attributes(alloc, count),
         }
+    }
+
+    /// Returns a writer without groups, which changes `table`.
+    pub(crate) fn change_list_writer<'t>(
+        &mut self,
+        alloc: Global,
+        table: &'t Table,
+    ) -> ChangeListWriter<'t>
+        ensures { result ≡ record { olds = table.now.groups; news = [] } }
+    {
+        ChangeListWriter::with_memory_of(alloc, table, &mut self.replaced)
+    }
+
+    /// Returns a node without reads, which has no place yet.
+    #[inline(always)]
+    pub(crate) fn new_node(
+        &mut self,
+        alloc: Global,
+        kind: Word,
+        attributes: Attributes,
+    ) -> Result<SharedGroup, NoMemory>
+        ensures kind { IfOk result (λ g. g.what ≡ kinds.Node kind attributes) }
+        ensures reads { IfOk result (λ g. g.reads ≡ []) }
+    {
+        SharedGroup::new_node(alloc, kind, attributes, &mut self.replaced)
     }
 
     /// Keeps the memory of `attributes` for later, or drops it if there is no memory for one more list.

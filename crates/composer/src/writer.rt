@@ -143,8 +143,9 @@ impl<'t> Model for Writer<'t> {
 }
 
 impl<'t> Writer<'t> {
-    /// Returns a writer without groups, which changes `table`. `next` is the number of the next new node.
-    pub fn new(alloc: Global, table: &'t Table, next: u64) -> Self
+    /// Returns a writer without groups, which changes `table`. `next` is the number of the next new node. The lists of
+    /// the groups take memory of `spares`.
+    pub fn new(alloc: Global, table: &'t Table, next: u64, spares: &mut Spares) -> Self
         ensures { result ≡ record {
           olds = table.now.groups;
           groups = [];
@@ -155,7 +156,7 @@ impl<'t> Writer<'t> {
         } }
     {
         Writer {
-            groups: ChangeListWriter::new(alloc, table),
+            groups: spares.change_list_writer(alloc, table),
             next,
             ran: 0,
             calculated: 0,
@@ -268,9 +269,8 @@ impl<'t> Writer<'t> {
                         self.keep_one(at)?;
                     }
                     None => {
-                        let kind = kind.copy()?;
-                        let node = GroupKind::Node { kind, attributes };
-                        self.push_new(alloc, place, node)?;
+                        let node = spares.new_node(alloc, kind.copy()?, attributes)?;
+                        self.push(node.placed(depth, site, number))?;
                     }
                 }
                 self.next = next;

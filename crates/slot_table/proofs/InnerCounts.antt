@@ -181,3 +181,9 @@ counts_set (x ∷ gs) zero g h same = ap (λ k. length (leading_deep (k + 1) gs)
 counts_set (x ∷ gs) (suc i) g h same =
     ap (λ n. n ∷ inner_counts (set gs i g)) (leading_set (x.depth + 1) gs i g h same)
     ∙ ap (λ l. length (leading_deep (x.depth + 1) gs) ∷ l) (counts_set gs i g h same)
+
+-- The counts of the later groups.
+pub drop_counts : (n : ℕ) (gs : List Group) → drop n (inner_counts gs) ≡ inner_counts (drop n gs)
+drop_counts zero gs = refl
+drop_counts (suc n) [] = refl
+drop_counts (suc n) (g ∷ gs) = drop_counts n gs

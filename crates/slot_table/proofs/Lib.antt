@@ -10,3 +10,5 @@ mod KeptReads
 mod ReadsLeft
 mod ShrunkItems
 mod ShrunkParts
+mod ExchangedBlocks
+mod LevelBlocks

@@ -14,7 +14,7 @@ use Rattle.slot_table.proofs.InnerCounts.{length_counts}
 use Rattle.slot_table.proofs.JoinedGroups.{same_parts, heads_long}
 
 -- Lists of the same length have first items of the same number.
-same_take : {X Y : Type 0} (n : ℕ) (xs : List X) (ys : List Y) → length xs ≡ length ys
+pub same_take : {X Y : Type 0} (n : ℕ) (xs : List X) (ys : List Y) → length xs ≡ length ys
     → length (take n xs) ≡ length (take n ys)
 same_take zero xs ys e = refl
 same_take (suc n) [] [] e = refl
@@ -23,7 +23,7 @@ same_take (suc n) (x ∷ xs) [] e = absurd (omega (arith, e))
 same_take (suc n) (x ∷ xs) (y ∷ ys) e = ap suc (same_take n xs ys (omega (arith, e)))
 
 -- Lists of the same length have later items of the same number.
-same_drop : {X Y : Type 0} (n : ℕ) (xs : List X) (ys : List Y) → length xs ≡ length ys
+pub same_drop : {X Y : Type 0} (n : ℕ) (xs : List X) (ys : List Y) → length xs ≡ length ys
     → length (drop n xs) ≡ length (drop n ys)
 same_drop n xs ys e = let one = length-drop n xs in let two = length-drop n ys in omega (arith, one, two, e)
 
@@ -42,7 +42,7 @@ same_patched xs fx ys fy (r ∷ rs) e f =
     omega (arith, later, first, run, one, two, three, four)
 
 -- Runs are inside each list of the same length.
-same_inside : {X Y : Type 0} (xs : List X) (ys : List Y) (rs : List KeptRun) → length xs ≡ length ys
+pub same_inside : {X Y : Type 0} (xs : List X) (ys : List Y) (rs : List KeptRun) → length xs ≡ length ys
     → AreInside xs rs → AreInside ys rs
 same_inside xs ys [] e inside = tt
 same_inside xs ys (r ∷ rs) e inside =
@@ -76,7 +76,7 @@ slots_shrunk hs fh ss fs gs fresh rs len parts news shrunk = same_shrunk hs fh s
     (heads_shrunk hs fh ss fs gs fresh rs len parts news shrunk)
 
 -- The groups of two lists of heads and two lists of slots, each after the other.
-joined_append : (hs hs' : List GroupHead) (ss ss' : List GroupSlots) → length hs ≡ length ss
+pub joined_append : (hs hs' : List GroupHead) (ss ss' : List GroupSlots) → length hs ≡ length ss
     → joined_groups (hs ++ hs') (ss ++ ss') ≡ joined_groups hs ss ++ joined_groups hs' ss'
 joined_append [] hs' [] ss' e = refl
 joined_append [] hs' (s ∷ ss) ss' e = absurd (omega (arith, e))
@@ -85,7 +85,7 @@ joined_append (h ∷ hs) hs' (s ∷ ss) ss' e = ap (λ l. flat_group h.depth h.s
     (joined_append hs hs' ss ss' (omega (arith, e)))
 
 -- The first groups are those of the first heads and slots.
-joined_take : (n : ℕ) (hs : List GroupHead) (ss : List GroupSlots)
+pub joined_take : (n : ℕ) (hs : List GroupHead) (ss : List GroupSlots)
     → joined_groups (take n hs) (take n ss) ≡ take n (joined_groups hs ss)
 joined_take zero hs ss = refl
 joined_take (suc n) [] ss = refl
@@ -99,7 +99,7 @@ joined_none [] = refl
 joined_none (h ∷ hs) = refl
 
 -- The later groups are those of the later heads and slots.
-joined_drop : (n : ℕ) (hs : List GroupHead) (ss : List GroupSlots)
+pub joined_drop : (n : ℕ) (hs : List GroupHead) (ss : List GroupSlots)
     → joined_groups (drop n hs) (drop n ss) ≡ drop n (joined_groups hs ss)
 joined_drop zero hs ss = refl
 joined_drop (suc n) [] ss = refl
@@ -134,13 +134,13 @@ joined_patched hs fh ss fs (r ∷ rs) e f =
     )
 
 -- A function of each of the first items.
-map_take : {X Y : Type 0} (f : X → Y) (n : ℕ) (xs : List X) → map f (take n xs) ≡ take n (map f xs)
+pub map_take : {X Y : Type 0} (f : X → Y) (n : ℕ) (xs : List X) → map f (take n xs) ≡ take n (map f xs)
 map_take f zero xs = refl
 map_take f (suc n) [] = refl
 map_take f (suc n) (x ∷ xs) = ap (λ l. f x ∷ l) (map_take f n xs)
 
 -- A function of each of the later items.
-map_drop : {X Y : Type 0} (f : X → Y) (n : ℕ) (xs : List X) → map f (drop n xs) ≡ drop n (map f xs)
+pub map_drop : {X Y : Type 0} (f : X → Y) (n : ℕ) (xs : List X) → map f (drop n xs) ≡ drop n (map f xs)
 map_drop f zero xs = refl
 map_drop f (suc n) [] = refl
 map_drop f (suc n) (x ∷ xs) = map_drop f n xs

@@ -4,6 +4,8 @@ use Rattle.rt_groups.specs.declared.groups.Group.{Group}
 use Rattle.slot_table.specs.TableGroups.{group_at}
 use Rattle.slot_table.specs.ChangeLists.{nodes_in}
 use Rattle.slot_table.specs.declared.runs.KeptRun.{KeptRun}
+use Rattle.slot_table.specs.declared.runs.Exchange.{Exchange}
+use Rattle.gap_buffer.specs.Buffer.{exchanged_list}
 
 -- The old groups of a run, or their heads or slots.
 abbrev pub run_groups : {X : Type 0} → List X → KeptRun → List X
@@ -45,6 +47,33 @@ pub record IsShrunk {X : Type 0} (olds fresh : List X) (rs : List KeptRun) (len 
   pub down : MoveDown 0 0 rs
   pub len_is : len ≡ length (patched olds fresh rs)
   pub fewer : len ≤ length olds
+
+-- The groups, or their heads or slots, after the exchange.
+abbrev pub after_exchange : {X : Type 0} → Exchange → List X → List X
+after_exchange e xs = exchanged_list e.from e.middle e.to xs
+
+-- Both blocks of the exchange are inside the list, and neither is empty.
+pub record HasBlocks {X : Type 0} (xs : List X) (e : Exchange) : Type 0 where
+  pub low : e.from < e.middle
+  pub high : e.middle < e.to
+  pub inside : e.to ≤ length xs
+
+-- In the new frame, the two blocks of the exchange are runs that follow each other, the second block first. Each other
+-- run has the same indexes in the new frame, if this number of groups is before the runs.
+pub record AreExchanged (at : ℕ) (rs : List KeptRun) (e : Exchange) : Type 0 where
+  pub first : List KeptRun
+  pub gap : ℕ
+  pub later : List KeptRun
+  pub runs_are : rs ≡ first ++ record { gap = gap; from = e.middle; to = e.to }
+      ∷ record { gap = 0; from = e.from; to = e.middle } ∷ later
+  pub own : HaveOwnIndexes at (first ++ record { gap = gap; from = e.from; to = e.to } ∷ later)
+  pub low : e.from < e.middle
+  pub high : e.middle < e.to
+
+-- No new group is at a place inside the blocks of the exchange.
+abbrev pub AreOutside : Exchange → List ℕ → Type 0
+AreOutside e [] = Unit {0}
+AreOutside e (p ∷ ps) = (e.from ≤ p → e.to ≤ p) × AreOutside e ps
 
 -- Each of `n` new groups is at its place in the new frame, whatever the new groups are.
 abbrev pub ArePlaces : List Group → List KeptRun → ℕ → List ℕ → Type 0

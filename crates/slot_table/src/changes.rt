@@ -1,14 +1,15 @@
 // The changes that take a table to the groups of a new frame.
-ghost use Rattle.std.specs.Prelude.{◌≡◌, ◌≤◌, ◌<◌, ◌-◌, ◌^◌, ◌++◌, ◌∷◌, [], List, length, map, drop, take, slice_set, slice_index_or, true, false, IfOk, IfSome, OnOk, OnErr};
+ghost use Rattle.std.specs.Prelude.{◌≡◌, ◌≤◌, ◌<◌, ◌+◌, ◌-◌, ◌^◌, ◌++◌, ◌∷◌, [], List, length, map, drop, take, slice_set, slice_index_or, true, false, IfOk, IfSome, OnOk, OnErr};
 ghost use Rattle.rt_groups.specs.declared.groups.Group.{Group as group_data};
 ghost use Rattle.rt_groups.specs.PreorderGroups.{flat_group};
 ghost use Rattle.slot_table.specs.TableGroups.{group_at, is_node_kind, with_reads};
 ghost use Rattle.slot_table.specs.ChangeLists.{nodes_in};
-ghost use Rattle.slot_table.specs.KeptRuns.{patched, gaps, AreInside, HaveOwnIndexes, IsRunAdded, set_all, KeepDepths, MoveDown};
+ghost use Rattle.slot_table.specs.KeptRuns.{patched, gaps, AreInside, HaveOwnIndexes, IsRunAdded, set_all, KeepDepths, MoveDown, HasBlocks, AreExchanged, AreOutside, after_exchange};
 
+use crate::change_forms::{find_exchange, fits_around, fits_in_place, shrinks};
 use crate::groups_before::GroupsBefore;
-use crate::replaced::ReplacedGroups;
-use crate::runs::KeptRun;
+use crate::replaced::{ReplacedGroups, WriterLists};
+use crate::runs::{Exchange, KeptRun};
 use crate::shrunk_reads::ShrunkReads;
 use crate::storage::{PackedHead, SharedGroup, Slots, TableBuilder, make_room};
 use crate::table::Table;
@@ -57,6 +58,22 @@ impl<'t> ChangeListWriter<'t> {
             table,
             fresh: TableBuilder::new(alloc),
             places: Vec::new(alloc),
+            runs: Vec::new(alloc),
+            before: 0,
+            len: 0,
+            nodes: 0,
+        }
+    }
+
+    /// Returns a writer as `new` does, which uses memory of the last frame's writer again.
+    pub fn with_memory_of(alloc: Global, table: &'t Table, replaced: &mut ReplacedGroups) -> Self
+        ensures { result ≡ record { olds = table.now.groups; news = [] } }
+    {
+        let WriterLists { fresh, places } = replaced.take_lists(alloc);
+        ChangeListWriter {
+            table,
+            fresh,
+            places,
             runs: Vec::new(alloc),
             before: 0,
             len: 0,
@@ -152,9 +169,11 @@ impl<'t> ChangeListWriter<'t> {
     }
 
     /// Returns the changes. Changes only the new groups if each kept group keeps its index and each new group has the
-    /// depth of the old group at its index. Shrinks the table if there are fewer groups than before and no kept group
-    /// moves to a later index. Else the changes have a whole new table, which shares the slots of kept groups. Takes
-    /// time linear in the number of new groups and of kept runs, or for a whole new table in the number of groups.
+    /// depth of the old group at its index. Also exchanges two blocks of kept groups that follow each other, if each
+    /// kept group has its new index then and no new group is between or inside the blocks. Shrinks the table if there
+    /// are fewer groups than before and no kept group moves to a later index. Else the changes have a whole new table,
+    /// which shares the slots of kept groups. Takes time linear in the number of new groups and of kept runs, or for a
+    /// whole new table in the number of groups.
     pub fn into_change_list(self, alloc: Global) -> Result<ChangeList, NoMemory>
         ensures { IfOk result (λ c. c ≡ self.entry) }
     {
@@ -166,6 +185,16 @@ impl<'t> ChangeListWriter<'t> {
         if fits_in_place(self.table, &self.fresh, &self.places, &self.runs, self.len) {
             let change = Change::InPlace(self.fresh, self.places);
             return Ok(ChangeList { olds, change });
+        }
+        if let Some(exchange) = find_exchange(&self.runs) {
+            if fits_around(self.table, &self.fresh, &self.places, exchange, self.len) {
+                let change = Change::Exchanged {
+                    fresh: self.fresh,
+                    places: self.places,
+                    exchange,
+                };
+                return Ok(ChangeList { olds, change });
+            }
         }
         if shrinks(self.table, &self.runs, self.len) {
             let change = Change::Shrunk {
@@ -255,84 +284,6 @@ fn find_place(places: &[usize], place: usize, kept: usize) -> Option<usize>
     None
 }
 
-// Returns whether the changes can be made in place: there are as many groups as before, each kept group keeps its
-// index, and each new group has the depth of the old group at its place. `len` is the number of groups of the new
-// frame.
-fn fits_in_place(
-    table: &Table,
-    fresh: &TableBuilder,
-    places: &[usize],
-    runs: &[KeptRun],
-    len: usize,
-) -> bool
-    requires { length places.now ≡ length fresh.now }
-    ensures size { result ≡ true → len ≡ length table.now.groups }
-    ensures own { result ≡ true → HaveOwnIndexes 0 runs.now }
-    ensures depths { result ≡ true → KeepDepths table.now.groups places.now fresh.now }
-{
-    len == table.len() && have_own_indexes(runs) && keep_depths(table, fresh, places)
-}
-
-// Returns whether each kept group has the same index in the new frame.
-fn have_own_indexes(runs: &[KeptRun]) -> bool
-    ensures { result ≡ true → HaveOwnIndexes 0 runs.now }
-{
-    let mut at = 0;
-    for run in runs {
-        if run.from < at || run.from - at != run.gap {
-            return false;
-        }
-        at = run.to;
-    }
-    true
-}
-
-// Returns whether each new group has the depth of the old group at its place.
-fn keep_depths(table: &Table, fresh: &TableBuilder, places: &[usize]) -> bool
-    requires { length places.now ≡ length fresh.now }
-    ensures { result ≡ true → KeepDepths table.now.groups places.now fresh.now }
-{
-    for i in 0..fresh.len() {
-        if !keeps_depth(table, places[i], fresh.depth(i)) {
-            return false;
-        }
-    }
-    true
-}
-
-// Returns whether there is a group at index `place` and has this depth.
-fn keeps_depth(table: &Table, place: usize, depth: u32) -> bool
-    ensures { result ≡ true → (place < length table.now.groups) × (depth ≡ (group_at table.now.groups place).depth) }
-{
-    place < table.len() && table.depth(place) == depth
-}
-
-// Returns whether the table can be shrunk: there are fewer groups than before, their number fits in 32 bits, and no
-// kept group moves to a later index. `len` is the number of groups of the new frame.
-fn shrinks(table: &Table, runs: &[KeptRun], len: usize) -> bool
-    ensures fewer { result ≡ true → len < length table.now.groups }
-    ensures small { result ≡ true → len < 2 ^ 32 }
-    ensures down { result ≡ true → MoveDown 0 0 runs.now }
-{
-    len < table.len() && len <= u32::MAX as usize && move_down(runs)
-}
-
-// Returns whether no kept group moves to a later index, and each run is after the previous run in the table too.
-fn move_down(runs: &[KeptRun]) -> bool
-    ensures { result ≡ true → MoveDown 0 0 runs.now }
-{
-    let mut at = 0;
-    let mut past = 0;
-    for run in runs {
-        if run.from < past || run.to < run.from || run.from - at < run.gap {
-            return false;
-        }
-        at += run.gap + (run.to - run.from);
-        past = run.to;
-    }
-    true
-}
-
 // Returns the table of the groups of the new frame, which share their slots. `len` is their number.
 fn share_table(
     alloc: Global,
@@ -372,13 +323,20 @@ fn share_all(
     fresh.share_run(next, len, groups)
 }
 
-// The three forms of changes.
+// The four forms of changes.
 #[derive(Drop)]
 enum Change {
     // A whole new table.
     Whole(Table),
     // New groups, and for each the index of the old group that the new group replaces.
     InPlace(TableBuilder, Vec<usize>),
+    // New groups, for each the index of the old group that the new group replaces, and two blocks of groups that are
+    // exchanged afterwards.
+    Exchanged {
+        fresh: TableBuilder,
+        places: Vec<usize>,
+        exchange: Exchange,
+    },
     // New groups, the runs of groups that stay, and the number of groups of the new frame, which is less than before.
     // No kept group moves to a later index.
     Shrunk {
@@ -416,10 +374,16 @@ impl ChangeList {
         let form = match &self.change {
             Change::Whole(table) => PreviewForm::Held(table),
             Change::InPlace(fresh, places) => {
-                let mut all = TableBuilder::new(alloc);
-                table.share_run(0, table.len(), &mut all)?;
-                set_sharing(&mut all, fresh, places)?;
-                PreviewForm::Made(Table::from_groups(alloc, all)?)
+                PreviewForm::Made(share_in_place(alloc, table, fresh, places)?)
+            }
+            Change::Exchanged {
+                fresh,
+                places,
+                exchange,
+            } => {
+                let mut made = share_in_place(alloc, table, fresh, places)?;
+                made.exchange(*exchange);
+                PreviewForm::Made(made)
             }
             Change::Shrunk { fresh, runs, len } => {
                 PreviewForm::Made(share_table(alloc, table, fresh, runs, *len)?)
@@ -435,14 +399,15 @@ impl ChangeList {
         ensures { IfSome result (λ reads. reads ≡ map (λ g. g.reads) self.now.news) }
     {
         match &self.change {
-            Change::Whole(_) | Change::InPlace(..) => None,
+            Change::Whole(_) | Change::InPlace(..) | Change::Exchanged { .. } => None,
             Change::Shrunk { fresh, runs, .. } => Some(ShrunkReads::new(table, fresh, runs)),
         }
     }
 
     /// Returns whether the new frame has the same number of groups as `table`, and each group has
     /// the reads of the group of `table` at its index. Takes no memory. Takes time linear in the
-    /// number of new groups and their reads if only new groups change, and else in the number of
+    /// number of new groups and their reads if only new groups change, also in the number of groups
+    /// of exchanged blocks and their reads if there are any. Else takes time linear in the number of
     /// all groups and their reads. A table that shrinks has fewer groups, so the answer is `false`.
     pub fn keeps_reads(&self, table: &Table) -> bool
         requires { table.now.groups ≡ self.now.olds }
@@ -452,6 +417,13 @@ impl ChangeList {
         match &self.change {
             Change::Whole(other) => have_same_reads(table, other),
             Change::InPlace(fresh, places) => keep_reads_in_place(table, fresh, places),
+            Change::Exchanged {
+                fresh,
+                places,
+                exchange,
+            } => {
+                keep_reads_in_place(table, fresh, places) && exchange_keeps_reads(table, *exchange)
+            }
             Change::Shrunk { .. } => false,
         }
     }
@@ -500,6 +472,54 @@ fn keep_reads_in_place(table: &Table, fresh: &TableBuilder, places: &[usize]) ->
         }
     }
     true
+}
+
+// Returns whether the groups of the table at each index have the same reads before and after the exchange.
+fn exchange_keeps_reads(table: &Table, exchange: Exchange) -> bool
+    requires { HasBlocks table.now.groups exchange }
+    ensures { result ≡ true →
+        after_exchange exchange (map (λ g. g.reads) table.now.groups)
+        ≡ map (λ g. g.reads) table.now.groups }
+{
+    let Exchange { from, middle, to } = exchange;
+    let count = to - middle;
+    have_reads_of_run(table, from, middle, count)
+        && have_reads_of_run(table, from + count, from, middle - from)
+}
+
+// Returns whether the `count` groups of the table from index `at` have the reads of the `count` groups from index
+// `from`, in the same order.
+fn have_reads_of_run(table: &Table, at: usize, from: usize, count: usize) -> bool
+    requires at { at + count ≤ length table.now.groups }
+    requires from { from + count ≤ length table.now.groups }
+    ensures { result ≡ true →
+        take count (drop at (map (λ g. g.reads) table.now.groups))
+        ≡ take count (drop from (map (λ g. g.reads) table.now.groups)) }
+{
+    let _length = table.len();
+    for i in 0..count {
+        if !table.has_reads_of(at + i, table.slot(from + i)) {
+            return false;
+        }
+    }
+    true
+}
+
+// Returns the table with the new groups at their places. All groups share their slots.
+fn share_in_place(
+    alloc: Global,
+    table: &Table,
+    fresh: &TableBuilder,
+    places: &[usize],
+) -> Result<Table, NoMemory>
+    requires long { length places.now ≡ length fresh.now }
+    requires depths { KeepDepths table.now.groups places.now fresh.now }
+    ensures { IfOk result (λ t. t.groups ≡ set_all table.now.groups places.now fresh.now) }
+{
+    let mut all = TableBuilder::new(alloc);
+    table.share_run(0, table.len(), &mut all)?;
+    set_sharing(&mut all, fresh, places)?;
+    Table::from_groups(alloc, all)
 }
 
 // Puts the new groups at their places. They share their slots.
@@ -559,9 +579,12 @@ impl<'c> Preview<'c> {
 
 impl Table {
     /// Changes the groups to those of the new frame (`executeAndFlushAllPendingChanges`). Cannot fail. If only new
-    /// groups change, adds the nodes that they replace to `replaced`, or drops them when out of memory. Drops all other
-    /// old groups at once. Takes time linear in the number of new groups if only new groups change, and in the number
-    /// of old groups if the table shrinks. Else takes the time of dropping the old table.
+    /// groups change, also if two blocks of kept groups are exchanged, adds the nodes that new groups replace to
+    /// `replaced`, or drops them when out of memory. Drops all other old groups at once. Takes time linear in the
+    /// number of new groups if only new groups change. An exchange also takes time linear in the number of groups of
+    /// both blocks if each block is siblings with all groups inside them, and else in the number of all groups.
+    /// Shrinking takes time linear in the number of old groups. A whole new table takes the time of dropping the old
+    /// table.
     pub fn apply(&mut self, changes: ChangeList, replaced: &mut ReplacedGroups)
         requires { changes.olds ≡ self.old.groups }
         ensures { self.new.groups ≡ changes.news }
@@ -570,6 +593,14 @@ impl Table {
         match change {
             Change::Whole(table) => *self = table,
             Change::InPlace(fresh, places) => self.set_groups(fresh, places, replaced),
+            Change::Exchanged {
+                fresh,
+                places,
+                exchange,
+            } => {
+                self.set_groups(fresh, places, replaced);
+                self.exchange(exchange);
+            }
             Change::Shrunk { fresh, runs, len } => self.shrink(fresh, &runs, len),
         }
     }
@@ -588,6 +619,7 @@ impl Table {
                 None => unreachable!(),
             }
         }
+        replaced.keep_lists(WriterLists { fresh, places });
     }
 
     // Replaces the group at index `i` by the group with this head and these slots, which has the same depth. Adds a

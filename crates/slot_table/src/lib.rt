@@ -14,6 +14,7 @@
 
 ghost use Rattle.slot_table.specs.Siblings.{SkippingLeavesTheSiblings};
 
+mod change_forms;
 mod changes;
 mod groups_before;
 mod reader;

@@ -1,7 +1,7 @@
 // Runs of groups that stay, and lists that keep only the items of such runs.
 ghost use Rattle.std.specs.Prelude.{◌≡◌, ◌≤◌, ◌+◌, ◌-◌, ◌++◌, length, take, drop};
 ghost use Rattle.std.specs.Vec.Iter.{into_iter_items};
-ghost use Rattle.slot_table.specs.KeptRuns.{patched, IsShrunk};
+ghost use Rattle.slot_table.specs.KeptRuns.{patched, IsShrunk, HasBlocks, after_exchange};
 
 use gap_buffer::GapBuf;
 use std::alloc::Global;
@@ -13,6 +13,15 @@ pub(crate) struct KeptRun {
     // The number of new groups between the previous run and this run.
     pub(crate) gap: usize,
     pub(crate) from: usize,
+    pub(crate) to: usize,
+}
+
+// Two blocks of groups that follow each other and are exchanged: those from index `from` to before index `middle`, and
+// those from index `middle` to before index `to`.
+#[derive(Clone, Copy)]
+pub(crate) struct Exchange {
+    pub(crate) from: usize,
+    pub(crate) middle: usize,
     pub(crate) to: usize,
 }
 
@@ -35,6 +44,15 @@ where
     }
     put_items(items, at, len - at, &mut fresh);
     items.truncate(len);
+}
+
+// Exchanges the two blocks of items. Takes no memory. Takes time linear in the number of their items.
+pub(crate) fn exchange_items<T>(items: &mut GapBuf<T>, exchange: Exchange)
+    requires { HasBlocks items.old.items exchange }
+    ensures { items.new.items ≡ after_exchange exchange items.old.items }
+{
+    let Exchange { from, middle, to } = exchange;
+    items.move_range(middle, from, to - middle);
 }
 
 // Puts the next `count` items of `fresh` at index `at` and the indexes after it.

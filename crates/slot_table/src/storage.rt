@@ -1,12 +1,14 @@
 // The parts of the groups of a table, in two lists.
-ghost use Rattle.std.specs.Prelude.{◌≡◌, ◌≤◌, ◌<◌, ◌-◌, ◌++◌, ◌∷◌, [], IfOk, OnOk, OnErr, MatchOption, length, take, drop, slice_set, vec_len, vec_capacity, true};
+ghost use Rattle.std.specs.Prelude.{◌≡◌, ◌≤◌, ◌<◌, ◌-◌, ◌++◌, ◌∷◌, [], IfOk, IfSome, OnOk, OnErr, MatchOption, length, take, drop, slice_set, vec_len, vec_capacity, true};
 ghost use Rattle.rt_groups.specs.PreorderGroups.{flat_group};
+ghost use Rattle.rt_groups.specs.declared.groups.GroupKind.TheVariants as kinds;
 ghost use Rattle.slot_table.specs.Storage.{AreParts, IsPopped};
 ghost use Rattle.slot_table.specs.TableGroups.{group_at, is_node_kind, with_reads};
 
 use crate::changes::same_reads;
-use rt_groups::{Deps, Group, GroupKind};
-use rt_values::{NoMemory, ObjectNo};
+use crate::replaced::ReplacedGroups;
+use rt_groups::{Attributes, Deps, Group, GroupKind};
+use rt_values::{NoMemory, ObjectNo, Word};
 use std::alloc::Global;
 use std::marker::Model;
 use std::rc::Rc;
@@ -189,6 +191,18 @@ impl Slots {
         Ok(Slots { parts })
     }
 
+    // Returns the kind if the group has no reads.
+    #[inline(always)]
+    pub(crate) fn into_plain(self) -> Option<Rc<GroupKind>>
+        ensures what { IfSome result (λ what. what.value ≡ self.what) }
+        ensures reads { IfSome result (λ _. self.reads ≡ []) }
+    {
+        match self.parts {
+            Parts::Plain(what) => Some(what),
+            Parts::WithReads(_both) => None,
+        }
+    }
+
     // Returns the kind for other slots, which share it.
     fn share_kind(&self) -> Result<Rc<GroupKind>, NoMemory>
         ensures { IfOk result (λ what. what.value ≡ self.now.what) }
@@ -289,6 +303,31 @@ impl SharedGroup {
         };
         let slots = Slots::new(alloc, what, reads)?;
         Ok(SharedGroup { head, slots })
+    }
+
+    /// Returns a node without reads, which has no place yet. It takes the memory of a node of `replaced` if there is any.
+    #[inline(always)]
+    pub fn new_node(
+        alloc: Global,
+        kind: Word,
+        attributes: Attributes,
+        replaced: &mut ReplacedGroups,
+    ) -> Result<Self, NoMemory>
+        ensures kind { IfOk result (λ g. g.what ≡ kinds.Node kind attributes) }
+        ensures reads { IfOk result (λ g. g.reads ≡ []) }
+    {
+        let head = GroupHead {
+            depth: 0,
+            site: 0,
+            number: 0,
+            is_node: true,
+        };
+        let what = replaced.take_block(alloc, GroupKind::Node { kind, attributes })?;
+        let parts = Parts::Plain(what);
+        Ok(SharedGroup {
+            head,
+            slots: Slots { parts },
+        })
     }
 
     // Returns the group with this head, which shares `slots`.
@@ -437,6 +476,14 @@ impl TableBuilder {
         self.heads.reserve(n)?;
         self.slots.reserve(n)?;
         Ok(())
+    }
+
+    // Removes all groups and keeps the capacity.
+    pub(crate) fn clear(&mut self)
+        ensures { self.new ≡ [] }
+    {
+        self.heads.clear();
+        self.slots.clear();
     }
 
     // Gives spare capacity back where it is more than an eighth of the number of groups. The groups stay.

@@ -6,9 +6,9 @@ ghost use Rattle.rt_groups.specs.PreorderGroups.{flat_group};
 ghost use Rattle.slot_table.specs.ChangeLists.{nodes_in};
 ghost use Rattle.slot_table.specs.ReaderStates.{after_deep};
 ghost use Rattle.slot_table.specs.InnerCounts.{leading_deep, inner_counts, bare_groups};
-ghost use Rattle.slot_table.specs.KeptRuns.{patched, IsShrunk};
+ghost use Rattle.slot_table.specs.KeptRuns.{patched, IsShrunk, HasBlocks, after_exchange};
 
-use crate::runs::{KeptRun, shrink_items};
+use crate::runs::{Exchange, KeptRun, exchange_items, shrink_items};
 use crate::storage::{PackedHead, SharedGroup, Slots, TableBuilder};
 use gap_buffer::GapBuf;
 use rt_groups::GroupKind;
@@ -245,6 +245,19 @@ impl Table {
         set_counts(&self.groups, &mut self.counts);
     }
 
+    // Exchanges two blocks of groups that follow each other. Takes no memory. Takes time linear in the number of groups
+    // of both blocks if each block is siblings with all groups inside them, and else in the number of all groups.
+    pub(crate) fn exchange(&mut self, exchange: Exchange)
+        requires blocks { HasBlocks self.old.groups exchange }
+        requires small { length self.old.groups < 2 ^ 32 }
+        ensures { self.new.groups ≡ after_exchange exchange self.old.groups }
+    {
+        let from = first_recount(&self.groups, exchange);
+        exchange_items(&mut self.groups, exchange);
+        exchange_items(&mut self.slots, exchange);
+        set_counts_between(&self.groups, &mut self.counts, from, exchange.to);
+    }
+
     /// Returns the index after the group at index `i` and all groups inside it.
     #[tactic(auto, using(crate::proofs::InnerCounts::length_counts))]
     pub fn index_after(&self, i: usize) -> usize
@@ -287,17 +300,53 @@ fn count_inside(heads: &GapBuf<PackedHead>, counts: &[u32], i: usize) -> usize
     next - i - 1
 }
 
-// Counts for each group the groups inside it, from the last group to the first.
+// Counts for each group the groups inside it.
 fn set_counts(heads: &GapBuf<PackedHead>, counts: &mut [u32])
     requires long { length counts.old ≡ length heads.now.items }
     requires small { length heads.now.items ≤ 2 ^ 32 }
     ensures { counts.new ≡ inner_counts (bare_groups heads.now.items) }
 {
-    let mut at = heads.len();
-    while 0 < at {
+    set_counts_between(heads, counts, 0, heads.len());
+}
+
+// Counts for each group from index `from` to before index `to` the groups inside it, from the last group to the first.
+// The counts of the groups from index `to` on are known.
+fn set_counts_between(heads: &GapBuf<PackedHead>, counts: &mut [u32], from: usize, to: usize)
+    requires long { length counts.old ≡ length heads.now.items }
+    requires small { length heads.now.items ≤ 2 ^ 32 }
+    requires order { from ≤ to }
+    requires inside { to ≤ length heads.now.items }
+    requires known { drop to counts.old ≡ inner_counts (drop to (bare_groups heads.now.items)) }
+    ensures before { take from counts.new ≡ take from counts.old }
+    ensures after { drop from counts.new ≡ inner_counts (drop from (bare_groups heads.now.items)) }
+{
+    let mut at = to;
+    while from < at {
         at -= 1;
         counts[at] = count_inside(heads, counts, at) as u32;
     }
+}
+
+// Returns the index of the first group whose count may change in the exchange: the first group of the blocks if the
+// first groups of both blocks have the same depth and no group of the blocks has a lower depth, and else the first
+// group of the table. Takes time linear in the number of groups of both blocks.
+fn first_recount(heads: &GapBuf<PackedHead>, exchange: Exchange) -> usize
+    requires { HasBlocks heads.now.items exchange }
+    ensures inside { result ≤ exchange.to }
+    ensures same { take result (inner_counts (bare_groups heads.now.items))
+        ≡ take result (inner_counts (after_exchange exchange (bare_groups heads.now.items))) }
+{
+    let Exchange { from, middle, to } = exchange;
+    let depth = depth_at(heads, from);
+    if depth_at(heads, middle) != depth {
+        return 0;
+    }
+    for i in from..to {
+        if depth_at(heads, i) < depth {
+            return 0;
+        }
+    }
+    from
 }
 
 // Returns for each group the number of groups inside it. Returns `NoMemory` for 2^32 groups or more: no memory holds

@@ -3,8 +3,10 @@ ghost use Rattle.std.specs.Prelude.{◌≡◌, IfOk};
 
 use crate::rows::{row_groups, three_rows};
 use rt_groups::{Attribute, GroupKind};
-use rt_values::{NoMemory, Objects, Value};
-use slot_table::{ChangeList, ChangeListWriter, ReplacedGroups, Table, TableBuilder, same_reads};
+use rt_values::{NoMemory, Objects, Value, Word};
+use slot_table::{
+    ChangeList, ChangeListWriter, ReplacedGroups, SharedGroup, Table, TableBuilder, same_reads,
+};
 use std::alloc::Global;
 use std::test::Fail;
 
@@ -149,6 +151,73 @@ fn changes_keep_move_and_replace_groups(rt: HostRuntime) -> Result<(), Fail> {
     Ok(())
 }
 
+// Whether the changes of a table of the rows 1, 2 and 3 to the groups of `runs` keep the reads, if only the group at
+// index `other` reads object 5, and each other group reads object 7.
+fn keeps_reads_with_other(
+    alloc: Global,
+    runs: &[(usize, usize)],
+    other: usize,
+) -> Result<bool, NoMemory> {
+    let mut groups = row_groups(alloc, &[1, 2, 3])?;
+    if other < groups.len() {
+        groups.set_reads(alloc, other, Objects::of(vec![in alloc; 5]?))?;
+    }
+    let table = Table::from_groups(alloc, groups)?;
+    let changes = changes_to_rows(alloc, &table, runs)?;
+    Ok(changes.keeps_reads(&table))
+}
+
+#[test]
+fn changes_exchange_two_blocks(rt: HostRuntime) -> Result<(), Fail> {
+    let alloc = rt.alloc();
+    let left: &[i64] = &[0, 2, 0, 3, 0, 1, 0];
+    let right: &[i64] = &[0, 3, 0, 1, 0, 2, 0];
+    let last_rows: &[i64] = &[0, 1, 0, 3, 0, 2, 0];
+    let new_before: &[i64] = &[0, 8, 0, 3, 0, 2, 0];
+    let new_after: &[i64] = &[0, 2, 0, 1, 0, 8, 0];
+    let other_before: &[i64] = &[0, 9, 0, 3, 0, 2, 0];
+    let new_between: &[i64] = &[0, 3, 0, 8, 0, 2, 0];
+    let parts_of_rows: &[i64] = &[0, 0, 2, 1, 0, 3, 0];
+    let root_later: &[i64] = &[1, 0, 0, 2, 0, 3, 0];
+    let reversed: &[i64] = &[0, 3, 0, 2, 0, 1, 0];
+    let rows: [(&[(usize, usize)], &[i64], bool); 10] = [
+        (&[(0, 1), (3, 7), (1, 3)], left, true),
+        (&[(0, 1), (5, 7), (1, 5)], right, true),
+        (&[(0, 3), (5, 7), (3, 5)], last_rows, true),
+        (&[(0, 1), (1, 1), (2, 3), (5, 7), (3, 5)], new_before, true),
+        (&[(0, 1), (3, 5), (1, 3), (1, 1), (6, 7)], new_after, true),
+        (
+            &[(0, 1), (3, 3), (2, 3), (5, 7), (3, 5)],
+            other_before,
+            false,
+        ),
+        (&[(0, 1), (5, 7), (1, 1), (2, 5)], new_between, true),
+        (&[(0, 1), (2, 4), (1, 2), (4, 7)], parts_of_rows, true),
+        (&[(1, 3), (0, 1), (3, 7)], root_later, true),
+        (&[(0, 1), (5, 7), (3, 5), (1, 3)], reversed, true),
+    ];
+    for (runs, keys, keep) in &rows {
+        assert!(rt; has_changes(alloc, runs, keys, *keep)?);
+    }
+    Ok(())
+}
+
+#[test]
+fn exchanged_blocks_with_other_reads_are_found(rt: HostRuntime) -> Result<(), Fail> {
+    let alloc = rt.alloc();
+    let left: &[(usize, usize)] = &[(0, 1), (3, 7), (1, 3)];
+    let right: &[(usize, usize)] = &[(0, 1), (5, 7), (1, 5)];
+    for other in 0..7 {
+        assert_eq!(rt; keeps_reads_with_other(alloc, left, other)?, other == 0);
+        assert_eq!(rt; keeps_reads_with_other(alloc, right, other)?, other == 0);
+    }
+    for other in 0..7 {
+        let last_rows: &[(usize, usize)] = &[(0, 3), (5, 7), (3, 5)];
+        assert_eq!(rt; keeps_reads_with_other(alloc, last_rows, other)?, other < 3);
+    }
+    Ok(())
+}
+
 #[test]
 fn changes_shrink_the_table(rt: HostRuntime) -> Result<(), Fail> {
     let alloc = rt.alloc();
@@ -219,6 +288,27 @@ fn shrunk_table_counts_again(rt: HostRuntime) -> Result<(), Fail> {
     Ok(())
 }
 
+#[test]
+fn exchanged_table_counts_again(rt: HostRuntime) -> Result<(), Fail> {
+    let alloc = rt.alloc();
+    let rotated: &[usize] = &[7, 3, 3, 5, 5, 7, 7];
+    let parts_of_rows: &[usize] = &[7, 2, 3, 5, 5, 7, 7];
+    let root_later: &[usize] = &[2, 2, 7, 5, 5, 7, 7];
+    let outside_changes: &[usize] = &[7, 2, 5, 4, 5, 7, 7];
+    let longer_last: &[usize] = &[7, 3, 3, 4, 7, 6, 7];
+    let rows: [(&[(usize, usize)], &[usize]); 5] = [
+        (&[(0, 1), (3, 7), (1, 3)], rotated),
+        (&[(0, 1), (2, 4), (1, 2), (4, 7)], parts_of_rows),
+        (&[(1, 3), (0, 1), (3, 7)], root_later),
+        (&[(0, 2), (3, 4), (2, 3), (4, 7)], outside_changes),
+        (&[(0, 1), (3, 6), (1, 3), (6, 7)], longer_last),
+    ];
+    for (runs, ends) in &rows {
+        assert!(rt; skips_as_previewed(alloc, runs, ends)?);
+    }
+    Ok(())
+}
+
 // Returns the table of `groups` with reads that differ from group to group: the group at index `i` reads the object
 // `first + i`, and reads it 0, 1 or 2 times.
 fn with_different_reads(
@@ -276,7 +366,7 @@ fn count_reads_of_rows(alloc: Global, runs: &[(usize, usize)]) -> Result<Option<
 #[test]
 fn shrunk_changes_lend_the_reads_of_their_preview(rt: HostRuntime) -> Result<(), Fail> {
     let alloc = rt.alloc();
-    let rows: [(&[(usize, usize)], Option<usize>); 9] = [
+    let rows: [(&[(usize, usize)], Option<usize>); 10] = [
         (&[(0, 1), (3, 6)], Some(4)),
         (&[(0, 1), (1, 1), (4, 7)], Some(5)),
         (&[(1, 1), (2, 5)], Some(4)),
@@ -285,6 +375,7 @@ fn shrunk_changes_lend_the_reads_of_their_preview(rt: HostRuntime) -> Result<(),
         (&[(1, 1), (2, 3), (3, 3), (6, 7), (1, 1)], Some(5)),
         (&[(0, 3), (1, 1), (4, 7)], None),
         (&[(0, 1), (5, 7), (1, 3)], None),
+        (&[(0, 1), (5, 7), (1, 5)], None),
         (&[(1, 1), (2, 2)], None),
     ];
     for (runs, count) in &rows {
@@ -333,17 +424,29 @@ fn sharing(alloc: Global, table: &Table) -> Result<Table, NoMemory> {
     Table::from_groups(alloc, groups)
 }
 
-// Drops one of the replaced groups, `count` times.
-fn drop_times(replaced: &mut ReplacedGroups, count: usize) {
+// Makes `count` nodes, with an attribute each, in the memory of replaced nodes as far as there are any.
+fn make_nodes(
+    alloc: Global,
+    replaced: &mut ReplacedGroups,
+    count: usize,
+) -> Result<Vec<SharedGroup>, NoMemory> {
+    let mut nodes = Vec::new(alloc);
     for _ in 0..count {
-        replaced.drop_one();
+        let mut attributes = replaced.take_attributes(alloc, 1)?;
+        attributes.push(Attribute {
+            name: Word::of(alloc, b"other")?,
+            value: Value::Int(7),
+        })?;
+        let kind = Word::of(alloc, b"Other")?;
+        nodes.push(SharedGroup::new_node(alloc, kind, attributes, replaced)?)?;
     }
+    Ok(nodes)
 }
 
 // Whether a table of the rows 1, 2 and 3 gets these numbers with the groups of `runs`, and another table, which shares
-// the slots of the three rows, keeps its numbers. Drops a replaced group `count` times before the other table is
-// dropped, and `count` times afterwards.
-fn has_numbers_after_drops(
+// the slots of the three rows, keeps its numbers. Makes `count` nodes in the memory of replaced nodes before the other
+// table is dropped, and `count` nodes afterwards.
+fn has_numbers_beside_new_nodes(
     alloc: Global,
     runs: &[(usize, usize)],
     numbers: &[i64],
@@ -354,15 +457,15 @@ fn has_numbers_after_drops(
     let mut replaced = ReplacedGroups::none(alloc);
     let changes = changes_to_rows(alloc, &table, runs)?;
     table.apply(changes, &mut replaced);
-    drop_times(&mut replaced, count);
+    let first = make_nodes(alloc, &mut replaced, count)?;
     let is_kept = has_numbers(&shared, &[0, 1, 1, 2, 2, 3, 3]);
     drop(shared);
-    drop_times(&mut replaced, count);
-    Ok(is_kept && has_numbers(&table, numbers))
+    let later = make_nodes(alloc, &mut replaced, count)?;
+    Ok(is_kept && has_numbers(&table, numbers) && first.len() == later.len())
 }
 
 #[test]
-fn dropped_groups_stay_where_they_are_shared(rt: HostRuntime) -> Result<(), Fail> {
+fn shared_nodes_keep_their_memory(rt: HostRuntime) -> Result<(), Fail> {
     let alloc = rt.alloc();
     let all: &[i64] = &[0, 1, 1, 2, 2, 3, 3];
     let one_node: &[i64] = &[0, 1, 8, 2, 2, 3, 3];
@@ -380,7 +483,7 @@ fn dropped_groups_stay_where_they_are_shared(rt: HostRuntime) -> Result<(), Fail
         (&[(0, 1), (3, 4), (2, 2), (5, 7)], removed, 2),
     ];
     for (runs, numbers, count) in &rows {
-        assert!(rt; has_numbers_after_drops(alloc, runs, numbers, *count)?);
+        assert!(rt; has_numbers_beside_new_nodes(alloc, runs, numbers, *count)?);
     }
     Ok(())
 }

@@ -1,6 +1,6 @@
 use Rattle.std.proofs.Common.{◌≤◌, drop}
 use Rattle.slot_table.specs.KeptRuns.{MoveDown}
-use Rattle.slot_table.proofs.changes.move_down.Given as goal
+use Rattle.slot_table.proofs.change_forms.move_down.Given as goal
 
 abbrev pub invariant-loop-run : goal.invariant-loop-run
 invariant-loop-run l = record {
