@@ -77,61 +77,37 @@ beside_full {owed = owed} {old = old} {d = d} {seen = seen} {site = site} {n = n
 
 -- A node or a key, and the groups inside it.
 pub beside_group : {U : Type 0} {owed : List ℕ} {old : GroupForest} {d : ℕ} {seen : List GroupKey} {site : ℕ}
-    {inside : GroupForest} {s s' : ComposerState} {left within : Pending} {result : Result U ComposeStop}
+    {inside : GroupForest} {s s' : ComposerState} {left : Pending} {result : Result U ComposeStop}
     (what : GroupKind) (mid : ComposerState) →
     let x = sibling site what in is_container what ≡ true →
     mid ≡ opened_group d true (matching_sibling x (occurrence x seen) old) site what inside s
     → OnOk result (Fits d left old (x ∷ seen)) →
-    ComposesBeside owed (inside_of (matching_sibling x (occurrence x seen) old)) (d + 1) [] inside mid s' within result
-    → ComposesBeside owed old d seen (Group site 0 what inside End) s s' left result
+    Reaches (composed_beside owed (inside_of (matching_sibling x (occurrence x seen) old)) (d + 1) true [] inside mid)
+    s' result → ComposesBeside owed old d seen (Group site 0 what inside End) s s' left result
 beside_group (Call function vs) mid plain e f h = absurd cc
 beside_group {owed = owed} {old = old} {d = d} {seen = seen} {site = site} {inside = inside} {s' = s'} {result = result} (Node kind attributes) mid plain e f h =
     let found = matching_sibling (sibling site (Node kind attributes))
     (occurrence (sibling site (Node kind attributes)) seen) old in record {
       reached = subst (λ (q : ComposerState). Reaches (composed_beside owed (inside_of found) (d + 1) true [] inside q)
-          s' result) e h.reached;
+          s' result) e h;
       fits = f;
     }
 beside_group {owed = owed} {old = old} {d = d} {seen = seen} {site = site} {inside = inside} {s' = s'} {result = result} (Key v) mid plain e f h =
     let found = matching_sibling (sibling site (Key v)) (occurrence (sibling site (Key v)) seen) old in record {
       reached = subst (λ (q : ComposerState). Reaches (composed_beside owed (inside_of found) (d + 1) true [] inside q)
-          s' result) e h.reached;
+          s' result) e h;
       fits = f;
     }
 beside_group (Cell ks v) mid plain e f h = absurd cc
 
--- A group with nothing inside.
-pub beside_alone : {U : Type 0} {owed : List ℕ} {old : GroupForest} {d : ℕ} {seen : List GroupKey} {site : ℕ}
-    {s : ComposerState} {left : Pending} {u : U} (what : GroupKind) (inside : GroupForest) (mid : ComposerState) →
-    let x = sibling site what in is_container what ≡ true → inside ≡ End →
-    mid ≡ opened_group d true (matching_sibling x (occurrence x seen) old) site what inside s
-    → Fits d left old (x ∷ seen)
-    → ComposesBeside owed old d seen (Group site 0 what inside End) s mid left {U = U} (Ok u)
-beside_alone (Call function vs) inside mid plain none e f = absurd cc
-beside_alone {owed = owed} {old = old} {d = d} {seen = seen} {site = site} {s = s} (Node kind attributes) inside mid plain none e f =
-    let found = matching_sibling (sibling site (Node kind attributes))
-    (occurrence (sibling site (Node kind attributes)) seen) old in record {
-      reached =
-          record {
-            all = e ∙ ap (λ t. composed_beside owed (inside_of found) (d + 1) true [] t
-                (opened_group d true found site (Node kind attributes) inside s)) (sym none);
-            part = tt;
-            many = λ y. cc;
-          };
-      fits = f;
-    }
-beside_alone {owed = owed} {old = old} {d = d} {seen = seen} {site = site} {s = s} (Key v) inside mid plain none e f =
-    let found = matching_sibling (sibling site (Key v)) (occurrence (sibling site (Key v)) seen) old in record {
-      reached =
-          record {
-            all = e ∙ ap (λ t. composed_beside owed (inside_of found) (d + 1) true [] t
-                (opened_group d true found site (Key v) inside s)) (sym none);
-            part = tt;
-            many = λ y. cc;
-          };
-      fits = f;
-    }
-beside_alone (Cell ks v) inside mid plain none e f = absurd cc
+-- No statements are inside a group.
+pub reached_none : (owed : List ℕ) (old : GroupForest) (d : ℕ) {t : GroupForest} {s : ComposerState} → t ≡ End
+    → Reaches (composed_beside owed old d true [] t s) s {U = Unit {0}} (Ok tt)
+reached_none owed old d {s = s} none = record {
+  all = ap (λ t. composed_beside owed old d true [] t s) (sym none);
+  part = tt;
+  many = λ y. cc;
+}
 
 -- A cell with nothing inside, and then what follows it.
 pub beside_cell : {U : Type 0} {owed : List ℕ} {old : GroupForest} {d : ℕ} {seen : List GroupKey} {site : ℕ}

@@ -2,6 +2,7 @@ pub mod BesideCases
 pub mod BesideSteps
 pub mod CalledFunctions
 pub mod Comparisons
+pub mod EnteredGroups
 pub mod EqualKinds
 pub mod InHand
 pub mod Layers

@@ -21,7 +21,7 @@ use Rattle.composer.specs.BesideContracts.{OldSiblings, IsOldPart, IsOldFound}
 use Rattle.composer.specs.Recomposes.{IsBeside, is_container}
 use Rattle.composer.specs.WrittenGroups.{WrittenGroups, state_of, number_of, enter_group, with_call, running_call, written_kept, kept_in, kept_of}
 use Rattle.composer.proofs.OldMatches.{fits_found, fits_next}
-use Rattle.composer.proofs.OldParts.{inside_old, part_found, part_matched}
+use Rattle.composer.proofs.OldParts.{part_found, part_matched}
 use Rattle.composer.proofs.Comparisons.{number_of_kept, other_keys_kept}
 use Rattle.composer.proofs.Machine.{same_state}
 
@@ -144,9 +144,3 @@ pub beside_now : {o : OldSiblings} {owed : List ℕ} {m : Map} {fs : List Func} 
     (now : List GroupKey) → IsBeside o owed m fs d left → Fits d left1 o.old now
     → IsBeside (at_now o now) owed m fs d left1
 beside_now now b f = record { since = b.since; part = b.part; fits = f }
-
--- Next to the groups inside a group that was found.
-pub beside_inside : {o : OldSiblings} {owed : List ℕ} {m : Map} {fs : List Func} {d e : ℕ} {left left1 : Pending}
-    (t : GroupForest) → IsBeside o owed m fs d left → IsOldPart o.last owed m t → Fits e left1 t []
-    → IsBeside (inside_old o t) owed m fs e left1
-beside_inside t b p f = record { since = b.since; part = p; fits = f }

@@ -12,7 +12,7 @@ use Rattle.recompose_laws.specs.CalculatedCells.{FunctionsCalculate}
 use Rattle.recompose_laws.proofs.Refreshes.{same_inside, same_rest}
 use Rattle.recompose_laws.proofs.MadeCalls.{found_made, inside_made}
 use Rattle.recompose_laws.proofs.CalculatedCells.{found_calculated, inside_calculated}
-use Rattle.composer.specs.BesideContracts.{LastComposition, IsSince, IsOldPart, IsFoundNumbered, IsOldFound, OldSiblings}
+use Rattle.composer.specs.BesideContracts.{LastComposition, IsSince, IsOldPart, IsFoundNumbered, IsOldFound}
 
 pub part_inside : {l : LastComposition} {owed : List ℕ} {m : Map} (site n : ℕ) (what : GroupKind)
     (inside rest : GroupForest) → IsOldPart l owed m (Group site n what inside rest) → IsOldPart l owed m inside
@@ -108,10 +108,6 @@ part_inside_of {l} {owed} {m} {site} {found} p = record {
 pub part_matched : {l : LastComposition} {owed : List ℕ} {m : Map} {t : GroupForest} (s : GroupKey) (n : ℕ)
     → IsOldPart l owed m t → IsOldPart l owed m (inside_of (matching_sibling s n t))
 part_matched s n p = part_inside_of (part_found s n p)
-
--- The old siblings that composing goes on next to inside a group.
-abbrev pub inside_old : OldSiblings → GroupForest → OldSiblings
-inside_old o t = record { last = o.last; old = t; seen = [] }
 
 -- The first `n` functions.
 

@@ -1,11 +1,11 @@
 -- Internal: the contracts of the functions that compose again.
-use Rattle.std.specs.Prelude.{ℕ, ℤ, ◌+◌, ◌≡◌, ◌≤◌, List, length, Bool, true, false, Option, Some, Result, OnOk}
+use Rattle.std.specs.Prelude.{ℕ, ℤ, ◌+◌, ◌≡◌, ◌≤◌, List, [], length, Bool, true, false, Option, Some, Result, OnOk}
 use Rattle.rt_values.specs.declared.value.Value.{Value}
 use Rattle.rt_values.specs.Maps.{Map}
 use Rattle.rt_groups.specs.declared.groups.Group.{Group as Listed}
 use Rattle.rt_groups.specs.declared.groups.GroupKind.{GroupKind as ListedKind}
 use Rattle.rt_groups.specs.declared.groups.GroupKind.TheVariants as listed
-use Rattle.rt_groups.specs.GroupForest.{GroupForest, End, Group, GroupKind, Call, Node, Key, Cell}
+use Rattle.rt_groups.specs.GroupForest.{GroupForest, GroupKind, Call, Node, Key, Cell}
 use Rattle.rt_groups.specs.Paths.{GroupKey, Found, inside_of}
 use Rattle.rt_groups.specs.Frames.{most_groups}
 use Rattle.lang_ast.specs.Terms.{Stmt, Stmts, Func}
@@ -67,10 +67,6 @@ call_at level site function arguments m = call_forest m level.functions.now site
 abbrev pub loop_at : Level → List ℕ → Stmts → Bindings → List ℤ → Map → GroupForest
 loop_at level name body env items m = loop_forest m level.functions.now name body env items
 
--- A group with the statements inside it.
-abbrev pub group_at_level : Level → ℕ → GroupKind → Stmts → Bindings → Map → GroupForest
-group_at_level level site what body env m = Group site 0 what (body_forest m level.functions.now body env) End
-
 -- A group kind that contains other groups but is no call.
 abbrev pub is_container : GroupKind → Bool
 is_container (Call f vs) = false
@@ -120,16 +116,16 @@ pub record Continues {W : Type 0} (shown : W → Map → Type 0) (asked : W → 
   pub counted : (m : Map) → shown view m → OnOk result (made'.writer.reads + length made'.reads + length (asked view)
       ≡ made.writer.reads + length made.reads + length (asked view'))
 
--- A part was composed next to the old siblings: `t m` is its forest in the map `m`, and `calculates` says that a
--- calculation gives the values of its cells.
-abbrev pub RanBeside : Level → (Map → GroupForest) → (Calculation → Type 0) → Map → List ℕ → List ℕ → Progress
-    → Progress → {U : Type 0} → Result U ComposeStop → Type 0
-RanBeside level t calculates m asked asked' made made' result =
-    (o : OldSiblings) → IsBeside o level.last.now.owed.objects m (functions_view level.functions.now) level.depth
-    made.pending →
-    calculates o.last.calculation →
-    ComposesBeside level.last.now.owed.objects o.old level.depth o.seen (t m) (state_of made.writer asked made.reads)
-    (state_of made'.writer asked' made'.reads) made'.pending result
+-- The statements inside a group were composed next to the old groups inside the group `there`, which is `found` in the
+-- table: `t m` is their forest in the map `m`, and `calculates` says that a calculation gives the values of its cells.
+abbrev pub RanInside : Level → Option KeyInfo → (Map → GroupForest) → (Calculation → Type 0) → Map → List ℕ → List ℕ
+    → Progress → Progress → {U : Type 0} → Result U ComposeStop → Type 0
+RanInside level found t calculates m asked asked' made made' result =
+    (l : LastComposition) (there : Option Found) → IsSince l (functions_view level.functions.now) →
+    IsOldPart l level.last.now.owed.objects m (inside_of there) → Alike level.depth found there →
+    calculates l.calculation →
+    Reaches (composed_beside level.last.now.owed.objects (inside_of there) (level.depth + 1) true [] (t m)
+    (state_of made.writer asked made.reads)) (state_of made'.writer asked' made'.reads) result
 
 -- The contract of composing a part of a program: `t m` is the forest of the part in the map `m`, and `calculates` says
 -- that a calculation gives the values of its cells. The view changes only by reads, and it shows the same maps. The

@@ -3,8 +3,7 @@ ghost use Rattle.std.specs.Prelude.{◌≡◌, ◌≤◌, ◌<◌, ◌+◌, ◌+
 ghost use Rattle.rt_values.specs.declared.value.Value.{Value as value_data};
 ghost use Rattle.rt_values.specs.Maps.{Map};
 ghost use Rattle.rt_values.specs.Views.{Grew};
-ghost use Rattle.rt_groups.specs.GroupForest.{GroupKind as kind_data};
-ghost use Rattle.rt_groups.specs.PreorderGroups.{flat_kind, preorder};
+ghost use Rattle.rt_groups.specs.PreorderGroups.{preorder};
 ghost use Rattle.rt_groups.specs.Frames.{LastFrame, most_groups};
 ghost use Rattle.lang_ast.specs.Terms.{Node, Key, If, For, Let, Remember};
 ghost use Rattle.lang_ast.specs.SyntaxView.{expr_view, exprs_view, nameds_view, stmt_view, stmts_view};
@@ -15,7 +14,7 @@ ghost use Rattle.composer.specs.WrittenGroups.{kept_of, value_kept, group_kind, 
 ghost use Rattle.composer.specs.FrameDrafts.{Holds, IsOwing, ComposesFrame, root_of};
 ghost use Rattle.lang_ast.specs.Programs.{functions_of};
 ghost use Rattle.composer.specs.OldSiblings.{old_group, IsFoundIn};
-ghost use Rattle.composer.specs.Recomposes.{Recomposes, Continues, RanBeside, Writes, HasRoom, HasRoomToWrite, FitsIn, group_at_level, statement_at, body_at, call_at, loop_at, BodyRan, GroupSkipped, GroupsSkipped, FrameWritten, any_calculation, is_container, is_call_kept};
+ghost use Rattle.composer.specs.Recomposes.{Recomposes, Continues, RanInside, StaysIn, Writes, HasRoom, HasRoomToWrite, FitsIn, statement_at, body_at, call_at, loop_at, BodyRan, GroupSkipped, GroupsSkipped, FrameWritten, any_calculation};
 
 use crate::compared::{call_is_run, kept_value, meet};
 use crate::draft::{Draft, Held};
@@ -146,34 +145,26 @@ fn run_one<'a, V: View, L: Ledger>(
     }
 }
 
-// Composes a node or a key: matches its group with an old sibling, appends it, and composes the statements inside it.
+// Composes the statements inside a node or a key that was matched with `found`, next to the old groups inside it.
 #[cycle(again)]
 #[inline(always)]
-fn run_group<'a, V: View, L: Ledger>(
+fn run_inside<'a, V: View, L: Ledger>(
     level: &Level<'a>,
-    site: u32,
-    what: NewKind,
+    found: &Option<OldGroup<'a>>,
     body: &[Statement],
     made: &mut Progress<'a>,
     view: &mut V,
     steps: &mut Steps<L>,
 ) -> Result<(), ComposeStop>
-    requires { HasRoom level.now made.old }
+    requires deep { level.now.depth < length made.old.writer.groups }
+    requires stays { StaysIn level.now made.old }
+    requires found { IsFoundIn level.now.last.now.groups found.now }
     ensures part { Continues V.shows V.asked V.keeps level.now view.old view.new made.old made.new result }
-    ensures ran { (w : kind_data) → group_kind what.entry ≡ flat_kind w → is_container w ≡ true → (m : Map)
-        → V.shows view.old m →
-        RanBeside level.now (group_at_level level.now site w (stmts_view body.now) made.old.scope)
-        (λ calc. StmtsCalculate calc (stmts_view body.now)) m (V.asked view.old) (V.asked view.new) made.old made.new
-        result }
+    ensures pending { OnOk result (made.new.pending ≡ made.old.pending) }
+    ensures ran { (m : Map) → V.shows view.old m → RanInside level.now found.now
+        (body_at level.now (stmts_view body.now) made.old.scope) (λ calc. StmtsCalculate calc (stmts_view body.now)) m
+        (V.asked view.old) (V.asked view.new) made.old made.new result }
 {
-    let found = enter_group(
-        level,
-        site,
-        what,
-        &mut made.pending,
-        &mut made.writer,
-        &mut made.spares,
-    )?;
     if body.is_empty() {
         return Ok(());
     }
@@ -183,14 +174,15 @@ fn run_group<'a, V: View, L: Ledger>(
         last: level.last,
         depth: level.depth + 1,
     };
-    let within = Pending::inside_found(level.last, &found);
+    let within = Pending::inside_found(level.last, found);
     let around = mem::replace(&mut made.pending, within);
     run_all(&inside, body, made, view, steps)?;
     made.pending = around;
     Ok(())
 }
 
-// Composes a node: evaluates its attributes, and composes its group.
+// Composes a node: evaluates its attributes, matches its group with an old sibling, appends it, and composes the
+// statements inside it.
 #[cycle(again)]
 fn run_node<'a, V: View, L: Ledger>(
     level: &Level<'a>,
@@ -222,10 +214,18 @@ fn run_node<'a, V: View, L: Ledger>(
         kind: &kind.text,
         attributes,
     };
-    run_group(level, site, node, body, made, view, steps)
+    let found = enter_group(
+        level,
+        site,
+        node,
+        &mut made.pending,
+        &mut made.writer,
+        &mut made.spares,
+    )?;
+    run_inside(level, &found, body, made, view, steps)
 }
 
-// Composes a key: evaluates it, and composes its group.
+// Composes a key: evaluates it, matches its group with an old sibling, appends it, and composes the statements inside it.
 #[cycle(again)]
 fn run_key<'a, V: View, L: Ledger>(
     level: &Level<'a>,
@@ -243,7 +243,15 @@ fn run_key<'a, V: View, L: Ledger>(
         view.old view.new made.old made.new result }
 {
     let key = eval_noting(level.alloc, key, &made.scope, view, &mut made.reads)?;
-    run_group(level, site, NewKind::Key(key), body, made, view, steps)
+    let found = enter_group(
+        level,
+        site,
+        NewKind::Key(key),
+        &mut made.pending,
+        &mut made.writer,
+        &mut made.spares,
+    )?;
+    run_inside(level, &found, body, made, view, steps)
 }
 
 // Evaluates the condition and composes one of two lists of statements.
@@ -576,11 +584,36 @@ fn front(functions: &[Function], count: usize) -> &[Function]
     }
 }
 
-// Skips an old call. If it is owed it runs, else it is kept, and the groups inside are skipped. If no call is owed from
-// it to the last group inside, all of them are kept at once.
+// Skips an old call. If no call is owed from it to the last group inside, all of them are kept at once.
 #[cycle(again)]
 #[inline(always)]
 fn skip_call<'a, V: View, L: Ledger>(
+    level: &Level<'a>,
+    site: u32,
+    old: &OldGroup<'a>,
+    made: &mut Progress<'a>,
+    view: &mut V,
+    steps: &mut Steps<L>,
+) -> Result<(), ComposeStop>
+    requires room { HasRoomToWrite level.now made.old.writer }
+    requires table { old.now.groups ≡ level.now.last.now.groups }
+    ensures { Writes V.shows V.asked V.keeps level.now.last.now.groups view.old view.new made.old made.new result
+        (λ m. GroupSkipped level.now m site old.now (V.asked view.old) (V.asked view.new) made.old.writer made.new.writer
+        result) }
+{
+    if let Some(after) = quiet_call_end(level.last, level.depth, site, old) {
+        steps.tick();
+        made.writer.keep_run(old.index(), after)?;
+        return Ok(());
+    }
+    skip_call_around(level, site, old, made, view, steps)
+}
+
+// Skips an old call that is owed or contains owed calls. If it is owed itself it runs, else it is kept, and the groups
+// inside are skipped.
+#[cycle(again)]
+#[inline(always)]
+fn skip_call_around<'a, V: View, L: Ledger>(
     level: &Level<'a>,
     site: u32,
     old: &OldGroup<'a>,
@@ -600,10 +633,6 @@ fn skip_call<'a, V: View, L: Ledger>(
             function,
             arguments,
         } => {
-            if let Some(after) = quiet_call_end(level.last, level.depth, site, old) {
-                made.writer.keep_run(old.index(), after)?;
-                return Ok(());
-            }
             if meet(old.reads(), level.last) {
                 let found = Some(old.copy());
                 let arguments = CallArguments::Old(arguments);
@@ -657,7 +686,7 @@ fn skip_all<'a, V: View, L: Ledger>(
         if made.writer.len() < here.depth as usize {
             return Err(ComposeStop::NoMemory); // A group is after the groups that contain it.
         }
-        skip_call(&here, old.site(), &old, made, view, steps)?;
+        skip_call_around(&here, old.site(), &old, made, view, steps)?;
         at = last.index_after(stop);
     }
     Ok(())

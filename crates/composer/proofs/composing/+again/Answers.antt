@@ -31,15 +31,15 @@ use Rattle.composer.specs.declared.pending.Pending.{Pending}
 use Rattle.composer.specs.ComposerState.{ComposerState, skipped_groups}
 use Rattle.composer.specs.QuietRuns.{group_run}
 use Rattle.composer.specs.BesideContracts.{IsOldPart}
-use Rattle.composer.specs.WrittenGroups.{WrittenGroups, state_of, kept_of, group_kind, arguments_of, first_reads}
+use Rattle.composer.specs.WrittenGroups.{WrittenGroups, state_of, kept_of, arguments_of, first_reads}
 use Rattle.composer.specs.Recomposes.{ComposesBeside}
 use Rattle.composer.proofs.BesideCases.{node_beside, call_beside, key_beside, choice_beside, loop_beside, binding_beside, remember_beside, node_calculates, key_calculates, then_calculates, else_calculates, loop_calculates, binding_calculates, cell_calculates, remember_calculates}
 use Rattle.composer.proofs.Machine.{same_state}
-use Rattle.composer.proofs.Reaching.{reached_stop, reached_full, reached_at}
-use Rattle.composer.proofs.BesideSteps.{beside_stop_here, beside_stop_after, beside_after, beside_full, beside_group, beside_alone, beside_cell, beside_run, going_first, going_more, going_done, going_stop, beside_err, beside_first, beside_second}
-use Rattle.composer.proofs.OldParts.{inside_old}
+use Rattle.composer.proofs.Reaching.{reached_stop, reached_full, reached_at, reached_as}
+use Rattle.composer.proofs.BesideSteps.{beside_stop_here, beside_stop_after, beside_after, beside_full, reached_none, beside_cell, beside_run, going_first, going_more, going_done, going_stop, beside_first, beside_second}
+use Rattle.composer.proofs.EnteredGroups.{entered_beside}
 use Rattle.composer.proofs.OldMatches.{fits_inside}
-use Rattle.composer.proofs.Matching.{matched, key_is, matched_state, container_is_no_call, kept_is_calculated, entered_longer, call_longer, running_longer, kept_longer, at_now, beside_now, beside_inside}
+use Rattle.composer.proofs.Matching.{matched, matched_state, kept_is_calculated, entered_longer, call_longer, running_longer, kept_longer, at_now, beside_now}
 use Rattle.composer.proofs.Comparisons.{call_runs_kept}
 use Rattle.composer.proofs.CalledFunctions.{how_many_functions, slice_is, since_slice, statement_calculates, body_none}
 use Rattle.composer.proofs.SkippedCalls.{skips, skips_as}
@@ -232,81 +232,39 @@ run_one-returns-in-Remember g t c = record {
       c.in-Remember.is (search rules) (search rules) r;
 }
 
--- A node or a key, with the groups inside.
+-- The statements inside a node or a key.
 
-pub run_group-returns-in_err-found-clause-ran : goal.run_group-returns-in_err-found-clause-ran
-run_group-returns-in_err-found-clause-ran g t c w is plain m h o b calc =
-    let e : c.from_residual.result ≡ Err c.in_err-found.field-0.0 = search rules in
-    beside_full _ (failed _ _ e) (search rules) refl
-
-pub run_group-returns-in_err-found-clause-part : goal.run_group-returns-in_err-found-clause-part
-run_group-returns-in_err-found-clause-part g t c =
-    let e : c.from_residual.result ≡ Err c.in_err-found.field-0.0 = search rules in
-    record {
-      keeps = g.met.V.View.keeps_itself _;
-      same = λ m h. h;
-      same_scope = stopped _ _ _ e;
-      longer = stopped _ _ _ e;
-      fits = stopped _ _ _ e;
-      counted = λ m h. stopped _ _ _ e;
-    }
-
-pub run_group-returns-then-is_empty-clause-ran : goal.run_group-returns-then-is_empty-clause-ran
-run_group-returns-then-is_empty-clause-ran g t c w is plain m h o b calc =
-    let x = sibling c.args.site w in
-    let xs = key_is c.args.site w (group_kind c.args.what) _ refl is refl in
-    let k = matched {left = c.enter_group.new.pending} x _ xs b c.in_ok-found.ensures.found
-    c.in_ok-found.ensures.left in
-    let there = matching_sibling x (occurrence x o.seen) o.old in
-    let inside = body_forest m c.args.level.now.functions.now (stmts_view c.args.body.now) c.args.made.now.scope in
-    let state = matched_state c.args.level.now.depth c.args.site w (group_kind c.args.what) inside c.in_ok-found.found
-    there c.args.made.now.writer c.enter_group.new.writer (g.V.View.asked c.args.view.now) c.args.made.now.reads
-    (container_is_no_call w plain) k.like is c.in_ok-found.ensures.entered in
+pub run_inside-returns-then-is_empty-clause-ran : goal.run_inside-returns-then-is_empty-clause-ran
+run_inside-returns-then-is_empty-clause-ran g t c m h l there since part like calc =
     let empty : length c.args.body.now ≡ 0 =
     eqb-true (length c.args.body.now) 0 (sym c.is_empty.ensures ∙ c.if-is_empty.true) in
-    let none : inside ≡ End = all_end m c.args.level.now.functions.now c.args.body.now 0 c.args.made.now.scope
-    (omega (arith, empty)) in
-    beside_alone w inside _ plain none state k.fits
+    reached_none _ _ _ (all_end m c.args.level.now.functions.now c.args.body.now 0 c.args.made.now.scope
+    (omega (arith, empty)))
 
-pub run_group-returns-then-is_empty-clause-part : goal.run_group-returns-then-is_empty-clause-part
-run_group-returns-then-is_empty-clause-part g t c = record {
+pub run_inside-returns-then-is_empty-clause-part : goal.run_inside-returns-then-is_empty-clause-part
+run_inside-returns-then-is_empty-clause-part g t c = record {
   keeps = g.met.V.View.keeps_itself _;
   same = λ m h. h;
   same_scope = refl;
-  longer = entered_longer _ _ (group_kind c.args.what) c.in_ok-found.found c.args.made.now.writer _
-      c.in_ok-found.ensures.entered;
-  fits = record {
-    written = fits_after (ap (λ (q : WrittenGroups). q.olds) c.in_ok-found.ensures.entered) c.requires.stays.written
-        c.in_ok-found.ensures.fits;
-    pending = c.in_ok-found.ensures.table ∙ c.requires.stays.pending;
-  };
-  counted = λ m h. let e : c.enter_group.new.writer.reads ≡ c.args.made.now.writer.reads =
-      ap (λ (q : WrittenGroups). q.reads) c.in_ok-found.ensures.entered in omega (arith, e);
+  longer = omega arith;
+  fits = c.requires.stays;
+  counted = λ m h. refl;
 }
 
-pub run_group-returns-in_err-run_all-clause-ran : goal.run_group-returns-in_err-run_all-clause-ran
-run_group-returns-in_err-run_all-clause-ran g t c w is plain m h o b calc =
-    let x = sibling c.args.site w in
-    let xs = key_is c.args.site w (group_kind c.args.what) _ refl is refl in
-    let k = matched {left = c.enter_group.new.pending} x _ xs b c.in_ok-found.ensures.found
-    c.in_ok-found.ensures.left in
-    let there = matching_sibling x (occurrence x o.seen) o.old in
-    let inside = body_forest m c.args.level.now.functions.now (stmts_view c.args.body.now) c.args.made.now.scope in
-    let state = matched_state c.args.level.now.depth c.args.site w (group_kind c.args.what) inside c.in_ok-found.found
-    there c.args.made.now.writer c.enter_group.new.writer (g.V.View.asked c.args.view.now) c.args.made.now.reads
-    (container_is_no_call w plain) k.like is c.in_ok-found.ensures.entered in
+pub run_inside-returns-in_err-run_all-clause-ran : goal.run_inside-returns-in_err-run_all-clause-ran
+run_inside-returns-in_err-run_all-clause-ran g t c m h l there since part like calc =
     let within : c.replace-around.new.dest ≡ c.inside_found-within.result = search rules in
     let fits = subst (λ (p : Pending). Fits (c.args.level.now.depth + 1) p (inside_of there) []) (sym within)
-    (fits_inside c.args.level.now.depth c.inside_found-within.result c.in_ok-found.found there
-    c.inside_found-within.ensures.waiting k.like) in
-    let e : c.from_residual-in_err-run_all.result ≡ Err c.in_err-run_all.field-0.0 = search rules in
-    let inner = c.in_err-run_all.ensures.ran m (inside_old o (inside_of there)) h
-    (beside_inside (inside_of there) b k.part fits) calc in
-    beside_err _ e (beside_group w _ plain state tt inner)
+    (fits_inside c.args.level.now.depth c.inside_found-within.result c.args.found.now there
+    c.inside_found-within.ensures.waiting like) in
+    let e : c.from_residual.result ≡ Err c.in_err-run_all.field-0.0 = search rules in
+    let inner = c.in_err-run_all.ensures.ran m (record { last = l; old = inside_of there; seen = [] }) h
+    (record { since = since; part = part; fits = fits }) calc in
+    reached_as _ _ e inner.reached
 
-pub run_group-returns-in_err-run_all-clause-part : goal.run_group-returns-in_err-run_all-clause-part
-run_group-returns-in_err-run_all-clause-part g t c =
-    let e : c.from_residual-in_err-run_all.result ≡ Err c.in_err-run_all.field-0.0 = search rules in
+pub run_inside-returns-in_err-run_all-clause-part : goal.run_inside-returns-in_err-run_all-clause-part
+run_inside-returns-in_err-run_all-clause-part g t c =
+    let e : c.from_residual.result ≡ Err c.in_err-run_all.field-0.0 = search rules in
     record {
       keeps = c.in_err-run_all.ensures.keeps;
       same = c.in_err-run_all.ensures.same;
@@ -316,42 +274,28 @@ run_group-returns-in_err-run_all-clause-part g t c =
       counted = λ m h. stopped _ _ _ e;
     }
 
-pub run_group-returns-clause-ran : goal.run_group-returns-clause-ran
-run_group-returns-clause-ran g t c w is plain m h o b calc =
-    let x = sibling c.args.site w in
-    let xs = key_is c.args.site w (group_kind c.args.what) _ refl is refl in
-    let k = matched {left = c.enter_group.new.pending} x _ xs b c.in_ok-found.ensures.found
-    c.in_ok-found.ensures.left in
-    let there = matching_sibling x (occurrence x o.seen) o.old in
-    let inside = body_forest m c.args.level.now.functions.now (stmts_view c.args.body.now) c.args.made.now.scope in
-    let state = matched_state c.args.level.now.depth c.args.site w (group_kind c.args.what) inside c.in_ok-found.found
-    there c.args.made.now.writer c.enter_group.new.writer (g.V.View.asked c.args.view.now) c.args.made.now.reads
-    (container_is_no_call w plain) k.like is c.in_ok-found.ensures.entered in
+pub run_inside-returns-clause-ran : goal.run_inside-returns-clause-ran
+run_inside-returns-clause-ran g t c m h l there since part like calc =
     let within : c.replace-around.new.dest ≡ c.inside_found-within.result = search rules in
     let fits = subst (λ (p : Pending). Fits (c.args.level.now.depth + 1) p (inside_of there) []) (sym within)
-    (fits_inside c.args.level.now.depth c.inside_found-within.result c.in_ok-found.found there
-    c.inside_found-within.ensures.waiting k.like) in
-    let inner = c.in_ok-run_all.ensures.ran m (inside_old o (inside_of there)) h
-    (beside_inside (inside_of there) b k.part fits) calc in
-    let around : c.replace-around.result ≡ c.enter_group.new.pending = search rules in
-    beside_group w _ plain state
-    (subst (λ (p : Pending). Fits c.args.level.now.depth p o.old (x ∷ o.seen)) (sym around) k.fits) inner
+    (fits_inside c.args.level.now.depth c.inside_found-within.result c.args.found.now there
+    c.inside_found-within.ensures.waiting like) in
+    let inner = c.in_ok-run_all.ensures.ran m (record { last = l; old = inside_of there; seen = [] }) h
+    (record { since = since; part = part; fits = fits }) calc in
+    inner.reached
 
-pub run_group-returns-clause-part : goal.run_group-returns-clause-part
-run_group-returns-clause-part g t c = record {
+pub run_inside-returns-clause-part : goal.run_inside-returns-clause-part
+run_inside-returns-clause-part g t c = record {
   keeps = c.in_ok-run_all.ensures.keeps;
   same = c.in_ok-run_all.ensures.same;
   same_scope = c.in_ok-run_all.ensures.same_scope;
-  longer = let e = entered_longer _ _ (group_kind c.args.what) c.in_ok-found.found c.args.made.now.writer _
-      c.in_ok-found.ensures.entered in omega (arith, e, c.in_ok-run_all.ensures.longer);
+  longer = c.in_ok-run_all.ensures.longer;
   fits = record {
     written = c.in_ok-run_all.ensures.fits.written;
-    pending = let around : c.replace-around.result ≡ c.enter_group.new.pending = search rules in
-        ap (λ (p : Pending). p.table.now.groups) around ∙ c.in_ok-found.ensures.table ∙ c.requires.stays.pending;
+    pending = let around : c.replace-around.result ≡ c.args.made.now.pending = search rules in
+        ap (λ (p : Pending). p.table.now.groups) around ∙ c.requires.stays.pending;
   };
-  counted = λ m h. let f = c.in_ok-run_all.ensures.counted m h in
-      let e : c.enter_group.new.writer.reads ≡ c.args.made.now.writer.reads =
-      ap (λ (q : WrittenGroups). q.reads) c.in_ok-found.ensures.entered in omega (arith, e, f);
+  counted = λ m h. c.in_ok-run_all.ensures.counted m h;
 }
 
 -- A key.
@@ -371,26 +315,48 @@ run_key-returns-in_err-key g t c =
           beside_stop_after _ _ _ e p.rest p.is;
     }
 
+pub run_key-returns-in_err-found : goal.run_key-returns-in_err-found
+run_key-returns-in_err-found g t c =
+    let e : c.from_residual-in_err-found.result ≡ Err c.in_err-found.field-0.0 = search rules in
+    record {
+      keeps = c.in_ok-key.ensures.keeps;
+      same = c.in_ok-key.ensures.same;
+      same_scope = stopped _ _ _ e;
+      longer = stopped _ _ _ e;
+      fits = stopped _ _ _ e;
+      counted = λ m h. stopped _ _ _ e;
+      ran = λ m o h b calc.
+          beside_after _ _ (state_of c.args.made.now.writer (g.V.View.asked c.eval_noting.new.view) c.eval_noting.new.reads)
+          (same_state refl refl refl refl (c.in_ok-key.ensures.asks m h) (c.in_ok-key.ensures.reads m h))
+          (beside_full _ (failed _ _ e) (search rules) refl);
+    }
+
 pub run_key-returns : goal.run_key-returns
 run_key-returns g t c = record {
-  keeps = g.met.V.View.keeps_on _ _ _ c.in_ok-key.ensures.keeps c.run_group.ensures.part.keeps;
-  same = λ m h. c.run_group.ensures.part.same m (c.in_ok-key.ensures.same m h);
-  same_scope = c.run_group.ensures.part.same_scope;
-  longer = c.run_group.ensures.part.longer;
-  fits = c.run_group.ensures.part.fits;
-  counted = λ m h. counted_after _ _ _ _ _ _ _ _ _ _ (c.in_ok-key.ensures.asks m h) (c.in_ok-key.ensures.reads m h)
-      (c.run_group.ensures.part.counted m (c.eval_noting.ensures.same m h));
+  keeps = g.met.V.View.keeps_on _ _ _ c.in_ok-key.ensures.keeps c.run_inside.ensures.part.keeps;
+  same = λ m h. c.run_inside.ensures.part.same m (c.in_ok-key.ensures.same m h);
+  same_scope = c.run_inside.ensures.part.same_scope;
+  longer = longer_on _ _ _ _ (entered_longer _ _ (what.Key c.in_ok-key.key) c.in_ok-found.found c.args.made.now.writer _
+      c.in_ok-found.ensures.entered) c.run_inside.ensures.part.longer;
+  fits = c.run_inside.ensures.part.fits;
+  counted = λ m h. counted_cell _ _ c.enter_group.new.writer.reads _ _ _ c.eval_noting.new.reads _ _ _
+      (g.V.View.asked c.eval_noting.new.view) _ _ (c.in_ok-key.ensures.asks m h)
+      (c.in_ok-key.ensures.reads m h) refl (ap (λ (q : WrittenGroups). q.reads) c.in_ok-found.ensures.entered)
+      (c.run_inside.ensures.part.counted m (c.eval_noting.ensures.same m h));
   ran = λ m o h b calc.
       let P : Value → Type 0 = λ v. ComposesBeside c.args.level.now.last.now.owed.objects o.old c.args.level.now.depth o.seen
       (GroupForest.Group c.args.site 0 (Key v)
       (body_forest m c.args.level.now.functions.now (stmts_view c.args.body.now) c.args.made.now.scope) End)
       (state_of c.args.made.now.writer (g.V.View.asked c.eval_noting.new.view) c.eval_noting.new.reads)
-      (state_of c.run_group.new.made.writer (g.V.View.asked c.run_group.new.view) c.run_group.new.made.reads)
-      c.run_group.new.made.pending c.run_group.result in
+      (state_of c.run_inside.new.made.writer (g.V.View.asked c.run_inside.new.view) c.run_inside.new.made.reads)
+      c.run_inside.new.made.pending c.run_inside.result in
       let inner = subst P (c.in_ok-key.ensures.value m h)
-      (c.run_group.ensures.ran (Key c.in_ok-key.key) refl refl m (c.eval_noting.ensures.same m h) o b calc) in
+      (entered_beside c.run_inside.result c.enter_group.new.pending (Key c.in_ok-key.key) (what.Key c.in_ok-key.key) refl refl b
+      c.in_ok-found.ensures.found c.in_ok-found.ensures.left c.in_ok-found.ensures.entered
+      c.run_inside.ensures.pending
+      (λ there part like. c.run_inside.ensures.ran m (c.eval_noting.ensures.same m h) o.last there b.since part like calc)) in
       beside_after _ _ (state_of c.args.made.now.writer (g.V.View.asked c.eval_noting.new.view) c.eval_noting.new.reads)
-      (same_state refl refl refl refl (c.in_ok-key.ensures.asks m h) (c.in_ok-key.ensures.reads m h)) (inner);
+      (same_state refl refl refl refl (c.in_ok-key.ensures.asks m h) (c.in_ok-key.ensures.reads m h)) inner;
 }
 
 -- A node.
@@ -424,26 +390,49 @@ run_node-returns-in_err-attributes g t c =
           beside_stop_after _ _ _ e p.rest p.is;
     }
 
+pub run_node-returns-in_err-found : goal.run_node-returns-in_err-found
+run_node-returns-in_err-found g t c =
+    let e : c.from_residual-in_err-found.result ≡ Err c.in_err-found.field-0.0 = search rules in
+    record {
+      keeps = c.in_ok-attributes.ensures.keeps;
+      same = c.in_ok-attributes.ensures.same;
+      same_scope = stopped _ _ _ e;
+      longer = stopped _ _ _ e;
+      fits = stopped _ _ _ e;
+      counted = λ m h. stopped _ _ _ e;
+      ran = λ m o h b calc.
+          beside_after _ _ (state_of c.args.made.now.writer (g.V.View.asked c.evaluate_attributes.new.view)
+          c.evaluate_attributes.new.reads)
+          (same_state refl refl refl refl (c.in_ok-attributes.ensures.asks m h) (c.in_ok-attributes.ensures.reads m h))
+          (beside_full _ (failed _ _ e) (search rules) refl);
+    }
+
 pub run_node-returns : goal.run_node-returns
 run_node-returns g t c = record {
-  keeps = g.met.V.View.keeps_on _ _ _ c.in_ok-attributes.ensures.keeps c.run_group.ensures.part.keeps;
-  same = λ m h. c.run_group.ensures.part.same m (c.in_ok-attributes.ensures.same m h);
-  same_scope = c.run_group.ensures.part.same_scope;
-  longer = c.run_group.ensures.part.longer;
-  fits = c.run_group.ensures.part.fits;
-  counted = λ m h. counted_after _ _ _ _ _ _ _ _ _ _ (c.in_ok-attributes.ensures.asks m h)
-      (c.in_ok-attributes.ensures.reads m h)
-      (c.run_group.ensures.part.counted m (c.evaluate_attributes.ensures.same m h));
+  keeps = g.met.V.View.keeps_on _ _ _ c.in_ok-attributes.ensures.keeps c.run_inside.ensures.part.keeps;
+  same = λ m h. c.run_inside.ensures.part.same m (c.in_ok-attributes.ensures.same m h);
+  same_scope = c.run_inside.ensures.part.same_scope;
+  longer = longer_on _ _ _ _ (entered_longer _ _
+      (what.Node c.args.kind.now.text c.in_ok-attributes.attributes) c.in_ok-found.found c.args.made.now.writer _
+      c.in_ok-found.ensures.entered) c.run_inside.ensures.part.longer;
+  fits = c.run_inside.ensures.part.fits;
+  counted = λ m h. counted_cell _ _ c.enter_group.new.writer.reads _ _ _ c.evaluate_attributes.new.reads _ _ _
+      (g.V.View.asked c.evaluate_attributes.new.view) _ _ (c.in_ok-attributes.ensures.asks m h)
+      (c.in_ok-attributes.ensures.reads m h) refl (ap (λ (q : WrittenGroups). q.reads) c.in_ok-found.ensures.entered)
+      (c.run_inside.ensures.part.counted m (c.evaluate_attributes.ensures.same m h));
   ran = λ m o h b calc.
       let all = (eval_named m (nameds_view c.args.attributes.now) c.args.made.now.scope).value in
       let w = Node c.args.kind.now.text (map attribute all) in
       let made : what.Node c.args.kind.now.text c.in_ok-attributes.attributes ≡ flat_kind w =
       ap (λ (l : List Attribute). what.Node c.args.kind.now.text l) (c.in_ok-attributes.ensures.value m h) in
-      let inner = c.run_group.ensures.ran w made refl m (c.evaluate_attributes.ensures.same m h) o b calc in
+      let inner = entered_beside c.run_inside.result c.enter_group.new.pending w (what.Node c.args.kind.now.text c.in_ok-attributes.attributes)
+      made refl b c.in_ok-found.ensures.found c.in_ok-found.ensures.left c.in_ok-found.ensures.entered
+      c.run_inside.ensures.pending
+      (λ there part like. c.run_inside.ensures.ran m (c.evaluate_attributes.ensures.same m h) o.last there b.since part like calc) in
       beside_after _ _ (state_of c.args.made.now.writer (g.V.View.asked c.evaluate_attributes.new.view)
       c.evaluate_attributes.new.reads)
       (same_state refl refl refl refl (c.in_ok-attributes.ensures.asks m h) (c.in_ok-attributes.ensures.reads m h))
-      (inner);
+      inner;
 }
 
 -- One of two lists of statements.
@@ -1252,8 +1241,8 @@ run_body-returns g t c = record {
 
 -- Old groups that are skipped.
 
-pub skip_call-returns-then-meet : goal.skip_call-returns-then-meet
-skip_call-returns-then-meet g t c = record {
+pub skip_call_around-returns-then-meet : goal.skip_call_around-returns-then-meet
+skip_call_around-returns-then-meet g t c = record {
   keeps = c.run_body.ensures.keeps;
   same = c.run_body.ensures.same;
   in_hand = c.run_body.ensures.in_hand;
@@ -1274,8 +1263,8 @@ skip_call-returns-then-meet g t c = record {
       (state_of c.args.made.now.writer (g.V.View.asked c.args.view.now) mine) what_is anew) r;
 }
 
-pub skip_call-returns-in_default : goal.skip_call-returns-in_default
-skip_call-returns-in_default g t c = record {
+pub skip_call_around-returns-in_default : goal.skip_call_around-returns-in_default
+skip_call_around-returns-in_default g t c = record {
   keeps = g.met.V.View.keeps_itself _;
   same = λ m h. h;
   in_hand = tt;
@@ -1288,9 +1277,9 @@ skip_call-returns-in_default g t c = record {
       (state_of c.args.made.now.writer (g.V.View.asked c.args.view.now) mine));
 }
 
-pub skip_call-returns-in_err-keep_run-in-Call : goal.skip_call-returns-in_err-keep_run-in-Call
-skip_call-returns-in_err-keep_run-in-Call g t c =
-    let e : c.from_residual.result ≡ Err c.in_err-keep_run-in-Call.field-0.0 = search rules in
+pub skip_call-returns-in_err-keep_run : goal.skip_call-returns-in_err-keep_run
+skip_call-returns-in_err-keep_run g t c =
+    let e : c.from_residual.result ≡ Err c.in_err-keep_run.field-0.0 = search rules in
     record {
       keeps = g.met.V.View.keeps_itself _;
       same = λ m h. h;
@@ -1318,14 +1307,14 @@ skip_call-returns-in-Some g t c = record {
   keeps = g.met.V.View.keeps_itself _;
   same = λ m h. h;
   in_hand = record { scope = refl; pending = refl; reads = refl };
-  longer = c.in_ok-keep_run-in-Call.ensures.longer;
-  fits = fits_after (ap (λ (q : WrittenGroups). q.olds) c.in_ok-keep_run-in-Call.ensures.added) c.requires.room.fits
-      c.in_ok-keep_run-in-Call.ensures.fits;
-  counted = λ m h. let reads = ap (λ (w : WrittenGroups). w.reads) c.in_ok-keep_run-in-Call.ensures.added in omega (arith, reads);
+  longer = c.in_ok-keep_run.ensures.longer;
+  fits = fits_after (ap (λ (q : WrittenGroups). q.olds) c.in_ok-keep_run.ensures.added) c.requires.room.fits
+      c.in_ok-keep_run.ensures.fits;
+  counted = λ m h. let reads = ap (λ (w : WrittenGroups). w.reads) c.in_ok-keep_run.ensures.added in omega (arith, reads);
   ran = λ m h l f mine since part like.
       let s = state_of c.args.made.now.writer (g.V.View.asked c.args.view.now) mine in
       record {
-        all = run_added _ _ (g.V.View.asked c.args.view.now) mine c.in_ok-keep_run-in-Call.ensures.added c.requires.room.fits
+        all = run_added _ _ (g.V.View.asked c.args.view.now) mine c.in_ok-keep_run.ensures.added c.requires.room.fits
             ∙ quiet_group c.args.level.now.last.now c.args.old.now c.index.result f
             (functions_view c.args.level.now.functions.now) s c.index.ensures.index c.requires.table (search rules)
             c.in-Some.ensures like part;
@@ -1334,9 +1323,9 @@ skip_call-returns-in-Some g t c = record {
       };
 }
 
-pub skip_call-returns-in_err-keep_group-in-Call : goal.skip_call-returns-in_err-keep_group-in-Call
-skip_call-returns-in_err-keep_group-in-Call g t c =
-    let e : c.from_residual-in_err-keep_group-in-Call.result ≡ Err c.in_err-keep_group-in-Call.field-0.0 = search rules in
+pub skip_call_around-returns-in_err-keep_group-in-Call : goal.skip_call_around-returns-in_err-keep_group-in-Call
+skip_call_around-returns-in_err-keep_group-in-Call g t c =
+    let e : c.from_residual.result ≡ Err c.in_err-keep_group-in-Call.field-0.0 = search rules in
     record {
       keeps = g.met.V.View.keeps_itself _;
       same = λ m h. h;
@@ -1353,8 +1342,8 @@ skip_call-returns-in_err-keep_group-in-Call g t c =
           c.args.level.now.depth c.args.site f (state_of c.args.made.now.writer (g.V.View.asked c.args.view.now) mine));
     }
 
-pub skip_call-returns-in_ok-keep_group-in-Call : goal.skip_call-returns-in_ok-keep_group-in-Call
-skip_call-returns-in_ok-keep_group-in-Call g t c = record {
+pub skip_call_around-returns-in_ok-keep_group-in-Call : goal.skip_call_around-returns-in_ok-keep_group-in-Call
+skip_call_around-returns-in_ok-keep_group-in-Call g t c = record {
   keeps = c.skip_all.ensures.keeps;
   same = c.skip_all.ensures.same;
   in_hand = in_hand_on _ _ _ _ (record { scope = refl; pending = refl; reads = refl }) c.skip_all.ensures.in_hand;
@@ -1459,12 +1448,12 @@ skip_all-returns g t c = record {
       (ends_past c.args.level.now.last.now.groups c.args.level.now.depth c.loop-at.at (search (rules, arith)));
 }
 
-pub skip_all-returns-in_err-skip_call : goal.skip_all-returns-in_err-skip_call
-skip_all-returns-in_err-skip_call g t c =
-    let e : c.from_residual-in_err-skip_call.result ≡ Err c.in_err-skip_call.field-0.0 = search rules in
+pub skip_all-returns-in_err-skip_call_around : goal.skip_all-returns-in_err-skip_call_around
+skip_all-returns-in_err-skip_call_around g t c =
+    let e : c.from_residual-in_err-skip_call_around.result ≡ Err c.in_err-skip_call_around.field-0.0 = search rules in
     record {
-      keeps = g.met.V.View.keeps_on _ _ _ c.loop-at.invariant.keeps c.in_err-skip_call.ensures.keeps;
-      same = λ m h. c.in_err-skip_call.ensures.same m (c.loop-at.invariant.same m h);
+      keeps = g.met.V.View.keeps_on _ _ _ c.loop-at.invariant.keeps c.in_err-skip_call_around.ensures.keeps;
+      same = λ m h. c.in_err-skip_call_around.ensures.same m (c.loop-at.invariant.same m h);
       in_hand = stopped _ _ _ e;
       longer = stopped _ _ _ e;
       fits = stopped _ _ _ e;
@@ -1488,26 +1477,26 @@ skip_all-returns-in_err-skip_call g t c =
           let site = c.site.ensures ∙ ap (λ (q : KeyInfo). (old_group q).site) c.group-old.ensures ∙ layer_site groups i f in
           let s = state_of c.keep_run.new.self (g.V.View.asked c.loop-at.view) mine in
           left_stop _ k f (reached_at (moved_group m owed fs found s at site)
-          (c.in_err-skip_call.ensures.ran m (c.loop-at.invariant.same m h) l found mine since
+          (c.in_err-skip_call_around.ensures.ran m (c.loop-at.invariant.same m h) l found mine since
           (layer_part f k.parts) like)) e;
     }
 
 pub skip_all-loop-at-preserved : goal.skip_all-loop-at-preserved
 skip_all-loop-at-preserved g t c = record {
-  keeps = g.met.V.View.keeps_on _ _ _ c.loop-at.invariant.keeps c.in_ok-skip_call.ensures.keeps;
-  same = λ m h. c.in_ok-skip_call.ensures.same m (c.loop-at.invariant.same m h);
+  keeps = g.met.V.View.keeps_on _ _ _ c.loop-at.invariant.keeps c.in_ok-skip_call_around.ensures.keeps;
+  same = λ m h. c.in_ok-skip_call_around.ensures.same m (c.loop-at.invariant.same m h);
   in_hand = record {
-    scope = c.in_ok-skip_call.ensures.in_hand.scope ∙ c.loop-at.invariant.in_hand.scope;
-    pending = c.in_ok-skip_call.ensures.in_hand.pending ∙ c.loop-at.invariant.in_hand.pending;
-    reads = c.in_ok-skip_call.ensures.in_hand.reads ∙ c.loop-at.invariant.in_hand.reads;
+    scope = c.in_ok-skip_call_around.ensures.in_hand.scope ∙ c.loop-at.invariant.in_hand.scope;
+    pending = c.in_ok-skip_call_around.ensures.in_hand.pending ∙ c.loop-at.invariant.in_hand.pending;
+    reads = c.in_ok-skip_call_around.ensures.in_hand.reads ∙ c.loop-at.invariant.in_hand.reads;
   };
   longer =
-      omega (arith, c.loop-at.invariant.longer, c.in_ok-keep_run.ensures.longer, c.in_ok-skip_call.ensures.longer);
-  fits = c.in_ok-skip_call.ensures.fits;
+      omega (arith, c.loop-at.invariant.longer, c.in_ok-keep_run.ensures.longer, c.in_ok-skip_call_around.ensures.longer);
+  fits = c.in_ok-skip_call_around.ensures.fits;
   counted = λ m h.
       let e = c.loop-at.invariant.counted m h in
       let reads = ap (λ (w : WrittenGroups). w.reads) c.in_ok-keep_run.ensures.added in
-      let f = c.in_ok-skip_call.ensures.counted m (c.loop-at.invariant.same m h) in omega (arith, e, reads, f);
+      let f = c.in_ok-skip_call_around.ensures.counted m (c.loop-at.invariant.same m h) in omega (arith, e, reads, f);
   going = λ m h l tr mine since part begins.
       let i = c.next_call-stop.result in
       let owed = c.args.level.now.last.now.owed.objects in
@@ -1527,7 +1516,7 @@ skip_all-loop-at-preserved g t c = record {
       let site = c.site.ensures ∙ ap (λ (q : KeyInfo). (old_group q).site) c.group-old.ensures ∙ layer_site groups i f in
       let s = state_of c.keep_run.new.self (g.V.View.asked c.loop-at.view) mine in
       left_more groups i c.index_after-at.result k f c.index_after-at.ensures.after (reached_at (moved_group m owed fs found s at site)
-      (c.in_ok-skip_call.ensures.ran m (c.loop-at.invariant.same m h) l found mine since
+      (c.in_ok-skip_call_around.ensures.ran m (c.loop-at.invariant.same m h) l found mine since
       (layer_part f k.parts) like));
 }
 

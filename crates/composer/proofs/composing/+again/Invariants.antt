@@ -82,8 +82,8 @@ decreases-run_all g l =
 abbrev pub decreases-run_one : goal.decreases-run_one
 decreases-run_one g l = 8 * weight l.level.now.functions.now + 8 * stmt_size (stmt_view l.statement.now) + 3 + 3 * (most_groups - l.level.now.depth)
 
-abbrev pub decreases-run_group : goal.decreases-run_group
-decreases-run_group g l =
+abbrev pub decreases-run_inside : goal.decreases-run_inside
+decreases-run_inside g l =
     8 * weight l.level.now.functions.now + 8 * body_size l.body.now + 5 + 3 * (most_groups - l.level.now.depth)
 
 abbrev pub decreases-run_node : goal.decreases-run_node
@@ -118,16 +118,19 @@ decreases-run_remember g l =
     8 * weight l.level.now.functions.now + 8 * body_size l.body.now + 6 + 3 * (most_groups - l.level.now.depth)
 
 abbrev pub decreases-run_arguments : goal.decreases-run_arguments
-decreases-run_arguments g l = 8 * weight l.level.now.functions.now + 3 + 3 * (most_groups - l.level.now.depth)
+decreases-run_arguments g l = 8 * weight l.level.now.functions.now + 4 + 3 * (most_groups - l.level.now.depth)
 
 abbrev pub decreases-run_call : goal.decreases-run_call
-decreases-run_call g l = 8 * weight l.level.now.functions.now + 2 + 3 * (most_groups - l.level.now.depth)
+decreases-run_call g l = 8 * weight l.level.now.functions.now + 3 + 3 * (most_groups - l.level.now.depth)
 
 abbrev pub decreases-run_body : goal.decreases-run_body
 decreases-run_body g l = 8 * weight l.level.now.functions.now + 3 * (most_groups - l.level.now.depth)
 
 abbrev pub decreases-skip_call : goal.decreases-skip_call
-decreases-skip_call g l = 8 * weight l.level.now.functions.now + 1 + 3 * (most_groups - l.level.now.depth)
+decreases-skip_call g l = 8 * weight l.level.now.functions.now + 2 + 3 * (most_groups - l.level.now.depth)
+
+abbrev pub decreases-skip_call_around : goal.decreases-skip_call_around
+decreases-skip_call_around g l = 8 * weight l.level.now.functions.now + 1 + 3 * (most_groups - l.level.now.depth)
 
 abbrev pub decreases-skip_all : goal.decreases-skip_all
 decreases-skip_all g l = 8 * weight l.level.now.functions.now + 2 + 3 * (most_groups - l.level.now.depth)
