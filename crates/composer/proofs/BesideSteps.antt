@@ -15,7 +15,7 @@ use Rattle.composer.specs.OldGroups.{Fits}
 use Rattle.composer.specs.ComposerState.{ComposerState, opened_group, closed_group, composed_beside}
 use Rattle.composer.specs.BesideContracts.{IsPrefix, Reaches}
 use Rattle.composer.specs.Recomposes.{ComposesBeside, BesideProgress, is_container}
-use Rattle.composer.proofs.Reaching.{on_ok, reached_stop, reached_full, reached_as, longer_one}
+use Rattle.composer.proofs.Reaching.{on_ok, reached_stop, reached_full, longer_one}
 use Rattle.composer.proofs.Machine.{read_all, composed-joined, composed-reads_then, siblings-reads_then, part_of, longer, part_on}
 
 pub beside_stop : {U : Type 0} {owed : List ℕ} {old : GroupForest} {d : ℕ} {seen : List GroupKey} {t : GroupForest}
@@ -205,12 +205,6 @@ going_stop {owed = owed} {old = old} {d = d} {stmt = stmt} {mid = mid} {late = l
       };
       fits = tt;
     }
-
-pub beside_err : {U V : Type 0} {owed : List ℕ} {old : GroupForest} {d : ℕ} {seen : List GroupKey} {t : GroupForest}
-    {s s' : ComposerState} {left : Pending} {x : ComposeStop} (result : Result U ComposeStop) → result ≡ Err x →
-    ComposesBeside owed old d seen t s s' left {U = V} (Err x) → ComposesBeside owed old d seen t s s' left result
-beside_err (Ok u) e h = cc
-beside_err {x = x} (Err z) e h = record { reached = reached_as x (Err z) e h.reached; fits = tt }
 
 -- One of two forests.
 

@@ -1,7 +1,6 @@
 -- The indexes of old siblings.
 use Rattle.std.proofs.Common.{◌≡◌, ◌≤◌, ◌<◌, ℕ, zero, suc, ◌+◌, ◌-◌, ◌==◌, ◌&&◌, nat_le, nat_lt, Bool, true, false, List, [], ◌∷◌, ◌++◌, length, drop, drop-cons, length-drop, Some, if◌then◌else◌, refl, ap, sym, subst, ◌∙◌, arith, append_assoc, append-nil}
 use Rattle.std.specs.Prelude.{slice_get}
-use Rattle.std.specs.Option.{option_map}
 use Rattle.std.proofs.lemmas.List.{drop_all}
 use Rattle.std.proofs.lemmas.Bool.{true≢false, eqb-true, ltb-true, ltb-false, leb-true, leb-false}
 use Rattle.rt_groups.specs.declared.groups.Group.{Group}
@@ -187,12 +186,6 @@ pub level_inside : (groups : List Group) (d i : ℕ) → is_level groups d i ≡
 level_inside groups d i e =
     ltb-true i (length groups) (both_true (nat_lt i (length groups)) ((group_at groups i).depth == d) e).0
 
--- Lists of old groups by their indexes.
-pub first_info : (groups : List Group) (is : List ℕ)
-    → slice_get (infos_at groups is) 0 ≡ option_map (λ i. record { groups = groups; index = i }) (slice_get is 0)
-first_info groups [] = refl
-first_info groups (i ∷ is) = refl
-
 pub later_infos : (groups : List Group) (is : List ℕ) → infos_at groups (drop 1 is) ≡ drop 1 (infos_at groups is)
 later_infos groups [] = refl
 later_infos groups (i ∷ is) = refl
@@ -232,11 +225,6 @@ pub ordered_left : (groups : List Group) (b : Bool) (i : ℕ) (was now : List �
     → infos_at groups now ≡ (if b then drop 1 (infos_at groups was) else infos_at groups was)
 ordered_left groups true i was now e = sym (ap (λ l. drop 1 (infos_at groups l)) e)
 ordered_left groups false i was now e = sym (ap (λ l. infos_at groups l) e)
-
-pub ordered_first : (groups : List Group) (b : Bool) (i : ℕ) (was now : List ℕ) → was ≡ (if b then i ∷ now else now)
-    → b ≡ true → Some (record { groups = groups; index = i }) ≡ slice_get (infos_at groups was) 0
-ordered_first groups true i was now e same = sym (ap (λ l. slice_get (infos_at groups l) 0) e)
-ordered_first groups false i was now e same = absurd (true≢false (sym same))
 
 pub next_taken : (groups : List Group) (q b : Bool) (i : ℕ) (queue was now : List ℕ) → q ≡ false
     → was ≡ (if b then i ∷ now else now)

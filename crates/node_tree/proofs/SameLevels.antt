@@ -165,19 +165,6 @@ pub record LevelsLeft (o n : Nodes) (before after : List FlatNode) : Type 0 wher
   pub after_is : after ≡ flat_nodes new
   pub so_far : HaveSameNumbers old new → HaveSameNumbers o n
 
-pub alike_first : (o n : Nodes) (before after : List FlatNode) (x y : FlatNode) (xs ys : List FlatNode)
-    → before ≡ flat_nodes o → after ≡ flat_nodes n → before ≡ x ∷ xs → after ≡ y ∷ ys → x.number ≡ y.number
-    → BeginAlike o n
-alike_first nodes.None n before after x y xs ys e f g h s = absurd (let c : x ∷ xs ≡ [] = sym g ∙ e in cc)
-alike_first (Branch m k a c rest) nodes.None before after x y xs ys e f g h s =
-    absurd (let d : y ∷ ys ≡ [] = sym h ∙ f in cc)
-alike_first (Branch m k a c rest) (Branch m' k' a' c' rest') before after x y xs ys e f g h s =
-    let one : x ∷ xs ≡ flat_node (length (flat_nodes c)) m k a ∷ (flat_nodes c ++ flat_nodes rest) = sym g ∙ e in
-    let two : y ∷ ys ≡ flat_node (length (flat_nodes c')) m' k' a' ∷ (flat_nodes c' ++ flat_nodes rest') = sym h ∙ f in
-    let first : x ≡ flat_node (length (flat_nodes c)) m k a = cc in
-    let second : y ≡ flat_node (length (flat_nodes c')) m' k' a' = cc in
-    sym (ap (λ (z : FlatNode). z.number) first) ∙ s ∙ ap (λ (z : FlatNode). z.number) second
-
 same_from_first : (o n : Nodes) → BeginAlike o n → HaveSameNumbers (nodes_from 1 o) (nodes_from 1 n)
     → HaveSameNumbers o n
 same_from_first nodes.None n b h = absurd b

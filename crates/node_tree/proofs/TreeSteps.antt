@@ -1,15 +1,14 @@
 -- The stored tree after a call represents the tree after the call.
-use Rattle.std.proofs.Common.{◌≡◌, ℕ, ◌+◌, ◌≤◌, ◌<◌, Bool, true, false, List, [], ◌∷◌, ◌++◌, map, length, take, drop, refl, ap, sym, ◌∙◌, arith, append_assoc, if◌then◌else◌, nat_lt, IsTrue}
+use Rattle.std.proofs.Common.{◌≡◌, ℕ, ◌+◌, ◌≤◌, ◌<◌, Bool, true, false, List, [], ◌∷◌, ◌++◌, map, length, take, drop, refl, ap, sym, ◌∙◌, arith, append_assoc, if◌then◌else◌, nat_lt}
 use Rattle.std.specs.List.{insert}
 use Rattle.std.specs.Str.{bytes_eq}
-use Rattle.std.proofs.lemmas.Bool.{false≢true}
 use Rattle.std.proofs.lemmas.List.{take-map, drop-map, map-append, length-drop}
 use Rattle.rt_values.specs.declared.value.Value.{Value}
 use Rattle.rt_groups.specs.Nodes.{Nodes}
 use Rattle.rt_groups.specs.declared.groups.Attribute.{Attribute as AttributeData}
 use Rattle.gap_buffer.specs.Buffer.{list_after_move, exchanged_list}
 use Rattle.node_tree.specs.NodeTrees.{TreeNode, tree_node, node_list}
-use Rattle.node_tree.specs.Calls.{attribute_of, attributes_after_set, open_after_set, tree_after_down, tree_after_up, has_open_attribute}
+use Rattle.node_tree.specs.Calls.{attribute_of, attributes_after_set, open_after_set, tree_after_down, tree_after_up}
 use Rattle.node_tree.specs.KeptNodes.{KeptValue, kept_list, nodes_kept, node_kept, open_kept, list_weight, weight}
 use Rattle.node_tree.specs.StoredTree.{StoredTree, stored_tree, cursor_tree, opened_value, closed_value, with_attributes, stored_after_down, stored_after_up, data_after_set, stored_after_set}
 use Rattle.node_tree.proofs.StoredNodes.{kept_back, list_back, weight_split, nodes_listed, nodes_joined}
@@ -126,11 +125,6 @@ move_is xs from to count = by (nat_lt to from) (nat_lt (from + count) to)
     by true c = exchange_is xs to from (from + count)
     by false true = exchange_is xs from (from + count) to
     by false false = refl
-
-pub set_needs_open : (name : List ℕ) (os : List KeptValue) → IsTrue (has_open_attribute name (map open_kept os))
-    → 0 < length os
-set_needs_open name [] h = absurd (false≢true h)
-set_needs_open name (o ∷ os) h = omega arith
 
 -- The stored tree after opening a child, from the parts that are split off.
 pub record Opens (s : StoredTree) (index : ℕ) (children new outer : List KeptValue) : Type 0 where

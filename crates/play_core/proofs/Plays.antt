@@ -14,7 +14,6 @@ use Rattle.script_lang.specs.declared.flags.Flags.{Flags}
 use Rattle.script_lang.specs.Lines.{LineStyle, run_text}
 use Rattle.script_lang.specs.StepCalls.{script_parts}
 use Rattle.script_lang.specs.Scripts.{actors_of}
-use Rattle.script_lang.specs.ScriptFaults.{script_faults}
 use Rattle.play_core.specs.declared.top.Status.{Status}
 use Rattle.play_core.specs.declared.top.Status.TheVariants as status
 use Rattle.play_args.specs.CommandWords.{command_of_args}
@@ -24,7 +23,7 @@ use Rattle.play_core.specs.Texts.{IsText, IsRead, IsInput, IsNoText, IsOutput, h
 use Rattle.play_core.specs.Faults.{IsFault, WritesPart, fault_line}
 use Rattle.play_core.specs.declared.fault.Fault.{Fault}
 use Rattle.play_core.specs.declared.text.Input.{Input}
-use Rattle.play_threads.specs.WovenText.{IsWovenText, HasNoFault}
+use Rattle.play_threads.specs.WovenText.{IsWovenText}
 use Rattle.play_gen.specs.declared.tally.Tally.{Tally}
 use Rattle.play_gen.specs.Tallies.{generated_counts}
 use Rattle.play_gen.specs.SummaryText.{summary_text}
@@ -73,16 +72,6 @@ woven-is {bytes = bytes} {functions = functions} {actors = actors} {forms = form
     h.functions_are
     (subst (λ l. IsWovenText (line_style h.source.program.states l flags) functions forms out) h.actors_are
     (subst (λ ss. IsWovenText (line_style ss actors flags) functions forms out) h.states_are w))))
-
--- The parsed script has no fault.
-pub job-fine : {bytes : List ℕ} {input : Input} (b : Bool) → b ≡ true → IsInput b bytes input → HasNoFault input.job
-job-fine {bytes} {input} b threads ok =
-    let h : IsInput true bytes input = subst (λ c. IsInput c bytes input) threads ok in
-    record {
-      actors = h.read.actors_are ∙ ap actors_of (sym h.read.forms_are);
-      fine = ap (λ ss. script_faults true ss None input.job.script.forms.items) h.read.states_are
-          ∙ ap (λ fs. script_faults true h.read.source.program.states None fs) h.read.forms_are ∙ h.read.text.runs;
-    }
 
 -- The summary in memory is the output of `gen`.
 pub gen-is : (number size : ℕ) (t : Tally) (text : List ℕ) → t ≡ generated_counts number size → text ≡ summary_text t
@@ -255,12 +244,6 @@ fault-answers threads r left P a z bytes fault out e f bad h = elim h [
   | inr failed ↦ inr failed
 ]
 
--- The promise for one command.
-pub command-same : {before after : Streams} {result : Status} (a b : Command) → a ≡ b
-    → CommandMeets a before after result → CommandMeets b before after result
-command-same {before = before} {after = after} {result = result} a b e h =
-    subst (λ (c : Command). CommandMeets c before after result) e h
-
 pub keeps-same : (o : Option (List ℕ)) → Keeps o o
 keeps-same None = tt
 keeps-same (Some bytes) = refl
@@ -415,12 +398,6 @@ rose-after (Ok x) before now e h = absurd cc
 rose-after (Err stop.WriteFault) before now e h = h
 rose-after (Err stop.NoMemory) before now e h = absurd cc
 
-pub clean-after : {T : Type 0} (r : Result T Stop) (before now : ℕ) → run_status r ≢ status.WriteFault
-    → FaultsAfter before now r → now ≡ before
-clean-after (Ok x) before now e h = h
-clean-after (Err stop.WriteFault) before now e h = absurd (e refl)
-clean-after (Err stop.NoMemory) before now e h = h
-
 -- A command on a source text is not answered with these statuses.
 pub run-others : {T : Type 0} (r : Result T Stop)
     → (run_status r ≢ status.Usage) × (run_status r ≢ status.ReadFault) × (run_status r ≢ status.TooLong)
@@ -428,11 +405,6 @@ pub run-others : {T : Type 0} (r : Result T Stop)
 run-others (Ok x) = ((λ e. absurd cc), (λ e. absurd cc), (λ e. absurd cc), λ e. absurd cc)
 run-others (Err stop.WriteFault) = ((λ e. absurd cc), (λ e. absurd cc), (λ e. absurd cc), λ e. absurd cc)
 run-others (Err stop.NoMemory) = ((λ e. absurd cc), (λ e. absurd cc), (λ e. absurd cc), λ e. absurd cc)
-
--- After a failed write the first count is the one before the first of two calls.
-pub faults-after : {T : Type 0} (r : Result T Stop) (before middle now : ℕ) → middle ≡ before → FaultsAfter middle now r
-    → FaultsAfter before now r
-faults-after r before middle now e h = subst (λ n. FaultsAfter n now r) e h
 
 -- A command leaves the world where it makes no call on it.
 pub leaves : {P : Type 0} (o : Option Command) (c : Command) (r : Status) → o ≡ Some c → (KeepsWorld c → P)
@@ -445,13 +417,6 @@ leaves o c r asks keeps refused not_usage h = elim h [
     | inr rest ↦ elim rest [ inl usage ↦ absurd (not_usage usage) | inr stops ↦ refused stops ]
   ]
 ]
-
--- A command with threads is `threads`.
-pub is_threads : (c : Command) → has_threads c ≡ true → (flags : Flags) × (c ≡ Threads flags)
-is_threads (Run flags) h = absurd cc
-is_threads (Threads flags) h = (flags, refl)
-is_threads Check h = absurd cc
-is_threads (Gen number size) h = absurd cc
 
 -- The promise for a command whose input was parsed.
 pub parsed-meets : {T : Type 0} (c : Command) (threads : Bool) → has_threads c ≡ threads

@@ -22,7 +22,7 @@ use Rattle.snap_api.specs.declared.data.Request.TheVariants as request
 use Rattle.snap_api.specs.declared.data.Entry.{Entry}
 use Rattle.snap_api.specs.declared.data.Snapshot.{Snapshot}
 use Rattle.script_lang.specs.SnapshotNames.{NamedNumber, latest, snapshot_number, never_taken}
-use Rattle.script_lang.specs.StepCalls.{Part, Take, Read, Write, WriteSum, Apply, Dispose, BeginFrame, EndFrame, ActorPart, of_actor, Notes, request_of, sum_request, notes_after, number_taken, entry, watcher_number}
+use Rattle.script_lang.specs.StepCalls.{Part, Take, Read, Write, WriteSum, Apply, Dispose, BeginFrame, EndFrame, of_actor, Notes, request_of, sum_request, notes_after, number_taken, entry, watcher_number}
 use Rattle.script_lang.specs.Lines.{LineStyle, entry_line, ends_frame, frame_taken}
 use Rattle.recomposer.specs.Compositions.{IsAt}
 use Rattle.play_run.specs.RunOutput.{Run, request_lines, run_after_request, part_lines, part_after, parts_lines}
@@ -367,11 +367,6 @@ module _ (t : LineStyle) (functions : List Func) (r : Run) (actor : ℕ) (p : Pa
         flat (parts_lines t functions r (of_actor actor p ∷ [])) ≡ entry_line t.titles (entry r.standing.world actor q)
     plain_line frame h = ap (λ ls. flat (ls ++ [])) (quiet_lines is (plain_quiet frame h))
         ∙ append-nil (entry_line t.titles (entry r.standing.world actor q))
-
--- One part in a list of its own.
-pub one_part_lines : (t : LineStyle) (functions : List Func) (r : Run) (p : ActorPart)
-    → parts_lines t functions r (p ∷ []) ≡ part_lines t functions r p
-one_part_lines t functions r p = append-nil (part_lines t functions r p)
 
 -- A single call was made and its line was written. The part keeps the names.
 pub ran_single : {T : Type 0} {V : Type 0} {stands : V → World BuiltIn → Type 0} {log : V → Option (List Entry)}

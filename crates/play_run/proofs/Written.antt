@@ -1,7 +1,6 @@
 -- What was written, piece by piece.
-use Rattle.std.proofs.Common.{◌≡◌, ◌<◌, ◌≤◌, ◌+◌, ℕ, List, Bool, length, drop, ◌++◌, ◌∙◌, ap, subst, append_assoc, append-nil, sym, [], Option, Some, None, Ok, Err, OnOk, OnErr}
+use Rattle.std.proofs.Common.{◌≡◌, ◌<◌, ◌+◌, ℕ, List, Bool, length, drop, ◌++◌, ◌∙◌, ap, subst, append_assoc, append-nil, sym, [], Option, Some, None, Ok, Err, OnOk, OnErr}
 use Rattle.std.proofs.lemmas.List.{drop_more}
-use Rattle.std.proofs.Math.ListN.{drop_of_length-le}
 use Rattle.std.specs.declared.result.Result.{Result}
 use Rattle.std.specs.Io.KnownBytes.{Appends}
 use Rattle.std.proofs.KnownBytes.{Appends-trans}
@@ -13,7 +12,6 @@ use Rattle.rt_groups.specs.declared.groups.GroupKind.TheVariants as what
 use Rattle.rt_groups.specs.PreorderGroups.{flat_group}
 use Rattle.slot_table.specs.TableGroups.{group_at}
 use Rattle.script_lang.specs.GroupLines.{group_lines, group_line, open_after}
-use Rattle.script_lang.specs.GroupJson.{JsonState, groups_json, group_json, json_after_group}
 use Rattle.play_run.specs.RunPromise.{WritesBytes}
 
 -- Some bytes were written, then a part of the next piece.
@@ -61,21 +59,11 @@ pub says_same : {T E : Type 0} (r : Result T E) (a b : Option (List ℕ)) (xs ys
     → WritesBytes a b xs r → WritesBytes a b ys r
 says_same r a b xs ys e h = subst (λ l. WritesBytes a b l r) e h
 
--- A consequence of three facts after Ok.
-pub three_ok : {T E P Q R S : Type 0} (r : Result T E) → (P → Q → R → S) → OnOk r P → OnOk r Q → OnOk r R → OnOk r S
-three_ok (Ok x) f p q s = f p q s
-three_ok (Err e) f p q s = tt
-
 -- The line of the group at an index, then those of the groups after it.
 pub group_lines_at : (before : List Bool) (gs : List Group) (i : ℕ) → i < length gs
     → group_lines before (drop i gs)
     ≡ group_line before (group_at gs i) ++ group_lines (open_after before (group_at gs i)) (drop (i + 1) gs)
 group_lines_at before gs i h = ap (group_lines before) (drop_more gs i (flat_group 0 0 0 (what.Key no_value) []) h)
-
--- No group follows the last one.
-pub no_lines_after : (before : List Bool) (gs : List Group) (i : ℕ) → length gs ≤ i
-    → group_lines before (drop i gs) ≡ []
-no_lines_after before gs i h = ap (group_lines before) (drop_of_length-le gs h)
 
 -- Nothing was written, and nothing had to be.
 pub appends_none : (a : Option (List ℕ)) → Appends a a []
@@ -88,14 +76,3 @@ says_none a x = record { all = appends_none a; part = tt }
 -- Nothing after a text.
 pub nothing_after : (xs : List ℕ) → xs ++ [] ≡ xs
 nothing_after xs = append-nil xs
-
--- The JSON of the group at an index, then that of the groups after it.
-pub groups_json_at : (s : JsonState) (gs : List Group) (i : ℕ) → i < length gs
-    → groups_json s (drop i gs) ≡ group_json s (group_at gs i)
-    ++ groups_json (json_after_group s (group_at gs i)) (drop (i + 1) gs)
-groups_json_at s gs i h = ap (groups_json s) (drop_more gs i (flat_group 0 0 0 (what.Key no_value) []) h)
-
--- The ends after the last group.
-pub no_json_after : (s : JsonState) (gs : List Group) (i : ℕ) → length gs ≤ i
-    → groups_json s (drop i gs) ≡ groups_json s []
-no_json_after s gs i h = ap (groups_json s) (drop_of_length-le gs h)

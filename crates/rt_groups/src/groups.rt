@@ -169,16 +169,4 @@ impl Groups {
     {
         self.items[place].reads = reads;
     }
-
-    /// Replaces the number of the group at index `place`.
-    #[tactic(auto, using(crate::proofs::ReplacedItems::set_seam, crate::proofs::ReplacedItems::got_seam))]
-    pub fn set_number(&mut self, place: usize, number: u64)
-        requires { place < length self.old }
-        ensures len { length self.new ≡ length self.old }
-        ensures number { (before after : List group_data) (g : group_data) →
-            length before ≡ place → self.old ≡ before ++ (g ∷ after) →
-            self.new ≡ before ++ (flat_group g.depth g.site number g.what g.reads ∷ after) }
-    {
-        self.items[place].number = number;
-    }
 }

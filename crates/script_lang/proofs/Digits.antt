@@ -4,9 +4,9 @@ use Rattle.std.proofs.lemmas.Fmt.{decimal_digit, decimal_step}
 use Rattle.std.specs.Fmt.{decimal}
 use Rattle.script_lang.specs.LastDigits.{last_two_digits}
 
--- A number below 10 is one digit, which is its last one.
-pub one_digit : (n : ℕ) → n < 10 → decimal n ≡ (48 + n % 10) ∷ []
-one_digit n low = let same : n ≡ n % 10 = omega (arith, low) in decimal_digit n low ∙ ap (λ d. (48 + d) ∷ []) same
+-- A number below 10 is its last digit.
+pub only_digit : (n : ℕ) → n < 10 → decimal n ≡ (48 + n % 10) ∷ []
+only_digit n low = let same : n ≡ n % 10 = omega (arith, low) in decimal_digit n low ∙ ap (λ d. (48 + d) ∷ []) same
 
 -- A number of two digits.
 pub two_digits : (n : ℕ) → 10 ≤ n → n < 100 → decimal n ≡ last_two_digits n

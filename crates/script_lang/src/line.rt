@@ -72,7 +72,7 @@ fn put_last_two(text: &mut Vec<u8>, number: u64)
 
 // Appends the decimal digits of a number below 100, for which there is capacity.
 #[inline(always)]
-#[tactic(auto, using(crate::proofs::Texts::joins, crate::proofs::Digits::one_digit, crate::proofs::Digits::two_digits))]
+#[tactic(auto, using(crate::proofs::Texts::joins, crate::proofs::Digits::only_digit, crate::proofs::Digits::two_digits))]
 fn put_one_or_two(text: &mut Vec<u8>, number: u64)
     requires few { number < 100 }
     requires room { vec_len text.old + 2 ≤ vec_capacity text.old }

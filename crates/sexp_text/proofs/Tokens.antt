@@ -5,7 +5,6 @@ use Rattle.std.proofs.Math.Nat.{eq-or-lt_of_le}
 use Rattle.std.proofs.lemmas.Bool.{eqb-true, false_from_ne_true}
 use Rattle.std.proofs.lemmas.Bool.Decides.{nat_tests}
 use Rattle.std.proofs.lemmas.List.{append-nil, length-take, take_all, get_or-drop}
-use Rattle.std.proofs.lemmas.List.Folds.{list_all_more}
 use Rattle.std.proofs.lemmas.Option.{same_Some}
 use Rattle.std.specs.List.{list_all}
 use Rattle.std.specs.declared.option.Option.{Option}
@@ -17,11 +16,6 @@ use Rattle.sexp_text.specs.Grammar.{is_blank, is_atom_byte, is_comment}
 use Rattle.sexp_text.specs.Machine.{Mode, gap, in_comment, in_word, in_text, in_escape, OpenLists, State, close_list, start, step, next, run, first_state, forest_at_end, state_at, depth_reached, Refuses, is_plain, Leads, EndsText, RefusesAfter, Rests}
 use Rattle.sexp_text.proofs.Walks.{run_on, walk_on, reached_same, depth_reached-joined_trees, length_le-depth_reached, whole_is, stops_refuses}
 use Rattle.sexp_text.proofs.Complete.{both, negated, name_on, comment_on, start_word}
-
--- A scan continues with a byte that passes its test.
-pub scan_more : (p : ℕ → Bool) (xs : List ℕ) (i : ℕ) → i < length xs → list_all p (take i xs) ≡ true
-    → p (get_or xs i 0) ≡ true → list_all p (take (i + 1) xs) ≡ true
-scan_more p xs i lt all e = list_all_more p xs i 0 lt ∙ rw (all, e) refl
 
 -- The state after the next `n` bytes.
 run_further : (bytes : List ℕ) (at n : ℕ) (s : State) (o : Option State) → at ≤ length bytes

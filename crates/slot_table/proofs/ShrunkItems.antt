@@ -1,10 +1,10 @@
 -- A list that keeps only the items of some runs, with new items before, between and after the runs.
-use Rattle.std.proofs.Common.{◌≡◌, ◌≤◌, ◌<◌, ℕ, zero, suc, ◌+◌, ◌-◌, List, [], ◌∷◌, ◌++◌, length, length-append, length-drop, length-set, take, drop, drop-cons, get_or, set, refl, ap, ◌∙◌, sym, subst, arith, append_assoc}
+use Rattle.std.proofs.Common.{◌≡◌, ◌≤◌, ◌<◌, ℕ, zero, suc, ◌+◌, ◌-◌, List, [], ◌∷◌, ◌++◌, length, length-drop, length-set, take, drop, drop-cons, get_or, set, refl, ap, ◌∙◌, sym, subst, arith, append_assoc}
 use Rattle.std.specs.List.{swap}
-use Rattle.std.proofs.lemmas.List.{length-take-le, take_all, take-set-le, take_more_set, drop-set-lt, drop-drop}
+use Rattle.std.proofs.lemmas.List.{take-set-le, take_more_set, drop-set-lt, drop-drop}
 use Rattle.std.proofs.lemmas.List.Edits.{swap_is}
 use Rattle.slot_table.specs.declared.runs.KeptRun.{KeptRun}
-use Rattle.slot_table.specs.KeptRuns.{run_groups, patched, gaps, AreInside, MoveDown, IsShrunk}
+use Rattle.slot_table.specs.KeptRuns.{run_groups, patched, gaps, AreInside, MoveDown}
 use Rattle.slot_table.proofs.KeptRuns.{take_more_of}
 
 -- A list from an index is an item and the later items.
@@ -128,21 +128,6 @@ pub record IsSwept {X : Type 0} (olds fresh : List X) (rs : List KeptRun) (items
   pub down : MoveDown at past left
   pub same : take at items ++ patched olds rest left ≡ patched olds fresh rs
 
--- Before the first run no item has changed.
-pub swept_none : {X : Type 0} (olds fresh rest : List X) (rs : List KeptRun) (len : ℕ) → IsShrunk olds fresh rs len
-    → rest ≡ fresh → IsSwept olds fresh rs olds rest 0 rs
-swept_none olds fresh rest rs len shrunk is = subst (λ l. IsSwept olds fresh rs olds l 0 rs) (sym is) (record {
-  past = 0;
-  low = omega arith;
-  high = omega arith;
-  long = refl;
-  kept = refl;
-  inside = shrunk.inside;
-  gaps_fit = shrunk.gaps_fit;
-  down = shrunk.down;
-  same = refl;
-})
-
 -- The next run.
 pub next_run : {X : Type 0} (olds fresh : List X) (rs : List KeptRun) (items rest : List X) (at i : ℕ) (d : KeptRun)
     → IsSwept olds fresh rs items rest at (drop i rs) → i < length rs
@@ -194,46 +179,3 @@ swept_more {X = X} olds fresh rs items items1 items2 rest rest1 at r left swept 
           ∙ append_assoc (take at items) (take r.gap rest) (run_groups olds r ++ later_olds)
           ∙ swept.same;
     })
-
--- The items after the last run.
-pub record IsLastGap {X : Type 0} (olds fresh : List X) (rs : List KeptRun) (items rest : List X) (at len : ℕ)
-    : Type 0 where
-  pub low : at ≤ len
-  pub long : length rest ≡ len - at
-  pub inside : at + (len - at) ≤ length items
-  pub same : take at items ++ rest ≡ patched olds fresh rs
-
--- After the last run only the new items of the last gap are left to put, and they fit.
-pub swept_all : {X : Type 0} (olds fresh : List X) (rs : List KeptRun) (items rest : List X) (at len : ℕ)
-    (left : List KeptRun) → IsShrunk olds fresh rs len → left ≡ [] → IsSwept olds fresh rs items rest at left
-    → IsLastGap olds fresh rs items rest at len
-swept_all olds fresh rs items rest at len left shrunk none swept =
-    let low = swept.low in
-    let high = swept.high in
-    let long = swept.long in
-    let count = shrunk.len_is in
-    let fewer = shrunk.fewer in
-    let same : take at items ++ rest ≡ patched olds fresh rs =
-    ap (λ l. take at items ++ patched olds rest l) (sym none) ∙ swept.same in
-    let whole : length (take at items ++ rest) ≡ length (patched olds fresh rs) = ap (λ l. length l) same in
-    let both = length-append (take at items) rest in
-    let first = length-take-le at items (omega (arith, low, high, long)) in
-    record {
-      low = omega (arith, count, whole, both, first);
-      long = omega (arith, count, whole, both, first);
-      inside = omega (arith, count, whole, both, first, fewer, long);
-      same = same;
-    }
-
--- The new items of the last gap are put, and the other items are dropped.
-pub last_put : {X : Type 0} (olds fresh : List X) (rs : List KeptRun) (items items' items'' rest : List X)
-    (at len : ℕ) → IsLastGap olds fresh rs items rest at len
-    → take (at + (len - at)) items' ≡ take at items ++ take (len - at) rest → items'' ≡ take len items'
-    → items'' ≡ patched olds fresh rs
-last_put olds fresh rs items items' items'' rest at len gap before is =
-    let low = gap.low in
-    let long = gap.long in
-    let sum : len ≡ at + (len - at) = omega (arith, low) in
-    is ∙ ap (λ n. take n items') sum ∙ before
-    ∙ ap (λ l. take at items ++ l) (take_all (len - at) rest (omega (arith, long)))
-    ∙ gap.same

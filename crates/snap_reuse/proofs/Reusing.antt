@@ -7,7 +7,7 @@ use Rattle.rt_values.specs.declared.maps.StampedValue.{StampedValue}
 use Rattle.snap_ids.proofs.Booleans.{same_or_other, not_both, not_true, or_left, or_right}
 use Rattle.snap_records.specs.Records.{Rec, AreApart, Reads, Puts, Drops}
 use Rattle.snap_records.specs.Edits.{readable, record_with_ids}
-use Rattle.snap_records.specs.Chains.{record_at, keys_at, chain_of, Replaces, Prepends, KeepsAll, Found, HasNone}
+use Rattle.snap_records.specs.Chains.{record_at, chain_of, Replaces, Prepends, KeepsAll, Found, HasNone}
 use Rattle.snap_records.specs.declared.chains.Chains.{Chains}
 use Rattle.snap_records.proofs.Edits.{overwritten, drops_unkept, not_false}
 use Rattle.snap_records.proofs.Putting.{rec_there, key_there, put_over, put_front}
@@ -69,11 +69,6 @@ module _ (old between new : Chains) (x : ℕ) (q : Rec) (kept : List ℕ) (apart
       → length new.heads.items ≡ length between.heads.items → PutsKeeping (chain_of old x) (chain_of new x) q kept
   puts_front r none p many =
       keeping (λ i. i == q.id) (λ i pos h. h) (put_front between new x r q drops.apart none p many).put
-
-pub others_over : (old new : Chains) (x r : ℕ) (q : Rec) (id : ℕ) → Found old x id r → Replaces old new r q → (y : ℕ)
-    → y ≢ x → chain_of new y ≡ chain_of old y
-others_over old new x r q id f replaces y other =
-    replaces.others y (λ k there. other (old.once y x k f.at r there f.key).0)
 
 -- If no record got id 0, each record was kept.
 all_kept : (ids : List ℕ) (c : List Rec)

@@ -235,11 +235,6 @@ module _ {P : Type 0} {rules : Rules P} {opens opens' : World P → Type 0} {see
     }
     by (Some name) t = record { more = t.more; log_is = t.log_is; legal = λ w b. absurd b; leaves = λ w b. absurd b }
 
--- What a seat has seen without a call in between.
-pub further_itself : {P : Type 0} (rules : Rules P) (opens : World P → Type 0) (seen : List Entry)
-    → SeesFurther rules opens seen seen
-further_itself rules opens seen = record { begins = ([], sym (append-nil seen)); legal = λ o h l. l }
-
 -- What a seat has seen goes on twice.
 pub further_on : {W P : Type 0} {rules : Rules P} (stands : W → World P → Type 0) {one other : W} {a b c : List Entry}
     → other ≡ one → SeesFurther rules (stands one) a b → SeesFurther rules (stands other) b c
