@@ -1,6 +1,7 @@
 // Source texts parsed into programs and scripts, and both written as trees.
 use lang_ast::{
-    CallForm, Expression, Ident, Program, Rest, ScriptForm, SnapshotRef, Statement, StepForm,
+    CallForm, DoForm, Expression, Ident, Program, Rest, ScriptForm, SnapshotRef, Statement,
+    StepForm,
 };
 use lang_forms::{FormStop, program};
 use lang_write::{forms_of, script_forms_of};
@@ -64,8 +65,21 @@ fn texts_have_the_forms(rt: HostRuntime) -> Result<(), Fail> {
     Ok(())
 }
 
+// Returns why a text, of `part` between two other parts, is rejected.
+fn stop_between(
+    alloc: Global,
+    before: &str,
+    part: &str,
+    after: &str,
+) -> Result<Option<FormStop>, Fail> {
+    let mut text = String::from_str(alloc, before)?;
+    text.push_str(part)?;
+    text.push_str(after)?;
+    Ok(text_read(alloc, &text)?.err())
+}
+
 // Lists, atoms and strings that are no step.
-const NO_STEPS: [&str; 54] = [
+static NO_STEPS: [&str; 54] = [
     "()",
     "x",
     "7",
@@ -124,12 +138,9 @@ const NO_STEPS: [&str; 54] = [
 
 #[test]
 fn a_wrong_step_is_reported_at_its_form(rt: HostRuntime) -> Result<(), Fail> {
-    for step in NO_STEPS {
-        let mut text = String::from_str(rt.alloc(), "(compose 1) (do a (frame)) (do b ")?;
-        text.push_str(step)?;
-        text.push_str(")")?;
-        let stop = text_read(rt.alloc(), &text)?.err();
-        assert_eq!(rt; stop, Some(FormStop::Form { at: 27 }), "{text}");
+    for step in NO_STEPS.as_slice() {
+        let stop = stop_between(rt.alloc(), "(compose 1) (do a (frame)) (do b ", step, ")")?;
+        assert!(rt; stop == Some(FormStop::Form { at: 27 }), "{step}");
     }
     Ok(())
 }
@@ -145,11 +156,8 @@ fn a_wrong_policy_is_reported_at_its_state(rt: HostRuntime) -> Result<(), Fail> 
         "Never Never",
         "1",
     ] {
-        let mut text = String::from_str(rt.alloc(), "(compose 1) (state a Int ")?;
-        text.push_str(policy)?;
-        text.push_str(" 1)")?;
-        let stop = text_read(rt.alloc(), &text)?.err();
-        assert_eq!(rt; stop, Some(FormStop::Form { at: 12 }), "{text}");
+        let stop = stop_between(rt.alloc(), "(compose 1) (state a Int ", policy, " 1)")?;
+        assert!(rt; stop == Some(FormStop::Form { at: 12 }), "{policy}");
     }
     Ok(())
 }
@@ -165,9 +173,9 @@ fn states_have_their_policies(rt: HostRuntime) -> Result<(), Fail> {
         BuiltIn::Counter,
         BuiltIn::Largest,
     ];
-    assert_eq!(rt; program.states.len(), policies.len());
+    assert!(rt; program.states.len() == policies.len());
     for (state, policy) in program.states.iter().zip(policies) {
-        assert_eq!(rt; state.policy, policy);
+        assert!(rt; state.policy == policy);
     }
     Ok(())
 }
@@ -228,15 +236,15 @@ fn statements_are_numbered_in_file_order(rt: HostRuntime) -> Result<(), Fail> {
         .functions
         .first()
         .and_then(|f| first_statement(&f.body));
-    assert_eq!(rt; first, Some((1, 22, None)));
+    assert!(rt; first == Some((1, 22, None)));
     let root = program
         .functions
         .get(1)
         .and_then(|f| first_statement(&f.body));
-    assert_eq!(rt; root, Some((2, 44, None)));
-    assert_eq!(rt; first_inside(&program, 1, 0, false), Some((3, 51, Some(0))));
-    assert_eq!(rt; first_inside(&program, 1, 0, true), Some((4, 62, Some(1))));
-    assert_eq!(rt; first_inside(&program, 1, 1, false), Some((6, 82, Some(1))));
+    assert!(rt; root == Some((2, 44, None)));
+    assert!(rt; first_inside(&program, 1, 0, false) == Some((3, 51, Some(0))));
+    assert!(rt; first_inside(&program, 1, 0, true) == Some((4, 62, Some(1))));
+    assert!(rt; first_inside(&program, 1, 1, false) == Some((6, 82, Some(1))));
     Ok(())
 }
 
@@ -331,6 +339,14 @@ fn script_with(alloc: Global, step: &str) -> Result<Rest, Fail> {
     Ok(rest)
 }
 
+// The call that is the only step of the second of two forms.
+fn second_call(rest: &Rest) -> Option<CallData> {
+    match only_step(rest, 1)? {
+        StepForm::Call(call) if rest.forms.len() == 2 => Some(call_data(call)),
+        _ => None,
+    }
+}
+
 #[test]
 fn calls_have_their_offsets_and_numbers(rt: HostRuntime) -> Result<(), Fail> {
     let rows: [(&str, CallData); 11] = [
@@ -354,12 +370,7 @@ fn calls_have_their_offsets_and_numbers(rt: HostRuntime) -> Result<(), Fail> {
     ];
     for (step, expected) in rows {
         let rest = script_with(rt.alloc(), step)?;
-        assert_eq!(rt; rest.forms.len(), 2);
-        let call = match only_step(&rest, 1) {
-            Some(StepForm::Call(call)) => Some(call_data(call)),
-            _ => None,
-        };
-        assert_eq!(rt; call, Some(expected), "{step}");
+        assert!(rt; second_call(&rest) == Some(expected), "{step}");
     }
     Ok(())
 }
@@ -382,7 +393,7 @@ fn frames_have_their_offsets_and_inner_steps(rt: HostRuntime) -> Result<(), Fail
             Some(StepForm::FrameDuring { at, during }) => Some((*at, Some(during.items().len()))),
             _ => None,
         };
-        assert_eq!(rt; frame, expected, "{step}");
+        assert!(rt; frame == expected, "{step}");
     }
     Ok(())
 }
@@ -417,27 +428,28 @@ fn numbers_of_repeats_are_clamped(rt: HostRuntime) -> Result<(), Fail> {
     ];
     for (step, times, steps, oversized) in rows {
         let rest = script_with(rt.alloc(), step)?;
-        assert_eq!(rt; first_repeat(&rest), Some((82, times, steps)), "{step}");
-        assert_eq!(rt; rest.first_oversized, oversized, "{step}");
+        assert!(rt; first_repeat(&rest) == Some((82, times, steps)), "{step}");
+        assert!(rt; rest.first_oversized == oversized, "{step}");
     }
     Ok(())
+}
+
+// Whether these are the offset, the actor and the number of steps of a form.
+fn is_form(form: Option<&DoForm>, at: usize, actor: &[u8], steps: usize) -> bool {
+    form.is_some_and(|it| {
+        it.at == at && it.actor.text.is(actor) && it.steps.items().len() == steps
+    })
 }
 
 #[test]
 fn each_form_has_its_own_actor(rt: HostRuntime) -> Result<(), Fail> {
     let text = "(compose 1) (do main) (do other (frame)) (do main (frame) (frame)) (do o3)";
     let (_, rest) = text_read(rt.alloc(), text)??;
-    let rows: [(usize, &[u8], usize); 4] = [
-        (12, b"main", 0),
-        (22, b"other", 1),
-        (41, b"main", 2),
-        (67, b"o3", 0),
-    ];
-    assert_eq!(rt; rest.forms.len(), rows.len());
-    for (form, (at, actor, steps)) in rest.forms.iter().zip(rows) {
-        assert_eq!(rt; (form.at, form.steps.items().len()), (at, steps));
-        assert!(rt; form.actor.text.is(actor), "{actor:?}");
-    }
+    assert!(rt; rest.forms.len() == 4);
+    assert!(rt; is_form(rest.forms.get(0), 12, b"main", 0));
+    assert!(rt; is_form(rest.forms.get(1), 22, b"other", 1));
+    assert!(rt; is_form(rest.forms.get(2), 41, b"main", 2));
+    assert!(rt; is_form(rest.forms.get(3), 67, b"o3", 0));
     Ok(())
 }
 
@@ -446,10 +458,19 @@ fn states_are_numbered_in_file_order(rt: HostRuntime) -> Result<(), Fail> {
     let text =
         "(compose 1) (state a Int Structural 0) (state b Int Structural 0) (fun f () (key (get b)))";
     let (program, rest) = text_read(rt.alloc(), text)??;
-    assert_eq!(rt; number_read(&program), Some(1));
-    assert_eq!(rt; rest.first_oversized, None);
-    assert_eq!(rt; program.states.len(), 2);
+    assert!(rt; number_read(&program) == Some(1));
+    assert!(rt; rest.first_oversized == None);
+    assert!(rt; program.states.len() == 2);
     Ok(())
+}
+
+// Parses a text, and prints the trees that are written for its program and its script.
+fn written(alloc: Global, text: &str) -> Result<Vec<u8>, Fail> {
+    let (program, rest) = text_read(alloc, text)??;
+    let mut written = sexp_text::print(alloc, &forms_of(alloc, &program)?)?;
+    let script = sexp_text::print(alloc, &script_forms_of(alloc, &rest.forms)?)?;
+    written.extend_from_slice(&script)?;
+    Ok(written)
 }
 
 #[test]
@@ -458,10 +479,6 @@ fn a_text_is_written_as_it_was_parsed(rt: HostRuntime) -> Result<(), Fail> {
     let mut text = String::from_str(alloc, EVERY_FORM)?;
     text.push_str(EVERY_STEP)?;
     let trees = sexp_text::read(alloc, text.as_bytes())?;
-    let (program, rest) = program(alloc, &trees, text.len())?;
-    let mut written = sexp_text::print(alloc, &forms_of(alloc, &program)?)?;
-    let script = sexp_text::print(alloc, &script_forms_of(alloc, &rest.forms)?)?;
-    written.extend_from_slice(&script)?;
-    assert!(rt; written == sexp_text::print(alloc, &trees)?);
+    assert!(rt; written(alloc, &text)? == sexp_text::print(alloc, &trees)?);
     Ok(())
 }

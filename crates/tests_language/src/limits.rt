@@ -55,7 +55,10 @@ fn numbers_have_64_bits(rt: HostRuntime) -> Result<(), Fail> {
         (b"(f (do 9223372036854775808)) (doo) do", Some(7), None),
     ];
     for (text, program, script) in rows {
-        assert_eq!(rt; limits_of(rt.alloc(), text)?, (program, script), "{text:?}");
+        assert!(rt;
+            limits_of(rt.alloc(), text)? == (program, script),
+            "{text:?}"
+        );
     }
     Ok(())
 }
@@ -76,13 +79,15 @@ fn names_strings_and_lists_have_limits(rt: HostRuntime) -> Result<(), Fail> {
     ];
     for (before, part, times, after, offset) in rows {
         let text = repeated(alloc, before, part, times, after)?;
-        assert_eq!(rt;
-            limits_of(alloc, &text)?,
-            (offset, None),
-            "{before:?} {times}"
-        );
+        assert!(rt; limits_of(alloc, &text)? == (offset, None), "{times}");
     }
     Ok(())
+}
+
+// Prints the trees of a text with clamped tokens.
+fn clamped(alloc: Global, text: &[u8]) -> Result<Vec<u8>, Fail> {
+    let trees = clamped_trees(alloc, &sexp_text::read(alloc, text)?)?;
+    Ok(sexp_text::print(alloc, &trees)?)
 }
 
 #[test]
@@ -122,8 +127,7 @@ fn oversized_tokens_are_clamped(rt: HostRuntime) -> Result<(), Fail> {
     ];
     for (before, part, times, after, expected) in rows {
         let text = repeated(alloc, before, part, times, after)?;
-        let trees = clamped_trees(alloc, &sexp_text::read(alloc, &text)?)?;
-        assert_eq!(rt; sexp_text::print(alloc, &trees)?.as_slice(), expected);
+        assert!(rt; clamped(alloc, &text)?.as_slice() == expected);
     }
     Ok(())
 }
@@ -132,7 +136,6 @@ fn oversized_tokens_are_clamped(rt: HostRuntime) -> Result<(), Fail> {
 fn a_long_list_with_another_item_is_not_clamped(rt: HostRuntime) -> Result<(), Fail> {
     let alloc = rt.alloc();
     let text = repeated(alloc, b"(ints", b" 1", 4096, b" 007)\n")?;
-    let trees = clamped_trees(alloc, &sexp_text::read(alloc, &text)?)?;
-    assert!(rt; sexp_text::print(alloc, &trees)? == text);
+    assert!(rt; clamped(alloc, &text)? == text);
     Ok(())
 }

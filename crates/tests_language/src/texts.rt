@@ -148,15 +148,21 @@ fn add_places(places: &mut Vec<usize>, trees: &[Tree]) -> Result<(), Fail> {
     Ok(())
 }
 
+// Returns the offsets of trees in preorder, and their printed form.
+fn places_and_print(alloc: Global, trees: &[Tree]) -> Result<(Vec<usize>, Vec<u8>), Fail> {
+    let mut places = Vec::new(alloc);
+    add_places(&mut places, trees)?;
+    Ok((places, print(alloc, trees)?))
+}
+
 fn try_row<A: Abort>(rt: &A, alloc: Global, text: &[u8], verdict: Verdict) -> Result<(), Fail> {
     match (read(alloc, text), verdict) {
         (Ok(trees), Ok((places, printed))) => {
-            let mut found = Vec::new(alloc);
-            add_places(&mut found, &trees)?;
-            assert_eq!(rt; found.as_slice(), places, "at {text:?}");
-            assert_eq!(rt; print(alloc, &trees)?.as_slice(), printed, "at {text:?}");
+            let (found, again) = places_and_print(alloc, &trees)?;
+            assert!(rt; found.as_slice() == places, "at {text:?}");
+            assert!(rt; again.as_slice() == printed, "at {text:?}");
         }
-        (Err(stop), Err(expected)) => assert_eq!(rt; stop, expected, "at {text:?}"),
+        (Err(stop), Err(expected)) => assert!(rt; stop == expected, "at {text:?}"),
         (Ok(_), Err(_)) => assert!(rt; false, "{text:?} is read"),
         (Err(_), Ok(_)) => assert!(rt; false, "{text:?} is refused"),
     }
@@ -212,27 +218,51 @@ fn nested(alloc: Global, before: &[u8], lists: usize, after: &[u8]) -> Result<Ve
     Ok(text)
 }
 
+// Returns the numbers below `count`.
+fn numbers_below(alloc: Global, count: usize) -> Result<Vec<usize>, Fail> {
+    let mut numbers = Vec::new(alloc);
+    for number in 0..count {
+        numbers.push(number)?;
+    }
+    Ok(numbers)
+}
+
+// Returns a list nested in 99 others, and a newline.
+fn deepest(alloc: Global) -> Result<Vec<u8>, Fail> {
+    let mut text = nested(alloc, b"", 100, b"")?;
+    for _ in 0..100 {
+        text.push(b')')?;
+    }
+    text.push(b'\n')?;
+    Ok(text)
+}
+
 // A list nested in 99 others, each with its offset.
 fn try_deepest<A: Abort>(rt: &A, alloc: Global) -> Result<(), Fail> {
-    let mut text = nested(alloc, b"", 100, b"")?;
-    let mut places: Vec<usize> = Vec::new(alloc);
-    for at in 0..100 {
-        text.push(b')')?;
-        places.push(at)?;
-    }
-    let trees = read(alloc, &text)?;
-    let mut found = Vec::new(alloc);
-    add_places(&mut found, &trees)?;
-    assert!(rt; found == places);
-    text.push(b'\n')?;
-    assert!(rt; print(alloc, &trees)? == text);
+    let text = deepest(alloc)?;
+    let (places, printed) = places_and_print(alloc, &read(alloc, &text)?)?;
+    assert!(rt; places == numbers_below(alloc, 100)?);
+    assert!(rt; printed == text);
     Ok(())
+}
+
+// Returns why a text is rejected, in which `lists` lists are opened between two pieces.
+fn stop_of_nested(
+    alloc: Global,
+    before: &[u8],
+    lists: usize,
+    after: &[u8],
+) -> Result<Option<TextStop>, Fail> {
+    let text = nested(alloc, before, lists, after)?;
+    Ok(read(alloc, &text).err())
 }
 
 fn try_nested<A: Abort>(rt: &A, alloc: Global) -> Result<(), Fail> {
     for (before, lists, after, stop) in NESTED {
-        let text = nested(alloc, before, lists, after)?;
-        assert_eq!(rt; read(alloc, &text).err(), Some(stop), "at {stop:?}");
+        assert!(rt;
+            stop_of_nested(alloc, before, lists, after)? == Some(stop),
+            "at {stop:?}"
+        );
     }
     Ok(())
 }
@@ -252,12 +282,16 @@ fn each_text_is_parsed_or_rejected_at_its_offset(rt: HostRuntime) -> Result<(), 
     try_nested(&rt, alloc)
 }
 
+// Whether the trees of two texts are the same.
+fn same_texts(alloc: Global, one: &[u8], other: &[u8]) -> Result<bool, Fail> {
+    let trees = read(alloc, one)?;
+    Ok(same_trees(&trees, &read(alloc, other)?))
+}
+
 #[test]
 fn equality_of_trees_ignores_offsets(rt: HostRuntime) -> Result<(), Fail> {
-    let alloc = rt.alloc();
-    let trees = read(alloc, b"(a \"b\" (c))")?;
-    let spaced = read(alloc, b"  (a  \"b\"(c))")?;
-    let other = read(alloc, b"(a b (c))")?;
-    assert!(rt; same_trees(&trees, &spaced) && !same_trees(&trees, &other));
+    let text = b"(a \"b\" (c))";
+    assert!(rt; same_texts(rt.alloc(), text, b"  (a  \"b\"(c))")?);
+    assert!(rt; !same_texts(rt.alloc(), text, b"(a b (c))")?);
     Ok(())
 }
