@@ -23,17 +23,17 @@ fn answers<'a>(value: &'a Value, keys: &'a [Value], others: &[Value; 3]) -> [Cel
 fn cells_are_kept_for_equal_keys(rt: HostRuntime) -> Result<(), Fail> {
     let keys = [Value::Int(2), Value::Bool(true)];
     let others = [Value::Int(2), Value::Bool(false), Value::Int(2)];
-    assert_eq!(rt;
-        answers(&Value::Int(6), &keys, &others).as_slice(),
-        [
-            CellAnswer::Kept,
-            CellAnswer::Calculate,
-            CellAnswer::Calculate,
-            CellAnswer::Calculate,
-            CellAnswer::Calculate,
-            CellAnswer::Kept,
-        ]
-        .as_slice()
+    assert!(rt;
+        answers(&Value::Int(6), &keys, &others).as_slice()
+            == [
+                CellAnswer::Kept,
+                CellAnswer::Calculate,
+                CellAnswer::Calculate,
+                CellAnswer::Calculate,
+                CellAnswer::Calculate,
+                CellAnswer::Kept,
+            ]
+            .as_slice()
     );
     Ok(())
 }

@@ -31,14 +31,19 @@ fn has_keys(table: &Table, keys: &[i64]) -> bool {
     true
 }
 
+// Returns a table of rows in which only the group at index `other` reads object 5, and each other group reads object 7.
+fn rows_with_other_reads(alloc: Global, keys: &[i64], other: usize) -> Result<Table, NoMemory> {
+    let mut groups = row_groups(alloc, keys)?;
+    if other < groups.len() {
+        groups.set_reads(alloc, other, Objects::of(vec![in alloc; 5]?))?;
+    }
+    Table::from_groups(alloc, groups)
+}
+
 // Returns a table of the rows 8 and 9. The group of key 8 is at index 1, and the group of key 9 is
 // at index 3. The group of key 9 read object 5, and each other group read object 7.
 fn new_rows(alloc: Global) -> Result<Table, NoMemory> {
-    let mut groups = row_groups(alloc, &[8, 9])?;
-    if 3 < groups.len() {
-        groups.set_reads(alloc, 3, Objects::of(vec![in alloc; 5]?))?;
-    }
-    Table::from_groups(alloc, groups)
+    rows_with_other_reads(alloc, &[8, 9], 3)
 }
 
 // Returns the changes of `table` to the groups of `runs`, where an empty run stands for the group
@@ -88,6 +93,13 @@ fn previews(
     Ok(has_keys(preview.table(), keys))
 }
 
+// Applies the changes of a table, and drops what they replace.
+fn apply(alloc: Global, table: &mut Table, changes: ChangeList)
+    requires { table.old.groups ≡ changes.olds }
+{
+    table.apply(changes, &mut ReplacedGroups::none(alloc));
+}
+
 // Changes `table` to the groups of `runs`, where an empty run stands for the group of `new_rows` at
 // its index. Returns whether the keys of the preview are `keys`, and whether the changes keep the
 // reads.
@@ -100,7 +112,7 @@ fn change(
     let changes = changes_to_rows(alloc, table, runs)?;
     let is_previewed = previews(alloc, &changes, table, keys)?;
     let keeps = changes.keeps_reads(table);
-    table.apply(changes, &mut ReplacedGroups::none(alloc));
+    apply(alloc, table, changes);
     Ok((is_previewed, keeps))
 }
 
@@ -158,11 +170,7 @@ fn keeps_reads_with_other(
     runs: &[(usize, usize)],
     other: usize,
 ) -> Result<bool, NoMemory> {
-    let mut groups = row_groups(alloc, &[1, 2, 3])?;
-    if other < groups.len() {
-        groups.set_reads(alloc, other, Objects::of(vec![in alloc; 5]?))?;
-    }
-    let table = Table::from_groups(alloc, groups)?;
+    let table = rows_with_other_reads(alloc, &[1, 2, 3], other)?;
     let changes = changes_to_rows(alloc, &table, runs)?;
     Ok(changes.keeps_reads(&table))
 }
@@ -208,12 +216,12 @@ fn exchanged_blocks_with_other_reads_are_found(rt: HostRuntime) -> Result<(), Fa
     let left: &[(usize, usize)] = &[(0, 1), (3, 7), (1, 3)];
     let right: &[(usize, usize)] = &[(0, 1), (5, 7), (1, 5)];
     for other in 0..7 {
-        assert_eq!(rt; keeps_reads_with_other(alloc, left, other)?, other == 0);
-        assert_eq!(rt; keeps_reads_with_other(alloc, right, other)?, other == 0);
+        assert!(rt; keeps_reads_with_other(alloc, left, other)? == (other == 0));
+        assert!(rt; keeps_reads_with_other(alloc, right, other)? == (other == 0));
     }
     for other in 0..7 {
         let last_rows: &[(usize, usize)] = &[(0, 3), (5, 7), (3, 5)];
-        assert_eq!(rt; keeps_reads_with_other(alloc, last_rows, other)?, other < 3);
+        assert!(rt; keeps_reads_with_other(alloc, last_rows, other)? == (other < 3));
     }
     Ok(())
 }
@@ -243,6 +251,19 @@ fn changes_shrink_the_table(rt: HostRuntime) -> Result<(), Fail> {
     Ok(())
 }
 
+// Whether these are the indexes after the groups that the changes give and all groups inside them.
+fn previews_ends(
+    alloc: Global,
+    changes: &ChangeList,
+    table: &Table,
+    ends: &[usize],
+) -> Result<bool, NoMemory>
+    requires { table.now.groups ≡ changes.now.olds }
+{
+    let preview = changes.preview(alloc, table)?;
+    Ok(has_ends(preview.table(), ends))
+}
+
 // Whether these are the indexes after the groups and all groups inside them, in a table of the rows
 // 1, 2 and 3 with the groups of `runs` and in its preview.
 fn skips_as_previewed(
@@ -252,11 +273,8 @@ fn skips_as_previewed(
 ) -> Result<bool, NoMemory> {
     let mut table = three_rows(alloc)?;
     let changes = changes_to_rows(alloc, &table, runs)?;
-    let is_previewed = {
-        let preview = changes.preview(alloc, &table)?;
-        has_ends(preview.table(), ends)
-    };
-    table.apply(changes, &mut ReplacedGroups::none(alloc));
+    let is_previewed = previews_ends(alloc, &changes, &table, ends)?;
+    apply(alloc, &mut table, changes);
     Ok(is_previewed && has_ends(&table, ends))
 }
 
@@ -309,14 +327,13 @@ fn exchanged_table_counts_again(rt: HostRuntime) -> Result<(), Fail> {
     Ok(())
 }
 
-// Returns the table of `groups` with reads that differ from group to group: the group at index `i` reads the object
+// Replaces the reads of groups so that they differ from group to group: the group at index `i` reads the object
 // `first + i`, and reads it 0, 1 or 2 times.
-fn with_different_reads(
+fn set_different_reads(
     alloc: Global,
-    groups: TableBuilder,
+    groups: &mut TableBuilder,
     first: u64,
-) -> Result<Table, NoMemory> {
-    let mut groups = groups;
+) -> Result<(), NoMemory> {
     for index in 0..groups.len() {
         let object = first.saturating_add(index as u64);
         let reads = Objects::of(vec![in alloc; object; index % 3]?);
@@ -324,6 +341,13 @@ fn with_different_reads(
             groups.set_reads(alloc, index, reads)?;
         }
     }
+    Ok(())
+}
+
+// Returns a table of rows with the reads of `set_different_reads`.
+fn with_different_reads(alloc: Global, keys: &[i64], first: u64) -> Result<Table, NoMemory> {
+    let mut groups = row_groups(alloc, keys)?;
+    set_different_reads(alloc, &mut groups, first)?;
     Table::from_groups(alloc, groups)
 }
 
@@ -357,8 +381,8 @@ fn count_lent_reads(
 // Returns what `count_lent_reads` returns for a table of the rows 1, 2 and 3 with the groups of `runs`, where an empty
 // run stands for the group of the rows 8 and 9 at its index.
 fn count_reads_of_rows(alloc: Global, runs: &[(usize, usize)]) -> Result<Option<usize>, NoMemory> {
-    let table = with_different_reads(alloc, row_groups(alloc, &[1, 2, 3])?, 10)?;
-    let others = with_different_reads(alloc, row_groups(alloc, &[8, 9])?, 20)?;
+    let table = with_different_reads(alloc, &[1, 2, 3], 10)?;
+    let others = with_different_reads(alloc, &[8, 9], 20)?;
     let changes = changes_to(alloc, &table, &others, runs)?;
     count_lent_reads(alloc, &changes, &table)
 }
@@ -379,7 +403,7 @@ fn shrunk_changes_lend_the_reads_of_their_preview(rt: HostRuntime) -> Result<(),
         (&[(1, 1), (2, 2)], None),
     ];
     for (runs, count) in &rows {
-        assert_eq!(rt; count_reads_of_rows(alloc, runs)?, *count);
+        assert!(rt; count_reads_of_rows(alloc, runs)? == *count);
     }
     Ok(())
 }
@@ -424,23 +448,44 @@ fn sharing(alloc: Global, table: &Table) -> Result<Table, NoMemory> {
     Table::from_groups(alloc, groups)
 }
 
-// Makes `count` nodes, with an attribute each, in the memory of replaced nodes as far as there are any.
+// Makes a node with an attribute, in the memory of a replaced node if there is one.
+fn make_node(alloc: Global, replaced: &mut ReplacedGroups) -> Result<SharedGroup, NoMemory> {
+    let mut attributes = replaced.take_attributes(alloc, 1)?;
+    let name = Word::of(alloc, b"other")?;
+    let value = Value::Int(7);
+    attributes.push(Attribute { name, value })?;
+    let kind = Word::of(alloc, b"Other")?;
+    SharedGroup::new_node(alloc, kind, attributes, replaced)
+}
+
+// Makes `count` nodes in the memory of replaced nodes as far as there are any, and appends them.
 fn make_nodes(
     alloc: Global,
     replaced: &mut ReplacedGroups,
+    nodes: &mut Vec<SharedGroup>,
     count: usize,
-) -> Result<Vec<SharedGroup>, NoMemory> {
-    let mut nodes = Vec::new(alloc);
+) -> Result<(), NoMemory> {
     for _ in 0..count {
-        let mut attributes = replaced.take_attributes(alloc, 1)?;
-        attributes.push(Attribute {
-            name: Word::of(alloc, b"other")?,
-            value: Value::Int(7),
-        })?;
-        let kind = Word::of(alloc, b"Other")?;
-        nodes.push(SharedGroup::new_node(alloc, kind, attributes, replaced)?)?;
+        nodes.push(make_node(alloc, replaced)?)?;
     }
-    Ok(nodes)
+    Ok(())
+}
+
+// Changes a table of the rows 1, 2 and 3 to the groups of `runs`, and then makes `count` nodes. Returns whether another
+// table, which shares the slots of the three rows, keeps its numbers.
+fn replace_beside_shared(
+    alloc: Global,
+    table: &mut Table,
+    runs: &[(usize, usize)],
+    replaced: &mut ReplacedGroups,
+    nodes: &mut Vec<SharedGroup>,
+    count: usize,
+) -> Result<bool, NoMemory> {
+    let shared = sharing(alloc, table)?;
+    let changes = changes_to_rows(alloc, table, runs)?;
+    table.apply(changes, replaced);
+    make_nodes(alloc, replaced, nodes, count)?;
+    Ok(has_numbers(&shared, &[0, 1, 1, 2, 2, 3, 3]))
 }
 
 // Whether a table of the rows 1, 2 and 3 gets these numbers with the groups of `runs`, and another table, which shares
@@ -453,15 +498,11 @@ fn has_numbers_beside_new_nodes(
     count: usize,
 ) -> Result<bool, NoMemory> {
     let mut table = three_rows(alloc)?;
-    let shared = sharing(alloc, &table)?;
     let mut replaced = ReplacedGroups::none(alloc);
-    let changes = changes_to_rows(alloc, &table, runs)?;
-    table.apply(changes, &mut replaced);
-    let first = make_nodes(alloc, &mut replaced, count)?;
-    let is_kept = has_numbers(&shared, &[0, 1, 1, 2, 2, 3, 3]);
-    drop(shared);
-    let later = make_nodes(alloc, &mut replaced, count)?;
-    Ok(is_kept && has_numbers(&table, numbers) && first.len() == later.len())
+    let mut nodes = Vec::new(alloc);
+    let is_kept = replace_beside_shared(alloc, &mut table, runs, &mut replaced, &mut nodes, count)?;
+    make_nodes(alloc, &mut replaced, &mut nodes, count)?;
+    Ok(is_kept && has_numbers(&table, numbers))
 }
 
 #[test]

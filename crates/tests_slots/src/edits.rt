@@ -57,12 +57,22 @@ fn indexes_after(
     Ok(indexes)
 }
 
+// Whether this is the number of groups after the patch to these rows, with the indexes of the anchors of `mark_rows`.
+fn has_indexes_after(
+    alloc: Global,
+    keys: &[i64],
+    olds: &[Option<usize>],
+    expected: &[Option<usize>],
+) -> Result<bool, Fail> {
+    Ok(indexes_after(alloc, keys, olds)?.as_slice() == expected)
+}
+
 #[test]
 fn anchors_follow_reordered_rows(rt: HostRuntime) -> Result<(), Fail> {
     let alloc = rt.alloc();
     let mut anchors = Anchors::new(alloc);
     let anchor = anchors.mark(5)?;
-    assert_eq!(rt; anchors.place(anchor), Some(5usize));
+    assert!(rt; anchors.place(anchor) == Some(5usize));
     let olds = [
         Some(0),
         Some(5),
@@ -72,10 +82,8 @@ fn anchors_follow_reordered_rows(rt: HostRuntime) -> Result<(), Fail> {
         Some(3),
         Some(4),
     ];
-    assert_eq!(rt;
-        indexes_after(alloc, &[3, 1, 2], &olds)?.as_slice(),
-        [Some(7usize), Some(3), Some(5), Some(1), Some(2)].as_slice()
-    );
+    let expected = [Some(7), Some(3), Some(5), Some(1), Some(2)];
+    assert!(rt; has_indexes_after(alloc, &[3, 1, 2], &olds, &expected)?);
     Ok(())
 }
 
@@ -83,14 +91,10 @@ fn anchors_follow_reordered_rows(rt: HostRuntime) -> Result<(), Fail> {
 fn anchors_of_removed_rows_have_no_index(rt: HostRuntime) -> Result<(), Fail> {
     let alloc = rt.alloc();
     let olds = [Some(0), Some(1), Some(2), Some(3), Some(4)];
-    assert_eq!(rt;
-        indexes_after(alloc, &[1, 2], &olds)?.as_slice(),
-        [Some(5usize), Some(1), Some(3), None, None].as_slice()
-    );
+    let expected = [Some(5), Some(1), Some(3), None, None];
+    assert!(rt; has_indexes_after(alloc, &[1, 2], &olds, &expected)?);
     let olds = [Some(0), None, None, Some(5), Some(6)];
-    assert_eq!(rt;
-        indexes_after(alloc, &[4, 3], &olds)?.as_slice(),
-        [Some(5usize), None, None, Some(3), Some(4)].as_slice()
-    );
+    let expected = [Some(5), None, None, Some(3), Some(4)];
+    assert!(rt; has_indexes_after(alloc, &[4, 3], &olds, &expected)?);
     Ok(())
 }

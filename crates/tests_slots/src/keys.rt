@@ -4,11 +4,22 @@ use rt_values::{IntList, NoMemory, Txt, Value};
 use std::alloc::Global;
 use std::test::Fail;
 
+// Appends siblings with these sites and keys.
+fn add_siblings<'a>(
+    all: &mut Vec<SiblingKey<'a>>,
+    rows: &[(u32, Option<&'a Value>)],
+) -> Result<(), NoMemory> {
+    for (site, key) in rows {
+        all.push(SiblingKey::new(*site, *key))?;
+    }
+    Ok(())
+}
+
 // Returns the siblings with site 4 and these numbers as keys.
 fn siblings<'a>(alloc: Global, keys: &'a [Value]) -> Result<Vec<SiblingKey<'a>>, NoMemory> {
     let mut all = Vec::new(alloc);
     for key in keys {
-        all.push(SiblingKey::new(4, Some(key)))?;
+        add_siblings(&mut all, &[(4, Some(key))])?;
     }
     Ok(all)
 }
@@ -23,10 +34,8 @@ fn indexes(alloc: Global, old: &[Value], new: &[Value]) -> Result<Vec<Option<usi
 #[test]
 fn equal_siblings_are_matched_in_order(rt: HostRuntime) -> Result<(), Fail> {
     let five = [Value::Int(5), Value::Int(5), Value::Int(5)];
-    assert_eq!(rt;
-        indexes(rt.alloc(), &five[..2], &five)?.as_slice(),
-        [Some(0usize), Some(1), None].as_slice()
-    );
+    let found = indexes(rt.alloc(), &five[..2], &five)?;
+    assert!(rt; found.as_slice() == [Some(0usize), Some(1), None].as_slice());
     Ok(())
 }
 
@@ -45,8 +54,7 @@ fn four_values(alloc: Global) -> Result<[Value; 4], NoMemory> {
 // Returns the siblings with these keys, and two siblings without a key at the sites 4 and 5.
 fn old_siblings<'a>(alloc: Global, keys: &'a [Value]) -> Result<Vec<SiblingKey<'a>>, NoMemory> {
     let mut all = siblings(alloc, keys)?;
-    all.push(SiblingKey::new(4, None))?;
-    all.push(SiblingKey::new(5, None))?;
+    add_siblings(&mut all, &[(4, None), (5, None)])?;
     Ok(all)
 }
 
@@ -62,9 +70,7 @@ fn new_siblings<'a>(alloc: Global, keys: &'a [Value; 4]) -> Result<Vec<SiblingKe
         (4, Some(&keys[0])),
     ];
     let mut all = Vec::new(alloc);
-    for (site, key) in rows {
-        all.push(SiblingKey::new(site, key))?;
-    }
+    add_siblings(&mut all, &rows)?;
     Ok(all)
 }
 
@@ -78,20 +84,9 @@ fn old_indexes(alloc: Global, keys: &[Value; 4]) -> Result<Vec<Option<usize>>, N
 #[test]
 fn site_and_value_tell_siblings_apart(rt: HostRuntime) -> Result<(), Fail> {
     let alloc = rt.alloc();
-    let values = four_values(alloc)?;
-    assert_eq!(rt;
-        old_indexes(alloc, &values)?.as_slice(),
-        [
-            Some(5usize),
-            None,
-            Some(2),
-            Some(4),
-            Some(1),
-            Some(3),
-            Some(0)
-        ]
-        .as_slice()
-    );
+    let found = old_indexes(alloc, &four_values(alloc)?)?;
+    let expected = [Some(5), None, Some(2), Some(4), Some(1), Some(3), Some(0)];
+    assert!(rt; found.as_slice() == expected.as_slice());
     Ok(())
 }
 
@@ -130,12 +125,26 @@ fn reversed_rows_are_matched(rt: HostRuntime) -> Result<(), Fail> {
     Ok(())
 }
 
+// Queues siblings with site 4 and these keys under these indexes.
+fn queue_all<'a>(
+    alloc: Global,
+    queues: &mut SiblingQueues<'a>,
+    rows: &[(Option<&'a Value>, usize)],
+) -> Result<(), NoMemory> {
+    for (key, at) in rows {
+        queues.push(alloc, SiblingKey::new(4, *key), *at)?;
+    }
+    Ok(())
+}
+
 // Returns queues with the indexes 8 and 10 of `key` and 9 of the sibling without a key.
 fn three_siblings<'a>(alloc: Global, key: &'a Value) -> Result<SiblingQueues<'a>, NoMemory> {
     let mut queues = SiblingQueues::new(alloc);
-    queues.push(alloc, SiblingKey::new(4, Some(key)), 8)?;
-    queues.push(alloc, SiblingKey::new(4, None), 9)?;
-    queues.push(alloc, SiblingKey::new(4, Some(key)), 10)?;
+    queue_all(
+        alloc,
+        &mut queues,
+        &[(Some(key), 8), (None, 9), (Some(key), 10)],
+    )?;
     Ok(queues)
 }
 
@@ -154,10 +163,7 @@ fn queues_give_the_first_index_first(rt: HostRuntime) -> Result<(), Fail> {
     let key = Value::Int(1);
     let mut queues = three_siblings(rt.alloc(), &key)?;
     let taken = take_four(&mut queues, &SiblingKey::new(4, Some(&key)));
-    assert_eq!(rt;
-        taken.as_slice(),
-        [Some(8usize), Some(10), None, Some(9)].as_slice()
-    );
+    assert!(rt; taken.as_slice() == [Some(8usize), Some(10), None, Some(9)].as_slice());
     Ok(())
 }
 
@@ -170,17 +176,39 @@ fn number_rows(alloc: Global, rows: &[(u32, i64)]) -> Result<Vec<(u32, Value)>, 
     Ok(all)
 }
 
-// Surveys and queues siblings with these sites and keys, under their indexes.
-fn queue_rows<'a>(alloc: Global, rows: &'a [(u32, Value)]) -> Result<SiblingQueues<'a>, NoMemory> {
+// Surveys siblings with these sites and keys.
+fn survey_of(rows: &[(u32, Value)]) -> KeySurvey {
     let mut survey = KeySurvey::new();
     for (site, key) in rows {
         survey.add(&SiblingKey::new(*site, Some(key)));
     }
-    let mut queues = SiblingQueues::for_siblings(alloc, &survey)?;
+    survey
+}
+
+// Queues siblings with these sites and keys under their indexes.
+fn queue_rows<'a>(
+    alloc: Global,
+    queues: &mut SiblingQueues<'a>,
+    rows: &'a [(u32, Value)],
+) -> Result<(), NoMemory> {
     for (at, (site, key)) in rows.iter().enumerate() {
         queues.push(alloc, SiblingKey::new(*site, Some(key)), at)?;
     }
-    Ok(queues)
+    Ok(())
+}
+
+// Takes the indexes of siblings with the sites and numbers `new` from queues.
+fn take_rows(
+    alloc: Global,
+    queues: &mut SiblingQueues,
+    new: &[(u32, i64)],
+) -> Result<Vec<Option<usize>>, NoMemory> {
+    let mut taken = Vec::new(alloc);
+    for (site, number) in new {
+        let key = Value::Int(*number);
+        taken.push(queues.take(&SiblingKey::new(*site, Some(&key))))?;
+    }
+    Ok(taken)
 }
 
 // Returns the indexes that siblings with the sites and numbers `new` take from the queues of `old`.
@@ -190,13 +218,19 @@ fn taken_rows(
     new: &[(u32, i64)],
 ) -> Result<Vec<Option<usize>>, NoMemory> {
     let rows = number_rows(alloc, old)?;
-    let mut queues = queue_rows(alloc, &rows)?;
-    let mut taken = Vec::new(alloc);
-    for (site, number) in new {
-        let key = Value::Int(*number);
-        taken.push(queues.take(&SiblingKey::new(*site, Some(&key))))?;
-    }
-    Ok(taken)
+    let mut queues = SiblingQueues::for_siblings(alloc, &survey_of(&rows))?;
+    queue_rows(alloc, &mut queues, &rows)?;
+    take_rows(alloc, &mut queues, new)
+}
+
+// Whether these are the indexes of `taken_rows`.
+fn takes(
+    alloc: Global,
+    old: &[(u32, i64)],
+    new: &[(u32, i64)],
+    expected: &[Option<usize>],
+) -> Result<bool, NoMemory> {
+    Ok(taken_rows(alloc, old, new)?.as_slice() == expected)
 }
 
 #[test]
@@ -212,94 +246,68 @@ fn close_numbers_are_taken_by_site_and_number(rt: HostRuntime) -> Result<(), Fai
         (4, 6),
         (4, -4),
     ];
-    assert_eq!(rt;
-        taken_rows(rt.alloc(), &old, &new)?.as_slice(),
-        [
-            Some(0usize),
-            Some(2),
-            None,
-            Some(3),
-            None,
-            Some(1),
-            None,
-            None
-        ]
-        .as_slice()
-    );
+    let expected = [Some(0), Some(2), None, Some(3), None, Some(1), None, None];
+    assert!(rt; takes(rt.alloc(), &old, &new, &expected)?);
     Ok(())
 }
 
 #[test]
 fn far_numbers_are_taken_by_number(rt: HostRuntime) -> Result<(), Fail> {
     let alloc = rt.alloc();
-    let far = [(4, i64::MAX), (4, i64::MIN), (4, 0), (4, i64::MIN)];
-    let lowest = [(4, i64::MIN), (4, i64::MIN + 1)];
-    assert_eq!(rt;
-        taken_rows(
-            alloc,
-            &far,
-            &[(4, i64::MIN), (4, i64::MIN), (4, i64::MAX), (4, 1)]
-        )?
-        .as_slice(),
-        [Some(1usize), Some(3), Some(0), None].as_slice()
-    );
-    assert_eq!(rt;
-        taken_rows(
-            alloc,
-            &lowest,
-            &[(4, i64::MAX), (4, i64::MIN + 1), (4, i64::MIN)]
-        )?
-        .as_slice(),
-        [None, Some(1usize), Some(0)].as_slice()
-    );
+    let old = [(4, i64::MAX), (4, i64::MIN), (4, 0), (4, i64::MIN)];
+    let new = [(4, i64::MIN), (4, i64::MIN), (4, i64::MAX), (4, 1)];
+    assert!(rt; takes(alloc, &old, &new, &[Some(1), Some(3), Some(0), None])?);
+    let old = [(4, i64::MIN), (4, i64::MIN + 1)];
+    let new = [(4, i64::MAX), (4, i64::MIN + 1), (4, i64::MIN)];
+    assert!(rt; takes(alloc, &old, &new, &[None, Some(1), Some(0)])?);
     Ok(())
 }
 
 #[test]
 fn numbers_of_two_sites_are_taken_by_site(rt: HostRuntime) -> Result<(), Fail> {
-    assert_eq!(rt;
-        taken_rows(
-            rt.alloc(),
-            &[(4, 1), (5, 1), (5, 2)],
-            &[(5, 1), (4, 2), (5, 2), (4, 1)]
-        )?
-        .as_slice(),
-        [Some(1usize), None, Some(2), Some(0)].as_slice()
-    );
+    let old = [(4, 1), (5, 1), (5, 2)];
+    let new = [(5, 1), (4, 2), (5, 2), (4, 1)];
+    assert!(rt; takes(rt.alloc(), &old, &new, &[Some(1), None, Some(2), Some(0)])?);
     Ok(())
 }
 
 // Returns queues for siblings with the numbers 1 and 2. The first was queued, taken and queued again. Then the second,
 // the number 99, which the survey does not have, and the first were queued.
 fn requeued<'a>(alloc: Global, keys: &'a [Value; 3]) -> Result<SiblingQueues<'a>, NoMemory> {
+    let first = Some(&keys[0]);
     let mut survey = KeySurvey::new();
-    survey.add(&SiblingKey::new(4, Some(&keys[0])));
+    survey.add(&SiblingKey::new(4, first));
     survey.add(&SiblingKey::new(4, Some(&keys[1])));
     let mut queues = SiblingQueues::for_siblings(alloc, &survey)?;
-    queues.push(alloc, SiblingKey::new(4, Some(&keys[0])), 6)?;
-    queues.take(&SiblingKey::new(4, Some(&keys[0])));
-    queues.push(alloc, SiblingKey::new(4, Some(&keys[0])), 7)?;
-    queues.push(alloc, SiblingKey::new(4, Some(&keys[1])), usize::MAX)?;
-    queues.push(alloc, SiblingKey::new(4, Some(&keys[2])), 9)?;
-    queues.push(alloc, SiblingKey::new(4, Some(&keys[0])), 10)?;
+    queue_all(alloc, &mut queues, &[(first, 6)])?;
+    queues.take(&SiblingKey::new(4, first));
+    let rows = [
+        (first, 7),
+        (Some(&keys[1]), usize::MAX),
+        (Some(&keys[2]), 9),
+        (first, 10),
+    ];
+    queue_all(alloc, &mut queues, &rows)?;
     Ok(queues)
+}
+
+// Takes the siblings of `requeued` by the numbers 1, 99, 1, 1 and 2.
+fn take_five(queues: &mut SiblingQueues, keys: &[Value; 3]) -> [Option<usize>; 5] {
+    let first = SiblingKey::new(4, Some(&keys[0]));
+    [
+        queues.take(&first),
+        queues.take(&SiblingKey::new(4, Some(&keys[2]))),
+        queues.take(&first),
+        queues.take(&first),
+        queues.take(&SiblingKey::new(4, Some(&keys[1]))),
+    ]
 }
 
 #[test]
 fn siblings_are_queued_after_a_take(rt: HostRuntime) -> Result<(), Fail> {
     let keys = [Value::Int(1), Value::Int(2), Value::Int(99)];
     let mut queues = requeued(rt.alloc(), &keys)?;
-    let first = SiblingKey::new(4, Some(&keys[0]));
-    let taken = [
-        queues.take(&first),
-        queues.take(&SiblingKey::new(4, Some(&keys[2]))),
-        queues.take(&first),
-        queues.take(&first),
-        queues.take(&SiblingKey::new(4, Some(&keys[1]))),
-    ];
-    assert_eq!(rt;
-        taken.as_slice(),
-        [Some(7usize), Some(9), Some(10), None, Some(usize::MAX)].as_slice()
-    );
+    let expected = [Some(7), Some(9), Some(10), None, Some(usize::MAX)];
+    assert!(rt; take_five(&mut queues, &keys) == expected);
     Ok(())
 }

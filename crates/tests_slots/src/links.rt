@@ -4,14 +4,12 @@ use rt_values::NoMemory;
 use std::alloc::Global;
 use std::test::Fail;
 
-// Returns the links of the scopes 1, 2 and 3 with their objects.
-fn three_scopes(alloc: Global) -> Result<Links, NoMemory> {
-    let rows: [(usize, &[u64]); 3] = [(1, &[7, 8, 7]), (2, &[8]), (3, &[8, 9, 8])];
-    let mut links = Links::new(alloc);
-    for (scope, objects) in &rows {
+// Puts scopes with their objects.
+fn put_all(alloc: Global, links: &mut Links, rows: &[(usize, &[u64])]) -> Result<(), NoMemory> {
+    for (scope, objects) in rows {
         links.put(alloc, *scope, objects)?;
     }
-    Ok(links)
+    Ok(())
 }
 
 // Whether these are the scopes of the object of each row.
@@ -27,30 +25,35 @@ fn has_scopes(links: &Links, rows: &[(u64, &[usize])]) -> bool {
 #[test]
 fn scopes_are_those_put_and_not_dropped(rt: HostRuntime) -> Result<(), Fail> {
     let alloc = rt.alloc();
-    let mut links = three_scopes(alloc)?;
+    let mut links = Links::new(alloc);
+    put_all(
+        alloc,
+        &mut links,
+        &[(1, &[7, 8, 7]), (2, &[8]), (3, &[8, 9, 8])],
+    )?;
     let all: [(u64, &[usize]); 4] = [(7, &[1]), (8, &[1, 2, 3]), (9, &[3]), (6, &[])];
     assert!(rt; has_scopes(&links, &all));
     links.drop_scope(1);
     assert!(rt; has_scopes(&links, &[(7, &[]), (8, &[2, 3])]));
-    links.put(alloc, 1, &[8])?;
+    put_all(alloc, &mut links, &[(1, &[8])])?;
     assert!(rt; has_scopes(&links, &[(8, &[2, 3, 1])]));
     Ok(())
 }
 
-// Returns links for which capacity was reserved after the first scope, without this scope.
-fn reserved_scopes(alloc: Global) -> Result<Links, NoMemory> {
-    let mut links = Links::new(alloc);
+// Puts three scopes, reserves capacity after the first, and drops this one before the third.
+fn put_reserved(alloc: Global, links: &mut Links) -> Result<(), NoMemory> {
     links.put(alloc, 1, &[7])?;
     links.reserve(alloc, 4)?;
     links.put(alloc, 2, &[7, 8])?;
     links.drop_scope(1);
-    links.put(alloc, 3, &[7, 9])?;
-    Ok(links)
+    links.put(alloc, 3, &[7, 9])
 }
 
 #[test]
 fn reserved_pairs_are_put(rt: HostRuntime) -> Result<(), Fail> {
-    let links = reserved_scopes(rt.alloc())?;
+    let alloc = rt.alloc();
+    let mut links = Links::new(alloc);
+    put_reserved(alloc, &mut links)?;
     assert!(rt; has_scopes(&links, &[(7, &[2, 3]), (8, &[2]), (9, &[3])]));
     Ok(())
 }

@@ -191,10 +191,10 @@ fn four_thousand_rows_are_filled_turned_shuffled_and_emptied(rt: HostRuntime) ->
     let falling = Some((0, 4000));
     let shuffled = Some((0, 1234));
     let rotated = Some((1, 1234));
-    assert_eq!(rt; count_calls(alloc, None, rising)?, 4000usize);
-    assert_eq!(rt; count_calls(alloc, rising, falling)?, 3999usize);
+    assert!(rt; count_calls(alloc, None, rising)? == 4000usize);
+    assert!(rt; count_calls(alloc, rising, falling)? == 3999usize);
     assert!(rt; count_calls(alloc, falling, shuffled)? < 4000);
-    assert_eq!(rt; count_calls(alloc, shuffled, rotated)?, 3999usize);
-    assert_eq!(rt; count_calls(alloc, rotated, None)?, 4000usize);
+    assert!(rt; count_calls(alloc, shuffled, rotated)? == 3999usize);
+    assert!(rt; count_calls(alloc, rotated, None)? == 4000usize);
     Ok(())
 }

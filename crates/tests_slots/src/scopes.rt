@@ -1,8 +1,10 @@
 // Recompose scopes of a table, and the calls that are owed.
-use recompose_scopes::RecomposeScopes;
+ghost use Rattle.std.specs.Prelude.{◌≡◌, IfOk};
+
+use recompose_scopes::{OwedCalls, RecomposeScopes};
 use rt_groups::{Group, GroupKind, Values};
 use rt_values::{NoMemory, Objects};
-use slot_table::{ChangeListWriter, SharedGroup, Table, TableBuilder};
+use slot_table::{ChangeList, ChangeListWriter, SharedGroup, Table, TableBuilder};
 use std::alloc::Global;
 use std::test::Fail;
 
@@ -35,69 +37,72 @@ fn table_of_calls(alloc: Global) -> Result<Table, NoMemory> {
     Table::from_groups(alloc, groups)
 }
 
+// Whether the next owed call from the first index of each row on is at the second one.
+fn are_next(calls: &OwedCalls, rows: &[(usize, usize)]) -> bool {
+    for (at, next) in rows {
+        if calls.next_from(*at) != *next {
+            return false;
+        }
+    }
+    true
+}
+
 #[test]
 fn owed_calls_are_those_that_read_an_owed_object(rt: HostRuntime) -> Result<(), Fail> {
     let alloc = rt.alloc();
     let scopes = RecomposeScopes::of(alloc, &table_of_calls(alloc)?)?;
-    assert_eq!(rt; scopes.scopes_of(8), [0usize, 2, 3].as_slice());
-    assert_eq!(rt; scopes.scopes_of(6).len(), 0usize);
-    assert_eq!(rt; scopes.place(2), Some(4usize));
-    assert_eq!(rt; scopes.place(4), None);
+    assert!(rt; scopes.scopes_of(8) == [0usize, 2, 3].as_slice());
+    assert!(rt; scopes.scopes_of(6).len() == 0usize);
+    assert!(rt; scopes.place(2) == Some(4usize));
+    assert!(rt; scopes.place(4) == None);
 
-    let one = scopes.owed_calls(alloc, &[8])?;
-    let ascending = [
-        (0usize, 1usize),
-        (1, 1),
-        (2, 4),
-        (5, 6),
-        (6, 6),
-        (7, usize::MAX),
-    ];
-    for (at, next) in ascending {
-        assert_eq!(rt; one.next_from(at), next);
-    }
-
-    let both = scopes.owed_calls(alloc, &[9, 7, 9])?;
-    let unsorted = [(7usize, usize::MAX), (0, 1), (3, 6), (2, 2), (6, 6), (1, 1)];
-    for (at, next) in unsorted {
-        assert_eq!(rt; both.next_from(at), next);
-    }
-
-    assert_eq!(rt; scopes.owed_calls(alloc, &[])?.next_from(0), usize::MAX);
+    let ascending = [(0, 1), (1, 1), (2, 4), (5, 6), (6, 6), (7, usize::MAX)];
+    assert!(rt; are_next(&scopes.owed_calls(alloc, &[8])?, &ascending));
+    let unsorted = [(7, usize::MAX), (0, 1), (3, 6), (2, 2), (6, 6), (1, 1)];
+    assert!(rt; are_next(&scopes.owed_calls(alloc, &[9, 7, 9])?, &unsorted));
+    assert!(rt; scopes.owed_calls(alloc, &[])?.next_from(0) == usize::MAX);
     Ok(())
 }
 
-// Returns the scopes of `table` without its groups at the indexes 0 and 3, or no scopes if `table` has fewer than 7
-// groups.
-fn scopes_of_fewer_calls(alloc: Global, table: &Table) -> Result<RecomposeScopes, NoMemory> {
+// Returns the changes of `table` that drop its groups at the indexes 0 and 3, or all if it has fewer than 7 groups.
+fn without_two(alloc: Global, table: &Table) -> Result<ChangeList, NoMemory>
+    ensures { IfOk result (λ c. c.olds ≡ table.now.groups) }
+{
     let mut writer = ChangeListWriter::new(alloc, table);
     if 7 <= table.len() {
         writer.keep(1, 3)?;
         writer.keep(4, 7)?;
     }
-    let changes = writer.into_change_list(alloc)?;
+    writer.into_change_list(alloc)
+}
+
+// Returns the scopes of `table` without its groups at the indexes 0 and 3, or no scopes if `table` has fewer than 7
+// groups.
+fn scopes_of_fewer_calls(alloc: Global, table: &Table) -> Result<RecomposeScopes, NoMemory> {
+    let changes = without_two(alloc, table)?;
     match changes.shrunk_reads(table) {
         Some(reads) => RecomposeScopes::of_reads(alloc, reads),
         None => Ok(RecomposeScopes::new(alloc)),
     }
 }
 
+// Whether these are the indexes of the groups of the first scopes.
+fn has_places(scopes: &RecomposeScopes, places: &[Option<usize>]) -> bool {
+    for (scope, place) in places.iter().enumerate() {
+        if scopes.place(scope) != *place {
+            return false;
+        }
+    }
+    true
+}
+
 #[test]
 fn scopes_of_a_shrunk_table_have_the_new_indexes(rt: HostRuntime) -> Result<(), Fail> {
     let alloc = rt.alloc();
     let scopes = scopes_of_fewer_calls(alloc, &table_of_calls(alloc)?)?;
-    assert_eq!(rt; scopes.scopes_of(7), [0usize].as_slice());
-    assert_eq!(rt; scopes.scopes_of(8), [0usize, 2, 3].as_slice());
-    assert_eq!(rt; scopes.scopes_of(9), [1usize, 3].as_slice());
-    let places = [
-        (0usize, Some(0usize)),
-        (1, Some(1)),
-        (2, Some(2)),
-        (3, Some(4)),
-        (4, None),
-    ];
-    for (scope, place) in places {
-        assert_eq!(rt; scopes.place(scope), place);
-    }
+    assert!(rt; scopes.scopes_of(7) == [0usize].as_slice());
+    assert!(rt; scopes.scopes_of(8) == [0usize, 2, 3].as_slice());
+    assert!(rt; scopes.scopes_of(9) == [1usize, 3].as_slice());
+    assert!(rt; has_places(&scopes, &[Some(0), Some(1), Some(2), Some(4), None]));
     Ok(())
 }

@@ -79,8 +79,24 @@ fn visit_next<L: Ledger>(
     Ok(())
 }
 
-// Reads a table of three rows: opens the root, skips the first row, opens the second and the node inside it, and closes
-// the node.
+// Opens the root, skips the first row, opens the second and the node inside it, and closes the node. Appends what is seen.
+fn visit_rows<L: Ledger>(
+    reader: &mut Reader,
+    steps: &mut Steps<L>,
+    values: &mut Vec<i64>,
+) -> Result<(), NoMemory> {
+    visit_next(reader, steps, false, values)?;
+    values.push(next_key(reader))?;
+    if reader.more() {
+        reader.skip_group();
+    }
+    values.push(next_key(reader))?;
+    visit_next(reader, steps, false, values)?;
+    visit_next(reader, steps, true, values)?;
+    visit_next(reader, steps, true, values)
+}
+
+// Returns what `visit_rows` sees of a table.
 fn values_read<L: Ledger>(alloc: Global, table: &Table, blank: Blank) -> Result<Vec<i64>, NoMemory>
     requires name { blank.name ≡ L.name }
     requires parts { blank.parts ≡ L.parts }
@@ -90,15 +106,7 @@ fn values_read<L: Ledger>(alloc: Global, table: &Table, blank: Blank) -> Result<
     let mut steps: Steps<L> = Steps::new(book, share);
     let mut reader = Reader::new(alloc, table);
     let mut values = Vec::new(alloc);
-    visit_next(&mut reader, &mut steps, false, &mut values)?;
-    values.push(next_key(&reader))?;
-    if reader.more() {
-        reader.skip_group();
-    }
-    values.push(next_key(&reader))?;
-    visit_next(&mut reader, &mut steps, false, &mut values)?;
-    visit_next(&mut reader, &mut steps, true, &mut values)?;
-    visit_next(&mut reader, &mut steps, true, &mut values)?;
+    visit_rows(&mut reader, &mut steps, &mut values)?;
     Ok(values)
 }
 
@@ -106,14 +114,11 @@ fn values_read<L: Ledger>(alloc: Global, table: &Table, blank: Blank) -> Result<
 fn reader_opens_and_skips_groups(rt: HostRuntime) -> Result<(), Fail> {
     let alloc = rt.alloc();
     let table = three_rows(alloc)?;
-    assert_eq!(rt; table.len(), 7usize);
+    assert!(rt; table.len() == 7usize);
     let values = values_read::<Brand>(alloc, &table, Blank::new(1))?;
     // The root with its argument; the keys of the first two rows; the second row with its key; the node with its
     // attribute; no next group.
-    assert_eq!(rt;
-        values.as_slice(),
-        [1i64, 9, 7, -1, 1, 2, 3, 9, 7, 2, 2, 9, 7, 2, -9].as_slice()
-    );
+    assert!(rt; values.as_slice() == [1i64, 9, 7, -1, 1, 2, 3, 9, 7, 2, 2, 9, 7, 2, -9].as_slice());
     Ok(())
 }
 
@@ -135,6 +140,6 @@ fn indexes_after_groups_skip_what_is_inside(rt: HostRuntime) -> Result<(), Fail>
     let alloc = rt.alloc();
     let table = three_rows(alloc)?;
     assert!(rt; has_indexes_after(&table, &[7, 3, 3, 5, 5, 7, 7]));
-    assert_eq!(rt; Table::new(alloc).len(), 0usize);
+    assert!(rt; Table::new(alloc).len() == 0usize);
     Ok(())
 }
