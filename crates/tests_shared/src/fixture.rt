@@ -2,8 +2,8 @@
 ghost use Rattle.std.specs.Prelude.{◌≡◌, ◌<◌, ◌≤◌, IfOk, All, length};
 ghost use Rattle.snap_shared.specs.Seats.{count_of, IsSeat};
 
-use rt_values::{Ty, Value};
-use snap_api::{LogWorld, Reply, Versions};
+use rt_values::{Name, Ty, Value};
+use snap_api::{Entry, LogWorld, Reply, Request, Versions};
 use snap_plain::PlainWorld;
 use snap_policy::BuiltIn;
 use snap_shared::{Seat, Shared};
@@ -41,6 +41,56 @@ pub(crate) fn shared_counter<R: Wait>(
     Ok((shared, seats))
 }
 
+// Shares a world between two callers, and returns it with the seats of the first and the second.
+pub(crate) fn two_seats<R: Wait, V: Versions + Drop>(
+    rt: &R,
+    alloc: Global,
+    world: V,
+) -> Result<(Shared<LogWorld<V>>, Seat<LogWorld<V>>, Seat<LogWorld<V>>), Fail>
+    ensures count { IfOk result (λ r. count_of r.0 ≡ 2) }
+    ensures first { IfOk result (λ r. IsSeat r.0 r.1) }
+    ensures second { IfOk result (λ r. IsSeat r.0 r.2) }
+{
+    let (shared, mut seats) = Shared::new(rt, alloc, world, 2)?;
+    let Some(second) = seats.pop() else {
+        unreachable!()
+    };
+    let Some(first) = seats.pop() else {
+        unreachable!()
+    };
+    Ok((shared, first, second))
+}
+
+// Ends a shared world of two seats, which return in another order than they were made. Returns its history.
+pub(crate) fn history_of<V: Versions + Drop>(
+    alloc: Global,
+    shared: Shared<LogWorld<V>>,
+    first: Seat<LogWorld<V>>,
+    second: Seat<LogWorld<V>>,
+) -> Result<Vec<Entry>, Fail>
+    requires count { count_of shared ≡ 2 }
+    requires first { IsSeat shared first }
+    requires second { IsSeat shared second }
+{
+    let ends = vec![in alloc; second, first]?;
+    let (_, history) = shared.into_parts(ends);
+    Ok(history)
+}
+
+// A read of the counter in a snapshot.
+pub(crate) fn read(name: Name) -> Request {
+    Request::Read { name, object: 0 }
+}
+
+// A write of a number to the counter in global.
+pub(crate) fn write(number: i64) -> Request {
+    Request::Write {
+        name: 0,
+        object: 0,
+        value: Value::Int(number),
+    }
+}
+
 // Whether both replies are the same.
 pub(crate) fn is_same(one: &Reply, other: &Reply) -> bool {
     match (one, other) {
@@ -55,4 +105,20 @@ pub(crate) fn is_same(one: &Reply, other: &Reply) -> bool {
         (Reply::Refused(refusal), Reply::Refused(same)) => *refusal == *same,
         _ => false,
     }
+}
+
+// Makes a call through a seat. Returns whether its reply is `wanted`.
+pub(crate) fn replies<R: Wait, W: Versions + Drop>(
+    rt: &R,
+    alloc: Global,
+    shared: &Shared<W>,
+    seat: &mut Seat<W>,
+    request: Request,
+    wanted: Reply,
+) -> bool
+    requires { IsSeat shared.now seat.old }
+    ensures { IsSeat shared.now seat.new }
+{
+    let reply = shared.call(rt, alloc, seat, request);
+    is_same(&reply, &wanted)
 }

@@ -6,7 +6,7 @@ ghost use Rattle.lang_checks.specs.Numbers.{IsNumberedProgram};
 ghost use Rattle.snap_shared.specs.Seats.{IsSeat};
 ghost use Rattle.tests_shared.specs.CounterProgram.{ident, counter_states, key_statement, counter_functions};
 
-use crate::fixture::{World, shared_counter};
+use crate::fixture::{World, counter_world, history_of, two_seats, write};
 use lang_ast::{Expression, Function, Ident, Program, State, Statement};
 use lang_checks::{Checked, check};
 use node_tree::UnitApplier;
@@ -16,7 +16,7 @@ use rt_streams::OpenGate;
 use rt_values::{Steps, Ty, Value, Word};
 use shared_frames::frame_among;
 use slot_table::Table;
-use snap_api::Request;
+use snap_api::{Entry, Request, Versions};
 use snap_policy::BuiltIn;
 use snap_shared::{Seat, SeatView, Shared};
 use std::alloc::Global;
@@ -113,15 +113,15 @@ fn shown_number(table: &Table) -> i64 {
 }
 
 // Makes a frame through the seat. `blank` is the ledger of the steps, which no test reads.
-fn frame_counting<R: Wait, L: Ledger>(
+fn frame_counting<R: Wait, W: Versions + Drop, L: Ledger>(
     rt: &R,
     alloc: Global,
-    shared: &Shared<World>,
-    seat: Seat<World>,
+    shared: &Shared<W>,
+    seat: Seat<W>,
     step: u64,
     composition: &mut Composition,
     blank: Blank,
-) -> (Seat<World>, u64, Result<Report, FrameStop>)
+) -> (Seat<W>, u64, Result<Report, FrameStop>)
     requires seat { IsSeat shared.now seat }
     requires name { blank.name ≡ L.name }
     requires parts { blank.parts ≡ L.parts }
@@ -135,71 +135,87 @@ fn frame_counting<R: Wait, L: Ledger>(
     frame_among(view, alloc, composition, &mut applier, &mut steps)
 }
 
-// Makes a frame through the seat, and returns it with the number of its next call at the gate.
-fn make_frame<R: Wait>(
+// Makes a frame through the seat, and appends the number that it shows, unless it fails. Returns the seat and the number
+// of its next call at the gate.
+fn make_frame<R: Wait, W: Versions + Drop>(
     rt: &R,
     alloc: Global,
-    shared: &Shared<World>,
-    seat: Seat<World>,
+    shared: &Shared<W>,
+    seat: Seat<W>,
     step: u64,
     composition: &mut Composition,
-) -> (Seat<World>, u64, Result<Report, FrameStop>)
+    numbers: &mut Vec<i64>,
+) -> (Seat<W>, u64)
     requires { IsSeat shared.now seat }
     ensures { IsSeat shared.now result.0 }
 {
-    frame_counting::<R, Brand>(rt, alloc, shared, seat, step, composition, Blank::new(1))
+    let (seat, step, outcome) = frame_counting::<R, W, Brand>(
+        rt,
+        alloc,
+        shared,
+        seat,
+        step,
+        composition,
+        Blank::new(1),
+    );
+    if outcome.is_ok() {
+        let _ = numbers.push(shown_number(composition.table()));
+    }
+    (seat, step)
 }
 
-// Makes frames of the program through the seat, and returns it with the number that each frame shows. Stops at a failed
-// frame.
-fn compose_frames<R: Wait>(
+// Makes frames of a composition through the seat. Returns the seat with the number that each frame shows.
+fn make_frames<R: Wait, W: Versions + Drop>(
     rt: &R,
     alloc: Global,
-    shared: &Shared<World>,
-    seat: Seat<World>,
-    program: &Checked,
-) -> (Seat<World>, Vec<i64>)
+    shared: &Shared<W>,
+    seat: Seat<W>,
+    composition: &mut Composition,
+) -> (Seat<W>, Vec<i64>)
     requires { IsSeat shared.now seat }
     ensures { IsSeat shared.now result.0 }
 {
-    let mut shown = Vec::new(alloc);
-    let Ok(mut composition) = Composition::new(alloc, program, 0) else {
-        return (seat, shown);
-    };
+    let mut numbers = Vec::new(alloc);
     let mut held = seat;
     let mut step = 0;
     for _ in 0..FRAMES {
-        let (next, after, outcome) = make_frame(rt, alloc, shared, held, step, &mut composition);
+        let (next, after) = make_frame(rt, alloc, shared, held, step, composition, &mut numbers);
         held = next;
         step = after;
-        let Ok(_) = outcome else {
-            return (held, shown);
-        };
-        let Ok(()) = shown.push(shown_number(composition.table())) else {
-            return (held, shown);
-        };
     }
-    (held, shown)
+    (held, numbers)
+}
+
+// Makes frames of the program through the seat. Returns the seat with the number that each frame shows.
+fn compose_frames<R: Wait, W: Versions + Drop>(
+    rt: &R,
+    alloc: Global,
+    shared: &Shared<W>,
+    seat: Seat<W>,
+    program: &Checked,
+) -> (Seat<W>, Vec<i64>)
+    requires { IsSeat shared.now seat }
+    ensures { IsSeat shared.now result.0 }
+{
+    match Composition::new(alloc, program, 0) {
+        Ok(mut composition) => make_frames(rt, alloc, shared, seat, &mut composition),
+        Err(_) => (seat, Vec::new(alloc)),
+    }
 }
 
 // Writes the numbers 1 to `WRITES` to the counter in global, one after another.
-fn write_numbers<R: Wait>(
+fn write_numbers<R: Wait, W: Versions + Drop>(
     rt: &R,
     alloc: Global,
-    shared: &Shared<World>,
-    seat: Seat<World>,
-) -> Seat<World>
+    shared: &Shared<W>,
+    seat: Seat<W>,
+) -> Seat<W>
     requires { IsSeat shared.now seat }
     ensures { IsSeat shared.now result }
 {
     let mut held = seat;
     for number in 0..WRITES {
-        let write = Request::Write {
-            name: 0,
-            object: 0,
-            value: Value::Int(number.wrapping_add(1)),
-        };
-        shared.call(rt, alloc, &mut held, write);
+        shared.call(rt, alloc, &mut held, write(number.wrapping_add(1)));
     }
     held
 }
@@ -226,35 +242,44 @@ fn compose_while_writing<R: Threads + Wait + Sync>(
     (writer, reader, shown)
 }
 
-#[test]
-fn each_frame_shows_the_value_at_its_take(rt: HostRuntime) -> Result<(), Fail> {
-    let alloc = rt.alloc();
+// Composes frames while another seat writes. Returns the numbers that the frames show, and the history.
+fn history_while_writing<R: Threads + Wait + Sync>(
+    rt: &R,
+    alloc: Global,
+) -> Result<(Vec<i64>, Vec<Entry>), Fail> {
     let program = checked_program(alloc)?;
-    let (shared, mut seats) = shared_counter(&rt, alloc, 2)?;
-    let (Some(writer), Some(reader)) = (seats.pop(), seats.pop()) else {
-        unreachable!()
-    };
+    let (shared, writer, reader) = two_seats(rt, alloc, counter_world(alloc)?)?;
     let (writer, reader, shown) = compose_while_writing(
-        &rt, alloc, &shared, writer, reader, &program,
+        rt, alloc, &shared, writer, reader, &program,
     );
-    let ends = vec![in alloc; writer, reader]?;
-    let (_, history) = shared.into_parts(ends);
+    let history = history_of(alloc, shared, writer, reader)?;
+    Ok((shown, history))
+}
+
+// Lists the number in global at each take of a frame, and then the last one.
+fn numbers_at_takes(alloc: Global, history: &[Entry]) -> Result<Vec<i64>, Fail> {
+    let mut numbers = Vec::new(alloc);
     let mut global = 0;
-    let mut frames = shown.iter();
-    for entry in &history {
+    for entry in history {
         match &entry.request {
             Request::Write {
                 value: Value::Int(number),
                 ..
             } => global = *number,
-            Request::TakeFor { .. } => {
-                assert!(rt; matches!(frames.next(), Some(number) if *number == global));
-            }
+            Request::TakeFor { .. } => numbers.push(global)?,
             _ => {}
         }
     }
-    assert_eq!(rt; shown.len(), 200);
-    assert!(rt; frames.next().is_none());
-    assert_eq!(rt; global, WRITES);
+    numbers.push(global)?;
+    Ok(numbers)
+}
+
+#[test]
+fn each_frame_shows_the_value_at_its_take(rt: HostRuntime) -> Result<(), Fail> {
+    let alloc = rt.alloc();
+    let (mut shown, history) = history_while_writing(&rt, alloc)?;
+    assert!(rt; shown.len() == 200);
+    shown.push(WRITES)?;
+    assert!(rt; shown == numbers_at_takes(alloc, &history)?);
     Ok(())
 }

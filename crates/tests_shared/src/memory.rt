@@ -1,9 +1,9 @@
 // A call that runs out of memory.
-use crate::fixture::counter_world;
+use crate::fixture::{counter_world, history_of, read, replies, two_seats, write};
 use rt_values::{Caller, Kind, Name, NoMemory, ObjectNo, Objects, Ty, Value, WatcherNo};
-use snap_api::{Refusal, Reply, Request, Versions};
-use snap_shared::Shared;
+use snap_api::{Entry, Refusal, Reply, Request, Versions};
 use std::alloc::Global;
+use std::sync::Wait;
 use std::test::Fail;
 
 /// A world whose first write runs out of memory.
@@ -101,11 +101,36 @@ impl<V: Versions + Drop> Versions for ShortWorld<V> {
     }
 }
 
-fn write(number: i64) -> Request {
-    Request::Write {
-        name: 0,
-        object: 0,
-        value: Value::Int(number),
+// Writes twice through the seat of a world whose first write runs out of memory, and reads in between. Returns the
+// history, or `None` if another reply comes.
+fn history_of_two<R: Wait, V: Versions + Drop>(
+    rt: &R,
+    alloc: Global,
+    world: V,
+) -> Result<Option<Vec<Entry>>, Fail> {
+    let (shared, mut seat, other) = two_seats(rt, alloc, world)?;
+    let refused = Reply::Refused(Refusal::NoMemory);
+    let is_refused = replies(rt, alloc, &shared, &mut seat, write(1), refused);
+    let got = Reply::Got(Value::Int(0));
+    let is_read = replies(rt, alloc, &shared, &mut seat, read(0), got);
+    let wrote = Reply::Wrote { changed: true };
+    let is_written = replies(rt, alloc, &shared, &mut seat, write(2), wrote);
+    let history = history_of(alloc, shared, seat, other)?;
+    Ok(if is_refused && is_read && is_written {
+        Some(history)
+    } else {
+        None
+    })
+}
+
+// Whether a history is a read and then a write that changes something.
+fn is_read_and_write(history: &[Entry]) -> bool {
+    match history {
+        [read, write] => {
+            matches!(read.request, Request::Read { name: 0, object: 0 })
+                && matches!(write.reply, Reply::Wrote { changed: true })
+        }
+        _ => false,
     }
 }
 
@@ -116,20 +141,7 @@ fn a_call_without_memory_is_not_in_the_history(rt: HostRuntime) -> Result<(), Fa
         world: counter_world(alloc)?,
         is_short: true,
     };
-    let (shared, mut seats) = Shared::new(&rt, alloc, world, 1)?;
-    let Some(mut seat) = seats.pop() else {
-        unreachable!()
-    };
-    let refused = shared.call(&rt, alloc, &mut seat, write(1));
-    assert!(rt; refused.is_no_memory());
-    let got = shared.call(&rt, alloc, &mut seat, Request::Read { name: 0, object: 0 });
-    assert!(rt; matches!(got, Reply::Got(Value::Int(0))));
-    let wrote = shared.call(&rt, alloc, &mut seat, write(2));
-    assert!(rt; matches!(wrote, Reply::Wrote { changed: true }));
-    let ends = vec![in alloc; seat]?;
-    let (_, history) = shared.into_parts(ends);
-    assert_eq!(rt; history.len(), 2);
-    assert!(rt; matches!(history[0].request, Request::Read { name: 0, object: 0 }));
-    assert!(rt; matches!(history[1].reply, Reply::Wrote { changed: true }));
+    let history = history_of_two(&rt, alloc, world)?;
+    assert!(rt; history.is_some_and(|history| is_read_and_write(&history)));
     Ok(())
 }

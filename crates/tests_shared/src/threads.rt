@@ -5,6 +5,8 @@ ghost use Rattle.snap_shared.specs.Seats.{IsSeat};
 use crate::fixture::{World, counter_world, is_same, shared_counter};
 use rt_values::{Caller, Kind, Value};
 use snap_api::{Entry, Reply, Request, Versions, run_calls};
+use snap_plain::PlainWorld;
+use snap_policy::BuiltIn;
 use snap_shared::{Seat, Shared};
 use std::alloc::Global;
 use std::sync::Wait;
@@ -16,7 +18,12 @@ const THREADS: usize = 8;
 const ROUNDS: u64 = 250; // five calls each
 
 // Adds 1 to the counter in a snapshot of its own, by five calls. Stops at an unexpected reply.
-fn add_one<R: Wait>(rt: &R, alloc: Global, shared: &Shared<World>, seat: &mut Seat<World>)
+fn add_one<R: Wait, W: Versions + Drop>(
+    rt: &R,
+    alloc: Global,
+    shared: &Shared<W>,
+    seat: &mut Seat<W>,
+)
     requires { IsSeat shared.now seat.old }
     ensures { IsSeat shared.now seat.new }
 {
@@ -45,7 +52,7 @@ fn add_one<R: Wait>(rt: &R, alloc: Global, shared: &Shared<World>, seat: &mut Se
     shared.call(rt, alloc, seat, Request::Dispose { name });
 }
 
-fn work<R: Wait>(rt: &R, alloc: Global, shared: &Shared<World>, seat: &mut Seat<World>)
+fn work<R: Wait, W: Versions + Drop>(rt: &R, alloc: Global, shared: &Shared<W>, seat: &mut Seat<W>)
     requires { IsSeat shared.now seat.old }
     ensures { IsSeat shared.now seat.new }
 {
@@ -93,24 +100,52 @@ fn count_of_caller(history: &[Entry], caller: Caller) -> usize {
         .count()
 }
 
+// Whether each entry of a history has the reply with its index.
+fn has_replies(history: &[Entry], replies: &[Reply]) -> bool {
+    history.len() == replies.len()
+        && history
+            .iter()
+            .zip(replies)
+            .all(|(entry, reply)| is_same(&entry.reply, reply))
+}
+
+// Lets all seats work, and ends their shared world. Returns the world and its history.
+fn worked_world<R: Threads + Wait + Sync>(
+    rt: &R,
+    alloc: Global,
+) -> Result<(PlainWorld<BuiltIn>, Vec<Entry>), Fail> {
+    let (shared, mut seats) = shared_counter(rt, alloc, THREADS)?;
+    work_together(rt, alloc, &shared, seats.as_mut_slice());
+    Ok(shared.into_parts(seats))
+}
+
+// Returns the count in global, or `None` if the read is refused.
+fn count_in(alloc: Global, world: &mut PlainWorld<BuiltIn>) -> Option<i64> {
+    world.read(alloc, 0, 0, 0).ok().map(|value| value.number())
+}
+
+// Whether a plain world gives the calls of a history the same replies, and has the same count then as `world`.
+fn is_history_of(
+    alloc: Global,
+    world: &mut PlainWorld<BuiltIn>,
+    history: &[Entry],
+) -> Result<bool, Fail> {
+    let mut plain = counter_world(alloc)?;
+    let calls = calls_of(alloc, history)?;
+    let replies = run_calls(alloc, &mut plain, &calls)?;
+    let count = count_in(alloc, world);
+    let is_counted = count.is_some() && count == count_in(alloc, &mut plain);
+    Ok(is_counted && has_replies(history, &replies))
+}
+
 #[test]
 fn ten_thousand_calls_are_those_of_a_plain_world(rt: HostRuntime) -> Result<(), Fail> {
     let alloc = rt.alloc();
-    let (shared, mut seats) = shared_counter(&rt, alloc, THREADS)?;
-    work_together(&rt, alloc, &shared, seats.as_mut_slice());
-    let (mut world, history) = shared.into_parts(seats);
-    assert_eq!(rt; history.len(), 10_000);
+    let (mut world, history) = worked_world(&rt, alloc)?;
+    assert!(rt; history.len() == 10_000);
     for caller in 0..8 {
-        assert_eq!(rt; count_of_caller(&history, caller), 1250);
+        assert!(rt; count_of_caller(&history, caller) == 1250);
     }
-    let mut plain = counter_world(alloc)?;
-    let calls = calls_of(alloc, &history)?;
-    let replies = run_calls(alloc, &mut plain, &calls)?;
-    assert_eq!(rt; replies.len(), 10_000);
-    for (entry, reply) in history.iter().zip(&replies) {
-        assert!(rt; is_same(&entry.reply, reply));
-    }
-    let count = world.read(alloc, 0, 0, 0)?;
-    assert!(rt; count.same(&plain.read(alloc, 0, 0, 0)?));
+    assert!(rt; is_history_of(alloc, &mut world, &history)?);
     Ok(())
 }

@@ -1,5 +1,5 @@
 use Rattle.snap_shared.specs.Seats.{IsSeat}
-use Rattle.tests_shared.proofs.frames.compose_frames.Given as goal
+use Rattle.tests_shared.proofs.frames.make_frames.Given as goal
 
 abbrev pub invariant-loop : goal.invariant-loop
 invariant-loop g l = IsSeat l.shared l.held
