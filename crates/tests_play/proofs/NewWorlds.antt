@@ -1,5 +1,5 @@
 -- A world before its first call.
-use Rattle.std.proofs.Common.{◌≡◌, ◌<◌, ℕ, zero, suc, true, refl, arith}
+use Rattle.std.proofs.Common.{zero, suc, refl, arith}
 use Rattle.snap_policy.specs.declared.policy.BuiltIn.{BuiltIn}
 use Rattle.snap_api.specs.TracksLive.{OnlyGlobalIsLive}
 use Rattle.snap_api.specs.World.{start}

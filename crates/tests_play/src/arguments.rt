@@ -1,4 +1,5 @@
 // Arguments that are a command, and arguments that are none.
+use crate::memory_runs::arguments;
 use play_args::{Command, parse_args};
 use script_lang::Flags;
 use std::alloc::Global;
@@ -6,50 +7,58 @@ use std::test::Fail;
 
 // Parses arguments.
 fn answer(alloc: Global, words: &[&str]) -> Result<Option<Command>, Fail> {
-    let mut list = Vec::new(alloc);
-    for word in words {
-        list.push(String::from_str(alloc, *word)?)?;
-    }
+    let list = arguments(alloc, words)?;
     Ok(parse_args(alloc, &list)?)
 }
 
-// The command `run` with its flags.
-fn run_with(json: bool, ops: bool) -> Option<Command> {
-    Some(Command::Run(Flags { json, ops }))
+// Whether the words are `run` with these flags.
+fn is_run(alloc: Global, words: &[&str], json: bool, ops: bool) -> Result<bool, Fail> {
+    Ok(answer(alloc, words)? == Some(Command::Run(Flags { json, ops })))
 }
 
-// The command `gen` with its number and its size.
-fn gen_of(number: u32, size: u32) -> Option<Command> {
-    Some(Command::Gen { number, size })
+// Whether the words are `gen` with this number and this size.
+fn is_gen(alloc: Global, words: &[&str], number: u32, size: u32) -> Result<bool, Fail> {
+    Ok(answer(alloc, words)? == Some(Command::Gen { number, size }))
 }
 
 #[test]
 fn a_command_is_its_word_with_its_flags(rt: HostRuntime) -> Result<(), Fail> {
-    let rows: [(&[&str], Option<Command>); 21] = [
-        (&["run"], run_with(false, false)),
-        (&["run", "--json"], run_with(true, false)),
-        (&["run", "--ops"], run_with(false, true)),
-        (&["run", "--ops", "--json"], run_with(true, true)),
-        (&["check"], Some(Command::Check)),
-        (&[], None),
-        (&["runs"], None),
-        (&["run", "--"], None),
-        (&["help", "run"], None),
-        (&["run", "--json", "--json"], None),
-        (&["run", "--ops", "--json", "--ops"], None),
-        (&["--json", "run"], None),
-        (&["check", "--json"], None),
-        (&["--help"], None),
-        (&["gen", "0", "1"], gen_of(0, 1)),
-        (&["gen", "4294967295", "1000"], gen_of(4294967295, 1000)),
-        (&["gen", "4294967296", "1"], None),
-        (&["gen", "1", "1001"], None),
-        (&["gen", "1", "0"], None),
-        (&["gen", "01", "1"], None),
-        (&["gen", "1"], None),
+    let alloc = rt.alloc();
+    let runs: [(&[&str], bool, bool); 4] = [
+        (&["run"], false, false),
+        (&["run", "--json"], true, false),
+        (&["run", "--ops"], false, true),
+        (&["run", "--ops", "--json"], true, true),
     ];
-    for (words, command) in rows {
-        assert!(rt; answer(rt.alloc(), words)? == command, "{words:?}");
+    for (words, json, ops) in runs {
+        assert!(rt; is_run(alloc, words, json, ops)?, "{words:?}");
+    }
+    assert!(rt; is_gen(alloc, &["gen", "0", "1"], 0, 1)?);
+    assert!(rt; is_gen(alloc, &["gen", "4294967295", "1000"], 4294967295, 1000)?);
+    assert!(rt; answer(alloc, &["check"])? == Some(Command::Check));
+    Ok(())
+}
+
+#[test]
+fn other_arguments_are_no_command(rt: HostRuntime) -> Result<(), Fail> {
+    let others: [&[&str]; 14] = [
+        &[],
+        &["runs"],
+        &["run", "--"],
+        &["help", "run"],
+        &["run", "--json", "--json"],
+        &["run", "--ops", "--json", "--ops"],
+        &["--json", "run"],
+        &["check", "--json"],
+        &["--help"],
+        &["gen", "4294967296", "1"],
+        &["gen", "1", "1001"],
+        &["gen", "1", "0"],
+        &["gen", "01", "1"],
+        &["gen", "1"],
+    ];
+    for words in others {
+        assert!(rt; answer(rt.alloc(), words)?.is_none(), "{words:?}");
     }
     Ok(())
 }

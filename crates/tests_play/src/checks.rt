@@ -1,5 +1,5 @@
 // A checked program has the states, the functions and the root of the program that was checked.
-use crate::programs::parse_program;
+use crate::programs::{checked_program, parse_program};
 use lang_checks::{CheckKind, CheckStop, ProgramFault, check};
 use std::alloc::Global;
 use std::test::Fail;
@@ -19,16 +19,14 @@ const EVERY_FORM: &str = r#"(compose 1)
 #[test]
 fn a_program_with_every_form_is_accepted(rt: HostRuntime) -> Result<(), Fail> {
     let alloc: Global = rt.alloc();
-    let (program, _) = parse_program(alloc, EVERY_FORM.as_bytes())?;
-    let checked = check(alloc, program)?;
-    assert_eq!(rt;
+    let checked = checked_program(alloc, EVERY_FORM.as_bytes())?;
+    assert!(rt;
         (
             checked.states().len(),
             checked.functions().len(),
             checked.root(),
             checked.header()
-        ),
-        (4, 2, 1, 0)
+        ) == (4, 2, 1, 0)
     );
     Ok(())
 }
@@ -40,6 +38,21 @@ fn a_program_without_a_root_is_rejected(rt: HostRuntime) -> Result<(), Fail> {
     let (program, _) = parse_program(alloc, text.as_bytes())?;
     assert!(rt; matches!(check(alloc, program), Err(CheckStop::ProgramFault(_))));
     Ok(())
+}
+
+// Checks a program with one state, of this type, policy and initial value. Returns the fault.
+fn fault_of_state(
+    alloc: Global,
+    ty: &str,
+    policy: &str,
+    value: &str,
+) -> Result<Option<CheckStop>, Fail> {
+    let mut text = String::from_str(alloc, "(compose 1) (state a ")?;
+    for part in [ty, " ", policy, " ", value, ") (fun root ())"] {
+        text.push_str(part)?;
+    }
+    let (program, _) = parse_program(alloc, text.as_bytes())?;
+    Ok(check(alloc, program).err())
 }
 
 #[test]
@@ -58,19 +71,12 @@ fn policies_fit_types(rt: HostRuntime) -> Result<(), Fail> {
         ("Largest", [true, false, false, false]),
         ("Append", [false, false, false, true]),
     ];
+    let kind = CheckKind::Type;
+    let fault = CheckStop::ProgramFault(ProgramFault { kind, at: 12 });
     for (policy, fits) in rows {
         for ((ty, value), fits) in values.iter().zip(fits) {
-            let mut text = String::from_str(alloc, "(compose 1) (state a ")?;
-            for part in [*ty, " ", policy, " ", *value, ") (fun root ())"] {
-                text.push_str(part)?;
-            }
-            let (program, _) = parse_program(alloc, text.as_bytes())?;
-            let fault = CheckStop::ProgramFault(ProgramFault {
-                kind: CheckKind::Type,
-                at: 12,
-            });
             let expected = if fits { None } else { Some(fault) };
-            assert_eq!(rt; check(alloc, program).err(), expected, "{text}");
+            assert!(rt; fault_of_state(alloc, ty, policy, value)? == expected);
         }
     }
     Ok(())

@@ -146,6 +146,55 @@ fn begins_with_clear(ops: &Ops) -> bool {
     matches!(ops.items().first(), Some(Op::Clear))
 }
 
+// Makes the first frame. Returns whether the applier fails, and nothing but the next number is kept.
+fn fails_at_an_insert(
+    alloc: Global,
+    composition: &mut Composition,
+    view: &mut MapView,
+    applier: &mut FailingList,
+) -> bool {
+    composition.note(&[0, 1]);
+    let first = recompose_with(alloc, composition, view, applier);
+    matches!(first, Err(FrameStop::ApplierFault))
+        && composition.next() == 4
+        && composition.table().len() == 0
+        && composition.ops().len() == 0
+}
+
+// Makes a frame after a fault. Returns whether it clears the tree and inserts three nodes.
+fn inserts_all_again(
+    alloc: Global,
+    composition: &mut Composition,
+    view: &mut MapView,
+    applier: &mut FailingList,
+) -> bool {
+    let second = recompose_with(alloc, composition, view, applier);
+    matches!(second, Ok(Report { nodes: 3, .. }))
+        && composition.ops().len() == 4
+        && begins_with_clear(composition.ops())
+}
+
+// The calls that succeed if the second one fails.
+const MADE_AROUND_A_FAULT: [Made; 5] = [
+    Made::Insert {
+        index: 0,
+        number: 1,
+    },
+    Made::Clear,
+    Made::Insert {
+        index: 0,
+        number: 4,
+    },
+    Made::Insert {
+        index: 1,
+        number: 5,
+    },
+    Made::Insert {
+        index: 2,
+        number: 6,
+    },
+];
+
 // The frame after a fault clears the tree, and makes all nodes again with new numbers.
 #[test]
 fn fault_of_the_applier_clears_the_tree_and_uses_up_numbers(rt: HostRuntime) -> Result<(), Fail> {
@@ -154,37 +203,50 @@ fn fault_of_the_applier_clears_the_tree_and_uses_up_numbers(rt: HostRuntime) -> 
     let mut composition = Composition::new(alloc, &program, 0)?;
     let mut view = view_of(alloc, &[1, 2, 3], &[0])?;
     let mut applier = failing_list(alloc, 2);
-    composition.note(&[0, 1]);
-    let first = recompose_with(alloc, &mut composition, &mut view, &mut applier);
-    assert!(rt; matches!(first, Err(FrameStop::ApplierFault)));
-    assert_eq!(rt; composition.next(), 4);
-    assert_eq!(rt; composition.table().len(), 0);
-    assert_eq!(rt; composition.ops().len(), 0);
-    let second = recompose_with(alloc, &mut composition, &mut view, &mut applier);
-    assert!(rt; matches!(second, Ok(Report { nodes: 3, .. })));
-    let made = [
-        Made::Insert {
-            index: 0,
-            number: 1,
-        },
-        Made::Clear,
-        Made::Insert {
-            index: 0,
-            number: 4,
-        },
-        Made::Insert {
-            index: 1,
-            number: 5,
-        },
-        Made::Insert {
-            index: 2,
-            number: 6,
-        },
-    ];
-    assert_eq!(rt; applier.made.as_slice(), made.as_slice());
-    assert_eq!(rt; composition.ops().len(), 4);
-    assert!(rt; begins_with_clear(composition.ops()));
+    assert!(rt; fails_at_an_insert(alloc, &mut composition, &mut view, &mut applier));
+    assert!(rt; inserts_all_again(alloc, &mut composition, &mut view, &mut applier));
+    assert!(rt; applier.made.as_slice() == MADE_AROUND_A_FAULT.as_slice());
     Ok(())
+}
+
+// Makes the first frame. Returns its report, if it makes three calls.
+fn first_report(
+    alloc: Global,
+    composition: &mut Composition,
+    view: &mut MapView,
+    applier: &mut FailingList,
+) -> Option<Report> {
+    composition.note(&[0, 1]);
+    let first = recompose_with(alloc, composition, view, applier).ok()?;
+    if composition.ops().len() == 3 {
+        Some(first)
+    } else {
+        None
+    }
+}
+
+// Makes a frame after a change that no call read. Returns whether it reads nothing, makes no call, and reports the
+// counts of `first` with nothing run.
+fn is_idle(
+    alloc: Global,
+    composition: &mut Composition,
+    view: &mut MapView,
+    applier: &mut FailingList,
+    first: &Report,
+) -> bool {
+    composition.note(&[1]);
+    let asked = view.asked.numbers().len();
+    let second = recompose_with(alloc, composition, view, applier);
+    let idle = Report {
+        ran: 0,
+        calculated: 0,
+        reads: 0,
+        groups: first.groups,
+        nodes: first.nodes,
+    };
+    second.is_ok_and(|report| report == idle)
+        && view.asked.numbers().len() == asked
+        && composition.ops().len() == 0
 }
 
 // A frame that owes no call does not call the applier, not even to reserve nodes.
@@ -195,22 +257,12 @@ fn change_that_no_call_read_leaves_the_applier_alone(rt: HostRuntime) -> Result<
     let mut composition = Composition::new(alloc, &program, 0)?;
     let mut view = view_of(alloc, &[1, 2, 3], &[0])?;
     let mut applier = failing_list(alloc, 0);
-    composition.note(&[0, 1]);
-    let first = recompose_with(alloc, &mut composition, &mut view, &mut applier)?;
-    assert_eq!(rt; composition.ops().len(), 3);
-    composition.note(&[1]);
-    let asked = view.asked.numbers().len();
-    let second = recompose_with(alloc, &mut composition, &mut view, &mut applier)?;
-    let idle = Report {
-        ran: 0,
-        calculated: 0,
-        reads: 0,
-        ..first
-    };
-    assert_eq!(rt; second, idle);
-    assert_eq!(rt; view.asked.numbers().len(), asked);
-    assert_eq!(rt; composition.ops().len(), 0);
-    assert_eq!(rt; applier.calls, 3);
-    assert_eq!(rt; applier.reserved, 1);
+    let first = first_report(alloc, &mut composition, &mut view, &mut applier);
+    assert!(rt;
+        first.is_some_and(|report| {
+            is_idle(alloc, &mut composition, &mut view, &mut applier, &report)
+        })
+    );
+    assert!(rt; applier.calls == 3 && applier.reserved == 1);
     Ok(())
 }

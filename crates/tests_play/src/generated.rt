@@ -6,9 +6,9 @@ use std::test::Fail;
 fn a_generated_script_has_the_steps_of_its_draws(rt: HostRuntime) -> Result<(), Fail> {
     // For number 1 the four rounds write `scale`, raise `best`, rotate `items` and write `scale`.
     let (program, script) = generate(rt.alloc(), 1, 4)?;
-    assert_eq!(rt; program.states().len(), 4);
-    assert_eq!(rt; program.functions().len(), 3);
-    assert_eq!(rt; script.actors.len(), 1);
-    assert_eq!(rt; script.forms[0].steps.items().len(), 1 + 2 + 4 + 2 + 2);
+    assert!(rt; program.states().len() == 4);
+    assert!(rt; program.functions().len() == 3);
+    assert!(rt; script.actors.len() == 1);
+    assert!(rt; script.forms[0].steps.items().len() == 1 + 2 + 4 + 2 + 2);
     Ok(())
 }

@@ -1,10 +1,11 @@
 // Whole programs composed from scratch: their groups in order, and the objects that were read.
 use crate::map_view::view_of;
 use crate::programs::parse_program;
-use lang_ast::Statement;
+use lang_ast::{Expression, Program, Statement};
 use lang_meaning::{Env, eval, scratch};
 use rt_groups::{GroupKind, Groups};
-use rt_values::Value;
+use rt_values::{Objects, Value};
+use std::alloc::Global;
 use std::test::Fail;
 
 // A leaf that shows state `b` plus its parameter; rows under keys; a remembered square; a choice between two states.
@@ -32,12 +33,22 @@ fn shown_number(what: &GroupKind) -> i64 {
     }
 }
 
+// Composes the function with index `root` from scratch. The states after the list are `numbers`.
+fn composed(alloc: Global, text: &str, root: usize, numbers: &[i64]) -> Result<Groups, Fail> {
+    let mut view = view_of(alloc, &[], numbers)?;
+    let (program, _) = parse_program(alloc, text.as_bytes())?;
+    Ok(scratch(
+        alloc,
+        &program.functions,
+        root,
+        Groups::new(alloc),
+        &mut view,
+    )?)
+}
+
 #[test]
 fn groups_are_in_preorder_with_depths(rt: HostRuntime) -> Result<(), Fail> {
-    let alloc = rt.alloc();
-    let mut view = view_of(alloc, &[], &[2, 7, 9])?;
-    let (program, _) = parse_program(alloc, PROGRAM.as_bytes())?;
-    let groups = scratch(alloc, &program.functions, 1, Groups::new(alloc), &mut view)?;
+    let groups = composed(rt.alloc(), PROGRAM, 1, &[2, 7, 9])?;
     let rows: [(u32, u32, i64); 10] = [
         (0, 0, -1),
         (1, 3, 3),
@@ -50,39 +61,51 @@ fn groups_are_in_preorder_with_depths(rt: HostRuntime) -> Result<(), Fail> {
         (1, 6, 4),
         (1, 8, 7),
     ];
-    assert_eq!(rt; groups.len(), rows.len());
-    for (group, (depth, site, number)) in groups.items().iter().zip(&rows) {
-        assert_eq!(rt;
-            (group.depth, group.site, shown_number(&group.what)),
-            (*depth, *site, *number)
-        );
+    assert!(rt; groups.len() == rows.len());
+    for (group, row) in groups.items().iter().zip(&rows) {
+        assert!(rt; (group.depth, group.site, shown_number(&group.what)) == *row);
     }
     Ok(())
 }
 
 #[test]
 fn a_call_of_its_own_function_composes_nothing(rt: HostRuntime) -> Result<(), Fail> {
-    let alloc = rt.alloc();
-    let mut view = view_of(alloc, &[], &[])?;
-    let (program, _) = parse_program(alloc, "(compose 1) (fun root () (call root))".as_bytes())?;
-    let groups = scratch(alloc, &program.functions, 0, Groups::new(alloc), &mut view)?;
-    assert_eq!(rt; groups.len(), 2usize);
+    let groups = composed(rt.alloc(), "(compose 1) (fun root () (call root))", 0, &[])?;
+    assert!(rt; groups.len() == 2usize);
     Ok(())
+}
+
+// Returns the key that is the first statement of the first function.
+fn first_key(program: &Program) -> Option<&Expression> {
+    match program.functions.first()?.body.first()? {
+        Statement::Key { key, .. } => Some(key),
+        _ => None,
+    }
+}
+
+// Evaluates the key that is the first statement of the first function. The states after the list are `numbers`.
+// Returns the value, if there is such a key, and the objects that were read.
+fn value_of_key(
+    alloc: Global,
+    text: &str,
+    numbers: &[i64],
+) -> Result<(Option<Value>, Objects), Fail> {
+    let (program, _) = parse_program(alloc, text.as_bytes())?;
+    let mut view = view_of(alloc, &[], numbers)?;
+    let value = match first_key(&program) {
+        Some(key) => Some(eval(alloc, key, &Env::new(alloc), &mut view)?),
+        None => None,
+    };
+    Ok((value, view.asked))
 }
 
 #[test]
 fn both_operands_of_and_are_read(rt: HostRuntime) -> Result<(), Fail> {
-    let alloc = rt.alloc();
     let text =
         "(compose 1) (state l Ints Structural (ints)) (state a Bool Structural true) (state b Bool Structural true)
 (fun root () (key (and (get a) (get b))))";
-    let (program, _) = parse_program(alloc, text.as_bytes())?;
-    assert_eq!(rt; program.functions.len(), 1);
-    let mut view = view_of(alloc, &[], &[0, 1])?;
-    if let Some(Statement::Key { key, .. }) = program.functions[0].body.first() {
-        let value = eval(alloc, key, &Env::new(alloc), &mut view)?;
-        assert!(rt; value.same(&Value::Bool(false)));
-    }
-    assert_eq!(rt; view.asked.numbers(), [1u64, 2].as_slice());
+    let (value, asked) = value_of_key(rt.alloc(), text, &[0, 1])?;
+    assert!(rt; matches!(value, Some(Value::Bool(false))));
+    assert!(rt; asked.numbers() == [1u64, 2].as_slice());
     Ok(())
 }

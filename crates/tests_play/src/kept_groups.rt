@@ -4,6 +4,7 @@ ghost use Rattle.std.specs.Prelude.{◌≡◌, ◌<◌, length};
 use crate::map_view::view_of;
 use crate::programs::checked_program;
 use crate::recomposing::recompose;
+use lang_checks::Checked;
 use lang_meaning::scratch;
 use recompose_scopes::RecomposeScopes;
 use recomposer::Composition;
@@ -182,26 +183,40 @@ fn changes(alloc: Global, last: &States, now: &States) -> Result<Objects, NoMemo
     Ok(changed)
 }
 
+// Makes a frame, and composes it from scratch too. Returns whether the groups and their scopes are those from scratch.
+fn is_from_scratch(
+    alloc: Global,
+    program: &Checked,
+    composition: &mut Composition,
+    states: &States,
+    changed: &Objects,
+) -> Result<bool, Fail> {
+    let (items, a, b) = *states;
+    let mut view = view_of(alloc, items, &[a, b])?;
+    composition.note(changed.numbers());
+    recompose(alloc, composition, &mut view)?;
+    let groups = scratch(
+        alloc,
+        program.functions(),
+        program.root(),
+        Groups::new(alloc),
+        &mut view,
+    )?;
+    Ok(
+        groups.len() > 1
+            && has_groups(composition.table(), &groups)
+            && has_scopes(composition.table(), composition.scopes()),
+    )
+}
+
 // Makes the frames of a program one after another, and composes each of them from scratch too.
 fn try_program<A: Abort>(rt: &A, alloc: Global, text: &str) -> Result<(), Fail> {
     let program = checked_program(alloc, text.as_bytes())?;
     let mut composition = Composition::new(alloc, &program, 0)?;
     let mut last: &States = &FRAMES[0];
     for states in FRAMES.as_slice() {
-        let (items, a, b) = *states;
-        let mut view = view_of(alloc, items, &[a, b])?;
-        composition.note(changes(alloc, last, states)?.numbers());
-        recompose(alloc, &mut composition, &mut view)?;
-        let groups = scratch(
-            alloc,
-            program.functions(),
-            program.root(),
-            Groups::new(alloc),
-            &mut view,
-        )?;
-        assert!(rt; groups.len() > 1);
-        assert!(rt; has_groups(composition.table(), &groups));
-        assert!(rt; has_scopes(composition.table(), composition.scopes()));
+        let changed = changes(alloc, last, states)?;
+        assert!(rt; is_from_scratch(alloc, &program, &mut composition, states, &changed)?);
         last = states;
     }
     Ok(())

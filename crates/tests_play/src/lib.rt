@@ -23,6 +23,8 @@ mod logs;
 #[cfg(test)]
 mod map_view;
 #[cfg(test)]
+mod memory_runs;
+#[cfg(test)]
 mod programs;
 #[cfg(test)]
 mod recomposing;

@@ -107,73 +107,104 @@ fn scripts_have_their_actors(rt: HostRuntime) -> Result<(), Fail> {
     ] {
         let (program, rest) = parsed(alloc, script)?;
         let found = script_of(alloc, rest, &program, threads)?;
-        assert_eq!(rt; found.actors.len(), actors);
-        assert_eq!(rt; found.forms.len(), forms);
+        assert!(rt; found.actors.len() == actors);
+        assert!(rt; found.forms.len() == forms);
     }
     Ok(())
 }
 
+// A script of the actor `a` without forms.
+fn script_of_one(alloc: Global) -> Result<Script, Fail> {
+    let name = Word::of(alloc, b"a")?;
+    Ok(Script {
+        actors: Vec::from_array(alloc, [name])?,
+        forms: Vec::new(alloc),
+    })
+}
+
 // The line of a call of the actor `a`, whose program has the states `count`, `step` and `label`.
 fn line_of(alloc: Global, request: Request, reply: Reply) -> Result<Vec<u8>, Fail> {
-    let (program, _) = parsed(alloc, "")?;
-    let script = Script {
-        actors: Vec::from_array(alloc, [Word::of(alloc, b"a")?])?,
-        forms: Vec::new(alloc),
-    };
-    let mut text = Vec::new(alloc);
     let entry = Entry {
         caller: 0,
         request,
         reply,
     };
+    let script = script_of_one(alloc)?;
+    let (program, _) = parsed(alloc, "")?;
+    let mut text = Vec::new(alloc);
     add_line(&mut text, &program, &script, &entry)?;
     Ok(text)
+}
+
+// Whether this is the line of a call.
+fn has_line(alloc: Global, request: Request, reply: Reply, line: &[u8]) -> Result<bool, Fail> {
+    Ok(line_of(alloc, request, reply)?.as_slice() == line)
+}
+
+// A take of a child of global.
+fn take(kind: Kind) -> Request {
+    Request::Take { parent: 0, kind }
+}
+
+// A write of 8 to the first state in global.
+fn write() -> Request {
+    Request::Write {
+        name: 0,
+        object: 0,
+        value: Value::Int(8),
+    }
+}
+
+// The reply to a frame's take, after the first two states changed.
+fn taken_for(alloc: Global) -> Result<Reply, Fail> {
+    let mut changed = Objects::new(alloc);
+    changed.push(0)?;
+    changed.push(1)?;
+    Ok(Reply::TakenFor(5, changed))
 }
 
 #[test]
 fn each_request_has_its_words(rt: HostRuntime) -> Result<(), Fail> {
     let alloc = rt.alloc();
-    let kinds = [
-        (Kind::Mutable, b"a: take mutable @0 = @3\n".as_slice()),
-        (Kind::Readonly, b"a: take readonly @0 = @3\n".as_slice()),
-    ];
-    for (kind, want) in kinds {
-        let take = Request::Take { parent: 0, kind };
-        assert_eq!(rt; line_of(alloc, take, Reply::Taken(3))?.as_slice(), want);
-    }
+    let taken = Reply::Taken(3);
+    assert!(rt;
+        has_line(
+            alloc,
+            take(Kind::Mutable),
+            taken,
+            b"a: take mutable @0 = @3\n"
+        )?
+    );
+    let taken = Reply::Taken(3);
+    assert!(rt;
+        has_line(
+            alloc,
+            take(Kind::Readonly),
+            taken,
+            b"a: take readonly @0 = @3\n"
+        )?
+    );
     let read = Request::Read { name: 3, object: 1 };
-    let line = line_of(alloc, read, Reply::Got(Value::Int(-7)))?;
-    assert_eq!(rt; line.as_slice(), b"a: read @3 step = -7\n".as_slice());
-    for (changed, want) in [
-        (true, b"a: write @0 count 8 = changed\n".as_slice()),
-        (false, b"a: write @0 count 8 = same\n".as_slice()),
-    ] {
-        let write = Request::Write {
-            name: 0,
-            object: 0,
-            value: Value::Int(8),
-        };
-        assert_eq!(rt;
-            line_of(alloc, write, Reply::Wrote { changed })?.as_slice(),
-            want
-        );
-    }
-    let apply = line_of(alloc, Request::Apply { name: 3 }, Reply::Applied)?;
-    assert_eq!(rt; apply.as_slice(), b"a: apply @3 = applied\n".as_slice());
-    let dispose = line_of(alloc, Request::Dispose { name: 4 }, Reply::Disposed)?;
-    assert_eq!(rt;
-        dispose.as_slice(),
-        b"a: dispose @4 = disposed\n".as_slice()
+    let got = Reply::Got(Value::Int(-7));
+    assert!(rt; has_line(alloc, read, got, b"a: read @3 step = -7\n")?);
+    let changed = Reply::Wrote { changed: true };
+    assert!(rt; has_line(alloc, write(), changed, b"a: write @0 count 8 = changed\n")?);
+    let same = Reply::Wrote { changed: false };
+    assert!(rt; has_line(alloc, write(), same, b"a: write @0 count 8 = same\n")?);
+    let apply = Request::Apply { name: 3 };
+    assert!(rt; has_line(alloc, apply, Reply::Applied, b"a: apply @3 = applied\n")?);
+    let dispose = Request::Dispose { name: 4 };
+    assert!(rt;
+        has_line(
+            alloc,
+            dispose,
+            Reply::Disposed,
+            b"a: dispose @4 = disposed\n"
+        )?
     );
-    let mut changed = Objects::new(alloc);
-    changed.push(0)?;
-    changed.push(1)?;
     let frame = Request::TakeFor { watcher: 0 };
-    let line = line_of(alloc, frame, Reply::TakenFor(5, changed))?;
-    assert_eq!(rt;
-        line.as_slice(),
-        b"a: frame = @5 changed count step\n".as_slice()
-    );
+    let line = b"a: frame = @5 changed count step\n";
+    assert!(rt; has_line(alloc, frame, taken_for(alloc)?, line)?);
     Ok(())
 }
 
@@ -208,8 +239,7 @@ fn each_refusal_has_its_words(rt: HostRuntime) -> Result<(), Fail> {
         let never_taken = Request::Apply {
             name: 18446744073709551615,
         };
-        let line = line_of(alloc, never_taken, Reply::Refused(refusal))?;
-        assert_eq!(rt; line.as_slice(), want);
+        assert!(rt; has_line(alloc, never_taken, Reply::Refused(refusal), want)?);
     }
     Ok(())
 }
@@ -256,77 +286,103 @@ fn frames_print_their_report_and_tree(rt: HostRuntime) -> Result<(), Fail> {
     add_refused(&mut text)?;
     let want =
         b"report: ran 1, calculated 2, reads 3, groups 4, nodes 5\n#12 Box width=10 height=-20\n  #13 Row width=10 height=-20\n#14 End width=10 height=-20\nrefused: too many groups\n";
-    assert_eq!(rt; text.as_slice(), want.as_slice());
+    assert!(rt; text.as_slice() == want.as_slice());
     Ok(())
+}
+
+// Writes the lines of calls on an applier.
+fn op_lines(alloc: Global, ops: &[Op]) -> Result<Vec<u8>, Fail> {
+    let mut text = Vec::new(alloc);
+    for op in ops {
+        add_op(&mut text, op)?;
+    }
+    Ok(text)
+}
+
+// Makes a node for an applier, with the attribute `item` or without attributes.
+fn new_node(alloc: Global, number: u64, kind: &[u8], item: Option<i64>) -> Result<NewNode, Fail> {
+    let mut attributes = NodeAttributes::new(alloc);
+    if let Some(value) = item {
+        attributes.push(attribute(alloc, b"item", value)?)?;
+    }
+    let kind = Word::of(alloc, kind)?;
+    Ok(NewNode {
+        number,
+        kind,
+        attributes,
+    })
 }
 
 #[test]
 fn each_call_on_an_applier_has_its_words(rt: HostRuntime) -> Result<(), Fail> {
-    let alloc = rt.alloc();
-    let mut attributes = NodeAttributes::new(alloc);
-    attributes.push(attribute(alloc, b"item", 3)?)?;
-    let row = NewNode {
-        number: 7,
-        kind: Word::of(alloc, b"Row")?,
-        attributes,
-    };
-    let plain = NewNode {
-        number: 8,
-        kind: Word::of(alloc, b"End")?,
-        attributes: NodeAttributes::new(alloc),
-    };
     let ops = [
         Op::Down { index: 2 },
-        Op::InsertTopDown {
-            index: 0,
-            node: row,
-        },
-        Op::InsertBottomUp {
-            index: 1,
-            node: plain,
-        },
         Op::Remove { index: 4, count: 2 },
         Op::Move {
             from: 5,
             to: 1,
             count: 3,
         },
-        Op::Set {
-            name: Word::of(alloc, b"item")?,
-            value: Value::Bool(true),
-        },
         Op::Up,
         Op::Clear,
     ];
-    let mut text = Vec::new(alloc);
-    for op in &ops {
-        add_op(&mut text, op)?;
-    }
-    let want =
-        b"op: down 2\nop: insertTopDown 0 #7 Row item=3\nop: insertBottomUp 1 #8 End\nop: remove 4 2\nop: move 5 1 3\nop: set item true\nop: up\nop: clear\n";
-    assert_eq!(rt; text.as_slice(), want.as_slice());
+    let want = b"op: down 2\nop: remove 4 2\nop: move 5 1 3\nop: up\nop: clear\n";
+    assert!(rt; op_lines(rt.alloc(), &ops)?.as_slice() == want.as_slice());
     Ok(())
+}
+
+#[test]
+fn inserted_nodes_have_their_attributes(rt: HostRuntime) -> Result<(), Fail> {
+    let alloc = rt.alloc();
+    let row = Op::InsertTopDown {
+        index: 0,
+        node: new_node(alloc, 7, b"Row", Some(3))?,
+    };
+    let want = b"op: insertTopDown 0 #7 Row item=3\n".as_slice();
+    assert!(rt; op_lines(alloc, &[row])?.as_slice() == want);
+    let end = Op::InsertBottomUp {
+        index: 1,
+        node: new_node(alloc, 8, b"End", None)?,
+    };
+    let want = b"op: insertBottomUp 1 #8 End\n".as_slice();
+    assert!(rt; op_lines(alloc, &[end])?.as_slice() == want);
+    let set = Op::Set {
+        name: Word::of(alloc, b"item")?,
+        value: Value::Bool(true),
+    };
+    let want = b"op: set item true\n".as_slice();
+    assert!(rt; op_lines(alloc, &[set])?.as_slice() == want);
+    Ok(())
+}
+
+// Makes a node group with an attribute `b`, a text with each escape, and then a number `a`.
+fn node_with_text(alloc: Global) -> Result<GroupKind, Fail> {
+    let text = Txt::from_str(alloc, "q\" s\\ n\n t\t e\u{1b} \u{e9}")?;
+    let mut attributes = Attributes::new(alloc);
+    attributes.push(Attribute {
+        name: Word::of(alloc, b"b")?,
+        value: Value::Text(text),
+    })?;
+    attributes.push(attribute(alloc, b"a", -1)?)?;
+    let kind = Word::of(alloc, b"N")?;
+    Ok(GroupKind::Node { kind, attributes })
+}
+
+// Writes the tree of one node with the number 5 as JSON.
+fn json_of(alloc: Global, node: &GroupKind) -> Result<Vec<u8>, Fail> {
+    let mut text = Vec::new(alloc);
+    let mut writer = TreeWriter::begin(alloc, &mut text)?;
+    writer.add_group(&mut text, 0, 5, node)?;
+    writer.finish(&mut text)?;
+    Ok(text)
 }
 
 #[test]
 fn strings_have_the_escapes_of_json(rt: HostRuntime) -> Result<(), Fail> {
     let alloc = rt.alloc();
-    let mut attributes = Attributes::new(alloc);
-    attributes.push(Attribute {
-        name: Word::of(alloc, b"b")?,
-        value: Value::Text(Txt::from_str(alloc, "q\" s\\ n\n t\t e\u{1b} \u{e9}")?),
-    })?;
-    attributes.push(attribute(alloc, b"a", -1)?)?;
-    let kind = GroupKind::Node {
-        kind: Word::of(alloc, b"N")?,
-        attributes,
-    };
-    let mut text = Vec::new(alloc);
-    let mut writer = TreeWriter::begin(alloc, &mut text)?;
-    writer.add_group(&mut text, 0, 5, &kind)?;
-    writer.finish(&mut text)?;
+    let node = node_with_text(alloc)?;
     let want =
         "[{\"attributes\":{\"a\":-1,\"b\":\"q\\\" s\\\\ n\\n t\\t e\\u001b \u{e9}\"},\"children\":[],\"kind\":\"N\",\"number\":5}]\n";
-    assert_eq!(rt; text.as_slice(), want.as_bytes());
+    assert!(rt; json_of(alloc, &node)?.as_slice() == want.as_bytes());
     Ok(())
 }

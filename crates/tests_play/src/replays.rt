@@ -9,15 +9,13 @@ ghost use Rattle.woven_laws.specs.FramesInTurn.{AreInTurn, frame_opened};
 ghost use Rattle.woven_laws.specs.PrintedHistory.{printed_history};
 ghost use Rattle.play_run.specs.CallsInFrames.{frame_by, frame_after, IsInTurn};
 
+use crate::memory_runs::{logged_world, sink_failing};
 use crate::programs::parse_program;
 use lang_checks::check;
 use play_run::{Job, replay, run_script, set_up_world};
-use rt_streams::MemSink;
 use rt_values::{Caller, Kind, Name, Value};
 use script_lang::{Flags, script_of};
-use snap_api::{Entry, LogWorld, Reply, Request, run_calls};
-use snap_plain::PlainWorld;
-use snap_policy::BuiltIn;
+use snap_api::{Entry, Reply, Request, run_calls};
 use std::alloc::Global;
 use std::test::Fail;
 
@@ -117,8 +115,7 @@ fn is_in_turn(calls: &[Entry]) -> bool
 fn make_calls(alloc: Global, job: &Job, calls: &Vec<(Caller, Request)>) -> Result<Vec<Entry>, Fail>
     ensures legal { IfOk result (λ made. IsLegal table (opening_world job.now.program.states.items) made.items) }
 {
-    let plain = PlainWorld::<BuiltIn>::new(alloc)?;
-    let mut world = LogWorld::new(alloc, plain);
+    let mut world = logged_world(alloc)?;
     set_up_world(alloc, &job.program, &mut world)?;
     run_calls(alloc, &mut world, calls)?;
     let (_, entries) = world.into_parts();
@@ -130,9 +127,18 @@ fn lines_of(alloc: Global, job: &Job, flags: Flags, calls: Vec<Entry>) -> Result
     requires legal { IsLegal table (opening_world job.now.program.states.items) calls.items }
     requires turn { AreInTurn None (printed_history calls.items) }
 {
-    let mut sink = MemSink::new(alloc, 4096, 4096, Vec::new(alloc))?;
+    let mut sink = sink_failing(alloc, &[])?;
     let _ = replay(alloc, job, flags, calls, &mut sink);
     Ok(sink.bytes().to_vec(alloc)?)
+}
+
+// Returns the calls of entries without their replies.
+fn calls_of(alloc: Global, entries: Vec<Entry>) -> Result<Vec<(Caller, Request)>, Fail> {
+    let mut calls = Vec::new(alloc);
+    for entry in entries {
+        calls.push((entry.caller, entry.request))?;
+    }
+    Ok(calls)
 }
 
 // Runs the script of a job. Returns its calls with the reads of frames, and the bytes that are written.
@@ -141,15 +147,11 @@ fn run_with_calls(
     job: &Job,
     flags: Flags,
 ) -> Result<(Vec<(Caller, Request)>, Vec<u8>), Fail> {
-    let plain = PlainWorld::<BuiltIn>::new(alloc)?;
-    let mut world = LogWorld::new(alloc, plain);
-    let mut sink = MemSink::new(alloc, 4096, 4096, Vec::new(alloc))?;
+    let mut world = logged_world(alloc)?;
+    let mut sink = sink_failing(alloc, &[])?;
     let _ = run_script(alloc, job, flags, &mut world, &mut sink);
     let (_, entries) = world.into_parts();
-    let mut calls = Vec::new(alloc);
-    for entry in entries {
-        calls.push((entry.caller, entry.request))?;
-    }
+    let calls = calls_of(alloc, entries)?;
     Ok((calls, sink.bytes().to_vec(alloc)?))
 }
 
@@ -204,30 +206,47 @@ fn parse_job(alloc: Global, text: &[u8]) -> Result<Job, Fail> {
     Ok(Job { program, script })
 }
 
+// Flags for trees alone, and for calls on an applier with trees as JSON.
+const PLAIN: Flags = Flags {
+    ops: false,
+    json: false,
+};
+
+const ALL: Flags = Flags {
+    ops: true,
+    json: true,
+};
+
+// Makes calls in the opening world of a job, and writes the lines of this history. Returns them, or nothing if its
+// frames are not in turn.
+fn replayed(
+    alloc: Global,
+    job: &Job,
+    flags: Flags,
+    calls: &Vec<(Caller, Request)>,
+) -> Result<Vec<u8>, Fail> {
+    let made = make_calls(alloc, job, calls)?;
+    if is_in_turn(&made) {
+        lines_of(alloc, job, flags, made)
+    } else {
+        Ok(Vec::new(alloc))
+    }
+}
+
+// Whether the calls of the script of a job with their replies give the lines of its run.
+fn is_replayed(alloc: Global, job: &Job, flags: Flags) -> Result<bool, Fail> {
+    let (calls, lines) = run_with_calls(alloc, job, flags)?;
+    Ok(!lines.is_empty() && replayed(alloc, job, flags, &calls)? == lines)
+}
+
 #[test]
 fn calls_and_replies_give_the_lines_of_a_run(rt: HostRuntime) -> Result<(), Fail> {
     let alloc = rt.alloc();
     let job = parse_job(alloc, TWO_ACTORS)?;
-    assert!(rt; job.program.states().len() <= 256);
-    let plain = Flags {
-        ops: false,
-        json: false,
-    };
-    let all = Flags {
-        ops: true,
-        json: true,
-    };
-    for flags in [plain, all] {
-        let (calls, lines) = run_with_calls(alloc, &job, flags)?;
-        let made = make_calls(alloc, &job, &calls)?;
-        assert!(rt; is_in_turn(&made));
-        let again = lines_of(alloc, &job, flags, made)?;
-        assert!(rt; again == lines);
-    }
-    let made = make_calls(alloc, &job, &interleaved_calls(alloc)?)?;
-    assert!(rt; is_in_turn(&made));
-    let lines = lines_of(alloc, &job, plain, made)?;
-    assert!(rt; lines.as_slice() == INTERLEAVED_LINES);
+    assert!(rt; is_replayed(alloc, &job, PLAIN)?);
+    assert!(rt; is_replayed(alloc, &job, ALL)?);
+    let calls = interleaved_calls(alloc)?;
+    assert!(rt; replayed(alloc, &job, PLAIN, &calls)?.as_slice() == INTERLEAVED_LINES);
     Ok(())
 }
 
@@ -235,16 +254,9 @@ fn calls_and_replies_give_the_lines_of_a_run(rt: HostRuntime) -> Result<(), Fail
 fn lines_end_at_a_frame_that_lacks_a_read(rt: HostRuntime) -> Result<(), Fail> {
     let alloc = rt.alloc();
     let job = parse_job(alloc, TWO_ACTORS)?;
-    assert!(rt; job.program.states().len() <= 256);
-    let plain = Flags {
-        ops: false,
-        json: false,
-    };
     let mut calls = interleaved_calls(alloc)?;
     calls.retain(|call| !reads_text(call));
-    let made = make_calls(alloc, &job, &calls)?;
-    assert!(rt; is_in_turn(&made));
-    let lines = lines_of(alloc, &job, plain, made)?;
+    let lines = replayed(alloc, &job, PLAIN, &calls)?;
     assert!(rt; INTERLEAVED_LINES.starts_with(&lines));
     assert!(rt; lines.ends_with(b"main: dispose @1 = disposed\n"));
     Ok(())

@@ -1,6 +1,7 @@
 // Runs of `play` over a source and a sink in memory.
 ghost use Rattle.std.specs.Prelude.{◌<◌};
 
+use crate::memory_runs::arguments;
 use play_core::{Status, play};
 use rt_streams::{MemSink, MemSource, OpenGate};
 use snap_plain::PlainWorld;
@@ -46,28 +47,29 @@ const SOUND: Streams = Streams {
     write_fault: 0,
 };
 
+// Makes a source of `input` and an empty sink.
+fn open_streams(alloc: Global, input: &[u8], streams: Streams) -> Result<(MemSource, MemSink), Fail>
+    requires { 0 < streams.piece }
+{
+    let reads = [streams.read_fault].to_vec(alloc)?;
+    let writes = [streams.write_fault].to_vec(alloc)?;
+    let source = MemSource::new(input.to_vec(alloc)?, streams.piece, reads);
+    Ok((source, MemSink::new(alloc, 4096, streams.most, writes)?))
+}
+
 // Runs `play` on `input`. Returns the status and the bytes written.
 fn run<R: Threads + Wait + Sync>(
     rt: &R,
     alloc: Global,
-    arguments: &[&str],
-    input: Vec<u8>,
+    words: &[&str],
+    input: &[u8],
     streams: Streams,
 ) -> Result<(Status, Vec<u8>), Fail>
     requires { 0 < streams.piece }
 {
-    let mut words = Vec::new(alloc);
-    for word in arguments {
-        words.push(word.to_string(alloc)?)?;
-    }
+    let words = arguments(alloc, words)?;
     let mut world = PlainWorld::<BuiltIn>::new(alloc)?;
-    let mut source = MemSource::new(input, streams.piece, [streams.read_fault].to_vec(alloc)?);
-    let mut sink = MemSink::new(
-        alloc,
-        4096,
-        streams.most,
-        [streams.write_fault].to_vec(alloc)?,
-    )?;
+    let (mut source, mut sink) = open_streams(alloc, input, streams)?;
     let status = play(
         rt,
         alloc,
@@ -92,14 +94,14 @@ fn first_lines(alloc: Global, lines: &[&[u8]], count: usize) -> Result<Vec<u8>, 
 #[test]
 fn a_write_between_two_frames_shows_in_the_second(rt: HostRuntime) -> Result<(), Fail> {
     let alloc = rt.alloc();
-    let (status, written) = run(&rt, alloc, &["run"], COUNTER.to_vec(alloc)?, SOUND)?;
+    let (status, written) = run(&rt, alloc, &["run"], COUNTER, SOUND)?;
     assert!(rt; status == Status::Done);
-    assert_eq!(rt; written, first_lines(alloc, &COUNTER_LINES, 9)?);
+    assert!(rt; written == first_lines(alloc, &COUNTER_LINES, 9)?);
     let (status, written) = run(
         &rt,
         alloc,
         &["run"],
-        COUNTER.to_vec(alloc)?,
+        COUNTER,
         Streams {
             piece: 1,
             most: 1,
@@ -107,25 +109,19 @@ fn a_write_between_two_frames_shows_in_the_second(rt: HostRuntime) -> Result<(),
         },
     )?;
     assert!(rt; status == Status::Done);
-    assert_eq!(rt; written, first_lines(alloc, &COUNTER_LINES, 9)?);
+    assert!(rt; written == first_lines(alloc, &COUNTER_LINES, 9)?);
     Ok(())
 }
 
 #[test]
 fn trees_are_printed_as_json(rt: HostRuntime) -> Result<(), Fail> {
     let alloc = rt.alloc();
-    let (status, written) = run(
-        &rt,
-        alloc,
-        &["run", "--json"],
-        COUNTER.to_vec(alloc)?,
-        SOUND,
-    )?;
+    let (status, written) = run(&rt, alloc, &["run", "--json"], COUNTER, SOUND)?;
     let mut lines = COUNTER_LINES;
     lines[3] = b"[{\"attributes\":{\"value\":0},\"children\":[],\"kind\":\"Text\",\"number\":1}]\n";
     lines[8] = b"[{\"attributes\":{\"value\":1},\"children\":[],\"kind\":\"Text\",\"number\":1}]\n";
     assert!(rt; status == Status::Done);
-    assert_eq!(rt; written, first_lines(alloc, &lines, 9)?);
+    assert!(rt; written == first_lines(alloc, &lines, 9)?);
     Ok(())
 }
 
@@ -154,9 +150,9 @@ const ROW_LINES: [&[u8]; 13] = [
 #[test]
 fn calls_on_the_applier_precede_the_tree(rt: HostRuntime) -> Result<(), Fail> {
     let alloc = rt.alloc();
-    let (status, written) = run(&rt, alloc, &["run", "--ops"], ROWS.to_vec(alloc)?, SOUND)?;
+    let (status, written) = run(&rt, alloc, &["run", "--ops"], ROWS, SOUND)?;
     assert!(rt; status == Status::Done);
-    assert_eq!(rt; written, first_lines(alloc, &ROW_LINES, 13)?);
+    assert!(rt; written == first_lines(alloc, &ROW_LINES, 13)?);
     Ok(())
 }
 
@@ -170,26 +166,21 @@ const LOOSE_COUNTER: &[u8] = b"; counts
 #[test]
 fn check_writes_the_canonical_text(rt: HostRuntime) -> Result<(), Fail> {
     let alloc = rt.alloc();
-    let loose = LOOSE_COUNTER.to_vec(alloc)?;
-    let (status, written) = run(&rt, alloc, &["check"], loose, SOUND)?;
+    let (status, written) = run(&rt, alloc, &["check"], LOOSE_COUNTER, SOUND)?;
     assert!(rt; status == Status::Done);
-    assert_eq!(rt; written.as_slice(), COUNTER);
-    let loose = LOOSE_COUNTER.to_vec(alloc)?;
+    assert!(rt; written.as_slice() == COUNTER);
     let (status, written) = run(
         &rt,
         alloc,
         &["check"],
-        loose,
+        LOOSE_COUNTER,
         Streams {
             write_fault: 3,
             ..SOUND
         },
     )?;
     assert!(rt; status == Status::WriteFault);
-    assert_eq!(rt;
-        written.as_slice(),
-        b"(compose 1)\n(state count Int Structural 0)\n".as_slice()
-    );
+    assert!(rt; written.as_slice() == b"(compose 1)\n(state count Int Structural 0)\n".as_slice());
     Ok(())
 }
 
@@ -202,14 +193,14 @@ fn a_failing_write_leaves_the_lines_before_it(rt: HostRuntime) -> Result<(), Fai
             &rt,
             alloc,
             &["run"],
-            COUNTER.to_vec(alloc)?,
+            COUNTER,
             Streams {
                 write_fault: fault,
                 ..SOUND
             },
         )?;
         assert!(rt; status == Status::WriteFault);
-        assert_eq!(rt; written, first_lines(alloc, &COUNTER_LINES, line)?);
+        assert!(rt; written == first_lines(alloc, &COUNTER_LINES, line)?);
     }
     Ok(())
 }
@@ -222,7 +213,7 @@ fn a_failing_read_writes_nothing(rt: HostRuntime) -> Result<(), Fail> {
             &rt,
             alloc,
             &["run"],
-            COUNTER.to_vec(alloc)?,
+            COUNTER,
             Streams {
                 piece: 20,
                 read_fault: fault,
@@ -250,27 +241,27 @@ fn the_input_has_at_most_1048576_bytes(rt: HostRuntime) -> Result<(), Fail> {
         &rt,
         alloc,
         &["run"],
-        full,
+        &full,
         Streams {
             piece: 65536,
             ..SOUND
         },
     )?;
     assert!(rt; status == Status::Done);
-    assert_eq!(rt; written, first_lines(alloc, &COUNTER_LINES, 9)?);
+    assert!(rt; written == first_lines(alloc, &COUNTER_LINES, 9)?);
     let over = filled(alloc, COUNTER, 1048577)?;
     let (status, written) = run(
         &rt,
         alloc,
         &["run"],
-        over,
+        &over,
         Streams {
             piece: 65536,
             ..SOUND
         },
     )?;
     assert!(rt; status == Status::TooLong);
-    assert_eq!(rt; written.as_slice(), b"too long\n".as_slice());
+    assert!(rt; written.as_slice() == b"too long\n".as_slice());
     Ok(())
 }
 
@@ -286,26 +277,24 @@ fn other_arguments_print_the_usage_line(rt: HostRuntime) -> Result<(), Fail> {
         &["run", "--json", "--json"],
     ];
     for words in others {
-        let input = COUNTER.to_vec(alloc)?;
         let (status, written) = run(
             &rt,
             alloc,
             words,
-            input,
+            COUNTER,
             Streams {
                 read_fault: 1,
                 ..SOUND
             },
         )?;
         assert!(rt; status == Status::Usage);
-        assert_eq!(rt; written.as_slice(), usage.as_slice());
+        assert!(rt; written.as_slice() == usage.as_slice());
     }
-    let input = COUNTER.to_vec(alloc)?;
     let (status, written) = run(
         &rt,
         alloc,
         &["--help"],
-        input,
+        COUNTER,
         Streams {
             write_fault: 1,
             ..SOUND
@@ -330,16 +319,16 @@ fn gen_writes_a_summary_and_reads_nothing(rt: HostRuntime) -> Result<(), Fail> {
         read_fault: 1,
         ..SOUND
     };
-    let (status, written) = run(&rt, alloc, &words, COUNTER.to_vec(alloc)?, unread)?;
+    let (status, written) = run(&rt, alloc, &words, COUNTER, unread)?;
     assert!(rt; status == Status::Done);
-    assert_eq!(rt; written.as_slice(), SUMMARY);
+    assert!(rt; written.as_slice() == SUMMARY);
     let short = Streams {
         most: 10,
         write_fault: 3,
         ..SOUND
     };
-    let (status, written) = run(&rt, alloc, &words, COUNTER.to_vec(alloc)?, short)?;
+    let (status, written) = run(&rt, alloc, &words, COUNTER, short)?;
     assert!(rt; status == Status::WriteFault);
-    assert_eq!(rt; written.as_slice(), &SUMMARY[..20]);
+    assert!(rt; written.as_slice() == &SUMMARY[..20]);
     Ok(())
 }

@@ -1,13 +1,17 @@
 // Actors of `threads` who take turns in an order that a gate fixes.
 
+use crate::memory_runs::{arguments, sink_failing, source_of};
 use play_core::{Status, play};
-use rt_streams::{Gate, MemSink, MemSource};
+use rt_streams::Gate;
 use snap_plain::PlainWorld;
 use snap_policy::BuiltIn;
+use std::alloc::Global;
 use std::hint;
+use std::sync::Wait;
 use std::sync::atomic::AtomicBool;
 use std::sync::atomic::Ordering::SeqCst;
 use std::test::Fail;
+use std::thread::Threads;
 
 // The frame of actor c reads both states. Actor d writes one of them meanwhile.
 const PAIR: &[u8] = b"(compose 1)
@@ -88,6 +92,21 @@ fn has_line(text: &[u8], line: &[u8]) -> bool {
     text.split(|b| *b == b'\n').any(|it| it == line)
 }
 
+// Runs `threads` on an input through a gate. Returns the status and the bytes that are written.
+fn play_through<R: Threads + Wait + Sync>(
+    rt: &R,
+    alloc: Global,
+    input: &[u8],
+    gate: &OrderGate,
+) -> Result<(Status, Vec<u8>), Fail> {
+    let words = arguments(alloc, &["threads"])?;
+    let mut world = PlainWorld::<BuiltIn>::new(alloc)?;
+    let mut source = source_of(alloc, input)?;
+    let mut sink = sink_failing(alloc, &[])?;
+    let status = play(rt, alloc, &words, &mut world, &mut source, &mut sink, gate);
+    Ok((status, sink.bytes().to_vec(alloc)?))
+}
+
 #[test]
 fn actors_take_turns_as_the_gate_lets_them(rt: HostRuntime) -> Result<(), Fail> {
     let alloc = rt.alloc();
@@ -111,25 +130,12 @@ fn actors_take_turns_as_the_gate_lets_them(rt: HostRuntime) -> Result<(), Fail> 
         ),
     ];
     for (input, waiting, awaited, lines) in rows {
-        let mut words = Vec::new(alloc);
-        words.push("threads".to_string(alloc)?)?;
-        let mut world = PlainWorld::<BuiltIn>::new(alloc)?;
-        let mut source = MemSource::new(input.to_vec(alloc)?, 4096, Vec::new(alloc));
-        let mut sink = MemSink::new(alloc, 4096, 4096, Vec::new(alloc))?;
         let gate = OrderGate::new(waiting, awaited);
-        let status = play(
-            &rt,
-            alloc,
-            &words,
-            &mut world,
-            &mut source,
-            &mut sink,
-            &gate,
-        );
-        assert_eq!(rt; status, Status::Done);
+        let (status, written) = play_through(&rt, alloc, input, &gate)?;
+        assert!(rt; status == Status::Done);
         assert!(rt; !gate.given_up.load(SeqCst));
         for line in lines {
-            assert!(rt; has_line(sink.bytes(), line));
+            assert!(rt; has_line(&written, line));
         }
     }
     Ok(())

@@ -1,4 +1,4 @@
-use Rattle.std.proofs.Common.{ℕ, ◌-◌, length}
+use Rattle.std.proofs.Common.{◌-◌, length}
 use Rattle.tests_play.proofs.frames.numbers.Given as goal
 
 abbrev pub decreases-loop-i : goal.decreases-loop-i
