@@ -9,7 +9,7 @@ fn the_highest_valid_record_is_read(rt: HostRuntime) -> Result<(), Fail> {
     let alloc = rt.alloc();
     let mut chains = Chains::new(alloc);
     let x = chains.add_object(alloc)?;
-    assert_eq!(rt; x, 0);
+    assert!(rt; x == 0);
     chains.prepend(x, 5, Value::Int(50), 5)?;
     chains.prepend(x, 2, Value::Int(20), 2)?;
     chains.prepend(x, 7, Value::Int(70), 7)?;
@@ -25,7 +25,7 @@ fn the_highest_valid_record_is_read(rt: HostRuntime) -> Result<(), Fail> {
     for (id, invalid, expected) in &rows {
         let invalid = IdSet::of(alloc, *invalid)?;
         let found = chains.readable(x, *id, &invalid).map(|r| chains.id(r));
-        assert_eq!(rt; found, *expected);
+        assert!(rt; found == *expected);
     }
     Ok(())
 }
@@ -37,9 +37,9 @@ fn records_are_overwritten(rt: HostRuntime) -> Result<(), Fail> {
     let x = chains.add_object(alloc)?;
     let r = chains.prepend(x, 2, Value::Int(20), 3)?;
     chains.overwrite(r, 6, Value::Int(60), 7);
-    assert_eq!(rt; chains.count(x), 1);
-    assert_eq!(rt; chains.id(r), 6);
-    assert_eq!(rt; chains.stamp(r), 7);
+    assert!(rt; chains.count(x) == 1);
+    assert!(rt; chains.id(r) == 6);
+    assert!(rt; chains.stamp(r) == 7);
     assert!(rt; chains.value(r).same(&Value::Int(60)));
     Ok(())
 }
@@ -51,7 +51,7 @@ fn records_are_invalidated(rt: HostRuntime) -> Result<(), Fail> {
     let x = chains.add_object(alloc)?;
     let r = chains.prepend(x, 2, Value::Int(20), 3)?;
     chains.invalidate(r);
-    assert_eq!(rt; chains.id(r), 0);
+    assert!(rt; chains.id(r) == 0);
     assert!(rt; chains.readable(x, 9, &IdSet::new(alloc)).is_none());
     Ok(())
 }
@@ -65,8 +65,8 @@ fn records_of_other_objects_stay(rt: HostRuntime) -> Result<(), Fail> {
     let r = chains.prepend(x, 2, Value::Int(20), 3)?;
     chains.overwrite(r, 6, Value::Int(60), 7);
     chains.invalidate(r);
-    assert_eq!(rt; chains.count(y), 1);
+    assert!(rt; chains.count(y) == 1);
     let first = chains.at(y, 0);
-    assert_eq!(rt; chains.id(first), 1);
+    assert!(rt; chains.id(first) == 1);
     Ok(())
 }

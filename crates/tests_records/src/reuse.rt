@@ -45,7 +45,7 @@ fn the_lowest_record_without_readers_is_reusable(rt: HostRuntime) -> Result<(), 
     let alloc = rt.alloc();
     let mut chains = Chains::new(alloc);
     let x = chains.add_object(alloc)?;
-    assert_eq!(rt; x, 0);
+    assert!(rt; x == 0);
     chains.prepend(x, 5, Value::Int(50), 5)?;
     chains.prepend(x, 2, Value::Int(20), 2)?;
     let last = chains.prepend(x, 7, Value::Int(70), 7)?;
@@ -64,11 +64,11 @@ fn the_lowest_record_without_readers_is_reusable(rt: HostRuntime) -> Result<(), 
     for (open, expected) in &rows {
         let readers = readers_of(alloc, open)?;
         let found = reusable(&chains, x, &readers).map(|r| chains.id(r));
-        assert_eq!(rt; found, *expected);
+        assert!(rt; found == *expected);
     }
     chains.invalidate(last);
     let found = reusable(&chains, x, &readers_of(alloc, &[3, 6, 8])?).map(|r| chains.id(r));
-    assert_eq!(rt; found, Some(0));
+    assert!(rt; found == Some(0));
     Ok(())
 }
 
@@ -79,13 +79,13 @@ fn records_that_readers_with_invalid_ids_read_are_not_reusable(
     let alloc = rt.alloc();
     let mut chains = Chains::new(alloc);
     let x = chains.add_object(alloc)?;
-    assert_eq!(rt; x, 0);
+    assert!(rt; x == 0);
     chains.prepend(x, 2, Value::Int(20), 2)?;
     chains.prepend(x, 5, Value::Int(50), 5)?;
     let last = chains.prepend(x, 7, Value::Int(70), 7)?;
     let mut readers = readers_of(alloc, &[6])?;
     let found = reusable(&chains, x, &readers).map(|r| chains.id(r));
-    assert_eq!(rt; found, Some(2));
+    assert!(rt; found == Some(2));
     // For this reader id 5 is invalid, so it reads the record with id 2.
     readers.push(RecordReader {
         id: 6,
@@ -98,7 +98,7 @@ fn records_that_readers_with_invalid_ids_read_are_not_reusable(
     assert!(rt; reusable(&chains, x, &readers).is_none());
     chains.invalidate(last);
     let found = reusable(&chains, x, &readers).map(|r| chains.id(r));
-    assert_eq!(rt; found, Some(0));
+    assert!(rt; found == Some(0));
     Ok(())
 }
 
@@ -124,7 +124,7 @@ fn records_that_open_snapshots_read_are_not_reused(rt: HostRuntime) -> Result<()
         write_and_take(alloc, &mut world, 2)?,
     ];
     assert!(rt; world.write(alloc, 0, 0, 0, Value::Int(3))?);
-    assert_eq!(rt; counts(&world), (4, 4));
+    assert!(rt; counts(&world) == (4, 4));
     for (name, expected) in names.iter().zip([0, 1, 2]) {
         let seen = world.read(alloc, 0, *name, 0)?;
         assert!(rt; seen.same(&Value::Int(expected)));
@@ -133,7 +133,7 @@ fn records_that_open_snapshots_read_are_not_reused(rt: HostRuntime) -> Result<()
         world.dispose(0, *name)?;
     }
     assert!(rt; world.write(alloc, 0, 0, 0, Value::Int(4))?);
-    assert_eq!(rt; counts(&world), (1, 4));
+    assert!(rt; counts(&world) == (1, 4));
     Ok(())
 }
 
