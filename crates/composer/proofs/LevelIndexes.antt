@@ -186,6 +186,7 @@ pub level_inside : (groups : List Group) (d i : ℕ) → is_level groups d i ≡
 level_inside groups d i e =
     ltb-true i (length groups) (both_true (nat_lt i (length groups)) ((group_at groups i).depth == d) e).0
 
+-- A list of old groups by their indexes, without its first.
 pub later_infos : (groups : List Group) (is : List ℕ) → infos_at groups (drop 1 is) ≡ drop 1 (infos_at groups is)
 later_infos groups [] = refl
 later_infos groups (i ∷ is) = refl
