@@ -1,7 +1,7 @@
 //! What composing a program means: the forest that is composed from scratch, and what a frame leaves and reports.
 //!
-//! `specs/Composing.antt` says which reads and groups composing from scratch makes, in order. `specs/Frame.antt` says what
-//! one frame leaves and reports. Both are computed on small programs in `specs/SmallPrograms.antt`.
+//! `specs/Composing.antt` says which reads and groups composing from scratch makes, in order. `specs/Frame.antt` says
+//! what one frame leaves and reports. Both are computed on small programs in `specs/SmallPrograms.antt`.
 //! Promise: the definitions give the groups, reads and reports that Compose gives on those programs.
 #![tactic(auto)]
 

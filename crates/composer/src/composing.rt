@@ -225,7 +225,8 @@ fn run_node<'a, V: View, L: Ledger>(
     run_inside(level, &found, body, made, view, steps)
 }
 
-// Composes a key: evaluates it, matches its group with an old sibling, appends it, and composes the statements inside it.
+// Composes a key: evaluates it, matches its group with an old sibling, appends it, and composes the statements inside
+// it.
 #[cycle(again)]
 fn run_key<'a, V: View, L: Ledger>(
     level: &Level<'a>,
@@ -598,8 +599,8 @@ fn skip_call<'a, V: View, L: Ledger>(
     requires room { HasRoomToWrite level.now made.old.writer }
     requires table { old.now.groups ≡ level.now.last.now.groups }
     ensures { Writes V.shows V.asked V.keeps level.now.last.now.groups view.old view.new made.old made.new result
-        (λ m. GroupSkipped level.now m site old.now (V.asked view.old) (V.asked view.new) made.old.writer made.new.writer
-        result) }
+        (λ m. GroupSkipped level.now m site old.now (V.asked view.old) (V.asked view.new) made.old.writer
+        made.new.writer result) }
 {
     if let Some(after) = quiet_call_end(level.last, level.depth, site, old) {
         steps.tick();
@@ -624,8 +625,8 @@ fn skip_call_around<'a, V: View, L: Ledger>(
     requires room { HasRoomToWrite level.now made.old.writer }
     requires table { old.now.groups ≡ level.now.last.now.groups }
     ensures { Writes V.shows V.asked V.keeps level.now.last.now.groups view.old view.new made.old made.new result
-        (λ m. GroupSkipped level.now m site old.now (V.asked view.old) (V.asked view.new) made.old.writer made.new.writer
-        result) }
+        (λ m. GroupSkipped level.now m site old.now (V.asked view.old) (V.asked view.new) made.old.writer
+        made.new.writer result) }
 {
     steps.tick();
     match old.kind() {
@@ -664,8 +665,8 @@ fn skip_all<'a, V: View, L: Ledger>(
 ) -> Result<(), ComposeStop>
     requires { HasRoomToWrite level.now made.old.writer }
     ensures { Writes V.shows V.asked V.keeps level.now.last.now.groups view.old view.new made.old made.new result
-        (λ m. GroupsSkipped level.now m (drop first level.now.last.now.groups) (V.asked view.old) (V.asked view.new) made.old.writer
-        made.new.writer result) }
+        (λ m. GroupsSkipped level.now m (drop first level.now.last.now.groups) (V.asked view.old) (V.asked view.new)
+        made.old.writer made.new.writer result) }
 {
     let last = level.last;
     let around = first.saturating_sub(1);

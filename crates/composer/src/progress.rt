@@ -46,8 +46,8 @@ pub struct Around<'a> {
 }
 
 impl<'a> Progress<'a> {
-    /// Goes into the body of a call, whose variables are `scope`, next to the old groups inside `found`. Returns what is
-    /// in hand around the body.
+    /// Goes into the body of a call, whose variables are `scope`, next to the old groups inside `found`. Returns what
+    /// is in hand around the body.
     #[inline(always)]
     pub fn enter_body(
         &mut self,

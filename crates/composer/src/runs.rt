@@ -25,10 +25,10 @@ fn level_end(last: &LastGroups, depth: u32, around: usize, first: usize) -> Opti
     Some(end)
 }
 
-/// Returns an index up to which no call is owed from index `first` on: that of the next call that is owed or contains an
-/// owed one, or of the next group that is less deep than `depth`, or the number of groups. The groups before the index
-/// are kept. Takes constant time if no call is owed in the groups inside the group at index `around` from `first` on,
-/// and else time linear in the number of siblings and of groups around the call that is found.
+/// Returns an index up to which no call is owed from index `first` on: that of the next call that is owed or contains
+/// an owed one, or of the next group that is less deep than `depth`, or the number of groups. The groups before the
+/// index are kept. Takes constant time if no call is owed in the groups inside the group at index `around` from `first`
+/// on, and else time linear in the number of siblings and of groups around the call that is found.
 #[inline(always)]
 pub fn next_call(last: &LastGroups, depth: u32, around: usize, first: usize) -> usize
     requires { first ≤ length last.now.groups }

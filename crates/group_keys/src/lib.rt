@@ -2,8 +2,8 @@
 //!
 //! A group is the one of the last frame that has its site, its key and its occurrence among its siblings (`KeyInfo` and
 //! `Pending` of Compose). Composing takes old siblings from `SiblingQueues` one by one; `matches` does it for two whole
-//! lists. The queues are in an `IndexMap`, or in a list by number if `KeySurvey` finds siblings of one site with integer
-//! keys that lie close together. Reordered siblings take no longer than others.
+//! lists. The queues are in an `IndexMap`, or in a list by number if `KeySurvey` finds siblings of one site with
+//! integer keys that lie close together. Reordered siblings take no longer than others.
 //! Promises: `matches` finds exactly the old sibling with equal site, key and occurrence.
 #![tactic(auto)]
 

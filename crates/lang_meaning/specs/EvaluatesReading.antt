@@ -23,9 +23,9 @@ pub record EvaluationProgress {A : Type 0} (rest r : Reading A) (noting : Bool)
   pub came : asked' ++ rest.reads ≡ asked ++ r.reads
   pub noted : noting ≡ true → reads' ++ rest.reads ≡ reads ++ r.reads
 
--- The contract of evaluating a part of an expression: `t m` is its value with its reads in the map `m`, and `flat m` says
--- whether each part of the expression has a number or a truth value there. The view changes only by reads, and it shows
--- the same maps. The effect is that of the reading in each map that the view shows.
+-- The contract of evaluating a part of an expression: `t m` is its value with its reads in the map `m`, and `flat m`
+-- says whether each part of the expression has a number or a truth value there. The view changes only by reads, and it
+-- shows the same maps. The effect is that of the reading in each map that the view shows.
 pub record Evaluates {W : Type 0} (shown : W → Map → Type 0) (asked : W → List ℕ) (kept : W → W → Type 0)
     (free : W → Type 0) (noting : Bool) {A E : Type 0} (t : Map → Reading A) (flat : Map → Bool) (view view' : W)
     (reads reads' : List ℕ) (result : Result A E) : Type 0 where

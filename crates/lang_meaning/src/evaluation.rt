@@ -204,10 +204,9 @@ fn eval_numbers<V: View>(
     reads: &mut Objects,
     is_noting: bool,
 ) -> Result<IntList, NoMemory>
-    ensures { Evaluates V.shows V.asked V.keeps V.reads_free is_noting
-        (λ m. mapped_reading (λ vs. take most_items (map number_of vs)) (eval_all m (exprs_view operands.now) scope.now))
-        (λ m. false)
-        view.old view.new reads.old reads.new result }
+    ensures { Evaluates V.shows V.asked V.keeps V.reads_free is_noting (λ m.
+        mapped_reading (λ vs. take most_items (map number_of vs)) (eval_all m (exprs_view operands.now) scope.now))
+        (λ m. false) view.old view.new reads.old reads.new result }
 {
     let mut list = IntList::new(alloc)?;
     for expression in operands {

@@ -66,8 +66,8 @@ abbrev pub LogsRun : Titles → List Func → List ActorPart → Option (List En
 LogsRun t functions parts None new = new ≡ None
 LogsRun t functions parts (Some old) new = RunLogged t functions parts old new
 
--- A run stopped before its end. A log grew by calls whose replies are the plain world's. The printed calls among them are
--- those of the parts `whole` and of at most one part more, and the lines of the parts `whole` were written.
+-- A run stopped before its end. A log grew by calls whose replies are the plain world's. The printed calls among them
+-- are those of the parts `whole` and of at most one part more, and the lines of the parts `whole` were written.
 pub record RunStopped (style : LineStyle) (functions : List Func) (parts : List ActorPart) (old : List Entry)
     (new : Option (List Entry)) (before now : Option (List ℕ)) : Type 0 where
   pub whole : List ActorPart

@@ -194,8 +194,8 @@ fn run_do_forms<V: Versions<P = BuiltIn>, K: Sink>(
 }
 
 /// Runs the script of a job in a new world: makes the program's states and all steps, and writes each line when it is
-/// made. `flags` say what is printed of a frame. Fails if the sink fails or the process is out of memory. Then no call was
-/// made after the line that was not written. The memory of the composition is left to the end of the process.
+/// made. `flags` say what is printed of a frame. Fails if the sink fails or the process is out of memory. Then no call
+/// was made after the line that was not written. The memory of the composition is left to the end of the process.
 pub fn run_script<V: Versions<P = BuiltIn>, K: Sink>(
     alloc: Global,
     job: &Job,

@@ -62,9 +62,9 @@ impl OwedCalls {
         self.places.partition_point(|place| *place < at)
     }
 
-    /// Returns an index before which no call from index `at` on is owed (`firstInRange` of the invalidations): the least
-    /// index of an owed call that is at least `at`, or `usize::MAX` if there is none. Contracts do not promise that there
-    /// is an owed call at the index. Takes constant time for ascending `at`, and otherwise the time of a binary search.
+    /// Returns an index before which no call from index `at` on is owed (`firstInRange` of the invalidations): the
+    /// least index of an owed call that is at least `at`, or `usize::MAX` if there is none. Contracts do not promise
+    /// an owed call at the index. Takes constant time for ascending `at`, and otherwise the time of a binary search.
     pub fn next_from(&self, at: usize) -> usize
         ensures { (i : ℕ) → at ≤ i → i < result → contains i self.now ≡ false }
     {

@@ -305,7 +305,8 @@ impl SharedGroup {
         Ok(SharedGroup { head, slots })
     }
 
-    /// Returns a node without reads, which has no place yet. It takes the memory of a node of `replaced` if there is any.
+    /// Returns a node without reads, which has no place yet. It takes the memory of a node of `replaced` if there is
+    /// any.
     #[inline(always)]
     pub fn new_node(
         alloc: Global,

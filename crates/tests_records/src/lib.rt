@@ -1,5 +1,5 @@
-//! Tests of `snap_ids`, `snap_records` and `snap_world` from outside: id sets, readable records, and `RecordWorld` beside
-//! `PlainWorld` on tables of calls and on random calls.
+//! Tests of `snap_ids`, `snap_records` and `snap_world` from outside: id sets, readable records, and `RecordWorld`
+//! beside `PlainWorld` on tables of calls and on random calls.
 #![tactic(auto)]
 
 #[cfg(test)]

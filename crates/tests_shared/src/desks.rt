@@ -66,8 +66,8 @@ fn disposes<W: Versions + Drop, R: Wait, G: Gate>(desk: &mut SeatView<'_, W, R, 
     desk.dispose().is_ok()
 }
 
-// Takes a snapshot at a desk, writes at another seat, and reads and disposes at the desk. Returns whether the desk shows
-// what was there before the write, and its seat reads what was written afterwards.
+// Takes a snapshot at a desk, writes at another seat, and reads and disposes at the desk. Returns whether the desk
+// shows what was there before the write, and its seat reads what was written afterwards.
 fn shows_its_snapshot<R: Wait, V: Versions + Drop>(
     rt: &R,
     alloc: Global,

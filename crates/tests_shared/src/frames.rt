@@ -135,8 +135,8 @@ fn frame_counting<R: Wait, W: Versions + Drop, L: Ledger>(
     frame_among(view, alloc, composition, &mut applier, &mut steps)
 }
 
-// Makes a frame through the seat, and appends the number that it shows, unless it fails. Returns the seat and the number
-// of its next call at the gate.
+// Makes a frame through the seat, and appends the number that it shows, unless it fails. Returns the seat and the
+// number of its next call at the gate.
 fn make_frame<R: Wait, W: Versions + Drop>(
     rt: &R,
     alloc: Global,

@@ -1,5 +1,5 @@
-//! Tests of `snap_shared` and `shared_frames` from outside: seats that meet, desks of seats, frames through a seat, real
-//! threads, and a world that runs out of memory.
+//! Tests of `snap_shared` and `shared_frames` from outside: seats that meet, desks of seats, frames through a seat,
+//! real threads, and a world that runs out of memory.
 #![tactic(auto)]
 
 #[cfg(test)]

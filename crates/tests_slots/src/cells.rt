@@ -3,9 +3,9 @@ use remember_cells::{Cell, CellAnswer, cell};
 use rt_values::Value;
 use std::test::Fail;
 
-// Returns six answers of `cell`. In the first four the old cell has `keys`, and the new keys are the same, the first two
-// of `others`, the first of `others`, and all of `others`. In the fifth there is no old cell. In the last neither cell
-// has keys.
+// Returns six answers of `cell`. In the first four the old cell has `keys`, and the new keys are the same, the first
+// two of `others`, the first of `others`, and all of `others`. In the fifth there is no old cell. In the last neither
+// cell has keys.
 fn answers<'a>(value: &'a Value, keys: &'a [Value], others: &[Value; 3]) -> [CellAnswer; 6] {
     let old = Cell { keys, value };
     let none = Cell { keys: &[], value };

@@ -79,7 +79,8 @@ fn visit_next<L: Ledger>(
     Ok(())
 }
 
-// Opens the root, skips the first row, opens the second and the node inside it, and closes the node. Appends what is seen.
+// Opens the root, skips the first row, opens the second and the node inside it, and closes the node. Appends what is
+// seen.
 fn visit_rows<L: Ledger>(
     reader: &mut Reader,
     steps: &mut Steps<L>,

@@ -41,8 +41,8 @@ fn writes_two<V: Versions>(alloc: Global, world: &mut V, name: Name) -> Result<b
     world.write(alloc, 7, name, 0, Value::Int(2))
 }
 
-// Writes 2 twice to the number in a snapshot and applies it. Returns whether the first write changes the number, the second
-// one does not, and another caller cannot apply the snapshot.
+// Writes 2 twice to the number in a snapshot and applies it. Returns whether the first write changes the number, the
+// second one does not, and another caller cannot apply the snapshot.
 fn apply_two<V: Versions>(alloc: Global, world: &mut V) -> Result<bool, Refusal> {
     let edit = world.take(alloc, 7, 0, Kind::Mutable)?;
     let changed = writes_two(alloc, world, edit)?;
