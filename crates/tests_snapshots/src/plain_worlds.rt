@@ -1,5 +1,5 @@
 // Whole runs of a plain world.
-use rt_values::{Kind, Name, Objects, Ty, Value, View};
+use rt_values::{Kind, Name, NoMemory, Objects, Ty, Value, View};
 use snap_api::{
     CLOCK_LIMIT, Desk, Entry, LogWorld, OwnDesk, Refusal, Reply, Request, Versions, run_calls,
 };
@@ -68,17 +68,24 @@ fn ends<V: Versions>(alloc: Global, world: &mut V, name: Name) -> bool {
     matches!(reply, Reply::Disposed) && world.apply(alloc, 7, name) == Err(Refusal::Closed { name })
 }
 
+// Whether the takes of the watcher list what was applied before, and their snapshots keep what they show.
+fn lists_what_was_applied<V: Versions>(alloc: Global, world: &mut V) -> Result<bool, Refusal> {
+    Ok(
+        takes(alloc, world, 1)
+            && apply_two(alloc, world)?
+            && takes(alloc, world, 3)
+            && reads(alloc, world, 1, 1)
+            && shows(alloc, world, 3, 2)
+            && world.dispose(7, 3).is_ok()
+            && ends(alloc, world, 1),
+    )
+}
+
 #[test]
 fn a_watcher_lists_what_was_applied(rt: HostRuntime) -> Result<(), Fail> {
     let alloc = rt.alloc();
     let mut world = number_world(alloc)?;
-    assert!(rt; takes(alloc, &mut world, 1));
-    assert!(rt; apply_two(alloc, &mut world)?);
-    assert!(rt; takes(alloc, &mut world, 3));
-    assert!(rt; reads(alloc, &mut world, 1, 1));
-    assert!(rt; shows(alloc, &mut world, 3, 2));
-    assert!(rt; world.dispose(7, 3).is_ok());
-    assert!(rt; ends(alloc, &mut world, 1));
+    assert!(rt; lists_what_was_applied(alloc, &mut world)?);
     Ok(())
 }
 
@@ -90,10 +97,16 @@ fn no_take_at_the_end_of_the_clock(rt: HostRuntime) -> Result<(), Fail> {
     Ok(())
 }
 
-#[test]
-fn calls_are_made_in_turn(rt: HostRuntime) -> Result<(), Fail> {
-    let alloc = rt.alloc();
-    let mut world: PlainWorld<BuiltIn> = PlainWorld::new(alloc)?;
+// Whether these are the replies to a take by caller 7, an apply by another caller, and the dispose.
+fn are_in_turn(replies: &[Reply]) -> bool {
+    replies.len() == 3
+        && matches!(replies[0], Reply::Taken(1))
+        && matches!(replies[1], Reply::Refused(Refusal::NotYours { owner: 7 }))
+        && matches!(replies[2], Reply::Disposed)
+}
+
+// Makes three calls. Returns whether they have their replies.
+fn calls_in_turn<V: Versions>(alloc: Global, world: &mut V) -> Result<bool, Fail> {
     let take = Request::Take {
         parent: 0,
         kind: Kind::Mutable,
@@ -103,11 +116,14 @@ fn calls_are_made_in_turn(rt: HostRuntime) -> Result<(), Fail> {
         (8, Request::Apply { name: 1 }),
         (7, Request::Dispose { name: 1 }),
     ]?;
-    let replies = run_calls(alloc, &mut world, &calls)?;
-    assert!(rt; replies.len() == 3);
-    assert!(rt; matches!(replies[0], Reply::Taken(1)));
-    assert!(rt; matches!(replies[1], Reply::Refused(Refusal::NotYours { owner: 7 })));
-    assert!(rt; matches!(replies[2], Reply::Disposed));
+    Ok(are_in_turn(&run_calls(alloc, world, &calls)?))
+}
+
+#[test]
+fn calls_are_made_in_turn(rt: HostRuntime) -> Result<(), Fail> {
+    let alloc = rt.alloc();
+    let mut world: PlainWorld<BuiltIn> = PlainWorld::new(alloc)?;
+    assert!(rt; calls_in_turn(alloc, &mut world)?);
     Ok(())
 }
 
@@ -116,9 +132,8 @@ fn frame_at_desk<V: Versions>(alloc: Global, world: &mut V) -> Result<bool, Refu
     let mut asked = Objects::new(alloc);
     let mut desk = OwnDesk::new(world, &mut asked, 7, None);
     let (_, changed) = desk.take_for(alloc, 0)?;
-    let is_one = desk.read(alloc, 0)?.same(&Value::Int(1));
-    desk.dispose()?;
-    Ok(is_one && changed.numbers() == [0u64].as_slice())
+    let is_one = desk.read(alloc, 0).is_ok_and(|value| value.number() == 1);
+    Ok(is_one && desk.dispose().is_ok() && changed.numbers() == [0u64].as_slice())
 }
 
 // Returns a word for an entry of the log.
@@ -147,28 +162,46 @@ fn has_words(entries: &[Entry], words: &[&str]) -> bool {
             .all(|(entry, word)| word_of(entry) == *word)
 }
 
+// Makes a frame at a desk, and changes the number after it. Returns whether the calls have their replies.
+fn makes_a_frame<V: Versions>(alloc: Global, world: &mut V) -> Result<bool, Refusal> {
+    Ok(
+        frame_at_desk(alloc, world)?
+            && world.apply(alloc, 7, 1) == Err(Refusal::Closed { name: 1 })
+            && apply_two(alloc, world)?
+            && world.dispose(7, 2).is_ok(),
+    )
+}
+
+// The words of the calls of `makes_a_frame`.
+const WORDS: [&str; 10] = [
+    "frame",
+    "read",
+    "disposed",
+    "closed",
+    "take",
+    "changed",
+    "same",
+    "not yours",
+    "applied",
+    "disposed",
+];
+
+// Makes a frame in a world with a log. Returns whether the log has its calls.
+fn logs_a_frame<V: Versions + Drop>(alloc: Global, plain: V) -> Result<bool, Refusal> {
+    let mut world = LogWorld::new(alloc, plain);
+    let made = makes_a_frame(alloc, &mut world)?;
+    let (plain, entries) = world.into_parts();
+    Ok(made && plain.objects() == 1 && has_words(&entries, &WORDS))
+}
+
 #[test]
 fn a_frame_is_in_the_log(rt: HostRuntime) -> Result<(), Fail> {
     let alloc = rt.alloc();
-    let mut world = LogWorld::new(alloc, number_world(alloc)?);
-    assert!(rt; frame_at_desk(alloc, &mut world)?);
-    assert!(rt; world.apply(alloc, 7, 1) == Err(Refusal::Closed { name: 1 }));
-    assert!(rt; apply_two(alloc, &mut world)?);
-    assert!(rt; world.dispose(7, 2).is_ok());
-    let (plain, entries) = world.into_parts();
-    assert!(rt; plain.objects() == 1);
-    let words = [
-        "frame",
-        "read",
-        "disposed",
-        "closed",
-        "take",
-        "changed",
-        "same",
-        "not yours",
-        "applied",
-        "disposed",
-    ];
-    assert!(rt; has_words(&entries, &words));
+    assert!(rt; logs_a_frame(alloc, number_world(alloc)?)?);
     Ok(())
+}
+
+#[test]
+fn out_of_memory_is_a_refusal(rt: HostRuntime) {
+    assert!(rt; Refusal::from(NoMemory).is_no_memory() && !Refusal::Spent.is_no_memory());
 }

@@ -1,7 +1,4 @@
 // The table of policies, row by row.
-ghost use Rattle.std.specs.Prelude.{◌≤◌, length};
-ghost use Rattle.rt_values.specs.Limits.{most_items};
-
 use rt_values::{IntList, NoMemory, Ty, Value};
 use snap_policy::{BuiltIn, Policy};
 use std::alloc::Global;
@@ -15,10 +12,11 @@ const ALL: [BuiltIn; 5] = [
     BuiltIn::Append,
 ];
 
-fn ints(alloc: Global, items: &[i64]) -> Result<Value, NoMemory>
-    requires { length items.now ≤ most_items }
-{
-    Ok(Value::Ints(IntList::of(alloc, items)?))
+// Makes a list of these items.
+fn list_of(alloc: Global, items: &[i64]) -> Result<Value, NoMemory> {
+    let mut list = IntList::new(alloc)?;
+    list.extend(items)?;
+    Ok(Value::Ints(list))
 }
 
 // The merged number, or None where the changes conflict.
@@ -87,9 +85,22 @@ fn numbers_are_merged(rt: HostRuntime) -> Result<(), Fail> {
     Ok(())
 }
 
+// Whether the changes of a list are merged into `merged`, or conflict if that is None.
+fn is_merged(
+    alloc: Global,
+    previous: &[i64],
+    changes: (&[i64], &[i64]),
+    merged: Option<&[i64]>,
+) -> Result<bool, NoMemory> {
+    let previous = list_of(alloc, previous)?;
+    let current = list_of(alloc, changes.0)?;
+    let applied = list_of(alloc, changes.1)?;
+    let answer = BuiltIn::Append.merge(alloc, &previous, &current, &applied)?;
+    Ok(answer.as_ref().map(|value| value.items()) == merged)
+}
+
 #[test]
 fn lists_are_appended(rt: HostRuntime) -> Result<(), Fail> {
-    let alloc = rt.alloc();
     let rows: [(&[i64], &[i64], &[i64], Option<&[i64]>); 5] = [
         (&[1], &[1, 2], &[1, 3, 4], Some(&[1, 2, 3, 4])),
         (&[], &[2], &[3], Some(&[2, 3])),
@@ -97,28 +108,27 @@ fn lists_are_appended(rt: HostRuntime) -> Result<(), Fail> {
         (&[1, 2], &[1], &[1, 2, 3], None),
         (&[1, 2], &[1, 2, 3], &[2, 1], None),
     ];
-    for (previous, current, applied, merged) in &rows {
-        let answer = BuiltIn::Append.merge(
-            alloc,
-            &ints(alloc, previous)?,
-            &ints(alloc, current)?,
-            &ints(alloc, applied)?,
-        )?;
-        assert!(rt; answer.as_ref().map(|value| value.items()) == *merged);
+    for (previous, current, applied, merged) in rows {
+        assert!(rt; is_merged(rt.alloc(), previous, (current, applied), merged)?);
     }
     Ok(())
 }
 
+// Makes a list of the numbers from 0 up to but not including `len`.
+fn range(alloc: Global, len: i64) -> Result<Value, NoMemory> {
+    Ok(Value::Ints(IntList::range(alloc, 0, len)?))
+}
+
+// Returns the length of a list of `len` items that is merged with one of one item, unless they conflict.
+fn merged_len(alloc: Global, len: i64) -> Result<Option<usize>, NoMemory> {
+    let long = range(alloc, len)?;
+    let merged = BuiltIn::Append.merge(alloc, &range(alloc, 0)?, &long, &range(alloc, 1)?)?;
+    Ok(merged.map(|value| value.items().len()))
+}
+
 #[test]
 fn lists_that_are_too_long_together_conflict(rt: HostRuntime) -> Result<(), Fail> {
-    let alloc = rt.alloc();
-    let none = Value::Ints(IntList::new(alloc)?);
-    let one = Value::Ints(IntList::range(alloc, 0, 1)?);
-    let rows = [(4095, Some(4096)), (4096, None)];
-    for (len, merged) in &rows {
-        let long = Value::Ints(IntList::range(alloc, 0, *len)?);
-        let answer = BuiltIn::Append.merge(alloc, &none, &long, &one)?;
-        assert!(rt; answer.map(|value| value.items().len()) == *merged);
-    }
+    assert!(rt; merged_len(rt.alloc(), 4095)? == Some(4096));
+    assert!(rt; merged_len(rt.alloc(), 4096)? == None);
     Ok(())
 }
