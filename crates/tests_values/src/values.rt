@@ -177,7 +177,6 @@ fn numbers_and_truth_values_have_texts(rt: HostRuntime) -> Result<(), Fail> {
     for (value, text) in &rows {
         assert!(rt; has_text(alloc, value, text)?);
     }
-    assert!(rt; has_text(alloc, &list_value(alloc, &[1])?, "")?);
     Ok(())
 }
 
@@ -253,11 +252,17 @@ fn as_list(alloc: Global, value: &Value) -> Result<IntList, Fail> {
 }
 
 #[test]
-fn other_types_read_as_defaults(rt: HostRuntime) -> Result<(), Fail> {
+fn numbers_and_truth_values_read_as_themselves(rt: HostRuntime) {
+    let (number, truth) = (Value::Int(3), Value::Bool(true));
+    assert!(rt; number.number() == 3 && !number.is_true());
+    assert!(rt; truth.is_true() && truth.number() == 0);
+}
+
+#[test]
+fn a_text_reads_as_0_false_and_an_empty_list(rt: HostRuntime) -> Result<(), Fail> {
     let alloc = rt.alloc();
     let text = text_value(alloc, "ab")?;
     assert!(rt; text.number() == 0 && !text.is_true() && text.items().is_empty());
-    assert!(rt; Value::Int(3).number() == 3 && Value::Bool(true).is_true());
     assert!(rt; text.chars() == "ab" && as_text(alloc, &text)?.as_str() == "ab");
     assert!(rt; as_list(alloc, &text)?.len() == 0);
     Ok(())
@@ -268,6 +273,7 @@ fn a_list_reads_as_an_empty_text(rt: HostRuntime) -> Result<(), Fail> {
     let alloc = rt.alloc();
     let list = list_value(alloc, &[7])?;
     assert!(rt; list.chars().is_empty() && as_text(alloc, &list)?.as_str() == "");
+    assert!(rt; has_text(alloc, &list, "")?);
     assert!(rt; as_list(alloc, &list)?.items() == [7i64].as_slice());
     Ok(())
 }
@@ -279,9 +285,13 @@ fn is_printed(alloc: Global, value: &Value, literal: &str) -> Result<bool, Fail>
     Ok(text.as_slice() == literal.as_bytes())
 }
 
+// Whether this is the printed form of a text.
+fn is_printed_text(alloc: Global, text: &str, literal: &str) -> Result<bool, Fail> {
+    is_printed(alloc, &text_value(alloc, text)?, literal)
+}
+
 #[test]
-fn values_are_printed_as_literals(rt: HostRuntime) -> Result<(), Fail> {
-    let alloc = rt.alloc();
+fn texts_are_printed_with_escapes(rt: HostRuntime) -> Result<(), Fail> {
     for (text, literal) in [
         ("", "\"\""),
         ("a\"b", "\"a\\\"b\""),
@@ -289,13 +299,33 @@ fn values_are_printed_as_literals(rt: HostRuntime) -> Result<(), Fail> {
         ("a\nb", "\"a\\nb\""),
         ("\tä", "\"\tä\""),
     ] {
-        assert!(rt; is_printed(alloc, &text_value(alloc, text)?, literal)?);
+        assert!(rt; is_printed_text(rt.alloc(), text, literal)?);
     }
-    assert!(rt; is_printed(alloc, &list_value(alloc, &[])?, "(ints)")?);
-    assert!(rt; is_printed(alloc, &list_value(alloc, &[1, -2])?, "(ints 1 -2)")?);
-    assert!(rt; is_printed(alloc, &Value::Int(-7), "-7")?);
-    assert!(rt; is_printed(alloc, &Value::Bool(true), "true")?);
-    assert!(rt; is_printed(alloc, &Value::Bool(false), "false")?);
+    Ok(())
+}
+
+// Whether this is the printed form of a list.
+fn is_printed_list(alloc: Global, items: &[i64], literal: &str) -> Result<bool, Fail> {
+    is_printed(alloc, &list_value(alloc, items)?, literal)
+}
+
+#[test]
+fn lists_are_printed_as_forms(rt: HostRuntime) -> Result<(), Fail> {
+    assert!(rt; is_printed_list(rt.alloc(), &[], "(ints)")?);
+    assert!(rt; is_printed_list(rt.alloc(), &[1, -2], "(ints 1 -2)")?);
+    Ok(())
+}
+
+#[test]
+fn numbers_and_truth_values_are_printed_as_words(rt: HostRuntime) -> Result<(), Fail> {
+    let rows = [
+        (Value::Int(-7), "-7"),
+        (Value::Bool(true), "true"),
+        (Value::Bool(false), "false"),
+    ];
+    for (value, literal) in &rows {
+        assert!(rt; is_printed(rt.alloc(), value, literal)?);
+    }
     Ok(())
 }
 
