@@ -44,11 +44,16 @@ const EVERY_STEP: &str = r#"(do main
 (do main (repeat 0 (write global a 1) (frame (during (read global a) (dispose s))) (frame)))
 (do other)"#;
 
+// Whether two texts, one after the other, are a program and its script.
+fn is_read(alloc: Global, program: &str, script: &str) -> Result<bool, Fail> {
+    let mut whole = String::from_str(alloc, program)?;
+    whole.push_str(script)?;
+    Ok(text_read(alloc, &whole)?.is_ok())
+}
+
 #[test]
 fn texts_have_the_forms(rt: HostRuntime) -> Result<(), Fail> {
-    let mut whole = String::from_str(rt.alloc(), EVERY_FORM)?;
-    whole.push_str(EVERY_STEP)?;
-    assert!(rt; text_read(rt.alloc(), &whole)?.is_ok());
+    assert!(rt; is_read(rt.alloc(), EVERY_FORM, EVERY_STEP)?);
     for text in [
         EVERY_FORM,
         "(compose 1)",
@@ -60,7 +65,7 @@ fn texts_have_the_forms(rt: HostRuntime) -> Result<(), Fail> {
         "(compose 1) (do main (write global a (ints -9223372036854775809)) (frame))",
         "(compose 1) (state a Bool Counter 1)",
     ] {
-        assert!(rt; text_read(rt.alloc(), text)?.is_ok(), "{text}");
+        assert!(rt; is_read(rt.alloc(), text, "")?, "{text}");
     }
     Ok(())
 }
@@ -162,6 +167,16 @@ fn a_wrong_policy_is_reported_at_its_state(rt: HostRuntime) -> Result<(), Fail> 
     Ok(())
 }
 
+// Whether the states of a program have these policies, in order.
+fn has_policies(program: &Program, policies: &[BuiltIn]) -> bool {
+    program.states.len() == policies.len()
+        && program
+            .states
+            .iter()
+            .zip(policies)
+            .all(|(state, policy)| state.policy == *policy)
+}
+
 #[test]
 fn states_have_their_policies(rt: HostRuntime) -> Result<(), Fail> {
     let (program, _) = text_read(rt.alloc(), EVERY_FORM)??;
@@ -173,10 +188,7 @@ fn states_have_their_policies(rt: HostRuntime) -> Result<(), Fail> {
         BuiltIn::Counter,
         BuiltIn::Largest,
     ];
-    assert!(rt; program.states.len() == policies.len());
-    for (state, policy) in program.states.iter().zip(policies) {
-        assert!(rt; state.policy == policy);
-    }
+    assert!(rt; has_policies(&program, &policies));
     Ok(())
 }
 
@@ -347,6 +359,11 @@ fn second_call(rest: &Rest) -> Option<CallData> {
     }
 }
 
+// Returns the call that a text is parsed into.
+fn call_of(alloc: Global, step: &str) -> Result<Option<CallData>, Fail> {
+    Ok(second_call(&script_with(alloc, step)?))
+}
+
 #[test]
 fn calls_have_their_offsets_and_numbers(rt: HostRuntime) -> Result<(), Fail> {
     let rows: [(&str, CallData); 11] = [
@@ -369,8 +386,7 @@ fn calls_have_their_offsets_and_numbers(rt: HostRuntime) -> Result<(), Fail> {
         ("(dispose global)", (82, None, None, Some(0))),
     ];
     for (step, expected) in rows {
-        let rest = script_with(rt.alloc(), step)?;
-        assert!(rt; second_call(&rest) == Some(expected), "{step}");
+        assert!(rt; call_of(rt.alloc(), step)? == Some(expected), "{step}");
     }
     Ok(())
 }

@@ -63,23 +63,35 @@ fn numbers_have_64_bits(rt: HostRuntime) -> Result<(), Fail> {
     Ok(())
 }
 
+// The offsets of the first oversized tokens of a text with a repeated part.
+fn limits_of_repeated(
+    alloc: Global,
+    before: &[u8],
+    part: &[u8],
+    times: usize,
+    after: &[u8],
+) -> Result<(Option<usize>, Option<usize>), Fail> {
+    limits_of(alloc, &repeated(alloc, before, part, times, after)?)
+}
+
+// Texts with a part that is repeated so many times, and the offset of the first oversized token.
+static REPEATED: [(&[u8], &[u8], usize, &[u8], Option<usize>); 9] = [
+    (b" ", b"n", 64, b"", None),
+    (b" ", b"n", 65, b"", Some(1)),
+    (b"(a \"", b"s", 4096, b"\")", None),
+    (b"(a \"", b"s", 4097, b"\")", Some(3)),
+    (b"(a \"", b"\\n", 4096, b"\")", None),
+    (b"(a (ints", b" 1", 4096, b"))", None),
+    (b"(a (ints", b" 1", 4097, b"))", Some(3)),
+    (b"(a (ints x", b" 1", 4096, b"))", Some(3)),
+    (b"(a (intS", b" 1", 4097, b"))", None),
+];
+
 #[test]
 fn names_strings_and_lists_have_limits(rt: HostRuntime) -> Result<(), Fail> {
-    let alloc = rt.alloc();
-    let rows: [(&[u8], &[u8], usize, &[u8], Option<usize>); 9] = [
-        (b" ", b"n", 64, b"", None),
-        (b" ", b"n", 65, b"", Some(1)),
-        (b"(a \"", b"s", 4096, b"\")", None),
-        (b"(a \"", b"s", 4097, b"\")", Some(3)),
-        (b"(a \"", b"\\n", 4096, b"\")", None),
-        (b"(a (ints", b" 1", 4096, b"))", None),
-        (b"(a (ints", b" 1", 4097, b"))", Some(3)),
-        (b"(a (ints x", b" 1", 4096, b"))", Some(3)),
-        (b"(a (intS", b" 1", 4097, b"))", None),
-    ];
-    for (before, part, times, after, offset) in rows {
-        let text = repeated(alloc, before, part, times, after)?;
-        assert!(rt; limits_of(alloc, &text)? == (offset, None), "{times}");
+    for (before, part, times, after, offset) in REPEATED.as_slice() {
+        let found = limits_of_repeated(rt.alloc(), before, part, *times, after)?;
+        assert!(rt; found == (*offset, None), "{times}");
     }
     Ok(())
 }

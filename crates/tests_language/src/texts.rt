@@ -155,23 +155,28 @@ fn places_and_print(alloc: Global, trees: &[Tree]) -> Result<(Vec<usize>, Vec<u8
     Ok((places, print(alloc, trees)?))
 }
 
-fn try_row<A: Abort>(rt: &A, alloc: Global, text: &[u8], verdict: Verdict) -> Result<(), Fail> {
-    match (read(alloc, text), verdict) {
-        (Ok(trees), Ok((places, printed))) => {
-            let (found, again) = places_and_print(alloc, &trees)?;
-            assert!(rt; found.as_slice() == places, "at {text:?}");
-            assert!(rt; again.as_slice() == printed, "at {text:?}");
-        }
-        (Err(stop), Err(expected)) => assert!(rt; stop == expected, "at {text:?}"),
-        (Ok(_), Err(_)) => assert!(rt; false, "{text:?} is read"),
-        (Err(_), Ok(_)) => assert!(rt; false, "{text:?} is refused"),
+// Whether trees have these offsets in preorder and this printed form.
+fn are_trees(
+    alloc: Global,
+    trees: &[Tree],
+    places: &[usize],
+    printed: &[u8],
+) -> Result<bool, Fail> {
+    let (found, again) = places_and_print(alloc, trees)?;
+    Ok(found.as_slice() == places && again.as_slice() == printed)
+}
+
+// Whether a text has this result.
+fn has_verdict(alloc: Global, text: &[u8], verdict: Verdict) -> Result<bool, Fail> {
+    match verdict {
+        Ok((places, printed)) => are_trees(alloc, &read(alloc, text)?, places, printed),
+        Err(fault) => Ok(read(alloc, text).err() == Some(fault)),
     }
-    Ok(())
 }
 
 fn try_rows<A: Abort>(rt: &A, alloc: Global, rows: &[Row]) -> Result<(), Fail> {
     for (text, verdict) in rows {
-        try_row(rt, alloc, text, *verdict)?;
+        assert!(rt; has_verdict(alloc, text, *verdict)?, "{text:?}");
     }
     Ok(())
 }
