@@ -1,5 +1,5 @@
 // Shared plain worlds.
-ghost use Rattle.std.specs.Prelude.{◌≡◌, ◌<◌, ◌≤◌, IfOk, All, length};
+ghost use Rattle.std.specs.Prelude.{◌≡◌, ◌<◌, ◌≤◌, ◌+◌, IfOk, All, length};
 ghost use Rattle.snap_shared.specs.Seats.{count_of, IsSeat};
 
 use rt_values::{Name, Ty, Value};
@@ -41,6 +41,23 @@ pub(crate) fn shared_counter<R: Wait>(
     Ok((shared, seats))
 }
 
+// Takes the last of some seats of a shared world.
+fn pop_seat<V: Versions + Drop>(
+    shared: &Shared<LogWorld<V>>,
+    seats: &mut Vec<Seat<LogWorld<V>>>,
+) -> Seat<LogWorld<V>>
+    requires some { 0 < length seats.old.items }
+    requires seats { All (λ x. IsSeat shared.now x) seats.old.items }
+    ensures last { IsSeat shared.now result }
+    ensures rest { All (λ x. IsSeat shared.now x) seats.new.items }
+    ensures count { length seats.old.items ≡ length seats.new.items + 1 }
+{
+    let Some(seat) = seats.pop() else {
+        unreachable!()
+    };
+    seat
+}
+
 // Shares a world between two callers, and returns it with the seats of the first and the second.
 pub(crate) fn two_seats<R: Wait, V: Versions + Drop>(
     rt: &R,
@@ -52,12 +69,8 @@ pub(crate) fn two_seats<R: Wait, V: Versions + Drop>(
     ensures second { IfOk result (λ r. IsSeat r.0 r.2) }
 {
     let (shared, mut seats) = Shared::new(rt, alloc, world, 2)?;
-    let Some(second) = seats.pop() else {
-        unreachable!()
-    };
-    let Some(first) = seats.pop() else {
-        unreachable!()
-    };
+    let second = pop_seat(&shared, &mut seats);
+    let first = pop_seat(&shared, &mut seats);
     Ok((shared, first, second))
 }
 
