@@ -110,10 +110,10 @@ fn change(
     keys: &[i64],
 ) -> Result<(bool, bool), NoMemory> {
     let changes = changes_to_rows(alloc, table, runs)?;
-    let is_previewed = previews(alloc, &changes, table, keys)?;
+    let is_previewed = previews(alloc, &changes, table, keys);
     let keeps = changes.keeps_reads(table);
     apply(alloc, table, changes);
-    Ok((is_previewed, keeps))
+    Ok((is_previewed?, keeps))
 }
 
 // Whether a table of the rows 1, 2 and 3 and its preview have these keys with the groups of `runs`,
@@ -129,36 +129,37 @@ fn has_changes(
     Ok(is_previewed && has_keys(&table, keys) && keeps == keep)
 }
 
+// Runs of kept and of new groups, the keys of all groups, and whether the reads are kept.
+type Row = (&'static [(usize, usize)], &'static [i64], bool);
+
+// Groups that stay, are replaced, removed, moved, inserted, repeated, or read other objects.
+static CHANGED: [Row; 12] = [
+    (&[(0, 7)], &[0, 1, 0, 2, 0, 3, 0], true),
+    (&[(0, 3), (3, 7)], &[0, 1, 0, 2, 0, 3, 0], true),
+    (&[(0, 3), (1, 1), (4, 7)], &[0, 1, 0, 8, 0, 3, 0], true),
+    (&[(0, 3), (3, 3), (4, 7)], &[0, 1, 0, 9, 0, 3, 0], false),
+    (&[(0, 1), (3, 7)], &[0, 2, 0, 3, 0], false),
+    (&[(0, 1), (5, 7), (1, 5)], &[0, 3, 0, 1, 0, 2, 0], true),
+    (
+        &[(0, 1), (5, 7), (3, 3), (2, 5)],
+        &[0, 3, 0, 9, 0, 2, 0],
+        false,
+    ),
+    (&[(0, 5), (1, 1), (5, 7)], &[0, 1, 0, 2, 0, 8, 3, 0], false),
+    (
+        &[(0, 1), (1, 1), (2, 6), (1, 1)],
+        &[0, 8, 0, 2, 0, 3, 8],
+        true,
+    ),
+    (&[(0, 1), (5, 7), (1, 3)], &[0, 3, 0, 1, 0], false),
+    (&[(0, 3), (1, 3)], &[0, 1, 0, 1, 0], false),
+    (&[(0, 1), (1, 1), (3, 3), (1, 3)], &[0, 8, 9, 1, 0], false),
+];
+
 #[test]
 fn changes_keep_move_and_replace_groups(rt: HostRuntime) -> Result<(), Fail> {
-    let alloc = rt.alloc();
-    let all: &[i64] = &[0, 1, 0, 2, 0, 3, 0];
-    let replaced: &[i64] = &[0, 1, 0, 8, 0, 3, 0];
-    let removed: &[i64] = &[0, 2, 0, 3, 0];
-    let moved: &[i64] = &[0, 3, 0, 1, 0, 2, 0];
-    let inserted: &[i64] = &[0, 1, 0, 2, 0, 8, 3, 0];
-    let deeper: &[i64] = &[0, 8, 0, 2, 0, 3, 8];
-    let read_other: &[i64] = &[0, 1, 0, 9, 0, 3, 0];
-    let moved_other: &[i64] = &[0, 3, 0, 9, 0, 2, 0];
-    let moved_fewer: &[i64] = &[0, 3, 0, 1, 0];
-    let repeated: &[i64] = &[0, 1, 0, 1, 0];
-    let pushed_later: &[i64] = &[0, 8, 9, 1, 0];
-    let rows: [(&[(usize, usize)], &[i64], bool); 12] = [
-        (&[(0, 7)], all, true),
-        (&[(0, 3), (3, 7)], all, true),
-        (&[(0, 3), (1, 1), (4, 7)], replaced, true),
-        (&[(0, 3), (3, 3), (4, 7)], read_other, false),
-        (&[(0, 1), (3, 7)], removed, false),
-        (&[(0, 1), (5, 7), (1, 5)], moved, true),
-        (&[(0, 1), (5, 7), (3, 3), (2, 5)], moved_other, false),
-        (&[(0, 5), (1, 1), (5, 7)], inserted, false),
-        (&[(0, 1), (1, 1), (2, 6), (1, 1)], deeper, true),
-        (&[(0, 1), (5, 7), (1, 3)], moved_fewer, false),
-        (&[(0, 3), (1, 3)], repeated, false),
-        (&[(0, 1), (1, 1), (3, 3), (1, 3)], pushed_later, false),
-    ];
-    for (runs, keys, keep) in &rows {
-        assert!(rt; has_changes(alloc, runs, keys, *keep)?);
+    for (runs, keys, keep) in CHANGED.as_slice() {
+        assert!(rt; has_changes(rt.alloc(), runs, keys, *keep)?);
     }
     Ok(())
 }
@@ -175,37 +176,48 @@ fn keeps_reads_with_other(
     Ok(changes.keeps_reads(&table))
 }
 
+// Blocks of groups that change places, with a new group beside or between them, and three blocks in another order.
+static EXCHANGED: [Row; 10] = [
+    (&[(0, 1), (3, 7), (1, 3)], &[0, 2, 0, 3, 0, 1, 0], true),
+    (&[(0, 1), (5, 7), (1, 5)], &[0, 3, 0, 1, 0, 2, 0], true),
+    (&[(0, 3), (5, 7), (3, 5)], &[0, 1, 0, 3, 0, 2, 0], true),
+    (
+        &[(0, 1), (1, 1), (2, 3), (5, 7), (3, 5)],
+        &[0, 8, 0, 3, 0, 2, 0],
+        true,
+    ),
+    (
+        &[(0, 1), (3, 5), (1, 3), (1, 1), (6, 7)],
+        &[0, 2, 0, 1, 0, 8, 0],
+        true,
+    ),
+    (
+        &[(0, 1), (3, 3), (2, 3), (5, 7), (3, 5)],
+        &[0, 9, 0, 3, 0, 2, 0],
+        false,
+    ),
+    (
+        &[(0, 1), (5, 7), (1, 1), (2, 5)],
+        &[0, 3, 0, 8, 0, 2, 0],
+        true,
+    ),
+    (
+        &[(0, 1), (2, 4), (1, 2), (4, 7)],
+        &[0, 0, 2, 1, 0, 3, 0],
+        true,
+    ),
+    (&[(1, 3), (0, 1), (3, 7)], &[1, 0, 0, 2, 0, 3, 0], true),
+    (
+        &[(0, 1), (5, 7), (3, 5), (1, 3)],
+        &[0, 3, 0, 2, 0, 1, 0],
+        true,
+    ),
+];
+
 #[test]
 fn changes_exchange_two_blocks(rt: HostRuntime) -> Result<(), Fail> {
-    let alloc = rt.alloc();
-    let left: &[i64] = &[0, 2, 0, 3, 0, 1, 0];
-    let right: &[i64] = &[0, 3, 0, 1, 0, 2, 0];
-    let last_rows: &[i64] = &[0, 1, 0, 3, 0, 2, 0];
-    let new_before: &[i64] = &[0, 8, 0, 3, 0, 2, 0];
-    let new_after: &[i64] = &[0, 2, 0, 1, 0, 8, 0];
-    let other_before: &[i64] = &[0, 9, 0, 3, 0, 2, 0];
-    let new_between: &[i64] = &[0, 3, 0, 8, 0, 2, 0];
-    let parts_of_rows: &[i64] = &[0, 0, 2, 1, 0, 3, 0];
-    let root_later: &[i64] = &[1, 0, 0, 2, 0, 3, 0];
-    let reversed: &[i64] = &[0, 3, 0, 2, 0, 1, 0];
-    let rows: [(&[(usize, usize)], &[i64], bool); 10] = [
-        (&[(0, 1), (3, 7), (1, 3)], left, true),
-        (&[(0, 1), (5, 7), (1, 5)], right, true),
-        (&[(0, 3), (5, 7), (3, 5)], last_rows, true),
-        (&[(0, 1), (1, 1), (2, 3), (5, 7), (3, 5)], new_before, true),
-        (&[(0, 1), (3, 5), (1, 3), (1, 1), (6, 7)], new_after, true),
-        (
-            &[(0, 1), (3, 3), (2, 3), (5, 7), (3, 5)],
-            other_before,
-            false,
-        ),
-        (&[(0, 1), (5, 7), (1, 1), (2, 5)], new_between, true),
-        (&[(0, 1), (2, 4), (1, 2), (4, 7)], parts_of_rows, true),
-        (&[(1, 3), (0, 1), (3, 7)], root_later, true),
-        (&[(0, 1), (5, 7), (3, 5), (1, 3)], reversed, true),
-    ];
-    for (runs, keys, keep) in &rows {
-        assert!(rt; has_changes(alloc, runs, keys, *keep)?);
+    for (runs, keys, keep) in EXCHANGED.as_slice() {
+        assert!(rt; has_changes(rt.alloc(), runs, keys, *keep)?);
     }
     Ok(())
 }
@@ -273,9 +285,9 @@ fn skips_as_previewed(
 ) -> Result<bool, NoMemory> {
     let mut table = three_rows(alloc)?;
     let changes = changes_to_rows(alloc, &table, runs)?;
-    let is_previewed = previews_ends(alloc, &changes, &table, ends)?;
+    let is_previewed = previews_ends(alloc, &changes, &table, ends);
     apply(alloc, &mut table, changes);
-    Ok(is_previewed && has_ends(&table, ends))
+    Ok(is_previewed? && has_ends(&table, ends))
 }
 
 // Whether these are the indexes after the groups of the table and all groups inside them.
@@ -378,12 +390,23 @@ fn count_lent_reads(
     }
 }
 
-// Returns what `count_lent_reads` returns for a table of the rows 1, 2 and 3 with the groups of `runs`, where an empty
-// run stands for the group of the rows 8 and 9 at its index.
+// Returns the changes of `table` to the groups of `runs`, where an empty run stands for the group of the rows 8 and 9,
+// with different reads, at its index.
+fn changes_to_other_reads(
+    alloc: Global,
+    table: &Table,
+    runs: &[(usize, usize)],
+) -> Result<ChangeList, NoMemory>
+    ensures { IfOk result (λ c. c.olds ≡ table.now.groups) }
+{
+    let others = with_different_reads(alloc, &[8, 9], 20)?;
+    changes_to(alloc, table, &others, runs)
+}
+
+// Returns what `count_lent_reads` returns for a table of the rows 1, 2 and 3 with the groups of `runs`.
 fn count_reads_of_rows(alloc: Global, runs: &[(usize, usize)]) -> Result<Option<usize>, NoMemory> {
     let table = with_different_reads(alloc, &[1, 2, 3], 10)?;
-    let others = with_different_reads(alloc, &[8, 9], 20)?;
-    let changes = changes_to(alloc, &table, &others, runs)?;
+    let changes = changes_to_other_reads(alloc, &table, runs)?;
     count_lent_reads(alloc, &changes, &table)
 }
 
@@ -471,8 +494,8 @@ fn make_nodes(
     Ok(())
 }
 
-// Changes a table of the rows 1, 2 and 3 to the groups of `runs`, and then makes `count` nodes. Returns whether another
-// table, which shares the slots of the three rows, keeps its numbers.
+// Changes a table of the rows 1, 2 and 3 to the groups of `runs`, and then makes `count` nodes in the memory of
+// replaced ones. Returns whether another table, which shares the slots of the three rows, keeps its numbers.
 fn replace_beside_shared(
     alloc: Global,
     table: &mut Table,
@@ -488,9 +511,22 @@ fn replace_beside_shared(
     Ok(has_numbers(&shared, &[0, 1, 1, 2, 2, 3, 3]))
 }
 
-// Whether a table of the rows 1, 2 and 3 gets these numbers with the groups of `runs`, and another table, which shares
-// the slots of the three rows, keeps its numbers. Makes `count` nodes in the memory of replaced nodes before the other
-// table is dropped, and `count` nodes afterwards.
+// Changes a table as `replace_beside_shared` does, and makes `count` nodes more after the other table is dropped.
+fn replace_twice(
+    alloc: Global,
+    table: &mut Table,
+    runs: &[(usize, usize)],
+    replaced: &mut ReplacedGroups,
+    count: usize,
+) -> Result<bool, NoMemory> {
+    let mut nodes = Vec::new(alloc);
+    let is_kept = replace_beside_shared(alloc, table, runs, replaced, &mut nodes, count)?;
+    make_nodes(alloc, replaced, &mut nodes, count)?;
+    Ok(is_kept)
+}
+
+// Whether a table of the rows 1, 2 and 3 gets these numbers with the groups of `runs`, and a table that shares its
+// slots keeps its numbers, while `count` nodes are made before that table is dropped, and `count` nodes afterwards.
 fn has_numbers_beside_new_nodes(
     alloc: Global,
     runs: &[(usize, usize)],
@@ -499,9 +535,7 @@ fn has_numbers_beside_new_nodes(
 ) -> Result<bool, NoMemory> {
     let mut table = three_rows(alloc)?;
     let mut replaced = ReplacedGroups::none(alloc);
-    let mut nodes = Vec::new(alloc);
-    let is_kept = replace_beside_shared(alloc, &mut table, runs, &mut replaced, &mut nodes, count)?;
-    make_nodes(alloc, &mut replaced, &mut nodes, count)?;
+    let is_kept = replace_twice(alloc, &mut table, runs, &mut replaced, count)?;
     Ok(is_kept && has_numbers(&table, numbers))
 }
 

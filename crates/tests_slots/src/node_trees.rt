@@ -107,25 +107,31 @@ fn keyed(alloc: Global, old: &[u64], new: &[u64], expected: &str) -> Result<bool
     has_lines(alloc, (old, &[7; 8]), (new, &[7; 8]), false, expected)
 }
 
+// The numbers of old and of new rows, and the calls between them.
+static KEYED: [(&[u64], &[u64], &str); 8] = [
+    (
+        &[],
+        &[1, 2, 3],
+        "insertTopDown 0 #1;insertTopDown 1 #2;insertTopDown 2 #3;",
+    ),
+    (&[1, 2, 3], &[3, 1, 2], "move 2 0 1;"),
+    (&[1, 2], &[1, 2, 3], "insertTopDown 2 #3;"),
+    (&[1, 2, 3, 4], &[1, 3], "remove 3 1;remove 1 1;"),
+    (
+        &[1, 2, 3, 4],
+        &[4, 9, 2],
+        "remove 2 1;remove 0 1;move 1 0 1;insertTopDown 1 #9;",
+    ),
+    (&[1, 2, 3], &[3, 2, 1], "move 2 0 1;move 2 1 1;"),
+    (&[1, 2, 3], &[1, 2, 3], ""),
+    (&[1, 2], &[], "remove 1 1;remove 0 1;"),
+];
+
 #[test]
 fn keyed_rows_are_removed_then_inserted_and_moved(rt: HostRuntime) -> Result<(), Fail> {
-    let alloc = rt.alloc();
-    let filled = "insertTopDown 0 #1;insertTopDown 1 #2;insertTopDown 2 #3;";
-    assert!(rt; keyed(alloc, &[], &[1, 2, 3], filled)?);
-    assert!(rt; keyed(alloc, &[1, 2, 3], &[3, 1, 2], "move 2 0 1;")?);
-    assert!(rt; keyed(alloc, &[1, 2], &[1, 2, 3], "insertTopDown 2 #3;")?);
-    assert!(rt; keyed(alloc, &[1, 2, 3, 4], &[1, 3], "remove 3 1;remove 1 1;")?);
-    assert!(rt;
-        keyed(
-            alloc,
-            &[1, 2, 3, 4],
-            &[4, 9, 2],
-            "remove 2 1;remove 0 1;move 1 0 1;insertTopDown 1 #9;"
-        )?
-    );
-    assert!(rt; keyed(alloc, &[1, 2, 3], &[3, 2, 1], "move 2 0 1;move 2 1 1;")?);
-    assert!(rt; keyed(alloc, &[1, 2, 3], &[1, 2, 3], "")?);
-    assert!(rt; keyed(alloc, &[1, 2], &[], "remove 1 1;remove 0 1;")?);
+    for (old, new, expected) in KEYED.as_slice() {
+        assert!(rt; keyed(rt.alloc(), old, new, expected)?);
+    }
     Ok(())
 }
 

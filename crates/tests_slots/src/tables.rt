@@ -111,15 +111,20 @@ fn values_read<L: Ledger>(alloc: Global, table: &Table, blank: Blank) -> Result<
     Ok(values)
 }
 
+// Returns what `visit_rows` sees of the rows 1, 2 and 3.
+fn values_of_rows(alloc: Global) -> Result<Vec<i64>, NoMemory> {
+    let table = three_rows(alloc)?;
+    values_read::<Brand>(alloc, &table, Blank::new(1))
+}
+
+// The root with its argument; the keys of the first two rows; the second row with its key; the node with its attribute;
+// no next group.
+static SEEN: [i64; 15] = [1, 9, 7, -1, 1, 2, 3, 9, 7, 2, 2, 9, 7, 2, -9];
+
 #[test]
 fn reader_opens_and_skips_groups(rt: HostRuntime) -> Result<(), Fail> {
-    let alloc = rt.alloc();
-    let table = three_rows(alloc)?;
-    assert!(rt; table.len() == 7usize);
-    let values = values_read::<Brand>(alloc, &table, Blank::new(1))?;
-    // The root with its argument; the keys of the first two rows; the second row with its key; the node with its
-    // attribute; no next group.
-    assert!(rt; values.as_slice() == [1i64, 9, 7, -1, 1, 2, 3, 9, 7, 2, 2, 9, 7, 2, -9].as_slice());
+    let values = values_of_rows(rt.alloc())?;
+    assert!(rt; values.as_slice() == SEEN.as_slice());
     Ok(())
 }
 
