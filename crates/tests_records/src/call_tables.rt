@@ -124,7 +124,8 @@ const ZERO: State = (Ty::Int, BuiltIn::Structural, Int(0));
 
 const TEN: State = (Ty::Int, BuiltIn::Counter, Int(10));
 
-const ROWS: [Row; 17] = [
+// Changes that conflict.
+static CONFLICTS: [Row; 5] = [
     Row {
         what: "a snapshot keeps what it was taken with, and conflicts with a later change",
         clock: 0,
@@ -153,6 +154,51 @@ const ROWS: [Row; 17] = [
             (0, Apply(1), Refused(Refusal::Conflict { object: 0 })),
         ],
     },
+    Row {
+        what: "with a conflict nothing is applied, and a second dispose answers as the first",
+        clock: 0,
+        states: &[ZERO, ZERO],
+        calls: &[
+            (0, Take(0, Mutable), Taken(1)),
+            (0, Write(1, 0, Int(5)), Changed),
+            (0, Write(1, 1, Int(6)), Changed),
+            (0, Write(0, 1, Int(1)), Changed),
+            (0, Apply(1), Refused(Refusal::Conflict { object: 1 })),
+            (0, Read(0, 0), Got(Int(0))),
+            (0, Read(1, 0), Got(Int(5))),
+            (0, Dispose(1), Disposed),
+            (0, Dispose(1), Disposed),
+        ],
+    },
+    Row {
+        what: "the conflict with the least object is reported",
+        clock: 0,
+        states: &[ZERO, ZERO],
+        calls: &[
+            (0, Take(0, Mutable), Taken(1)),
+            (0, Write(1, 1, Int(6)), Changed),
+            (0, Write(1, 0, Int(5)), Changed),
+            (0, Write(0, 1, Int(1)), Changed),
+            (0, Write(0, 0, Int(1)), Changed),
+            (0, Apply(1), Refused(Refusal::Conflict { object: 0 })),
+        ],
+    },
+    Row {
+        what: "changes of an object that is never equal conflict",
+        clock: 0,
+        states: &[(Ty::Int, BuiltIn::Never, Int(0))],
+        calls: &[
+            (0, Take(0, Mutable), Taken(1)),
+            (0, Take(1, Mutable), Taken(2)),
+            (0, Write(1, 0, Int(1)), Changed),
+            (0, Write(2, 0, Int(2)), Changed),
+            (0, Apply(2), Refused(Refusal::Conflict { object: 0 })),
+        ],
+    },
+];
+
+// Changes that are merged.
+static MERGES: [Row; 6] = [
     Row {
         what: "two additions to a counter add up",
         clock: 0,
@@ -215,62 +261,6 @@ const ROWS: [Row; 17] = [
         ],
     },
     Row {
-        what: "with a conflict nothing is applied, and a second dispose answers as the first",
-        clock: 0,
-        states: &[ZERO, ZERO],
-        calls: &[
-            (0, Take(0, Mutable), Taken(1)),
-            (0, Write(1, 0, Int(5)), Changed),
-            (0, Write(1, 1, Int(6)), Changed),
-            (0, Write(0, 1, Int(1)), Changed),
-            (0, Apply(1), Refused(Refusal::Conflict { object: 1 })),
-            (0, Read(0, 0), Got(Int(0))),
-            (0, Read(1, 0), Got(Int(5))),
-            (0, Dispose(1), Disposed),
-            (0, Dispose(1), Disposed),
-        ],
-    },
-    Row {
-        what: "the conflict with the least object is reported",
-        clock: 0,
-        states: &[ZERO, ZERO],
-        calls: &[
-            (0, Take(0, Mutable), Taken(1)),
-            (0, Write(1, 1, Int(6)), Changed),
-            (0, Write(1, 0, Int(5)), Changed),
-            (0, Write(0, 1, Int(1)), Changed),
-            (0, Write(0, 0, Int(1)), Changed),
-            (0, Apply(1), Refused(Refusal::Conflict { object: 0 })),
-        ],
-    },
-    Row {
-        what: "a nested snapshot is applied to its parent",
-        clock: 0,
-        states: &[ZERO],
-        calls: &[
-            (0, Take(0, Mutable), Taken(1)),
-            (0, Take(1, Mutable), Taken(2)),
-            (0, Write(2, 0, Int(4)), Changed),
-            (0, Read(1, 0), Got(Int(0))),
-            (0, Apply(2), Applied),
-            (0, Read(1, 0), Got(Int(4))),
-            (0, Apply(1), Applied),
-            (0, Read(0, 0), Got(Int(4))),
-        ],
-    },
-    Row {
-        what: "changes of an object that is never equal conflict",
-        clock: 0,
-        states: &[(Ty::Int, BuiltIn::Never, Int(0))],
-        calls: &[
-            (0, Take(0, Mutable), Taken(1)),
-            (0, Take(1, Mutable), Taken(2)),
-            (0, Write(1, 0, Int(1)), Changed),
-            (0, Write(2, 0, Int(2)), Changed),
-            (0, Apply(2), Refused(Refusal::Conflict { object: 0 })),
-        ],
-    },
-    Row {
         what: "the largest of two values stays",
         clock: 0,
         states: &[(Ty::Int, BuiltIn::Largest, Int(0))],
@@ -300,6 +290,25 @@ const ROWS: [Row; 17] = [
             (0, Read(0, 0), Got(Ints(&[1, 2, 3]))),
         ],
     },
+];
+
+// What snapshots show, and what writes and takes for a watcher answer.
+static SNAPSHOTS: [Row; 4] = [
+    Row {
+        what: "a nested snapshot is applied to its parent",
+        clock: 0,
+        states: &[ZERO],
+        calls: &[
+            (0, Take(0, Mutable), Taken(1)),
+            (0, Take(1, Mutable), Taken(2)),
+            (0, Write(2, 0, Int(4)), Changed),
+            (0, Read(1, 0), Got(Int(0))),
+            (0, Apply(2), Applied),
+            (0, Read(1, 0), Got(Int(4))),
+            (0, Apply(1), Applied),
+            (0, Read(0, 0), Got(Int(4))),
+        ],
+    },
     Row {
         what: "a snapshot whose parent was disposed reads on and is not applied",
         clock: 0,
@@ -317,6 +326,31 @@ const ROWS: [Row; 17] = [
             (0, Read(0, 0), Got(Int(4))),
         ],
     },
+    Row {
+        what: "an equal write changes nothing, and one that is never equal always does",
+        clock: 0,
+        states: &[ZERO, (Ty::Int, BuiltIn::Never, Int(0))],
+        calls: &[
+            (0, Write(0, 0, Int(0)), Same),
+            (0, Write(0, 1, Int(0)), Changed),
+        ],
+    },
+    Row {
+        what: "a watcher lists what changed since its last take",
+        clock: 0,
+        states: &[ZERO, ZERO],
+        calls: &[
+            (0, Call::TakeFor(0), TakenFor(1, &[0, 1])),
+            (0, Call::TakeFor(0), TakenFor(2, &[])),
+            (0, Write(0, 1, Int(1)), Changed),
+            (0, Write(0, 1, Int(0)), Changed),
+            (0, Call::TakeFor(0), TakenFor(3, &[1])),
+        ],
+    },
+];
+
+// Calls that are refused.
+static REFUSALS: [Row; 2] = [
     Row {
         what: "each refusal has its cause",
         clock: 0,
@@ -350,27 +384,6 @@ const ROWS: [Row; 17] = [
         ],
     },
     Row {
-        what: "an equal write changes nothing, and one that is never equal always does",
-        clock: 0,
-        states: &[ZERO, (Ty::Int, BuiltIn::Never, Int(0))],
-        calls: &[
-            (0, Write(0, 0, Int(0)), Same),
-            (0, Write(0, 1, Int(0)), Changed),
-        ],
-    },
-    Row {
-        what: "a watcher lists what changed since its last take",
-        clock: 0,
-        states: &[ZERO, ZERO],
-        calls: &[
-            (0, Call::TakeFor(0), TakenFor(1, &[0, 1])),
-            (0, Call::TakeFor(0), TakenFor(2, &[])),
-            (0, Write(0, 1, Int(1)), Changed),
-            (0, Write(0, 1, Int(0)), Changed),
-            (0, Call::TakeFor(0), TakenFor(3, &[1])),
-        ],
-    },
-    Row {
         what: "at its last value the clock lets nothing be taken, written or applied",
         clock: CLOCK_LIMIT - 1,
         states: &[ZERO],
@@ -386,22 +399,20 @@ const ROWS: [Row; 17] = [
     },
 ];
 
-// Makes one watcher and the objects of a row.
-fn make_objects<V: Versions, A: Abort>(
-    rt: &A,
+// Makes one watcher and these objects. Returns whether that succeeds.
+fn make_objects<V: Versions<P = BuiltIn>>(
     alloc: Global,
     world: &mut V,
-    row: &Row,
-    policies: Vec<V::P>,
-) -> Result<(), Fail> {
-    assert!(rt; world.watchers() < 65536);
-    world.watch(alloc)?;
-    for ((ty, _, initial), policy) in row.states.iter().zip(policies) {
-        assert!(rt; world.objects() < 65536);
-        let made = world.make(alloc, *ty, policy, initial.value(alloc)?);
-        assert!(rt; made.is_ok());
+    states: &[State],
+) -> Result<bool, Fail> {
+    let mut is_made = world.watchers() < 65536 && world.watch(alloc).is_ok();
+    for (ty, policy, initial) in states {
+        let value = initial.value(alloc)?;
+        is_made = is_made
+            && world.objects() < 65536
+            && world.make(alloc, *ty, *policy, value).is_ok();
     }
-    Ok(())
+    Ok(is_made)
 }
 
 // The calls of a row, each with its caller.
@@ -413,45 +424,72 @@ fn calls_of(alloc: Global, row: &Row) -> Result<Vec<(u64, Request)>, Fail> {
     Ok(calls)
 }
 
-// Makes one watcher and these objects, then the calls, and returns their replies.
-fn replies_of<V: Versions, A: Abort>(
-    rt: &A,
+// Whether these are the replies that a row expects.
+fn are_expected(replies: &[Reply], row: &Row) -> bool {
+    replies.len() == row.calls.len()
+        && replies
+            .iter()
+            .zip(row.calls)
+            .all(|(reply, (_, _, answer))| answer.is(reply))
+}
+
+// Makes the objects and the calls of a row. Returns whether the replies are those that it expects.
+fn try_row<V: Versions<P = BuiltIn>>(
     alloc: Global,
     world: &mut V,
     row: &Row,
-    policies: Vec<V::P>,
-) -> Result<Vec<Reply>, Fail> {
-    make_objects(rt, alloc, world, row, policies)?;
+) -> Result<bool, Fail> {
+    let is_made = make_objects(alloc, world, row.states)?;
     let calls = calls_of(alloc, row)?;
-    Ok(run_calls(alloc, world, &calls)?)
+    Ok(is_made && are_expected(&run_calls(alloc, world, &calls)?, row))
 }
 
-// The policies of a row's objects.
-fn policies_of(alloc: Global, row: &Row) -> Result<Vec<BuiltIn>, Fail> {
-    let mut policies = Vec::new(alloc);
-    for (_, policy, _) in row.states {
-        policies.push(*policy)?;
+// Whether copied maps give the replies of a row.
+fn maps_reply(alloc: Global, row: &Row) -> Result<bool, Fail> {
+    if row.clock > CLOCK_LIMIT {
+        return Ok(false);
     }
-    Ok(policies)
+    let mut world: PlainWorld<BuiltIn> = PlainWorld::starting_at(alloc, row.clock)?;
+    try_row(alloc, &mut world, row)
+}
+
+// Whether records give the replies of a row.
+fn records_reply(alloc: Global, row: &Row) -> Result<bool, Fail> {
+    if row.clock > CLOCK_LIMIT {
+        return Ok(false);
+    }
+    let mut world: RecordWorld<BuiltIn> = RecordWorld::starting_at(alloc, row.clock)?;
+    try_row(alloc, &mut world, row)
+}
+
+// Whether both worlds give the replies of a row.
+fn both_reply(alloc: Global, row: &Row) -> Result<bool, Fail> {
+    Ok(maps_reply(alloc, row)? && records_reply(alloc, row)?)
+}
+
+fn try_rows<A: Abort>(rt: &A, alloc: Global, rows: &[Row]) -> Result<(), Fail> {
+    for row in rows {
+        assert!(rt; both_reply(alloc, row)?, "{}", row.what);
+    }
+    Ok(())
 }
 
 #[test]
-fn replies_are_those_of_copied_maps(rt: HostRuntime) -> Result<(), Fail> {
-    let alloc = rt.alloc();
-    for row in &ROWS {
-        assert!(rt; row.clock <= CLOCK_LIMIT);
-        let mut plain: PlainWorld<BuiltIn> = PlainWorld::starting_at(alloc, row.clock)?;
-        let mut records: RecordWorld<BuiltIn> = RecordWorld::starting_at(alloc, row.clock)?;
-        let copied = replies_of(&rt, alloc, &mut plain, row, policies_of(alloc, row)?)?;
-        let replies = replies_of(&rt, alloc, &mut records, row, policies_of(alloc, row)?)?;
-        assert!(rt; copied.len() == row.calls.len(), "{}", row.what);
-        assert!(rt; replies.len() == row.calls.len(), "{}", row.what);
-        for (reply, (_, call, answer)) in replies.iter().zip(row.calls) {
-            assert!(rt; answer.is(reply), "records: {}: {call:?}", row.what);
-        }
-        for (reply, (_, call, answer)) in copied.iter().zip(row.calls) {
-            assert!(rt; answer.is(reply), "maps: {}: {call:?}", row.what);
-        }
-    }
-    Ok(())
+fn conflicts_are_those_of_copied_maps(rt: HostRuntime) -> Result<(), Fail> {
+    try_rows(&rt, rt.alloc(), CONFLICTS.as_slice())
+}
+
+#[test]
+fn merges_are_those_of_copied_maps(rt: HostRuntime) -> Result<(), Fail> {
+    try_rows(&rt, rt.alloc(), MERGES.as_slice())
+}
+
+#[test]
+fn snapshots_are_those_of_copied_maps(rt: HostRuntime) -> Result<(), Fail> {
+    try_rows(&rt, rt.alloc(), SNAPSHOTS.as_slice())
+}
+
+#[test]
+fn refusals_are_those_of_copied_maps(rt: HostRuntime) -> Result<(), Fail> {
+    try_rows(&rt, rt.alloc(), REFUSALS.as_slice())
 }

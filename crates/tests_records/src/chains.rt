@@ -1,18 +1,45 @@
 // The readable record of a chain.
-use rt_values::Value;
+use rt_values::{NoMemory, Value};
 use snap_ids::IdSet;
 use snap_records::Chains;
+use std::alloc::Global;
 use std::test::Fail;
+
+// Prepends a record to the chain of object 0.
+fn prepend(chains: &mut Chains, id: u64) -> Result<(), NoMemory> {
+    if chains.objects() > 0 {
+        chains.prepend(0, id, Value::Int(1), id)?;
+    }
+    Ok(())
+}
+
+// Makes the chain of object 0 of records with these ids, each of which is prepended to those before it.
+pub fn chain_of(alloc: Global, ids: &[u64]) -> Result<Chains, NoMemory> {
+    let mut chains = Chains::new(alloc);
+    chains.add_object(alloc)?;
+    for id in ids {
+        prepend(&mut chains, *id)?;
+    }
+    Ok(chains)
+}
+
+// The id of the record of object 0 that an id reads, if there is any.
+fn readable_id(
+    alloc: Global,
+    chains: &Chains,
+    id: u64,
+    invalid: u64,
+) -> Result<Option<u64>, NoMemory> {
+    let invalid = IdSet::of(alloc, invalid)?;
+    if chains.objects() == 0 {
+        return Ok(None);
+    }
+    Ok(chains.readable(0, id, &invalid).map(|r| chains.id(r)))
+}
 
 #[test]
 fn the_highest_valid_record_is_read(rt: HostRuntime) -> Result<(), Fail> {
-    let alloc = rt.alloc();
-    let mut chains = Chains::new(alloc);
-    let x = chains.add_object(alloc)?;
-    assert!(rt; x == 0);
-    chains.prepend(x, 5, Value::Int(50), 5)?;
-    chains.prepend(x, 2, Value::Int(20), 2)?;
-    chains.prepend(x, 7, Value::Int(70), 7)?;
+    let chains = chain_of(rt.alloc(), &[5, 2, 7])?;
     // The id, an invalid id, and the id of the readable record.
     let rows: [(u64, u64, Option<u64>); 6] = [
         (6, 0, Some(5)),
@@ -22,10 +49,8 @@ fn the_highest_valid_record_is_read(rt: HostRuntime) -> Result<(), Fail> {
         (2, 0, Some(2)),
         (2, 2, None),
     ];
-    for (id, invalid, expected) in &rows {
-        let invalid = IdSet::of(alloc, *invalid)?;
-        let found = chains.readable(x, *id, &invalid).map(|r| chains.id(r));
-        assert!(rt; found == *expected);
+    for (id, invalid, expected) in rows {
+        assert!(rt; readable_id(rt.alloc(), &chains, id, invalid)? == expected);
     }
     Ok(())
 }

@@ -1,31 +1,43 @@
 // Sets of snapshot ids.
+use rt_values::NoMemory;
 use snap_ids::IdSet;
+use std::alloc::Global;
 use std::test::Fail;
 
-// The ids of a set that are less than 600, in order.
-fn ids_of(alloc: std::alloc::Global, set: &IdSet) -> Result<Vec<u64>, Fail> {
-    let mut ids = Vec::new(alloc);
+// Whether the ids of a set that are less than 600 are these.
+fn has_ids(set: &IdSet, ids: &[u64]) -> bool {
     for id in 0..600 {
-        if set.get(id) {
-            ids.push(id)?;
+        if set.get(id) != ids.contains(&id) {
+            return false;
         }
     }
-    Ok(ids)
+    true
+}
+
+// Makes a set of these ids.
+fn set_of(alloc: Global, ids: &[u64]) -> Result<IdSet, NoMemory> {
+    let mut set = IdSet::new(alloc);
+    for id in ids {
+        set.set(*id)?;
+    }
+    Ok(set)
+}
+
+// Adds the ids from 3 to 5, and 500 twice.
+fn add_ids(set: &mut IdSet) -> Result<(), NoMemory> {
+    set.add_range(3, 6)?;
+    set.set(500)?;
+    set.set(500)
 }
 
 #[test]
 fn ids_are_added_and_removed(rt: HostRuntime) -> Result<(), Fail> {
-    let alloc = rt.alloc();
-    let mut set = IdSet::new(alloc);
-    assert!(rt; set.lowest(9) == 9);
-    assert!(rt; set.is_empty());
-    set.add_range(3, 6)?;
-    set.set(500)?;
-    set.set(500)?;
+    let mut set = IdSet::new(rt.alloc());
+    assert!(rt; set.is_empty() && set.lowest(9) == 9);
+    add_ids(&mut set)?;
     set.clear(4);
     set.clear(77);
-    assert!(rt; ids_of(alloc, &set)?.as_slice() == [3, 5, 500].as_slice());
-    assert!(rt; set.lowest(9) == 3);
+    assert!(rt; has_ids(&set, &[3, 5, 500]) && set.lowest(9) == 3);
     set.set(1)?;
     assert!(rt; set.lowest(9) == 1);
     set.clear_all();
@@ -33,39 +45,45 @@ fn ids_are_added_and_removed(rt: HostRuntime) -> Result<(), Fail> {
     Ok(())
 }
 
+// Makes a set of these ids without those of another set.
+fn difference(alloc: Global, ids: &[u64], others: &[u64]) -> Result<IdSet, NoMemory> {
+    let others = set_of(alloc, others)?;
+    set_of(alloc, ids)?.and_not(alloc, &others)
+}
+
 #[test]
 fn ids_of_another_set_are_left_out(rt: HostRuntime) -> Result<(), Fail> {
-    let alloc = rt.alloc();
-    let mut set = IdSet::new(alloc);
-    for id in &[500, 5, 3] {
-        set.set(*id)?;
-    }
-    let three = IdSet::of(alloc, 3)?;
-    let rest = set.and_not(alloc, &three)?;
-    assert!(rt; ids_of(alloc, &rest)?.as_slice() == [5, 500].as_slice());
+    let rest = difference(rt.alloc(), &[500, 5, 3], &[3])?;
+    assert!(rt; has_ids(&rest, &[5, 500]));
     Ok(())
+}
+
+// Makes the set of the ids from 2 to 4.
+fn low_ids(alloc: Global) -> Result<IdSet, NoMemory> {
+    let mut low = IdSet::new(alloc);
+    low.add_range(2, 5)?;
+    low.add_range(9, 9)?;
+    Ok(low)
+}
+
+// Makes the set of one id and of those of another set.
+fn union(alloc: Global, id: u64, others: &IdSet) -> Result<IdSet, NoMemory> {
+    IdSet::of(alloc, id)?.or(alloc, others)
 }
 
 #[test]
 fn ids_of_two_sets_are_joined(rt: HostRuntime) -> Result<(), Fail> {
-    let alloc = rt.alloc();
-    let mut low = IdSet::new(alloc);
-    low.add_range(2, 5)?;
-    low.add_range(9, 9)?;
-    let mut all = IdSet::of(alloc, 500)?.or(alloc, &low)?;
-    assert!(rt; ids_of(alloc, &all)?.as_slice() == [2, 3, 4, 500].as_slice());
+    let low = low_ids(rt.alloc())?;
+    let mut all = union(rt.alloc(), 500, &low)?;
+    assert!(rt; has_ids(&all, &[2, 3, 4, 500]));
     all.remove_all(&low);
-    assert!(rt; ids_of(alloc, &all)?.as_slice() == [500].as_slice());
+    assert!(rt; has_ids(&all, &[500]));
     Ok(())
 }
 
 #[test]
 fn ids_far_apart_are_kept(rt: HostRuntime) -> Result<(), Fail> {
-    let alloc = rt.alloc();
-    let mut set = IdSet::new(alloc);
-    for id in &[3, 200, 500] {
-        set.set(*id)?;
-    }
+    let mut set = set_of(rt.alloc(), &[3, 200, 500])?;
     assert!(rt; set.lowest(0) == 3);
     set.clear(3);
     assert!(rt; set.lowest(0) == 200);

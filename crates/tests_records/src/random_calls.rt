@@ -1,5 +1,5 @@
 // Random calls on both worlds, from a seeded generator.
-use rt_values::{Kind, Name, Ty, Value};
+use rt_values::{Kind, Name, NoMemory, Ty, Value};
 use snap_api::{Reply, Request, Versions};
 use snap_plain::PlainWorld;
 use snap_policy::BuiltIn;
@@ -10,6 +10,13 @@ use std::test::Fail;
 const SEEDS: [u64; 10] = [1, 2, 3, 5, 8, 13, 21, 34, 55, 89];
 
 const OBJECTS: u64 = 4;
+
+const POLICIES: [BuiltIn; 4] = [
+    BuiltIn::Structural,
+    BuiltIn::Counter,
+    BuiltIn::Largest,
+    BuiltIn::Never,
+];
 
 // A linear congruential generator.
 #[derive(Drop)]
@@ -90,15 +97,39 @@ fn same(one: &Reply, other: &Reply) -> bool {
     }
 }
 
-// Disposes snapshots for both callers. Returns whether the worlds reply alike.
-fn dispose_all(
-    alloc: Global,
-    plain: &mut PlainWorld<BuiltIn>,
-    records: &mut RecordWorld<BuiltIn>,
+// Makes the objects, all 0, and two watchers. Returns whether that succeeds.
+fn make_objects<V: Versions<P = BuiltIn>>(alloc: Global, world: &mut V) -> bool {
+    for policy in POLICIES {
+        let is_made = world.objects() < 65536
+            && world.make(alloc, Ty::Int, policy, Value::Int(0)).is_ok();
+        if !is_made {
+            return false;
+        }
+    }
+    for _ in 0..2 {
+        let is_made = world.watchers() < 65536 && world.watch(alloc).is_ok();
+        if !is_made {
+            return false;
+        }
+    }
+    true
+}
+
+// The names of the first snapshot that may be open and of the next one.
+#[derive(Drop)]
+struct Names {
     first: Name,
-    end: Name,
+    next: Name,
+}
+
+// Disposes all snapshots, for both callers. Returns whether the worlds reply alike.
+fn dispose_all<V: Versions, W: Versions>(
+    alloc: Global,
+    plain: &mut V,
+    records: &mut W,
+    names: &mut Names,
 ) -> bool {
-    for name in first..end {
+    for name in names.first..names.next {
         for caller in 0..2 {
             let copied = plain.call(alloc, caller, Request::Dispose { name });
             let reply = records.call(alloc, caller, Request::Dispose { name });
@@ -107,51 +138,63 @@ fn dispose_all(
             }
         }
     }
+    names.first = names.next;
     true
 }
 
-// All snapshots are disposed after each 50 calls, so that few are live at a time.
+// Makes a random call. Returns whether the worlds reply alike.
+fn call_both<V: Versions, W: Versions>(
+    alloc: Global,
+    plain: &mut V,
+    records: &mut W,
+    numbers: &mut Numbers,
+    names: &mut Names,
+) -> Result<bool, NoMemory> {
+    let caller = numbers.below(8) / 7;
+    let request = request(numbers, names.next);
+    let copied = plain.call(alloc, caller, request.copy(alloc)?);
+    let reply = records.call(alloc, caller, request);
+    if let Reply::Taken(name) | Reply::TakenFor(name, _) = &reply {
+        names.next = name.saturating_add(1);
+    }
+    Ok(same(&copied, &reply))
+}
+
+// Makes the objects and 10,000 random calls. All snapshots are disposed after each 50 calls, so that few are live at a
+// time. Returns whether the worlds reply alike.
+fn reply_alike<V: Versions<P = BuiltIn>, W: Versions<P = BuiltIn>>(
+    alloc: Global,
+    plain: &mut V,
+    records: &mut W,
+    seed: u64,
+) -> Result<bool, NoMemory> {
+    if !(make_objects(alloc, plain) && make_objects(alloc, records)) {
+        return Ok(false);
+    }
+    let mut numbers = Numbers { state: seed };
+    let mut names = Names { first: 1, next: 1 };
+    for step in 0..10_000 {
+        if !call_both(alloc, plain, records, &mut numbers, &mut names)? {
+            return Ok(false);
+        }
+        if step % 50 == 0 && !dispose_all(alloc, plain, records, &mut names) {
+            return Ok(false);
+        }
+    }
+    Ok(true)
+}
+
+// Whether random calls get equal replies in two new worlds.
+fn seed_is_alike(alloc: Global, seed: u64) -> Result<bool, Fail> {
+    let mut plain: PlainWorld<BuiltIn> = PlainWorld::new(alloc)?;
+    let mut records: RecordWorld<BuiltIn> = RecordWorld::new(alloc)?;
+    Ok(reply_alike(alloc, &mut plain, &mut records, seed)?)
+}
+
 #[test]
 fn random_calls_get_equal_replies(rt: HostRuntime) -> Result<(), Fail> {
-    let alloc = rt.alloc();
-    let policies = [
-        BuiltIn::Structural,
-        BuiltIn::Counter,
-        BuiltIn::Largest,
-        BuiltIn::Never,
-    ];
-    for seed in &SEEDS {
-        let mut numbers = Numbers { state: *seed };
-        let mut plain: PlainWorld<BuiltIn> = PlainWorld::new(alloc)?;
-        let mut records: RecordWorld<BuiltIn> = RecordWorld::new(alloc)?;
-        for policy in &policies {
-            assert!(rt; plain.objects() < 65536);
-            plain.make(alloc, Ty::Int, *policy, Value::Int(0))?;
-            assert!(rt; records.objects() < 65536);
-            records.make(alloc, Ty::Int, *policy, Value::Int(0))?;
-        }
-        for _ in 0..2 {
-            assert!(rt; plain.watchers() < 65536);
-            plain.watch(alloc)?;
-            assert!(rt; records.watchers() < 65536);
-            records.watch(alloc)?;
-        }
-        let mut names = 1;
-        let mut first = 1;
-        for step in 0..10_000 {
-            let caller = numbers.below(8) / 7;
-            let request = request(&mut numbers, names);
-            let copied = plain.call(alloc, caller, request.copy(alloc)?);
-            let reply = records.call(alloc, caller, request);
-            assert!(rt; same(&copied, &reply), "seed {seed}, step {step}");
-            if let Reply::Taken(name) | Reply::TakenFor(name, _) = reply {
-                names = name.saturating_add(1);
-            }
-            if step % 50 == 0 {
-                assert!(rt; dispose_all(alloc, &mut plain, &mut records, first, names));
-                first = names;
-            }
-        }
+    for seed in SEEDS {
+        assert!(rt; seed_is_alike(rt.alloc(), seed)?, "seed {seed}");
     }
     Ok(())
 }
