@@ -55,29 +55,40 @@ fn fault_of_state(
     Ok(check(alloc, program).err())
 }
 
-#[test]
-fn policies_fit_types(rt: HostRuntime) -> Result<(), Fail> {
-    let alloc: Global = rt.alloc();
-    let values = [
-        ("Int", "0"),
-        ("Bool", "true"),
-        ("Text", "\"\""),
-        ("Ints", "(ints)"),
-    ];
-    let rows = [
-        ("Structural", [true, true, true, true]),
-        ("Never", [true, true, true, true]),
-        ("Counter", [true, false, false, false]),
-        ("Largest", [true, false, false, false]),
-        ("Append", [false, false, false, true]),
-    ];
+// The types, each with a value.
+static VALUES: [(&str, &str); 4] = [
+    ("Int", "0"),
+    ("Bool", "true"),
+    ("Text", "\"\""),
+    ("Ints", "(ints)"),
+];
+
+// The policies, and whether they fit each type.
+static FITS: [(&str, [bool; 4]); 5] = [
+    ("Structural", [true, true, true, true]),
+    ("Never", [true, true, true, true]),
+    ("Counter", [true, false, false, false]),
+    ("Largest", [true, false, false, false]),
+    ("Append", [false, false, false, true]),
+];
+
+// Whether a policy is accepted for exactly the types that it fits, and has a type fault for the others.
+fn has_faults(alloc: Global, policy: &str, fits: &[bool; 4]) -> Result<bool, Fail> {
     let kind = CheckKind::Type;
     let fault = CheckStop::ProgramFault(ProgramFault { kind, at: 12 });
-    for (policy, fits) in rows {
-        for ((ty, value), fits) in values.iter().zip(fits) {
-            let expected = if fits { None } else { Some(fault) };
-            assert!(rt; fault_of_state(alloc, ty, policy, value)? == expected);
+    for ((ty, value), fits) in VALUES.iter().zip(fits) {
+        let expected = if *fits { None } else { Some(fault) };
+        if fault_of_state(alloc, ty, policy, value)? != expected {
+            return Ok(false);
         }
+    }
+    Ok(true)
+}
+
+#[test]
+fn policies_fit_types(rt: HostRuntime) -> Result<(), Fail> {
+    for (policy, fits) in FITS.as_slice() {
+        assert!(rt; has_faults(rt.alloc(), policy, fits)?, "{policy}");
     }
     Ok(())
 }

@@ -4,6 +4,7 @@ ghost use Rattle.rt_streams.specs.Streams.{Rose};
 
 use crate::map_view::{MapView, view_of};
 use crate::programs::checked_program;
+use lang_checks::Checked;
 use node_tree::{Applier, NewNode, Op, Ops};
 use recomposer::{Composition, FrameStop};
 use rt_groups::Report;
@@ -206,13 +207,17 @@ fn clears_after_a_fault(alloc: Global, composition: &mut Composition) -> Result<
     )
 }
 
+// Makes these frames in a new composition.
+fn clears_in_new(alloc: Global, program: &Checked) -> Result<bool, Fail> {
+    let mut composition = Composition::new(alloc, program, 0)?;
+    clears_after_a_fault(alloc, &mut composition)
+}
+
 // The frame after a fault clears the tree, and makes all nodes again with new numbers.
 #[test]
 fn fault_of_the_applier_clears_the_tree_and_uses_up_numbers(rt: HostRuntime) -> Result<(), Fail> {
-    let alloc = rt.alloc();
-    let program = checked_program(alloc, PROGRAM.as_bytes())?;
-    let mut composition = Composition::new(alloc, &program, 0)?;
-    assert!(rt; clears_after_a_fault(alloc, &mut composition)?);
+    let program = checked_program(rt.alloc(), PROGRAM.as_bytes())?;
+    assert!(rt; clears_in_new(rt.alloc(), &program)?);
     Ok(())
 }
 
@@ -240,26 +245,36 @@ fn is_idle(
         && composition.ops().len() == 0
 }
 
-// Makes the first frame, and one after a change that no call read. Returns whether only the first calls the applier.
+// Makes the first frame, and one after a change that no call read. Returns whether the second is idle.
+fn second_is_idle(
+    alloc: Global,
+    composition: &mut Composition,
+    view: &mut MapView,
+    applier: &mut FailingList,
+) -> Result<bool, FrameStop> {
+    composition.note(&[0, 1]);
+    let first = recompose_with(alloc, composition, view, applier)?;
+    Ok(composition.ops().len() == 3 && is_idle(alloc, composition, view, applier, &first))
+}
+
+// Whether the applier is called only in the first of two frames.
 fn leaves_the_applier_alone(alloc: Global, composition: &mut Composition) -> Result<bool, Fail> {
     let mut view = view_of(alloc, &[1, 2, 3], &[0])?;
     let mut applier = failing_list(alloc, 0);
-    composition.note(&[0, 1]);
-    let first = recompose_with(alloc, composition, &mut view, &mut applier)?;
-    Ok(
-        composition.ops().len() == 3
-            && is_idle(alloc, composition, &mut view, &mut applier, &first)
-            && applier.calls == 3
-            && applier.reserved == 1,
-    )
+    let is_idle = second_is_idle(alloc, composition, &mut view, &mut applier);
+    Ok(matches!(is_idle, Ok(true)) && applier.calls == 3 && applier.reserved == 1)
+}
+
+// Makes these frames in a new composition.
+fn leaves_alone_in_new(alloc: Global, program: &Checked) -> Result<bool, Fail> {
+    let mut composition = Composition::new(alloc, program, 0)?;
+    leaves_the_applier_alone(alloc, &mut composition)
 }
 
 // A frame that owes no call does not call the applier, not even to reserve nodes.
 #[test]
 fn change_that_no_call_read_leaves_the_applier_alone(rt: HostRuntime) -> Result<(), Fail> {
-    let alloc = rt.alloc();
-    let program = checked_program(alloc, PROGRAM.as_bytes())?;
-    let mut composition = Composition::new(alloc, &program, 0)?;
-    assert!(rt; leaves_the_applier_alone(alloc, &mut composition)?);
+    let program = checked_program(rt.alloc(), PROGRAM.as_bytes())?;
+    assert!(rt; leaves_alone_in_new(rt.alloc(), &program)?);
     Ok(())
 }

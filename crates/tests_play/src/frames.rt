@@ -2,12 +2,12 @@
 use crate::map_view::{MapView, view_of};
 use crate::programs::checked_program;
 use crate::recomposing::recompose;
+use lang_checks::Checked;
 use recomposer::Composition;
 use rt_groups::{GroupKind, Report};
 use rt_values::ObjectNo;
 use slot_table::Table;
 use std::alloc::Global;
-use std::process::Abort;
 use std::test::Fail;
 
 // A row shows its number plus state `more`. The root has a row under a key for each item, and a remembered copy of
@@ -183,19 +183,32 @@ fn makes_frames(alloc: Global, composition: &mut Composition, row: &Frame) -> Re
 }
 
 // Makes the frames of rows one after another from an empty composition, and after each one a frame without a change.
-fn try_frames<A: Abort>(rt: &A, alloc: Global, rows: &[Frame]) -> Result<(), Fail> {
-    let program = checked_program(alloc, PROGRAM.as_bytes())?;
-    let mut composition = Composition::new(alloc, &program, 0)?;
-    assert!(rt; composition.table().len() == 0usize);
+fn makes_all_frames(
+    alloc: Global,
+    composition: &mut Composition,
+    rows: &[Frame],
+) -> Result<bool, Fail> {
+    let mut are_made = composition.table().len() == 0;
     for row in rows {
-        assert!(rt; makes_frames(alloc, &mut composition, row)?);
+        are_made = makes_frames(alloc, composition, row)? && are_made;
     }
-    Ok(())
+    Ok(are_made)
+}
+
+// Makes the frames of rows in a new composition.
+fn compose_frames(alloc: Global, program: &Checked, rows: &[Frame]) -> Result<bool, Fail> {
+    let mut composition = Composition::new(alloc, program, 0)?;
+    makes_all_frames(alloc, &mut composition, rows)
+}
+
+// Whether the frames of the program have the reports and the numbers of these rows.
+fn are_frames(alloc: Global, rows: &[Frame]) -> Result<bool, Fail> {
+    let program = checked_program(alloc, PROGRAM.as_bytes())?;
+    compose_frames(alloc, &program, rows)
 }
 
 #[test]
 fn frames_report_what_the_change_demands(rt: HostRuntime) -> Result<(), Fail> {
-    let alloc = rt.alloc();
     for rows in [
         NO_CHANGE.as_slice(),
         CHANGED_STATES.as_slice(),
@@ -203,7 +216,7 @@ fn frames_report_what_the_change_demands(rt: HostRuntime) -> Result<(), Fail> {
         EQUAL_KEYS.as_slice(),
         NEW_NODES.as_slice(),
     ] {
-        try_frames(&rt, alloc, rows)?;
+        assert!(rt; are_frames(rt.alloc(), rows)?);
     }
     Ok(())
 }

@@ -1,7 +1,7 @@
 // The groups that frames keep, compared with those of composing from scratch.
 ghost use Rattle.std.specs.Prelude.{◌≡◌, ◌<◌, length};
 
-use crate::map_view::view_of;
+use crate::map_view::{MapView, view_of};
 use crate::programs::checked_program;
 use crate::recomposing::recompose;
 use lang_checks::Checked;
@@ -12,7 +12,6 @@ use rt_groups::{Attributes, Group, GroupKind, Groups, Values};
 use rt_values::{NoMemory, ObjectNo, Objects};
 use slot_table::Table;
 use std::alloc::Global;
-use std::process::Abort;
 use std::test::Fail;
 
 // Each program has the states `list` (0), `a` (1) and `b` (2).
@@ -183,24 +182,30 @@ fn changes(alloc: Global, last: &States, now: &States) -> Result<Objects, NoMemo
     Ok(changed)
 }
 
-// Makes a frame, and composes it from scratch too. Returns whether the groups and their scopes are those from scratch.
-fn is_from_scratch(
+// Marks the states that differ as owed.
+fn note_changes(
+    alloc: Global,
+    composition: &mut Composition,
+    last: &States,
+    now: &States,
+) -> Result<(), NoMemory> {
+    composition.note(changes(alloc, last, now)?.numbers());
+    Ok(())
+}
+
+// Composes a program from scratch. Returns whether the composition has these groups and their scopes.
+fn has_scratch_groups(
     alloc: Global,
     program: &Checked,
-    composition: &mut Composition,
-    states: &States,
-    changed: &Objects,
+    composition: &Composition,
+    view: &mut MapView,
 ) -> Result<bool, Fail> {
-    let (items, a, b) = *states;
-    let mut view = view_of(alloc, items, &[a, b])?;
-    composition.note(changed.numbers());
-    recompose(alloc, composition, &mut view)?;
     let groups = scratch(
         alloc,
         program.functions(),
         program.root(),
         Groups::new(alloc),
-        &mut view,
+        view,
     )?;
     Ok(
         groups.len() > 1
@@ -209,24 +214,54 @@ fn is_from_scratch(
     )
 }
 
+// Makes a frame, and composes it from scratch too. Returns whether the groups and their scopes are those from scratch.
+// `last` is what the states were in the last frame.
+fn is_from_scratch(
+    alloc: Global,
+    program: &Checked,
+    composition: &mut Composition,
+    last: &States,
+    states: &States,
+) -> Result<bool, Fail> {
+    note_changes(alloc, composition, last, states)?;
+    let (items, a, b) = *states;
+    let mut view = view_of(alloc, items, &[a, b])?;
+    recompose(alloc, composition, &mut view)?;
+    has_scratch_groups(alloc, program, composition, &mut view)
+}
+
 // Makes the frames of a program one after another, and composes each of them from scratch too.
-fn try_program<A: Abort>(rt: &A, alloc: Global, text: &str) -> Result<(), Fail> {
-    let program = checked_program(alloc, text.as_bytes())?;
-    let mut composition = Composition::new(alloc, &program, 0)?;
+fn are_from_scratch(
+    alloc: Global,
+    program: &Checked,
+    composition: &mut Composition,
+) -> Result<bool, Fail> {
     let mut last: &States = &FRAMES[0];
     for states in FRAMES.as_slice() {
-        let changed = changes(alloc, last, states)?;
-        assert!(rt; is_from_scratch(alloc, &program, &mut composition, states, &changed)?);
+        if !is_from_scratch(alloc, program, composition, last, states)? {
+            return Ok(false);
+        }
         last = states;
     }
-    Ok(())
+    Ok(true)
+}
+
+// Whether the frames of a program keep the groups of composing from scratch.
+fn keeps_groups(alloc: Global, program: &Checked) -> Result<bool, Fail> {
+    let mut composition = Composition::new(alloc, program, 0)?;
+    are_from_scratch(alloc, program, &mut composition)
+}
+
+// Whether this is so for the program of a text.
+fn text_keeps_groups(alloc: Global, text: &str) -> Result<bool, Fail> {
+    let program = checked_program(alloc, text.as_bytes())?;
+    keeps_groups(alloc, &program)
 }
 
 #[test]
 fn frames_keep_the_groups_of_composing_from_scratch(rt: HostRuntime) -> Result<(), Fail> {
-    let alloc = rt.alloc();
     for text in PROGRAMS {
-        try_program(&rt, alloc, text)?;
+        assert!(rt; text_keeps_groups(rt.alloc(), text)?);
     }
     Ok(())
 }

@@ -163,47 +163,40 @@ fn taken_for(alloc: Global) -> Result<Reply, Fail> {
     Ok(Reply::TakenFor(5, changed))
 }
 
+// Whether this is the line of a take.
+fn take_has_line(alloc: Global, kind: Kind, line: &[u8]) -> Result<bool, Fail> {
+    has_line(alloc, take(kind), Reply::Taken(3), line)
+}
+
+// Whether this is the line of a write.
+fn write_has_line(alloc: Global, changed: bool, line: &[u8]) -> Result<bool, Fail> {
+    has_line(alloc, write(), Reply::Wrote { changed }, line)
+}
+
 #[test]
-fn each_request_has_its_words(rt: HostRuntime) -> Result<(), Fail> {
+fn takes_and_writes_have_their_words(rt: HostRuntime) -> Result<(), Fail> {
     let alloc = rt.alloc();
-    let taken = Reply::Taken(3);
-    assert!(rt;
-        has_line(
-            alloc,
-            take(Kind::Mutable),
-            taken,
-            b"a: take mutable @0 = @3\n"
-        )?
-    );
-    let taken = Reply::Taken(3);
-    assert!(rt;
-        has_line(
-            alloc,
-            take(Kind::Readonly),
-            taken,
-            b"a: take readonly @0 = @3\n"
-        )?
-    );
+    assert!(rt; take_has_line(alloc, Kind::Mutable, b"a: take mutable @0 = @3\n")?);
+    assert!(rt; take_has_line(alloc, Kind::Readonly, b"a: take readonly @0 = @3\n")?);
+    assert!(rt; write_has_line(alloc, true, b"a: write @0 count 8 = changed\n")?);
+    assert!(rt; write_has_line(alloc, false, b"a: write @0 count 8 = same\n")?);
+    Ok(())
+}
+
+#[test]
+fn other_requests_have_their_words(rt: HostRuntime) -> Result<(), Fail> {
+    let alloc = rt.alloc();
     let read = Request::Read { name: 3, object: 1 };
     let got = Reply::Got(Value::Int(-7));
     assert!(rt; has_line(alloc, read, got, b"a: read @3 step = -7\n")?);
-    let changed = Reply::Wrote { changed: true };
-    assert!(rt; has_line(alloc, write(), changed, b"a: write @0 count 8 = changed\n")?);
-    let same = Reply::Wrote { changed: false };
-    assert!(rt; has_line(alloc, write(), same, b"a: write @0 count 8 = same\n")?);
     let apply = Request::Apply { name: 3 };
     assert!(rt; has_line(alloc, apply, Reply::Applied, b"a: apply @3 = applied\n")?);
-    let dispose = Request::Dispose { name: 4 };
-    assert!(rt;
-        has_line(
-            alloc,
-            dispose,
-            Reply::Disposed,
-            b"a: dispose @4 = disposed\n"
-        )?
+    let (dispose, line) = (Request::Dispose { name: 4 }, b"a: dispose @4 = disposed\n");
+    assert!(rt; has_line(alloc, dispose, Reply::Disposed, line)?);
+    let (frame, line) = (
+        Request::TakeFor { watcher: 0 },
+        b"a: frame = @5 changed count step\n",
     );
-    let frame = Request::TakeFor { watcher: 0 };
-    let line = b"a: frame = @5 changed count step\n";
     assert!(rt; has_line(alloc, frame, taken_for(alloc)?, line)?);
     Ok(())
 }
