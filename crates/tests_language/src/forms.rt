@@ -228,6 +228,11 @@ fn first_statement(statements: &[Statement]) -> Option<(u32, usize, Option<usize
     Some((*site, *at, called))
 }
 
+// The first statement of a function.
+fn first_of(program: &Program, function: usize) -> Option<(u32, usize, Option<usize>)> {
+    first_statement(&program.functions.get(function)?.body)
+}
+
 // The first statement in one of the bodies of a statement of a function.
 fn first_inside(
     program: &Program,
@@ -244,16 +249,8 @@ fn statements_are_numbered_in_file_order(rt: HostRuntime) -> Result<(), Fail> {
     let text =
         "(compose 1) (fun f () (key 1)) (fun root () (if 1 ((call f)) ((call g))) (let x 1 (call root)))";
     let (program, _) = text_read(rt.alloc(), text)??;
-    let first = program
-        .functions
-        .first()
-        .and_then(|f| first_statement(&f.body));
-    assert!(rt; first == Some((1, 22, None)));
-    let root = program
-        .functions
-        .get(1)
-        .and_then(|f| first_statement(&f.body));
-    assert!(rt; root == Some((2, 44, None)));
+    assert!(rt; first_of(&program, 0) == Some((1, 22, None)));
+    assert!(rt; first_of(&program, 1) == Some((2, 44, None)));
     assert!(rt; first_inside(&program, 1, 0, false) == Some((3, 51, Some(0))));
     assert!(rt; first_inside(&program, 1, 0, true) == Some((4, 62, Some(1))));
     assert!(rt; first_inside(&program, 1, 1, false) == Some((6, 82, Some(1))));
@@ -364,29 +361,31 @@ fn call_of(alloc: Global, step: &str) -> Result<Option<CallData>, Fail> {
     Ok(second_call(&script_with(alloc, step)?))
 }
 
+// Texts of calls, with what they are parsed into.
+static CALLS: [(&str, CallData); 11] = [
+    ("(take s mutable global)", (82, None, Some(88), Some(1))),
+    ("(take s readonly t)", (82, Some(99), Some(88), Some(2))),
+    ("(read global a)", (82, None, Some(0), None)),
+    ("(read a b)", (82, Some(88), Some(1), None)),
+    ("(write s b 5)", (82, Some(89), Some(1), Some(5))),
+    ("(write global other -5)", (82, None, Some(2), Some(-5))),
+    (
+        "(write global a 9223372036854775808)",
+        (82, None, Some(0), Some(9223372036854775807)),
+    ),
+    ("(add s b 7)", (82, Some(87), Some(1), Some(7))),
+    (
+        "(add s b -9223372036854775809)",
+        (82, Some(87), Some(1), Some(-9223372036854775808)),
+    ),
+    ("(apply s)", (82, Some(89), None, None)),
+    ("(dispose global)", (82, None, None, Some(0))),
+];
+
 #[test]
 fn calls_have_their_offsets_and_numbers(rt: HostRuntime) -> Result<(), Fail> {
-    let rows: [(&str, CallData); 11] = [
-        ("(take s mutable global)", (82, None, Some(88), Some(1))),
-        ("(take s readonly t)", (82, Some(99), Some(88), Some(2))),
-        ("(read global a)", (82, None, Some(0), None)),
-        ("(read a b)", (82, Some(88), Some(1), None)),
-        ("(write s b 5)", (82, Some(89), Some(1), Some(5))),
-        ("(write global other -5)", (82, None, Some(2), Some(-5))),
-        (
-            "(write global a 9223372036854775808)",
-            (82, None, Some(0), Some(9223372036854775807)),
-        ),
-        ("(add s b 7)", (82, Some(87), Some(1), Some(7))),
-        (
-            "(add s b -9223372036854775809)",
-            (82, Some(87), Some(1), Some(-9223372036854775808)),
-        ),
-        ("(apply s)", (82, Some(89), None, None)),
-        ("(dispose global)", (82, None, None, Some(0))),
-    ];
-    for (step, expected) in rows {
-        assert!(rt; call_of(rt.alloc(), step)? == Some(expected), "{step}");
+    for (step, expected) in CALLS.as_slice() {
+        assert!(rt; call_of(rt.alloc(), step)? == Some(*expected), "{step}");
     }
     Ok(())
 }
@@ -480,13 +479,24 @@ fn states_are_numbered_in_file_order(rt: HostRuntime) -> Result<(), Fail> {
     Ok(())
 }
 
-// Parses a text, and prints the trees that are written for its program and its script.
-fn written(alloc: Global, text: &str) -> Result<Vec<u8>, Fail> {
-    let (program, rest) = text_read(alloc, text)??;
-    let mut written = sexp_text::print(alloc, &forms_of(alloc, &program)?)?;
+// Prints the trees that are written for a program and its script.
+fn printed(alloc: Global, program: &Program, rest: &Rest) -> Result<Vec<u8>, Fail> {
+    let mut written = sexp_text::print(alloc, &forms_of(alloc, program)?)?;
     let script = sexp_text::print(alloc, &script_forms_of(alloc, &rest.forms)?)?;
     written.extend_from_slice(&script)?;
     Ok(written)
+}
+
+// Parses a text, and prints the trees that are written for its program and its script.
+fn written(alloc: Global, text: &str) -> Result<Vec<u8>, Fail> {
+    let (program, rest) = text_read(alloc, text)??;
+    printed(alloc, &program, &rest)
+}
+
+// Parses a text as trees, and prints them.
+fn reprinted(alloc: Global, text: &str) -> Result<Vec<u8>, Fail> {
+    let trees = sexp_text::read(alloc, text.as_bytes())?;
+    Ok(sexp_text::print(alloc, &trees)?)
 }
 
 #[test]
@@ -494,7 +504,6 @@ fn a_text_is_written_as_it_was_parsed(rt: HostRuntime) -> Result<(), Fail> {
     let alloc = rt.alloc();
     let mut text = String::from_str(alloc, EVERY_FORM)?;
     text.push_str(EVERY_STEP)?;
-    let trees = sexp_text::read(alloc, text.as_bytes())?;
-    assert!(rt; written(alloc, &text)? == sexp_text::print(alloc, &trees)?);
+    assert!(rt; written(alloc, &text)? == reprinted(alloc, &text)?);
     Ok(())
 }

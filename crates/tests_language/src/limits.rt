@@ -102,44 +102,56 @@ fn clamped(alloc: Global, text: &[u8]) -> Result<Vec<u8>, Fail> {
     Ok(sexp_text::print(alloc, &trees)?)
 }
 
+// Prints the trees of a text with a repeated part, with clamped tokens.
+fn clamped_of_repeated(
+    alloc: Global,
+    before: &[u8],
+    part: &[u8],
+    times: usize,
+    after: &[u8],
+) -> Result<Vec<u8>, Fail> {
+    clamped(alloc, &repeated(alloc, before, part, times, after)?)
+}
+
+// Texts with a part that is repeated so many times, and their trees with clamped tokens.
+static CLAMPED: [(&[u8], &[u8], usize, &[u8], &[u8]); 6] = [
+    (
+        b"(a 9223372036854775808 ",
+        b"n",
+        65,
+        b")",
+        b"(a 9223372036854775807 nnnnnnnnnnnnnnnnnnnnnnnnnnnnnnnnnnnnnnnnnnnnnnnnnnnnnnnnnnnnnnnnn)\n",
+    ),
+    (b"(a \"", b"s", 4097, b"\" 1)", b"(a \"\" 1)\n"),
+    (
+        b"(a (ints 9223372036854775808",
+        b" 1",
+        4096,
+        b") 2)",
+        b"(a (ints 9223372036854775807 1) 2)\n",
+    ),
+    (
+        b"(a -0 \"s\" (ints",
+        b" 1",
+        3,
+        b"))",
+        b"(a -0 \"s\" (ints 1 1 1))\n",
+    ),
+    (
+        b"(a",
+        b"",
+        0,
+        b" (ints x -9223372036854775809))",
+        b"(a (ints x -9223372036854775808))\n",
+    ),
+    (b"(ints", b" 2", 4097, b")", b"(ints 2 2)\n"),
+];
+
 #[test]
 fn oversized_tokens_are_clamped(rt: HostRuntime) -> Result<(), Fail> {
-    let alloc = rt.alloc();
-    let rows: [(&[u8], &[u8], usize, &[u8], &[u8]); 6] = [
-        (
-            b"(a 9223372036854775808 ",
-            b"n",
-            65,
-            b")",
-            b"(a 9223372036854775807 nnnnnnnnnnnnnnnnnnnnnnnnnnnnnnnnnnnnnnnnnnnnnnnnnnnnnnnnnnnnnnnnn)\n",
-        ),
-        (b"(a \"", b"s", 4097, b"\" 1)", b"(a \"\" 1)\n"),
-        (
-            b"(a (ints 9223372036854775808",
-            b" 1",
-            4096,
-            b") 2)",
-            b"(a (ints 9223372036854775807 1) 2)\n",
-        ),
-        (
-            b"(a -0 \"s\" (ints",
-            b" 1",
-            3,
-            b"))",
-            b"(a -0 \"s\" (ints 1 1 1))\n",
-        ),
-        (
-            b"(a",
-            b"",
-            0,
-            b" (ints x -9223372036854775809))",
-            b"(a (ints x -9223372036854775808))\n",
-        ),
-        (b"(ints", b" 2", 4097, b")", b"(ints 2 2)\n"),
-    ];
-    for (before, part, times, after, expected) in rows {
-        let text = repeated(alloc, before, part, times, after)?;
-        assert!(rt; clamped(alloc, &text)?.as_slice() == expected);
+    for (before, part, times, after, expected) in CLAMPED.as_slice() {
+        let found = clamped_of_repeated(rt.alloc(), before, part, *times, after)?;
+        assert!(rt; found.as_slice() == *expected, "{times}");
     }
     Ok(())
 }

@@ -30,13 +30,25 @@ fn add_ids(set: &mut IdSet) -> Result<(), NoMemory> {
     set.set(500)
 }
 
-#[test]
-fn ids_are_added_and_removed(rt: HostRuntime) -> Result<(), Fail> {
-    let mut set = IdSet::new(rt.alloc());
-    assert!(rt; set.is_empty() && set.lowest(9) == 9);
+// Makes the set of the ids 3, 5 and 500: adds 4 too and removes it, and removes 77, which is not in the set.
+fn three_ids(alloc: Global) -> Result<IdSet, NoMemory> {
+    let mut set = IdSet::new(alloc);
     add_ids(&mut set)?;
     set.clear(4);
     set.clear(77);
+    Ok(set)
+}
+
+#[test]
+fn a_new_set_is_empty(rt: HostRuntime) -> Result<(), Fail> {
+    let set = IdSet::new(rt.alloc());
+    assert!(rt; set.is_empty() && set.lowest(9) == 9);
+    Ok(())
+}
+
+#[test]
+fn ids_are_added_and_removed(rt: HostRuntime) -> Result<(), Fail> {
+    let mut set = three_ids(rt.alloc())?;
     assert!(rt; has_ids(&set, &[3, 5, 500]) && set.lowest(9) == 3);
     set.set(1)?;
     assert!(rt; set.lowest(9) == 1);

@@ -184,11 +184,20 @@ fn reply_alike<V: Versions<P = BuiltIn>, W: Versions<P = BuiltIn>>(
     Ok(true)
 }
 
-// Whether random calls get equal replies in two new worlds.
-fn seed_is_alike(alloc: Global, seed: u64) -> Result<bool, Fail> {
+// Whether random calls get the replies of copied maps in a new world.
+fn replies_as_copied_maps<W: Versions<P = BuiltIn>>(
+    alloc: Global,
+    records: &mut W,
+    seed: u64,
+) -> Result<bool, NoMemory> {
     let mut plain: PlainWorld<BuiltIn> = PlainWorld::new(alloc)?;
+    reply_alike(alloc, &mut plain, records, seed)
+}
+
+// Whether random calls get equal replies in two new worlds.
+fn seed_is_alike(alloc: Global, seed: u64) -> Result<bool, NoMemory> {
     let mut records: RecordWorld<BuiltIn> = RecordWorld::new(alloc)?;
-    Ok(reply_alike(alloc, &mut plain, &mut records, seed)?)
+    replies_as_copied_maps(alloc, &mut records, seed)
 }
 
 #[test]

@@ -63,24 +63,35 @@ fn prepend_invalid(chains: &mut Chains) -> Result<(), NoMemory> {
     Ok(())
 }
 
+// The ids of three snapshots, 0 for a closed one, and the id of the reusable record. The ids 3, 6 and 8 read the
+// records with the ids 2, 5 and 7.
+static REUSABLE: [([u64; 3], Option<u64>); 8] = [
+    ([3, 6, 8], None),
+    ([0, 6, 8], Some(2)),
+    ([3, 0, 8], Some(5)),
+    ([3, 6, 0], Some(7)),
+    ([0, 0, 8], Some(2)),
+    ([3, 0, 0], Some(5)),
+    ([8, 8, 0], Some(2)),
+    ([0, 0, 0], Some(2)),
+];
+
 #[test]
 fn the_lowest_record_without_readers_is_reusable(rt: HostRuntime) -> Result<(), Fail> {
-    let mut chains = chain_of(rt.alloc(), &[5, 2, 7])?;
-    // The ids of three snapshots, 0 for a closed one, and the id of the reusable record. The ids 3, 6 and 8 read the
-    // records with the ids 2, 5 and 7.
-    let rows: [([u64; 3], Option<u64>); 8] = [
-        ([3, 6, 8], None),
-        ([0, 6, 8], Some(2)),
-        ([3, 0, 8], Some(5)),
-        ([3, 6, 0], Some(7)),
-        ([0, 0, 8], Some(2)),
-        ([3, 0, 0], Some(5)),
-        ([8, 8, 0], Some(2)),
-        ([0, 0, 0], Some(2)),
-    ];
-    for (open, expected) in &rows {
-        assert!(rt; reusable_beside(rt.alloc(), &chains, open)? == *expected);
+    let chains = chain_of(rt.alloc(), &[5, 2, 7])?;
+    for (open, expected) in REUSABLE.as_slice() {
+        assert!(rt;
+            reusable_beside(rt.alloc(), &chains, open)? == *expected,
+            "{open:?}"
+        );
     }
+    Ok(())
+}
+
+// An invalid record is reusable though each of the others has a reader.
+#[test]
+fn an_invalid_record_is_reusable(rt: HostRuntime) -> Result<(), Fail> {
+    let mut chains = chain_of(rt.alloc(), &[5, 2, 7])?;
     prepend_invalid(&mut chains)?;
     assert!(rt; reusable_beside(rt.alloc(), &chains, &[3, 6, 9])? == Some(0));
     Ok(())

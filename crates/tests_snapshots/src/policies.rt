@@ -86,6 +86,18 @@ fn numbers_are_merged(rt: HostRuntime) -> Result<(), Fail> {
 }
 
 // Whether the changes of a list are merged into `merged`, or conflict if that is None.
+fn has_merge(
+    alloc: Global,
+    previous: &Value,
+    current: &Value,
+    applied: &Value,
+    merged: Option<&[i64]>,
+) -> Result<bool, NoMemory> {
+    let answer = BuiltIn::Append.merge(alloc, previous, current, applied)?;
+    Ok(answer.as_ref().map(|value| value.items()) == merged)
+}
+
+// Whether two changes of the list of these items are merged into `merged`, or conflict if that is None.
 fn is_merged(
     alloc: Global,
     previous: &[i64],
@@ -95,8 +107,7 @@ fn is_merged(
     let previous = list_of(alloc, previous)?;
     let current = list_of(alloc, changes.0)?;
     let applied = list_of(alloc, changes.1)?;
-    let answer = BuiltIn::Append.merge(alloc, &previous, &current, &applied)?;
-    Ok(answer.as_ref().map(|value| value.items()) == merged)
+    has_merge(alloc, &previous, &current, &applied, merged)
 }
 
 #[test]
@@ -119,11 +130,21 @@ fn range(alloc: Global, len: i64) -> Result<Value, NoMemory> {
     Ok(Value::Ints(IntList::range(alloc, 0, len)?))
 }
 
+// Returns the length of the list that two changes of the empty list are merged into, unless they conflict.
+fn len_of_merge(
+    alloc: Global,
+    current: &Value,
+    applied: &Value,
+) -> Result<Option<usize>, NoMemory> {
+    let merged = BuiltIn::Append.merge(alloc, &range(alloc, 0)?, current, applied)?;
+    Ok(merged.map(|value| value.items().len()))
+}
+
 // Returns the length of a list of `len` items that is merged with one of one item, unless they conflict.
 fn merged_len(alloc: Global, len: i64) -> Result<Option<usize>, NoMemory> {
     let long = range(alloc, len)?;
-    let merged = BuiltIn::Append.merge(alloc, &range(alloc, 0)?, &long, &range(alloc, 1)?)?;
-    Ok(merged.map(|value| value.items().len()))
+    let one = range(alloc, 1)?;
+    len_of_merge(alloc, &long, &one)
 }
 
 #[test]
