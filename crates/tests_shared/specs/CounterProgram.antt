@@ -11,9 +11,17 @@ abbrev pub ident : List ℕ → Ident
 ident name = record { at = 0; text = name }
 
 -- `(state total Int Counter 0)`
+abbrev total : State
+total = record {
+  at = 0;
+  name = ident (codes "total");
+  ty = ty.Int;
+  policy = policy.Counter;
+  initial = value.Int (pos 0);
+}
+
 abbrev pub counter_states : List State
-counter_states =
-    record { at = 0; name = ident (codes "total"); ty = ty.Int; policy = policy.Counter; initial = value.Int (pos 0) } ∷ []
+counter_states = total ∷ []
 
 -- `(key (get total))`
 abbrev pub key_statement : Stmt

@@ -25,24 +25,24 @@ pub(crate) fn counter_world(alloc: Global) -> Result<PlainWorld<BuiltIn>, Fail> 
     Ok(world)
 }
 
-// Shares a counter world among `count` callers.
-pub(crate) fn shared_counter<R: Wait>(
+// Shares a world among `count` callers.
+pub(crate) fn share<R: Wait, V: Versions + Drop>(
     rt: &R,
     alloc: Global,
+    world: V,
     count: usize,
-) -> Result<(Shared<World>, Vec<Seat<World>>), Fail>
+) -> Result<(Shared<LogWorld<V>>, Vec<Seat<LogWorld<V>>>), Fail>
     requires some { 0 < count }
     ensures count { IfOk result (λ r. count_of r.0 ≡ count) }
     ensures many { IfOk result (λ r. length r.1.items ≡ count) }
     ensures seats { IfOk result (λ r. All (λ x. IsSeat r.0 x) r.1.items) }
 {
-    let world = counter_world(alloc)?;
     let (shared, seats) = Shared::new(rt, alloc, world, count)?;
     Ok((shared, seats))
 }
 
 // Takes the last of some seats of a shared world.
-fn pop_seat<V: Versions + Drop>(
+pub(crate) fn pop_seat<V: Versions + Drop>(
     shared: &Shared<LogWorld<V>>,
     seats: &mut Vec<Seat<LogWorld<V>>>,
 ) -> Seat<LogWorld<V>>
@@ -68,7 +68,7 @@ pub(crate) fn two_seats<R: Wait, V: Versions + Drop>(
     ensures first { IfOk result (λ r. IsSeat r.0 r.1) }
     ensures second { IfOk result (λ r. IsSeat r.0 r.2) }
 {
-    let (shared, mut seats) = Shared::new(rt, alloc, world, 2)?;
+    let (shared, mut seats) = share(rt, alloc, world, 2)?;
     let second = pop_seat(&shared, &mut seats);
     let first = pop_seat(&shared, &mut seats);
     Ok((shared, first, second))

@@ -197,10 +197,10 @@ fn compose_frames<R: Wait, W: Versions + Drop>(
     requires { IsSeat shared.now seat }
     ensures { IsSeat shared.now result.0 }
 {
-    match Composition::new(alloc, program, 0) {
-        Ok(mut composition) => make_frames(rt, alloc, shared, seat, &mut composition),
-        Err(_) => (seat, Vec::new(alloc)),
-    }
+    let Ok(mut composition) = Composition::new(alloc, program, 0) else {
+        return (seat, Vec::new(alloc));
+    };
+    make_frames(rt, alloc, shared, seat, &mut composition)
 }
 
 // Writes the numbers 1 to `WRITES` to the counter in global, one after another.
@@ -242,18 +242,27 @@ fn compose_while_writing<R: Threads + Wait + Sync>(
     (writer, reader, shown)
 }
 
-// Composes frames while another seat writes. Returns the numbers that the frames show, and the history.
+// Composes frames of a program while another seat writes. Returns the numbers that the frames show, and the history.
 fn history_while_writing<R: Threads + Wait + Sync>(
+    rt: &R,
+    alloc: Global,
+    program: &Checked,
+) -> Result<(Vec<i64>, Vec<Entry>), Fail> {
+    let (shared, writer, reader) = two_seats(rt, alloc, counter_world(alloc)?)?;
+    let (writer, reader, shown) = compose_while_writing(
+        rt, alloc, &shared, writer, reader, program,
+    );
+    let history = history_of(alloc, shared, writer, reader)?;
+    Ok((shown, history))
+}
+
+// Composes frames of the program of the counter while another seat writes.
+fn frames_while_writing<R: Threads + Wait + Sync>(
     rt: &R,
     alloc: Global,
 ) -> Result<(Vec<i64>, Vec<Entry>), Fail> {
     let program = checked_program(alloc)?;
-    let (shared, writer, reader) = two_seats(rt, alloc, counter_world(alloc)?)?;
-    let (writer, reader, shown) = compose_while_writing(
-        rt, alloc, &shared, writer, reader, &program,
-    );
-    let history = history_of(alloc, shared, writer, reader)?;
-    Ok((shown, history))
+    history_while_writing(rt, alloc, &program)
 }
 
 // Lists the number in global at each take of a frame, and then the last one.
@@ -277,7 +286,7 @@ fn numbers_at_takes(alloc: Global, history: &[Entry]) -> Result<Vec<i64>, Fail> 
 #[test]
 fn each_frame_shows_the_value_at_its_take(rt: HostRuntime) -> Result<(), Fail> {
     let alloc = rt.alloc();
-    let (mut shown, history) = history_while_writing(&rt, alloc)?;
+    let (mut shown, history) = frames_while_writing(&rt, alloc)?;
     assert!(rt; shown.len() == 200);
     shown.push(WRITES)?;
     assert!(rt; shown == numbers_at_takes(alloc, &history)?);

@@ -2,8 +2,8 @@
 ghost use Rattle.std.specs.Prelude.{◌≡◌, All, length};
 ghost use Rattle.snap_shared.specs.Seats.{IsSeat};
 
-use crate::fixture::{World, counter_world, is_same, shared_counter};
-use rt_values::{Caller, Kind, Value};
+use crate::fixture::{World, counter_world, is_same, read, share};
+use rt_values::{Caller, Kind, Name, Value};
 use snap_api::{Entry, Reply, Request, Versions, run_calls};
 use snap_plain::PlainWorld;
 use snap_policy::BuiltIn;
@@ -17,6 +17,43 @@ const THREADS: usize = 8;
 
 const ROUNDS: u64 = 250; // five calls each
 
+// Takes a snapshot of global. Returns its name, or `None` after another reply.
+fn take_name<R: Wait, W: Versions + Drop>(
+    rt: &R,
+    alloc: Global,
+    shared: &Shared<W>,
+    seat: &mut Seat<W>,
+) -> Option<Name>
+    requires { IsSeat shared.now seat.old }
+    ensures { IsSeat shared.now seat.new }
+{
+    let take = Request::Take {
+        parent: 0,
+        kind: Kind::Mutable,
+    };
+    match shared.call(rt, alloc, seat, take) {
+        Reply::Taken(name) => Some(name),
+        _ => None,
+    }
+}
+
+// Reads the counter in a snapshot. Returns it, or `None` after another reply.
+fn read_count<R: Wait, W: Versions + Drop>(
+    rt: &R,
+    alloc: Global,
+    shared: &Shared<W>,
+    seat: &mut Seat<W>,
+    name: Name,
+) -> Option<i64>
+    requires { IsSeat shared.now seat.old }
+    ensures { IsSeat shared.now seat.new }
+{
+    match shared.call(rt, alloc, seat, read(name)) {
+        Reply::Got(Value::Int(count)) => Some(count),
+        _ => None,
+    }
+}
+
 // Adds 1 to the counter in a snapshot of its own, by five calls. Stops at an unexpected reply.
 fn add_one<R: Wait, W: Versions + Drop>(
     rt: &R,
@@ -27,19 +64,10 @@ fn add_one<R: Wait, W: Versions + Drop>(
     requires { IsSeat shared.now seat.old }
     ensures { IsSeat shared.now seat.new }
 {
-    let take = Request::Take {
-        parent: 0,
-        kind: Kind::Mutable,
-    };
-    let Reply::Taken(name) = shared.call(rt, alloc, seat, take) else {
+    let Some(name) = take_name(rt, alloc, shared, seat) else {
         return;
     };
-    let Reply::Got(Value::Int(count)) = shared.call(
-        rt,
-        alloc,
-        seat,
-        Request::Read { name, object: 0 },
-    ) else {
+    let Some(count) = read_count(rt, alloc, shared, seat, name) else {
         return;
     };
     let write = Request::Write {
@@ -66,15 +94,15 @@ fn work_together<R: Threads + Wait + Sync>(
     rt: &R,
     alloc: Global,
     shared: &Shared<World>,
-    seats: &mut [Seat<World>],
+    seats: &mut Vec<Seat<World>>,
 )
-    requires { All (λ x. IsSeat shared.now x) seats.old }
-    ensures many { length seats.new ≡ length seats.old }
-    ensures seats { All (λ x. IsSeat shared.now x) seats.new }
+    requires { All (λ x. IsSeat shared.now x) seats.old.items }
+    ensures many { length seats.new.items ≡ length seats.old.items }
+    ensures seats { All (λ x. IsSeat shared.now x) seats.new.items }
 {
     thread::for_each_mut(
         rt,
-        seats,
+        seats.as_mut_slice(),
         THREADS,
         &|_, seat: &mut Seat<World>|
             requires { IsSeat shared.now seat.now }
@@ -109,13 +137,13 @@ fn has_replies(history: &[Entry], replies: &[Reply]) -> bool {
             .all(|(entry, reply)| is_same(&entry.reply, reply))
 }
 
-// Lets all seats work, and ends their shared world. Returns the world and its history.
+// Shares a counter world among the threads, and lets all work. Returns the world and its history.
 fn worked_world<R: Threads + Wait + Sync>(
     rt: &R,
     alloc: Global,
 ) -> Result<(PlainWorld<BuiltIn>, Vec<Entry>), Fail> {
-    let (shared, mut seats) = shared_counter(rt, alloc, THREADS)?;
-    work_together(rt, alloc, &shared, seats.as_mut_slice());
+    let (shared, mut seats) = share(rt, alloc, counter_world(alloc)?, THREADS)?;
+    work_together(rt, alloc, &shared, &mut seats);
     Ok(shared.into_parts(seats))
 }
 
