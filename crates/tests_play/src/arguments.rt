@@ -21,18 +21,25 @@ fn is_gen(alloc: Global, words: &[&str], number: u32, size: u32) -> Result<bool,
     Ok(answer(alloc, words)? == Some(Command::Gen { number, size }))
 }
 
+// The words of `run`, and whether they ask for JSON and for the calls on the applier.
+static RUNS: [(&[&str], bool, bool); 4] = [
+    (&["run"], false, false),
+    (&["run", "--json"], true, false),
+    (&["run", "--ops"], false, true),
+    (&["run", "--ops", "--json"], true, true),
+];
+
 #[test]
-fn a_command_is_its_word_with_its_flags(rt: HostRuntime) -> Result<(), Fail> {
-    let alloc = rt.alloc();
-    let runs: [(&[&str], bool, bool); 4] = [
-        (&["run"], false, false),
-        (&["run", "--json"], true, false),
-        (&["run", "--ops"], false, true),
-        (&["run", "--ops", "--json"], true, true),
-    ];
-    for (words, json, ops) in runs {
-        assert!(rt; is_run(alloc, words, json, ops)?, "{words:?}");
+fn run_has_its_flags(rt: HostRuntime) -> Result<(), Fail> {
+    for (words, json, ops) in RUNS.as_slice() {
+        assert!(rt; is_run(rt.alloc(), words, *json, *ops)?, "{words:?}");
     }
+    Ok(())
+}
+
+#[test]
+fn gen_and_check_are_commands(rt: HostRuntime) -> Result<(), Fail> {
+    let alloc = rt.alloc();
     assert!(rt; is_gen(alloc, &["gen", "0", "1"], 0, 1)?);
     assert!(rt; is_gen(alloc, &["gen", "4294967295", "1000"], 4294967295, 1000)?);
     assert!(rt; answer(alloc, &["check"])? == Some(Command::Check));

@@ -72,13 +72,20 @@ static FITS: [(&str, [bool; 4]); 5] = [
     ("Append", [false, false, false, true]),
 ];
 
+// Whether a fault is that of a policy that does not fit the type of the first state.
+fn is_type_fault(fault: CheckStop) -> bool {
+    let kind = CheckKind::Type;
+    fault == CheckStop::ProgramFault(ProgramFault { kind, at: 12 })
+}
+
 // Whether a policy is accepted for exactly the types that it fits, and has a type fault for the others.
 fn has_faults(alloc: Global, policy: &str, fits: &[bool; 4]) -> Result<bool, Fail> {
-    let kind = CheckKind::Type;
-    let fault = CheckStop::ProgramFault(ProgramFault { kind, at: 12 });
     for ((ty, value), fits) in VALUES.iter().zip(fits) {
-        let expected = if *fits { None } else { Some(fault) };
-        if fault_of_state(alloc, ty, policy, value)? != expected {
+        let is_right = match fault_of_state(alloc, ty, policy, value)? {
+            None => *fits,
+            Some(fault) => !*fits && is_type_fault(fault),
+        };
+        if !is_right {
             return Ok(false);
         }
     }

@@ -4,6 +4,7 @@ ghost use Rattle.rt_streams.specs.Streams.{Rose};
 
 use crate::map_view::{MapView, view_of};
 use crate::programs::checked_program;
+use crate::recomposing::with_new_composition;
 use lang_checks::Checked;
 use node_tree::{Applier, NewNode, Op, Ops};
 use recomposer::{Composition, FrameStop};
@@ -207,10 +208,9 @@ fn clears_after_a_fault(alloc: Global, composition: &mut Composition) -> Result<
     )
 }
 
-// Makes these frames in a new composition.
+// Makes a frame over an applier that fails, and one after it, both in a new composition.
 fn clears_in_new(alloc: Global, program: &Checked) -> Result<bool, Fail> {
-    let mut composition = Composition::new(alloc, program, 0)?;
-    clears_after_a_fault(alloc, &mut composition)
+    with_new_composition(alloc, program, |it| clears_after_a_fault(alloc, it))
 }
 
 // The frame after a fault clears the tree, and makes all nodes again with new numbers.
@@ -265,10 +265,9 @@ fn leaves_the_applier_alone(alloc: Global, composition: &mut Composition) -> Res
     Ok(matches!(is_idle, Ok(true)) && applier.calls == 3 && applier.reserved == 1)
 }
 
-// Makes these frames in a new composition.
+// Whether the applier is called only in the first of two frames of a new composition.
 fn leaves_alone_in_new(alloc: Global, program: &Checked) -> Result<bool, Fail> {
-    let mut composition = Composition::new(alloc, program, 0)?;
-    leaves_the_applier_alone(alloc, &mut composition)
+    with_new_composition(alloc, program, |it| leaves_the_applier_alone(alloc, it))
 }
 
 // A frame that owes no call does not call the applier, not even to reserve nodes.

@@ -1,7 +1,7 @@
 // Frames of one small program in maps that change.
 use crate::map_view::{MapView, view_of};
 use crate::programs::checked_program;
-use crate::recomposing::recompose;
+use crate::recomposing::{recompose, with_new_composition};
 use lang_checks::Checked;
 use recomposer::Composition;
 use rt_groups::{GroupKind, Report};
@@ -164,9 +164,13 @@ fn is_frame(
     Ok(made == report && numbers(alloc, composition.table())?.as_slice() == wanted)
 }
 
-// Makes the frame of a row, and then a frame without a change.
-fn makes_frames(alloc: Global, composition: &mut Composition, row: &Frame) -> Result<bool, Fail> {
-    let (items, more, kept) = row.states;
+// Makes the frame that is owed, and then one that owes nothing. Returns whether both are those of a row.
+fn makes_both_frames(
+    alloc: Global,
+    composition: &mut Composition,
+    view: &mut MapView,
+    row: &Frame,
+) -> Result<bool, Fail> {
     let report = report_of(row);
     let idle = Report {
         ran: 0,
@@ -174,12 +178,18 @@ fn makes_frames(alloc: Global, composition: &mut Composition, row: &Frame) -> Re
         reads: 0,
         ..report
     };
+    Ok(
+        is_frame(alloc, composition, view, report, row.numbers)?
+            && is_frame(alloc, composition, view, idle, row.numbers)?,
+    )
+}
+
+// Makes the frame of a row, and then a frame without a change. Returns whether both are those of the row.
+fn makes_frames(alloc: Global, composition: &mut Composition, row: &Frame) -> Result<bool, Fail> {
+    let (items, more, kept) = row.states;
     let mut view = view_of(alloc, items, &[more, kept])?;
     composition.note(row.owed);
-    Ok(
-        is_frame(alloc, composition, &mut view, report, row.numbers)?
-            && is_frame(alloc, composition, &mut view, idle, row.numbers)?,
-    )
+    makes_both_frames(alloc, composition, &mut view, row)
 }
 
 // Makes the frames of rows one after another from an empty composition, and after each one a frame without a change.
@@ -197,8 +207,7 @@ fn makes_all_frames(
 
 // Makes the frames of rows in a new composition.
 fn compose_frames(alloc: Global, program: &Checked, rows: &[Frame]) -> Result<bool, Fail> {
-    let mut composition = Composition::new(alloc, program, 0)?;
-    makes_all_frames(alloc, &mut composition, rows)
+    with_new_composition(alloc, program, |it| makes_all_frames(alloc, it, rows))
 }
 
 // Whether the frames of the program have the reports and the numbers of these rows.

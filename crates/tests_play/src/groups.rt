@@ -46,23 +46,25 @@ fn composed(alloc: Global, text: &str, root: usize, numbers: &[i64]) -> Result<G
     )?)
 }
 
+// The depth, the site and the shown number of each group of the program.
+static GROUPS: [(u32, u32, i64); 10] = [
+    (0, 0, -1),
+    (1, 3, 3),
+    (2, 4, 5),
+    (3, 1, 12),
+    (1, 3, 4),
+    (2, 4, 6),
+    (3, 1, 13),
+    (1, 5, 4),
+    (1, 6, 4),
+    (1, 8, 7),
+];
+
 #[test]
 fn groups_are_in_preorder_with_depths(rt: HostRuntime) -> Result<(), Fail> {
     let groups = composed(rt.alloc(), PROGRAM, 1, &[2, 7, 9])?;
-    let rows: [(u32, u32, i64); 10] = [
-        (0, 0, -1),
-        (1, 3, 3),
-        (2, 4, 5),
-        (3, 1, 12),
-        (1, 3, 4),
-        (2, 4, 6),
-        (3, 1, 13),
-        (1, 5, 4),
-        (1, 6, 4),
-        (1, 8, 7),
-    ];
-    assert!(rt; groups.len() == rows.len());
-    for (group, row) in groups.items().iter().zip(&rows) {
+    assert!(rt; groups.len() == GROUPS.len());
+    for (group, row) in groups.items().iter().zip(GROUPS.as_slice()) {
         assert!(rt; (group.depth, group.site, shown_number(&group.what)) == *row);
     }
     Ok(())

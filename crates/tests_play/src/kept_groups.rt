@@ -3,7 +3,7 @@ ghost use Rattle.std.specs.Prelude.{◌≡◌, ◌<◌, length};
 
 use crate::map_view::{MapView, view_of};
 use crate::programs::checked_program;
-use crate::recomposing::recompose;
+use crate::recomposing::{recompose, with_new_composition};
 use lang_checks::Checked;
 use lang_meaning::scratch;
 use recompose_scopes::RecomposeScopes;
@@ -157,7 +157,7 @@ fn has_scopes_of(table: &Table, scopes: &RecomposeScopes, object: ObjectNo) -> b
     readers == scopes.scopes_of(object).len()
 }
 
-// Whether this is so for each state.
+// Whether exactly the groups that read a state have a scope that depends on it, for each state.
 fn has_scopes(table: &Table, scopes: &RecomposeScopes) -> bool {
     for object in 0..3 {
         if !has_scopes_of(table, scopes, object) {
@@ -248,11 +248,10 @@ fn are_from_scratch(
 
 // Whether the frames of a program keep the groups of composing from scratch.
 fn keeps_groups(alloc: Global, program: &Checked) -> Result<bool, Fail> {
-    let mut composition = Composition::new(alloc, program, 0)?;
-    are_from_scratch(alloc, program, &mut composition)
+    with_new_composition(alloc, program, |it| are_from_scratch(alloc, program, it))
 }
 
-// Whether this is so for the program of a text.
+// Whether the frames of the program of a text keep the groups of composing from scratch.
 fn text_keeps_groups(alloc: Global, text: &str) -> Result<bool, Fail> {
     let program = checked_program(alloc, text.as_bytes())?;
     keeps_groups(alloc, &program)

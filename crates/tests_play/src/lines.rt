@@ -1,5 +1,5 @@
 // Scripts from their text, and each kind of line.
-use crate::programs::parse_program;
+use crate::programs::{checked_program, parse_program};
 use lang_ast::Rest;
 use lang_checks::{Checked, check};
 use node_tree::{NewNode, NodeAttributes, Op};
@@ -122,23 +122,28 @@ fn script_of_one(alloc: Global) -> Result<Script, Fail> {
     })
 }
 
-// The line of a call of the actor `a`, whose program has the states `count`, `step` and `label`.
-fn line_of(alloc: Global, request: Request, reply: Reply) -> Result<Vec<u8>, Fail> {
+// Returns the line of a call of the actor `a`.
+fn line_of(alloc: Global, program: &Checked, entry: &Entry) -> Result<Vec<u8>, Fail> {
+    let script = script_of_one(alloc)?;
+    let mut text = Vec::new(alloc);
+    add_line(&mut text, program, &script, entry)?;
+    Ok(text)
+}
+
+// Whether this is the line of a call in the program of three states.
+fn is_line_of(alloc: Global, entry: &Entry, line: &[u8]) -> Result<bool, Fail> {
+    let program = checked_program(alloc, PROGRAM.as_bytes())?;
+    Ok(line_of(alloc, &program, entry)?.as_slice() == line)
+}
+
+// Whether this is the line of a call of the actor `a`, whose program has the states `count`, `step` and `label`.
+fn has_line(alloc: Global, request: Request, reply: Reply, line: &[u8]) -> Result<bool, Fail> {
     let entry = Entry {
         caller: 0,
         request,
         reply,
     };
-    let script = script_of_one(alloc)?;
-    let (program, _) = parsed(alloc, "")?;
-    let mut text = Vec::new(alloc);
-    add_line(&mut text, &program, &script, &entry)?;
-    Ok(text)
-}
-
-// Whether this is the line of a call.
-fn has_line(alloc: Global, request: Request, reply: Reply, line: &[u8]) -> Result<bool, Fail> {
-    Ok(line_of(alloc, request, reply)?.as_slice() == line)
+    is_line_of(alloc, &entry, line)
 }
 
 // A take of a child of global.
@@ -184,19 +189,23 @@ fn takes_and_writes_have_their_words(rt: HostRuntime) -> Result<(), Fail> {
 }
 
 #[test]
-fn other_requests_have_their_words(rt: HostRuntime) -> Result<(), Fail> {
+fn reads_and_applies_have_their_words(rt: HostRuntime) -> Result<(), Fail> {
     let alloc = rt.alloc();
     let read = Request::Read { name: 3, object: 1 };
     let got = Reply::Got(Value::Int(-7));
     assert!(rt; has_line(alloc, read, got, b"a: read @3 step = -7\n")?);
     let apply = Request::Apply { name: 3 };
     assert!(rt; has_line(alloc, apply, Reply::Applied, b"a: apply @3 = applied\n")?);
+    Ok(())
+}
+
+#[test]
+fn disposes_and_frames_have_their_words(rt: HostRuntime) -> Result<(), Fail> {
+    let alloc = rt.alloc();
     let (dispose, line) = (Request::Dispose { name: 4 }, b"a: dispose @4 = disposed\n");
     assert!(rt; has_line(alloc, dispose, Reply::Disposed, line)?);
-    let (frame, line) = (
-        Request::TakeFor { watcher: 0 },
-        b"a: frame = @5 changed count step\n",
-    );
+    let frame = Request::TakeFor { watcher: 0 };
+    let line = b"a: frame = @5 changed count step\n";
     assert!(rt; has_line(alloc, frame, taken_for(alloc)?, line)?);
     Ok(())
 }
@@ -324,27 +333,25 @@ fn each_call_on_an_applier_has_its_words(rt: HostRuntime) -> Result<(), Fail> {
     Ok(())
 }
 
+// Whether this is the line of a call on an applier.
+fn op_has_line(alloc: Global, op: Op, line: &[u8]) -> bool {
+    let mut text = Vec::new(alloc);
+    let is_added = add_op(&mut text, &op).is_ok();
+    is_added && text.as_slice() == line
+}
+
 #[test]
 fn inserted_nodes_have_their_attributes(rt: HostRuntime) -> Result<(), Fail> {
     let alloc = rt.alloc();
-    let row = Op::InsertTopDown {
-        index: 0,
-        node: new_node(alloc, 7, b"Row", Some(3))?,
-    };
-    let want = b"op: insertTopDown 0 #7 Row item=3\n".as_slice();
-    assert!(rt; op_lines(alloc, &[row])?.as_slice() == want);
-    let end = Op::InsertBottomUp {
-        index: 1,
-        node: new_node(alloc, 8, b"End", None)?,
-    };
-    let want = b"op: insertBottomUp 1 #8 End\n".as_slice();
-    assert!(rt; op_lines(alloc, &[end])?.as_slice() == want);
-    let set = Op::Set {
-        name: Word::of(alloc, b"item")?,
-        value: Value::Bool(true),
-    };
-    let want = b"op: set item true\n".as_slice();
-    assert!(rt; op_lines(alloc, &[set])?.as_slice() == want);
+    let node = new_node(alloc, 7, b"Row", Some(3))?;
+    let row = Op::InsertTopDown { index: 0, node };
+    assert!(rt; op_has_line(alloc, row, b"op: insertTopDown 0 #7 Row item=3\n"));
+    let node = new_node(alloc, 8, b"End", None)?;
+    let end = Op::InsertBottomUp { index: 1, node };
+    assert!(rt; op_has_line(alloc, end, b"op: insertBottomUp 1 #8 End\n"));
+    let name = Word::of(alloc, b"item")?;
+    let value = Value::Bool(true);
+    assert!(rt; op_has_line(alloc, Op::Set { name, value }, b"op: set item true\n"));
     Ok(())
 }
 
@@ -370,12 +377,16 @@ fn json_of(alloc: Global, node: &GroupKind) -> Result<Vec<u8>, Fail> {
     Ok(text)
 }
 
+// Writes the tree of the node with a text as JSON.
+fn json_with_text(alloc: Global) -> Result<Vec<u8>, Fail> {
+    let node = node_with_text(alloc)?;
+    json_of(alloc, &node)
+}
+
 #[test]
 fn strings_have_the_escapes_of_json(rt: HostRuntime) -> Result<(), Fail> {
-    let alloc = rt.alloc();
-    let node = node_with_text(alloc)?;
     let want =
         "[{\"attributes\":{\"a\":-1,\"b\":\"q\\\" s\\\\ n\\n t\\t e\\u001b \u{e9}\"},\"children\":[],\"kind\":\"N\",\"number\":5}]\n";
-    assert!(rt; json_of(alloc, &node)?.as_slice() == want.as_bytes());
+    assert!(rt; json_with_text(rt.alloc())?.as_slice() == want.as_bytes());
     Ok(())
 }

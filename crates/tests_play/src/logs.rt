@@ -1,9 +1,11 @@
 // The log of the world after a run.
+ghost use Rattle.snap_api.specs.World.{start};
 
 use crate::memory_runs::{logged_world, sink_failing, source_of};
 use play_core::{Status, play_alone};
 use rt_values::Value;
-use snap_api::{Entry, Reply, Request};
+use snap_api::{Entry, Reply, Request, Versions};
+use snap_policy::BuiltIn;
 use std::alloc::Global;
 use std::test::Fail;
 
@@ -26,6 +28,22 @@ const TWO_CALLS: &[u8] = b"(compose 1)
 (do main (frame) (write global b 3) (frame (during (read global a))) (frame))
 ";
 
+// Runs `input` on a new world. The writes with the numbers `failing`, counted from 1, fail.
+fn run_on<V: Versions<P = BuiltIn>>(
+    alloc: Global,
+    world: &mut V,
+    input: &[u8],
+    failing: &[u64],
+) -> Result<Status, Fail>
+    requires { V.stands world.old (start 0) }
+{
+    let mut words = Vec::new(alloc);
+    words.push("run".to_string(alloc)?)?;
+    let mut source = source_of(alloc, input)?;
+    let mut sink = sink_failing(alloc, failing)?;
+    Ok(play_alone(alloc, &words, world, &mut source, &mut sink))
+}
+
 // Runs `input` on an empty plain world. The writes with the numbers `failing`, counted from 1, fail. Returns the status
 // and the log of the world.
 fn run_with_log(
@@ -33,18 +51,16 @@ fn run_with_log(
     input: &[u8],
     failing: &[u64],
 ) -> Result<(Status, Vec<Entry>), Fail> {
-    let mut words = Vec::new(alloc);
-    words.push("run".to_string(alloc)?)?;
     let mut world = logged_world(alloc)?;
-    let mut source = source_of(alloc, input)?;
-    let mut sink = sink_failing(alloc, failing)?;
-    let status = play_alone(alloc, &words, &mut world, &mut source, &mut sink);
+    let status = run_on(alloc, &mut world, input, failing)?;
     let (_, entries) = world.into_parts();
     Ok((status, entries))
 }
 
-// Returns a letter and two numbers for an entry: the kind of the call, its snapshot, and its object or the value read.
-fn told(entry: &Entry) -> (char, u64, i64) {
+// What a test sees of an entry: a letter for the kind of the call, its snapshot, and the number read or 0.
+type EntryData = (char, u64, i64);
+
+fn entry_data(entry: &Entry) -> EntryData {
     match (&entry.request, &entry.reply) {
         (Request::TakeFor { .. }, Reply::TakenFor(name, _)) => ('t', *name, 0),
         (Request::Read { name, .. }, Reply::Got(Value::Int(value))) => ('r', *name, *value),
@@ -54,49 +70,49 @@ fn told(entry: &Entry) -> (char, u64, i64) {
     }
 }
 
+// Whether a run is done, and these are the entries of its log.
+fn has_log(alloc: Global, input: &[u8], wanted: &[EntryData]) -> Result<bool, Fail> {
+    let (status, entries) = run_with_log(alloc, input, &[])?;
+    Ok(
+        status == Status::Done
+            && entries.len() == wanted.len()
+            && entries
+                .iter()
+                .zip(wanted)
+                .all(|(entry, row)| entry_data(entry) == *row),
+    )
+}
+
+static NESTED_LOG: [EntryData; 7] = [
+    ('t', 1, 0),
+    ('r', 1, 1),
+    ('d', 1, 0),
+    ('w', 0, 0),
+    ('t', 2, 0),
+    ('r', 2, 2),
+    ('d', 2, 0),
+];
+
+static TWO_CALLS_LOG: [EntryData; 13] = [
+    ('t', 1, 0),
+    ('r', 1, 1),
+    ('r', 1, 2),
+    ('r', 1, 2),
+    ('d', 1, 0),
+    ('w', 0, 0),
+    ('t', 2, 0),
+    ('r', 0, 1),
+    ('r', 2, 3),
+    ('r', 2, 3),
+    ('d', 2, 0),
+    ('t', 3, 0),
+    ('d', 3, 0),
+];
+
 #[test]
 fn each_frame_logs_the_reads_of_the_calls_that_run(rt: HostRuntime) -> Result<(), Fail> {
-    let alloc = rt.alloc();
-    let rows: [(&[u8], &[(char, u64, i64)]); 2] = [
-        (
-            NESTED,
-            &[
-                ('t', 1, 0),
-                ('r', 1, 1),
-                ('d', 1, 0),
-                ('w', 0, 0),
-                ('t', 2, 0),
-                ('r', 2, 2),
-                ('d', 2, 0),
-            ],
-        ),
-        (
-            TWO_CALLS,
-            &[
-                ('t', 1, 0),
-                ('r', 1, 1),
-                ('r', 1, 2),
-                ('r', 1, 2),
-                ('d', 1, 0),
-                ('w', 0, 0),
-                ('t', 2, 0),
-                ('r', 0, 1),
-                ('r', 2, 3),
-                ('r', 2, 3),
-                ('d', 2, 0),
-                ('t', 3, 0),
-                ('d', 3, 0),
-            ],
-        ),
-    ];
-    for (input, wanted) in rows {
-        let (status, entries) = run_with_log(alloc, input, &[])?;
-        assert!(rt; status == Status::Done);
-        assert!(rt; entries.len() == wanted.len());
-        for (entry, row) in entries.iter().zip(wanted) {
-            assert!(rt; told(entry) == *row);
-        }
-    }
+    assert!(rt; has_log(rt.alloc(), NESTED, NESTED_LOG.as_slice())?);
+    assert!(rt; has_log(rt.alloc(), TWO_CALLS, TWO_CALLS_LOG.as_slice())?);
     Ok(())
 }
 

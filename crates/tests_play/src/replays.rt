@@ -2,7 +2,7 @@
 ghost use Rattle.std.specs.Prelude.{◌≡◌, ◌≤◌, [], ◌∷◌, Option, Some, None, true, length, IfOk, IfSome};
 ghost use Rattle.std.specs.Option.{option_map};
 ghost use Rattle.snap_policy.specs.Table.{table};
-ghost use Rattle.snap_api.specs.World.{IsLegal};
+ghost use Rattle.snap_api.specs.World.{IsLegal, start};
 ghost use Rattle.script_lang.specs.StepCalls.{opening_world};
 ghost use Rattle.script_lang.specs.Lines.{ends_frame, frame_taken};
 ghost use Rattle.woven_laws.specs.FramesInTurn.{AreInTurn, frame_opened};
@@ -15,7 +15,8 @@ use lang_checks::check;
 use play_run::{Job, replay, run_script, set_up_world};
 use rt_values::{Caller, Kind, Name, Value};
 use script_lang::{Flags, script_of};
-use snap_api::{Entry, Reply, Request, run_calls};
+use snap_api::{Entry, Reply, Request, Versions, run_calls};
+use snap_policy::BuiltIn;
 use std::alloc::Global;
 use std::test::Fail;
 
@@ -141,6 +142,20 @@ fn calls_of(alloc: Global, entries: Vec<Entry>) -> Result<Vec<(Caller, Request)>
     Ok(calls)
 }
 
+// Runs the script of a job on a new world. Returns the bytes that are written.
+fn run_on<V: Versions<P = BuiltIn>>(
+    alloc: Global,
+    job: &Job,
+    flags: Flags,
+    world: &mut V,
+) -> Result<Vec<u8>, Fail>
+    requires { V.stands world.old (start 0) }
+{
+    let mut sink = sink_failing(alloc, &[])?;
+    let _ = run_script(alloc, job, flags, world, &mut sink);
+    Ok(sink.bytes().to_vec(alloc)?)
+}
+
 // Runs the script of a job. Returns its calls with the reads of frames, and the bytes that are written.
 fn run_with_calls(
     alloc: Global,
@@ -148,11 +163,9 @@ fn run_with_calls(
     flags: Flags,
 ) -> Result<(Vec<(Caller, Request)>, Vec<u8>), Fail> {
     let mut world = logged_world(alloc)?;
-    let mut sink = sink_failing(alloc, &[])?;
-    let _ = run_script(alloc, job, flags, &mut world, &mut sink);
+    let lines = run_on(alloc, job, flags, &mut world)?;
     let (_, entries) = world.into_parts();
-    let calls = calls_of(alloc, entries)?;
-    Ok((calls, sink.bytes().to_vec(alloc)?))
+    Ok((calls_of(alloc, entries)?, lines))
 }
 
 // Returns calls of `other` while a frame of `main` is open and between the reads of this frame, and a frame of `other`
@@ -241,22 +254,30 @@ fn is_replayed(alloc: Global, job: &Job, flags: Flags) -> Result<bool, Fail> {
 
 #[test]
 fn calls_and_replies_give_the_lines_of_a_run(rt: HostRuntime) -> Result<(), Fail> {
-    let alloc = rt.alloc();
+    let job = parse_job(rt.alloc(), TWO_ACTORS)?;
+    assert!(rt; is_replayed(rt.alloc(), &job, PLAIN)?);
+    assert!(rt; is_replayed(rt.alloc(), &job, ALL)?);
+    Ok(())
+}
+
+// Writes the lines of calls of the two actors.
+fn lines_of_calls(alloc: Global, calls: &Vec<(Caller, Request)>) -> Result<Vec<u8>, Fail> {
     let job = parse_job(alloc, TWO_ACTORS)?;
-    assert!(rt; is_replayed(alloc, &job, PLAIN)?);
-    assert!(rt; is_replayed(alloc, &job, ALL)?);
-    let calls = interleaved_calls(alloc)?;
-    assert!(rt; replayed(alloc, &job, PLAIN, &calls)?.as_slice() == INTERLEAVED_LINES);
+    replayed(alloc, &job, PLAIN, calls)
+}
+
+#[test]
+fn calls_of_others_stand_between_those_of_a_frame(rt: HostRuntime) -> Result<(), Fail> {
+    let calls = interleaved_calls(rt.alloc())?;
+    assert!(rt; lines_of_calls(rt.alloc(), &calls)?.as_slice() == INTERLEAVED_LINES);
     Ok(())
 }
 
 #[test]
 fn lines_end_at_a_frame_that_lacks_a_read(rt: HostRuntime) -> Result<(), Fail> {
-    let alloc = rt.alloc();
-    let job = parse_job(alloc, TWO_ACTORS)?;
-    let mut calls = interleaved_calls(alloc)?;
+    let mut calls = interleaved_calls(rt.alloc())?;
     calls.retain(|call| !reads_text(call));
-    let lines = replayed(alloc, &job, PLAIN, &calls)?;
+    let lines = lines_of_calls(rt.alloc(), &calls)?;
     assert!(rt; INTERLEAVED_LINES.starts_with(&lines));
     assert!(rt; lines.ends_with(b"main: dispose @1 = disposed\n"));
     Ok(())

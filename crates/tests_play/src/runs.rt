@@ -1,9 +1,11 @@
 // Runs of `play` over a source and a sink in memory.
 ghost use Rattle.std.specs.Prelude.{◌<◌};
+ghost use Rattle.snap_api.specs.World.{start};
 
 use crate::memory_runs::arguments;
 use play_core::{Status, play};
 use rt_streams::{MemSink, MemSource, OpenGate};
+use snap_api::Versions;
 use snap_plain::PlainWorld;
 use snap_policy::BuiltIn;
 use std::alloc::Global;
@@ -57,29 +59,38 @@ fn open_streams(alloc: Global, input: &[u8], streams: Streams) -> Result<(MemSou
     Ok((source, MemSink::new(alloc, 4096, streams.most, writes)?))
 }
 
-// Runs `play` on `input`. Returns the status and the bytes written.
-fn run<R: Threads + Wait + Sync>(
+// Runs `play` on a new world and `input`. Returns the status and the bytes written.
+fn run_on<R: Threads + Wait + Sync, V: Versions<P = BuiltIn>>(
+    rt: &R,
+    alloc: Global,
+    world: &mut V,
+    words: &[&str],
+    input: &[u8],
+    streams: Streams,
+) -> Result<(Status, Vec<u8>), Fail>
+    requires start { V.stands world.old (start 0) }
+    requires piece { 0 < streams.piece }
+{
+    let words = arguments(alloc, words)?;
+    let (mut source, mut sink) = open_streams(alloc, input, streams)?;
+    let status = play(rt, alloc, &words, world, &mut source, &mut sink, &OpenGate);
+    Ok((status, sink.bytes().to_vec(alloc)?))
+}
+
+// Runs `play` on `input`. Returns whether this is the status, and these bytes are written.
+fn gives<R: Threads + Wait + Sync>(
     rt: &R,
     alloc: Global,
     words: &[&str],
     input: &[u8],
     streams: Streams,
-) -> Result<(Status, Vec<u8>), Fail>
+    wanted: (Status, &[u8]),
+) -> Result<bool, Fail>
     requires { 0 < streams.piece }
 {
-    let words = arguments(alloc, words)?;
     let mut world = PlainWorld::<BuiltIn>::new(alloc)?;
-    let (mut source, mut sink) = open_streams(alloc, input, streams)?;
-    let status = play(
-        rt,
-        alloc,
-        &words,
-        &mut world,
-        &mut source,
-        &mut sink,
-        &OpenGate,
-    );
-    Ok((status, sink.bytes().to_vec(alloc)?))
+    let (status, written) = run_on(rt, alloc, &mut world, words, input, streams)?;
+    Ok(status == wanted.0 && written.as_slice() == wanted.1)
 }
 
 // Concatenates the first lines of a run.
@@ -94,34 +105,27 @@ fn first_lines(alloc: Global, lines: &[&[u8]], count: usize) -> Result<Vec<u8>, 
 #[test]
 fn a_write_between_two_frames_shows_in_the_second(rt: HostRuntime) -> Result<(), Fail> {
     let alloc = rt.alloc();
-    let (status, written) = run(&rt, alloc, &["run"], COUNTER, SOUND)?;
-    assert!(rt; status == Status::Done);
-    assert!(rt; written == first_lines(alloc, &COUNTER_LINES, 9)?);
-    let (status, written) = run(
-        &rt,
-        alloc,
-        &["run"],
-        COUNTER,
-        Streams {
-            piece: 1,
-            most: 1,
-            ..SOUND
-        },
-    )?;
-    assert!(rt; status == Status::Done);
-    assert!(rt; written == first_lines(alloc, &COUNTER_LINES, 9)?);
+    let lines = first_lines(alloc, &COUNTER_LINES, 9)?;
+    let done = (Status::Done, lines.as_slice());
+    assert!(rt; gives(&rt, alloc, &["run"], COUNTER, SOUND, done)?);
+    let bytewise = Streams {
+        piece: 1,
+        most: 1,
+        ..SOUND
+    };
+    assert!(rt; gives(&rt, alloc, &["run"], COUNTER, bytewise, done)?);
     Ok(())
 }
 
 #[test]
 fn trees_are_printed_as_json(rt: HostRuntime) -> Result<(), Fail> {
     let alloc = rt.alloc();
-    let (status, written) = run(&rt, alloc, &["run", "--json"], COUNTER, SOUND)?;
     let mut lines = COUNTER_LINES;
     lines[3] = b"[{\"attributes\":{\"value\":0},\"children\":[],\"kind\":\"Text\",\"number\":1}]\n";
     lines[8] = b"[{\"attributes\":{\"value\":1},\"children\":[],\"kind\":\"Text\",\"number\":1}]\n";
-    assert!(rt; status == Status::Done);
-    assert!(rt; written == first_lines(alloc, &lines, 9)?);
+    let lines = first_lines(alloc, &lines, 9)?;
+    let done = (Status::Done, lines.as_slice());
+    assert!(rt; gives(&rt, alloc, &["run", "--json"], COUNTER, SOUND, done)?);
     Ok(())
 }
 
@@ -150,9 +154,9 @@ const ROW_LINES: [&[u8]; 13] = [
 #[test]
 fn calls_on_the_applier_precede_the_tree(rt: HostRuntime) -> Result<(), Fail> {
     let alloc = rt.alloc();
-    let (status, written) = run(&rt, alloc, &["run", "--ops"], ROWS, SOUND)?;
-    assert!(rt; status == Status::Done);
-    assert!(rt; written == first_lines(alloc, &ROW_LINES, 13)?);
+    let lines = first_lines(alloc, &ROW_LINES, 13)?;
+    let done = (Status::Done, lines.as_slice());
+    assert!(rt; gives(&rt, alloc, &["run", "--ops"], ROWS, SOUND, done)?);
     Ok(())
 }
 
@@ -166,21 +170,15 @@ const LOOSE_COUNTER: &[u8] = b"; counts
 #[test]
 fn check_writes_the_canonical_text(rt: HostRuntime) -> Result<(), Fail> {
     let alloc = rt.alloc();
-    let (status, written) = run(&rt, alloc, &["check"], LOOSE_COUNTER, SOUND)?;
-    assert!(rt; status == Status::Done);
-    assert!(rt; written.as_slice() == COUNTER);
-    let (status, written) = run(
-        &rt,
-        alloc,
-        &["check"],
-        LOOSE_COUNTER,
-        Streams {
-            write_fault: 3,
-            ..SOUND
-        },
-    )?;
-    assert!(rt; status == Status::WriteFault);
-    assert!(rt; written.as_slice() == b"(compose 1)\n(state count Int Structural 0)\n".as_slice());
+    let done = (Status::Done, COUNTER);
+    assert!(rt; gives(&rt, alloc, &["check"], LOOSE_COUNTER, SOUND, done)?);
+    let short = Streams {
+        write_fault: 3,
+        ..SOUND
+    };
+    let written = b"(compose 1)\n(state count Int Structural 0)\n".as_slice();
+    let fault = (Status::WriteFault, written);
+    assert!(rt; gives(&rt, alloc, &["check"], LOOSE_COUNTER, short, fault)?);
     Ok(())
 }
 
@@ -188,119 +186,97 @@ fn check_writes_the_canonical_text(rt: HostRuntime) -> Result<(), Fail> {
 fn a_failing_write_leaves_the_lines_before_it(rt: HostRuntime) -> Result<(), Fail> {
     let alloc = rt.alloc();
     for line in 0..9usize {
-        let fault = line as u64 + 1;
-        let (status, written) = run(
-            &rt,
-            alloc,
-            &["run"],
-            COUNTER,
-            Streams {
-                write_fault: fault,
-                ..SOUND
-            },
-        )?;
-        assert!(rt; status == Status::WriteFault);
-        assert!(rt; written == first_lines(alloc, &COUNTER_LINES, line)?);
+        let short = Streams {
+            write_fault: line as u64 + 1,
+            ..SOUND
+        };
+        let lines = first_lines(alloc, &COUNTER_LINES, line)?;
+        let fault = (Status::WriteFault, lines.as_slice());
+        assert!(rt;
+            gives(&rt, alloc, &["run"], COUNTER, short, fault)?,
+            "{line}"
+        );
     }
     Ok(())
 }
 
 #[test]
 fn a_failing_read_writes_nothing(rt: HostRuntime) -> Result<(), Fail> {
-    let alloc = rt.alloc();
-    for fault in 1..9u64 {
-        let (status, written) = run(
-            &rt,
-            alloc,
-            &["run"],
-            COUNTER,
-            Streams {
-                piece: 20,
-                read_fault: fault,
-                ..SOUND
-            },
-        )?;
-        assert!(rt; status == Status::ReadFault);
-        assert!(rt; written.is_empty());
+    let fault = (Status::ReadFault, b"".as_slice());
+    for read_fault in 1..9u64 {
+        let broken = Streams {
+            piece: 20,
+            read_fault,
+            ..SOUND
+        };
+        assert!(rt;
+            gives(&rt, rt.alloc(), &["run"], COUNTER, broken, fault)?,
+            "{read_fault}"
+        );
     }
     Ok(())
 }
 
-// Pads a text with blanks to a length.
-fn filled(alloc: Global, text: &[u8], length: usize) -> Result<Vec<u8>, Fail> {
-    let mut bytes = text.to_vec(alloc)?;
-    bytes.resize(length, b' ')?;
-    Ok(bytes)
+// Runs the counter, padded with blanks to a length. Returns whether this is the status, and these bytes are written.
+fn gives_padded<R: Threads + Wait + Sync>(
+    rt: &R,
+    alloc: Global,
+    length: usize,
+    wanted: (Status, &[u8]),
+) -> Result<bool, Fail> {
+    let mut input = COUNTER.to_vec(alloc)?;
+    input.resize(length, b' ')?;
+    let large = Streams {
+        piece: 65536,
+        ..SOUND
+    };
+    gives(rt, alloc, &["run"], &input, large, wanted)
 }
 
 #[test]
 fn the_input_has_at_most_1048576_bytes(rt: HostRuntime) -> Result<(), Fail> {
     let alloc = rt.alloc();
-    let full = filled(alloc, COUNTER, 1048576)?;
-    let (status, written) = run(
-        &rt,
-        alloc,
-        &["run"],
-        &full,
-        Streams {
-            piece: 65536,
-            ..SOUND
-        },
-    )?;
-    assert!(rt; status == Status::Done);
-    assert!(rt; written == first_lines(alloc, &COUNTER_LINES, 9)?);
-    let over = filled(alloc, COUNTER, 1048577)?;
-    let (status, written) = run(
-        &rt,
-        alloc,
-        &["run"],
-        &over,
-        Streams {
-            piece: 65536,
-            ..SOUND
-        },
-    )?;
-    assert!(rt; status == Status::TooLong);
-    assert!(rt; written.as_slice() == b"too long\n".as_slice());
+    let lines = first_lines(alloc, &COUNTER_LINES, 9)?;
+    assert!(rt; gives_padded(&rt, alloc, 1048576, (Status::Done, &lines))?);
+    assert!(rt; gives_padded(&rt, alloc, 1048577, (Status::TooLong, b"too long\n"))?);
+    Ok(())
+}
+
+// Arguments that are no command.
+static OTHERS: [&[&str]; 5] = [
+    &[],
+    &["--help"],
+    &["--"],
+    &["check", "run"],
+    &["run", "--json", "--json"],
+];
+
+#[test]
+fn other_arguments_print_the_usage_line(rt: HostRuntime) -> Result<(), Fail> {
+    let line =
+        b"usage: compose_play run|threads [--json] [--ops] | check | gen NUMBER SIZE\n".as_slice();
+    let unread = Streams {
+        read_fault: 1,
+        ..SOUND
+    };
+    for words in OTHERS.as_slice() {
+        let usage = (Status::Usage, line);
+        assert!(rt;
+            gives(&rt, rt.alloc(), words, COUNTER, unread, usage)?,
+            "{words:?}"
+        );
+    }
     Ok(())
 }
 
 #[test]
-fn other_arguments_print_the_usage_line(rt: HostRuntime) -> Result<(), Fail> {
-    let alloc = rt.alloc();
-    let usage = b"usage: compose_play run|threads [--json] [--ops] | check | gen NUMBER SIZE\n";
-    let others: [&[&str]; 5] = [
-        &[],
-        &["--help"],
-        &["--"],
-        &["check", "run"],
-        &["run", "--json", "--json"],
-    ];
-    for words in others {
-        let (status, written) = run(
-            &rt,
-            alloc,
-            words,
-            COUNTER,
-            Streams {
-                read_fault: 1,
-                ..SOUND
-            },
-        )?;
-        assert!(rt; status == Status::Usage);
-        assert!(rt; written.as_slice() == usage.as_slice());
-    }
-    let (status, written) = run(
-        &rt,
-        alloc,
-        &["--help"],
-        COUNTER,
-        Streams {
-            write_fault: 1,
-            ..SOUND
-        },
-    )?;
-    assert!(rt; status == Status::WriteFault && written.is_empty());
+fn the_usage_line_may_fail(rt: HostRuntime) -> Result<(), Fail> {
+    let short = Streams {
+        write_fault: 1,
+        ..SOUND
+    };
+    let fault = (Status::WriteFault, b"".as_slice());
+    assert!(rt; gives(&rt, rt.alloc(), &["--help"], COUNTER, short, fault)?);
     Ok(())
 }
 
@@ -314,21 +290,18 @@ last: groups 20, nodes 6
 #[test]
 fn gen_writes_a_summary_and_reads_nothing(rt: HostRuntime) -> Result<(), Fail> {
     let alloc = rt.alloc();
-    let words: [&str; 3] = ["gen", "1", "4"];
+    let words = ["gen", "1", "4"];
     let unread = Streams {
         read_fault: 1,
         ..SOUND
     };
-    let (status, written) = run(&rt, alloc, &words, COUNTER, unread)?;
-    assert!(rt; status == Status::Done);
-    assert!(rt; written.as_slice() == SUMMARY);
+    assert!(rt; gives(&rt, alloc, &words, COUNTER, unread, (Status::Done, SUMMARY))?);
     let short = Streams {
         most: 10,
         write_fault: 3,
         ..SOUND
     };
-    let (status, written) = run(&rt, alloc, &words, COUNTER, short)?;
-    assert!(rt; status == Status::WriteFault);
-    assert!(rt; written.as_slice() == &SUMMARY[..20]);
+    let fault = (Status::WriteFault, &SUMMARY[..20]);
+    assert!(rt; gives(&rt, alloc, &words, COUNTER, short, fault)?);
     Ok(())
 }

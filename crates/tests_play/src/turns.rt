@@ -1,8 +1,10 @@
 // Actors of `threads` who take turns in an order that a gate fixes.
+ghost use Rattle.snap_api.specs.World.{start};
 
 use crate::memory_runs::{arguments, sink_failing, source_of};
 use play_core::{Status, play};
 use rt_streams::Gate;
+use snap_api::Versions;
 use snap_plain::PlainWorld;
 use snap_policy::BuiltIn;
 use std::alloc::Global;
@@ -92,51 +94,74 @@ fn has_line(text: &[u8], line: &[u8]) -> bool {
     text.split(|b| *b == b'\n').any(|it| it == line)
 }
 
-// Runs `threads` on an input through a gate. Returns the status and the bytes that are written.
+// Runs `threads` on a new world and an input through a gate. Returns the status and the bytes that are written.
+fn play_on<R: Threads + Wait + Sync, V: Versions<P = BuiltIn>, G: Gate + Sync>(
+    rt: &R,
+    alloc: Global,
+    world: &mut V,
+    input: &[u8],
+    gate: &G,
+) -> Result<(Status, Vec<u8>), Fail>
+    requires { V.stands world.old (start 0) }
+{
+    let words = arguments(alloc, &["threads"])?;
+    let mut source = source_of(alloc, input)?;
+    let mut sink = sink_failing(alloc, &[])?;
+    let status = play(rt, alloc, &words, world, &mut source, &mut sink, gate);
+    Ok((status, sink.bytes().to_vec(alloc)?))
+}
+
+// Runs `threads` on an empty plain world and an input through a gate. Returns the status and the bytes that are written.
 fn play_through<R: Threads + Wait + Sync>(
     rt: &R,
     alloc: Global,
     input: &[u8],
     gate: &OrderGate,
 ) -> Result<(Status, Vec<u8>), Fail> {
-    let words = arguments(alloc, &["threads"])?;
     let mut world = PlainWorld::<BuiltIn>::new(alloc)?;
-    let mut source = source_of(alloc, input)?;
-    let mut sink = sink_failing(alloc, &[])?;
-    let status = play(rt, alloc, &words, &mut world, &mut source, &mut sink, gate);
-    Ok((status, sink.bytes().to_vec(alloc)?))
+    play_on(rt, alloc, &mut world, input, gate)
 }
+
+// Runs `threads` on an input through a gate. Returns whether the run is done, no wait was given up, and these lines are
+// written.
+fn takes_turns<R: Threads + Wait + Sync>(
+    rt: &R,
+    alloc: Global,
+    input: &[u8],
+    gate: &OrderGate,
+    lines: &[&[u8]],
+) -> Result<bool, Fail> {
+    let (status, written) = play_through(rt, alloc, input, gate)?;
+    let is_done = status == Status::Done && !gate.given_up.load(SeqCst);
+    Ok(is_done && lines.iter().all(|line| has_line(&written, line)))
+}
+
+// Inputs, with the calls that wait, the calls that they wait for, and lines of the run.
+static TURNS: [(&[u8], [Call; 2], [Call; 2], &[&[u8]]); 2] = [
+    (
+        PAIR,
+        [(1, 0), (0, 2)],
+        [(0, 1), (1, 1)],
+        &[
+            b"c: frame = @1 changed a b",
+            b"d: write @0 b 11 = changed",
+            b"d: read @0 b = 11",
+            b"#1 Pair a=1 b=10",
+        ],
+    ),
+    (
+        WRITTEN,
+        [(1, 0), (1, 0)],
+        [(0, 1), (0, 1)],
+        &[b"a: write @0 x 1 = changed", b"b: read @0 x = 1"],
+    ),
+];
 
 #[test]
 fn actors_take_turns_as_the_gate_lets_them(rt: HostRuntime) -> Result<(), Fail> {
-    let alloc = rt.alloc();
-    let rows: [(&[u8], [Call; 2], [Call; 2], &[&[u8]]); 2] = [
-        (
-            PAIR,
-            [(1, 0), (0, 2)],
-            [(0, 1), (1, 1)],
-            &[
-                b"c: frame = @1 changed a b",
-                b"d: write @0 b 11 = changed",
-                b"d: read @0 b = 11",
-                b"#1 Pair a=1 b=10",
-            ],
-        ),
-        (
-            WRITTEN,
-            [(1, 0), (1, 0)],
-            [(0, 1), (0, 1)],
-            &[b"a: write @0 x 1 = changed", b"b: read @0 x = 1"],
-        ),
-    ];
-    for (input, waiting, awaited, lines) in rows {
-        let gate = OrderGate::new(waiting, awaited);
-        let (status, written) = play_through(&rt, alloc, input, &gate)?;
-        assert!(rt; status == Status::Done);
-        assert!(rt; !gate.given_up.load(SeqCst));
-        for line in lines {
-            assert!(rt; has_line(&written, line));
-        }
+    for (input, waiting, awaited, lines) in TURNS.as_slice() {
+        let gate = OrderGate::new(*waiting, *awaited);
+        assert!(rt; takes_turns(&rt, rt.alloc(), input, &gate, lines)?);
     }
     Ok(())
 }
