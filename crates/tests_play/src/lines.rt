@@ -4,7 +4,7 @@ use lang_ast::Rest;
 use lang_checks::{Checked, check};
 use node_tree::{NewNode, NodeAttributes, Op};
 use rt_groups::{Attribute, Attributes, GroupKind, Report, Values};
-use rt_values::{Kind, Objects, Txt, Ty, Value, Word};
+use rt_values::{Kind, NoMemory, Objects, Txt, Ty, Value, Word};
 use script_lang::{
     OpenGroups, Script, ScriptStop, TreeWriter, add_line, add_op, add_refused, add_report,
     script_of,
@@ -263,10 +263,33 @@ fn node(alloc: Global, kind: &[u8]) -> Result<GroupKind, Fail> {
     })
 }
 
-#[test]
-fn frames_print_their_report_and_tree(rt: HostRuntime) -> Result<(), Fail> {
-    let alloc = rt.alloc();
-    let mut text = Vec::new(alloc);
+// Appends the line of the next group in preorder if it is a node, and opens the group.
+fn add_group(
+    open: &mut OpenGroups,
+    text: &mut Vec<u8>,
+    depth: u32,
+    number: u64,
+    group: GroupKind,
+) -> Result<(), NoMemory> {
+    open.add_group(text, depth, number, &group)
+}
+
+// Appends the lines of three nodes. The first is in a call, and the second in a key inside the first.
+fn add_nodes(alloc: Global, open: &mut OpenGroups, text: &mut Vec<u8>) -> Result<(), Fail> {
+    let call = GroupKind::Call {
+        function: 0,
+        arguments: Values::new(alloc),
+    };
+    add_group(open, text, 0, 0, call)?;
+    add_group(open, text, 1, 12, node(alloc, b"Box")?)?;
+    add_group(open, text, 2, 0, GroupKind::Key(Value::Int(7)))?;
+    add_group(open, text, 3, 13, node(alloc, b"Row")?)?;
+    add_group(open, text, 1, 14, node(alloc, b"End")?)?;
+    Ok(())
+}
+
+// Appends a report, the tree of the three nodes, and the line of a refused frame.
+fn add_frames(alloc: Global, text: &mut Vec<u8>) -> Result<(), Fail> {
     let report = Report {
         ran: 1,
         calculated: 2,
@@ -274,18 +297,16 @@ fn frames_print_their_report_and_tree(rt: HostRuntime) -> Result<(), Fail> {
         groups: 4,
         nodes: 5,
     };
-    add_report(&mut text, &report)?;
-    let call = GroupKind::Call {
-        function: 0,
-        arguments: Values::new(alloc),
-    };
-    let mut open = OpenGroups::new(alloc);
-    open.add_group(&mut text, 0, 0, &call)?;
-    open.add_group(&mut text, 1, 12, &node(alloc, b"Box")?)?;
-    open.add_group(&mut text, 2, 0, &GroupKind::Key(Value::Int(7)))?;
-    open.add_group(&mut text, 3, 13, &node(alloc, b"Row")?)?;
-    open.add_group(&mut text, 1, 14, &node(alloc, b"End")?)?;
-    add_refused(&mut text)?;
+    add_report(text, &report)?;
+    add_nodes(alloc, &mut OpenGroups::new(alloc), text)?;
+    add_refused(text)?;
+    Ok(())
+}
+
+#[test]
+fn frames_print_their_report_and_tree(rt: HostRuntime) -> Result<(), Fail> {
+    let mut text = Vec::new(rt.alloc());
+    add_frames(rt.alloc(), &mut text)?;
     let want =
         b"report: ran 1, calculated 2, reads 3, groups 4, nodes 5\n#12 Box width=10 height=-20\n  #13 Row width=10 height=-20\n#14 End width=10 height=-20\nrefused: too many groups\n";
     assert!(rt; text.as_slice() == want.as_slice());
