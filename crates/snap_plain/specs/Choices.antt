@@ -1,4 +1,4 @@
--- Internal: the choice of `settle_all` for one object, and how choices add up.
+-- Internal: the choice of `settle_into` for one object, and how choices add up.
 use Rattle.std.specs.Prelude.{ℕ, List, ◌++◌}
 use Rattle.rt_values.specs.Maps.{Map}
 use Rattle.snap_api.specs.Settle.{Settled, settled, conflict, put_kept, put_changed}

@@ -1,5 +1,5 @@
 // The parent's view after an apply.
-ghost use Rattle.std.specs.Prelude.{Bool, true, ◌+◌, ◌≡◌, ℕ, ◌<◌, length, Some, None, IfOk, IsOk, if◌then◌else◌};
+ghost use Rattle.std.specs.Prelude.{Bool, true, ◌+◌, ◌≡◌, ℕ, ◌<◌, length, [], Some, None, IfOk, OnOk, IsOk, if◌then◌else◌};
 ghost use Rattle.std.specs.Bool.{MatchBool};
 ghost use Rattle.snap_api.specs.Settle.{Settled, settled, conflict};
 ghost use Rattle.snap_plain.specs.Choices.{choice_verdict, put_all};
@@ -114,6 +114,45 @@ fn put_choice(
     }
 }
 
+// Settles the objects in turn: appends the parent's new values to `view`, and the objects that change to `changed`.
+// Both are empty before. No object may conflict.
+fn settle_into<P: Policy>(
+    alloc: Global,
+    objects: &[Object<P>],
+    shot: &Snapshot,
+    current: &Map,
+    now: u64,
+    view: &mut Map,
+    changed: &mut Objects,
+) -> Result<(), NoMemory>
+    requires base { length shot.now.base ≡ length objects.now }
+    requires current { length current.now ≡ length objects.now }
+    requires own { length shot.now.view ≡ length objects.now }
+    requires fine { conflict_of (settle_shot P.rules now shot.now current.now objects.now) ≡ None }
+    requires empty { (view.old ≡ []) × (changed.old ≡ []) }
+    ensures len { OnOk result (length view.new ≡ length objects.now) }
+    ensures settled { OnOk result
+        (settled view.new changed.new ≡ settle_shot P.rules now shot.now current.now objects.now) }
+{
+    for (i, object) in objects.iter().enumerate() {
+        let x = i as u64;
+        let wrote = shot.wrote.has(x);
+        let choice = choose(
+            alloc,
+            &object.policy,
+            wrote,
+            shot.base.at(i),
+            current.at(i),
+            shot.view.at(i),
+            now,
+        )?;
+        if !put_choice(view, changed, x, choice)? {
+            unreachable!();
+        }
+    }
+    Ok(())
+}
+
 /// Returns the parent's new view and the objects that changed in it. No object may conflict.
 pub fn settle_all<P: Policy>(
     alloc: Global,
@@ -131,21 +170,6 @@ pub fn settle_all<P: Policy>(
 {
     let mut view = Map::new(alloc);
     let mut changed = Objects::new(alloc);
-    for (i, object) in objects.iter().enumerate() {
-        let x = i as u64;
-        let wrote = shot.wrote.has(x);
-        let choice = choose(
-            alloc,
-            &object.policy,
-            wrote,
-            shot.base.at(i),
-            current.at(i),
-            shot.view.at(i),
-            now,
-        )?;
-        if !put_choice(&mut view, &mut changed, x, choice)? {
-            unreachable!();
-        }
-    }
+    settle_into(alloc, objects, shot, current, now, &mut view, &mut changed)?;
     Ok((view, changed))
 }

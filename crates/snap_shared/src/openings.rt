@@ -40,11 +40,44 @@ fn push_seat<W: Versions + Drop>(seats: &mut Vec<Seat<W>>, seat: Seat<W>) -> Res
 }
 
 impl<W: Versions + Drop> Shared<W> {
-    // Splits the seats of the callers 0 to `count` - 1, in order, off a seat that has all of them.
+    // Splits the seats of the callers 0 to `count` - 1, in order, off a seat that has all of them. Appends them to
+    // `seats`, which is empty before.
+    fn split_into(
+        &self,
+        mut first: TableSeat<Option<W>, SeatState<W, Entry>>,
+        count: usize,
+        seats: &mut Vec<Seat<W>>,
+    ) -> Result<(), NoMemory>
+        requires some { 0 < count }
+        requires fits { first.table_id ≡ self.now.table.shared.table_id }
+        requires all { first.me ≡ (state_with_callers (opening_of self.now) 0 count, []) }
+        requires empty { seats.old.items ≡ [] }
+        ensures all { OnOk result (All (λ x. IsNewSeat self.now x) seats.new.items) }
+        ensures numbers { OnOk result (map number_of seats.new.items ≡ numbers_below count) }
+        ensures many { OnOk result (length seats.new.items ≡ count) }
+    {
+        for number in 0..count - 1 {
+            let seat = self.table.shared.split_seat::<SplitSeat<W>>(&mut first);
+            let number = number as u64;
+            let Ok(()) = push_seat(seats, Seat { seat, number }) else {
+                return Err(NoMemory);
+            };
+        }
+        let last = Seat {
+            seat: first,
+            number: (count - 1) as u64,
+        };
+        let Ok(()) = push_seat(seats, last) else {
+            return Err(NoMemory);
+        };
+        Ok(())
+    }
+
+    // Returns the seats of the callers 0 to `count` - 1, in order, from a seat that has all of them.
     fn split_seats(
         &self,
         alloc: Global,
-        mut first: TableSeat<Option<W>, SeatState<W, Entry>>,
+        first: TableSeat<Option<W>, SeatState<W, Entry>>,
         count: usize,
     ) -> Result<Vec<Seat<W>>, NoMemory>
         requires some { 0 < count }
@@ -55,18 +88,7 @@ impl<W: Versions + Drop> Shared<W> {
         ensures many { IfOk result (λ s. length s.items ≡ count) }
     {
         let mut seats = Vec::new(alloc);
-        for number in 0..count - 1 {
-            let seat = self.table.shared.split_seat::<SplitSeat<W>>(&mut first);
-            let number = number as u64;
-            let Ok(()) = push_seat(&mut seats, Seat { seat, number }) else {
-                return Err(NoMemory);
-            };
-        }
-        let last = Seat {
-            seat: first,
-            number: (count - 1) as u64,
-        };
-        let Ok(()) = push_seat(&mut seats, last) else {
+        let Ok(()) = self.split_into(first, count, &mut seats) else {
             return Err(NoMemory);
         };
         Ok(seats)

@@ -7,7 +7,7 @@ use Rattle.snap_shared.specs.Seats.{IsNewSeatOf}
 use Rattle.snap_shared.specs.Histories.{caller_of, IsWorldAfter}
 use Rattle.snap_shared.proofs.SplitSeats.{cut_rests, cut_rest, split_numbers, numbers_length}
 use Rattle.snap_shared.proofs.SplitStates.{splits_seat}
-use Rattle.snap_shared.proofs.shared.Shared.split_seats.Goals as goal
+use Rattle.snap_shared.proofs.shared.Shared.split_into.Goals as goal
 
 pub split_seat-seat-requires : goal.split_seat-seat-requires
 split_seat-seat-requires g c =

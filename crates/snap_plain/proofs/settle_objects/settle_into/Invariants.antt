@@ -1,7 +1,7 @@
 use Rattle.std.proofs.Common.{◌≡◌, drop, length}
 use Rattle.snap_api.specs.Settle.{settle_from}
 use Rattle.snap_plain.specs.Choices.{put_all}
-use Rattle.snap_plain.proofs.settle_objects.settle_all.Given as goal
+use Rattle.snap_plain.proofs.settle_objects.settle_into.Given as goal
 
 abbrev pub invariant-loop-i : goal.invariant-loop-i
 invariant-loop-i g l = record {

@@ -3,7 +3,7 @@ use Rattle.std.specs.List.{All}
 use Rattle.snap_shared.specs.SharedCalls.{numbers_below}
 use Rattle.snap_shared.specs.SeatSteps.{state_with_callers}
 use Rattle.snap_shared.specs.Seats.{IsNewSeatOf}
-use Rattle.snap_shared.proofs.shared.Shared.split_seats.Given as goal
+use Rattle.snap_shared.proofs.shared.Shared.split_into.Given as goal
 
 abbrev pub invariant-loop-number : goal.invariant-loop-number
 invariant-loop-number g l =
