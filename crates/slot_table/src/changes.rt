@@ -186,6 +186,14 @@ impl<'t> ChangeListWriter<'t> {
             let change = Change::InPlace(self.fresh, self.places);
             return Ok(ChangeList { olds, change });
         }
+        self.into_moves(alloc)
+    }
+
+    // Returns the changes where kept groups move: two blocks that are exchanged, a table that shrinks, or a new table.
+    fn into_moves(self, alloc: Global) -> Result<ChangeList, NoMemory>
+        ensures { IfOk result (λ c. c ≡ self.entry) }
+    {
+        let olds = GroupsBefore::of(self.table);
         if let Some(exchange) = find_exchange(&self.runs) {
             if fits_around(self.table, &self.fresh, &self.places, exchange, self.len) {
                 let change = Change::Exchanged {
