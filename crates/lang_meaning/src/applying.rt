@@ -103,7 +103,7 @@ pub fn apply(
     match operator {
         Operator::Join => Ok(Value::Text(join(alloc, first, second)?)),
         Operator::Text => Ok(Value::Text(first.to_text(alloc)?)),
-        _ => apply_to_list(alloc, operator, first, second),
+        _ => apply_to_list(alloc, operator, first, &second),
     }
 }
 
@@ -135,17 +135,17 @@ fn apply_to_list(
     alloc: Global,
     operator: Operator,
     first: Value,
-    second: Value,
+    second: &Value,
 ) -> Result<Value, NoMemory>
     requires { makes_list operator ≡ true }
-    ensures value { IfOk result (λ v. v ≡ apply operator (first ∷ second ∷ [])) }
-    ensures free { is_flat (apply operator (first ∷ second ∷ [])) ≡ true → OnErr result ⊥ }
+    ensures value { IfOk result (λ v. v ≡ apply operator (first ∷ second.now ∷ [])) }
+    ensures free { is_flat (apply operator (first ∷ second.now ∷ [])) ≡ true → OnErr result ⊥ }
 {
     let b = second.number();
     match operator {
         Operator::Range => Ok(Value::Ints(IntList::range(alloc, first.number(), b)?)),
         Operator::Push => Ok(Value::Ints(push(alloc, first, b)?)),
-        Operator::Concat => Ok(Value::Ints(concat(alloc, first, &second)?)),
+        Operator::Concat => Ok(Value::Ints(concat(alloc, first, second)?)),
         Operator::Length => Ok(Value::Int(length(first.items()))),
         Operator::At => Ok(Value::Int(item(&first, b))),
         _ => unreachable!(),

@@ -111,9 +111,29 @@ pub fn evaluate_attributes<V: View>(
     Ok(all)
 }
 
+// Appends each parameter with its argument to the scope, up to the end of the shorter list.
+#[tactic(auto, using(crate::proofs::Lookups::bind_none))]
+fn bind_into(
+    alloc: Global,
+    scope: &mut Env,
+    parameters: &[Parameter],
+    arguments: &Values,
+) -> Result<(), NoMemory>
+    ensures { OnOk result (scope.new ≡ scope.old ++ bind parameters.now arguments.now) }
+{
+    let mut rest = arguments.items();
+    for parameter in parameters {
+        let Some((argument, more)) = rest.split_first() else {
+            return Ok(());
+        };
+        scope.push(parameter.name.text.copy()?, argument.copy(alloc)?)?;
+        rest = more;
+    }
+    Ok(())
+}
+
 /// Returns the scope with each parameter and its argument, up to the end of the shorter list. Uses `room` as a scratch
 /// buffer.
-#[tactic(auto, using(crate::proofs::Lookups::bind_none))]
 pub fn bind(
     alloc: Global,
     room: Env,
@@ -124,13 +144,6 @@ pub fn bind(
 {
     let mut scope = room;
     scope.clear();
-    let mut rest = arguments.items();
-    for parameter in parameters {
-        let Some((argument, more)) = rest.split_first() else {
-            return Ok(scope);
-        };
-        scope.push(parameter.name.text.copy()?, argument.copy(alloc)?)?;
-        rest = more;
-    }
+    bind_into(alloc, &mut scope, parameters, arguments)?;
     Ok(scope)
 }
