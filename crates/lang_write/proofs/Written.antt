@@ -3,6 +3,8 @@ use Rattle.std.proofs.Common.{◌≡◌, ℕ, suc, ◌+◌, ◌≤◌, ◌<◌, 
 use Rattle.std.proofs.lemmas.Grind.{common_steps}
 use Rattle.std.specs.Fmt.{signed_decimal}
 use Rattle.sexp_text.specs.Forest.{Forest, empty, atom, text, list, joined_trees, without_offsets}
+use Rattle.sexp_text.specs.View.{forest_view}
+use Rattle.sexp_text.specs.declared.tree.Tree.{Tree}
 use Rattle.sexp_text.proofs.Trees.{joined_trees-empty, joined_trees_assoc, forest_view-push, view-Atom, view-Text, view-List}
 use Rattle.lang_ast.specs.Terms.{Expr, Stmts, If, more, next, Func}
 use Rattle.lang_ast.specs.declared.program.State.{State}
@@ -13,6 +15,7 @@ use Rattle.lang_ast.specs.declared.syntax.Statement.{Statement}
 use Rattle.lang_forms.specs.Sketch.{Sketch, nothing, leaf, numeral, string, group, sequence, Fits, unplaced_sketch}
 use Rattle.lang_forms.specs.Forms.{word, name, literal, expr_forms, exprs_forms, stmt_forms, stmts_forms, parameters_forms, states_forms, functions_forms, scripts_forms, top_forms, text_forms}
 use Rattle.lang_forms.specs.Sources.{Source}
+use Rattle.lang_write.specs.Appends.{AppendsForms, StartsForm}
 use Rattle.rt_values.specs.Keywords.{type_word}
 use Rattle.lang_forms.specs.Words.{policy_word}
 
@@ -62,6 +65,16 @@ fits_unplaced f (sequence p i g) h = ap without_offsets h.3
 pub none_left : {A : Type 0} (trees : List A → Forest) → trees [] ≡ empty → (f r : Forest) (xs : List A) → length xs ≡ 0
     → joined_trees f (trees xs) ≡ r → f ≡ r
 none_left trees none f r xs h was = all_there trees none f r xs 0 (omega (arith, h)) was
+
+-- A form with its start and a body of statements.
+pub body_put : (start : Sketch → Sketch) (body : Stmts) (old new inner : List Tree) → StartsForm inner start →
+    forest_view new ≡ joined_trees (forest_view old)
+    (list 0 (joined_trees (forest_view inner) (unplaced_sketch (stmts_forms body))) empty) →
+    AppendsForms old new (λ g. group None (start (stmts_forms body)) g)
+body_put start body old new inner starts put g =
+    ap (λ (x : Forest). joined_trees x (unplaced_sketch g))
+    (put ∙ ap (λ (x : Forest). joined_trees (forest_view old) (list 0 x empty)) (starts (stmts_forms body)))
+    ∙ joined_trees_assoc (forest_view old) _ (unplaced_sketch g)
 
 -- The list of an if.
 pub if_put : (e : Expr) (a b : Stmts) (old new i0 i1 i2 : Forest) → i0 ≡ atom 0 (codes "if") empty → ((g : Sketch) → joined_trees i1 (unplaced_sketch g) ≡ joined_trees i0 (unplaced_sketch (expr_forms e g)))

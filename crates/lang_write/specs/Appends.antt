@@ -19,21 +19,37 @@ abbrev pub AppendsForms : List Tree → List Tree → (Sketch → Sketch) → Ty
 AppendsForms old new form = (g : Sketch) →
     joined_trees (forest_view new) (unplaced_sketch g) ≡ joined_trees (forest_view old) (unplaced_sketch (form g))
 
+-- The trees are those of the start of a form, whatever comes after it.
+abbrev pub StartsForm : List Tree → (Sketch → Sketch) → Type 0
+StartsForm trees start = (g : Sketch) →
+    joined_trees (forest_view trees) (unplaced_sketch g) ≡ unplaced_sketch (start g)
+
+abbrev pub node_start : Ident → List Named → Sketch → Sketch
+node_start n ns g = word (codes "node") (name n (group None (pairs_forms ns) g))
+
 abbrev pub node_sketch : Ident → List Named → Stmts → Sketch → Sketch
-node_sketch n ns body g = group None (word (codes "node") (name n (group None (pairs_forms ns) (stmts_forms body)))) g
+node_sketch n ns body g = group None (node_start n ns (stmts_forms body)) g
 
 abbrev pub call_sketch : Ident → Exprs → Sketch → Sketch
 call_sketch n es g = group None (word (codes "call") (name n (exprs_forms es))) g
 
+abbrev pub key_start : Expr → Sketch → Sketch
+key_start e g = word (codes "key") (expr_forms e g)
+
 abbrev pub key_sketch : Expr → Stmts → Sketch → Sketch
-key_sketch e body g = group None (word (codes "key") (expr_forms e (stmts_forms body))) g
+key_sketch e body g = group None (key_start e (stmts_forms body)) g
+
+abbrev pub bound_start : List ℕ → Ident → Expr → Sketch → Sketch
+bound_start w n e g = word w (name n (expr_forms e g))
 
 abbrev pub bound_sketch : List ℕ → Ident → Expr → Stmts → Sketch → Sketch
-bound_sketch w n e body g = group None (word w (name n (expr_forms e (stmts_forms body)))) g
+bound_sketch w n e body g = group None (bound_start w n e (stmts_forms body)) g
+
+abbrev pub remember_start : Ident → List Named → Expr → Sketch → Sketch
+remember_start n ks e g = word (codes "remember") (name n (group None (pairs_forms ks) (expr_forms e g)))
 
 abbrev pub remember_sketch : Ident → List Named → Expr → Stmts → Sketch → Sketch
-remember_sketch n ks e body g = group None
-    (word (codes "remember") (name n (group None (pairs_forms ks) (expr_forms e (stmts_forms body))))) g
+remember_sketch n ks e body g = group None (remember_start n ks e (stmts_forms body)) g
 
 abbrev pub state_sketch : SnapshotRef → Ident → Sketch → Sketch
 state_sketch s n g = snapshot_forms s (name n g)

@@ -5,7 +5,7 @@ ghost use Rattle.sexp_text.specs.View.{forest_view};
 ghost use Rattle.lang_ast.specs.SyntaxView.{expr_view, exprs_view, nameds_view, stmt_view, stmts_view, function_view, functions_view};
 ghost use Rattle.lang_ast.specs.Programs.{program_view};
 ghost use Rattle.lang_forms.specs.Sketch.{Sketch, nothing, group, unplaced_sketch};
-ghost use Rattle.lang_write.specs.Appends.{AppendsForms, node_sketch, call_sketch, key_sketch, bound_sketch, remember_sketch};
+ghost use Rattle.lang_write.specs.Appends.{AppendsForms, StartsForm, node_start, key_start, bound_start, remember_start, node_sketch, call_sketch, key_sketch, bound_sketch, remember_sketch};
 ghost use Rattle.lang_forms.specs.Forms.{expr_forms, stmt_forms, stmts_forms, parameters_forms, state_forms, states_forms, function_forms, functions_forms, text_forms};
 
 use crate::write_expressions::{
@@ -65,8 +65,77 @@ fn put_stmt(alloc: Global, statement: &Statement, out: &mut Vec<Tree>) -> Result
     }
 }
 
-// Appends the form of a node.
+// Returns the form of a node before its body.
 #[tactic(auto, using(crate::proofs::Written::written))]
+fn start_node(alloc: Global, kind: &Ident, attributes: &[Named]) -> Result<Vec<Tree>, NoMemory>
+    ensures { IfOk result (λ trees. StartsForm trees.items (node_start kind.now (nameds_view attributes.now))) }
+{
+    let mut inner = list_with_word(alloc, b"node")?;
+    put_named(alloc, kind, attributes, &mut inner)?;
+    Ok(inner)
+}
+
+// Returns the form of a key before its body.
+#[tactic(auto, using(crate::proofs::Written::written))]
+fn start_key(alloc: Global, key: &Expression) -> Result<Vec<Tree>, NoMemory>
+    ensures { IfOk result (λ trees. StartsForm trees.items (key_start (expr_view key.now))) }
+{
+    let mut inner = list_with_word(alloc, b"key")?;
+    put_expr(alloc, key, &mut inner)?;
+    Ok(inner)
+}
+
+// Returns the form of a `for` or a `let` before its body: `word`, a name and an expression.
+#[tactic(auto, using(crate::proofs::Written::written))]
+fn start_bound(
+    alloc: Global,
+    word: &[u8],
+    name: &Ident,
+    value: &Expression,
+) -> Result<Vec<Tree>, NoMemory>
+    ensures { IfOk result (λ trees. StartsForm trees.items (bound_start word.now name.now (expr_view value.now))) }
+{
+    let mut inner = list_with_word(alloc, word)?;
+    put_binding(alloc, name, value, &mut inner)?;
+    Ok(inner)
+}
+
+// Returns the form of a remember before its body.
+#[tactic(auto, using(crate::proofs::Written::written))]
+fn start_remember(
+    alloc: Global,
+    name: &Ident,
+    keys: &[Named],
+    value: &Expression,
+) -> Result<Vec<Tree>, NoMemory>
+    ensures { IfOk result (λ trees. StartsForm trees.items
+        (remember_start name.now (nameds_view keys.now) (expr_view value.now))) }
+{
+    let mut inner = list_with_word(alloc, b"remember")?;
+    put_named(alloc, name, keys, &mut inner)?;
+    put_expr(alloc, value, &mut inner)?;
+    Ok(inner)
+}
+
+// Appends the form that starts with the trees `start` and ends with statements.
+#[tactic(auto, using(crate::proofs::Written::written))]
+#[cycle(statements)]
+fn put_body(
+    alloc: Global,
+    start: Vec<Tree>,
+    body: &[Statement],
+    out: &mut Vec<Tree>,
+) -> Result<(), NoMemory>
+    ensures { OnOk result (forest_view out.new.items
+        ≡ joined_trees (forest_view out.old.items)
+        (list 0 (joined_trees (forest_view start.items) (unplaced_sketch (stmts_forms (stmts_view body.now)))) empty)) }
+{
+    let mut inner = start;
+    put_stmts(alloc, body, &mut inner)?;
+    put_list(inner, out)
+}
+
+// Appends the form of a node.
 #[cycle(statements)]
 fn put_node(
     alloc: Global,
@@ -78,10 +147,8 @@ fn put_node(
     ensures { OnOk result (AppendsForms out.old.items out.new.items
         (node_sketch kind.now (nameds_view attributes.now) (stmts_view body.now))) }
 {
-    let mut inner = list_with_word(alloc, b"node")?;
-    put_named(alloc, kind, attributes, &mut inner)?;
-    put_stmts(alloc, body, &mut inner)?;
-    Ok(put_list(inner, out)?)
+    let start = start_node(alloc, kind, attributes)?;
+    Ok(put_body(alloc, start, body, out)?)
 }
 
 // Appends the form of a call.
@@ -102,7 +169,6 @@ fn put_call(
 }
 
 // Appends the form of a key.
-#[tactic(auto, using(crate::proofs::Written::written))]
 #[cycle(statements)]
 fn put_key(
     alloc: Global,
@@ -113,14 +179,11 @@ fn put_key(
     ensures { OnOk result (AppendsForms out.old.items out.new.items
         (key_sketch (expr_view key.now) (stmts_view body.now))) }
 {
-    let mut inner = list_with_word(alloc, b"key")?;
-    put_expr(alloc, key, &mut inner)?;
-    put_stmts(alloc, body, &mut inner)?;
-    Ok(put_list(inner, out)?)
+    let start = start_key(alloc, key)?;
+    Ok(put_body(alloc, start, body, out)?)
 }
 
 // Appends the form of a `for` or a `let`: `word`, a name, an expression and statements.
-#[tactic(auto, using(crate::proofs::Written::written))]
 #[cycle(statements)]
 fn put_bound(
     alloc: Global,
@@ -133,14 +196,11 @@ fn put_bound(
     ensures { OnOk result (AppendsForms out.old.items out.new.items
         (bound_sketch word.now name.now (expr_view value.now) (stmts_view body.now))) }
 {
-    let mut inner = list_with_word(alloc, word)?;
-    put_binding(alloc, name, value, &mut inner)?;
-    put_stmts(alloc, body, &mut inner)?;
-    Ok(put_list(inner, out)?)
+    let start = start_bound(alloc, word, name, value)?;
+    Ok(put_body(alloc, start, body, out)?)
 }
 
 // Appends the form of a remember.
-#[tactic(auto, using(crate::proofs::Written::written))]
 #[cycle(statements)]
 fn put_remember(
     alloc: Global,
@@ -154,11 +214,8 @@ fn put_remember(
         (remember_sketch name.now (nameds_view keys.now) (expr_view value.now)
         (stmts_view body.now))) }
 {
-    let mut inner = list_with_word(alloc, b"remember")?;
-    put_named(alloc, name, keys, &mut inner)?;
-    put_expr(alloc, value, &mut inner)?;
-    put_stmts(alloc, body, &mut inner)?;
-    Ok(put_list(inner, out)?)
+    let start = start_remember(alloc, name, keys, value)?;
+    Ok(put_body(alloc, start, body, out)?)
 }
 
 // Appends the form of an if.
@@ -198,21 +255,8 @@ fn put_branches(
         (unplaced_sketch (group None (stmts_forms (stmts_view first.now))
         (group None (stmts_forms (stmts_view second.now)) nothing)))) }
 {
-    put_block(alloc, first, out)?;
-    put_block(alloc, second, out)
-}
-
-// Appends a list of statements.
-#[tactic(auto, using(crate::proofs::Written::written))]
-#[cycle(statements)]
-fn put_block(alloc: Global, statements: &[Statement], out: &mut Vec<Tree>) -> Result<(), NoMemory>
-    ensures { OnOk result (forest_view out.new.items
-        ≡ joined_trees (forest_view out.old.items)
-        (list 0 (unplaced_sketch (stmts_forms (stmts_view statements.now))) empty)) }
-{
-    let mut inner = Vec::new(alloc);
-    put_stmts(alloc, statements, &mut inner)?;
-    put_list(inner, out)
+    put_body(alloc, Vec::new(alloc), first, out)?;
+    put_body(alloc, Vec::new(alloc), second, out)
 }
 
 // Appends the forms of statements.

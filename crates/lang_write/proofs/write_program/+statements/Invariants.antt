@@ -16,8 +16,8 @@ invariant-put_stmts-loop-statement l = joined_trees (forest_view l.out.items)
 abbrev pub decreases-put_stmt : goal.decreases-put_stmt
 decreases-put_stmt l = 5 * size-Statement l.statement.now
 
-abbrev pub decreases-put_block : goal.decreases-put_block
-decreases-put_block l = 5 * most size-Statement l.statements.now + 2
+abbrev pub decreases-put_body : goal.decreases-put_body
+decreases-put_body l = 5 * most size-Statement l.body.now + 2
 
 abbrev pub decreases-put_stmts : goal.decreases-put_stmts
 decreases-put_stmts l = 5 * most size-Statement l.statements.now + 1
@@ -29,13 +29,13 @@ abbrev pub decreases-put_if : goal.decreases-put_if
 decreases-put_if l = 5 * max (most size-Statement l.first.now) (most size-Statement l.second.now) + 4
 
 abbrev pub decreases-put_node : goal.decreases-put_node
-decreases-put_node l = 5 * most size-Statement l.body.now + 2
+decreases-put_node l = 5 * most size-Statement l.body.now + 3
 
 abbrev pub decreases-put_key : goal.decreases-put_key
-decreases-put_key l = 5 * most size-Statement l.body.now + 2
+decreases-put_key l = 5 * most size-Statement l.body.now + 3
 
 abbrev pub decreases-put_bound : goal.decreases-put_bound
-decreases-put_bound l = 5 * most size-Statement l.body.now + 2
+decreases-put_bound l = 5 * most size-Statement l.body.now + 3
 
 abbrev pub decreases-put_remember : goal.decreases-put_remember
-decreases-put_remember l = 5 * most size-Statement l.body.now + 2
+decreases-put_remember l = 5 * most size-Statement l.body.now + 3
