@@ -756,9 +756,10 @@ fn compose_draft<'a, V: View, L: Ledger>(
         writer,
         spares,
     };
-    write_frame(alloc, program, last, &mut made, view, steps)?;
-    held.keep_replaced(made.spares.into_replaced());
-    Ok(made.writer.into_draft(alloc)?)
+    let written = write_frame(alloc, program, last, &mut made, view, steps);
+    let writer = made.into_writer(held);
+    written?;
+    Ok(writer.into_draft(alloc)?)
 }
 
 /// Composes a frame next to the groups of the last good frame (`recompose`), or everything before the first one

@@ -4,6 +4,7 @@ ghost use Rattle.rt_groups.specs.Paths.{GroupKey};
 ghost use Rattle.composer.specs.OldSiblings.{found_siblings, IsFoundIn};
 ghost use Rattle.composer.specs.Waiting.{waiting_siblings};
 
+use crate::draft::Held;
 use crate::last_groups::LastGroups;
 use crate::old_groups::OldGroup;
 use crate::pending::Pending;
@@ -94,5 +95,13 @@ impl<'a> Progress<'a> {
         self.spares.keep_scope(variables);
         self.pending = pending;
         mem::replace(&mut self.reads, reads)
+    }
+
+    /// Ends composing, and returns the writer. Gives `held` back the memory that earlier frames left.
+    pub fn into_writer(self, held: &Held) -> Writer<'a>
+        ensures { result ≡ self.entry.writer }
+    {
+        held.keep_replaced(self.spares.into_replaced());
+        self.writer
     }
 }

@@ -238,6 +238,36 @@ impl<'t> Writer<'t> {
         Ok(self.groups.keep(at, at + 1)?)
     }
 
+    // Appends a node without reads, which is matched with `found`. The list of the attributes is spare if the old node
+    // stays as it is.
+    #[inline(always)]
+    fn put_node(
+        &mut self,
+        alloc: Global,
+        place: Place,
+        kind: &Word,
+        attributes: Attributes,
+        found: &Option<OldGroup>,
+        spares: &mut Spares,
+    ) -> Result<(), ComposeStop>
+        requires { length self.old.groups ≤ most_groups }
+        ensures added { OnOk result (self.new ≡ written_run
+            (flat_group place.depth place.site place.number (kinds.Node kind.now attributes) [] ∷ []) self.old) }
+        ensures fits { OnOk result (length self.new.groups ≤ most_groups) }
+        ensures full { result ≡ Err ComposeStop.TooManyGroups → length self.old.groups ≡ most_groups }
+    {
+        match kept_node(self.groups.table(), found, place, kind, attributes.items()) {
+            Some(at) => {
+                spares.keep_attributes(attributes);
+                self.keep_one(at)
+            }
+            None => {
+                let node = spares.new_node(alloc, kind.copy()?, attributes)?;
+                self.push(node.placed(place.depth, place.site, place.number))
+            }
+        }
+    }
+
     /// Appends a node or a key that is matched with `found`. A node gets the number of `found`, or the next number.
     /// The list of the attributes is spare if the group does not need it.
     #[inline(always)]
@@ -263,16 +293,7 @@ impl<'t> Writer<'t> {
                     site,
                     number,
                 };
-                match kept_node(self.groups.table(), found, place, kind, attributes.items()) {
-                    Some(at) => {
-                        spares.keep_attributes(attributes);
-                        self.keep_one(at)?;
-                    }
-                    None => {
-                        let node = spares.new_node(alloc, kind.copy()?, attributes)?;
-                        self.push(node.placed(depth, site, number))?;
-                    }
-                }
+                self.put_node(alloc, place, kind, attributes, found, spares)?;
                 self.next = next;
                 Ok(())
             }
@@ -282,6 +303,38 @@ impl<'t> Writer<'t> {
                     Some(at) => self.keep_one(at),
                     None => self.push_new(alloc, place, GroupKind::Key(value)),
                 }
+            }
+        }
+    }
+
+    // Appends a cell, which is matched with `found`. The list of the keys is spare if the old cell stays as it is.
+    #[inline(always)]
+    fn put_cell(
+        &mut self,
+        alloc: Global,
+        spares: &mut Spares,
+        place: Place,
+        keys: Env,
+        remembered: &CellValue,
+        found: &Option<OldGroup>,
+    ) -> Result<(), ComposeStop>
+        requires room { length self.old.groups ≤ most_groups }
+        requires table { IsFoundIn self.old.olds found.now }
+        requires kept { kept_of found.now (map (λ b. b.value) keys) ≡ value_kept remembered.now }
+        ensures added { OnOk result (self.new ≡ written_run (flat_group place.depth place.site place.number
+            (kinds.Cell (map (λ b. b.value) keys) remembered.now.value) [] ∷ []) self.old) }
+        ensures fits { OnOk result (length self.new.groups ≤ most_groups) }
+        ensures full { result ≡ Err ComposeStop.TooManyGroups → length self.old.groups ≡ most_groups }
+    {
+        match kept_cell(self.groups.table(), found, place, remembered) {
+            Some(at) => {
+                spares.keep_scope(keys);
+                self.keep_one(at)
+            }
+            None => {
+                let keys = keys.into_values(alloc)?;
+                let value = remembered.value.copy(alloc)?;
+                self.push_new(alloc, place, GroupKind::Cell { keys, value })
             }
         }
     }
@@ -313,17 +366,7 @@ impl<'t> Writer<'t> {
             return Err(ComposeStop::NoMemory); // There are fewer cells than groups.
         };
         let place = Place::without_number(depth, site);
-        match kept_cell(self.groups.table(), found, place, remembered) {
-            Some(at) => {
-                spares.keep_scope(keys);
-                self.keep_one(at)?;
-            }
-            None => {
-                let keys = keys.into_values(alloc)?;
-                let value = remembered.value.copy(alloc)?;
-                self.push_new(alloc, place, GroupKind::Cell { keys, value })?;
-            }
-        }
+        self.put_cell(alloc, spares, place, keys, remembered, found)?;
         self.calculated = calculated;
         Ok(())
     }

@@ -1,10 +1,10 @@
-use Rattle.std.proofs.Common.{rules, ◌≡◌, ◌∙◌, ℕ, List, [], Err, ap}
+use Rattle.std.proofs.Common.{rules, ◌≡◌, ◌≤◌, ◌-◌, ◌^◌, ◌∙◌, ℕ, List, [], Err, ap, subst}
 use Rattle.composer.specs.declared.stop.ComposeStop.TheVariants.{NoMemory}
 use Rattle.composer.specs.FrameDrafts.{root_of}
 use Rattle.lang_ast.specs.Programs.{functions_of}
 use Rattle.rt_groups.specs.declared.groups.Group.{Group}
 use Rattle.rt_groups.specs.PreorderGroups.{preorder}
-use Rattle.composer.specs.WrittenGroups.{WrittenGroups}
+use Rattle.composer.specs.WrittenGroups.{WrittenGroups, IsDraftOf}
 use Rattle.composer.proofs.WholeFrames.{frame_made, frame_stopped, frame_lost}
 use Rattle.composer.proofs.composing.compose_draft.Goals as goal
 
@@ -18,21 +18,25 @@ returns-clause-frame g c k m h table next owing =
     let root = root_of c.args.program.now in
     let first = c.new-writer.ensures ∙ ap (λ gs. written_at gs c.next.result) (c.table.ensures ∙ table)
     ∙ ap (written_at (preorder 0 k.trail)) (c.next.ensures ∙ next) in
-    frame_made fs root c.args.last.now.owed k m (g.V.View.asked c.args.view.now) (g.V.View.asked c.write_frame.new.view)
-    c.write_frame.new.made.writer c.new-writer.result first
-    (c.in_ok-write_frame.ensures.ran m h k.seen k.trail [] table owing)
-    (c.in_ok-write_frame.ensures.counted m h) c.in_ok-into_draft.ensures.bound c.in_ok-write_frame.ensures.fits.few _ c.in_ok-into_draft.ensures.draft
+    let same = c.into_writer-writer.ensures in
+    frame_made fs root c.args.last.now.owed k m (g.V.View.asked c.args.view.now)
+    (g.V.View.asked c.write_frame-written.new.view) c.write_frame-written.new.made.writer c.new-writer.result first
+    (c.in_ok-written.ensures.ran m h k.seen k.trail [] table owing)
+    (c.in_ok-written.ensures.counted m h)
+    (subst (λ (w : WrittenGroups). w.reads ≤ 2 ^ 64 - 1) same c.in_ok-into_draft.ensures.bound)
+    c.in_ok-written.ensures.fits.few c.in_ok-into_draft.field-0
+    (subst (λ (w : WrittenGroups). IsDraftOf w c.in_ok-into_draft.field-0) same c.in_ok-into_draft.ensures.draft)
 
-pub returns-in_err-write_frame-clause-frame : goal.returns-in_err-write_frame-clause-frame
-returns-in_err-write_frame-clause-frame g c k m h table next owing =
+pub returns-in_err-written-clause-frame : goal.returns-in_err-written-clause-frame
+returns-in_err-written-clause-frame g c k m h table next owing =
     let fs = functions_of c.args.program.now in
     let root = root_of c.args.program.now in
     let first = c.new-writer.ensures ∙ ap (λ gs. written_at gs c.next.result) (c.table.ensures ∙ table)
     ∙ ap (written_at (preorder 0 k.trail)) (c.next.ensures ∙ next) in
-    let e : c.from_residual.result ≡ Err c.in_err-write_frame.field-0.0 = search rules in
-    frame_stopped fs root c.args.last.now.owed k m (g.V.View.asked c.args.view.now) (g.V.View.asked c.write_frame.new.view)
-    c.write_frame.new.made.writer c.new-writer.result c.in_err-write_frame.field-0.0 _ first
-    (c.in_err-write_frame.ensures.ran m h k.seen k.trail [] table owing) e
+    let e : c.from_residual.result ≡ Err c.in_err-written.field-0.0 = search rules in
+    frame_stopped fs root c.args.last.now.owed k m (g.V.View.asked c.args.view.now)
+    (g.V.View.asked c.write_frame-written.new.view) c.write_frame-written.new.made.writer c.new-writer.result
+    c.in_err-written.field-0.0 _ first (c.in_err-written.ensures.ran m h k.seen k.trail [] table owing) e
 
 pub returns-in_err-into_draft-clause-frame : goal.returns-in_err-into_draft-clause-frame
 returns-in_err-into_draft-clause-frame g c k m h table next owing =
@@ -41,6 +45,6 @@ returns-in_err-into_draft-clause-frame g c k m h table next owing =
     let first = c.new-writer.ensures ∙ ap (λ gs. written_at gs c.next.result) (c.table.ensures ∙ table)
     ∙ ap (written_at (preorder 0 k.trail)) (c.next.ensures ∙ next) in
     let e : c.from_residual-in_err-into_draft.result ≡ Err NoMemory = search rules in
-    frame_lost fs root c.args.last.now.owed k m (g.V.View.asked c.args.view.now) (g.V.View.asked c.write_frame.new.view)
-    c.write_frame.new.made.writer c.new-writer.result _ first
-    (c.in_ok-write_frame.ensures.ran m h k.seen k.trail [] table owing) e
+    frame_lost fs root c.args.last.now.owed k m (g.V.View.asked c.args.view.now)
+    (g.V.View.asked c.write_frame-written.new.view) c.write_frame-written.new.made.writer c.new-writer.result _ first
+    (c.in_ok-written.ensures.ran m h k.seen k.trail [] table owing) e
