@@ -24,6 +24,7 @@ use rt_values::{IntList, NoMemory, Value};
 use snap_api::Versions;
 use snap_policy::BuiltIn;
 use std::alloc::Global;
+use std::mem;
 
 // Rotates the items, and writes them.
 fn count_rotation<V: Versions<P = BuiltIn>>(
@@ -143,14 +144,18 @@ fn count_program<V: Versions<P = BuiltIn>>(
     let memory = RunMemory::new(alloc, program)?;
     let tally = Tally::new();
     let mut counting = Counting { memory, tally };
-    count_steps(alloc, number, size, &mut counting, world)?;
-    Ok(counting.tally)
+    let counted = count_steps(alloc, number, size, &mut counting, world);
+    let Counting { memory, tally } = counting;
+    mem::forget(memory);
+    counted?;
+    Ok(tally)
 }
 
 /// Makes the steps of the generated script on the generated program in a new world, draw by draw, and returns the
 /// counts of their history.
 ///
-/// A rule of this project. Nothing is printed. Fails only if the process is out of memory.
+/// A rule of this project. Nothing is printed. Fails only if the process is out of memory. The memory of the
+/// composition is left to the end of the process.
 pub fn count_input<V: Versions<P = BuiltIn>>(
     alloc: Global,
     number: u32,

@@ -32,6 +32,7 @@ use script_lang::Flags;
 use snap_api::{Entry, Reply, Request};
 use std::alloc::Global;
 use std::marker::Brand;
+use std::mem;
 use std::sync::ledger::Blank;
 
 // An open frame: the caller that took its snapshot, and the number of the snapshot.
@@ -297,7 +298,7 @@ fn replay_calls<K: Sink>(
 ///
 /// `calls` is a whole legal history, with the reads of frames, and its frames are in turn. `flags` say what is printed
 /// of a frame. Fails if the sink fails, if the process is out of memory, or with `NoMemory` if a frame ends without all
-/// the reads of its composition.
+/// the reads of its composition. The memory of the composition is left to the end of the process.
 pub fn replay<K: Sink>(
     alloc: Global,
     job: &Job,
@@ -315,5 +316,7 @@ pub fn replay<K: Sink>(
     let Ok(mut memory) = ReplayMemory::new(alloc, &job.program) else {
         return Err(Stop::NoMemory);
     };
-    replay_calls(alloc, job, flags, calls, &mut memory, sink)
+    let done = replay_calls(alloc, job, flags, calls, &mut memory, sink);
+    mem::forget(memory);
+    done
 }

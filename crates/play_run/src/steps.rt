@@ -214,10 +214,10 @@ pub fn run_script<V: Versions<P = BuiltIn>, K: Sink>(
         (V.log world.new) (K.written sink.old) (K.written sink.new)) }
     ensures faults { FaultsAfter (K.faults sink.old) (K.faults sink.new) result }
 {
-    let Ok(mut memory) = RunMemory::new(alloc, &job.program) else {
+    let Ok(()) = set_up_world(alloc, &job.program, world) else {
         return Err(Stop::NoMemory);
     };
-    let Ok(()) = set_up_world(alloc, &job.program, world) else {
+    let Ok(mut memory) = RunMemory::new(alloc, &job.program) else {
         return Err(Stop::NoMemory);
     };
     let done = run_do_forms(alloc, job, flags, &mut memory, world, sink);

@@ -27,7 +27,7 @@ returns g c =
     let facts = opened_facts {functions = functions} {stands = g.V.Versions.stands} {world = c.args.world.now}
     {kept = c.in_ok-memory.memory.composition} 0 states None fit c.requires.opened memory.composition
     (ap functions_of memory.program) in
-    let counts = c.in_ok-count_steps.ensures functions (first_run states None) facts in
+    let counts = c.in_ok-counted.ensures functions (first_run states None) facts in
     counts.counted
     ∙ ap (λ t. parts_counted functions t (first_run states None) parts) c.new-tally.ensures
     ∙ sym (run_counted_is states functions None parts)

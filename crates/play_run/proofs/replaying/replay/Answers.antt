@@ -10,7 +10,7 @@ pub returns-clause-says : goal.returns-clause-says
 returns-clause-says g c =
     let p = c.args.job.now.program in
     let fit = program-fits p.header p.states.items (functions_view p.functions.items) c.args.job.now.fine in
-    c.replay_calls.ensures.says (initial_standing p.states.items)
+    c.replay_calls-done.ensures.says (initial_standing p.states.items)
     (replay_opened c.in-Ok.memory p.states.items fit c.in-Ok.ensures.composition
     (ap functions_of c.in-Ok.ensures.program) c.in-Ok.ensures.given c.in-Ok.ensures.reads)
     c.requires.legal c.requires.turn

@@ -22,8 +22,8 @@ returns-clause-says g c =
     (g.V.Versions.log c.args.world.now) parts))
     (c.run_do_forms-done.ensures.runs (first_run p.states.items (g.V.Versions.log c.args.world.now))
     (opened 0 p.states.items (g.V.Versions.log c.args.world.now) fit c.set_up_world.ensures.log
-    c.in-Ok-set_up_world.ensures.opened c.in-Ok.ensures.composition (ap functions_of c.in-Ok.ensures.program)
-    c.in-Ok.ensures.names)).says
+    c.in-Ok.ensures.opened c.in-Ok-new.ensures.composition (ap functions_of c.in-Ok-new.ensures.program)
+    c.in-Ok-new.ensures.names)).says
 
 pub returns-clause-log : goal.returns-clause-log
 returns-clause-log g c =
@@ -32,8 +32,8 @@ returns-clause-log g c =
     let log = g.V.Versions.log c.args.world.now in
     let fit = program-fits p.header p.states.items (functions_view p.functions.items) c.args.job.now.fine in
     let ran = (c.run_do_forms-done.ensures.runs (first_run p.states.items log)
-    (opened 0 p.states.items log fit c.set_up_world.ensures.log c.in-Ok-set_up_world.ensures.opened
-    c.in-Ok.ensures.composition (ap functions_of c.in-Ok.ensures.program) c.in-Ok.ensures.names)).left in
+    (opened 0 p.states.items log fit c.set_up_world.ensures.log c.in-Ok.ensures.opened
+    c.in-Ok-new.ensures.composition (ap functions_of c.in-Ok-new.ensures.program) c.in-Ok-new.ensures.names)).left in
     logged_after (λ (h : IsRun (job_functions c.args.job.now) g.V.Versions.stands g.V.Versions.log c.run_do_forms-done.new.world c.run_do_forms-done.new.memory 0 None (parts_after (job_functions c.args.job.now) (first_run p.states.items log) parts)). run_logged (job_titles c.args.job.now) (job_functions c.args.job.now) parts log (g.V.Versions.log c.run_do_forms-done.new.world) h.logged) c.run_do_forms-done.result ran
 
 pub returns-clause-stops : goal.returns-clause-stops
@@ -43,8 +43,8 @@ returns-clause-stops g c =
     let log = g.V.Versions.log c.args.world.now in
     let fit = program-fits p.header p.states.items (functions_view p.functions.items) c.args.job.now.fine in
     let ran = (c.run_do_forms-done.ensures.runs (first_run p.states.items log)
-    (opened 0 p.states.items log fit c.set_up_world.ensures.log c.in-Ok-set_up_world.ensures.opened
-    c.in-Ok.ensures.composition (ap functions_of c.in-Ok.ensures.program) c.in-Ok.ensures.names)).stops in
+    (opened 0 p.states.items log fit c.set_up_world.ensures.log c.in-Ok.ensures.opened
+    c.in-Ok-new.ensures.composition (ap functions_of c.in-Ok-new.ensures.program) c.in-Ok-new.ensures.names)).stops in
     after_error c.run_do_forms-done.result
     (script_stopped (job_style c.args.job.now c.args.flags) (job_functions c.args.job.now) parts log
     (g.V.Versions.log c.run_do_forms-done.new.world) _ _) ran
