@@ -68,6 +68,22 @@ fn count_call<V: Versions<P = BuiltIn>>(
     Ok(reply)
 }
 
+// Makes the call of a part outside frames, counts the reply and drops it.
+fn count_request<V: Versions<P = BuiltIn>>(
+    alloc: Global,
+    request: Request,
+    counting: &mut Counting,
+    world: &mut V,
+) -> Result<(), NoMemory>
+    ensures { (functions : List Func) (r : Run) (p : Part) → IsPlain p → request_of r.notes p ≡ Some request →
+        RunFacts functions V.stands world.old counting.old.memory.composition 0 None r →
+        OnOk result
+        (CountsAt functions V.stands (parts_of 0 (p ∷ [])) world.new counting.new None counting.old.tally r) }
+{
+    count_call(alloc, request, counting, world)?;
+    Ok(())
+}
+
 /// Adds `amount` to the state `object` in the global snapshot. A rule of this project.
 pub fn count_add<V: Versions<P = BuiltIn>>(
     alloc: Global,
@@ -81,10 +97,7 @@ pub fn count_add<V: Versions<P = BuiltIn>>(
 {
     let reply = count_call(alloc, Request::Read { name: 0, object }, counting, world)?;
     match sum_request(0, object, amount, &reply) {
-        Some(request) => {
-            count_call(alloc, request, counting, world)?;
-            Ok(())
-        }
+        Some(request) => count_request(alloc, request, counting, world),
         None => Ok(()),
     }
 }
@@ -105,8 +118,7 @@ pub fn count_write<V: Versions<P = BuiltIn>>(
         object,
         value,
     };
-    count_call(alloc, request, counting, world)?;
-    Ok(())
+    count_request(alloc, request, counting, world)
 }
 
 /// Writes `value` to the state `object` in a snapshot with the name `g`, and applies it. A rule of this project.
@@ -131,9 +143,8 @@ pub fn count_raise<V: Versions<P = BuiltIn>>(
         object,
         value,
     };
-    count_call(alloc, write, counting, world)?;
-    count_call(alloc, Request::Apply { name }, counting, world)?;
-    Ok(())
+    count_request(alloc, write, counting, world)?;
+    count_request(alloc, Request::Apply { name }, counting, world)
 }
 
 // Takes a frame's snapshot, and marks what changed since the last frame as owed. Returns the number of the snapshot, or

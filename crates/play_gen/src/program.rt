@@ -1,7 +1,7 @@
 // The program, part by part. The offset of each part is 0.
-ghost use Rattle.std.specs.Prelude.{◌≡◌, ◌≤◌, ℕ, [], ◌∷◌, IfOk, codes};
-ghost use Rattle.lang_ast.specs.SyntaxView.{expr_view, exprs_view, named_view, nameds_view, stmt_view, stmts_view, function_view, functions_view};
-ghost use Rattle.lang_ast.specs.Terms.{Node, Call};
+ghost use Rattle.std.specs.Prelude.{◌≡◌, ◌≤◌, ◌++◌, ℕ, [], ◌∷◌, IfOk, OnOk, codes};
+ghost use Rattle.lang_ast.specs.SyntaxView.{expr_view, exprs_view, nameds_view, stmt_view, stmts_view, function_view, functions_view};
+ghost use Rattle.lang_ast.specs.Terms.{Node, Call, Remember, exprs};
 ghost use Rattle.lang_ast.specs.Programs.{program_view};
 ghost use Rattle.play_gen.specs.GeneratedProgram.{ident, state, variable, state_value, product, named_value, first_items, generated_states, row_node, row_cell, row_function, keyed_row, all_rows, total_node, page_node, function, generated_functions, generated_program};
 
@@ -22,23 +22,26 @@ pub fn ident(alloc: Global, name: &[u8]) -> Result<Ident, NoMemory>
     })
 }
 
-// Returns the state with this name.
-fn state(
+// Appends a state.
+fn add_state(
     alloc: Global,
+    states: &mut Vec<State>,
     name: &[u8],
     ty: Ty,
     policy: BuiltIn,
     initial: Value,
-) -> Result<State, NoMemory>
-    ensures { IfOk result (λ s. s ≡ state name.now ty policy initial) }
+) -> Result<(), NoMemory>
+    ensures { OnOk result (states.new.items ≡ states.old.items ++ state name.now ty policy initial ∷ []) }
 {
-    Ok(State {
+    let name = ident(alloc, name)?;
+    states.push(State {
         at: 0,
-        name: ident(alloc, name)?,
+        name,
         ty,
         policy,
         initial,
-    })
+    })?;
+    Ok(())
 }
 
 /// Returns the items at the start. A rule of this project.
@@ -53,11 +56,40 @@ fn generated_states(alloc: Global, size: u32) -> Result<Vec<State>, NoMemory>
     ensures { IfOk result (λ v. v.items ≡ generated_states size) }
 {
     let items = Value::Ints(first_items(alloc, size)?);
-    let items = state(alloc, b"items", Ty::Ints, BuiltIn::Structural, items)?;
-    let total = state(alloc, b"total", Ty::Int, BuiltIn::Counter, Value::Int(0))?;
-    let best = state(alloc, b"best", Ty::Int, BuiltIn::Largest, Value::Int(0))?;
-    let scale = state(alloc, b"scale", Ty::Int, BuiltIn::Structural, Value::Int(1))?;
-    Ok(vec![in alloc; items, total, best, scale]?)
+    let mut states = Vec::new(alloc);
+    add_state(
+        alloc,
+        &mut states,
+        b"items",
+        Ty::Ints,
+        BuiltIn::Structural,
+        items,
+    )?;
+    add_state(
+        alloc,
+        &mut states,
+        b"total",
+        Ty::Int,
+        BuiltIn::Counter,
+        Value::Int(0),
+    )?;
+    add_state(
+        alloc,
+        &mut states,
+        b"best",
+        Ty::Int,
+        BuiltIn::Largest,
+        Value::Int(0),
+    )?;
+    add_state(
+        alloc,
+        &mut states,
+        b"scale",
+        Ty::Int,
+        BuiltIn::Structural,
+        Value::Int(1),
+    )?;
+    Ok(states)
 }
 
 // Returns the variable with this name.
@@ -96,20 +128,49 @@ fn product(alloc: Global, a: Expression, b: Expression) -> Result<Expression, No
     })
 }
 
-// Returns the expression with a name.
-fn named(alloc: Global, name: &[u8], value: Expression) -> Result<Named, NoMemory>
-    ensures { IfOk result (λ n. named_view n ≡ named_value name.now (expr_view value)) }
+// Appends an expression with a name.
+#[tactic(auto, using(crate::proofs::Parts::appended))]
+fn add_named(
+    alloc: Global,
+    list: &mut Vec<Named>,
+    name: &[u8],
+    value: Expression,
+) -> Result<(), NoMemory>
+    ensures { OnOk result (nameds_view list.new.items
+        ≡ nameds_view list.old.items ++ named_value name.now (expr_view value) ∷ []) }
 {
     let name = ident(alloc, name)?;
-    Ok(Named { name, value })
+    list.push(Named { name, value })?;
+    Ok(())
 }
 
-// Returns the variable `of` with a name.
-fn named_variable(alloc: Global, name: &[u8], of: &[u8]) -> Result<Named, NoMemory>
-    ensures { IfOk result (λ n. named_view n ≡ named_value name.now (variable of.now)) }
+// Appends the variable `of` with a name.
+fn add_variable(
+    alloc: Global,
+    list: &mut Vec<Named>,
+    name: &[u8],
+    of: &[u8],
+) -> Result<(), NoMemory>
+    ensures { OnOk result (nameds_view list.new.items
+        ≡ nameds_view list.old.items ++ named_value name.now (variable of.now) ∷ []) }
 {
     let value = variable(alloc, of)?;
-    named(alloc, name, value)
+    add_named(alloc, list, name, value)
+}
+
+// Appends the `get` of the state `of`, which has this number, with a name.
+fn add_state_value(
+    alloc: Global,
+    list: &mut Vec<Named>,
+    name: &[u8],
+    of: &[u8],
+    number: ObjectNo,
+) -> Result<(), NoMemory>
+    ensures { OnOk result (nameds_view list.new.items
+        ≡ nameds_view list.old.items ++ named_value name.now (state_value of.now number) ∷ []) }
+{
+    let value = state_value(alloc, of, number)?;
+    add_named(alloc, list, name, value)
 }
 
 // Returns the node of this kind.
@@ -171,13 +232,14 @@ fn scaled_item(alloc: Global) -> Result<Expression, NoMemory>
     product(alloc, item, scale)
 }
 
-// Returns the attribute `scaled` of the node of a row.
-fn scaled_attribute(alloc: Global) -> Result<Named, NoMemory>
-    ensures { IfOk result (λ n. named_view n ≡
-        named_value (codes "scaled") (product (variable (codes "i")) (state_value (codes "scale") 3))) }
+// Appends the attribute `scaled` of the node of a row.
+fn add_scaled(alloc: Global, attributes: &mut Vec<Named>) -> Result<(), NoMemory>
+    ensures { let scaled = product (variable (codes "i")) (state_value (codes "scale") 3) in
+        OnOk result (nameds_view attributes.new.items
+        ≡ nameds_view attributes.old.items ++ named_value (codes "scaled") scaled ∷ []) }
 {
     let value = scaled_item(alloc)?;
-    named(alloc, b"scaled", value)
+    add_named(alloc, attributes, b"scaled", value)
 }
 
 // Returns the square of a variable.
@@ -197,10 +259,11 @@ fn row_attributes(alloc: Global) -> Result<Vec<Named>, NoMemory>
         ∷ named_value (codes "scaled") (product (variable (codes "i")) (state_value (codes "scale") 3))
         ∷ []) }
 {
-    let item = named_variable(alloc, b"item", b"i")?;
-    let square = named_variable(alloc, b"square", b"sq")?;
-    let scaled = scaled_attribute(alloc)?;
-    Ok(vec![in alloc; item, square, scaled]?)
+    let mut attributes = Vec::new(alloc);
+    add_variable(alloc, &mut attributes, b"item", b"i")?;
+    add_variable(alloc, &mut attributes, b"square", b"sq")?;
+    add_scaled(alloc, &mut attributes)?;
+    Ok(attributes)
 }
 
 // Returns the node of a row.
@@ -211,23 +274,47 @@ fn row_node(alloc: Global) -> Result<Statement, NoMemory>
     node(alloc, 2, b"Row", attributes, Vec::new(alloc))
 }
 
-// Returns the `remember` of a row.
+// Returns the `remember` with this name.
 #[tactic(auto, using(crate::proofs::Parts::parts))]
-fn row_cell(alloc: Global) -> Result<Statement, NoMemory>
-    ensures { IfOk result (λ s. stmt_view s ≡ row_cell) }
+fn remember(
+    alloc: Global,
+    site: u32,
+    name: &[u8],
+    keys: Vec<Named>,
+    value: Expression,
+    body: Vec<Statement>,
+) -> Result<Statement, NoMemory>
+    ensures { IfOk result (λ s. stmt_view s ≡ Remember 0 site (ident name.now) (nameds_view keys.items)
+        (expr_view value) (stmts_view body.items)) }
 {
-    let name = ident(alloc, b"sq")?;
-    let keys = vec![in alloc; named_variable(alloc, b"n", b"i")?]?;
-    let value = square_of(alloc, b"n")?;
-    let body = body_of(alloc, row_node(alloc)?)?;
+    let name = ident(alloc, name)?;
     Ok(Statement::Remember {
         at: 0,
-        site: 1,
+        site,
         name,
         keys,
         value,
         body,
     })
+}
+
+// Returns the keys of the `remember` of a row.
+fn row_keys(alloc: Global) -> Result<Vec<Named>, NoMemory>
+    ensures { IfOk result (λ v. nameds_view v.items ≡ named_value (codes "n") (variable (codes "i")) ∷ []) }
+{
+    let mut keys = Vec::new(alloc);
+    add_variable(alloc, &mut keys, b"n", b"i")?;
+    Ok(keys)
+}
+
+// Returns the `remember` of a row.
+fn row_cell(alloc: Global) -> Result<Statement, NoMemory>
+    ensures { IfOk result (λ s. stmt_view s ≡ row_cell) }
+{
+    let body = body_of(alloc, row_node(alloc)?)?;
+    let keys = row_keys(alloc)?;
+    let value = square_of(alloc, b"n")?;
+    remember(alloc, 1, b"sq", keys, value, body)
 }
 
 // Returns a function without parameters.
@@ -263,14 +350,24 @@ fn row_function(alloc: Global) -> Result<Function, NoMemory>
     })
 }
 
+// Returns the call of `row`.
+#[tactic(auto, using(crate::proofs::Parts::parts))]
+fn row_call(alloc: Global) -> Result<Statement, NoMemory>
+    ensures { IfOk result (λ s. stmt_view s ≡
+        Call 0 5 (ident (codes "row")) 0 (exprs (variable (codes "i") ∷ []))) }
+{
+    let argument = variable(alloc, b"i")?;
+    let arguments = vec![in alloc; argument]?;
+    call(alloc, 5, b"row", 0, arguments)
+}
+
 // Returns the call of `row` under its key.
 #[tactic(auto, using(crate::proofs::Parts::parts))]
 fn keyed_row(alloc: Global) -> Result<Statement, NoMemory>
     ensures { IfOk result (λ s. stmt_view s ≡ keyed_row) }
 {
+    let body = body_of(alloc, row_call(alloc)?)?;
     let key = variable(alloc, b"i")?;
-    let arguments = vec![in alloc; variable(alloc, b"i")?]?;
-    let body = body_of(alloc, call(alloc, 5, b"row", 0, arguments)?)?;
     Ok(Statement::Key {
         at: 0,
         site: 4,
@@ -284,9 +381,9 @@ fn keyed_row(alloc: Global) -> Result<Statement, NoMemory>
 fn all_rows(alloc: Global) -> Result<Statement, NoMemory>
     ensures { IfOk result (λ s. stmt_view s ≡ all_rows) }
 {
-    let name = ident(alloc, b"i")?;
-    let list = state_value(alloc, b"items", 0)?;
     let body = body_of(alloc, keyed_row(alloc)?)?;
+    let list = state_value(alloc, b"items", 0)?;
+    let name = ident(alloc, b"i")?;
     Ok(Statement::For {
         at: 0,
         site: 3,
@@ -300,9 +397,9 @@ fn all_rows(alloc: Global) -> Result<Statement, NoMemory>
 fn total_node(alloc: Global) -> Result<Statement, NoMemory>
     ensures { IfOk result (λ s. stmt_view s ≡ total_node) }
 {
-    let value = named(alloc, b"value", state_value(alloc, b"total", 1)?)?;
-    let best = named(alloc, b"best", state_value(alloc, b"best", 2)?)?;
-    let attributes = vec![in alloc; value, best]?;
+    let mut attributes = Vec::new(alloc);
+    add_state_value(alloc, &mut attributes, b"value", b"total", 1)?;
+    add_state_value(alloc, &mut attributes, b"best", b"best", 2)?;
     node(alloc, 7, b"Total", attributes, Vec::new(alloc))
 }
 
@@ -315,13 +412,29 @@ fn page_node(alloc: Global) -> Result<Statement, NoMemory>
     node(alloc, 6, b"Page", Vec::new(alloc), body)
 }
 
+// Returns the function `list`.
+fn list_function(alloc: Global) -> Result<Function, NoMemory>
+    ensures { IfOk result (λ f. function_view f ≡ function (codes "list") [] (all_rows ∷ [])) }
+{
+    let statement = all_rows(alloc)?;
+    function(alloc, b"list", statement)
+}
+
+// Returns the function `root`.
+fn root_function(alloc: Global) -> Result<Function, NoMemory>
+    ensures { IfOk result (λ f. function_view f ≡ function (codes "root") [] (page_node ∷ [])) }
+{
+    let statement = page_node(alloc)?;
+    function(alloc, b"root", statement)
+}
+
 // Returns the functions.
 fn generated_functions(alloc: Global) -> Result<Vec<Function>, NoMemory>
     ensures { IfOk result (λ v. functions_view v.items ≡ generated_functions) }
 {
     let row = row_function(alloc)?;
-    let list = function(alloc, b"list", all_rows(alloc)?)?;
-    let root = function(alloc, b"root", page_node(alloc)?)?;
+    let list = list_function(alloc)?;
+    let root = root_function(alloc)?;
     Ok(vec![in alloc; row, list, root]?)
 }
 

@@ -3,7 +3,7 @@ use Rattle.lang_ast.specs.declared.script.SnapshotRef.TheVariants.{Global}
 use Rattle.snap_api.specs.declared.data.Reply.{Reply}
 use Rattle.script_lang.specs.StepCalls.{Read, WriteSum, ActorPart, of_actor, sum_request, value_read}
 use Rattle.play_run.specs.RunOutput.{parts_after}
-use Rattle.play_gen.proofs.CountedParts.{counts_then, counts_no_call}
+use Rattle.play_gen.proofs.CountedParts.{counts_then, counts_no_call, then_ok}
 use Rattle.play_gen.proofs.counting.count_add.Goals as goal
 
 pub returns-in-Some : goal.returns-in-Some
@@ -15,9 +15,9 @@ returns-in-Some g c functions r h =
     search rules in
     let asks = ap (λ (y : Reply). sum_request 0 c.args.object c.args.amount (value_read y))
     (sym (c.in_ok-reply.ensures.reply r.standing.world h.world_stands)) ∙ sym told ∙ c.in-Some.is in
-    let second = c.in_ok-count_call-in-Some.ensures.counts functions (parts_after functions r read)
+    let second = c.count_request.ensures functions (parts_after functions r read)
     (WriteSum Global c.args.object c.args.amount) tt asks first.facts in
-    counts_then None None c.args.counting.now.tally r read sum first second
+    then_ok _ _ c.count_request.result None None c.args.counting.now.tally r read sum _ refl first second
 
 pub returns : goal.returns
 returns g c functions r h =

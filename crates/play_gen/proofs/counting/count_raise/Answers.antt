@@ -5,7 +5,7 @@ use Rattle.snap_api.specs.declared.data.Request.TheVariants as request
 use Rattle.script_lang.specs.StepCalls.{Take, Write, Apply, ActorPart, of_actor, number_taken}
 use Rattle.play_run.specs.RunOutput.{parts_after}
 use Rattle.play_gen.specs.GeneratedScript.{named_g}
-use Rattle.play_gen.proofs.CountedParts.{counts_then}
+use Rattle.play_gen.proofs.CountedParts.{then_ok}
 use Rattle.play_gen.proofs.counting.count_raise.Goals as goal
 
 pub returns : goal.returns
@@ -17,11 +17,12 @@ returns g c functions r h =
     let told : c.number_taken-name.result ≡ number_taken c.in_ok-count_call.field-0 = search rules in
     let number = ap number_taken (sym (c.in_ok-count_call.ensures.reply r.standing.world h.world_stands)) ∙ sym told in
     let first = c.in_ok-count_call.ensures.counts functions r (Take (codes "g") Mutable Global) tt refl h in
-    let second = c.in_ok-count_call-2.ensures.counts functions (parts_after functions r take)
+    let second = c.in_ok-count_request.ensures functions (parts_after functions r take)
     (Write named_g c.args.object c.args.value) tt
     (ap (λ n. Some (request.Write n c.args.object c.args.value)) number) first.facts in
-    let third = c.in_ok-count_call-3.ensures.counts functions
+    let third = c.count_request-2.ensures functions
     (parts_after functions (parts_after functions r take) write) (Apply named_g) tt
     (ap (λ n. Some (request.Apply n)) number) second.facts in
-    counts_then None None t r take (write ++ apply) first
-    (counts_then None None c.count_call.new.counting.tally (parts_after functions r take) write apply second third)
+    then_ok _ _ c.count_request-2.result None None t r take (write ++ apply) _ refl first
+    (then_ok _ _ c.count_request-2.result None None c.count_call.new.counting.tally (parts_after functions r take) write
+    apply _ refl second third)

@@ -5,4 +5,4 @@ use Rattle.play_gen.proofs.counting.count_write.Goals as goal
 
 pub returns : goal.returns
 returns g c functions r h =
-    c.in_ok-count_call.ensures.counts functions r (Write Global c.args.object c.args.value) tt refl h
+    c.count_request.ensures functions r (Write Global c.args.object c.args.value) tt refl h
