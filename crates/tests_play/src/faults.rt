@@ -208,7 +208,8 @@ fn clears_after_a_fault(alloc: Global, composition: &mut Composition) -> Result<
     )
 }
 
-// Makes a frame over an applier that fails, and one after it, both in a new composition.
+// Makes a frame over an applier that fails, and one after it, both in a new composition. Returns whether the applier is
+// called as it should be.
 fn clears_in_new(alloc: Global, program: &Checked) -> Result<bool, Fail> {
     with_new_composition(alloc, program, |it| clears_after_a_fault(alloc, it))
 }

@@ -66,7 +66,7 @@ fn make_three_calls<R: Wait, W: Versions + Drop>(
     shared.call(rt, alloc, first, Request::Dispose { name: 1 });
 }
 
-// Makes these calls in a new shared world. Returns the history.
+// Makes the calls of `make_three_calls` in a new shared world. Returns the history.
 fn history_of_three<R: Wait, V: Versions + Drop>(
     rt: &R,
     alloc: Global,
