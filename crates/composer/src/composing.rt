@@ -25,9 +25,8 @@ use crate::owed::Owed;
 use crate::pending::Pending;
 use crate::progress::{Level, Progress};
 use crate::runs::{is_end, next_call, quiet_call_end};
-use crate::spares::Spares;
 use crate::stop::ComposeStop;
-use crate::writer::{CallArguments, CellValue, NewKind, Writer};
+use crate::writer::{CallArguments, CellValue, NewKind};
 use group_keys::SiblingKey;
 use lang_ast::{Expression, Function, Ident, Named, Statement};
 use lang_checks::Checked;
@@ -747,15 +746,7 @@ fn compose_draft<'a, V: View, L: Ledger>(
         ComposesFrame (functions_of program.now) (root_of program.now) last.now.owed k m (V.asked view.old)
         (V.asked view.new) result }
 {
-    let mut spares = Spares::new(alloc, held.take_replaced(alloc));
-    let writer = Writer::new(alloc, last.table(), held.next(), &mut spares);
-    let mut made = Progress {
-        scope: Env::new(alloc),
-        pending: Pending::none(last.table()),
-        reads: Deps::new(alloc),
-        writer,
-        spares,
-    };
+    let mut made = Progress::new(alloc, last, held);
     let written = write_frame(alloc, program, last, &mut made, view, steps);
     let writer = made.into_writer(held);
     written?;

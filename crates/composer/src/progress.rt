@@ -47,6 +47,33 @@ pub struct Around<'a> {
 }
 
 impl<'a> Progress<'a> {
+    /// Starts a frame next to the groups of `last`: nothing is made so far. The frame uses memory that `held` keeps from
+    /// earlier frames.
+    pub fn new(alloc: Global, last: &'a LastGroups<'a>, held: &Held) -> Self
+        ensures scope { result.scope ≡ [] }
+        ensures pending { (s : GroupKey) → waiting_siblings result.pending s ≡ [] }
+        ensures table { result.pending.table.now.groups ≡ last.now.groups }
+        ensures reads { result.reads ≡ [] }
+        ensures writer { result.writer ≡ record {
+          olds = last.now.groups;
+          groups = [];
+          next = held.now.next;
+          ran = 0;
+          calculated = 0;
+          reads = 0;
+        } }
+    {
+        let mut spares = Spares::new(alloc, held.take_replaced(alloc));
+        let writer = Writer::new(alloc, last.table(), held.next(), &mut spares);
+        Progress {
+            scope: Env::new(alloc),
+            pending: Pending::none(last.table()),
+            reads: Deps::new(alloc),
+            writer,
+            spares,
+        }
+    }
+
     /// Goes into the body of a call, whose variables are `scope`, next to the old groups inside `found`. Returns what
     /// is in hand around the body.
     #[inline(always)]
