@@ -47,8 +47,8 @@ pub struct Around<'a> {
 }
 
 impl<'a> Progress<'a> {
-    /// Starts a frame next to the groups of `last`: nothing is made so far. The frame uses memory that `held` keeps from
-    /// earlier frames.
+    /// Starts a frame next to the groups of `last`: nothing is made so far. The frame uses the memory that `held` keeps
+    /// from earlier frames.
     pub fn new(alloc: Global, last: &'a LastGroups<'a>, held: &Held) -> Self
         ensures scope { result.scope ≡ [] }
         ensures pending { (s : GroupKey) → waiting_siblings result.pending s ≡ [] }

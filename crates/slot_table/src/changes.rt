@@ -189,7 +189,8 @@ impl<'t> ChangeListWriter<'t> {
         self.into_moves(alloc)
     }
 
-    // Returns the changes where kept groups move: two blocks that are exchanged, a table that shrinks, or a new table.
+    // Returns the changes of a table that has kept groups and in which the new groups do not fit in place: two blocks
+    // are exchanged, or the table shrinks, or there is a new table.
     fn into_moves(self, alloc: Global) -> Result<ChangeList, NoMemory>
         ensures { IfOk result (λ c. c ≡ self.entry) }
     {

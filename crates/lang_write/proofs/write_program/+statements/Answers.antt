@@ -15,8 +15,9 @@ put_if-returns t c = λ g. if_put _ _ _ _ _ _ _ _ c.in_ok-inner.ensures c.in_ok-
     c.in_ok-put_branches.ensures c.in_ok-put_list.ensures 0 0 g
 
 pub put_node-returns : goal.put_node-returns
-put_node-returns t c = body_put (node_start c.args.kind.now (nameds_view c.args.attributes.now)) (stmts_view c.args.body.now)
-    _ _ _ c.in_ok-start.ensures c.in_ok-put_body.ensures
+put_node-returns t c =
+    body_put (node_start c.args.kind.now (nameds_view c.args.attributes.now)) (stmts_view c.args.body.now) _ _ _
+    c.in_ok-start.ensures c.in_ok-put_body.ensures
 
 pub put_key-returns : goal.put_key-returns
 put_key-returns t c = body_put (key_start (expr_view c.args.key.now)) (stmts_view c.args.body.now) _ _ _
