@@ -1,8 +1,9 @@
 // Sources of bytes, and reading a whole source.
-ghost use Rattle.std.specs.Prelude.{◌≡◌, ◌+◌, ◌<◌, ◌≤◌, ◌↔◌, ℕ, List, Some, length, IfOk, OnOk, OnErr};
+ghost use Rattle.std.specs.Prelude.{◌≡◌, ◌+◌, ◌<◌, ◌≤◌, ◌↔◌, ℕ, List, Some, true, false, length, IfOk, IfErr, OnOk, OnErr};
 ghost use Rattle.std.specs.Io.KnownBytes.{Keeps, Consumes, IsAtEnd};
 ghost use Rattle.std.specs.declared.option.Option.{Option};
 ghost use Rattle.rt_streams.specs.Streams.{Rose, HasCause, HandsOut, LosesFront, CountsBytes, rise};
+ghost use Rattle.rt_streams.specs.Pieces.{SourceState, state_of, HasRead, StopsReading};
 
 use std::alloc::{AllocError, Global};
 use thiserror::Error;
@@ -50,17 +51,6 @@ pub enum ReadStop {
     NoMemory,
 }
 
-impl From<Failed> for ReadStop {
-    ghost use Rattle.std.specs.Prelude.{◌≡◌};
-    ghost use Rattle.rt_streams.specs.declared.source.ReadStop.TheVariants.{ReadFault};
-
-    ghost from_gives = { λ _ stop. stop ≡ ReadFault };
-
-    fn from(_: Failed) -> Self {
-        ReadStop::ReadFault
-    }
-}
-
 impl From<AllocError> for ReadStop {
     ghost use Rattle.std.specs.Prelude.{◌≡◌};
     ghost use Rattle.rt_streams.specs.declared.source.ReadStop.TheVariants.{NoMemory};
@@ -83,6 +73,41 @@ fn piece_len(room: u64) -> usize
     ensures within { result ≤ room + 1 }
 {
     room.min(PIECE as u64 - 1) as usize + 1
+}
+
+// Reads the next piece and appends it: at most one byte more than `limit` leaves room for. Returns whether there was
+// a byte left. Appends nothing if it fails.
+fn read_piece<S: Source>(
+    source: &mut S,
+    buf: &mut [u8; PIECE],
+    limit: u64,
+    all: &mut Vec<u8>,
+) -> Result<bool, ReadStop>
+    requires within { length all.old.items ≤ limit }
+    ensures reads { (before : SourceState) →
+        HasRead limit before (state_of (S.left source.old) (S.taken source.old) (S.faults source.old)) all.old.items →
+        IfOk result (λ more. HasRead limit before
+        (state_of (S.left source.new) (S.taken source.new) (S.faults source.new)) all.new.items) }
+    ensures ends { IfOk result (λ more. more ≡ false → IsAtEnd (S.left source.new)) }
+    ensures grows { IfOk result (λ more. more ≡ true → length all.old.items < length all.new.items) }
+    ensures stops { (before : SourceState) →
+        HasRead limit before (state_of (S.left source.old) (S.taken source.old) (S.faults source.old)) all.old.items →
+        IfErr result (λ stop. StopsReading limit before
+        (state_of (S.left source.new) (S.taken source.new) (S.faults source.new)) stop) }
+{
+    let room = limit - all.len() as u64;
+    let piece = &mut buf[..piece_len(room)];
+    let Ok(count) = source.read(piece) else {
+        return Err(ReadStop::ReadFault);
+    };
+    if count == 0 {
+        return Ok(false);
+    }
+    if count as u64 > room {
+        return Err(ReadStop::TooLong);
+    }
+    all.extend_from_slice(&piece[..count])?;
+    Ok(true)
 }
 
 /// Reads all bytes that are left, up to `limit` of them.
@@ -108,16 +133,6 @@ pub fn read_all<S: Source>(alloc: Global, source: &mut S, limit: u64) -> Result<
 {
     let mut all: Vec<u8> = Vec::new(alloc);
     let mut buf = [0u8; PIECE];
-    'pieces: loop {
-        let room = limit - all.len() as u64;
-        let piece = &mut buf[..piece_len(room)];
-        let count = source.read(piece)?;
-        if count == 0 {
-            return Ok(all);
-        }
-        if count as u64 > room {
-            return Err(ReadStop::TooLong);
-        }
-        all.extend_from_slice(&piece[..count])?;
-    }
+    while read_piece(source, &mut buf, limit, &mut all)? {}
+    Ok(all)
 }
