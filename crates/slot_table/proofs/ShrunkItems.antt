@@ -1,7 +1,7 @@
 -- A list that keeps only the items of some runs, with new items before, between and after the runs.
-use Rattle.std.proofs.Common.{◌≡◌, ◌≤◌, ◌<◌, ℕ, zero, suc, ◌+◌, ◌-◌, List, [], ◌∷◌, ◌++◌, length, length-drop, length-set, take, drop, drop-cons, get_or, set, refl, ap, ◌∙◌, sym, subst, arith, append_assoc}
+use Rattle.std.proofs.Common.{◌≡◌, ◌≤◌, ◌<◌, ℕ, zero, suc, ◌+◌, ◌-◌, List, [], ◌∷◌, ◌++◌, length, length-append, length-drop, length-set, take, drop, drop-cons, get_or, set, refl, ap, ◌∙◌, sym, subst, arith, append_assoc}
 use Rattle.std.specs.List.{swap}
-use Rattle.std.proofs.lemmas.List.{take-set-le, take_more_set, drop-set-lt, drop-drop}
+use Rattle.std.proofs.lemmas.List.{take-set-le, take_more_set, take_all, length-take-le, drop-set-lt, drop-drop, drop_all}
 use Rattle.std.proofs.lemmas.List.Edits.{swap_is}
 use Rattle.slot_table.specs.declared.runs.KeptRun.{KeptRun}
 use Rattle.slot_table.specs.KeptRuns.{run_groups, patched, gaps, AreInside, MoveDown}
@@ -136,6 +136,63 @@ next_run olds fresh rs items rest at i d swept inside =
     let next : suc i ≡ i + 1 = omega arith in
     subst (λ l. IsSwept olds fresh rs items rest at l)
     (drop-cons rs i d inside ∙ ap (λ n. get_or rs i d ∷ drop n rs) next) swept
+
+-- The gap of a run and the items that it keeps are inside the lists, and no kept item moves to a later index.
+pub record RunFits {X : Type 0} (items rest : List X) (at : ℕ) (r : KeptRun) : Type 0 where
+  pub enough : r.gap ≤ length rest
+  pub put : at + r.gap ≤ length items
+  pub down : at + r.gap ≤ r.from
+  pub order : r.from ≤ r.to
+  pub inside : r.to ≤ length items
+  pub moved : at + r.gap + (r.to - r.from) ≤ length items
+
+-- The next run fits.
+pub run_fits : {X : Type 0} (olds fresh : List X) (rs : List KeptRun) (items rest : List X) (at i : ℕ) (d : KeptRun)
+    → IsSwept olds fresh rs items rest at (drop i rs) → i < length rs → RunFits items rest at (get_or rs i d)
+run_fits olds fresh rs items rest at i d swept more =
+    let next = next_run olds fresh rs items rest at i d swept more in
+    let down = next.down.1 in
+    let order = next.inside.0 in
+    let inside : (get_or rs i d).to ≤ length items =
+    subst (λ n. (get_or rs i d).to ≤ n) (sym next.long) next.inside.1 in
+    record {
+      enough = omega (arith, next.gaps_fit);
+      put = omega (arith, down, order, inside);
+      down = down;
+      order = order;
+      inside = inside;
+      moved = omega (arith, down, order, inside);
+    }
+
+-- After the last run only new items are left to put, and with them the list has its new length and items.
+pub record RestFits {X : Type 0} (olds fresh : List X) (rs : List KeptRun) (items rest : List X) (at len : ℕ)
+    : Type 0 where
+  pub low : at ≤ len
+  pub put : at + (len - at) ≤ length items
+  pub enough : len - at ≤ length rest
+  pub sum : len ≡ at + (len - at)
+  pub same : take at items ++ take (len - at) rest ≡ patched olds fresh rs
+
+-- What is left after the last run fits. The new items are those that were given.
+pub rest_fits : {X : Type 0} (olds given fresh : List X) (rs : List KeptRun) (items rest : List X) (at i len : ℕ)
+    → fresh ≡ given → IsSwept olds fresh rs items rest at (drop i rs) → length rs ≤ i
+    → len ≡ length (patched olds given rs) → len ≤ length olds → RestFits olds given rs items rest at len
+rest_fits olds given fresh rs items rest at i len is swept all len_is fewer =
+    let low = swept.low in
+    let high = swept.high in
+    let long = swept.long in
+    let same : take at items ++ rest ≡ patched olds given rs =
+    subst (λ l. take at items ++ patched olds rest l ≡ patched olds fresh rs) (drop_all i rs all) swept.same
+    ∙ ap (λ l. patched olds l rs) is in
+    let front = length-take-le at items (omega (arith, low, high, long)) in
+    let both = len_is ∙ sym (ap length same) ∙ length-append (take at items) rest in
+    record {
+      low = omega (arith, both, front);
+      put = omega (arith, both, front, fewer, long);
+      enough = omega (arith, both, front);
+      sum = omega (arith, both, front);
+      same = ap (λ l. take at items ++ l) (take_all (len - at) rest (omega (arith, both, front))) ∙ same;
+    }
 
 -- The new items of a gap are put, and the items of the run after the gap are moved down.
 pub swept_more : {X : Type 0} (olds fresh : List X) (rs : List KeptRun) (items items1 items2 rest rest1 : List X)
