@@ -1,7 +1,7 @@
 // Changes of the list of members: each function returns an error only if memory ran out.
 ghost use Rattle.std.specs.Prelude.{◌≡◌, ◌≢◌, ℕ, ◌+◌, ◌≤◌, ◌<◌, ◌^◌, true, false, List, length, slice_set, [], ◌∷◌, IfOk, IfSome, IfNone, OnOk, OnErr, if◌then◌else◌};
 ghost use Rattle.rt_values.specs.Maps.{contains};
-ghost use Rattle.snap_ids.specs.IdLists.{without_id};
+ghost use Rattle.snap_ids.specs.IdLists.{with_id, without_id};
 ghost use Rattle.snap_nested.specs.Members.{member, members_after_enter, members_after_advance, members_after_close, members_after_merge, sees, is_seen, is_owned, with_owned, invalid_after_advance, is_free, without_invalid, AreOpen, IsForgotten, global};
 
 use crate::Member;
@@ -78,6 +78,36 @@ fn seal(
     all.add_range(member.id + 1, handed + 1)?;
     keep_owned(members, held, &mut all);
     Ok(all)
+}
+
+// Returns a copy of a set with one more id.
+fn copy_with(alloc: Global, ids: &IdSet, id: u64) -> Result<IdSet, NoMemory>
+    ensures { IfOk result (λ s. s ≡ with_id id ids.now) }
+{
+    let mut more = ids.copy(alloc)?;
+    more.set(id)?;
+    Ok(more)
+}
+
+// Returns the invalid ids of a new member of this parent, and those of the parent after it, for which the new id is
+// invalid too.
+fn seal_both(
+    alloc: Global,
+    members: &[Member],
+    held: &IdList,
+    handed: u64,
+    parent: Name,
+) -> Result<(IdSet, IdSet), NoMemory>
+    requires open_names { AreOpen held.now members.now }
+    requires there { parent < length members.now }
+    requires room { handed + 1 < 2 ^ 62 }
+    requires low { (member members.now parent).id ≤ handed }
+    ensures { IfOk result (λ s. (s.0 ≡ invalid_after_advance members.now (member members.now parent) handed)
+        × (s.1 ≡ with_id (handed + 1) s.0)) }
+{
+    let invalid = seal(alloc, members, held, handed, parent)?;
+    let sealed = copy_with(alloc, &invalid, handed + 1)?;
+    Ok((invalid, sealed))
 }
 
 // Appends a member with these invalid ids.
@@ -234,9 +264,7 @@ pub fn take_members(
         (members_after_enter members.old.items handed parent kind owner) (handed + 1) parent) }
     ensures err { OnErr result (members.new.items ≡ members.old.items) }
 {
-    let invalid = seal(alloc, members, held, handed, parent)?;
-    let mut sealed = invalid.copy(alloc)?;
-    sealed.set(handed + 1)?;
+    let (invalid, sealed) = seal_both(alloc, members, held, handed, parent)?;
     push_member(alloc, members, handed, parent, kind, owner, invalid)?;
     let Ok(()) = add_id(members, handed + 1, parent, sealed) else {
         members.pop();
