@@ -1,5 +1,6 @@
 -- The state after a whole frame, and its draft.
 use Rattle.std.proofs.Common.{ℕ, ◌+◌, ◌-◌, ◌^◌, min, ◌++◌, ◌<◌, ◌≤◌, List, [], ◌∷◌, ◌≡◌, refl, ap, ◌∙◌, sym, append-nil, length, length-append, true, false, true≢false, if◌then◌else◌, Option, Some, None, Result, Ok, Err, subst, arith}
+use Rattle.std.specs.Result.{IfOk, OnOk}
 use Rattle.rt_values.specs.declared.value.Value.{Value}
 use Rattle.rt_values.specs.Maps.{Map}
 use Rattle.rt_groups.specs.declared.groups.Group.{Group as FlatGroup}
@@ -30,7 +31,8 @@ use Rattle.composer.specs.FrameStates.{IsSound, frame_state}
 use Rattle.composer.specs.OldGroups.{Begins}
 use Rattle.slot_table.specs.TableGroups.{is_node_kind}
 use Rattle.slot_table.specs.ChangeLists.{nodes_in}
-use Rattle.composer.specs.WrittenGroups.{WrittenGroups, state_of, IsDraftOf}
+use Rattle.composer.specs.WrittenGroups.{WrittenGroups, Drafts, state_of, IsDraftOf}
+use Rattle.composer.specs.Recomposes.{FitsIn}
 use Rattle.composer.proofs.OldParts.{since_all}
 use Rattle.composer.proofs.Machine.{same_state, composed_is, skipped_is, state_after_work, state_after_walk}
 use Rattle.composer.proofs.Reaching.{reached_at}
@@ -297,6 +299,29 @@ module _ (functions : List Func) (root : ℕ) (owed : OwedObjects) (k : LastFram
           ∙ ap (λ (w : WrittenGroups). (target_from w).asked) e;
     };
   }
+
+  -- A frame after its groups were written.
+  pub frame_drafted : {U : Type 0} (olds : List FlatGroup) (first : WrittenGroups) (writes : Result U ComposeStop)
+      (result : Result DraftGroups ComposeStop) → first ≡ first_written
+      → Reaches (target_from first) (state_of written asked' []) writes
+      → OnOk writes (written.reads + length asked ≡ first.reads + length asked') → OnOk writes (FitsIn olds written)
+      → Drafts written writes result → ComposesFrame functions root owed k m asked asked' result
+  frame_drafted olds first (Ok u) (Ok d) e r counted fits drafts =
+      frame_made first e r counted drafts.1 fits.few d drafts.0
+  frame_drafted olds first (Ok u) (Err x) e r counted fits drafts =
+      frame_lost first (Err x) e r (ap (λ (y : ComposeStop). Err y) drafts)
+  frame_drafted olds first (Err x) (Ok d) e r counted fits drafts = absurd drafts
+  frame_drafted olds first (Err x) (Err y) e r counted fits drafts =
+      frame_stopped first x (Err y) e r (ap (λ (z : ComposeStop). Err z) drafts)
+
+-- A draft changes the groups that its writer was to change.
+pub drafted_olds : {U : Type 0} (olds : List FlatGroup) (written : WrittenGroups) (writes : Result U ComposeStop)
+    (result : Result DraftGroups ComposeStop) → OnOk writes (FitsIn olds written) → Drafts written writes result
+    → IfOk result (λ d. d.olds ≡ olds)
+drafted_olds olds written (Ok u) (Ok d) fits drafts = drafts.0.olds ∙ fits.same
+drafted_olds olds written (Ok u) (Err x) fits drafts = tt
+drafted_olds olds written (Err x) (Ok d) fits drafts = absurd drafts
+drafted_olds olds written (Err x) (Err y) fits drafts = tt
 
 -- Nothing was composed for want of memory, and no object was read.
 pub nothing_composed : (functions : List Func) (root : ℕ) (owed : OwedObjects) (k : LastFrame) (m : Map)

@@ -1,5 +1,6 @@
 -- Internal: the groups of a new frame as they are written, and what each group adds.
-use Rattle.std.specs.Prelude.{ℕ, ◌+◌, ◌<◌, ◌++◌, ◌≡◌, List, [], ◌∷◌, length, Option, Some, None, Bool, if◌then◌else◌}
+use Rattle.std.specs.Prelude.{ℕ, ◌+◌, ◌-◌, ◌^◌, ◌<◌, ◌≤◌, ◌++◌, ◌≡◌, Ok, Err, List, [], ◌∷◌, length, Option, Some, None, Bool, if◌then◌else◌}
+use Rattle.std.specs.declared.result.Result.{Result}
 use Rattle.rt_values.specs.declared.value.Value.{Value}
 use Rattle.rt_values.specs.Values.{same_values}
 use Rattle.rt_groups.specs.declared.groups.Group.{Group}
@@ -8,6 +9,8 @@ use Rattle.rt_groups.specs.declared.groups.GroupKind.TheVariants as what
 use Rattle.rt_groups.specs.PreorderGroups.{flat_group}
 use Rattle.slot_table.specs.TableGroups.{group_at}
 use Rattle.slot_table.specs.ChangeLists.{nodes_in}
+use Rattle.composer.specs.declared.stop.ComposeStop.{ComposeStop}
+use Rattle.composer.specs.declared.stop.ComposeStop.TheVariants.{NoMemory}
 use Rattle.composer.specs.declared.writer.NewKind.{NewKind}
 use Rattle.composer.specs.declared.writer.NewKind.TheVariants as new
 use Rattle.composer.specs.declared.writer.CallArguments.{CallArguments}
@@ -164,6 +167,14 @@ pub record IsDraftOf (w : WrittenGroups) (d : DraftGroups) : Type 0 where
     nodes = nodes_in w.groups;
   }
   pub scopes : HaveScopes d.olds d.groups d.scopes
+
+-- The result of drafting a frame with these groups, which were written with the first result: the draft, or else why
+-- they were not all written, or no memory.
+abbrev pub Drafts : {U : Type 0} → WrittenGroups → Result U ComposeStop → Result DraftGroups ComposeStop → Type 0
+Drafts w (Ok u) (Ok d) = IsDraftOf w d × (w.reads ≤ 2 ^ 64 - 1)
+Drafts w (Ok u) (Err x) = x ≡ NoMemory
+Drafts w (Err x) (Ok d) = ⊥
+Drafts w (Err x) (Err y) = y ≡ x
 
 -- The group at an index is at this depth and site, has this number, and has no reads.
 pub record IsPlacedAt (groups : List Group) (at depth site number : ℕ) : Type 0 where

@@ -10,7 +10,7 @@ ghost use Rattle.lang_ast.specs.SyntaxView.{expr_view, exprs_view, nameds_view, 
 ghost use Rattle.lang_ast.specs.Evaluation.{new_binding, eval, eval_all};
 ghost use Rattle.compose_model.specs.Composing.{forest_after};
 ghost use Rattle.recompose_laws.specs.CalculatedCells.{Calculation, CalculatesAtSite, StmtCalculates, StmtsCalculate};
-ghost use Rattle.composer.specs.WrittenGroups.{kept_of, value_kept, group_kind, arguments_of, AreArguments};
+ghost use Rattle.composer.specs.WrittenGroups.{Drafts, kept_of, value_kept, group_kind, arguments_of, AreArguments};
 ghost use Rattle.composer.specs.FrameDrafts.{Holds, IsOwing, ComposesFrame, root_of};
 ghost use Rattle.lang_ast.specs.Programs.{functions_of};
 ghost use Rattle.composer.specs.OldSiblings.{old_group, IsFoundIn};
@@ -26,7 +26,7 @@ use crate::pending::Pending;
 use crate::progress::{Level, Progress};
 use crate::runs::{is_end, next_call, quiet_call_end};
 use crate::stop::ComposeStop;
-use crate::writer::{CallArguments, CellValue, NewKind};
+use crate::writer::{CallArguments, CellValue, NewKind, Writer};
 use group_keys::SiblingKey;
 use lang_ast::{Expression, Function, Ident, Named, Statement};
 use lang_checks::Checked;
@@ -728,6 +728,19 @@ fn write_frame<'a, V: View, L: Ledger>(
     skip_all(&level, 0, made, view, steps)
 }
 
+// Returns the draft of a frame after its groups were written. Fails like the writing that is given, or without memory
+// for the draft.
+fn draft_of(
+    alloc: Global,
+    written: Result<(), ComposeStop>,
+    writer: Writer,
+) -> Result<Draft, ComposeStop>
+    ensures { Drafts writer.entry written result }
+{
+    written?;
+    Ok(writer.into_draft(alloc)?)
+}
+
 // Composes a frame and returns its draft.
 fn compose_draft<'a, V: View, L: Ledger>(
     alloc: Global,
@@ -748,9 +761,7 @@ fn compose_draft<'a, V: View, L: Ledger>(
 {
     let mut made = Progress::new(alloc, last, held);
     let written = write_frame(alloc, program, last, &mut made, view, steps);
-    let writer = made.into_writer(held);
-    written?;
-    Ok(writer.into_draft(alloc)?)
+    draft_of(alloc, written, made.into_writer(held))
 }
 
 /// Composes a frame next to the groups of the last good frame (`recompose`), or everything before the first one
