@@ -2,7 +2,7 @@
 ghost use Rattle.std.specs.Prelude.{◌≡◌, ◌≤◌, [], ◌∷◌, Some, IfOk, codes, option_map};
 ghost use Rattle.clap.specs.Words.{app_of};
 ghost use Rattle.play_args.specs.CommandWords.{command_of_args, command_named, with_digits, number_word, gen_with, no_flags, flags_after, texts};
-ghost use Rattle.play_args.specs.CommandLine.{command_app};
+ghost use Rattle.play_args.specs.CommandLine.{command_app, replay_app, with_command};
 
 use crate::command::Command;
 use clap::error::ErrorKind;
@@ -10,16 +10,33 @@ use rt_values::NoMemory;
 use script_lang::Flags;
 use std::alloc::{AllocError, Global};
 
+// Adds a command without arguments of its own.
+fn add_command<'a>(
+    alloc: Global,
+    line: clap::Command<'a>,
+    name: &'a str,
+) -> Result<clap::Command<'a>, AllocError>
+    ensures { IfOk result (λ c. app_of c ≡ with_command (app_of line.entry) name.now) }
+{
+    line.subcommand(clap::Command::new(alloc, name))
+}
+
+// Creates the command line with the commands that replay a script.
+fn replay_line<'a>(alloc: Global) -> Result<clap::Command<'a>, AllocError>
+    ensures { IfOk result (λ c. app_of c ≡ replay_app) }
+{
+    let line = clap::Command::new(alloc, "compose_play").no_binary_name(true);
+    let line = add_command(alloc, line, "run")?;
+    add_command(alloc, line, "threads")
+}
+
 // Creates the command line, as `clap` describes it.
 fn command_line<'a>(alloc: Global) -> Result<clap::Command<'a>, AllocError>
     ensures { IfOk result (λ c. app_of c ≡ command_app) }
 {
-    clap::Command::new(alloc, "compose_play")
-        .no_binary_name(true)
-        .subcommand(clap::Command::new(alloc, "run"))?
-        .subcommand(clap::Command::new(alloc, "threads"))?
-        .subcommand(clap::Command::new(alloc, "check"))?
-        .subcommand(clap::Command::new(alloc, "gen"))
+    let line = replay_line(alloc)?;
+    let line = add_command(alloc, line, "check")?;
+    add_command(alloc, line, "gen")
 }
 
 // Returns the name of the subcommand that `clap` finds. The help and version of `clap`, which it reports as
