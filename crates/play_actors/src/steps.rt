@@ -170,6 +170,28 @@ pub(crate) struct EndedActor<V> {
     pub(crate) failed: Option<Name>,
 }
 
+// Ends an actor after its last step.
+fn end<V>(worker: Worker<'_, V>) -> EndedActor<V>
+    ensures { result ≡ record {
+      seat = worker.entry.seat;
+      short = worker.entry.short;
+      failed = worker.entry.failed;
+    } }
+{
+    let Worker {
+        seat,
+        memory: _,
+        step: _,
+        short,
+        failed,
+    } = worker;
+    EndedActor {
+        seat,
+        short,
+        failed,
+    }
+}
+
 /// Makes all steps of an actor through its seat.
 pub(crate) fn run_actor<V: Versions<P = BuiltIn> + Drop, R: Wait, G: Gate>(
     run: &ActorRun<'_, V, R, G>,
@@ -194,16 +216,5 @@ pub(crate) fn run_actor<V: Versions<P = BuiltIn> + Drop, R: Wait, G: Gate>(
         short: false,
         failed: None,
     };
-    let Worker {
-        seat,
-        memory: _,
-        step: _,
-        short,
-        failed,
-    } = run_script(run, &job.script, worker);
-    EndedActor {
-        seat,
-        short,
-        failed,
-    }
+    end(run_script(run, &job.script, worker))
 }

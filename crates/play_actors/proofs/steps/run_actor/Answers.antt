@@ -1,7 +1,9 @@
-use Rattle.std.proofs.Common.{◌++◌, [], ◌∙◌, sym, append-nil, false, None}
+use Rattle.std.proofs.Common.{◌++◌, [], ◌∙◌, sym, subst, append-nil, false, None}
 use Rattle.script_lang.specs.StepCalls.{script_parts}
 use Rattle.woven_laws.specs.Woven.{actor_parts, initial_actor}
 use Rattle.woven_laws.proofs.Callers.{parts_are_of_script}
+use Rattle.play_actors.specs.declared.steps.EndedActor.{EndedActor}
+use Rattle.play_actors.specs.ActorSteps.{ActsThrough}
 use Rattle.play_actors.proofs.ActorEnds.{started, ended, unstarted}
 use Rattle.play_actors.proofs.steps.run_actor.Goals as goal
 
@@ -24,13 +26,16 @@ returns g c =
     let forms = c.args.job.now.script.forms.items in
     let parts = script_parts actors forms in
     let same = append-nil (actor_parts a actors forms) ∙ sym (parts_are_of_script a actors forms) in
+    let run = c.run_script in
     record {
-      acts = record {
-        seated = c.run_script-seat.ensures.seated;
-        acted = λ o stood counts. ended o parts a c.run_script-seat.result
-            (c.run_script-seat.ensures.makes o stood counts (initial_actor parts a) []
-            (started o parts (actor_parts a actors forms ++ []) a
-            (record { seat = c.args.seat; memory = c.in-Ok.memory; step = 0; short = false; failed = None }) same
-            new.0.1 c.in-Ok.ensures));
-      };
+      acts = subst (λ (e : EndedActor g.row.V.Denot). ActsThrough g.V.Versions.stands c.args.run.now.shared.now parts a
+          e.seat e.short) (sym c.end.ensures)
+          (record {
+            seated = run.ensures.seated;
+            acted = λ o stood counts. ended o parts a run.result
+                (run.ensures.makes o stood counts (initial_actor parts a) []
+                (started o parts (actor_parts a actors forms ++ []) a
+                (record { seat = c.args.seat; memory = c.in-Ok.memory; step = 0; short = false; failed = None }) same
+                new.0.1 c.in-Ok.ensures));
+          });
     }
