@@ -186,6 +186,23 @@ fn make_frames<R: Wait, W: Versions + Drop>(
     (held, numbers)
 }
 
+// Makes frames of the composition through the seat. Returns the seat with the number that each frame shows.
+fn frames_of<R: Wait, W: Versions + Drop>(
+    rt: &R,
+    alloc: Global,
+    shared: &Shared<W>,
+    seat: Seat<W>,
+    composition: Composition<'_>,
+) -> (Seat<W>, Vec<i64>)
+    requires { IsSeat shared.now seat }
+    ensures { IsSeat shared.now result.0 }
+{
+    let mut composition = composition;
+    let made = make_frames(rt, alloc, shared, seat, &mut composition);
+    drop(composition);
+    made
+}
+
 // Makes frames of the program through the seat. Returns the seat with the number that each frame shows.
 fn compose_frames<R: Wait, W: Versions + Drop>(
     rt: &R,
@@ -197,10 +214,10 @@ fn compose_frames<R: Wait, W: Versions + Drop>(
     requires { IsSeat shared.now seat }
     ensures { IsSeat shared.now result.0 }
 {
-    let Ok(mut composition) = Composition::new(alloc, program, 0) else {
-        return (seat, Vec::new(alloc));
-    };
-    make_frames(rt, alloc, shared, seat, &mut composition)
+    match Composition::new(alloc, program, 0) {
+        Ok(composition) => frames_of(rt, alloc, shared, seat, composition),
+        Err(_) => (seat, Vec::new(alloc)),
+    }
 }
 
 // Writes the numbers 1 to `WRITES` to the counter in global, one after another.

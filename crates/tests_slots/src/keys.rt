@@ -271,15 +271,22 @@ fn numbers_of_two_sites_are_taken_by_site(rt: HostRuntime) -> Result<(), Fail> {
     Ok(())
 }
 
-// Returns queues for siblings with the numbers 1 and 2. The first was queued, taken and queued again. Then the second,
-// the number 99, which the survey does not have, and the first were queued.
-fn requeued<'a>(alloc: Global, keys: &'a [Value; 3]) -> Result<SiblingQueues<'a>, NoMemory> {
-    let first = Some(&keys[0]);
+// Returns a survey of siblings with the first two of these numbers.
+fn survey_of_two(keys: &[Value; 3]) -> KeySurvey {
     let mut survey = KeySurvey::new();
-    survey.add(&SiblingKey::new(4, first));
+    survey.add(&SiblingKey::new(4, Some(&keys[0])));
     survey.add(&SiblingKey::new(4, Some(&keys[1])));
-    let mut queues = SiblingQueues::for_siblings(alloc, &survey)?;
-    queue_all(alloc, &mut queues, &[(first, 6)])?;
+    survey
+}
+
+// Queues and takes the first sibling. Then queues it again, the second, the third, and the first once more.
+fn queue_again<'a>(
+    alloc: Global,
+    queues: &mut SiblingQueues<'a>,
+    keys: &'a [Value; 3],
+) -> Result<(), NoMemory> {
+    let first = Some(&keys[0]);
+    queue_all(alloc, queues, &[(first, 6)])?;
     queues.take(&SiblingKey::new(4, first));
     let rows = [
         (first, 7),
@@ -287,7 +294,14 @@ fn requeued<'a>(alloc: Global, keys: &'a [Value; 3]) -> Result<SiblingQueues<'a>
         (Some(&keys[2]), 9),
         (first, 10),
     ];
-    queue_all(alloc, &mut queues, &rows)?;
+    queue_all(alloc, queues, &rows)
+}
+
+// Returns queues for siblings with the numbers 1 and 2, in which siblings with the numbers 1, 2 and 99 are queued after
+// a take. The survey does not have the number 99.
+fn requeued<'a>(alloc: Global, keys: &'a [Value; 3]) -> Result<SiblingQueues<'a>, NoMemory> {
+    let mut queues = SiblingQueues::for_siblings(alloc, &survey_of_two(keys))?;
+    queue_again(alloc, &mut queues, keys)?;
     Ok(queues)
 }
 

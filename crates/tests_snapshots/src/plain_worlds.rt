@@ -128,12 +128,17 @@ fn calls_are_made_in_turn(rt: HostRuntime) -> Result<(), Fail> {
 }
 
 // Makes a frame at a desk: takes, reads the number and disposes. Returns whether the number is 1 and changed.
-fn frame_at_desk<V: Versions>(alloc: Global, world: &mut V) -> Result<bool, Refusal> {
-    let mut asked = Objects::new(alloc);
-    let mut desk = OwnDesk::new(world, &mut asked, 7, None);
+fn make_frame<D: Desk>(alloc: Global, desk: &mut D) -> Result<bool, Refusal> {
     let (_, changed) = desk.take_for(alloc, 0)?;
     let is_one = desk.read(alloc, 0).is_ok_and(|value| value.number() == 1);
     Ok(is_one && desk.dispose().is_ok() && changed.numbers() == [0u64].as_slice())
+}
+
+// Makes a frame at a desk of caller 7 over the world.
+fn frame_at_desk<V: Versions>(alloc: Global, world: &mut V) -> Result<bool, Refusal> {
+    let mut asked = Objects::new(alloc);
+    let mut desk = OwnDesk::new(world, &mut asked, 7, None);
+    make_frame(alloc, &mut desk)
 }
 
 // Returns a word for an entry of the log.
