@@ -1,5 +1,5 @@
 -- Results of frames, by what stopped them.
-use Rattle.std.proofs.Common.{◌≡◌, ◌∙◌, ℕ, refl, ap, sym, subst, true, Option, Some, None, Result, Ok, Err, OnOk, OnErr, arith}
+use Rattle.std.proofs.Common.{◌≡◌, ◌∙◌, ℕ, refl, ap, sym, subst, true, Option, Some, None, Result, Ok, Err, IfOk, OnOk, OnErr, arith}
 use Rattle.rt_values.specs.Maps.{Map}
 use Rattle.rt_groups.specs.Frames.{LastFrame, is_detached}
 use Rattle.lang_ast.specs.declared.program.Program.{Program}
@@ -45,6 +45,15 @@ same_good is = cc
 
 pub err_not_good : {U E A : Type 0} {u : U} {e : E} → Err e ≡ Ok u → A
 err_not_good is = absurd cc
+
+-- A fact of a good result, and a fact that holds after any good one.
+pub when_ok : {U E : Type 0} (P : U → Type 0) (r : Result U E) (u : U) → r ≡ Ok u → IfOk r P → P u
+when_ok P (Ok v) u is p = subst P (same_good is) p
+when_ok P (Err e) u is p = err_not_good is
+
+pub on_good : {U E X : Type 0} (r : Result U E) (u : U) → r ≡ Ok u → OnOk r X → X
+on_good (Ok v) u is x = x
+on_good (Err e) u is x = err_not_good is
 
 pub good_not_err : {U E A : Type 0} {u : U} {e : E} → Ok u ≡ Err e → A
 good_not_err is = absurd cc

@@ -1,5 +1,5 @@
 // A composition of one program, frame by frame.
-ghost use Rattle.std.specs.Prelude.{◌≡◌, ◌≤◌, ◌<◌, ◌++◌, [], ℕ, List, Option, Some, None, Ok, Err, true, IfOk, IfErr, OnOk, OnErr, IsTrue};
+ghost use Rattle.std.specs.Prelude.{◌≡◌, ◌≤◌, ◌<◌, ◌++◌, [], ℕ, List, Option, Some, None, Ok, Err, true, IfOk, IfErr, OnOk, OnErr, IsOk, IsTrue};
 ghost use Rattle.std.specs.Option.{option_map};
 ghost use Rattle.rt_values.specs.Maps.{Map, differ};
 ghost use Rattle.rt_values.specs.Views.{Grew};
@@ -7,6 +7,7 @@ ghost use Rattle.rt_values.specs.declared.value.Ty.{Ty};
 ghost use Rattle.rt_groups.specs.Frames.{LastFrame, no_last_frame, is_detached};
 ghost use Rattle.rt_groups.specs.PreorderGroups.{preorder};
 ghost use Rattle.compose_model.specs.Frame.{frame as frame_of, kept_after};
+ghost use Rattle.composer.specs.FrameDrafts.{DraftGroups};
 ghost use Rattle.lang_ast.specs.Programs.{functions_of};
 ghost use Rattle.snap_api.specs.Calls.{Calls, Logs};
 ghost use Rattle.snap_api.specs.Desks.{FollowsLast};
@@ -60,6 +61,26 @@ fn frame_stop(stop: ComposeStop) -> FrameStop
     match stop {
         ComposeStop::TooManyGroups => FrameStop::TooManyGroups,
         ComposeStop::NoMemory => FrameStop::NoMemory,
+    }
+}
+
+// Returns what was composed in a snapshot that was disposed, or why the frame did not happen. The shown snapshot is
+// always disposed.
+fn composed_frame(
+    composed: Result<Option<Draft>, ComposeStop>,
+    disposed: Result<(), Refusal>,
+) -> Result<Option<Draft>, FrameStop>
+    ensures good { IfOk result (λ draft. (composed ≡ Ok draft) × IsOk disposed) }
+    ensures many { result ≡ Err FrameStop.TooManyGroups → composed ≡ Err ComposeStop.TooManyGroups }
+    ensures not_spent { result ≡ Err FrameStop.Spent → ⊥ }
+    ensures no_fault { result ≡ Err FrameStop.ApplierFault → ⊥ }
+{
+    let Ok(()) = disposed else {
+        return Err(FrameStop::NoMemory);
+    };
+    match composed {
+        Ok(draft) => Ok(draft),
+        Err(stop) => Err(frame_stop(stop)),
     }
 }
 
@@ -268,7 +289,16 @@ impl<'p> Composition<'p> {
             return Ok(Ops::new(alloc));
         }
         let preview = draft.preview(alloc, &self.held)?;
-        let new = list_nodes(alloc, preview.table())?;
+        self.calls_to(alloc, preview.table())
+    }
+
+    // Lists the calls on the applier that turn the kept node tree into that of the new groups.
+    fn calls_to(&self, alloc: Global, groups: &Table) -> Result<Ops, NoMemory>
+        ensures { (k : LastFrame) (m : Map) (d : DraftGroups) → IsAt self.now k (Some m) →
+            IsComposed self.now k m (Some d) → groups.now.groups ≡ d.groups →
+            IfOk result (λ ops. ops ≡ ops_of k (frame_of (functions_of self.now.program.now) k m)) }
+    {
+        let new = list_nodes(alloc, groups)?;
         if self.is_detached() {
             return place_anew(alloc, &new);
         }
@@ -344,6 +374,7 @@ impl<'p> Composition<'p> {
             return Ok(self.keep_idle(alloc));
         };
         let Ok(ops) = self.list_calls(alloc, &draft) else {
+            drop(draft);
             return Err(FrameStop::NoMemory);
         };
         if ops.len() == 0 {
@@ -371,6 +402,7 @@ impl<'p> Composition<'p> {
             (A.faults applier.old) (A.faults applier.new) (applier.new ≡ applier.old) result }
     {
         let Ok(calls) = take_memory(alloc, &ops, applier) else {
+            drop(draft);
             return Err(FrameStop::NoMemory);
         };
         match carry(applier, calls) {
@@ -567,12 +599,10 @@ impl<'p> Composition<'p> {
         ensures caller { D.caller desk.new ≡ D.caller desk.old }
     {
         let composed = self.compose_owed(alloc, desk, steps);
-        let Ok(()) = desk.dispose() else {
-            return Err(FrameStop::NoMemory); // The shown snapshot is always disposed.
-        };
-        match composed {
+        let disposed = desk.dispose();
+        match composed_frame(composed, disposed) {
             Ok(draft) => self.apply(alloc, draft, applier),
-            Err(stop) => Err(frame_stop(stop)),
+            Err(stop) => Err(stop),
         }
     }
 
