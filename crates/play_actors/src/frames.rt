@@ -1,5 +1,5 @@
 // Frames, each composed in its own snapshot through the actor's seat.
-ghost use Rattle.std.specs.Prelude.{◌≡◌, ◌<◌, ◌∷◌, ◌++◌, [], Option, ℕ, Some, None, false};
+ghost use Rattle.std.specs.Prelude.{◌≡◌, ◌<◌, ◌∷◌, ◌++◌, [], Option, ℕ, Some, None, false, OnOk, IsOk};
 ghost use Rattle.script_lang.specs.StepCalls.{BeginFrame, EndFrame, calls_parts};
 ghost use Rattle.play_actors.specs.ActorSteps.{by_actor, IsSeated, Makes};
 
@@ -7,6 +7,7 @@ use crate::parts::StepPart;
 use crate::worker::{ActorRun, Worker, make_part, run_calls};
 use lang_ast::CallForm;
 use recomposer::FrameStop;
+use rt_groups::Report;
 use rt_streams::Gate;
 use rt_values::{Name, NoMemory, Steps};
 use snap_api::Versions;
@@ -16,8 +17,18 @@ use std::marker::Brand;
 use std::sync::Wait;
 use std::sync::ledger::{Blank, Ledger};
 
-// Composes the program in the worker's open snapshot `name`. Nothing of it is printed here: too many groups are no
-// failure. `blank` is the ledger of the steps, which nothing reads.
+// Returns whether a frame ran out of memory. Too many groups are no failure: nothing of the frame is printed.
+fn out_of_memory(frame: Result<Report, FrameStop>) -> Result<(), NoMemory>
+    ensures { OnOk frame (IsOk result) }
+{
+    match frame {
+        Ok(_) => Ok(()),
+        Err(FrameStop::TooManyGroups) => Ok(()),
+        Err(_) => Err(NoMemory),
+    }
+}
+
+// Composes the program in the worker's open snapshot `name`. `blank` is the ledger of the steps, which nothing reads.
 fn compose<'p, V: Versions<P = BuiltIn> + Drop, R: Wait, G: Gate, L: Ledger>(
     run: &ActorRun<'_, V, R, G>,
     name: Name,
@@ -42,14 +53,10 @@ fn compose<'p, V: Versions<P = BuiltIn> + Drop, R: Wait, G: Gate, L: Ledger>(
         failed,
     } = worker;
     let mut view = SeatView::new(run.rt, run.shared, seat, run.gate, step, Some(name));
-    let composed = match memory
+    let frame = memory
         .composition
-        .recompose(run.alloc, &mut view, &mut steps)
-    {
-        Ok(_) => Ok(()),
-        Err(FrameStop::TooManyGroups) => Ok(()),
-        Err(_) => Err(NoMemory),
-    };
+        .recompose(run.alloc, &mut view, &mut steps);
+    let composed = out_of_memory(frame);
     let (seat, step) = view.into_seat();
     let worker = Worker {
         seat,
