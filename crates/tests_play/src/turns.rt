@@ -111,7 +111,8 @@ fn play_on<R: Threads + Wait + Sync, V: Versions<P = BuiltIn>, G: Gate + Sync>(
     Ok((status, sink.bytes().to_vec(alloc)?))
 }
 
-// Runs `threads` on an empty plain world and an input through a gate. Returns the status and the bytes that are written.
+// Runs `threads` on an empty plain world and an input through a gate. Returns the status and the bytes that are
+// written.
 fn play_through<R: Threads + Wait + Sync>(
     rt: &R,
     alloc: Global,
