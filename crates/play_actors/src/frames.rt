@@ -17,7 +17,7 @@ use std::marker::Brand;
 use std::sync::Wait;
 use std::sync::ledger::{Blank, Ledger};
 
-// Returns whether a frame ran out of memory. Too many groups are no failure: nothing of the frame is printed.
+// Fails if a frame ran out of memory. Too many groups are no failure, because nothing of the frame is printed.
 fn out_of_memory(frame: Result<Report, FrameStop>) -> Result<(), NoMemory>
     ensures { OnOk frame (IsOk result) }
 {
