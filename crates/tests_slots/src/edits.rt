@@ -3,7 +3,6 @@ use crate::rows::{row_groups, three_rows};
 use rt_values::NoMemory;
 use slot_anchors::{Anchor, Anchors};
 use slot_edit::{Patch, apply, reserve};
-use slot_table::Table;
 use std::alloc::Global;
 use std::test::Fail;
 
@@ -16,85 +15,83 @@ fn mark_rows(alloc: Global) -> Result<Anchors, NoMemory> {
     Ok(anchors)
 }
 
-// Returns the patch to these rows.
-fn row_patch(alloc: Global, keys: &[i64], olds: &[Option<usize>]) -> Result<Patch, Fail> {
-    let groups = row_groups(alloc, keys)?;
-    Ok(Patch::new(alloc, groups, olds.to_vec(alloc)?)?)
+// A patch of a table of the rows 1, 2 and 3: the keys of the new rows, the old index of each new group, the number of new
+// groups, and the new indexes of the anchors of `mark_rows`.
+struct Row {
+    keys: &'static [i64],
+    olds: &'static [Option<usize>],
+    groups: usize,
+    indexes: [Option<usize>; 4],
 }
 
-// Reserves the capacity for `patch` and applies it.
-fn apply_patch(table: &mut Table, anchors: &mut Anchors, patch: Patch) -> Result<(), Fail> {
-    reserve(table, anchors, &patch)?;
-    apply(table, anchors, patch);
-    Ok(())
+// Rows in another order, a row that is removed, and rows that are removed while a new one is inserted.
+static PATCHES: [Row; 3] = [
+    Row {
+        keys: &[3, 1, 2],
+        olds: &[
+            Some(0),
+            Some(5),
+            Some(6),
+            Some(1),
+            Some(2),
+            Some(3),
+            Some(4),
+        ],
+        groups: 7,
+        indexes: [Some(3), Some(5), Some(1), Some(2)],
+    },
+    Row {
+        keys: &[1, 2],
+        olds: &[Some(0), Some(1), Some(2), Some(3), Some(4)],
+        groups: 5,
+        indexes: [Some(1), Some(3), None, None],
+    },
+    Row {
+        keys: &[4, 3],
+        olds: &[Some(0), None, None, Some(5), Some(6)],
+        groups: 5,
+        indexes: [None, None, Some(3), Some(4)],
+    },
+];
+
+// Returns the patch of a row.
+fn patch_of(alloc: Global, row: &Row) -> Result<Patch, Fail> {
+    let groups = row_groups(alloc, row.keys)?;
+    Ok(Patch::new(alloc, groups, row.olds.to_vec(alloc)?)?)
 }
 
-// Patches a table of the rows 1, 2 and 3 to these rows. Returns the number of groups afterwards.
-fn patch_rows(
-    alloc: Global,
-    anchors: &mut Anchors,
-    keys: &[i64],
-    olds: &[Option<usize>],
-) -> Result<usize, Fail> {
+// Reserves the capacity for `patch` and applies it. Returns the number of groups afterwards.
+fn apply_patch(alloc: Global, anchors: &mut Anchors, patch: Patch) -> Result<usize, NoMemory> {
     let mut table = three_rows(alloc)?;
-    apply_patch(&mut table, anchors, row_patch(alloc, keys, olds)?)?;
+    reserve(&mut table, anchors, &patch)?;
+    apply(&mut table, anchors, patch);
     Ok(table.len())
 }
 
-// Returns the number of groups after the patch to these rows, and the indexes of the anchors of `mark_rows`.
-fn indexes_after(
-    alloc: Global,
-    keys: &[i64],
-    olds: &[Option<usize>],
-) -> Result<Vec<Option<usize>>, Fail> {
-    let mut anchors = mark_rows(alloc)?;
-    let count = patch_rows(alloc, &mut anchors, keys, olds)?;
-    let mut indexes = Vec::new(alloc);
-    indexes.push(Some(count))?;
-    for number in 0..anchors.len() {
-        indexes.push(anchors.place(Anchor { number }))?;
+// Whether these are the indexes of the anchors of `mark_rows`.
+fn has_indexes(anchors: &Anchors, indexes: &[Option<usize>; 4]) -> bool {
+    if anchors.len() != 4 {
+        return false;
     }
-    Ok(indexes)
+    for (number, index) in indexes.iter().enumerate() {
+        if number >= anchors.len() || anchors.place(Anchor { number }) != *index {
+            return false;
+        }
+    }
+    true
 }
 
-// Whether this is the number of groups after the patch to these rows, with the indexes of the anchors of `mark_rows`.
-fn has_indexes_after(
-    alloc: Global,
-    keys: &[i64],
-    olds: &[Option<usize>],
-    expected: &[Option<usize>],
-) -> Result<bool, Fail> {
-    Ok(indexes_after(alloc, keys, olds)?.as_slice() == expected)
-}
-
-#[test]
-fn anchors_follow_reordered_rows(rt: HostRuntime) -> Result<(), Fail> {
-    let alloc = rt.alloc();
-    let mut anchors = Anchors::new(alloc);
-    let anchor = anchors.mark(5)?;
-    assert!(rt; anchors.place(anchor) == Some(5usize));
-    let olds = [
-        Some(0),
-        Some(5),
-        Some(6),
-        Some(1),
-        Some(2),
-        Some(3),
-        Some(4),
-    ];
-    let expected = [Some(7), Some(3), Some(5), Some(1), Some(2)];
-    assert!(rt; has_indexes_after(alloc, &[3, 1, 2], &olds, &expected)?);
-    Ok(())
+// Whether the patch of a row gives its number of groups, and the anchors get its indexes.
+fn anchors_follow(alloc: Global, row: &Row) -> Result<bool, Fail> {
+    let mut anchors = mark_rows(alloc)?;
+    let groups = apply_patch(alloc, &mut anchors, patch_of(alloc, row)?)?;
+    Ok(groups == row.groups && has_indexes(&anchors, &row.indexes))
 }
 
 #[test]
-fn anchors_of_removed_rows_have_no_index(rt: HostRuntime) -> Result<(), Fail> {
-    let alloc = rt.alloc();
-    let olds = [Some(0), Some(1), Some(2), Some(3), Some(4)];
-    let expected = [Some(5), Some(1), Some(3), None, None];
-    assert!(rt; has_indexes_after(alloc, &[1, 2], &olds, &expected)?);
-    let olds = [Some(0), None, None, Some(5), Some(6)];
-    let expected = [Some(5), None, None, Some(3), Some(4)];
-    assert!(rt; has_indexes_after(alloc, &[4, 3], &olds, &expected)?);
+fn anchors_follow_their_groups(rt: HostRuntime) -> Result<(), Fail> {
+    for row in PATCHES.as_slice() {
+        assert!(rt; anchors_follow(rt.alloc(), row)?);
+    }
     Ok(())
 }

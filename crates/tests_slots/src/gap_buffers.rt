@@ -34,7 +34,7 @@ fn has_bytes(buf: &GapBuf<u8>, bytes: &[u8]) -> bool {
 }
 
 // An edit of a buffer of at most six bytes.
-#[derive(Drop, Clone, Copy)]
+#[derive(Clone, Copy)]
 enum Edit {
     Move {
         from: usize,
@@ -78,106 +78,92 @@ fn move_block(buf: &mut GapBuf<u8>, from: usize, to: usize, count: usize) -> boo
     is_inside
 }
 
+// Inserts a byte. Returns whether the buffer has its index and the memory for it.
+fn insert(buf: &mut GapBuf<u8>, index: usize, byte: u8) -> bool {
+    let is_inside = buf.reserve(1).is_ok() && index <= buf.len();
+    if is_inside {
+        buf.insert(index, byte);
+    }
+    is_inside
+}
+
 // Applies `edit` to `buf`. Returns whether the buffer has its indexes and the byte that it removes or
 // replaces.
-fn run(buf: &mut GapBuf<u8>, edit: &Edit) -> Result<bool, AllocError> {
+fn run(buf: &mut GapBuf<u8>, edit: Edit) -> bool {
     match edit {
-        Edit::Move { from, to, count } => Ok(move_block(buf, *from, *to, *count)),
-        Edit::Insert { index, byte } => {
-            buf.reserve(1)?;
-            if *index <= buf.len() {
-                buf.insert(*index, *byte);
-                return Ok(true);
-            }
-            Ok(false)
-        }
-        Edit::Remove { index, byte } => Ok(*index < buf.len() && buf.remove(*index) == *byte),
+        Edit::Move { from, to, count } => move_block(buf, from, to, count),
+        Edit::Insert { index, byte } => insert(buf, index, byte),
+        Edit::Remove { index, byte } => index < buf.len() && buf.remove(index) == byte,
         Edit::Set { index, byte } => {
-            if *index < buf.len() {
-                buf.set(*index, *byte);
-                return Ok(true);
+            let is_inside = index < buf.len();
+            if is_inside {
+                buf.set(index, byte);
             }
-            Ok(false)
+            is_inside
         }
-        Edit::Replace { index, byte, old } => {
-            Ok(*index < buf.len() && buf.replace(*index, *byte) == *old)
-        }
+        Edit::Replace { index, byte, old } => index < buf.len() && buf.replace(index, byte) == old,
         Edit::Swap { index, other } => {
-            if *index < buf.len() && *other < buf.len() {
-                buf.swap(*index, *other);
-                return Ok(true);
+            let is_inside = index < buf.len() && other < buf.len();
+            if is_inside {
+                buf.swap(index, other);
             }
-            Ok(false)
+            is_inside
         }
         Edit::Truncate { len } => {
-            buf.truncate(*len);
-            Ok(true)
+            buf.truncate(len);
+            true
         }
     }
 }
 
-// Whether a buffer with the bytes 1 to 5 has the bytes of each row after its edit.
-fn edits_give(alloc: Global, rows: &[(Edit, &[u8])]) -> Result<bool, AllocError> {
-    let mut buf = filled(alloc, &[1, 2, 3, 4, 5])?;
-    if !has_bytes(&buf, &[1, 2, 3, 4, 5]) {
-        return Ok(false);
-    }
-    for (edit, bytes) in rows {
-        if !run(&mut buf, edit)? || !has_bytes(&buf, bytes) {
-            return Ok(false);
-        }
-    }
-    Ok(true)
-}
+// Edits of a buffer with the bytes 1 to 5, and its bytes after each one.
+static EDITS: [(Edit, &[u8]); 10] = [
+    (
+        Edit::Move {
+            from: 1,
+            to: 3,
+            count: 1,
+        },
+        &[1, 3, 2, 4, 5],
+    ),
+    (Edit::Insert { index: 2, byte: 9 }, &[1, 3, 9, 2, 4, 5]),
+    (Edit::Remove { index: 0, byte: 1 }, &[3, 9, 2, 4, 5]),
+    (Edit::Set { index: 1, byte: 7 }, &[3, 7, 2, 4, 5]),
+    (
+        Edit::Replace {
+            index: 2,
+            byte: 6,
+            old: 2,
+        },
+        &[3, 7, 6, 4, 5],
+    ),
+    (Edit::Swap { index: 0, other: 4 }, &[5, 7, 6, 4, 3]),
+    (
+        Edit::Move {
+            from: 0,
+            to: 5,
+            count: 2,
+        },
+        &[6, 4, 3, 5, 7],
+    ),
+    (
+        Edit::Move {
+            from: 3,
+            to: 1,
+            count: 2,
+        },
+        &[6, 5, 7, 4, 3],
+    ),
+    (Edit::Truncate { len: 9 }, &[6, 5, 7, 4, 3]),
+    (Edit::Truncate { len: 2 }, &[6, 5]),
+];
 
 #[test]
 fn edits_are_those_of_a_list(rt: HostRuntime) -> Result<(), Fail> {
-    let rows: [(Edit, &[u8]); 8] = [
-        (
-            Edit::Move {
-                from: 1,
-                to: 3,
-                count: 1,
-            },
-            &[1, 3, 2, 4, 5],
-        ),
-        (Edit::Insert { index: 2, byte: 9 }, &[1, 3, 9, 2, 4, 5]),
-        (Edit::Remove { index: 0, byte: 1 }, &[3, 9, 2, 4, 5]),
-        (Edit::Set { index: 1, byte: 7 }, &[3, 7, 2, 4, 5]),
-        (
-            Edit::Replace {
-                index: 2,
-                byte: 6,
-                old: 2,
-            },
-            &[3, 7, 6, 4, 5],
-        ),
-        (Edit::Swap { index: 0, other: 4 }, &[5, 7, 6, 4, 3]),
-        (Edit::Truncate { len: 9 }, &[5, 7, 6, 4, 3]),
-        (Edit::Truncate { len: 2 }, &[5, 7]),
-    ];
-    assert!(rt; edits_give(rt.alloc(), &rows)?);
-    Ok(())
-}
-
-#[test]
-fn blocks_move_as_the_applier_counts(rt: HostRuntime) -> Result<(), Fail> {
-    let alloc = rt.alloc();
-    let rows: [(usize, usize, usize, [u8; 5]); 6] = [
-        (0, 5, 2, [3, 4, 5, 1, 2]),
-        (3, 1, 2, [1, 4, 5, 2, 3]),
-        (4, 0, 1, [5, 1, 2, 3, 4]),
-        (1, 2, 3, [1, 2, 3, 4, 5]),
-        (1, 4, 3, [1, 2, 3, 4, 5]),
-        (2, 2, 0, [1, 2, 3, 4, 5]),
-    ];
-    for (from, to, count, expected) in &rows {
-        let edit = Edit::Move {
-            from: *from,
-            to: *to,
-            count: *count,
-        };
-        assert!(rt; edits_give(alloc, &[(edit, expected.as_slice())])?);
+    let mut buf = filled(rt.alloc(), &[1, 2, 3, 4, 5])?;
+    assert!(rt; has_bytes(&buf, &[1, 2, 3, 4, 5]));
+    for (edit, bytes) in EDITS.as_slice() {
+        assert!(rt; run(&mut buf, *edit) && has_bytes(&buf, bytes), "{bytes:?}");
     }
     Ok(())
 }

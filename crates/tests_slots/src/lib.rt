@@ -1,5 +1,5 @@
-//! Tests of `gap_buffer`, `node_tree`, `slot_table`, `slot_anchors`, `slot_edit`, `group_keys`, `read_links`,
-//! `recompose_scopes` and `remember_cells` from outside.
+//! Tests of `gap_buffer`, `slot_table`, `slot_anchors`, `slot_edit`, `group_keys`, `read_links`, `recompose_scopes` and
+//! `remember_cells` from outside: calls that the program does not make, and comparisons that only cost time if they fail.
 #![tactic(auto)]
 
 #[cfg(test)]
@@ -14,8 +14,6 @@ mod gap_buffers;
 mod keys;
 #[cfg(test)]
 mod links;
-#[cfg(test)]
-mod node_trees;
 #[cfg(test)]
 mod rows;
 #[cfg(test)]

@@ -1,10 +1,8 @@
 // Recompose scopes of a table, and the calls that are owed.
-ghost use Rattle.std.specs.Prelude.{◌≡◌, IfOk};
-
 use recompose_scopes::{OwedCalls, RecomposeScopes};
 use rt_groups::{Group, GroupKind, Values};
 use rt_values::{NoMemory, Objects};
-use slot_table::{ChangeList, ChangeListWriter, SharedGroup, Table, TableBuilder};
+use slot_table::{SharedGroup, Table, TableBuilder};
 use std::alloc::Global;
 use std::test::Fail;
 
@@ -61,56 +59,5 @@ fn owed_calls_are_those_that_read_an_owed_object(rt: HostRuntime) -> Result<(), 
     let unsorted = [(7, usize::MAX), (0, 1), (3, 6), (2, 2), (6, 6), (1, 1)];
     assert!(rt; are_next(&scopes.owed_calls(alloc, &[9, 7, 9])?, &unsorted));
     assert!(rt; scopes.owed_calls(alloc, &[])?.next_from(0) == usize::MAX);
-    Ok(())
-}
-
-// Returns the changes of `table` that drop its groups at the indexes 0 and 3, or all if it has fewer than 7 groups.
-fn without_two(alloc: Global, table: &Table) -> Result<ChangeList, NoMemory>
-    ensures { IfOk result (λ c. c.olds ≡ table.now.groups) }
-{
-    let mut writer = ChangeListWriter::new(alloc, table);
-    if 7 <= table.len() {
-        writer.keep(1, 3)?;
-        writer.keep(4, 7)?;
-    }
-    writer.into_change_list(alloc)
-}
-
-// Returns the scopes of `table` without its groups at the indexes 0 and 3, or no scopes if `table` has fewer than 7
-// groups.
-fn scopes_of_fewer_calls(alloc: Global, table: &Table) -> Result<RecomposeScopes, NoMemory> {
-    let changes = without_two(alloc, table)?;
-    match changes.shrunk_reads(table) {
-        Some(reads) => RecomposeScopes::of_reads(alloc, reads),
-        None => Ok(RecomposeScopes::new(alloc)),
-    }
-}
-
-// Whether these are the scopes of the object of each row.
-fn has_scopes(scopes: &RecomposeScopes, rows: &[(u64, &[usize])]) -> bool {
-    for (object, expected) in rows {
-        if scopes.scopes_of(*object) != *expected {
-            return false;
-        }
-    }
-    true
-}
-
-// Whether these are the indexes of the groups of the first scopes.
-fn has_places(scopes: &RecomposeScopes, places: &[Option<usize>]) -> bool {
-    for (scope, place) in places.iter().enumerate() {
-        if scopes.place(scope) != *place {
-            return false;
-        }
-    }
-    true
-}
-
-#[test]
-fn scopes_of_a_shrunk_table_have_the_new_indexes(rt: HostRuntime) -> Result<(), Fail> {
-    let alloc = rt.alloc();
-    let scopes = scopes_of_fewer_calls(alloc, &table_of_calls(alloc)?)?;
-    assert!(rt; has_scopes(&scopes, &[(7, &[0]), (8, &[0, 2, 3]), (9, &[1, 3])]));
-    assert!(rt; has_places(&scopes, &[Some(0), Some(1), Some(2), Some(4), None]));
     Ok(())
 }

@@ -127,25 +127,3 @@ fn reader_opens_and_skips_groups(rt: HostRuntime) -> Result<(), Fail> {
     assert!(rt; values.as_slice() == SEEN.as_slice());
     Ok(())
 }
-
-// Whether these are the indexes after the groups of a table, and no other.
-fn has_indexes_after(table: &Table, expected: &[usize]) -> bool {
-    if table.len() != expected.len() {
-        return false;
-    }
-    for (at, index) in expected.iter().enumerate() {
-        if at >= table.len() || table.index_after(at) != *index {
-            return false;
-        }
-    }
-    true
-}
-
-#[test]
-fn indexes_after_groups_skip_what_is_inside(rt: HostRuntime) -> Result<(), Fail> {
-    let alloc = rt.alloc();
-    let table = three_rows(alloc)?;
-    assert!(rt; has_indexes_after(&table, &[7, 3, 3, 5, 5, 7, 7]));
-    assert!(rt; Table::new(alloc).len() == 0usize);
-    Ok(())
-}
