@@ -1,28 +1,27 @@
-// Calls on both worlds, and the replies that copied maps give.
+// Tables of calls on both worlds, with the replies that copied maps give.
 
 use self::Answer::{Applied, Changed, Disposed, Got, Refused, Same, Taken, TakenFor};
 use self::Call::{Apply, Dispose, Read, Take, Write};
 use self::Literal::{Bool, Int, Ints};
 use rt_values::Kind::{Mutable, Readonly};
-use rt_values::{IntList, Kind, Name, ObjectNo, Ty, Value};
+use rt_values::{IntList, Kind, Name, NoMemory, ObjectNo, Ty, Value};
 use snap_api::{CLOCK_LIMIT, Refusal, Reply, Request, Versions, run_calls};
 use snap_plain::PlainWorld;
 use snap_policy::BuiltIn;
 use snap_world::RecordWorld;
 use std::alloc::Global;
-use std::process::Abort;
 use std::test::Fail;
 
-// A value as a table writes it.
-#[derive(Clone, Copy, Debug, PartialEq, Eq)]
-enum Literal {
+/// A value as a table writes it.
+#[derive(Clone, Copy)]
+pub enum Literal {
     Int(i64),
     Bool(bool),
     Ints(&'static [i64]),
 }
 
 impl Literal {
-    fn value(self, alloc: Global) -> Result<Value, Fail> {
+    fn value(self, alloc: Global) -> Result<Value, NoMemory> {
         match self {
             Literal::Int(number) => Ok(Value::Int(number)),
             Literal::Bool(truth) => Ok(Value::Bool(truth)),
@@ -46,7 +45,7 @@ impl Literal {
 }
 
 // A call as a table writes it.
-#[derive(Clone, Copy, Debug, PartialEq, Eq)]
+#[derive(Clone, Copy)]
 enum Call {
     Take(Name, Kind),
     TakeFor(u64),
@@ -57,7 +56,7 @@ enum Call {
 }
 
 impl Call {
-    fn request(self, alloc: Global) -> Result<Request, Fail> {
+    fn request(self, alloc: Global) -> Result<Request, NoMemory> {
         let request = match self {
             Call::Take(parent, kind) => Request::Take { parent, kind },
             Call::TakeFor(watcher) => Request::TakeFor { watcher },
@@ -75,7 +74,7 @@ impl Call {
 }
 
 // A reply as a table writes it.
-#[derive(Clone, Copy, Debug, PartialEq, Eq)]
+#[derive(Clone, Copy)]
 enum Answer {
     Taken(Name),
     TakenFor(Name, &'static [ObjectNo]),
@@ -106,8 +105,8 @@ impl Answer {
     }
 }
 
-// An object's type, policy and initial value.
-type State = (Ty, BuiltIn, Literal);
+/// An object's type, policy and initial value.
+pub type State = (Ty, BuiltIn, Literal);
 
 // Calls with their callers and the expected replies, in a world at a clock with one
 // watcher and these objects.
@@ -118,14 +117,16 @@ struct Row {
     calls: &'static [(u64, Call, Answer)],
 }
 
-const ONE: State = (Ty::Int, BuiltIn::Structural, Int(1));
+/// A number, which is 1.
+pub const ONE: State = (Ty::Int, BuiltIn::Structural, Int(1));
 
 const ZERO: State = (Ty::Int, BuiltIn::Structural, Int(0));
 
 const TEN: State = (Ty::Int, BuiltIn::Counter, Int(10));
 
-// Changes that conflict.
-static CONFLICTS: [Row; 5] = [
+// Calls that both worlds answer alike.
+static ROWS: [Row; 17] = [
+    // Changes that conflict.
     Row {
         what: "a snapshot keeps what it was taken with, and conflicts with a later change",
         clock: 0,
@@ -195,10 +196,7 @@ static CONFLICTS: [Row; 5] = [
             (0, Apply(2), Refused(Refusal::Conflict { object: 0 })),
         ],
     },
-];
-
-// Changes that are merged.
-static MERGES: [Row; 6] = [
+    // Changes that are merged.
     Row {
         what: "two additions to a counter add up",
         clock: 0,
@@ -290,10 +288,7 @@ static MERGES: [Row; 6] = [
             (0, Read(0, 0), Got(Ints(&[1, 2, 3]))),
         ],
     },
-];
-
-// What snapshots show, and what writes and takes for a watcher answer.
-static SNAPSHOTS: [Row; 4] = [
+    // What snapshots show, and what writes and takes for a watcher answer.
     Row {
         what: "a nested snapshot is applied to its parent",
         clock: 0,
@@ -347,10 +342,7 @@ static SNAPSHOTS: [Row; 4] = [
             (0, Call::TakeFor(0), TakenFor(3, &[1])),
         ],
     },
-];
-
-// Calls that are refused.
-static REFUSALS: [Row; 2] = [
+    // Calls that are refused.
     Row {
         what: "each refusal has its cause",
         clock: 0,
@@ -399,24 +391,30 @@ static REFUSALS: [Row; 2] = [
     },
 ];
 
-// Makes one watcher and these objects. Returns whether that succeeds.
-fn make_objects<V: Versions<P = BuiltIn>>(
+// Makes an object. Returns whether that succeeds.
+fn makes<V: Versions<P = BuiltIn>>(alloc: Global, world: &mut V, state: &State) -> bool {
+    let (ty, policy, initial) = *state;
+    match initial.value(alloc) {
+        Ok(value) => world.objects() < 65536 && world.make(alloc, ty, policy, value).is_ok(),
+        Err(_) => false,
+    }
+}
+
+/// Makes one watcher and these objects. Returns whether that succeeds.
+pub fn make_objects<V: Versions<P = BuiltIn>>(
     alloc: Global,
     world: &mut V,
     states: &[State],
-) -> Result<bool, Fail> {
+) -> bool {
     let mut is_made = world.watchers() < 65536 && world.watch(alloc).is_ok();
-    for (ty, policy, initial) in states {
-        let value = initial.value(alloc)?;
-        is_made = is_made
-            && world.objects() < 65536
-            && world.make(alloc, *ty, *policy, value).is_ok();
+    for state in states {
+        is_made = makes(alloc, world, state) && is_made;
     }
-    Ok(is_made)
+    is_made
 }
 
 // The calls of a row, each with its caller.
-fn calls_of(alloc: Global, row: &Row) -> Result<Vec<(u64, Request)>, Fail> {
+fn calls_of(alloc: Global, row: &Row) -> Result<Vec<(u64, Request)>, NoMemory> {
     let mut calls = Vec::new(alloc);
     for (caller, call, _) in row.calls {
         calls.push((*caller, call.request(alloc)?))?;
@@ -433,63 +431,48 @@ fn are_expected(replies: &[Reply], row: &Row) -> bool {
             .all(|(reply, (_, _, answer))| answer.is(reply))
 }
 
-// Makes the objects and the calls of a row. Returns whether the replies are those that it expects.
-fn try_row<V: Versions<P = BuiltIn>>(
-    alloc: Global,
-    world: &mut V,
-    row: &Row,
-) -> Result<bool, Fail> {
-    let is_made = make_objects(alloc, world, row.states)?;
-    let calls = calls_of(alloc, row)?;
-    Ok(is_made && are_expected(&run_calls(alloc, world, &calls)?, row))
+// Makes the calls of a row. Returns whether the replies are those that it expects.
+fn are_answered<V: Versions>(alloc: Global, world: &mut V, row: &Row) -> bool {
+    let Ok(calls) = calls_of(alloc, row) else {
+        return false;
+    };
+    match run_calls(alloc, world, &calls) {
+        Ok(replies) => are_expected(&replies, row),
+        Err(_) => false,
+    }
 }
 
 // Whether copied maps give the replies of a row.
-fn maps_reply(alloc: Global, row: &Row) -> Result<bool, Fail> {
+fn maps_reply(alloc: Global, row: &Row) -> bool {
     if row.clock > CLOCK_LIMIT {
-        return Ok(false);
+        return false;
     }
-    let mut world: PlainWorld<BuiltIn> = PlainWorld::starting_at(alloc, row.clock)?;
-    try_row(alloc, &mut world, row)
+    match PlainWorld::<BuiltIn>::starting_at(alloc, row.clock) {
+        Ok(mut world) => {
+            make_objects(alloc, &mut world, row.states) && are_answered(alloc, &mut world, row)
+        }
+        Err(_) => false,
+    }
 }
 
 // Whether records give the replies of a row.
-fn records_reply(alloc: Global, row: &Row) -> Result<bool, Fail> {
+fn records_reply(alloc: Global, row: &Row) -> bool {
     if row.clock > CLOCK_LIMIT {
-        return Ok(false);
+        return false;
     }
-    let mut world: RecordWorld<BuiltIn> = RecordWorld::starting_at(alloc, row.clock)?;
-    try_row(alloc, &mut world, row)
+    match RecordWorld::<BuiltIn>::starting_at(alloc, row.clock) {
+        Ok(mut world) => {
+            make_objects(alloc, &mut world, row.states) && are_answered(alloc, &mut world, row)
+        }
+        Err(_) => false,
+    }
 }
 
-// Whether both worlds give the replies of a row.
-fn both_reply(alloc: Global, row: &Row) -> Result<bool, Fail> {
-    Ok(maps_reply(alloc, row)? && records_reply(alloc, row)?)
-}
-
-fn try_rows<A: Abort>(rt: &A, alloc: Global, rows: &[Row]) -> Result<(), Fail> {
-    for row in rows {
-        assert!(rt; both_reply(alloc, row)?, "{}", row.what);
+#[test]
+fn calls_get_the_replies_of_copied_maps(rt: HostRuntime) -> Result<(), Fail> {
+    for row in ROWS.as_slice() {
+        assert!(rt; maps_reply(rt.alloc(), row), "{}", row.what);
+        assert!(rt; records_reply(rt.alloc(), row), "{}", row.what);
     }
     Ok(())
-}
-
-#[test]
-fn conflicts_are_those_of_copied_maps(rt: HostRuntime) -> Result<(), Fail> {
-    try_rows(&rt, rt.alloc(), CONFLICTS.as_slice())
-}
-
-#[test]
-fn merges_are_those_of_copied_maps(rt: HostRuntime) -> Result<(), Fail> {
-    try_rows(&rt, rt.alloc(), MERGES.as_slice())
-}
-
-#[test]
-fn snapshots_are_those_of_copied_maps(rt: HostRuntime) -> Result<(), Fail> {
-    try_rows(&rt, rt.alloc(), SNAPSHOTS.as_slice())
-}
-
-#[test]
-fn refusals_are_those_of_copied_maps(rt: HostRuntime) -> Result<(), Fail> {
-    try_rows(&rt, rt.alloc(), REFUSALS.as_slice())
 }

@@ -4,14 +4,51 @@ use snap_ids::IdSet;
 use std::alloc::Global;
 use std::test::Fail;
 
-// Whether the ids of a set that are less than 600 are these.
+// An edit of a set of ids.
+#[derive(Clone, Copy)]
+enum Edit {
+    Add(u64),
+    // Adds the ids from the first one up to but not including the second one.
+    AddRange(u64, u64),
+    Remove(u64),
+    RemoveAll,
+    // Adds the ids of another set, in a new set.
+    With(&'static [u64]),
+    // Removes the ids of another set, in a new set.
+    Without(&'static [u64]),
+}
+
+// Edits of an empty set, and the ids of the set after each one.
+static EDITS: [(Edit, &[u64]); 16] = [
+    (Edit::AddRange(3, 6), &[3, 4, 5]),
+    (Edit::Add(500), &[3, 4, 5, 500]),
+    (Edit::Add(500), &[3, 4, 5, 500]),
+    (Edit::Remove(4), &[3, 5, 500]),
+    (Edit::Remove(77), &[3, 5, 500]),
+    (Edit::Without(&[3]), &[5, 500]),
+    (Edit::Add(200), &[5, 200, 500]),
+    (Edit::Remove(5), &[200, 500]),
+    (Edit::Add(3), &[3, 200, 500]),
+    (Edit::Remove(3), &[200, 500]),
+    (Edit::Add(1), &[1, 200, 500]),
+    (Edit::Without(&[200, 300, 1]), &[500]),
+    (Edit::Add(7), &[7, 500]),
+    (Edit::With(&[9, 7, 2]), &[2, 7, 9, 500]),
+    (Edit::RemoveAll, &[]),
+    (Edit::With(&[4]), &[4]),
+];
+
+// Whether the ids of a set that are less than 600 are these, and the first of these is the lowest one.
 fn has_ids(set: &IdSet, ids: &[u64]) -> bool {
     for id in 0..600 {
         if set.get(id) != ids.contains(&id) {
             return false;
         }
     }
-    true
+    match ids {
+        [first, ..] => set.lowest(9) == *first,
+        [] => set.lowest(9) == 9,
+    }
 }
 
 // Makes a set of these ids.
@@ -23,82 +60,37 @@ fn set_of(alloc: Global, ids: &[u64]) -> Result<IdSet, NoMemory> {
     Ok(set)
 }
 
-// Adds the ids from 3 to 5, and 500 twice.
-fn add_ids(set: &mut IdSet) -> Result<(), NoMemory> {
-    set.add_range(3, 6)?;
-    set.set(500)?;
-    set.set(500)
+// Returns the ids of a set without those of another set.
+fn difference(alloc: Global, set: &IdSet, others: &[u64]) -> Result<IdSet, NoMemory> {
+    set.and_not(alloc, &set_of(alloc, others)?)
 }
 
-// Makes the set of the ids 3, 5 and 500: adds 4 too and removes it, and removes 77, which is not in the set.
-fn three_ids(alloc: Global) -> Result<IdSet, NoMemory> {
-    let mut set = IdSet::new(alloc);
-    add_ids(&mut set)?;
-    set.clear(4);
-    set.clear(77);
-    Ok(set)
+// Returns the ids of a set and those of another set.
+fn union(alloc: Global, set: &IdSet, others: &[u64]) -> Result<IdSet, NoMemory> {
+    set.or(alloc, &set_of(alloc, others)?)
 }
 
-#[test]
-fn a_new_set_is_empty(rt: HostRuntime) -> Result<(), Fail> {
-    let set = IdSet::new(rt.alloc());
-    assert!(rt; set.is_empty() && set.lowest(9) == 9);
+// Applies an edit to a set.
+fn apply_edit(alloc: Global, set: &mut IdSet, edit: Edit) -> Result<(), NoMemory> {
+    match edit {
+        Edit::Add(id) => set.set(id)?,
+        Edit::AddRange(from, below) => set.add_range(from, below)?,
+        Edit::Remove(id) => set.clear(id),
+        Edit::RemoveAll => set.clear_all(),
+        Edit::With(others) => *set = union(alloc, set, others)?,
+        Edit::Without(others) => *set = difference(alloc, set, others)?,
+    }
     Ok(())
 }
 
 #[test]
 fn ids_are_added_and_removed(rt: HostRuntime) -> Result<(), Fail> {
-    let mut set = three_ids(rt.alloc())?;
-    assert!(rt; has_ids(&set, &[3, 5, 500]) && set.lowest(9) == 3);
-    set.set(1)?;
-    assert!(rt; set.lowest(9) == 1);
-    set.clear_all();
-    assert!(rt; set.lowest(9) == 9);
-    Ok(())
-}
-
-// Makes a set of these ids without those of another set.
-fn difference(alloc: Global, ids: &[u64], others: &[u64]) -> Result<IdSet, NoMemory> {
-    let others = set_of(alloc, others)?;
-    set_of(alloc, ids)?.and_not(alloc, &others)
-}
-
-#[test]
-fn ids_of_another_set_are_left_out(rt: HostRuntime) -> Result<(), Fail> {
-    let rest = difference(rt.alloc(), &[500, 5, 3], &[3])?;
-    assert!(rt; has_ids(&rest, &[5, 500]));
-    Ok(())
-}
-
-// Makes the set of the ids from 2 to 4.
-fn low_ids(alloc: Global) -> Result<IdSet, NoMemory> {
-    let mut low = IdSet::new(alloc);
-    low.add_range(2, 5)?;
-    low.add_range(9, 9)?;
-    Ok(low)
-}
-
-// Makes the set of one id and of those of another set.
-fn union(alloc: Global, id: u64, others: &IdSet) -> Result<IdSet, NoMemory> {
-    IdSet::of(alloc, id)?.or(alloc, others)
-}
-
-#[test]
-fn ids_of_two_sets_are_joined(rt: HostRuntime) -> Result<(), Fail> {
-    let low = low_ids(rt.alloc())?;
-    let mut all = union(rt.alloc(), 500, &low)?;
-    assert!(rt; has_ids(&all, &[2, 3, 4, 500]));
-    all.remove_all(&low);
-    assert!(rt; has_ids(&all, &[500]));
-    Ok(())
-}
-
-#[test]
-fn ids_far_apart_are_kept(rt: HostRuntime) -> Result<(), Fail> {
-    let mut set = set_of(rt.alloc(), &[3, 200, 500])?;
-    assert!(rt; set.lowest(0) == 3);
-    set.clear(3);
-    assert!(rt; set.lowest(0) == 200);
-    assert!(rt; !set.get(328));
+    let mut set = IdSet::new(rt.alloc());
+    for (step, ids) in EDITS.as_slice() {
+        assert!(rt;
+            apply_edit(rt.alloc(), &mut set, *step).is_ok() && has_ids(&set, ids),
+            "{ids:?}"
+        );
+    }
     Ok(())
 }
