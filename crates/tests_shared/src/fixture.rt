@@ -119,19 +119,3 @@ pub(crate) fn is_same(one: &Reply, other: &Reply) -> bool {
         _ => false,
     }
 }
-
-// Makes a call through a seat. Returns whether its reply is `wanted`.
-pub(crate) fn replies<R: Wait, W: Versions + Drop>(
-    rt: &R,
-    alloc: Global,
-    shared: &Shared<W>,
-    seat: &mut Seat<W>,
-    request: Request,
-    wanted: Reply,
-) -> bool
-    requires { IsSeat shared.now seat.old }
-    ensures { IsSeat shared.now seat.new }
-{
-    let reply = shared.call(rt, alloc, seat, request);
-    is_same(&reply, &wanted)
-}

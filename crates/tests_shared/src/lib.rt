@@ -1,5 +1,5 @@
-//! Tests of `snap_shared` and `shared_frames` from outside: seats that meet, desks of seats, frames through a seat,
-//! real threads, and a world that runs out of memory.
+//! Tests of `snap_shared` and `shared_frames` from outside: seats that meet, the gate of a desk, frames through a seat,
+//! and real threads.
 #![tactic(auto)]
 
 #[cfg(test)]
@@ -8,8 +8,6 @@ mod desks;
 mod fixture;
 #[cfg(test)]
 mod frames;
-#[cfg(test)]
-mod memory;
 #[cfg(test)]
 mod seats;
 #[cfg(test)]
