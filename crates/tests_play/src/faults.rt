@@ -4,7 +4,6 @@ ghost use Rattle.rt_streams.specs.Streams.{Rose};
 
 use crate::map_view::{MapView, view_of};
 use crate::programs::checked_program;
-use crate::recomposing::with_new_composition;
 use lang_checks::Checked;
 use node_tree::{Applier, NewNode, Op, Ops};
 use recomposer::{Composition, FrameStop};
@@ -16,14 +15,13 @@ use std::marker::Brand;
 use std::sync::ledger::{Blank, Ledger};
 use std::test::Fail;
 
-// A row for each item, and a state that nothing reads.
+// A row for each item.
 const PROGRAM: &str = "(compose 1)
 (state list Ints Structural (ints))
-(state unread Int Structural 0)
 (fun root () (for i (get list) (key i (node Row ((item i))))))";
 
 // A call on an applier.
-#[derive(Clone, Copy, Debug, PartialEq, Eq)]
+#[derive(Clone, Copy, PartialEq, Eq)]
 enum Made {
     Clear,
     Insert { index: usize, number: u64 },
@@ -36,7 +34,6 @@ struct FailingList {
     made: Vec<Made>,
     failing: u64,
     calls: u64,
-    reserved: u64,
     faults: u64,
 }
 
@@ -65,7 +62,6 @@ impl Applier for FailingList {
 
     fn reserve(&mut self, _alloc: Global, ops: &Ops) -> Result<(), NoMemory> {
         let _count = ops.insert_count();
-        self.reserved = self.reserved.saturating_add(1);
         Ok(())
     }
 
@@ -111,7 +107,6 @@ fn failing_list(alloc: Global, failing: u64) -> FailingList {
         made: Vec::new(alloc),
         failing,
         calls: 0,
-        reserved: 0,
         faults: 0,
     }
 }
@@ -155,7 +150,7 @@ fn fails_at_an_insert(
     view: &mut MapView,
     applier: &mut FailingList,
 ) -> bool {
-    composition.note(&[0, 1]);
+    composition.note(&[0]);
     let first = recompose_with(alloc, composition, view, applier);
     matches!(first, Err(FrameStop::ApplierFault))
         && composition.next() == 4
@@ -199,7 +194,7 @@ const MADE_AROUND_A_FAULT: [Made; 5] = [
 
 // Makes a frame over an applier that fails, and one after it. Returns whether the applier is called as it should be.
 fn clears_after_a_fault(alloc: Global, composition: &mut Composition) -> Result<bool, Fail> {
-    let mut view = view_of(alloc, &[1, 2, 3], &[0])?;
+    let mut view = view_of(alloc, &[1, 2, 3], &[])?;
     let mut applier = failing_list(alloc, 2);
     Ok(
         fails_at_an_insert(alloc, composition, &mut view, &mut applier)
@@ -211,7 +206,8 @@ fn clears_after_a_fault(alloc: Global, composition: &mut Composition) -> Result<
 // Makes a frame over an applier that fails, and one after it, both in a new composition. Returns whether the applier is
 // called as it should be.
 fn clears_in_new(alloc: Global, program: &Checked) -> Result<bool, Fail> {
-    with_new_composition(alloc, program, |it| clears_after_a_fault(alloc, it))
+    let mut composition = Composition::new(alloc, program, 0)?;
+    clears_after_a_fault(alloc, &mut composition)
 }
 
 // The frame after a fault clears the tree, and makes all nodes again with new numbers.
@@ -219,62 +215,5 @@ fn clears_in_new(alloc: Global, program: &Checked) -> Result<bool, Fail> {
 fn fault_of_the_applier_clears_the_tree_and_uses_up_numbers(rt: HostRuntime) -> Result<(), Fail> {
     let program = checked_program(rt.alloc(), PROGRAM.as_bytes())?;
     assert!(rt; clears_in_new(rt.alloc(), &program)?);
-    Ok(())
-}
-
-// Makes a frame after a change that no call read. Returns whether it reads nothing, makes no call, and reports the
-// counts of `first` with nothing run.
-fn is_idle(
-    alloc: Global,
-    composition: &mut Composition,
-    view: &mut MapView,
-    applier: &mut FailingList,
-    first: &Report,
-) -> bool {
-    composition.note(&[1]);
-    let asked = view.asked.numbers().len();
-    let second = recompose_with(alloc, composition, view, applier);
-    let idle = Report {
-        ran: 0,
-        calculated: 0,
-        reads: 0,
-        groups: first.groups,
-        nodes: first.nodes,
-    };
-    second.is_ok_and(|report| report == idle)
-        && view.asked.numbers().len() == asked
-        && composition.ops().len() == 0
-}
-
-// Makes the first frame, and one after a change that no call read. Returns whether the second is idle.
-fn second_is_idle(
-    alloc: Global,
-    composition: &mut Composition,
-    view: &mut MapView,
-    applier: &mut FailingList,
-) -> Result<bool, FrameStop> {
-    composition.note(&[0, 1]);
-    let first = recompose_with(alloc, composition, view, applier)?;
-    Ok(composition.ops().len() == 3 && is_idle(alloc, composition, view, applier, &first))
-}
-
-// Whether the applier is called only in the first of two frames.
-fn leaves_the_applier_alone(alloc: Global, composition: &mut Composition) -> Result<bool, Fail> {
-    let mut view = view_of(alloc, &[1, 2, 3], &[0])?;
-    let mut applier = failing_list(alloc, 0);
-    let is_idle = second_is_idle(alloc, composition, &mut view, &mut applier);
-    Ok(matches!(is_idle, Ok(true)) && applier.calls == 3 && applier.reserved == 1)
-}
-
-// Whether the applier is called only in the first of two frames of a new composition.
-fn leaves_alone_in_new(alloc: Global, program: &Checked) -> Result<bool, Fail> {
-    with_new_composition(alloc, program, |it| leaves_the_applier_alone(alloc, it))
-}
-
-// A frame that owes no call does not call the applier, not even to reserve nodes.
-#[test]
-fn change_that_no_call_read_leaves_the_applier_alone(rt: HostRuntime) -> Result<(), Fail> {
-    let program = checked_program(rt.alloc(), PROGRAM.as_bytes())?;
-    assert!(rt; leaves_alone_in_new(rt.alloc(), &program)?);
     Ok(())
 }

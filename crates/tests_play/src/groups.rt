@@ -1,10 +1,10 @@
-// Whole programs composed from scratch: their groups in order, and the objects that were read.
+// A whole program composed from scratch, and an expression evaluated.
 use crate::map_view::view_of;
 use crate::programs::parse_program;
 use lang_ast::{Expression, Program, Statement};
 use lang_meaning::{Env, eval, scratch};
 use rt_groups::{GroupKind, Groups};
-use rt_values::{Objects, Value};
+use rt_values::Value;
 use std::alloc::Global;
 use std::test::Fail;
 
@@ -33,17 +33,11 @@ fn shown_number(what: &GroupKind) -> i64 {
     }
 }
 
-// Composes the function with index `root` from scratch. The states after the list are `numbers`.
-fn composed(alloc: Global, text: &str, root: usize, numbers: &[i64]) -> Result<Groups, Fail> {
+// Composes the root of the program from scratch. The states after the list are `numbers`.
+fn composed(alloc: Global, numbers: &[i64]) -> Result<Groups, Fail> {
     let mut view = view_of(alloc, &[], numbers)?;
-    let (program, _) = parse_program(alloc, text.as_bytes())?;
-    Ok(scratch(
-        alloc,
-        &program.functions,
-        root,
-        Groups::new(alloc),
-        &mut view,
-    )?)
+    let (program, _) = parse_program(alloc, PROGRAM.as_bytes())?;
+    Ok(scratch(alloc, &program.functions, 1, Groups::new(alloc), &mut view)?)
 }
 
 // The depth, the site and the shown number of each group of the program.
@@ -62,7 +56,7 @@ static GROUPS: [(u32, u32, i64); 10] = [
 
 #[test]
 fn groups_are_in_preorder_with_depths(rt: HostRuntime) -> Result<(), Fail> {
-    let groups = composed(rt.alloc(), PROGRAM, 1, &[2, 7, 9])?;
+    let groups = composed(rt.alloc(), &[2, 7, 9])?;
     assert!(rt; groups.len() == GROUPS.len());
     for (group, row) in groups.items().iter().zip(GROUPS.as_slice()) {
         assert!(rt; (group.depth, group.site, shown_number(&group.what)) == *row);
@@ -70,12 +64,12 @@ fn groups_are_in_preorder_with_depths(rt: HostRuntime) -> Result<(), Fail> {
     Ok(())
 }
 
-#[test]
-fn a_call_of_its_own_function_composes_nothing(rt: HostRuntime) -> Result<(), Fail> {
-    let groups = composed(rt.alloc(), "(compose 1) (fun root () (call root))", 0, &[])?;
-    assert!(rt; groups.len() == 2usize);
-    Ok(())
-}
+// The key reads both states.
+const BOTH: &str = "(compose 1)
+(state list Ints Structural (ints))
+(state a Bool Structural true)
+(state b Bool Structural true)
+(fun root () (key (and (get a) (get b))))";
 
 // Returns the key that is the first statement of the first function.
 fn first_key(program: &Program) -> Option<&Expression> {
@@ -85,29 +79,20 @@ fn first_key(program: &Program) -> Option<&Expression> {
     }
 }
 
-// Evaluates the key that is the first statement of the first function. The states after the list are `numbers`.
-// Returns the value, if there is such a key, and the objects that were read.
-fn value_of_key(
-    alloc: Global,
-    text: &str,
-    numbers: &[i64],
-) -> Result<(Option<Value>, Objects), Fail> {
-    let (program, _) = parse_program(alloc, text.as_bytes())?;
-    let mut view = view_of(alloc, &[], numbers)?;
-    let value = match first_key(&program) {
-        Some(key) => Some(eval(alloc, key, &Env::new(alloc), &mut view)?),
-        None => None,
+// Evaluates the key of the program, where the first state is false. Returns whether the value is false, and both states
+// are read.
+fn reads_both(alloc: Global) -> Result<bool, Fail> {
+    let mut view = view_of(alloc, &[], &[0, 1])?;
+    let (program, _) = parse_program(alloc, BOTH.as_bytes())?;
+    let Some(key) = first_key(&program) else {
+        return Ok(false);
     };
-    Ok((value, view.asked))
+    let value = eval(alloc, key, &Env::new(alloc), &mut view)?;
+    Ok(value.same(&Value::Bool(false)) && view.asked.numbers() == [1u64, 2].as_slice())
 }
 
 #[test]
 fn both_operands_of_and_are_read(rt: HostRuntime) -> Result<(), Fail> {
-    let text =
-        "(compose 1) (state l Ints Structural (ints)) (state a Bool Structural true) (state b Bool Structural true)
-(fun root () (key (and (get a) (get b))))";
-    let (value, asked) = value_of_key(rt.alloc(), text, &[0, 1])?;
-    assert!(rt; matches!(value, Some(Value::Bool(false))));
-    assert!(rt; asked.numbers() == [1u64, 2].as_slice());
+    assert!(rt; reads_both(rt.alloc())?);
     Ok(())
 }

@@ -1,23 +1,15 @@
-//! Tests of `lang_checks`, `lang_meaning`, `recomposer`, `script_lang`, `play_args`, `play_gen` and `play_core` from
-//! outside: programs that are checked, composed and generated, lines that no script reaches, and streams that fail.
+//! Tests of `lang_write`, `lang_meaning`, `recomposer`, `script_lang`, `play_gen`, `play_run` and `play_core` from outside:
+//! calls that the program does not make, an applier and streams that fail, logs and histories, and actors in turn.
 #![tactic(auto)]
 
 #[cfg(test)]
-mod arguments;
-#[cfg(test)]
-mod checks;
-#[cfg(test)]
 mod faults;
 #[cfg(test)]
-mod frames;
+mod forms;
 #[cfg(test)]
 mod generated;
 #[cfg(test)]
 mod groups;
-#[cfg(test)]
-mod kept_groups;
-#[cfg(test)]
-mod lines;
 #[cfg(test)]
 mod logs;
 #[cfg(test)]
@@ -26,8 +18,6 @@ mod map_view;
 mod memory_runs;
 #[cfg(test)]
 mod programs;
-#[cfg(test)]
-mod recomposing;
 #[cfg(test)]
 mod replays;
 #[cfg(test)]

@@ -1,7 +1,7 @@
 // The log of the world after a run.
 ghost use Rattle.snap_api.specs.World.{start};
 
-use crate::memory_runs::{logged_world, sink_failing, source_of};
+use crate::memory_runs::{logged_world, sink_failing, source_failing};
 use play_core::{Status, play_alone};
 use rt_values::Value;
 use snap_api::{Entry, Reply, Request, Versions};
@@ -28,29 +28,25 @@ const TWO_CALLS: &[u8] = b"(compose 1)
 (do main (frame) (write global b 3) (frame (during (read global a))) (frame))
 ";
 
-// Runs `input` on a new world. The writes with the numbers `failing`, counted from 1, fail.
+// Runs `input` on a new world. The write with the number `failing`, counted from 1, fails, or none if that is 0.
 fn run_on<V: Versions<P = BuiltIn>>(
     alloc: Global,
     world: &mut V,
     input: &[u8],
-    failing: &[u64],
+    failing: u64,
 ) -> Result<Status, Fail>
     requires { V.stands world.old (start 0) }
 {
     let mut words = Vec::new(alloc);
     words.push("run".to_string(alloc)?)?;
-    let mut source = source_of(alloc, input)?;
+    let mut source = source_failing(alloc, input, 0)?;
     let mut sink = sink_failing(alloc, failing)?;
     Ok(play_alone(alloc, &words, world, &mut source, &mut sink))
 }
 
-// Runs `input` on an empty plain world. The writes with the numbers `failing`, counted from 1, fail. Returns the status
-// and the log of the world.
-fn run_with_log(
-    alloc: Global,
-    input: &[u8],
-    failing: &[u64],
-) -> Result<(Status, Vec<Entry>), Fail> {
+// Runs `input` on an empty plain world. The write with the number `failing`, counted from 1, fails, or none if that is 0.
+// Returns the status and the log of the world.
+fn run_with_log(alloc: Global, input: &[u8], failing: u64) -> Result<(Status, Vec<Entry>), Fail> {
     let mut world = logged_world(alloc)?;
     let status = run_on(alloc, &mut world, input, failing)?;
     let (_, entries) = world.into_parts();
@@ -72,7 +68,7 @@ fn entry_data(entry: &Entry) -> EntryData {
 
 // Whether a run is done, and these are the entries of its log.
 fn has_log(alloc: Global, input: &[u8], wanted: &[EntryData]) -> Result<bool, Fail> {
-    let (status, entries) = run_with_log(alloc, input, &[])?;
+    let (status, entries) = run_with_log(alloc, input, 0)?;
     Ok(
         status == Status::Done
             && entries.len() == wanted.len()
@@ -83,49 +79,62 @@ fn has_log(alloc: Global, input: &[u8], wanted: &[EntryData]) -> Result<bool, Fa
     )
 }
 
-static NESTED_LOG: [EntryData; 7] = [
-    ('t', 1, 0),
-    ('r', 1, 1),
-    ('d', 1, 0),
-    ('w', 0, 0),
-    ('t', 2, 0),
-    ('r', 2, 2),
-    ('d', 2, 0),
-];
-
-static TWO_CALLS_LOG: [EntryData; 13] = [
-    ('t', 1, 0),
-    ('r', 1, 1),
-    ('r', 1, 2),
-    ('r', 1, 2),
-    ('d', 1, 0),
-    ('w', 0, 0),
-    ('t', 2, 0),
-    ('r', 0, 1),
-    ('r', 2, 3),
-    ('r', 2, 3),
-    ('d', 2, 0),
-    ('t', 3, 0),
-    ('d', 3, 0),
+// Inputs, and the entries of the log of a run.
+static LOGS: [(&[u8], &[EntryData]); 2] = [
+    (
+        NESTED,
+        &[
+            ('t', 1, 0),
+            ('r', 1, 1),
+            ('d', 1, 0),
+            ('w', 0, 0),
+            ('t', 2, 0),
+            ('r', 2, 2),
+            ('d', 2, 0),
+        ],
+    ),
+    (
+        TWO_CALLS,
+        &[
+            ('t', 1, 0),
+            ('r', 1, 1),
+            ('r', 1, 2),
+            ('r', 1, 2),
+            ('d', 1, 0),
+            ('w', 0, 0),
+            ('t', 2, 0),
+            ('r', 0, 1),
+            ('r', 2, 3),
+            ('r', 2, 3),
+            ('d', 2, 0),
+            ('t', 3, 0),
+            ('d', 3, 0),
+        ],
+    ),
 ];
 
 #[test]
 fn each_frame_logs_the_reads_of_the_calls_that_run(rt: HostRuntime) -> Result<(), Fail> {
-    assert!(rt; has_log(rt.alloc(), NESTED, NESTED_LOG.as_slice())?);
-    assert!(rt; has_log(rt.alloc(), TWO_CALLS, TWO_CALLS_LOG.as_slice())?);
+    for (input, wanted) in LOGS.as_slice() {
+        assert!(rt; has_log(rt.alloc(), input, wanted)?);
+    }
     Ok(())
 }
 
+// Whether a run stops at the write `failing`, and its log has `wanted` entries.
+fn stops_at(alloc: Global, failing: u64, wanted: usize) -> Result<bool, Fail> {
+    let (status, entries) = run_with_log(alloc, NESTED, failing)?;
+    Ok(status == Status::WriteFault && entries.len() == wanted)
+}
+
+// The number of the write that fails, and the length of the log then. Each line is one write, and a good frame writes its
+// report and its tree after the dispose.
+static FAILING: [(u64, usize); 7] = [(1, 1), (2, 3), (3, 3), (5, 3), (6, 4), (7, 5), (8, 7)];
+
 #[test]
 fn no_call_is_made_after_a_failed_write(rt: HostRuntime) -> Result<(), Fail> {
-    let alloc = rt.alloc();
-    // The number of the write that fails, and the length of the log then. Each line is one write, and a good frame
-    // writes its report and its tree after the dispose.
-    let rows = [(1, 1), (2, 3), (3, 3), (5, 3), (6, 4), (7, 5), (8, 7)];
-    for (failing, wanted) in rows {
-        let (status, entries) = run_with_log(alloc, NESTED, &[failing])?;
-        assert!(rt; status == Status::WriteFault);
-        assert!(rt; entries.len() == wanted);
+    for (failing, wanted) in FAILING.as_slice() {
+        assert!(rt; stops_at(rt.alloc(), *failing, *wanted)?);
     }
     Ok(())
 }

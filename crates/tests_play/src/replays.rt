@@ -12,10 +12,10 @@ ghost use Rattle.play_run.specs.CallsInFrames.{frame_by, frame_after, IsInTurn};
 use crate::memory_runs::{logged_world, sink_failing};
 use crate::programs::parse_program;
 use lang_checks::check;
-use play_run::{Job, replay, run_script, set_up_world};
+use play_run::{Job, replay, set_up_world};
 use rt_values::{Caller, Kind, Name, Value};
-use script_lang::{Flags, script_of};
-use snap_api::{Entry, Reply, Request, Versions, run_calls};
+use script_lang::{Flags, add_line, script_of};
+use snap_api::{Entry, Refusal, Reply, Request, Versions, run_calls};
 use snap_policy::BuiltIn;
 use std::alloc::Global;
 use std::test::Fail;
@@ -124,48 +124,13 @@ fn make_calls(alloc: Global, job: &Job, calls: &Vec<(Caller, Request)>) -> Resul
 }
 
 // Writes the lines of a history. Returns the bytes that are written.
-fn lines_of(alloc: Global, job: &Job, flags: Flags, calls: Vec<Entry>) -> Result<Vec<u8>, Fail>
+fn lines_of(alloc: Global, job: &Job, calls: Vec<Entry>) -> Result<Vec<u8>, Fail>
     requires legal { IsLegal table (opening_world job.now.program.states.items) calls.items }
     requires turn { AreInTurn None (printed_history calls.items) }
 {
-    let mut sink = sink_failing(alloc, &[])?;
-    let _ = replay(alloc, job, flags, calls, &mut sink);
+    let mut sink = sink_failing(alloc, 0)?;
+    let _ = replay(alloc, job, PLAIN, calls, &mut sink);
     Ok(sink.bytes().to_vec(alloc)?)
-}
-
-// Returns the calls of entries without their replies.
-fn calls_of(alloc: Global, entries: Vec<Entry>) -> Result<Vec<(Caller, Request)>, Fail> {
-    let mut calls = Vec::new(alloc);
-    for entry in entries {
-        calls.push((entry.caller, entry.request))?;
-    }
-    Ok(calls)
-}
-
-// Runs the script of a job on a new world. Returns the bytes that are written.
-fn run_on<V: Versions<P = BuiltIn>>(
-    alloc: Global,
-    job: &Job,
-    flags: Flags,
-    world: &mut V,
-) -> Result<Vec<u8>, Fail>
-    requires { V.stands world.old (start 0) }
-{
-    let mut sink = sink_failing(alloc, &[])?;
-    let _ = run_script(alloc, job, flags, world, &mut sink);
-    Ok(sink.bytes().to_vec(alloc)?)
-}
-
-// Runs the script of a job. Returns its calls with the reads of frames, and the bytes that are written.
-fn run_with_calls(
-    alloc: Global,
-    job: &Job,
-    flags: Flags,
-) -> Result<(Vec<(Caller, Request)>, Vec<u8>), Fail> {
-    let mut world = logged_world(alloc)?;
-    let lines = run_on(alloc, job, flags, &mut world)?;
-    let (_, entries) = world.into_parts();
-    Ok((calls_of(alloc, entries)?, lines))
 }
 
 // Returns calls of `other` while a frame of `main` is open and between the reads of this frame, and a frame of `other`
@@ -219,51 +184,27 @@ fn parse_job(alloc: Global, text: &[u8]) -> Result<Job, Fail> {
     Ok(Job { program, script })
 }
 
-// Flags for trees alone, and for calls on an applier with trees as JSON.
+// Flags for trees, without JSON and without calls on an applier.
 const PLAIN: Flags = Flags {
     ops: false,
     json: false,
 };
 
-const ALL: Flags = Flags {
-    ops: true,
-    json: true,
-};
-
 // Makes calls in the opening world of a job, and writes the lines of this history. Returns them, or nothing if its
 // frames are not in turn.
-fn replayed(
-    alloc: Global,
-    job: &Job,
-    flags: Flags,
-    calls: &Vec<(Caller, Request)>,
-) -> Result<Vec<u8>, Fail> {
+fn replayed(alloc: Global, job: &Job, calls: &Vec<(Caller, Request)>) -> Result<Vec<u8>, Fail> {
     let made = make_calls(alloc, job, calls)?;
     if is_in_turn(&made) {
-        lines_of(alloc, job, flags, made)
+        lines_of(alloc, job, made)
     } else {
         Ok(Vec::new(alloc))
     }
 }
 
-// Whether the calls of the script of a job with their replies give the lines of its run.
-fn is_replayed(alloc: Global, job: &Job, flags: Flags) -> Result<bool, Fail> {
-    let (calls, lines) = run_with_calls(alloc, job, flags)?;
-    Ok(!lines.is_empty() && replayed(alloc, job, flags, &calls)? == lines)
-}
-
-#[test]
-fn calls_and_replies_give_the_lines_of_a_run(rt: HostRuntime) -> Result<(), Fail> {
-    let job = parse_job(rt.alloc(), TWO_ACTORS)?;
-    assert!(rt; is_replayed(rt.alloc(), &job, PLAIN)?);
-    assert!(rt; is_replayed(rt.alloc(), &job, ALL)?);
-    Ok(())
-}
-
 // Writes the lines of calls of the two actors.
 fn lines_of_calls(alloc: Global, calls: &Vec<(Caller, Request)>) -> Result<Vec<u8>, Fail> {
     let job = parse_job(alloc, TWO_ACTORS)?;
-    replayed(alloc, &job, PLAIN, calls)
+    replayed(alloc, &job, calls)
 }
 
 #[test]
@@ -280,5 +221,28 @@ fn lines_end_at_a_frame_that_lacks_a_read(rt: HostRuntime) -> Result<(), Fail> {
     let lines = lines_of_calls(rt.alloc(), &calls)?;
     assert!(rt; INTERLEAVED_LINES.starts_with(&lines));
     assert!(rt; lines.ends_with(b"main: dispose @1 = disposed\n"));
+    Ok(())
+}
+
+// Returns the line of a take by the first actor that is refused because the clock is spent.
+fn line_of_spent(alloc: Global) -> Result<Vec<u8>, Fail> {
+    let job = parse_job(alloc, TWO_ACTORS)?;
+    let take = Entry {
+        caller: 0,
+        request: Request::Take {
+            parent: 0,
+            kind: Kind::Mutable,
+        },
+        reply: Reply::Refused(Refusal::Spent),
+    };
+    let mut text = Vec::new(alloc);
+    add_line(&mut text, &job.program, &job.script, &take)?;
+    Ok(text)
+}
+
+#[test]
+fn a_spent_take_has_its_line(rt: HostRuntime) -> Result<(), Fail> {
+    let line = line_of_spent(rt.alloc())?;
+    assert!(rt; line.as_slice() == b"main: take mutable @0 = spent\n".as_slice());
     Ok(())
 }

@@ -1,10 +1,7 @@
 // Actors of `threads` who take turns in an order that a gate fixes.
-ghost use Rattle.snap_api.specs.World.{start};
-
-use crate::memory_runs::{arguments, sink_failing, source_of};
-use play_core::{Status, play};
+use crate::memory_runs::{Run, play_on};
+use play_core::Status;
 use rt_streams::Gate;
-use snap_api::Versions;
 use snap_plain::PlainWorld;
 use snap_policy::BuiltIn;
 use std::alloc::Global;
@@ -94,23 +91,6 @@ fn has_line(text: &[u8], line: &[u8]) -> bool {
     text.split(|b| *b == b'\n').any(|it| it == line)
 }
 
-// Runs `threads` on a new world and an input through a gate. Returns the status and the bytes that are written.
-fn play_on<R: Threads + Wait + Sync, V: Versions<P = BuiltIn>, G: Gate + Sync>(
-    rt: &R,
-    alloc: Global,
-    world: &mut V,
-    input: &[u8],
-    gate: &G,
-) -> Result<(Status, Vec<u8>), Fail>
-    requires { V.stands world.old (start 0) }
-{
-    let words = arguments(alloc, &["threads"])?;
-    let mut source = source_of(alloc, input)?;
-    let mut sink = sink_failing(alloc, &[])?;
-    let status = play(rt, alloc, &words, world, &mut source, &mut sink, gate);
-    Ok((status, sink.bytes().to_vec(alloc)?))
-}
-
 // Runs `threads` on an empty plain world and an input through a gate. Returns the status and the bytes that are
 // written.
 fn play_through<R: Threads + Wait + Sync>(
@@ -120,7 +100,13 @@ fn play_through<R: Threads + Wait + Sync>(
     gate: &OrderGate,
 ) -> Result<(Status, Vec<u8>), Fail> {
     let mut world = PlainWorld::<BuiltIn>::new(alloc)?;
-    play_on(rt, alloc, &mut world, input, gate)
+    let run = Run {
+        word: "threads",
+        input,
+        failing_read: 0,
+        failing_write: 0,
+    };
+    play_on(rt, alloc, &mut world, run, gate)
 }
 
 // Runs `threads` on an input through a gate. Returns whether the run is done, no wait was given up, and these lines are

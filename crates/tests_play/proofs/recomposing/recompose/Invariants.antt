@@ -1,4 +1,0 @@
-use Rattle.tests_play.proofs.recomposing.recompose.Given as goal
-
-abbrev pub ghosts-recompose_counting : goal.ghosts-recompose_counting
-ghosts-recompose_counting g a = record { name = a.blank.name; parts = a.blank.parts }
