@@ -35,6 +35,20 @@ fn table_of_calls(alloc: Global) -> Result<Table, NoMemory> {
     Table::from_groups(alloc, groups)
 }
 
+// Returns the scopes of a table of calls.
+fn scopes_of_calls(alloc: Global) -> Result<RecomposeScopes, NoMemory> {
+    let table = table_of_calls(alloc)?;
+    RecomposeScopes::of(alloc, &table)
+}
+
+// Whether the scopes are those of the table of calls, and have the indexes of their calls.
+fn are_scopes_of_calls(scopes: &RecomposeScopes) -> bool {
+    scopes.scopes_of(8) == [0usize, 2, 3].as_slice()
+        && scopes.scopes_of(6).len() == 0
+        && scopes.place(2) == Some(4)
+        && scopes.place(4) == None
+}
+
 // Whether the next owed call from the first index of each row on is at the second one.
 fn are_next(calls: &OwedCalls, rows: &[(usize, usize)]) -> bool {
     for (at, next) in rows {
@@ -45,19 +59,38 @@ fn are_next(calls: &OwedCalls, rows: &[(usize, usize)]) -> bool {
     true
 }
 
+// Whether the calls that are owed for these objects are the next ones as the rows say.
+fn are_owed(
+    alloc: Global,
+    scopes: &RecomposeScopes,
+    objects: &[u64],
+    rows: &[(usize, usize)],
+) -> bool {
+    match scopes.owed_calls(alloc, objects) {
+        Ok(calls) => are_next(&calls, rows),
+        Err(_) => false,
+    }
+}
+
+// Objects that are owed, and for each of some indexes that of the next owed call. The last row owes nothing.
+static OWED: [(&[u64], &[(usize, usize)]); 3] = [
+    (
+        &[8],
+        &[(0, 1), (1, 1), (2, 4), (5, 6), (6, 6), (7, usize::MAX)],
+    ),
+    (
+        &[9, 7, 9],
+        &[(7, usize::MAX), (0, 1), (3, 6), (2, 2), (6, 6), (1, 1)],
+    ),
+    (&[], &[(0, usize::MAX)]),
+];
+
 #[test]
 fn owed_calls_are_those_that_read_an_owed_object(rt: HostRuntime) -> Result<(), Fail> {
-    let alloc = rt.alloc();
-    let scopes = RecomposeScopes::of(alloc, &table_of_calls(alloc)?)?;
-    assert!(rt; scopes.scopes_of(8) == [0usize, 2, 3].as_slice());
-    assert!(rt; scopes.scopes_of(6).len() == 0usize);
-    assert!(rt; scopes.place(2) == Some(4usize));
-    assert!(rt; scopes.place(4) == None);
-
-    let ascending = [(0, 1), (1, 1), (2, 4), (5, 6), (6, 6), (7, usize::MAX)];
-    assert!(rt; are_next(&scopes.owed_calls(alloc, &[8])?, &ascending));
-    let unsorted = [(7, usize::MAX), (0, 1), (3, 6), (2, 2), (6, 6), (1, 1)];
-    assert!(rt; are_next(&scopes.owed_calls(alloc, &[9, 7, 9])?, &unsorted));
-    assert!(rt; scopes.owed_calls(alloc, &[])?.next_from(0) == usize::MAX);
+    let scopes = scopes_of_calls(rt.alloc())?;
+    assert!(rt; are_scopes_of_calls(&scopes));
+    for (objects, rows) in OWED.as_slice() {
+        assert!(rt; are_owed(rt.alloc(), &scopes, objects, rows));
+    }
     Ok(())
 }
