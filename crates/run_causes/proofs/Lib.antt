@@ -1,0 +1,9 @@
+pub mod CausesOfRuns
+pub mod MarksOfGroups
+pub mod OldForests
+pub mod OldLevels
+pub mod SiblingSteps
+pub mod FoundGroups
+pub mod FoundMarks
+pub mod BelowLevels
+pub mod OpenedLevels

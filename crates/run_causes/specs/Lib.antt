@@ -1,0 +1,4 @@
+pub mod Causes
+pub mod CauseLaws
+pub mod TableCauses
+pub mod OldMatches
