@@ -1,7 +1,10 @@
-//! Tests of `gap_buffer`, `slot_table`, `slot_anchors`, `slot_edit`, `group_keys`, `read_links`, `recompose_scopes` and
-//! `remember_cells` from outside: calls that the program does not make, and comparisons that only cost time if they fail.
+//! Tests of `gap_buffer`, `slot_table`, `slot_anchors`, `slot_edit`, `group_keys`, `read_links`, `recompose_scopes`,
+//! `remember_cells` and `run_causes` from outside: calls that the program does not make, and comparisons that only cost
+//! time if they fail.
 #![tactic(auto)]
 
+#[cfg(test)]
+mod causes;
 #[cfg(test)]
 mod cells;
 #[cfg(test)]
