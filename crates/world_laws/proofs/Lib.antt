@@ -1,0 +1,5 @@
+pub mod MapDifferences
+pub mod Watching
+pub mod CleanApplies
+pub mod WriteSkew
+pub mod SerialHistories

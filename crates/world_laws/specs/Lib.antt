@@ -1,0 +1,4 @@
+pub mod Watching
+pub mod CleanApplies
+pub mod WriteSkew
+pub mod SerialHistories
