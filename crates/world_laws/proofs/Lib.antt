@@ -3,3 +3,4 @@ pub mod Watching
 pub mod CleanApplies
 pub mod WriteSkew
 pub mod SerialHistories
+pub mod WovenApart

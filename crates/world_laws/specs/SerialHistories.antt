@@ -1,9 +1,12 @@
 -- Law: a history in which each snapshot of global uses only objects that it changed, and every apply meets no other
 -- write, is serial.
-use Rattle.std.specs.Prelude.{◌≡◌, ℕ, ◌==◌, ◌≤◌, Bool, true, false, not, List, [], ◌∷◌, ◌++◌, Option, Some, None, length, slice_get, if◌then◌else◌}
+use Rattle.std.specs.Prelude.{◌≡◌, ℕ, pos, ◌==◌, ◌≤◌, Bool, true, false, not, List, [], ◌∷◌, ◌++◌, Option, Some, None, length, slice_get, if◌then◌else◌}
+use Rattle.rt_values.specs.declared.names.Kind.TheVariants.{Mutable}
 use Rattle.rt_values.specs.declared.value.Value.{Value}
+use Rattle.rt_values.specs.declared.value.Value.TheVariants as value
 use Rattle.rt_values.specs.Maps.{entry_at, value_at, contains}
 use Rattle.snap_policy.specs.Rules.{Rules}
+use Rattle.snap_policy.specs.Table.{table}
 use Rattle.snap_api.specs.Valid.{IsValid}
 use Rattle.snap_api.specs.World.{World, History, snapshot_of, call, world_after, IsLegal}
 use Rattle.snap_api.specs.declared.data.Object.{Object}
@@ -11,6 +14,7 @@ use Rattle.snap_api.specs.declared.data.Reply.{Reply}
 use Rattle.snap_api.specs.declared.data.Reply.TheVariants as reply
 use Rattle.snap_api.specs.declared.data.Request.{Request}
 use Rattle.snap_api.specs.declared.data.Request.TheVariants as request
+use Rattle.world_laws.specs.WriteSkew.{two_zeros, entry}
 
 -- A read of object `x` with the value that it returned, or a write of a value to `x` with its answer whether the object
 -- changed.
@@ -86,3 +90,19 @@ module _ {P : Type 0} (rules : Rules P) where
       AppliesAreClean (length w.snapshots) w [] h →
       IsSerial w.objects (λ x. value_at (snapshot_of w 0).view x) (uses_by_apply [] h)
       (λ x. value_at (snapshot_of (world_after rules w h) 0).view x)
+
+-- Callers 1 and 2 take snapshots of two numbers. Caller 1 adds to one number and caller 2 to the other, and their calls are
+-- woven.
+abbrev pub woven_apart : History
+woven_apart =
+    entry 1 (request.Take 0 Mutable) (reply.Taken 1) ∷ entry 2 (request.Take 0 Mutable) (reply.Taken 2)
+    ∷ entry 1 (request.Read 1 0) (reply.Got (value.Int (pos 0)))
+    ∷ entry 2 (request.Read 2 1) (reply.Got (value.Int (pos 0)))
+    ∷ entry 1 (request.Write 1 0 (value.Int (pos 1))) (reply.Wrote true)
+    ∷ entry 2 (request.Write 2 1 (value.Int (pos 1))) (reply.Wrote true) ∷ entry 2 (request.Apply 2) reply.Applied
+    ∷ entry 1 (request.Apply 1) reply.Applied ∷ []
+
+-- A legal history of clean applies whose snapshots are open at the same time.
+pub record CleanHistoriesAreWoven : Type 0 where
+  pub legal : IsLegal table two_zeros woven_apart
+  pub clean : AppliesAreClean table (length two_zeros.snapshots) two_zeros [] woven_apart

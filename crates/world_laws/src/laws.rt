@@ -1,7 +1,7 @@
 // Laws of worlds, for those who watch and those who apply.
 ghost use Rattle.world_laws.specs.Watching.{FrameShowsItsTake, FrameReadsItsTake, WatcherMissesNothing, WatcherHearsNothingTwice, ListsAddUp};
 ghost use Rattle.world_laws.specs.CleanApplies.{CleanApplyIsSerial};
-ghost use Rattle.world_laws.specs.SerialHistories.{CleanHistoryIsSerial};
+ghost use Rattle.world_laws.specs.SerialHistories.{CleanHistoryIsSerial, CleanHistoriesAreWoven};
 ghost use Rattle.world_laws.specs.WriteSkew.{WriteSkewIsAllowed};
 
 use snap_policy::Policy;
@@ -36,6 +36,11 @@ pub fn clean_apply_is_serial<P: Policy>()
 /// what it changed. Calls on global itself are steps of that order.
 pub fn clean_history_is_serial<P: Policy>()
     ensures { CleanHistoryIsSerial P.rules }
+{}
+
+/// Snapshots of clean applies may be open at the same time, as in a computed history of two callers.
+pub fn clean_histories_are_woven()
+    ensures { CleanHistoriesAreWoven }
 {}
 
 /// Snapshots are isolated, but not serializable: two snapshots that each read what the other writes can both be applied,

@@ -10,6 +10,6 @@
 mod laws;
 
 pub use laws::{
-    clean_apply_is_serial, clean_history_is_serial, frame_shows_its_take, lists_add_up,
-    watcher_misses_nothing, write_skew_is_allowed,
+    clean_apply_is_serial, clean_histories_are_woven, clean_history_is_serial,
+    frame_shows_its_take, lists_add_up, watcher_misses_nothing, write_skew_is_allowed,
 };
