@@ -322,7 +322,7 @@ module _ {P : Type 0} (rules : Rules P) (keeps_types : KeepsTypes rules) (object
     step : Did rules w e.caller e.request (call rules w e.caller e.request)
     step = did rules w e.caller e.request
 
-    -- A use that the reply of the entry tells.
+    -- The use that the entry records.
     made : (name : ℕ) → name < length w.snapshots
         → ((n : ℕ) → e.request ≡ request.Apply n → e.reply ≡ reply.Applied → (snapshot_of w n).parent ≢ name)
         → IsSerial rules objects (shown w name) (use_in name e.request e.reply) (shown next name)

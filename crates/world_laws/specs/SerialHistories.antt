@@ -44,7 +44,7 @@ abbrev pub uses_by_apply : History → History → List ObjectUse
 uses_by_apply before [] = []
 uses_by_apply before (e ∷ es) = uses_at_apply before e.request e.reply ++ uses_by_apply (before ++ e ∷ []) es
 
--- The uses are of these objects only.
+-- Each use is of an object in the list.
 abbrev pub UsesOnly : List ℕ → List ObjectUse → Type 0
 UsesOnly xs [] = Unit {0}
 UsesOnly xs (ReadOf x value ∷ us) = (contains x xs ≡ true) × UsesOnly xs us
@@ -54,8 +54,8 @@ UsesOnly xs (WriteOf x value changed ∷ us) = (contains x xs ≡ true) × UsesO
 abbrev pub with_value : (ℕ → Value) → ℕ → Value → ℕ → Value
 with_value m x value y = if x == y then value else m y
 
--- Snapshot `name` is a child of global, was taken after the first `old` snapshots, uses only objects that it changed,
--- and global still has these objects with the stamps that they had at the take.
+-- Snapshot `name` is a child of global and none of the first `old` snapshots. It uses only objects that it changed, and
+-- global still has these objects with the stamps that they had at the take.
 pub record IsClean {P : Type 0} (old : ℕ) (w : World P) (before : History) (name : ℕ) : Type 0 where
   pub later : old ≤ name
   pub parent : (snapshot_of w name).parent ≡ 0

@@ -1,0 +1,3 @@
+pub mod IdleFrames
+pub mod RefusedFrames
+pub mod FollowedPaths

@@ -1,0 +1,3 @@
+pub mod FollowedPaths
+pub mod IdleFrames
+pub mod RefusedFrames
