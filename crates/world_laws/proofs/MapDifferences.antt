@@ -8,7 +8,7 @@ use Rattle.rt_values.specs.declared.maps.StampedValue.{StampedValue}
 use Rattle.rt_values.specs.Maps.{Map, entry_at, differs, differ_from, differ, contains}
 use Rattle.world_laws.specs.Watching.{ListsAddUp}
 
-unequal : (a b : ℕ) → a ≢ b → (a == b) ≡ false
+pub unequal : (a b : ℕ) → a ≢ b → (a == b) ≡ false
 unequal a b other = elim (eqb_tells a b) [ inl e ↦ absurd (other e.1) | inr e ↦ e.0 ]
 
 -- Only objects of the second map are listed.

@@ -32,9 +32,7 @@ use Rattle.snap_api.specs.declared.data.Request.TheVariants as request
 use Rattle.snap_api.specs.declared.data.Snapshot.{Snapshot}
 use Rattle.world_laws.specs.SerialHistories.{ObjectUse, ReadOf, WriteOf, use_in, uses_in, uses_at_apply, uses_by_apply, UsesOnly, with_value, is_change, IsSerial, IsClean, AppliesAreClean, CleanHistoryIsSerial}
 use Rattle.world_laws.proofs.CleanApplies.{clean_apply_is_serial}
-
-unequal : (a b : ℕ) → a ≢ b → (a == b) ≡ false
-unequal a b other = elim (eqb_tells a b) [ inl e ↦ absurd (other e.1) | inr e ↦ e.0 ]
+use Rattle.world_laws.proofs.MapDifferences.{unequal}
 
 -- The values that a snapshot shows, and those with which it began.
 abbrev shown : {P : Type 0} → World P → ℕ → ℕ → Value
