@@ -1,0 +1,11 @@
+pub mod PlacedForests
+pub mod PlacedForms
+pub mod PlacedSizes
+pub mod PlacedFaults
+pub mod PlacedScripts
+pub mod PlacedRuns
+pub mod PlacedWeaves
+pub mod Canonical
+pub mod OwnNames
+pub mod WovenRuns
+pub mod AcceptedTexts

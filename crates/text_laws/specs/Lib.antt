@@ -1,0 +1,3 @@
+pub mod OtherOffsets
+pub mod CanonicalTexts
+pub mod WovenRuns
