@@ -18,8 +18,10 @@ mod fault_laws;
 mod text;
 mod top;
 
+pub use fault::{Fault, FaultKind};
 pub use fault_laws::{
     bytes_are_a_text_or_have_a_fault, bytes_have_one_fault, faulty_bytes_are_no_text,
     parsed_programs_are_numbered, threads_output_tells_its_history,
 };
+pub use text::{Input, TextEnd, parse_input};
 pub use top::{Status, play, play_alone};
