@@ -138,6 +138,16 @@ def failures(command, tally):
     tally.judge("standard error that is closed", run(closing + ["run"], b"(")[:2], (3, b"bad input: text at 1\n"))
 
 
+def shown_note(tally):
+    """Tests that docs/LANGUAGE.md shows the note of a case."""
+    with open(os.path.join(TOP, "tests", "cases", "mistake-misspelt-state.err"), encoding="utf-8") as it:
+        note = "".join("    " + line for line in it)
+    with open(os.path.join(TOP, "docs", "LANGUAGE.md"), encoding="utf-8") as it:
+        text = it.read()
+    tally.judge("docs/LANGUAGE.md, the note", (0, b"" if note in text else b"another note"), (0, b""))
+
+
 def test(command, tally):
+    shown_note(tally)
     long_lines(command, tally)
     failures(command, tally)
