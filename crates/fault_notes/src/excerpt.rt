@@ -7,6 +7,7 @@ use unicode_width::UnicodeWidthChar;
 
 // The most bytes that are shown before and after an offset.
 const BEFORE: usize = 72;
+
 const AFTER: usize = 48;
 
 /// A part of one line of a source text, with the number of terminal columns before an offset in it.

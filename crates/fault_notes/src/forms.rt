@@ -263,25 +263,33 @@ impl Part {
         match self {
             Part::Word => "a word",
             Part::One => "the number 1",
-            Part::Name => "a name: letters, digits and `_`, a letter first, not `global`, `true` or `false`",
+            Part::Name =>
+                "a name: letters, digits and `_`, a letter first, not `global`, `true` or `false`",
             Part::Type => "a type: Int, Bool, Text or Ints",
             Part::Policy => "a policy: Structural, Never, Counter, Largest or Append",
             Part::SnapshotKind => "`mutable` or `readonly`",
             Part::Snapshot => "a snapshot: `global` or the name of a take",
-            Part::Int => "a number: `0`, or digits that begin with another digit, with `-` before a negative number",
-            Part::Literal => "a literal: a number, `true`, `false`, a string in double quotes, or (ints INT..)",
-            Part::Expression => "an expression: a literal, a variable, (get NAME), or (OPERATOR EXPR..)",
+            Part::Int =>
+                "a number: `0`, or digits that begin with another digit, with `-` before a negative number",
+            Part::Literal =>
+                "a literal: a number, `true`, `false`, a string in double quotes, or (ints INT..)",
+            Part::Expression =>
+                "an expression: a literal, a variable, (get NAME), or (OPERATOR EXPR..)",
             Part::Attributes => "a list of pairs ((NAME EXPR)..), with `()` for none",
             Part::Attribute => "a pair (NAME EXPR): two parentheses begin a list of pairs",
             Part::Parameters => "a list of pairs ((NAME TYPE)..), with `()` for none",
             Part::Parameter => "a pair (NAME TYPE): two parentheses begin a list of pairs",
             Part::Statements => "a list of statements (STMT..), with `()` for none",
-            Part::Statement => "a statement: a list that begins with node, call, key, if, for, let or remember",
-            Part::Step => "a step: a list that begins with take, read, write, add, apply, dispose, frame or repeat",
-            Part::RepeatedStep => "a step of a repeat: take, read, write, add, apply, dispose or frame",
+            Part::Statement =>
+                "a statement: a list that begins with node, call, key, if, for, let or remember",
+            Part::Step =>
+                "a step: a list that begins with take, read, write, add, apply, dispose, frame or repeat",
+            Part::RepeatedStep =>
+                "a step of a repeat: take, read, write, add, apply, dispose or frame",
             Part::InnerStep => "a step inside a frame: take, read, write, add, apply or dispose",
             Part::During => "the inner steps of a frame: (during STEP..)",
-            Part::TopForm => "a form: a list that begins with state, fun or do (a comment begins with `;`)",
+            Part::TopForm =>
+                "a form: a list that begins with state, fun or do (a comment begins with `;`)",
         }
     }
 
@@ -300,7 +308,9 @@ impl Part {
 }
 
 static EMPTY: [Part; 0] = [];
+
 static PAIR_OF_EXPRESSION: [Part; 2] = [Part::Name, Part::Expression];
+
 static PAIR_OF_TYPE: [Part; 2] = [Part::Name, Part::Type];
 
 impl Shape {

@@ -46,7 +46,9 @@ fn mistake_sentence(
             format!(in alloc; "`{word}` takes {operands}, and {given} are given")
         }
         Mistake::LoneStatement(word) => {
-            format!(in alloc; "expected here is a list of statements: write (({word} ..)), with one more pair of parentheses")
+            format!(in alloc;
+                "expected here is a list of statements: write (({word} ..)), with one more pair of parentheses"
+            )
         }
         Mistake::LateForm => String::from_str(
             alloc,
@@ -135,7 +137,11 @@ fn atom_with_offset<'a>(trees: &'a [Tree], at: usize) -> Option<&'a str> {
 }
 
 // Returns the lists around the offset `at`.
-fn find_surroundings<'a>(alloc: Global, trees: &'a [Tree], at: usize) -> Result<Surroundings<'a>, AllocError> {
+fn find_surroundings<'a>(
+    alloc: Global,
+    trees: &'a [Tree],
+    at: usize,
+) -> Result<Surroundings<'a>, AllocError> {
     let mut path = Vec::new(alloc);
     enter_trees(&mut path, trees, at)?;
     let inner: &'a [Tree] = match path.last() {

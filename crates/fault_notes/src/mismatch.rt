@@ -46,7 +46,11 @@ fn wanted_type(operand: Operand, before: Option<Ty>, found: Option<Ty>) -> Optio
             };
         }
     };
-    if wanted == found { None } else { Some(shown(wanted)) }
+    if wanted == found {
+        None
+    } else {
+        Some(shown(wanted))
+    }
 }
 
 // Returns the hint on the first operand of a wrong type.
@@ -141,7 +145,9 @@ fn wrong_state(
     let fitting = if policy == "Append" { "Ints" } else { "Int" };
     Ok(Some(Hint {
         at: offset_at(inner, 3, 0),
-        sentence: format!(in alloc; "the policy {policy} is for states of type {fitting}, and this state is of type {wanted}")?,
+        sentence: format!(in alloc;
+            "the policy {policy} is for states of type {fitting}, and this state is of type {wanted}"
+        )?,
     }))
 }
 

@@ -49,7 +49,9 @@ pub fn unknown_word(
 ) -> Result<String, AllocError> {
     let noun = part.noun();
     if is_function(trees, word) {
-        return format!(in alloc; "`{word}` is not {noun}; the statement (call {word} EXPR..) calls the function `{word}`");
+        return format!(in alloc;
+            "`{word}` is not {noun}; the statement (call {word} EXPR..) calls the function `{word}`"
+        );
     }
     let mut words = Vec::new(alloc);
     add_words(&mut words, part)?;
@@ -139,7 +141,9 @@ fn unknown_variable(
         names.push(variable.name)?;
     }
     if scope.type_of_state(name).is_some() {
-        let sentence = format!(in alloc; "no variable `{name}` is in scope here; (get {name}) reads the state")?;
+        let sentence = format!(in alloc;
+            "no variable `{name}` is in scope here; (get {name}) reads the state"
+        )?;
         return Ok(Hint { at, sentence });
     }
     let sentence = format!(in alloc; "no variable `{name}` is in scope here")?;

@@ -46,7 +46,9 @@ fn at_the_end(alloc: Global, bytes: &[u8]) -> Result<String, AllocError> {
     let position = position_of(bytes, start);
     let line = position.line;
     let column = position.column;
-    format!(in alloc; "the input ends inside the {what} that begins in line {line}, column {column}")
+    format!(in alloc;
+        "the input ends inside the {what} that begins in line {line}, column {column}"
+    )
 }
 
 // Returns the sentence on a byte after the bytes `before`.
@@ -65,7 +67,8 @@ fn at_a_byte(before: Mode, byte: u8) -> &'static str {
         b'.' => "numbers are whole, and names have letters, digits and `_`",
         b',' => "the parts of a list have blanks between them, and no commas",
         b'[' | b'{' => "a list is in parentheses",
-        _ => "names have letters, digits and `_`; other characters occur only in strings and comments",
+        _ =>
+            "names have letters, digits and `_`; other characters occur only in strings and comments",
     }
 }
 

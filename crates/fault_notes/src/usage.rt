@@ -52,8 +52,16 @@ fn command_line<'a>(alloc: Global) -> Result<Command<'a>, AllocError> {
         .disable_help_flag(true)
         .disable_help_subcommand(true)
         .about("Runs a program of composables with a script, which it reads from standard input")
-        .subcommand(replay(alloc, "run", "Make the steps of the script, and print each reply and each frame")?)?
-        .subcommand(replay(alloc, "threads", "The same, with each actor on a thread of its own")?)?
+        .subcommand(replay(
+            alloc,
+            "run",
+            "Make the steps of the script, and print each reply and each frame",
+        )?)?
+        .subcommand(replay(
+            alloc,
+            "threads",
+            "The same, with each actor on a thread of its own",
+        )?)?
         .subcommand(
             Command::new(alloc, "check")
                 .about("Print the input in its canonical form")
