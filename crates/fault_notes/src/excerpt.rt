@@ -1,4 +1,5 @@
 // The line of a source text around an offset, as a terminal shows it.
+ghost use Rattle.std.specs.Prelude.{◌≤◌, length};
 
 use crate::position::is_continuation;
 use std::alloc::{AllocError, Global};
@@ -17,30 +18,40 @@ pub struct Excerpt {
     pub caret: usize,
 }
 
-// Returns the offset after the last line break before `offset`, or of the first character of the last bytes that are shown.
-fn start_of(bytes: &[u8], offset: usize) -> usize {
-    let mut start = offset.min(bytes.len());
-    let mut left = BEFORE;
-    while start > 0 && left > 0 && bytes[start - 1] != b'\n' {
-        start -= 1;
-        left -= 1;
+// Returns the first offset that is shown before `at`: after the last line break, and at the start of a character.
+fn start_of(bytes: &[u8], at: usize) -> usize
+    requires { at ≤ length bytes.now }
+{
+    let mut start = at.saturating_sub(BEFORE);
+    for i in start..at {
+        if bytes[i] == b'\n' {
+            start = i + 1;
+        }
     }
-    while start < bytes.len() && start < offset && is_continuation(bytes[start]) {
-        start += 1;
+    for i in start..at {
+        if !is_continuation(bytes[i]) {
+            return i;
+        }
     }
-    start
+    at
 }
 
-// Returns the offset of the next line break, or of the last character of the first bytes that are shown.
-fn end_of(bytes: &[u8], offset: usize) -> usize {
-    let mut end = offset.min(bytes.len());
-    let mut left = AFTER;
-    while end < bytes.len() && left > 0 && bytes[end] != b'\n' {
-        end += 1;
-        left -= 1;
+// Returns the offset after what is shown from `at` on: the next line break, or the start of a character.
+fn end_of(bytes: &[u8], at: usize) -> usize
+    requires { at ≤ length bytes.now }
+{
+    let most = bytes.len().min(at.saturating_add(AFTER));
+    let mut end = at;
+    for i in at..most {
+        if bytes[i] == b'\n' {
+            return i;
+        }
+        if !is_continuation(bytes[i]) {
+            end = i;
+        }
     }
-    while end > offset && end < bytes.len() && is_continuation(bytes[end]) {
-        end -= 1;
+    if most == bytes.len() || !is_continuation(bytes[most]) {
+        return most;
     }
     end
 }

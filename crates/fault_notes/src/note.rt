@@ -98,7 +98,10 @@ pub fn find_note(alloc: Global, bytes: &[u8], threads: bool) -> Result<Option<No
         IfOk result (λ found. IsSomeAnd found (λ note. PointsInto bytes.now fault note.position)) }
 {
     match parse_input(alloc, bytes, threads) {
-        Ok(_) => Ok(None),
+        Ok(input) => {
+            drop(input);
+            Ok(None)
+        }
         Err(TextEnd::Bad(fault)) => Ok(Some(note_on(alloc, bytes, fault)?)),
         Err(TextEnd::NoMemory) => Err(NoMemory),
     }

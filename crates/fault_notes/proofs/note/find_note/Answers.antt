@@ -4,7 +4,7 @@ use Rattle.fault_notes.proofs.OneFault.{no_fault, one_fault}
 use Rattle.fault_notes.proofs.note.find_note.Goals as goal
 
 pub returns-in-Ok : goal.returns-in-Ok
-returns-in-Ok c fault f = no_fault c.parse_input.result c.in-Ok.field-0 fault c.in-Ok.is (c.parse_input.ensures.told fault f)
+returns-in-Ok c fault f = no_fault c.parse_input.result c.in-Ok.input fault c.in-Ok.is (c.parse_input.ensures.told fault f)
 
 pub returns-in_ok-note_on-in-Err-Bad : goal.returns-in_ok-note_on-in-Err-Bad
 returns-in_ok-note_on-in-Err-Bad c fault f =
