@@ -9,7 +9,7 @@ import tempfile
 import time
 
 TOP = os.path.dirname(os.path.dirname(os.path.abspath(__file__)))
-TOOLS = "awk bash cat dirname env find kill mktemp mkdir readlink rm sed tail touch chmod printf date".split()
+TOOLS = "awk bash cat dirname env find grep head kill mktemp mkdir readlink rm sed tail touch chmod printf date".split()
 
 # Two crates that may be proved side by side, one on both, and the program. A crate that the program does not need comes last.
 CRATES = """# NAME: the crates that it depends on
@@ -29,7 +29,7 @@ case $1 in
     try)
         shift 4
         printf '%s\\n' "$@"
-        cat
+        [ -t 0 ] || cat
         cat "$STAND_IN/tried" >&2
         exit 5
         ;;
@@ -50,7 +50,8 @@ END
 esac
 echo "end $name $1" >>"$STAND_IN/calls"
 """
-ENDED = "checked: ended status=%d\nraces: not looked for\nrun=ended status=%d runners=1 races=unchecked proved=no\n"
+NOTE = " --> line 1, column 1\n"
+ENDED = NOTE + "checked: ended status=%d\nraces: not looked for\nrun=ended status=%d runners=1 races=unchecked proved=no\n"
 
 
 class Checkout:
@@ -133,7 +134,8 @@ def unproved(checkout, fact):
         fact("unproved, status %d" % status, got[:2] == (status, "run\n--json\na b\nx\ny"), got)
         said = got[2].splitlines()
         fact("unproved, what is said before and after", "unproved build" in said[0] and "--prove" in said[1]
-             and "unproved build" in said[-1] and all(it.startswith("compose_play: ") for it in said), got)
+             and "unproved build" in said[-1] and all(it.startswith("compose_play: ") or it == NOTE[:-1] for it in said), got)
+        fact("unproved, what the program says on standard error", got[2].count(NOTE) == 1 and "races" not in got[2], got)
     fact("unproved, the calls of rt", set(checkout.calls()) == {"begin compose_play try"}, "other calls")
     checkout.file("stand_in/tried", "no such function\n")
     got = checkout.run("run")
