@@ -1,4 +1,4 @@
-use Rattle.std.proofs.Common.{◌≡◌, ◌∙◌, ap, subst, Err}
+use Rattle.std.proofs.Common.{◌∙◌, ap, subst, Err}
 use Rattle.fault_notes.specs.Pointing.{PointsInto}
 use Rattle.fault_notes.proofs.OneFault.{no_fault, one_fault}
 use Rattle.fault_notes.proofs.note.find_note.Goals as goal
