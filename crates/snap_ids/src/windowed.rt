@@ -262,14 +262,36 @@ impl Windowed {
         }
     }
 
-    /// Removes the ids of `other`.
-    pub fn remove_all(&mut self, other: &Windowed)
+    // Removes the ids of `other`. Looks up each id of this set.
+    fn remove_shared(&mut self, other: &Windowed)
         ensures { ids_in self.new ≡ without_ids (ids_in self.old) (ids_in other.now) }
     {
         let mut next = self.first();
         while let Some(id) = next {
             self.remove_common(id, other);
             next = self.next_above(id);
+        }
+    }
+
+    // Removes the ids of `other`, one after the other.
+    fn remove_each(&mut self, other: &Windowed)
+        ensures { ids_in self.new ≡ without_ids (ids_in self.old) (ids_in other.now) }
+    {
+        let mut next = other.first();
+        while let Some(id) = next {
+            self.remove(id);
+            next = other.next_above(id);
+        }
+    }
+
+    /// Removes the ids of `other`. Goes over the smaller set.
+    pub fn remove_all(&mut self, other: &Windowed)
+        ensures { ids_in self.new ≡ without_ids (ids_in self.old) (ids_in other.now) }
+    {
+        if self.len() < other.len() {
+            self.remove_shared(other);
+        } else {
+            self.remove_each(other);
         }
     }
 

@@ -10,3 +10,7 @@ pub mod Open
 pub mod Merging
 pub mod Keeping
 pub mod Twice
+pub mod Kept
+pub mod Dropping
+pub mod Later
+pub mod Needed

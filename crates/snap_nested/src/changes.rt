@@ -1,8 +1,12 @@
 // Changes of the list of members: each function returns an error only if memory ran out.
-ghost use Rattle.std.specs.Prelude.{◌≡◌, ◌≢◌, ℕ, ◌+◌, ◌≤◌, ◌<◌, ◌^◌, true, false, List, length, slice_set, [], ◌∷◌, IfOk, IfSome, IfNone, OnOk, OnErr, if◌then◌else◌};
+ghost use Rattle.std.specs.Prelude.{◌≡◌, ◌≢◌, ℕ, ◌+◌, ◌≤◌, ◌<◌, ◌^◌, true, false, List, length, slice_set, slice_index_or, drop, [], ◌∷◌, IfOk, IfSome, IfNone, OnOk, OnErr, if◌then◌else◌};
 ghost use Rattle.rt_values.specs.Maps.{contains};
-ghost use Rattle.snap_ids.specs.IdLists.{with_id, without_id};
-ghost use Rattle.snap_nested.specs.Members.{member, members_after_enter, members_after_advance, members_after_close, members_after_merge, sees, is_seen, is_owned, with_owned, invalid_after_advance, is_free, without_invalid, AreOpen, IsForgotten, global};
+ghost use Rattle.snap_ids.specs.IdLists.{IsRising, with_id};
+ghost use Rattle.std.specs.List.{list_any};
+ghost use Rattle.snap_nested.specs.Kept.{AreKept, Gathers};
+ghost use Rattle.snap_nested.specs.Later.{AreSeenLater};
+ghost use Rattle.snap_nested.specs.Unused.{without_unused};
+ghost use Rattle.snap_nested.specs.Members.{member, members_after_enter, members_after_advance, members_after_close, members_after_merge, sees, is_owned, invalid_after_advance, ids_of, AreMembers, is_free, without_invalid, AreOpen, IsForgotten, global};
 
 use crate::Member;
 use rt_values::{Caller, Kind, Name, NoMemory};
@@ -10,56 +14,48 @@ use snap_ids::{IdList, IdSet};
 use std::alloc::Global;
 use std::mem::replace;
 
-// Returns whether the member with this name has the id.
-fn owns(members: &[Member], name: Name, id: u64) -> bool
-    ensures { result ≡ contains id (member members.now name).ids }
+// Adds the ids of `own` that are greater than `from` to `all`.
+fn add_ids_above(own: &IdSet, from: u64, all: &mut IdSet) -> Result<(), NoMemory>
+    requires { IsRising all.old }
+    ensures { OnOk result (Gathers (λ i. (from < i) × (contains i own.now ≡ true)) all.old all.new) }
 {
-    match members.get(name as usize) {
-        Some(member) => member.ids.get(id),
-        None => false,
-    }
-}
-
-// Returns whether a member has the id. Looks at the open names only, at the last ones first: their ids are asked for
-// most.
-fn is_owned(members: &[Member], held: &IdList, id: u64) -> bool
-    requires { AreOpen held.now members.now }
-    ensures { result ≡ is_owned members.now id }
-{
-    let names = held.ids();
-    let mut i = names.len();
-    while i > 0 {
-        i -= 1;
-        if owns(members, names[i], id) {
-            return true;
-        }
-    }
-    false
-}
-
-// Removes `id` from `all`, unless a member has it.
-fn clear_unowned(members: &[Member], held: &IdList, id: u64, all: &mut IdSet)
-    requires { AreOpen held.now members.now }
-    ensures { all.new ≡ (if is_owned members.now id then all.old else without_id id all.old) }
-{
-    if !is_owned(members, held, id) {
-        all.clear(id);
-    }
-}
-
-// Removes the ids that no member has from `all`.
-fn keep_owned(members: &[Member], held: &IdList, all: &mut IdSet)
-    requires { AreOpen held.now members.now }
-    ensures { all.new ≡ with_owned members.now [] all.old }
-{
-    let mut next = all.first();
+    let mut next = own.next_above(from);
     while let Some(id) = next {
-        clear_unowned(members, held, id, all);
-        next = all.next_above(id);
+        all.set(id)?;
+        next = own.next_above(id);
     }
+    Ok(())
 }
 
-// Returns the invalid ids of a member that gets a new id.
+// Adds the ids of a member that are greater than `from` to `all`.
+fn add_member_ids(
+    members: &[Member],
+    name: Name,
+    from: u64,
+    all: &mut IdSet,
+) -> Result<(), NoMemory>
+    requires there { name < length members.now }
+    requires rising { IsRising all.old }
+    ensures { OnOk result (Gathers (λ i. (from < i) × (contains i (member members.now name).ids ≡ true))
+        all.old all.new) }
+{
+    add_ids_above(&members[name as usize].ids, from, all)
+}
+
+// Adds the ids greater than `from` that members have to `all`. Looks at the open names only.
+fn add_owned(members: &[Member], held: &IdList, from: u64, all: &mut IdSet) -> Result<(), NoMemory>
+    requires open_names { AreOpen held.now members.now }
+    requires rising { IsRising all.old }
+    ensures { OnOk result (Gathers (λ i. (from < i) × (is_owned members.now i ≡ true)) all.old all.new) }
+{
+    for name in held.ids() {
+        add_member_ids(members, *name, from, all)?;
+    }
+    Ok(())
+}
+
+// Returns the invalid ids of a member that gets a new id. Looks only for ids that were handed out since the member's
+// last one: members have all of its invalid ids already.
 fn seal(
     alloc: Global,
     members: &[Member],
@@ -68,6 +64,8 @@ fn seal(
     name: Name,
 ) -> Result<IdSet, NoMemory>
     requires open_names { AreOpen held.now members.now }
+    requires sound { AreMembers members.now handed }
+    requires kept { AreKept members.now }
     requires there { name < length members.now }
     requires room { handed < 2 ^ 62 }
     requires low { (member members.now name).id ≤ handed }
@@ -75,8 +73,7 @@ fn seal(
 {
     let member = &members[name as usize];
     let mut all = member.invalid.copy(alloc)?;
-    all.add_range(member.id + 1, handed + 1)?;
-    keep_owned(members, held, &mut all);
+    add_owned(members, held, member.id, &mut all)?;
     Ok(all)
 }
 
@@ -99,6 +96,8 @@ fn seal_both(
     parent: Name,
 ) -> Result<(IdSet, IdSet), NoMemory>
     requires open_names { AreOpen held.now members.now }
+    requires sound { AreMembers members.now handed }
+    requires kept { AreKept members.now }
     requires there { parent < length members.now }
     requires room { handed + 1 < 2 ^ 62 }
     requires low { (member members.now parent).id ≤ handed }
@@ -174,6 +173,8 @@ pub fn enter_member(
     owner: Caller,
 ) -> Result<(), NoMemory>
     requires open_names { AreOpen held.now members.old.items }
+    requires sound { AreMembers members.old.items handed }
+    requires kept { AreKept members.old.items }
     requires there { parent < length members.old.items }
     requires room { handed < 2 ^ 62 }
     requires low { (member members.old.items parent).id ≤ handed }
@@ -193,6 +194,8 @@ pub fn advance_member(
     name: Name,
 ) -> Result<(), NoMemory>
     requires open_names { AreOpen held.now members.old.items }
+    requires sound { AreMembers members.old.items handed }
+    requires kept { AreKept members.old.items }
     requires there { name < length members.old.items }
     requires room { handed < 2 ^ 62 }
     requires low { (member members.old.items name).id ≤ handed }
@@ -208,9 +211,10 @@ pub fn close_member(members: &mut Vec<Member>, name: Name)
     requires { name < length members.old.items }
     ensures { members.new.items ≡ members_after_close members.old.items name }
 {
+    let alloc = *members.allocator();
     let member = &mut members[name as usize];
     member.is_live = false;
-    member.invalid.clear_all();
+    member.invalid = IdSet::new(alloc);
 }
 
 /// Gives the member `into` a new id and the ids of the member `name`, and closes `name`.
@@ -223,6 +227,8 @@ pub fn merge_member(
     into: Name,
 ) -> Result<(), NoMemory>
     requires open_names { AreOpen held.now members.old.items }
+    requires sound { AreMembers members.old.items handed }
+    requires kept { AreKept members.old.items }
     requires there { name < length members.old.items }
     requires above { into < length members.old.items }
     requires room { handed < 2 ^ 62 }
@@ -240,8 +246,8 @@ pub fn merge_member(
     parent.invalid = invalid;
     let member = &mut members[name as usize];
     member.is_live = false;
-    member.ids.clear_all();
-    member.invalid.clear_all();
+    member.ids = IdSet::new(alloc);
+    member.invalid = IdSet::new(alloc);
     Ok(())
 }
 
@@ -257,6 +263,8 @@ pub fn take_members(
     owner: Caller,
 ) -> Result<(), NoMemory>
     requires open_names { AreOpen held.now members.old.items }
+    requires sound { AreMembers members.old.items handed }
+    requires kept { AreKept members.old.items }
     requires there { parent < length members.old.items }
     requires room { handed + 1 < 2 ^ 62 }
     requires low { (member members.old.items parent).id ≤ handed }
@@ -283,43 +291,50 @@ fn sees(members: &[Member], name: Name, id: u64) -> bool
     }
 }
 
-// Returns whether the id is valid for a live member. Looks at the open names only.
-fn is_seen(members: &[Member], held: &IdList, id: u64) -> bool
-    requires { AreOpen held.now members.now }
-    ensures { result ≡ is_seen members.now id }
+// Returns whether the id is valid for a live member with one of the names from index `from` on.
+fn is_seen_from(members: &[Member], names: &[Name], from: usize, id: u64) -> bool
+    requires { from ≤ length names.now }
+    ensures { result ≡ list_any (λ n. sees id (member members.now n)) (drop from names.now) }
 {
-    for name in held.ids() {
-        if sees(members, *name, id) {
+    for index in from..names.len() {
+        if sees(members, names[index], id) {
             return true;
         }
     }
     false
 }
 
-// Returns whether the member is closed and keeps ids, of which the first is valid for no live member.
-fn is_free(members: &[Member], held: &IdList, name: Name) -> bool
-    requires { AreOpen held.now members.now }
-    ensures { result ≡ is_free members.now (member members.now name) }
+// Returns whether the member with the open name at `index` is closed and keeps ids, of which the first is valid for no
+// live member. Looks only at the names from `index` on: the id is valid for no member with a lower name.
+fn is_free(members: &[Member], names: &[Name], index: usize) -> bool
+    requires open_names { AreOpen names.now members.now }
+    requires rising { IsRising names.now }
+    requires later { AreSeenLater (ids_of members.now) }
+    requires there { index < length names.now }
+    ensures { result ≡ is_free members.now (member members.now (slice_index_or names.now index 0)) }
 {
-    match members.get(name as usize) {
-        Some(member) => {
-            !member.is_live && !member.ids.is_empty() && !is_seen(members, held, member.first)
-        }
-        None => false,
+    let Some(member) = members.get(names[index] as usize) else {
+        return false;
+    };
+    if member.is_live || member.ids.is_empty() {
+        return false;
     }
+    !is_seen_from(members, names, index, member.first)
 }
 
 /// Returns the first name that is free: closed, with ids that no live member needs.
 pub fn first_free(members: &[Member], held: &IdList) -> Option<Name>
-    requires { AreOpen held.now members.now }
+    requires open_names { AreOpen held.now members.now }
+    requires later { AreSeenLater (ids_of members.now) }
     ensures within { IfSome result (λ n. n < length members.now) }
     ensures free { IfSome result (λ n. is_free members.now (member members.now n) ≡ true) }
     ensures first { IfSome result (λ n. (k : ℕ) → k < n → is_free members.now (member members.now k) ≡ false) }
     ensures none { IfNone result ((k : ℕ) → is_free members.now (member members.now k) ≡ false) }
 {
-    for name in held.ids() {
-        if is_free(members, held, *name) {
-            return Some(*name);
+    let names = held.ids();
+    for index in 0..names.len() {
+        if is_free(members, names, index) {
+            return Some(names[index]);
         }
     }
     None
@@ -355,6 +370,29 @@ pub fn forget_member(members: &mut Vec<Member>, held: &IdList, name: Name)
     let alloc = *members.allocator();
     let own = replace(&mut members[name as usize].ids, IdSet::new(alloc));
     free_all(members, held, &own);
+}
+
+// Removes `unused` from the own and the invalid ids of a member.
+fn drop_at(members: &mut Vec<Member>, name: Name, unused: &IdSet)
+    requires { name < length members.old.items }
+    ensures { members.new.items ≡ slice_set members.old.items name (without_unused unused.now
+        (member members.old.items name)) }
+{
+    let member = &mut members[name as usize];
+    member.ids.remove_all(unused);
+    member.invalid.remove_all(unused);
+}
+
+/// Removes `unused` from the own and the invalid ids of all members. Looks at the open names only: the others have no
+/// ids.
+pub fn drop_all(members: &mut Vec<Member>, held: &IdList, unused: &IdSet)
+    requires { AreOpen held.now members.old.items }
+    ensures count { length members.new.items ≡ length members.old.items }
+    ensures each { (n : ℕ) → member members.new.items n ≡ without_unused unused.now (member members.old.items n) }
+{
+    for name in held.ids() {
+        drop_at(members, *name, unused);
+    }
 }
 
 /// Returns the list with only global.

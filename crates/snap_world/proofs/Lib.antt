@@ -6,3 +6,5 @@ pub mod NotedLoops
 pub mod Settled
 pub mod Needed
 pub mod SameStamps
+pub mod UsedIds
+pub mod Sorted

@@ -3,3 +3,4 @@ pub mod HoldingLaws
 pub mod Choices
 pub mod Noting
 pub mod Stamps
+pub mod Sorted

@@ -9,14 +9,45 @@ ghost use Rattle.snap_nested.specs.Members.{ids_of, member};
 ghost use Rattle.snap_reuse.specs.Readers.{has_id, IsReadWithin};
 ghost use Rattle.snap_laws.specs.Coverage.{AreReadWithin, AreLiveNames, IsNeeded, live_count};
 
+use crate::searched_ids::find_searched_ids;
 use rt_values::{Name, NoMemory, ObjectNo};
 use snap_nested::Family;
 use snap_records::{Chains, KeptIds, RecordNo};
+use std::alloc::Global;
+
+// The records of a chain that each reader goes over. The ids of a longer chain are sorted first.
+const WALKED: usize = 8;
 
 /// Puts into `ids` the ids of the records of object `x` that a write in the snapshot `name` must keep, and no others:
 /// the current id of `name`, the ids of the records that the other live snapshots read, and of those that all but
 /// global read for their bases. After `NoMemory` the list may have some of them.
 pub fn find_kept_ids(
+    alloc: Global,
+    family: &Family,
+    chains: &Chains,
+    x: ObjectNo,
+    name: Name,
+    ids: &mut KeptIds,
+) -> Result<(), NoMemory>
+    requires live { (member family.now.members.items name).is_live ≡ true }
+    requires there { x < length chains.now.heads.items }
+    ensures own { OnOk result (contains (member family.now.members.items name).id ids.new ≡ true) }
+    ensures read { OnOk result (AreReadWithin (ids_of family.now.members.items) name
+        (chain_of chains.now x) ids.new) }
+    ensures needed { OnOk result ((i : ℕ) → contains i ids.new ≡ true
+        → IsNeeded (ids_of family.now.members.items) name (chain_of chains.now x) i) }
+    ensures few { OnOk result (length ids.new
+        ≤ 2 * live_count (ids_of family.now.members.items).live family.now.held + 1) }
+    ensures names { OnOk result (AreLiveNames (ids_of family.now.members.items) family.now.held) }
+{
+    if chains.count(x) <= WALKED {
+        return find_walked_ids(family, chains, x, name, ids);
+    }
+    find_searched_ids(alloc, family, chains, x, name, ids)
+}
+
+// Puts the ids of the records that a write must keep into `ids`. Each reader goes over the chain.
+fn find_walked_ids(
     family: &Family,
     chains: &Chains,
     x: ObjectNo,

@@ -14,8 +14,10 @@ mod boxed;
 mod kept_ids;
 mod moving;
 mod noting;
+mod searched_ids;
 mod settling;
 mod stamp_list;
+mod used_ids;
 mod world;
 
 pub use boxed::BoxedWorld;

@@ -5,10 +5,12 @@ ghost use Rattle.snap_nested.specs.Members.{ids_of, member};
 
 use crate::kept_ids::find_kept_ids;
 use crate::moving::{clear_noted, find_changed_objects, stamp_object};
-use crate::noting::{fill, note_object, unnote_object};
+use crate::noting::{clear_noted_objects, fill, note_object, unnote_object};
 use crate::stamp_list::{StampList, replace_last};
+use crate::used_ids::{add_record_ids, count_records};
 use rt_values::{Caller, Kind, Name, NoMemory, ObjectNo, Objects, Ty, Value, WatcherNo};
 use snap_api::{CLOCK_LIMIT, Object, Refusal, Versions};
+use snap_ids::IdSet;
 use snap_nested::Family;
 use snap_policy::Policy;
 use snap_records::{Chains, KeptIds, RecordNo};
@@ -16,9 +18,13 @@ use snap_reuse::put;
 use std::alloc::Global;
 use std::mem::replace;
 
+// How many ids are handed out at least between two sweeps of the ids that no record and no open snapshot needs.
+const SWEPT_IDS: u64 = 64;
+
 /// A world of snapshots with state records: the clock, the objects, the ids of the snapshots, the chains of records,
 /// the objects that each snapshot wrote, the stamps of global's view, and the stamps of each watcher's last map. The
-/// next take for a watcher copies global's stamps into the memory of `spare`.
+/// next take for a watcher copies global's stamps into the memory of `spare`. A take that hands out id `next_sweep` or
+/// a later one drops the ids that no record and no open snapshot needs.
 #[derive(Drop)]
 pub struct RecordWorld<P> {
     pub(crate) clock: u64,
@@ -29,6 +35,7 @@ pub struct RecordWorld<P> {
     pub(crate) stamps: Vec<u64>,
     pub(crate) lasts: Vec<Option<StampList>>,
     spare: Vec<u64>,
+    next_sweep: u64,
     ghost in_time: { clock ≤ 2 ^ 60 },
     ghost few: { family.handed ≤ 3 * clock + 1 },
     ghost many: { length chains.heads.items ≡ length objects.items },
@@ -47,6 +54,8 @@ impl<P: Policy> RecordWorld<P> {
     ghost use Rattle.snap_records.specs.Chains.{record_at};
     ghost use Rattle.snap_api.specs.World.{World};
     ghost use Rattle.snap_nested.specs.Members.{is_free};
+    ghost use Rattle.snap_ids.specs.IdLists.{without_id};
+    ghost use Rattle.snap_laws.specs.Unused.{AreUnused};
     ghost use Rattle.snap_laws.specs.Disposes.{dispose_refusal};
     ghost use Rattle.snap_laws.specs.Steps.{DisposesTo};
     ghost use Rattle.snap_laws.specs.Applies.{apply_refusal};
@@ -80,6 +89,7 @@ impl<P: Policy> RecordWorld<P> {
             stamps: Vec::new(alloc),
             lasts: Vec::new(alloc),
             spare: Vec::new(alloc),
+            next_sweep: SWEPT_IDS,
         })
     }
 
@@ -250,7 +260,8 @@ impl<P: Policy> RecordWorld<P> {
         ensures err { OnErr result (IsUnchanged (parts_of self.old) (parts_of self.new)) }
     {
         let mut kept = KeptIds::new(alloc);
-        let Ok(()) = find_kept_ids(&self.family, &self.chains, object, name, &mut kept) else {
+        let Ok(()) = find_kept_ids(alloc, &self.family, &self.chains, object, name, &mut kept)
+        else {
             return Err(NoMemory);
         };
         self.put_record(alloc, name, object, value, &kept)
@@ -310,12 +321,15 @@ impl<P: Policy> RecordWorld<P> {
         self.family.close_disposed(name);
     }
 
-    // Gives id 0 to the records of a closed snapshot without live descendants, and forgets its ids.
+    // Gives id 0 to the records of a closed snapshot without live descendants, and forgets its ids and what it wrote.
     fn forget(&mut self, name: Name)
         requires there { name < length self.old.family.members.items }
         requires free { is_free self.old.family.members.items (member self.old.family.members.items name) ≡ true }
-        ensures { (w : World P) → Represents (parts_of self.old) w → Represents (parts_of self.new) w }
+        ensures stays { (w : World P) → Represents (parts_of self.old) w → Represents (parts_of self.new) w }
+        ensures held { self.new.family.held ≡ without_id name self.old.family.held }
+        ensures unnoted { (x : ℕ) → (parts_of self.new).noted name x ≡ false }
     {
+        let alloc = *self.wrote.allocator();
         clear_noted(
             &mut self.chains,
             &self.wrote,
@@ -324,30 +338,78 @@ impl<P: Policy> RecordWorld<P> {
             self.family.ids(name),
         );
         self.family.forget(name);
-    }
-
-    // Forgets the first closed snapshot without live descendants. Returns false if there is none.
-    fn forget_next(&mut self) -> bool
-        ensures { (w : World P) → Represents (parts_of self.old) w → Represents (parts_of self.new) w }
-    {
-        match self.family.freed() {
-            Some(name) => {
-                self.forget(name);
-                true
-            }
-            None => false,
-        }
+        clear_noted_objects(alloc, &mut self.wrote, name);
     }
 
     // Forgets the closed snapshots without live descendants.
     fn forget_all(&mut self)
+        ensures stays { (w : World P) → Represents (parts_of self.old) w → Represents (parts_of self.new) w }
+        ensures none { (n : ℕ) → is_free self.new.family.members.items
+            (member self.new.family.members.items n) ≡ false }
+    {
+        let mut next = self.family.freed();
+        while let Some(name) = next {
+            self.forget(name);
+            next = self.family.freed();
+        }
+    }
+
+    // Returns own ids of snapshots that are neither 1 nor the first or current id of a snapshot nor the id of a record.
+    fn find_unused(&self, alloc: Global) -> Result<IdSet, NoMemory>
+        ensures { IfOk result (λ unused. AreUnused (parts_of self.now).ids (parts_of self.now).chains
+            (λ i. contains i unused)) }
+    {
+        let mut used = IdSet::of(alloc, 1)?;
+        add_record_ids(&self.chains, &mut used)?;
+        self.family.add_ends(&mut used)?;
+        let unused = self.family.find_unused(alloc, &used)?;
+        Ok(unused)
+    }
+
+    // Returns how many ids are handed out before the next sweep: twice as many as the records and the open snapshots
+    // may need, and some more.
+    fn sweep_distance(&self, records: u64) -> u64 {
+        let open = (self.family.open_names().len() as u64).saturating_mul(4);
+        records
+            .saturating_mul(2)
+            .saturating_add(open)
+            .saturating_add(SWEPT_IDS)
+    }
+
+    // Returns how many records there may be for a sweep. To sort their ids takes longer than the copies of large sets, if
+    // few snapshots are open.
+    fn most_swept(&self) -> u64 {
+        (self.family.open_names().len() as u64)
+            .saturating_mul(16)
+            .saturating_add(200)
+    }
+
+    // Drops the ids that no record and no open snapshot needs. Does nothing if the process is out of memory.
+    fn drop_unused(&mut self, alloc: Global)
         ensures { (w : World P) → Represents (parts_of self.old) w → Represents (parts_of self.new) w }
     {
-        for _ in 0..self.family.names() {
-            if !self.forget_next() {
-                return;
-            }
+        let Ok(unused) = self.find_unused(alloc) else {
+            return;
+        };
+        self.family.drop_unused(&unused);
+    }
+
+    // Drops unused ids, if many ids were handed out since the last sweep and there are not too many records.
+    fn sweep_ids(&mut self, alloc: Global)
+        ensures { (w : World P) → Represents (parts_of self.old) w → Represents (parts_of self.new) w }
+    {
+        if self.family.handed() < self.next_sweep {
+            return;
         }
+        let records = count_records(&self.chains);
+        self.next_sweep = self
+            .family
+            .handed()
+            .saturating_add(self.sweep_distance(records));
+        if records > self.most_swept() {
+            return;
+        }
+        self.drop_unused(alloc);
     }
 
     // Returns the refusal of a read, if there is one.
@@ -474,6 +536,7 @@ impl<P: Policy> Versions for RecordWorld<P> {
     ghost use Rattle.snap_api.specs.declared.data.Refusal.TheVariants as Refusal;
     ghost use Rattle.snap_api.specs.declared.data.Request.TheVariants as Request;
     ghost use Rattle.snap_laws.specs.Coverage.{IsSwept};
+    ghost use Rattle.snap_nested.specs.Members.{is_free};
     ghost use Rattle.snap_laws.specs.FreeRefusals.{IsFreelyRefused, IsApplyFreelyRefused};
     ghost use Rattle.snap_laws.specs.Represents.{Represents};
     ghost use Rattle.snap_world.specs.Holding.{parts_of};
@@ -543,6 +606,7 @@ impl<P: Policy> Versions for RecordWorld<P> {
         let Ok(name) = self.push_child(alloc, caller, parent, kind) else {
             return Err(Refusal::NoMemory);
         };
+        self.sweep_ids(alloc);
         Ok(name)
     }
 
@@ -565,6 +629,7 @@ impl<P: Policy> Versions for RecordWorld<P> {
         let Ok((name, changed)) = self.push_child_for(alloc, caller, watcher) else {
             return Err(Refusal::NoMemory);
         };
+        self.sweep_ids(alloc);
         Ok((name, changed))
     }
 
@@ -635,6 +700,7 @@ impl<P: Policy> Versions for RecordWorld<P> {
         ensures log { Logs None None caller (Request.Apply name) (apply_reply result) }
         ensures refused { IsApplyFreelyRefused P.rules P.is_free_merge (Represents (parts_of self.old)) caller name
             (apply_reply result) }
+        ensures unnoted { OnOk result ((x : ℕ) → (parts_of self.new).noted name x ≡ false) }
     {
         if let Some(refusal) = self.apply_refusal(caller, name) {
             return Err(refusal);
@@ -660,6 +726,8 @@ impl<P: Policy> Versions for RecordWorld<P> {
         ensures log { Logs None None caller (Request.Dispose name) (dispose_reply result) }
         ensures own { (w : World P) → Represents (parts_of self.old) w → IsOwn w caller name → IsOk result }
         ensures free { result ≢ Err Refusal.NoMemory }
+        ensures forgot { (member self.old.family.members.items name).is_live ≡ true → OnOk result ((n : ℕ)
+            → is_free self.new.family.members.items (member self.new.family.members.items n) ≡ false) }
     {
         if let Some(refusal) = self.dispose_refusal(caller, name) {
             return Err(refusal);

@@ -27,11 +27,18 @@ invariant_of-self g c =
       few = omega (arith, c.forget.ensures.handed, old.few);
       many = c.clear_noted.ensures.many ∙ old.many;
       stamped = old.stamped;
-      blank = λ n past. old.blank n (omega (arith, past, many));
+      blank = λ n past. c.clear_noted_objects.ensures.others n (λ same. omega (arith, same, past, many, c.requires.there))
+          ∙ old.blank n (omega (arith, past, many));
     }
 
-pub returns : goal.returns
-returns g c = λ w s.
+pub returns-clause-held : goal.returns-clause-held
+returns-clause-held g c = c.forget.ensures.held
+
+pub returns-clause-unnoted : goal.returns-clause-unnoted
+returns-clause-unnoted g c = λ x. ap (λ (l : List ℕ). contains x l) c.clear_noted_objects.ensures.here
+
+pub returns-clause-stays : goal.returns-clause-stays
+returns-clause-stays g c = λ w s.
     let old = c.args.self.now in
     let ms = old.family.members.items in
     let name = c.args.name in
@@ -62,5 +69,6 @@ returns g c = λ w s.
           (ap (λ (l : List ℕ). contains x l) nt ∙ noted)
           ∙ ap (λ (l : List ℕ). chain_without_ids l (chain_of old.chains x)) ids)
           (λ x none. c.clear_noted.ensures.left x (ap (λ (l : List ℕ). contains x l) nt ∙ none));
-      noted = refl;
+      noted_name = λ x. ap (λ (l : List ℕ). contains x l) c.clear_noted_objects.ensures.here;
+      noted_others = λ n x other. ap (λ (l : List ℕ). contains x l) (c.clear_noted_objects.ensures.others n other);
     })

@@ -208,6 +208,7 @@ returns-clause-ok g c =
           ∙ merged (nat_lt 0 into) x settled before (h.noted name x) (is_changed (choices x))
           (taken_is (λ y. is_changed (choices y)) settled kinds x
           ∙ ap (λ (l : List ℕ). contains x l && is_changed (choices x)) r.objects);
+      noted_name = λ x. ap (λ (l : List ℕ). contains x l) c.clear_noted_objects.ensures.here;
       noted_others = λ n x one two. ap (λ (l : List ℕ). contains x l)
           (c.clear_noted_objects.ensures.others n one ∙ c.set_noted.ensures.others n two ∙ c.fill.ensures.same n);
       stamps_count = c.stamp_settled.ensures.many;

@@ -126,3 +126,6 @@ returns-in-Err-clause-refused g c = λ w s e is free.
     (frees x noted)))) where
       no_bool : false ≡ true → ⊥
       no_bool h = cc
+
+pub returns-in-Ok-clause-unnoted : goal.returns-in-Ok-clause-unnoted
+returns-in-Ok-clause-unnoted g c = c.in-Ok.ensures.ok.noted_name

@@ -20,7 +20,7 @@ returns-clause-call g c = λ w s.
     let live : h.ids.live c.args.name ≡ true = sym c.live.ensures ∙ c.if-not-live.false in
     let d = (disposes_answer g.P.Policy.rules h (parts_of c.close.new.self) w c.args.caller c.args.name s).2 good live
     c.close.ensures in
-    (d.0, c.forget_all.ensures _ d.1)
+    (d.0, c.forget_all.ensures.stays _ d.1)
 
 pub returns-in-Some-clause-own : goal.returns-in-Some-clause-own
 returns-in-Some-clause-own g c = λ w s own.

@@ -26,8 +26,10 @@ pub returns-clause-call : goal.returns-clause-call
 returns-clause-call g c = λ w s.
     let good : take_refusal (parts_of c.args.self.now) c.args.parent c.args.kind ≡ None = sym c.take_refusal.ensures
     ∙ c.in_default.is in
-    (takes_answer g.P.Policy.rules _ _ w c.args.caller c.args.parent c.args.kind s).1 c.in-Ok.name good
-    (take_good (parts_of c.args.self.now) c.args.parent c.args.kind good) (c.in-Ok.ensures.ok)
+    let taken = (takes_answer g.P.Policy.rules _ (parts_of c.push_child.new.self) w c.args.caller c.args.parent
+    c.args.kind s).1 c.in-Ok.name good (take_good (parts_of c.args.self.now) c.args.parent c.args.kind good)
+    (c.in-Ok.ensures.ok) in
+    (taken.0, c.sweep_ids.ensures _ taken.1)
 
 pub returns-in-Some-clause-refused : goal.returns-in-Some-clause-refused
 returns-in-Some-clause-refused g c =

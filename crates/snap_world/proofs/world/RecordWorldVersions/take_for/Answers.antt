@@ -18,8 +18,9 @@ pub returns-clause-call : goal.returns-clause-call
 returns-clause-call g c = λ w s.
     let good : take_for_refusal (parts_of c.args.self.now) c.args.watcher ≡ None = sym c.take_for_refusal.ensures
     ∙ c.in_default.is in
-    (takes_for_answer g.P.Policy.rules (parts_of c.args.self.now) _ w c.args.caller c.args.watcher s).1 c.in-Ok.name
-    c.in-Ok.changed good c.in-Ok.ensures.ok
+    let taken = (takes_for_answer g.P.Policy.rules (parts_of c.args.self.now) (parts_of c.push_child_for.new.self) w
+    c.args.caller c.args.watcher s).1 c.in-Ok.name c.in-Ok.changed good c.in-Ok.ensures.ok in
+    (taken.0, c.sweep_ids.ensures _ taken.1)
 
 pub returns-in-Some-clause-refused : goal.returns-in-Some-clause-refused
 returns-in-Some-clause-refused g c =

@@ -1,0 +1,52 @@
+use Rattle.std.proofs.Common.{◌≡◌, ◌∙◌, sym, ap, subst, arith, ℕ, List, true, inl, inr}
+use Rattle.std.proofs.lemmas.Bool.Decides.{eqb_tells}
+use Rattle.std.specs.Prelude.{slice_index_or}
+use Rattle.rt_values.specs.Maps.{contains}
+use Rattle.snap_ids.proofs.IdLists.{contains-at}
+use Rattle.snap_nested.specs.Members.{member}
+use Rattle.snap_nested.proofs.Open.{index_of}
+use Rattle.snap_nested.proofs.unused.add_all_ends.Goals as goal
+
+pub add_ends-requires : goal.add_ends-requires
+add_ends-requires c =
+    let items = c.ids-name-items.result.now in
+    let n = slice_index_or items c.loop-name.name-index 0 in
+    c.requires.within n (ap (λ (l : List ℕ). contains n l) (sym c.ids-name-items.ensures.ids)
+    ∙ contains-at items c.loop-name.name-index c.loop-name-test.true)
+
+pub loop-name-preserved : goal.loop-name-preserved
+loop-name-preserved c =
+    let items = c.ids-name-items.result.now in
+    let at = c.loop-name.name-index in
+    let ms = c.args.members.now in
+    let new = c.add_ends.new.used in
+    let inv = c.loop-name.invariant in
+    record {
+      more = λ i h. c.in_ok-add_ends.ensures.more i (inv.more i h);
+      first = λ j h. elim (eqb_tells j at) [
+        | inl e ↦ subst (λ (k : ℕ). contains (member ms (slice_index_or items k 0)).first new ≡ true) (sym e.1)
+            c.in_ok-add_ends.ensures.first
+        | inr e ↦ c.in_ok-add_ends.ensures.more (member ms (slice_index_or items j 0)).first
+            (inv.first j (omega (arith, h, e.1)))
+      ];
+      current = λ j h. elim (eqb_tells j at) [
+        | inl e ↦ subst (λ (k : ℕ). contains (member ms (slice_index_or items k 0)).id new ≡ true) (sym e.1)
+            c.in_ok-add_ends.ensures.current
+        | inr e ↦ c.in_ok-add_ends.ensures.more (member ms (slice_index_or items j 0)).id
+            (inv.current j (omega (arith, h, e.1)))
+      ];
+    }
+
+pub returns-clause-first : goal.returns-clause-first
+returns-clause-first c = λ n h.
+    let items = c.ids-name-items.result.now in
+    let p = index_of n items (ap (λ (l : List ℕ). contains n l) c.ids-name-items.ensures.ids ∙ h) in
+    ap (λ (k : ℕ). contains (member c.args.members.now k).first c.loop-name.used) (sym p.2)
+    ∙ c.loop-name.invariant.first p.0 (omega (arith, p.1, c.loop-name-test.false))
+
+pub returns-clause-current : goal.returns-clause-current
+returns-clause-current c = λ n h.
+    let items = c.ids-name-items.result.now in
+    let p = index_of n items (ap (λ (l : List ℕ). contains n l) c.ids-name-items.ensures.ids ∙ h) in
+    ap (λ (k : ℕ). contains (member c.args.members.now k).id c.loop-name.used) (sym p.2)
+    ∙ c.loop-name.invariant.current p.0 (omega (arith, p.1, c.loop-name-test.false))
