@@ -6,8 +6,8 @@ ghost use Rattle.world_laws.specs.WriteSkew.{WriteSkewIsAllowed};
 
 use snap_policy::Policy;
 
-/// A frame never tears: a snapshot that is taken for a watcher shows and reads global as it was at the take, whatever is
-/// called before its dispose.
+/// A frame never tears: a snapshot that is taken for a watcher shows and reads the values that global had at the take,
+/// whatever is called before its dispose.
 pub fn frame_shows_its_take<P: Policy>()
     ensures shows { FrameShowsItsTake P.rules }
     ensures reads { FrameReadsItsTake P.rules }

@@ -1,7 +1,7 @@
 //! Laws of snapshots for those who watch a world and those who apply snapshots.
 //!
 //! Each law is the contract of a function with an empty body. Only `frame_laws` depends on this crate, for its lemmas.
-//! Promises: a snapshot that is taken for a watcher shows global as it was at the take, and no change is hidden from a
+//! Promises: a snapshot that is taken for a watcher shows the values of global at the take, and no change is hidden from a
 //! watcher (`specs/Watching.antt`). An apply that meets no other write is one step of a serial order
 //! (`specs/CleanApplies.antt`), and a history of such applies is serial if each snapshot reads only what it changed
 //! (`specs/SerialHistories.antt`). A value that a snapshot only reads is not protected (`specs/WriteSkew.antt`).
