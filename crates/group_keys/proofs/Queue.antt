@@ -1,12 +1,15 @@
 -- The queue of each sibling after a change of one queue.
-use Rattle.std.proofs.Common.{◌≡◌, ℕ, Bool, true, false, List, [], ◌∷◌, ◌++◌, drop, Option, Some, None, cond, if◌then◌else◌, refl, ap, sym, ◌∙◌}
-use Rattle.std.specs.Prelude.{option_to_list}
-use Rattle.std.specs.Option.{option_map_or}
+use Rattle.std.proofs.Common.{◌≡◌, ◌<◌, ℕ, Bool, true, false, List, [], ◌∷◌, ◌++◌, drop, Option, Some, None, cond, if◌then◌else◌, inl, inr, refl, ap, sym, arith, ◌∙◌}
+use Rattle.std.specs.Prelude.{option_to_list, position, slice_get}
+use Rattle.std.specs.Option.{option_map, option_map_or}
 use Rattle.std.specs.Map.{lookup}
 use Rattle.std.proofs.lemmas.List.{nil_from_length}
-use Rattle.indexmap.specs.IndexMap.{index_map_len}
+use Rattle.std.proofs.lemmas.Option.{slice_get_cases, slice_get-map, get_or_from_slice_get}
+use Rattle.std.proofs.lemmas.List.Quantifiers.{position-Some}
+use Rattle.indexmap.specs.IndexMap.{IndexMap, get, keys, with_value_at, index_map_len, IsUnique}
+use Rattle.indexmap.proofs.CallerLemmas.{updates-with_value_at}
 use Rattle.rt_groups.specs.Paths.{GroupKey, same_sibling}
-use Rattle.group_paths.specs.SiblingEquality.{same_is}
+use Rattle.group_paths.specs.SiblingEquality.{same_is, siblings_equiv}
 use Rattle.group_keys.specs.declared.queues.SiblingQueues.{SiblingQueues}
 use Rattle.group_keys.specs.Queues.{queued_indexes, mapped_queue}
 
@@ -78,3 +81,21 @@ listed_after_push false was now mapped i empty free put = ap (λ o. option_to_li
 pub nothing_mapped : (p : SiblingQueues) (s : GroupKey) → index_map_len p.queues ≡ 0 → mapped_queue p s ≡ []
 nothing_mapped p s none =
     ap (λ es. option_map_or queued_indexes (lookup (same_sibling s) es) []) (nil_from_length p.queues.entries none)
+
+-- The value of any sibling after a write at the index of one sibling.
+pub value_after_write : {V S : Type 0} (m : IndexMap GroupKey V S) (t s : GroupKey) (i : ℕ) (w : V)
+    → IsUnique same_sibling m → position (same_sibling t) (keys m) ≡ Some i → i < index_map_len m
+    → get same_sibling (with_value_at m i w) s ≡ cond (same_sibling t s) (Some w) (get same_sibling m s)
+value_after_write m t s i w unique at within = elim (slice_get_cases m.entries i).1 [
+  | inl found ↦ written found.0.0 found.0.1 found.2
+  | inr past ↦ absurd (omega (arith, past.0, within))
+]
+  where
+    written : (k : GroupKey) (v : _) → slice_get m.entries i ≡ Some (k, v)
+        → get same_sibling (with_value_at m i w) s ≡ cond (same_sibling t s) (Some w) (get same_sibling m s)
+    written k v found =
+        let key_at = slice_get-map (λ e. e.0) m.entries i ∙ ap (option_map (λ e. e.0)) found in
+        let here = get_or_from_slice_get (keys m) i k k key_at in
+        let same = same_is t k (ap (same_sibling t) (sym here) ∙ (position-Some (same_sibling t) (keys m) i k at).1) in
+        (updates-with_value_at m i w siblings_equiv unique k v found).0 s
+        ∙ ap (λ u. cond (same_sibling u s) (Some w) (get same_sibling m s)) (sym same)

@@ -14,15 +14,12 @@ ghost use Rattle.rt_values.specs.Values.{same_value};
 ghost use Rattle.rt_groups.specs.Paths.{same_sibling};
 ghost use Rattle.group_paths.specs.SiblingEquality.{siblings_equiv};
 ghost use Rattle.group_keys.specs.Keys.{hashed_value, hashed_key, hashed_sibling, equal_hashes};
-ghost use Rattle.group_keys.specs.Lookups.{lookup_key};
 
-mod lookups;
 mod matching;
 mod numbered;
 mod queues;
 mod survey;
 
-use crate::lookups::Lookup;
 pub use matching::matches;
 pub use queues::SiblingQueues;
 use rt_values::Value;
@@ -54,13 +51,6 @@ impl<'a> SiblingKey<'a> {
         SiblingKey { site, key }
     }
 
-    // Returns the key for a lookup among keys with another lifetime.
-    fn lookup(&self) -> Lookup<'a>
-        ensures { lookup_key result ≡ self.now }
-    {
-        Lookup::new(self.site, self.key)
-    }
-
     /// Returns a copy, which borrows the same value.
     pub fn copy(&self) -> SiblingKey<'a>
         ensures { result ≡ self.now }
@@ -74,7 +64,7 @@ impl<'a> SiblingKey<'a> {
 
 // Returns whether both are equal values or both are missing.
 #[inline(always)]
-pub(crate) fn same_keys(key: &Option<&Value>, other: &Option<&Value>) -> bool
+fn same_keys(key: &Option<&Value>, other: &Option<&Value>) -> bool
     ensures { result
         ≡ option_eq same_value (option_map (λ k. k.now) key.now) (option_map (λ k. k.now) other.now) }
 {
@@ -115,7 +105,7 @@ fn hash_value<H: Hasher>(value: &Value, state: &mut H)
 }
 
 // Writes `key` to the hasher if it has a value.
-pub(crate) fn hash_key<H: Hasher>(key: &Option<&Value>, state: &mut H)
+fn hash_key<H: Hasher>(key: &Option<&Value>, state: &mut H)
     ensures { state.new ≡ fold H.write state.old (hashed_key (option_map (λ k. k.now) key.now)) }
 {
     match key {

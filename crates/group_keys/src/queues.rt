@@ -3,7 +3,6 @@ ghost use Rattle.std.specs.Prelude.{◌≡◌, ◌++◌, ◌∷◌, [], true, fa
 ghost use Rattle.rt_groups.specs.Paths.{GroupKey, same_sibling};
 ghost use Rattle.group_keys.specs.Queues.{queue_of, queued_indexes, mapped_queue};
 
-use crate::lookups::Lookup;
 use crate::numbered::NumberedSiblings;
 use crate::{KeySurvey, SiblingKey};
 use indexmap::IndexMap;
@@ -178,9 +177,8 @@ impl<'a> SiblingQueues<'a> {
             ≡ (if same_sibling key.now s then drop 1 (mapped_queue self.old s) else mapped_queue self.old s) }
         ensures list { self.new.numbered ≡ self.old.numbered }
     {
-        match self.queues.get_mut(key.lookup()) {
-            Some(queue) => queue.pop(),
-            None => None,
-        }
+        // A shared borrow of the map may shorten the lifetime of its keys to that of `key`; a `&mut` may not.
+        let index = self.queues.get_index_of(key)?;
+        self.queues[index].pop()
     }
 }
