@@ -7,7 +7,8 @@
 //! `main` calls all of them after `play` has ended. Compose has no counterpart: the Kotlin compiler reports such mistakes.
 //!
 //! Promises: a note points at an offset inside the form at which the fault is reported, or at the fault's own offset for
-//! the kind `text`, and its line and column are those of that offset. No contract says what a sentence means.
+//! the kind `text`, and its line and column are those of that offset. `Keeping` returns the bytes that were read from it
+//! since it was made. No contract says what a sentence means.
 #![tactic(auto)]
 
 mod contents;
