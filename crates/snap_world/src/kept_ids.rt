@@ -204,13 +204,13 @@ fn add_base_id(
     if reader == 0 {
         return Ok(());
     }
-    let found = chains.readable_for_base(
+    let read = chains.readable_both(
         x,
         family.id(reader),
         family.invalid(reader),
         family.ids(reader),
     );
-    add_record_id(chains, found, ids)
+    add_record_id(chains, read.1, ids)
 }
 
 // Adds the id of a record, if there is one.

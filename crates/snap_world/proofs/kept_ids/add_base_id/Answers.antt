@@ -13,7 +13,7 @@ returns-clause-base c =
     let m : Member = member c.args.family.now.members.items c.args.reader in
     let chain = chain_of c.args.chains.now c.args.x in
     on_ok_more c.add_record_id.result
-    (λ added inner. λ i h. added i (ap (has_id i) (c.readable_for_base-found.ensures.is
+    (λ added inner. λ i h. added i (ap (has_id i) (c.readable_both-read.ensures.base
     ∙ ap (λ (l : List ℕ). readable (is_valid_except l c.id.result c.invalid.result.now) chain) c.ids.ensures
     ∙ ap (λ (n : ℕ). readable (is_valid_except m.ids n c.invalid.result.now) chain) c.id.ensures.id
     ∙ ap (λ (l : List ℕ). readable (is_valid_except m.ids m.id l) chain) c.invalid.ensures) ∙ h))
@@ -26,7 +26,7 @@ returns-clause-needed c =
     on_ok_more c.add_record_id.result (λ only. λ name i h. elim (only i h) [
       | inl t ↦ inl t
       | inr t ↦ inr (base c.args.reader c.requires.live (positive c.args.reader c.if-reader-eq0.false)
-          (sym (ap (has_id i) (c.readable_for_base-found.ensures.is
+          (sym (ap (has_id i) (c.readable_both-read.ensures.base
           ∙ ap (λ (l : List ℕ). readable (is_valid_except l c.id.result c.invalid.result.now) chain) c.ids.ensures
           ∙ ap (λ (n : ℕ). readable (is_valid_except m.ids n c.invalid.result.now) chain) c.id.ensures.id
           ∙ ap (λ (l : List ℕ). readable (is_valid_except m.ids m.id l) chain) c.invalid.ensures)) ∙ t))
