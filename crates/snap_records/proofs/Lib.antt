@@ -9,3 +9,4 @@ pub mod Clearing
 pub mod Raising
 pub mod PadOver
 pub mod Overwritable
+pub mod KeptLists

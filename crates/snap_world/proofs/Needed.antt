@@ -1,18 +1,7 @@
 -- The ids that a write keeps are ids of records that are read, and are few.
-use Rattle.std.proofs.Common.{◌≡◌, ℕ, ◌+◌, ◌*◌, ◌≤◌, ◌<◌, ◌==◌, nat_lt, List, [], ◌∷◌, ◌++◌, length, take, get_or, refl, ap, ◌∙◌, Bool, true, false, cond, suc, arith}
+use Rattle.std.proofs.Common.{◌≡◌, ℕ, ◌+◌, ◌*◌, ◌≤◌, ◌<◌, List, [], ◌∷◌, ◌++◌, length, take, get_or, refl, ap, ◌∙◌, Bool, true, false, cond, suc, arith}
 use Rattle.std.proofs.lemmas.List.{take_more}
-use Rattle.snap_ids.specs.IdLists.{with_id}
 use Rattle.snap_laws.specs.Coverage.{live_count}
-
--- An insert adds at most one id.
-pub length-with_id : (x : ℕ) (ys : List ℕ) → length (with_id x ys) ≤ length ys + 1
-length-with_id x [] = omega arith
-length-with_id x (y ∷ ys) = by (nat_lt x y) (x == y) (length-with_id x ys) where
-  by : (a b : Bool) → length (with_id x ys) ≤ length ys + 1
-      → length (cond a (x ∷ y ∷ ys) (cond b (y ∷ ys) (y ∷ with_id x ys))) ≤ suc (length ys) + 1
-  by true b later = omega arith
-  by false true later = omega arith
-  by false false later = omega (arith, later)
 
 -- A live last name adds one to the number of live names.
 live_last : (live : ℕ → Bool) (ns : List ℕ) (n : ℕ)

@@ -135,7 +135,7 @@ fn add_unless(skip: bool, order: &[u64], at: usize, ids: &mut KeptIds) -> Result
     if skip || at == 0 {
         return Ok(());
     }
-    ids.push(order[at - 1])?;
+    ids.add(order[at - 1])?;
     Ok(())
 }
 
