@@ -8,3 +8,4 @@ pub mod Needed
 pub mod SameStamps
 pub mod UsedIds
 pub mod Sorted
+pub mod Searching

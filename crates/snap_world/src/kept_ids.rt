@@ -8,6 +8,7 @@ ghost use Rattle.snap_nested.specs.Ids.{valid_for_base};
 ghost use Rattle.snap_nested.specs.Members.{ids_of, member};
 ghost use Rattle.snap_reuse.specs.Readers.{has_id, IsReadWithin};
 ghost use Rattle.snap_laws.specs.Coverage.{AreReadWithin, AreLiveNames, IsNeeded, live_count};
+ghost use Rattle.snap_world.specs.Sorted.{AreRecordsOwned};
 
 use crate::searched_ids::find_searched_ids;
 use rt_values::{Name, NoMemory, ObjectNo};
@@ -16,7 +17,7 @@ use snap_records::{Chains, KeptIds, RecordNo};
 use std::alloc::Global;
 
 // The records of a chain that each reader goes over. The ids of a longer chain are sorted first.
-const WALKED: usize = 8;
+const WALKED: usize = 16;
 
 /// Puts into `ids` the ids of the records of object `x` that a write in the snapshot `name` must keep, and no others:
 /// the current id of `name`, the ids of the records that the other live snapshots read, and of those that all but
@@ -32,9 +33,10 @@ pub fn find_kept_ids(
     requires live { (member family.now.members.items name).is_live ≡ true }
     requires there { x < length chains.now.heads.items }
     ensures own { OnOk result (contains (member family.now.members.items name).id ids.new ≡ true) }
-    ensures read { OnOk result (AreReadWithin (ids_of family.now.members.items) name
-        (chain_of chains.now x) ids.new) }
-    ensures needed { OnOk result ((i : ℕ) → contains i ids.new ≡ true
+    ensures read { OnOk result (AreRecordsOwned (ids_of family.now.members.items) (chain_of chains.now x)
+        → AreReadWithin (ids_of family.now.members.items) name (chain_of chains.now x) ids.new) }
+    ensures needed { OnOk result (AreRecordsOwned (ids_of family.now.members.items) (chain_of chains.now x)
+        → (i : ℕ) → contains i ids.new ≡ true
         → IsNeeded (ids_of family.now.members.items) name (chain_of chains.now x) i) }
     ensures few { OnOk result (length ids.new
         ≤ 2 * live_count (ids_of family.now.members.items).live family.now.held + 1) }

@@ -50,6 +50,7 @@ impl<P: Policy> RecordWorld<P> {
     ghost use Rattle.snap_laws.specs.TakesFor.{take_for_refusal, IsTakeFor};
     ghost use Rattle.snap_laws.specs.Steps.{MakesTo};
     ghost use Rattle.snap_laws.specs.Coverage.{AreReadWithin, IsSwept};
+    ghost use Rattle.snap_world.specs.Sorted.{AreRecordsOwned};
     ghost use Rattle.snap_laws.specs.Reads.{read_refusal};
     ghost use Rattle.snap_records.specs.Chains.{record_at};
     ghost use Rattle.snap_api.specs.World.{World};
@@ -217,7 +218,8 @@ impl<P: Policy> RecordWorld<P> {
         requires there { object < length self.old.objects.items }
         requires room { self.old.clock < 2 ^ 60 }
         requires own { contains (member self.old.family.members.items name).id kept.now ≡ true }
-        requires read { AreReadWithin (parts_of self.old).ids name ((parts_of self.old).chains object) kept.now }
+        requires read { AreRecordsOwned (parts_of self.old).ids ((parts_of self.old).chains object)
+            → AreReadWithin (parts_of self.old).ids name ((parts_of self.old).chains object) kept.now }
         ensures ok { OnOk result ((w : World P) → Represents (parts_of self.old) w
             → WritesTo (parts_of self.old) (parts_of self.new) name object value) }
         ensures swept { OnOk result ((w : World P) → Represents (parts_of self.old) w

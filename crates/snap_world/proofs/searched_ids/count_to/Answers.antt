@@ -4,8 +4,8 @@ use Rattle.std.specs.Prelude.{◌/◌, slice_index_or}
 use Rattle.snap_ids.proofs.IdLists.{rising_at}
 use Rattle.snap_world.proofs.searched_ids.count_to.Goals as goal
 
-pub loop-low-preserved-then-order-middle : goal.loop-low-preserved-then-order-middle
-loop-low-preserved-then-order-middle c =
+pub loop-low-preserved-then-ids-middle : goal.loop-low-preserved-then-ids-middle
+loop-low-preserved-then-ids-middle c =
     let half : (c.loop-low.high - c.loop-low.low) / 2 < c.loop-low.high - c.loop-low.low =
     omega (arith, c.loop-low-test.true) in
     record {
@@ -23,12 +23,12 @@ loop-low-preserved c =
       order = omega arith;
       within = omega (arith, half, c.loop-low-test.true, c.loop-low.invariant.within);
       above = λ j low within. elim (eqb_tells j middle) [
-        | inl e ↦ subst (λ (k : ℕ). c.args.id < slice_index_or c.args.order.now k 0) (sym e.1)
-            (omega (arith, c.if-order-middle.false))
+        | inl e ↦ subst (λ (k : ℕ). c.args.id < slice_index_or c.args.ids.now k 0) (sym e.1)
+            (omega (arith, c.if-ids-middle.false))
         | inr e ↦ omega (
           arith,
-          rising_at c.args.order.now middle j c.requires (omega (arith, low, e.1)) within,
-          c.if-order-middle.false,
+          rising_at c.args.ids.now middle j c.requires (omega (arith, low, e.1)) within,
+          c.if-ids-middle.false,
         )
       ];
     }

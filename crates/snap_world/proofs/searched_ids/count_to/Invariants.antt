@@ -4,8 +4,8 @@ use Rattle.snap_world.proofs.searched_ids.count_to.Given as goal
 abbrev pub invariant-loop-low : goal.invariant-loop-low
 invariant-loop-low l = record {
   order : l.low ≤ l.high;
-  within : l.high ≤ length l.order;
-  above : (j : ℕ) → l.high ≤ j → j < length l.order → l.id < slice_index_or l.order j 0;
+  within : l.high ≤ length l.ids;
+  above : (j : ℕ) → l.high ≤ j → j < length l.ids → l.id < slice_index_or l.ids j 0;
 }
 
 abbrev pub decreases-loop-low : goal.decreases-loop-low

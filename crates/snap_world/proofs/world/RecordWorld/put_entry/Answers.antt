@@ -4,6 +4,7 @@ use Rattle.snap_laws.proofs.Counting.{used_within}
 use Rattle.snap_laws.proofs.Written.{writes_stand}
 use Rattle.snap_world.specs.Holding.{parts_of}
 use Rattle.snap_world.proofs.Reading.{on_ok_more}
+use Rattle.snap_world.proofs.Searching.{owned_records}
 use Rattle.snap_world.proofs.world.RecordWorld.put_entry.Goals as goal
 
 pub returns-clause-ok : goal.returns-clause-ok
@@ -17,7 +18,7 @@ returns-clause-swept g c = on_ok_more c.put_record.result (λ swept w s.
     let few : used_count ((parts_of c.put_record.new.self).chains c.args.object) ≤ length c.find_kept_ids.new.ids =
     used_within ((parts_of c.put_record.new.self).chains c.args.object) c.find_kept_ids.new.ids t.apart t.listed in
     record {
-      needed = λ p there positive. c.in-Ok.ensures.needed p.id (t.listed p there positive);
+      needed = λ p there positive. c.in-Ok.ensures.needed (owned_records s c.args.object) p.id (t.listed p there positive);
       names_live = c.in-Ok.ensures.names;
       few = omega (arith, few, c.in-Ok.ensures.few);
     }) c.put_record.ensures.swept

@@ -9,6 +9,7 @@ use Rattle.snap_nested.specs.Members.{member}
 use Rattle.snap_nested.proofs.Members.{live_member}
 use Rattle.snap_laws.proofs.Reuse.{view_stays, base_stays}
 use Rattle.snap_world.proofs.NotedMembers.{contains-noted, undone}
+use Rattle.snap_world.proofs.Searching.{owned_records}
 use Rattle.snap_world.proofs.world.RecordWorld.put_record.Goals as goal
 
 pub invariant_of-self : goal.invariant_of-self
@@ -138,8 +139,8 @@ returns-clause-ok g c = λ w s.
       gone = is_unkept c.args.kept.now c.id-id.result;
       put = subst (λ (i : ℕ). Puts (chain_of old.chains c.args.object) (chain_of c.put.new.chains c.args.object)
           (record { id = i; entry = e }) (is_unkept c.args.kept.now c.id-id.result)) id put.put;
-      view_stays = view_stays s name c.args.object c.requires.live c.id-id.result id c.requires.read;
-      base_stays = base_stays s name c.args.object c.requires.live c.id-id.result id c.requires.read;
+      view_stays = view_stays s name c.args.object c.requires.live c.id-id.result id (c.requires.read (owned_records s c.args.object));
+      base_stays = base_stays s name c.args.object c.requires.live c.id-id.result id (c.requires.read (owned_records s c.args.object));
       others = c.put.ensures.others;
       noted = λ y. ap (λ (l : List ℕ). contains y l)
           (noted.here ∙ ap (λ (l : List ℕ). cond (nat_lt 0 name) (with_member c.args.object l) l)
