@@ -28,6 +28,7 @@ TAKES = "(repeat 1000 (take s mutable global))"
 SCRIPTS = [
     ("2,000 takes that stay open", "run", TAKES * 2),
     ("1,000 takes, each with a write of global", "run", "(repeat 1000 (take s mutable global)(add global x 1))"),
+    ("1,000 takes, each with a write in the new snapshot", "run", "(repeat 1000 (take s mutable global)(add s x 1))"),
     ("1,000 frames next to 800 open snapshots", "run",
      "(repeat 800 (take s mutable global))(repeat 1000 (add global x 1)(frame))"),
     ("eight parents with 500 applied children each", "run", committed(8, 500)),
