@@ -1,10 +1,12 @@
 -- What is owed from one take to the next.
 use Rattle.std.proofs.Common.{ℕ, zero, suc, ◌+◌, ◌<◌, ◌≤◌, ◌==◌, ◌||◌, List, [], ◌∷◌, ◌≡◌, inl, inr, refl, ap, ◌∙◌, sym, subst, length, eq-eqb, Bool, true, false, not, cond, Option, Some, None, slice_get, arith}
+use Rattle.std.specs.Option.{unwrap_or}
 use Rattle.std.proofs.lemmas.Bool.Decides.{eqb_tells}
 use Rattle.std.proofs.lemmas.Option.{slice_get_cases, slice_get_past, get_or_from_slice_get}
 use Rattle.rt_values.specs.declared.maps.StampedValue.{StampedValue}
 use Rattle.rt_values.specs.Maps.{Map, no_entry, entry_at, differs, differ, differ_from, contains}
 use Rattle.rt_groups.specs.GroupForest.{GroupForest, asks}
+use Rattle.rt_groups.specs.Frames.{LastFrame}
 use Rattle.lang_ast.specs.declared.program.Program.{Program}
 use Rattle.snap_api.specs.Desks.{Follows, FollowsLast}
 use Rattle.recompose_laws.specs.Refreshing.{SameReads}
@@ -14,7 +16,8 @@ use Rattle.composer.specs.OwedObjects.{OwedObjects}
 use Rattle.composer.specs.FrameDrafts.{IsOwing, root_of}
 use Rattle.lang_ast.specs.Programs.{program_view, functions_of}
 use Rattle.lang_checks.specs.CheckedProgram.{IsChecked}
-use Rattle.recomposer.specs.Compositions.{IsKept, Owes}
+use Rattle.recomposer.specs.Compositions.{IsAt, IsKept, Owes}
+use Rattle.recomposer.specs.declared.composition.Composition.{Composition}
 use Rattle.recomposer.proofs.StateReads.{AreBelow, kept_below}
 
 other : (x y : ℕ) → x < y → (x == y) ≡ false
@@ -203,3 +206,17 @@ owing p (Some seen) t m owed checked h = (
   h.3.numbered,
   same_below (length p.states.items) seen m owed.objects h.1 h.2 (asks t) (kept_below p seen t checked h.3.composed),
 )
+
+by_seen : (p : Program) (seen : Option Map) (trail : GroupForest) (m : Map) (owed : OwedObjects) (x : ℕ)
+    → Owes p seen trail (Some m) owed → x < length m → length m ≡ length p.states.items →
+    (owed.all || contains x owed.objects) ≡ differs (slice_get (unwrap_or seen []) x) (entry_at m x)
+by_seen p None trail m owed x owes few same = ap (λ b. b || contains x owed.objects) owes.1
+by_seen p (Some seen) trail m owed x owes few same =
+    ap (λ b. b || contains x owed.objects) owes.0
+    ∙ owes.2 x (subst (λ n. x < n) same few) ∙ listed_at seen m x few
+
+-- A state is owed if its stamp differs between the map of the last good frame and the watcher's last map.
+pub owes_at : (c : Composition) (k : LastFrame) (m : Map) (x : ℕ) → IsAt c k (Some m) → x < length m
+    → length m ≡ length c.program.now.states.items →
+    (c.owed.all || contains x c.owed.objects) ≡ differs (slice_get (unwrap_or k.seen []) x) (entry_at m x)
+owes_at c k m x at few same = by_seen c.program.now k.seen k.trail m c.owed x at.owes few same

@@ -1,7 +1,7 @@
 // A composition of one program, frame by frame.
-ghost use Rattle.std.specs.Prelude.{◌≡◌, ◌≤◌, ◌<◌, ◌++◌, [], ℕ, List, Option, Some, None, Ok, Err, true, IfOk, IfErr, OnOk, OnErr, IsOk, IsTrue};
-ghost use Rattle.std.specs.Option.{option_map};
-ghost use Rattle.rt_values.specs.Maps.{Map, differ};
+ghost use Rattle.std.specs.Prelude.{◌≡◌, ◌≤◌, ◌<◌, ◌++◌, [], ℕ, List, Option, Some, None, Ok, Err, true, IfOk, IfErr, OnOk, OnErr, IsOk, IsTrue, length, slice_get};
+ghost use Rattle.std.specs.Option.{option_map, unwrap_or};
+ghost use Rattle.rt_values.specs.Maps.{Map, differ, differs, entry_at};
 ghost use Rattle.rt_values.specs.Views.{Grew};
 ghost use Rattle.rt_values.specs.declared.value.Ty.{Ty};
 ghost use Rattle.rt_groups.specs.Frames.{LastFrame, no_last_frame, is_detached};
@@ -160,6 +160,30 @@ impl<'p> Composition<'p> {
         ensures { result.now ≡ self.now.ops }
     {
         &self.ops
+    }
+
+    // Returns whether the next frame owes state `x`.
+    fn owes(&self, x: ObjectNo) -> bool
+        ensures { (k : LastFrame) (m : Map) → IsAt self.now k (Some m) → x < length m →
+            length m ≡ length self.now.program.now.states.items →
+            result ≡ differs (slice_get (unwrap_or k.seen []) x) (entry_at m x) }
+    {
+        self.owed.is_all() || self.owed.has(x)
+    }
+
+    /// Returns the states that the next frame owes, in ascending order: those that changed between the last good frame
+    /// and the watcher's last map, or all states before the first good frame (`invalidations`).
+    pub fn owed(&self, alloc: Global) -> Result<Vec<ObjectNo>, NoMemory>
+        ensures { (k : LastFrame) (m : Map) → IsAt self.now k (Some m) →
+            length m ≡ length self.now.program.now.states.items → IfOk result (λ xs. xs.items ≡ differ k.seen m) }
+    {
+        let mut owed = Vec::new(alloc);
+        for x in 0..self.program.states().len() as u64 {
+            if self.owes(x) {
+                owed.push(x)?;
+            }
+        }
+        Ok(owed)
     }
 
     /// Marks the states that changed since the watcher's last map as owed (`recordModificationsOf`). For callers that
