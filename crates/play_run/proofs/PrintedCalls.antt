@@ -218,6 +218,8 @@ read_stays (Some f) e reads =
 pub record FirstCall (o : Option OpenFrame) (e : Entry) (es : History) : Type 0 where
   pub turn : IsInTurn o e
   pub rest : AreInTurn (frame_after o e) (printed_from (frames_by (frame_after o e)) es)
+  pub printed_are : printed_from (frames_by o) (e ∷ es)
+      ≡ (let later = printed_from (frames_by (frame_after o e)) es in cond (is_frame_read o e) later (e ∷ later))
   pub lines_are : (style : LineStyle) (functions : List Func) (s : Standing)
       → lines style functions s (printed_from (frames_by o) (e ∷ es))
       ≡ call_lines style functions o s e
@@ -230,6 +232,11 @@ module _ (o : Option OpenFrame) (e : Entry) (es : History) where
       record {
         turn = stays.0;
         rest = subst (λ p. AreInTurn p (printed_from (frames_by p) es)) (sym stays.1) turn;
+        printed_are = ap (λ b. cond b (printed_from (frames_by o) es)
+            (e ∷ printed_from (with_frames (frames_by o) e.caller (frames_after (frames_by o e.caller) e)) es)) reads
+            ∙ ap (λ p. printed_from (frames_by p) es) (sym stays.1)
+            ∙ ap (λ b. cond b (printed_from (frames_by (frame_after o e)) es)
+            (e ∷ printed_from (frames_by (frame_after o e)) es)) (sym reads);
         lines_are = λ style functions s.
             ap (λ b. lines style functions s
             (cond b (printed_from (frames_by o) es)
@@ -250,6 +257,11 @@ module _ (o : Option OpenFrame) (e : Entry) (es : History) where
       record {
         turn = first.0;
         rest = subst (AreInTurn (frame_after o e)) same first.1;
+        printed_are = ap (λ b. cond b (printed_from (frames_by o) es)
+            (e ∷ printed_from (with_frames (frames_by o) e.caller (frames_after (frames_by o e.caller) e)) es)) prints
+            ∙ ap (λ h. e ∷ h) same
+            ∙ ap (λ b. cond b (printed_from (frames_by (frame_after o e)) es)
+            (e ∷ printed_from (frames_by (frame_after o e)) es)) (sym prints);
         lines_are = λ style functions s.
             ap (λ b. lines style functions s
             (cond b (printed_from (frames_by o) es)

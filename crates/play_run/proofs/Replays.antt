@@ -116,7 +116,7 @@ agrees_more m [] r agree is = (is, tt)
 agrees_more m (y ∷ ys) r agree is = (agree.0, agrees_more m ys r agree.1 is)
 
 -- The open frame, and the call that reads in its snapshot.
-asked_of : (f : OpenFrame) (caller x : ℕ) (q : Request) → object_asked f caller q ≡ Some x
+pub asked_of : (f : OpenFrame) (caller x : ℕ) (q : Request) → object_asked f caller q ≡ Some x
     → (caller ≡ f.caller) × (q ≡ request.Read f.name x)
 asked_of f caller x (request.Take parent kind) is = absurd cc
 asked_of f caller x (request.TakeFor watcher) is = absurd cc
@@ -199,7 +199,7 @@ module _ (functions : List Func) (s : Standing) (e : Entry) where
   printed_next o printed = ap (λ b. cond b s (next functions s e)) printed
 
   -- The world after a call. A read of a frame changes no world.
-  read_leaves : (frames : List ℕ) (q : Request) → reads_frame frames q ≡ true
+  pub read_leaves : (frames : List ℕ) (q : Request) → reads_frame frames q ≡ true
       → (call table s.world e.caller q).0 ≡ s.world
   read_leaves frames (request.Read n x) reads = call-read table s.world e.caller n x
   read_leaves frames (request.Take parent kind) reads = absurd cc
@@ -220,7 +220,7 @@ pub printed_outside : (e : Entry) → is_frame_read None e ≡ false
 printed_outside e = reads_none e.request
 
 -- A call that asks for an object of the open frame is a read of the frame.
-is_read : (f : OpenFrame) (e : Entry) (x : ℕ) → object_asked f e.caller e.request ≡ Some x
+pub is_read : (f : OpenFrame) (e : Entry) (x : ℕ) → object_asked f e.caller e.request ≡ Some x
     → is_frame_read (Some f) e ≡ true
 is_read f e x asks = sym (asked_is_read f e.caller e.request) ∙ ap is_some asks
 
@@ -465,20 +465,20 @@ stays_open f s e h ends turn = (
 )
 
 -- A dispose reads nothing.
-dispose_printed : (o : Option OpenFrame) (e : Entry) (name : ℕ) → e.request ≡ request.Dispose name
+pub dispose_printed : (o : Option OpenFrame) (e : Entry) (name : ℕ) → e.request ≡ request.Dispose name
     → is_frame_read o e ≡ false
 dispose_printed o e name asks = ap (λ q. reads_frame (frames_by o e.caller) q) asks
 
 -- The end of the open frame, in a replay.
 module _ {functions : List Func} {memory : ReplayMemory} (f : OpenFrame) (s : Standing)
     (h : IsReplay functions memory (Some f) s) where
-  abbrev ends_now : Run
+  abbrev pub ends_now : Run
   ends_now = run_from s (Some f.name)
 
   abbrev pub view_now : Map
   view_now = frame_map ends_now f.name
 
-  abbrev end_entry : Entry
+  abbrev pub end_entry : Entry
   end_entry = entry s.world f.caller (request.Dispose f.name)
 
   -- The composition before the frame, and the reads of the frame.
@@ -488,10 +488,10 @@ module _ {functions : List Func} {memory : ReplayMemory} (f : OpenFrame) (s : St
   pub reads_agree : AgreesWith view_now memory.reads.reads.items
   reads_agree = h.recorded.of_frame view_now h.facts.at_frame.last
 
-  abbrev good_now : Option FrameResult
+  abbrev pub good_now : Option FrameResult
   good_now = frame (functions_of memory.composition.program.now) s.kept view_now
 
-  good_is : good_now ≡ outcome functions ends_now f.name
+  pub good_is : good_now ≡ outcome functions ends_now f.name
   good_is = frame_is f.caller f.name ends_now h.facts
 
   end_bytes : (style : LineStyle)
@@ -518,7 +518,7 @@ module _ {functions : List Func} {memory : ReplayMemory} (f : OpenFrame) (s : St
   }
 
   -- The call that ends the frame is the dispose of its snapshot by its caller.
-  the_end : (e : Entry) → IsAnswered s.world e → ends_frame (f.name ∷ []) e.request ≡ true → IsInTurn (Some f) e
+  pub the_end : (e : Entry) → IsAnswered s.world e → ends_frame (f.name ∷ []) e.request ≡ true → IsInTurn (Some f) e
       → end_entry ≡ e
   the_end e legal ends turn =
       let own : e.caller ≡ f.caller = subst (λ b. Turn b e.caller f.caller (frame_taken e.request e.reply)) ends turn in

@@ -117,7 +117,7 @@ module _ (functions : List Func) where
       by true = refl
       by false = refl
 
-  next_frames : (s : Standing) (e : Entry) → (next functions s e).frames ≡ frames_after s.frames e
+  pub next_frames : (s : Standing) (e : Entry) → (next functions s e).frames ≡ frames_after s.frames e
   next_frames s e = by (ends_frame s.frames e.request)
     where
       by : (b : Bool) → (cond {A = Standing} b

@@ -23,6 +23,10 @@ pub use frame::{compose, note_frame};
 pub use job::Job;
 pub use memory::{RunMemory, WATCHER};
 pub use open::set_up_world;
-pub use replaying::{is_dispose, replay};
+pub use recorded::RecordedReads;
+pub use replaying::{
+    ReplayFrame, ReplayMemory, begun_frame, compose_recorded, into_value, is_dispose, object_asked,
+    replay,
+};
 pub use steps::{run_script, times_of};
 pub use write_lines::{Stop, write_piece};

@@ -1,5 +1,5 @@
 // The lines of a history, written from its calls and their replies.
-ghost use Rattle.std.specs.Prelude.{◌≡◌, ◌∷◌, [], zero, false, Option, Some, None, Err, IfOk, OnOk};
+ghost use Rattle.std.specs.Prelude.{◌≡◌, ◌≢◌, ◌∷◌, [], zero, false, Option, Some, None, Err, IfOk, OnOk};
 ghost use Rattle.std.specs.Option.{option_map};
 ghost use Rattle.rt_values.specs.Maps.{Map};
 ghost use Rattle.rt_groups.specs.Frames.{LastFrame, no_last_frame};
@@ -13,7 +13,7 @@ ghost use Rattle.script_lang.specs.Lines.{Standing, initial_standing, lines, fra
 ghost use Rattle.woven_laws.specs.FramesInTurn.{AreInTurn};
 ghost use Rattle.woven_laws.specs.PrintedHistory.{printed_history};
 ghost use Rattle.play_run.specs.RunPromise.{WritesBytes, FaultsAfter, job_style, job_functions};
-ghost use Rattle.play_run.specs.RunState.{flat};
+ghost use Rattle.play_run.specs.RunState.{MadeCalls, flat};
 ghost use Rattle.play_run.specs.RecordedReads.{AgreesWith};
 ghost use Rattle.play_run.specs.CallsInFrames.{frame_by, is_frame_read, object_asked, value_given, IsInTurn};
 ghost use Rattle.play_run.specs.ReplayState.{as_open, frame_of, IsAnswered, IsReplay, PlaysCall};
@@ -26,6 +26,7 @@ use crate::recorded::RecordedReads;
 use crate::write_lines::Stop;
 use lang_checks::Checked;
 use recomposer::Composition;
+use rt_groups::Report;
 use rt_streams::Sink;
 use rt_values::{Caller, Name, NoMemory, ObjectNo, Value};
 use script_lang::Flags;
@@ -35,24 +36,24 @@ use std::marker::Brand;
 use std::mem;
 use std::sync::ledger::Blank;
 
-// An open frame: the caller that took its snapshot, and the number of the snapshot.
+/// An open frame: the caller that took its snapshot, and the number of the snapshot.
 #[derive(Clone, Copy)]
-struct ReplayFrame {
-    caller: Caller,
-    name: Name,
+pub struct ReplayFrame {
+    pub caller: Caller,
+    pub name: Name,
 }
 
-// What a replay keeps between calls: the composition, the line buffer, and the reads of the open frame so far.
+/// What a replay keeps between calls: the composition, the line buffer, and the reads of the open frame so far.
 #[derive(Drop)]
-struct ReplayMemory<'p> {
-    composition: Composition<'p>,
-    text: Vec<u8>,
-    reads: RecordedReads,
+pub struct ReplayMemory<'p> {
+    pub composition: Composition<'p>,
+    pub text: Vec<u8>,
+    pub reads: RecordedReads,
 }
 
 impl<'p> ReplayMemory<'p> {
-    // Creates the state before the first call.
-    fn new(alloc: Global, program: &'p Checked) -> Result<Self, NoMemory>
+    /// Creates the state before the first call.
+    pub fn new(alloc: Global, program: &'p Checked) -> Result<Self, NoMemory>
         ensures composition { IfOk result (λ m. IsAt m.composition no_last_frame None) }
         ensures program { IfOk result (λ m. m.composition.program.now ≡ program.now) }
         ensures reads { IfOk result (λ m. m.reads.reads.items ≡ []) }
@@ -77,8 +78,9 @@ pub fn is_dispose(request: &Request, name: Name) -> bool
     }
 }
 
-// Returns the object that a call reads in the snapshot of the open frame, if it is such a read of the frame's caller.
-fn object_asked(frame: ReplayFrame, call: &Entry) -> Option<ObjectNo>
+/// Returns the object that a call reads in the snapshot of the open frame, if it is such a read of the frame's caller.
+/// A rule of this project.
+pub fn object_asked(frame: ReplayFrame, call: &Entry) -> Option<ObjectNo>
     ensures { result ≡ object_asked (as_open frame) call.now.caller call.now.request }
 {
     match &call.request {
@@ -92,8 +94,8 @@ fn object_asked(frame: ReplayFrame, call: &Entry) -> Option<ObjectNo>
     }
 }
 
-// Returns the frame that `caller` began with the snapshot `name`, if there is one.
-fn begun_frame(caller: Caller, name: Option<Name>) -> Option<ReplayFrame>
+/// Returns the frame that `caller` began with the snapshot `name`, if there is one. A rule of this project.
+pub fn begun_frame(caller: Caller, name: Option<Name>) -> Option<ReplayFrame>
     ensures { frame_of result ≡ option_map (frame_by caller) name }
 {
     match name {
@@ -102,14 +104,49 @@ fn begun_frame(caller: Caller, name: Option<Name>) -> Option<ReplayFrame>
     }
 }
 
-// Returns the value that a read gave, or the number 0 if there is no such object.
-fn into_value(reply: Reply) -> Value
+/// Returns the value that a read gave, or the number 0 if there is no such object. A rule of this project.
+pub fn into_value(reply: Reply) -> Value
     ensures { result ≡ value_given reply }
 {
     match reply {
         Reply::Got(value) => value,
         _ => Value::Int(0),
     }
+}
+
+/// Composes a frame again from its recorded reads, and forgets them (`Recomposer.recompose`). Returns the report of a good
+/// frame, or `None` if there are too many groups.
+pub fn compose_recorded(
+    alloc: Global,
+    flags: Flags,
+    memory: &mut ReplayMemory,
+) -> Result<Option<Report>, Stop>
+    ensures told { (k : LastFrame) (m : Map) → IsAt memory.old.composition k (Some m) →
+        AgreesWith m memory.old.reads.reads.items → memory.old.reads.given ≡ zero →
+        let good = frame_at (functions_of memory.old.composition.program.now) k m in
+        IfOk result (λ r. r ≡ option_map (λ g. g.told) good) }
+    ensures left { (k : LastFrame) (m : Map) → IsAt memory.old.composition k (Some m) →
+        AgreesWith m memory.old.reads.reads.items → memory.old.reads.given ≡ zero →
+        let good = frame_at (functions_of memory.old.composition.program.now) k m in
+        OnOk result (IsAt memory.new.composition (kept_after k good) (Some m)) }
+    ensures calls { (k : LastFrame) (m : Map) → IsAt memory.old.composition k (Some m) →
+        AgreesWith m memory.old.reads.reads.items → memory.old.reads.given ≡ zero →
+        let good = frame_at (functions_of memory.old.composition.program.now) k m in
+        OnOk result (MadeCalls flags k good memory.new.composition.ops) }
+    ensures program { memory.new.composition.program ≡ memory.old.composition.program }
+    ensures reads { memory.new.reads.reads.items ≡ [] }
+    ensures given { memory.new.reads.given ≡ zero }
+    ensures fault { result ≢ Err Stop.WriteFault }
+{
+    let composed = compose_in::<RecordedReads, Brand>(
+        alloc,
+        flags,
+        &mut memory.composition,
+        &mut memory.reads,
+        Blank::new(1),
+    );
+    memory.reads.clear();
+    composed
 }
 
 // Composes a frame from its reads, and writes its lines.
@@ -132,15 +169,7 @@ fn compose_again<K: Sink>(
     ensures given { memory.new.reads.given ≡ zero }
     ensures faults { FaultsAfter (K.faults sink.old) (K.faults sink.new) result }
 {
-    let composed = compose_in::<RecordedReads, Brand>(
-        alloc,
-        flags,
-        &mut memory.composition,
-        &mut memory.reads,
-        Blank::new(1),
-    );
-    memory.reads.clear();
-    match composed {
+    match compose_recorded(alloc, flags, memory) {
         Ok(report) => write_frame(
             alloc,
             flags,
