@@ -33,7 +33,7 @@ use Rattle.play_run.specs.RunLog.{LogsRun, StopsRun}
 use Rattle.play_run.specs.RunPromise.{FaultsAfter}
 use Rattle.play_run.specs.declared.write_lines.Stop.{Stop}
 use Rattle.play_run.specs.declared.write_lines.Stop.TheVariants as stop
-use Rattle.play_core.specs.Promise.{Streams, HasFailed, WritesOutput, WritesFault, CommandMeets, GenMeets, PlayMeets, KeepsWorld, LeavesWorld, LogsText, StopsText}
+use Rattle.play_core.specs.Promise.{Streams, HasFailed, WritesOutput, WritesFault, TextMeets, CommandMeets, allowed_by, exactly, GenMeets, PlayMeets, KeepsWorld, LeavesWorld, LogsText, StopsText}
 use Rattle.play_run.proofs.Stops.{unlogged_stop}
 use Rattle.play_threads.proofs.Texts.{some_text}
 use Rattle.play_core.proofs.Uniques.{text_one}
@@ -153,11 +153,11 @@ done-after (Err stop.WriteFault) e h = absurd cc
 done-after (Err stop.NoMemory) e h = absurd cc
 
 -- A part of the output of a source text, which has no fault.
-pub text-part : (command : Command) (bytes : List ℕ) (a z : Option (List ℕ))
-    → ((fault : Fault) → IsFault (has_threads command) bytes fault → ⊥)
-    → ((p : Source) → IsText (has_threads command) bytes p
-    → (out : List ℕ) × IsOutput command (Some p) out × AppendsPart a z out) → WritesPart command bytes a z
-text-part command bytes a z good part = record { lines = part; refusal = λ fault f. absurd (good fault f) }
+pub text-part : (threads : Bool) (may : List ℕ → Source → List ℕ → Type 0) (bytes : List ℕ) (a z : Option (List ℕ))
+    → ((fault : Fault) → IsFault threads bytes fault → ⊥)
+    → ((p : Source) → IsText threads bytes p → (out : List ℕ) × may bytes p out × AppendsPart a z out)
+    → WritesPart threads may bytes a z
+text-part threads may bytes a z good part = record { lines = part; refusal = λ fault f. absurd (good fault f) }
 
 le_or_lt : (p q : ℕ) → (p ≤ q) ⊎ (q < p)
 le_or_lt p q = grind arith
@@ -167,27 +167,28 @@ pub one-command : (o : Option Command) (a b : Command) → o ≡ Some a → o �
 one-command o a b e f = cc
 
 -- A part of the line of the one fault of rejected bytes.
-pub refused-part : (command : Command) (bytes : List ℕ) (fault : Fault) (a z : Option (List ℕ))
-    → IsNoText (has_threads command) bytes
-    → ((other : Fault) → IsFault (has_threads command) bytes other → other ≡ fault) → AppendsPart a z (fault_line fault)
-    → WritesPart command bytes a z
-refused-part command bytes fault a z none one part = record {
+pub refused-part : (threads : Bool) (may : List ℕ → Source → List ℕ → Type 0) (bytes : List ℕ) (fault : Fault)
+    (a z : Option (List ℕ)) → IsNoText threads bytes → ((other : Fault) → IsFault threads bytes other → other ≡ fault)
+    → AppendsPart a z (fault_line fault) → WritesPart threads may bytes a z
+refused-part threads may bytes fault a z none one part = record {
   lines = λ p t. absurd (none p t);
   refusal = λ other f. subst (λ g. AppendsPart a z (fault_line g)) (sym (one other f)) part;
 }
 
 -- Each command has an output.
-some-output : (command : Command) (p : Source) → (out : List ℕ) × IsOutput command (Some p) out
+pub some-output : (command : Command) (p : Source) → (out : List ℕ) × IsOutput command (Some p) out
 some-output (Run flags) p = (run_output flags p, refl)
 some-output (Threads flags) p = some_text (style p flags) p.program.functions p.script
 some-output Check p = (check_output p, refl)
 some-output (Gen number size) p = (gen_output number size, refl)
 
 -- Nothing was written.
-pub nothing-part : (command : Command) (o a : Option (List ℕ)) → IfSome o (λ bytes. WritesPart command bytes a a)
-nothing-part command None a = tt
-nothing-part command (Some bytes) a = record {
-  lines = λ p t. let some = some-output command p in (some.0, some.1, part-none a some.0);
+pub nothing-part : (threads : Bool) (may : List ℕ → Source → List ℕ → Type 0)
+    → ((bytes : List ℕ) (p : Source) → (out : List ℕ) × may bytes p out) →
+    (o a : Option (List ℕ)) → IfSome o (λ bytes. WritesPart threads may bytes a a)
+nothing-part threads may some None a = tt
+nothing-part threads may some (Some bytes) a = record {
+  lines = λ p t. let one = some bytes p in (one.0, one.1, part-none a one.0);
   refusal = λ fault f. part-none a (fault_line fault);
 }
 
@@ -248,10 +249,11 @@ pub keeps-same : (o : Option (List ℕ)) → Keeps o o
 keeps-same None = tt
 keeps-same (Some bytes) = refl
 
--- The promise for a command that ran out of memory before anything was written.
-pub memory-meets : (c : Command) (left left' : Option (List ℕ)) (taken taken' faults faults' : ℕ)
+-- The promise after the process ran out of memory before anything was written.
+pub memory-meets : (threads : Bool) (may : List ℕ → Source → List ℕ → Type 0)
+    → ((bytes : List ℕ) (p : Source) → (out : List ℕ) × may bytes p out) → (left left' : Option (List ℕ)) (taken taken' faults faults' : ℕ)
     (written : Option (List ℕ)) (write_faults : ℕ) → rise taken taken' ≤ input_limit →
-    CommandMeets c (record {
+    TextMeets threads may (record {
       left = left;
       taken = taken;
       read_faults = faults;
@@ -260,7 +262,7 @@ pub memory-meets : (c : Command) (left left' : Option (List ℕ)) (taken taken' 
     })
     (record { left = left'; taken = taken'; read_faults = faults'; written = written; write_faults = write_faults })
     status.NoMemory
-memory-meets c left left' taken taken' faults faults' written write_faults short = record {
+memory-meets threads may some left left' taken taken' faults faults' written write_faults short = record {
   not_usage = λ e. absurd cc;
   done = λ e. absurd cc;
   bad_input = λ e. absurd cc;
@@ -268,17 +270,18 @@ memory-meets c left left' taken taken' faults faults' written write_faults short
   long_told = λ more. absurd (omega (arith, more, short));
   read_fault = λ e. absurd cc;
   write_fault = λ e. absurd cc;
-  part = λ few stopped. nothing-part c left written;
+  part = λ few stopped. nothing-part threads may some left written;
   complete = λ bytes t given few text. inr (inl refl);
   refused = λ bytes given few none. inr (inl refl);
   faulty = λ bytes fault given few f. inr (inl refl);
   at_most = omega (arith, short);
 }
 
--- The promise for a command whose read failed.
-pub read-fault-meets : (c : Command) (left left' : Option (List ℕ)) (taken taken' faults faults' : ℕ)
+-- The promise for an input whose read failed.
+pub read-fault-meets : (threads : Bool) (may : List ℕ → Source → List ℕ → Type 0)
+    → ((bytes : List ℕ) (p : Source) → (out : List ℕ) × may bytes p out) → (left left' : Option (List ℕ)) (taken taken' faults faults' : ℕ)
     (written : Option (List ℕ)) (write_faults : ℕ) → rise taken taken' ≤ input_limit → Rose faults faults' →
-    CommandMeets c (record {
+    TextMeets threads may (record {
       left = left;
       taken = taken;
       read_faults = faults;
@@ -287,7 +290,7 @@ pub read-fault-meets : (c : Command) (left left' : Option (List ℕ)) (taken tak
     })
     (record { left = left'; taken = taken'; read_faults = faults'; written = written; write_faults = write_faults })
     status.ReadFault
-read-fault-meets c left left' taken taken' faults faults' written write_faults short rose = record {
+read-fault-meets threads may some left left' taken taken' faults faults' written write_faults short rose = record {
   not_usage = λ e. absurd cc;
   done = λ e. absurd cc;
   bad_input = λ e. absurd cc;
@@ -295,22 +298,22 @@ read-fault-meets c left left' taken taken' faults faults' written write_faults s
   long_told = λ more. absurd (omega (arith, more, short));
   read_fault = λ e. (rose, keeps-same written);
   write_fault = λ e. absurd cc;
-  part = λ few stopped. nothing-part c left written;
+  part = λ few stopped. nothing-part threads may some left written;
   complete = λ bytes t given few text. inr (inr (inl (refl, rose)));
   refused = λ bytes given few none. inr (inr (inl (refl, rose)));
   faulty = λ bytes fault given few f. inr (inr (inl (refl, rose)));
   at_most = omega (arith, short);
 }
 
--- The promise for a command whose input is too long.
-pub long-meets : (c : Command) (before after : Streams) (r : Status) → (r ≡ status.TooLong) ⊎ (r ≡ status.WriteFault) →
+-- The promise for an input that is too long.
+pub long-meets : (threads : Bool) (may : List ℕ → Source → List ℕ → Type 0) (before after : Streams) (r : Status) → (r ≡ status.TooLong) ⊎ (r ≡ status.WriteFault) →
     (r ≡ status.TooLong → Appends before.written after.written long_line)
     → (r ≡ status.WriteFault → AppendsPart before.written after.written long_line) →
     (r ≡ status.WriteFault → Rose before.write_faults after.write_faults) → input_limit < rise before.taken after.taken
     → rise before.taken after.taken ≤ input_limit + 1 →
     ((bytes : List ℕ) → before.left ≡ Some bytes → rise before.taken after.taken ≤ length bytes)
-    → CommandMeets c before after r
-long-meets c before after r answers all part rose long most told =
+    → TextMeets threads may before after r
+long-meets threads may before after r answers all part rose long most told =
     let not : (s : Status) → (status.TooLong ≡ s → ⊥) → (status.WriteFault ≡ s → ⊥) → r ≡ s → ⊥ =
     λ s one other e. elim answers [ inl is ↦ one (sym is ∙ e) | inr is ↦ other (sym is ∙ e) ] in
     let short : (bytes : List ℕ) → before.left ≡ Some bytes → length bytes ≤ input_limit → ⊥ =
@@ -330,18 +333,18 @@ long-meets c before after r answers all part rose long most told =
       at_most = most;
     }
 
--- The promise for a command that read the whole input.
-pub read-meets : (c : Command) (before after : Streams) (r : Status) (bytes : List ℕ)
+-- The promise for an input that was read whole.
+pub read-meets : (threads : Bool) (may : List ℕ → Source → List ℕ → Type 0) (before after : Streams) (r : Status) (bytes : List ℕ)
     → Consumes before.left after.left bytes → IsAtEnd after.left → length bytes ≤ input_limit →
-    rise before.taken after.taken ≡ length bytes → (r ≡ status.Done → WritesOutput c before after bytes)
-    → (r ≡ status.BadInput → WritesFault c before after bytes) →
-    ((r ≡ status.WriteFault) ⊎ (r ≡ status.NoMemory) → WritesPart c bytes before.written after.written)
+    rise before.taken after.taken ≡ length bytes → (r ≡ status.Done → WritesOutput threads may before after bytes)
+    → (r ≡ status.BadInput → WritesFault threads before after bytes) →
+    ((r ≡ status.WriteFault) ⊎ (r ≡ status.NoMemory) → WritesPart threads may bytes before.written after.written)
     → (r ≡ status.WriteFault → Rose before.write_faults after.write_faults) →
-    (r ≢ status.Usage) × (r ≢ status.ReadFault) × (r ≢ status.TooLong) → CommandMeets c before after r
-read-meets c before after r bytes consumed end few taken done bad part rose others =
+    (r ≢ status.Usage) × (r ≢ status.ReadFault) × (r ≢ status.TooLong) → TextMeets threads may before after r
+read-meets threads may before after r bytes consumed end few taken done bad part rose others =
     let Done' : List ℕ → Type 0 = λ bs. IsAtEnd after.left × (length bs ≤ input_limit)
-    × WritesOutput c before after bs in
-    let Bad' : List ℕ → Type 0 = λ bs. IsAtEnd after.left × (length bs ≤ input_limit) × WritesFault c before after bs in
+    × WritesOutput threads may before after bs in
+    let Bad' : List ℕ → Type 0 = λ bs. IsAtEnd after.left × (length bs ≤ input_limit) × WritesFault threads before after bs in
     let is_done : r ≡ status.Done → IfSome before.left Done' =
     λ e. Consumes-whole _ _ bytes Done' consumed end (end, few, done e) in
     let is_bad : r ≡ status.BadInput → IfSome before.left Bad' =
@@ -349,8 +352,8 @@ read-meets c before after r bytes consumed end few taken done bad part rose othe
     let is_long : r ≡ status.TooLong → (input_limit < rise before.taken after.taken) × ⊥ = λ e. absurd (others.2 e) in
     let is_read : r ≡ status.ReadFault → Rose before.read_faults after.read_faults × ⊥ = λ e. absurd (others.1 e) in
     let short : rise before.taken after.taken ≤ input_limit = omega (arith, taken, few) in
-    let refuses : (bs : List ℕ) → before.left ≡ Some bs → IsNoText (has_threads c) bs → (r ≡ status.BadInput) ⊎ HasFailed before after r = λ bs given none.
-    other-answers (has_threads c) r before.left Done' (rise before.taken after.taken) input_limit bs
+    let refuses : (bs : List ℕ) → before.left ≡ Some bs → IsNoText threads bs → (r ≡ status.BadInput) ⊎ HasFailed before after r = λ bs given none.
+    other-answers threads r before.left Done' (rise before.taken after.taken) input_limit bs
     (λ xs h. (h.2.0, h.2.1)) given short none others.0 is_done is_long is_read rose in
     record {
       not_usage = others.0;
@@ -360,13 +363,13 @@ read-meets c before after r bytes consumed end few taken done bad part rose othe
       long_told = λ more. absurd (omega (arith, more, short));
       read_fault = λ e. absurd (others.1 e);
       write_fault = rose;
-      part = λ s stopped. Consumes-whole _ _ bytes (λ bs. WritesPart c bs before.written after.written) consumed end
+      part = λ s stopped. Consumes-whole _ _ bytes (λ bs. WritesPart threads may bs before.written after.written) consumed end
           (part stopped);
-      complete = λ bs t given s text. text-answers (has_threads c) r before.left Bad' (rise before.taken after.taken)
+      complete = λ bs t given s text. text-answers threads r before.left Bad' (rise before.taken after.taken)
           input_limit bs t (λ xs h. h.2.0) given short text others.0 is_bad is_long is_read rose;
       refused = λ bs given s none. refuses bs given none;
-      faulty = λ bs fault given s f. fault-answers (has_threads c) r before.left Bad' before.written after.written bs
-          fault (λ xs h. h.2.1) given f is_bad (refuses bs given (faulty_is_no_text (has_threads c) bs fault f));
+      faulty = λ bs fault given s f. fault-answers threads r before.left Bad' before.written after.written bs
+          fault (λ xs h. h.2.1) given f is_bad (refuses bs given (faulty_is_no_text threads bs fault f));
       at_most = omega (arith, short);
     }
 
@@ -377,19 +380,18 @@ not-long r e long n is other more =
     elim (le_or_lt n input_limit) [ inl le ↦ le | inr lt ↦ absurd (other (let m = more lt in cc)) ]
 
 -- The output of a command that is done.
-pub done-says : {T : Type 0} (r : Result T Stop) (a z : Option (List ℕ)) (c : Command) (t : Source)
-    → run_status r ≡ status.Done → SaysOutput a z c t r →
-    (out : List ℕ) × IsOutput c (Some t) out × Appends a z out
-done-says (Ok x) a z c t e says = (says.0, says.1, says.2.all)
-done-says (Err stop.WriteFault) a z c t e says = absurd cc
-done-says (Err stop.NoMemory) a z c t e says = absurd cc
+pub done-says : {T : Type 0} (r : Result T Stop) (a z : Option (List ℕ)) (may : List ℕ → Type 0)
+    → run_status r ≡ status.Done → SaysOutput a z may r → (out : List ℕ) × may out × Appends a z out
+done-says (Ok x) a z may e says = (says.0, says.1, says.2.all)
+done-says (Err stop.WriteFault) a z may e says = absurd cc
+done-says (Err stop.NoMemory) a z may e says = absurd cc
 
 -- A part of the output of a command that stopped.
-pub stopped-says : {T : Type 0} (r : Result T Stop) (a z : Option (List ℕ)) (c : Command) (t : Source)
-    → (run_status r ≡ status.WriteFault) ⊎ (run_status r ≡ status.NoMemory) → SaysOutput a z c t r →
-    (out : List ℕ) × IsOutput c (Some t) out × AppendsPart a z out
-stopped-says (Ok x) a z c t e says = elim e [ inl e ↦ absurd cc | inr e ↦ absurd cc ]
-stopped-says (Err s) a z c t e says = (says.0, says.1, says.2.part)
+pub stopped-says : {T : Type 0} (r : Result T Stop) (a z : Option (List ℕ)) (may : List ℕ → Type 0)
+    → (run_status r ≡ status.WriteFault) ⊎ (run_status r ≡ status.NoMemory) → SaysOutput a z may r →
+    (out : List ℕ) × may out × AppendsPart a z out
+stopped-says (Ok x) a z may e says = elim e [ inl e ↦ absurd cc | inr e ↦ absurd cc ]
+stopped-says (Err s) a z may e says = (says.0, says.1, says.2.part)
 
 -- The count of failed writes of a command.
 pub rose-after : {T : Type 0} (r : Result T Stop) (before now : ℕ) → run_status r ≡ status.WriteFault
@@ -418,22 +420,22 @@ leaves o c r asks keeps refused not_usage h = elim h [
   ]
 ]
 
--- The promise for a command whose input was parsed.
-pub parsed-meets : {T : Type 0} (c : Command) (threads : Bool) → has_threads c ≡ threads
-    → (before middle : Streams) (input : Input) (r : Result T Stop) (written : Option (List ℕ)) (faults : ℕ)
-    → (h : ReadsInput threads before middle input) →
-    ((t : Source) → IsText threads h.bytes t → SaysOutput middle.written written c t r)
+-- The promise for an input that was parsed.
+pub parsed-meets : {T : Type 0} (threads : Bool) (may : List ℕ → Source → List ℕ → Type 0) (before middle : Streams)
+    (bytes : List ℕ) (input : Input) (r : Result T Stop) (written : Option (List ℕ)) (faults : ℕ)
+    → (h : ReadsInput threads before middle bytes input) →
+    ((t : Source) → IsText threads bytes t → SaysOutput middle.written written (may bytes t) r)
     → FaultsAfter middle.write_faults faults r →
-    CommandMeets c before (record {
+    TextMeets threads may before (record {
       left = middle.left;
       taken = middle.taken;
       read_faults = middle.read_faults;
       written = written;
       write_faults = faults;
     }) (run_status r)
-parsed-meets c threads kind before middle input r written faults h says counted =
-    let said : (t : Source) → IsText threads h.bytes t → SaysOutput before.written written c t r =
-    λ t text. subst (λ o. SaysOutput o written c t r) h.written (says t text) in
+parsed-meets threads may before middle bytes input r written faults h says counted =
+    let said : (t : Source) → IsText threads bytes t → SaysOutput before.written written (may bytes t) r =
+    λ t text. subst (λ o. SaysOutput o written (may bytes t) r) h.written (says t text) in
     let after : Streams = record {
       left = middle.left;
       taken = middle.taken;
@@ -443,29 +445,78 @@ parsed-meets c threads kind before middle input r written faults h says counted 
     } in
     let others = run-others r in
     let read = h.parsed.read in
-    read-meets c before after (run_status r) h.bytes h.consumed h.end h.few h.taken
+    read-meets threads may before after (run_status r) bytes h.consumed h.end h.few h.taken
     (λ e. (
       read.source,
-      subst (λ b. IsText b h.bytes read.source) (sym kind) read.text,
-      done-says r before.written written c read.source e (said read.source read.text),
+      read.text,
+      done-says r before.written written (may bytes read.source) e (said read.source read.text),
     ))
     (λ e. absurd (others.3 e))
-    (λ e. text-part c h.bytes before.written written
-    (λ fault f. h.good fault (subst (λ b. IsFault b h.bytes fault) kind f))
-    (λ p t. stopped-says r before.written written c p e (said p (subst (λ b. IsText b h.bytes p) kind t))))
+    (λ e. text-part threads may bytes before.written written h.good
+    (λ p t. stopped-says r before.written written (may bytes p) e (said p t)))
     (λ e. rose-after r before.write_faults faults e (subst (λ n. FaultsAfter n faults r) h.faults counted))
     (others.0, others.1, others.2)
 
--- The promise for a command whose input was read but not parsed.
-pub refused-meets : (c : Command) (before after : Streams) (r : Result Input Status) (bytes items : List ℕ)
+-- A part of an output that `may` allows is a part of one that `or` allows, if `or` allows more.
+part-of-more : (threads : Bool) (may or : List ℕ → Source → List ℕ → Type 0)
+    → ((bytes : List ℕ) (t : Source) (out : List ℕ) → may bytes t out → or bytes t out) →
+    (bytes : List ℕ) (a z : Option (List ℕ)) → WritesPart threads may bytes a z → WritesPart threads or bytes a z
+part-of-more threads may or more bytes a z part = record {
+  lines = λ t text. let one = part.lines t text in (one.0, more bytes t one.0 one.1, one.2);
+  refusal = part.refusal;
+}
+
+if_some : {A : Type 0} {P Q : A → Type 0} (o : Option A) → ((x : A) → P x → Q x) → IfSome o P → IfSome o Q
+if_some None more h = tt
+if_some (Some x) more h = more x h
+
+-- What is promised for some outputs is promised for more.
+pub meets-more : (threads : Bool) (may or : List ℕ → Source → List ℕ → Type 0)
+    → ((bytes : List ℕ) (t : Source) (out : List ℕ) → may bytes t out → or bytes t out) →
+    (before after : Streams) (r : Status) → TextMeets threads may before after r → TextMeets threads or before after r
+meets-more threads may or more before after r h = record {
+  not_usage = h.not_usage;
+  done = λ e. if_some before.left (λ bytes d. (
+    d.0,
+    d.1,
+    let w = d.2 in (w.0, w.1, (w.2.0, more bytes w.0 w.2.0 w.2.1, w.2.2)),
+  )) (h.done e);
+  bad_input = h.bad_input;
+  too_long = h.too_long;
+  long_told = h.long_told;
+  read_fault = h.read_fault;
+  write_fault = h.write_fault;
+  part = λ few e. if_some before.left
+      (λ bytes. part-of-more threads may or more bytes before.written after.written) (h.part few e);
+  complete = h.complete;
+  refused = h.refused;
+  faulty = h.faulty;
+  at_most = h.at_most;
+}
+
+-- One output of a command for each source text.
+pub one-output : Command → List ℕ → Source → List ℕ
+one-output c bytes p = (some-output c p).0
+
+-- The promise for a command whose input was rejected.
+pub rejected-meets : (c : Command) (threads : Bool) → has_threads c ≡ threads → (before after : Streams) (r : Status)
+    → TextMeets threads (exactly (one-output c)) before after r → CommandMeets c before after r
+unfolding one-output
+rejected-meets c threads kind before after r h =
+    subst (λ b. TextMeets b (allowed_by c) before after r) (sym kind)
+    (meets-more threads (exactly (one-output c)) (allowed_by c)
+    (λ bytes t out is. subst (IsOutput c (Some t)) (sym is) (some-output c t).1) before after r h)
+
+-- The promise for an input that was read but not parsed.
+pub refused-meets : {T : Type 0} (threads : Bool) (may : List ℕ → Source → List ℕ → Type 0) (before after : Streams) (r : Result T Status) (bytes items : List ℕ)
     → bytes ≡ items → Consumes before.left after.left items → IsAtEnd after.left → length items ≤ input_limit →
-    rise before.taken after.taken ≡ length items → (r ≡ Err status.BadInput → WritesFault c before after bytes) →
-    ((r ≡ Err status.WriteFault) ⊎ (r ≡ Err status.NoMemory) → WritesPart c bytes before.written after.written)
+    rise before.taken after.taken ≡ length items → (r ≡ Err status.BadInput → WritesFault threads before after bytes) →
+    ((r ≡ Err status.WriteFault) ⊎ (r ≡ Err status.NoMemory) → WritesPart threads may bytes before.written after.written)
     → (r ≡ Err status.WriteFault → Rose before.write_faults after.write_faults) →
-    IfErr r IsRefusal → IfErr r (CommandMeets c before after)
-refused-meets c before after (Ok x) bytes items same consumed end few taken bad part rose others = tt
-refused-meets c before after (Err s) bytes items same consumed end few taken bad part rose others =
-    read-meets c before after s bytes (subst (Consumes before.left after.left) (sym same) consumed) end
+    IfErr r IsRefusal → IfErr r (TextMeets threads may before after)
+refused-meets threads may before after (Ok x) bytes items same consumed end few taken bad part rose others = tt
+refused-meets threads may before after (Err s) bytes items same consumed end few taken bad part rose others =
+    read-meets threads may before after s bytes (subst (Consumes before.left after.left) (sym same) consumed) end
     (subst (λ l. length l ≤ input_limit) (sym same) few) (taken ∙ ap (λ l. length l) (sym same))
     (λ e. absurd (subst IsRefusal e others)) (λ e. bad (ap Err e))
     (λ e. part (elim e [ inl a ↦ inl (ap Err a) | inr b ↦ inr (ap Err b) ])) (λ e. rose (ap Err e)) (
@@ -475,29 +526,22 @@ refused-meets c before after (Err s) bytes items same consumed end few taken bad
     )
 
 -- The input that was parsed.
-pub parsed-input : (threads : Bool) (before after : Streams) (r : Result Input Status) (bytes items : List ℕ)
+pub parsed-input : (threads : Bool) (before after : Streams) (input : Input) (bytes items : List ℕ)
     → bytes ≡ items → Consumes before.left after.left items → IsAtEnd after.left → length items ≤ input_limit →
-    rise before.taken after.taken ≡ length items → IfOk r (λ input. IsInput threads bytes input)
-    → OnOk r ((fault : Fault) → IsFault threads bytes fault → ⊥) →
-    OnOk r ((after.written ≡ before.written) × (after.write_faults ≡ before.write_faults))
-    → IfOk r (ReadsInput threads before after)
-parsed-input threads before after (Err s) bytes items same consumed end few taken parsed good still = tt
-parsed-input threads before after (Ok input) bytes items same consumed end few taken parsed good still = record {
-  bytes = bytes;
-  consumed = subst (Consumes before.left after.left) (sym same) consumed;
+    rise before.taken after.taken ≡ length items → IsInput threads bytes input
+    → ((fault : Fault) → IsFault threads bytes fault → ⊥) →
+    (after.written ≡ before.written) × (after.write_faults ≡ before.write_faults)
+    → ReadsInput threads before after items input
+parsed-input threads before after input bytes items same consumed end few taken parsed good still = record {
+  consumed = consumed;
   end = end;
-  few = subst (λ l. length l ≤ input_limit) (sym same) few;
-  taken = taken ∙ ap (λ l. length l) (sym same);
-  parsed = parsed;
-  good = good;
+  few = few;
+  taken = taken;
+  parsed = subst (λ bs. IsInput threads bs input) same parsed;
+  good = subst (λ bs. (fault : Fault) → IsFault threads bs fault → ⊥) same good;
   written = still.0;
   faults = still.1;
 }
-
--- Such an input is not done.
-pub not-done : (r : Result Input Status) → IfErr r IsRefusal → r ≢ Err status.Done
-not-done (Ok x) h e = absurd cc
-not-done (Err s) h e = let same : s ≡ status.Done = cc in absurd (subst IsRefusal same h)
 
 GeneratedMeets : Command → Streams → Streams → Status → Type 0
 GeneratedMeets (Run flags) before after r = Unit {0}

@@ -1,13 +1,11 @@
 -- Internal: what a command writes for a source text, and the status that it returns.
-use Rattle.std.specs.Prelude.{◌≡◌, ◌≤◌, ℕ, Bool, List, length, Option, Some, Result, Ok, Err}
+use Rattle.std.specs.Prelude.{◌≡◌, ◌≤◌, ℕ, Bool, List, length, Option, Result, Ok, Err}
 use Rattle.std.specs.Io.KnownBytes.{Consumes, IsAtEnd}
 use Rattle.rt_streams.specs.Streams.{rise}
-use Rattle.lang_forms.specs.Sources.{Source}
-use Rattle.play_args.specs.declared.command.Command.{Command}
 use Rattle.play_run.specs.RunPromise.{WritesBytes}
 use Rattle.play_run.specs.declared.write_lines.Stop.{Stop}
 use Rattle.play_run.specs.declared.write_lines.Stop.TheVariants as stop
-use Rattle.play_core.specs.Texts.{IsInput, IsOutput, input_limit}
+use Rattle.play_core.specs.Texts.{IsInput, input_limit}
 use Rattle.play_core.specs.Faults.{IsFault}
 use Rattle.play_core.specs.Promise.{Streams}
 use Rattle.play_core.specs.declared.fault.Fault.{Fault}
@@ -15,10 +13,9 @@ use Rattle.play_core.specs.declared.text.Input.{Input}
 use Rattle.play_core.specs.declared.top.Status.{Status}
 use Rattle.play_core.specs.declared.top.Status.TheVariants as status
 
--- An output of the command on the source text was written, or a first part of it.
-abbrev pub SaysOutput : {T E : Type 0} → Option (List ℕ) → Option (List ℕ) → Command → Source → Result T E → Type 0
-SaysOutput before now command t result =
-    (out : List ℕ) × IsOutput command (Some t) out × WritesBytes before now out result
+-- An output that `may` allows was written, or a first part of it.
+abbrev pub SaysOutput : {T E : Type 0} → Option (List ℕ) → Option (List ℕ) → (List ℕ → Type 0) → Result T E → Type 0
+SaysOutput before now may result = (out : List ℕ) × may out × WritesBytes before now out result
 
 -- The status of a command on a source text.
 abbrev pub run_status : {T : Type 0} → Result T Stop → Status
@@ -36,9 +33,8 @@ IsRefusal status.Usage = ⊥
 IsRefusal status.ReadFault = ⊥
 IsRefusal status.TooLong = ⊥
 
--- The whole source was read and parsed as this input, and nothing was written.
-pub record ReadsInput (threads : Bool) (before after : Streams) (input : Input) : Type 0 where
-  pub bytes : List ℕ
+-- The whole source was read, gave these bytes and was parsed as this input, and nothing was written.
+pub record ReadsInput (threads : Bool) (before after : Streams) (bytes : List ℕ) (input : Input) : Type 0 where
   pub consumed : Consumes before.left after.left bytes
   pub end : IsAtEnd after.left
   pub few : length bytes ≤ input_limit

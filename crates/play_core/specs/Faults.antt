@@ -78,8 +78,9 @@ kind_word Actor = codes "actor"
 abbrev pub fault_line : Fault → List ℕ
 fault_line fault = line (codes "bad input: " ++ kind_word fault.kind ++ codes " at " ++ decimal fault.at)
 
--- A first part of what a command writes for the bytes was written: of its output, or of the line of their fault.
-pub record WritesPart (command : Command) (bytes : List ℕ) (before now : Option (List ℕ)) : Type 0 where
-  pub lines : (t : Source) → IsText (has_threads command) bytes t →
-      (out : List ℕ) × IsOutput command (Some t) out × AppendsPart before now out
-  pub refusal : (fault : Fault) → IsFault (has_threads command) bytes fault → AppendsPart before now (fault_line fault)
+-- A first part of what is written for the bytes was written: of an output that `may` allows for them and their source
+-- text, or of the line of their fault.
+pub record WritesPart (threads : Bool) (may : List ℕ → Source → List ℕ → Type 0) (bytes : List ℕ)
+    (before now : Option (List ℕ)) : Type 0 where
+  pub lines : (t : Source) → IsText threads bytes t → (out : List ℕ) × may bytes t out × AppendsPart before now out
+  pub refusal : (fault : Fault) → IsFault threads bytes fault → AppendsPart before now (fault_line fault)

@@ -1,5 +1,5 @@
 -- Trusted: the promise of `play`: what each status means, and when it comes.
-use Rattle.std.specs.Prelude.{◌≡◌, ◌≢◌, ◌⊎◌, ◌<◌, ◌≤◌, ◌+◌, ℕ, List, length, true, false, Option, Some, None, IfSome}
+use Rattle.std.specs.Prelude.{◌≡◌, ◌≢◌, ◌⊎◌, ◌<◌, ◌≤◌, ◌+◌, ℕ, List, length, Bool, true, false, Option, Some, None, IfSome}
 use Rattle.std.specs.Io.KnownBytes.{Appends, Keeps, IsAtEnd}
 use Rattle.rt_streams.specs.Streams.{Rose, AppendsPart, rise}
 use Rattle.lang_forms.specs.Sources.{Source}
@@ -48,30 +48,33 @@ HasFailed before after result =
     ⊎ (((result ≡ status.ReadFault) × Rose before.read_faults after.read_faults)
     ⊎ ((result ≡ status.WriteFault) × Rose before.write_faults after.write_faults))
 
--- The command wrote its output for the source text `bytes`.
-abbrev pub WritesOutput : Command → Streams → Streams → List ℕ → Type 0
-WritesOutput c before after bytes =
-    (t : Source) × IsText (has_threads c) bytes t
-    × ((out : List ℕ) × IsOutput c (Some t) out × Appends before.written after.written out)
+-- The bytes are a source text, and an output that `may` allows for both was written.
+abbrev pub WritesOutput : Bool → (List ℕ → Source → List ℕ → Type 0) → Streams → Streams → List ℕ → Type 0
+WritesOutput threads may before after bytes =
+    (t : Source) × IsText threads bytes t
+    × ((out : List ℕ) × may bytes t out × Appends before.written after.written out)
 
 -- The bytes are not a source text, and the line of their fault was written.
-abbrev pub WritesFault : Command → Streams → Streams → List ℕ → Type 0
-WritesFault c before after bytes =
-    IsNoText (has_threads c) bytes
-    × ((fault : Fault) × IsFault (has_threads c) bytes fault × Appends before.written after.written (fault_line fault))
+abbrev pub WritesFault : Bool → Streams → Streams → List ℕ → Type 0
+WritesFault threads before after bytes =
+    IsNoText threads bytes
+    × ((fault : Fault) × IsFault threads bytes fault × Appends before.written after.written (fault_line fault))
 
--- The promise for a command with an input: it ended with `result`, and the streams showed `before` at its start and
--- `after` at its end.
-pub record CommandMeets (c : Command) (before after : Streams) (result : Status) : Type 0 where
-  -- A command is never answered with the usage line.
+-- The promise for what reads an input: it ended with `result`, and the streams showed `before` at its start and `after`
+-- at its end. `threads`: whether each actor has snapshot names of its own. `may bytes t out`: whether `out` may be
+-- written for the source text `t` of the input `bytes`.
+pub record TextMeets (threads : Bool) (may : List ℕ → Source → List ℕ → Type 0) (before after : Streams)
+    (result : Status) : Type 0 where
+  -- An input is never answered with the usage line.
   pub not_usage : result ≢ status.Usage
-  -- Done: the whole input was read and is a source text, and the command's output was written.
+  -- Done: the whole input was read and is a source text, and an output for it was written.
   pub done : result ≡ status.Done →
       IfSome before.left (λ bytes.
-      IsAtEnd after.left × (length bytes ≤ input_limit) × WritesOutput c before after bytes)
+      IsAtEnd after.left × (length bytes ≤ input_limit) × WritesOutput threads may before after bytes)
   -- BadInput: the whole input was read and is not a source text, and the line of its fault was written.
   pub bad_input : result ≡ status.BadInput →
-      IfSome before.left (λ bytes. IsAtEnd after.left × (length bytes ≤ input_limit) × WritesFault c before after bytes)
+      IfSome before.left (λ bytes.
+      IsAtEnd after.left × (length bytes ≤ input_limit) × WritesFault threads before after bytes)
   -- TooLong: more than `input_limit` bytes were taken, and the line for it was written.
   pub too_long : result ≡ status.TooLong →
       (input_limit < rise before.taken after.taken) × Appends before.written after.written long_line
@@ -84,27 +87,38 @@ pub record CommandMeets (c : Command) (before after : Streams) (result : Status)
       Rose before.read_faults after.read_faults × Keeps before.written after.written
   -- WriteFault: a write failed.
   pub write_fault : result ≡ status.WriteFault → Rose before.write_faults after.write_faults
-  -- WriteFault or NoMemory, if the input is not too long: a first part of what the command writes for the input was
-  -- written.
+  -- WriteFault or NoMemory, if the input is not too long: a first part of what is written for the input was written.
   pub part : rise before.taken after.taken ≤ input_limit →
       (result ≡ status.WriteFault) ⊎ (result ≡ status.NoMemory) →
-      IfSome before.left (λ bytes. WritesPart c bytes before.written after.written)
+      IfSome before.left (λ bytes. WritesPart threads may bytes before.written after.written)
   -- A source text within the limit is done, unless the call failed.
   pub complete : (bytes : List ℕ) (t : Source) → before.left ≡ Some bytes → length bytes ≤ input_limit →
-      IsText (has_threads c) bytes t →
+      IsText threads bytes t →
       (result ≡ status.Done) ⊎ HasFailed before after result
   -- Other bytes within the limit are rejected, unless the call failed.
   pub refused : (bytes : List ℕ) → before.left ≡ Some bytes → length bytes ≤ input_limit →
-      IsNoText (has_threads c) bytes →
+      IsNoText threads bytes →
       (result ≡ status.BadInput) ⊎ HasFailed before after result
   -- Bytes within the limit that have a fault are rejected with exactly the line of that fault, unless the call
   -- failed.
   pub faulty : (bytes : List ℕ) (fault : Fault) → before.left ≡ Some bytes → length bytes ≤ input_limit →
-      IsFault (has_threads c) bytes fault →
+      IsFault threads bytes fault →
       ((result ≡ status.BadInput) × Appends before.written after.written (fault_line fault))
       ⊎ HasFailed before after result
   -- At most one byte more than the limit is taken from the source.
   pub at_most : rise before.taken after.taken ≤ input_limit + 1
+
+-- Exactly this output is written for each source text.
+abbrev pub exactly : (List ℕ → Source → List ℕ) → List ℕ → Source → List ℕ → Type 0
+exactly output bytes t out = out ≡ output bytes t
+
+-- What a command may write for a source text.
+abbrev pub allowed_by : Command → List ℕ → Source → List ℕ → Type 0
+allowed_by c bytes t out = IsOutput c (Some t) out
+
+-- The promise for a command with an input.
+abbrev pub CommandMeets : Command → Streams → Streams → Status → Type 0
+CommandMeets c before after result = TextMeets (has_threads c) (allowed_by c) before after result
 
 -- The promise for `gen`, which reads nothing.
 pub record GenMeets (number size : ℕ) (before after : Streams) (result : Status) : Type 0 where

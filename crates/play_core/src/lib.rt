@@ -24,4 +24,4 @@ pub use fault_laws::{
     parsed_programs_are_numbered, threads_output_tells_its_history,
 };
 pub use text::{Input, TextEnd, parse_input};
-pub use top::{Status, play, play_alone};
+pub use top::{Status, play, play_alone, read_input, status_of};

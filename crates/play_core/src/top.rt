@@ -6,11 +6,10 @@ ghost use Rattle.lang_forms.specs.Sources.{Source as source_data};
 ghost use Rattle.snap_api.specs.World.{start};
 ghost use Rattle.script_lang.specs.declared.flags.Flags.{Flags as flags_data};
 ghost use Rattle.play_args.specs.CommandWords.{command_of_args, texts};
-ghost use Rattle.play_args.specs.declared.command.Command.{Command as command_data};
 ghost use Rattle.play_core.specs.CommandOutput.{SaysOutput, run_status, IsRefusal, ReadsInput};
 ghost use Rattle.play_core.specs.Texts.{IsText, IsInput, IsNoText, IsOutput, has_threads, has_input, gen_output, usage_line, long_line, input_limit};
 ghost use Rattle.play_core.specs.Faults.{IsFault, WritesPart, fault_line};
-ghost use Rattle.play_core.specs.Promise.{streams, CommandMeets, IsUsage, GenMeets, PlayMeets, NeedsNoInput, KeepsWorld, LeavesWorld, LogsText, LogsCommand, StopsText, StopsCommand};
+ghost use Rattle.play_core.specs.Promise.{streams, TextMeets, exactly, CommandMeets, IsUsage, GenMeets, PlayMeets, NeedsNoInput, KeepsWorld, LeavesWorld, LogsText, LogsCommand, StopsText, StopsCommand};
 ghost use Rattle.play_core.specs.declared.fault.Fault.{Fault as fault_data};
 ghost use Rattle.play_run.specs.RunPromise.{FaultsAfter};
 
@@ -95,7 +94,7 @@ fn do_command<V: Versions<P = BuiltIn>, K: Sink>(
     requires alone { has_threads command ≡ false }
     requires reads { has_input command ≡ true }
     ensures says { (bytes : List ℕ) (t : source_data) → IsInput false bytes input → IsText false bytes t →
-        SaysOutput (K.written sink.old) (K.written sink.new) command t result }
+        SaysOutput (K.written sink.old) (K.written sink.new) (IsOutput command (Some t)) result }
     ensures faults { FaultsAfter (K.faults sink.old) (K.faults sink.new) result }
     ensures world { KeepsWorld command → world.new ≡ world.old }
     ensures log { (bytes : List ℕ) (t : source_data) (flags : flags_data) → command ≡ Command.Run flags →
@@ -116,8 +115,8 @@ fn do_command<V: Versions<P = BuiltIn>, K: Sink>(
     }
 }
 
-// Returns the status of a command on a source text.
-fn status_of(end: Result<(), Stop>) -> Status
+/// Returns the status of a run that ended so. A rule of this project.
+pub fn status_of(end: Result<(), Stop>) -> Status
     ensures { result ≡ run_status end }
 {
     match end {
@@ -140,9 +139,9 @@ fn parse_or_refuse<K: Sink>(
     ensures bad_input { result ≡ Err Status.BadInput → IsNoText threads bytes.now ×
         ((fault : fault_data) × IsFault threads bytes.now fault ×
         Appends (K.written sink.old) (K.written sink.new) (fault_line fault)) }
-    ensures part { (c : command_data) → has_threads c ≡ threads →
+    ensures part { (output : List ℕ → source_data → List ℕ) →
         (result ≡ Err Status.WriteFault) ⊎ (result ≡ Err Status.NoMemory) →
-        WritesPart c bytes.now (K.written sink.old) (K.written sink.new) }
+        WritesPart threads (exactly output) bytes.now (K.written sink.old) (K.written sink.new) }
     ensures write_fault { result ≡ Err Status.WriteFault → Rose (K.faults sink.old) (K.faults sink.new) }
     ensures clean { result ≢ Err Status.WriteFault → K.faults sink.new ≡ K.faults sink.old }
     ensures others { IfErr result IsRefusal }
@@ -154,18 +153,20 @@ fn parse_or_refuse<K: Sink>(
     }
 }
 
-// Reads and parses the source. If that fails, writes the line of the failure, if it has one, and returns its status.
-fn read_input<S: Source, K: Sink>(
+/// Reads and parses the source. Returns its bytes and the input that they are. If that fails, writes the line of the
+/// failure, if it has one, and returns its status. `threads`: whether each actor has a thread and snapshot names of its
+/// own. A rule of this project.
+pub fn read_input<S: Source, K: Sink>(
     alloc: Global,
     threads: bool,
     source: &mut S,
     sink: &mut K,
-) -> Result<Input, Status>
+) -> Result<(Vec<u8>, Input), Status>
     ensures failed { let shown = streams S.left S.taken S.faults K.written K.faults in
-        (c : command_data) → has_threads c ≡ threads →
-        IfErr result (CommandMeets c (shown source.old sink.old) (shown source.new sink.new)) }
+        (output : List ℕ → source_data → List ℕ) →
+        IfErr result (TextMeets threads (exactly output) (shown source.old sink.old) (shown source.new sink.new)) }
     ensures parsed { let shown = streams S.left S.taken S.faults K.written K.faults in
-        IfOk result (ReadsInput threads (shown source.old sink.old) (shown source.new sink.new)) }
+        IfOk result (λ r. ReadsInput threads (shown source.old sink.old) (shown source.new sink.new) r.0.items r.1) }
     ensures undone { result ≢ Err Status.Done }
     ensures reads { result ≢ Err Status.ReadFault → S.faults source.new ≡ S.faults source.old }
     ensures clean { result ≢ Err Status.WriteFault → K.faults sink.new ≡ K.faults sink.old }
@@ -174,7 +175,10 @@ fn read_input<S: Source, K: Sink>(
         Err(ReadStop::NoMemory) => Err(Status::NoMemory),
         Err(ReadStop::ReadFault) => Err(Status::ReadFault),
         Err(ReadStop::TooLong) => Err(write_status_line(sink, b"too long\n", Status::TooLong)),
-        Ok(bytes) => parse_or_refuse(alloc, threads, &bytes, sink),
+        Ok(bytes) => match parse_or_refuse(alloc, threads, &bytes, sink) {
+            Ok(input) => Ok((bytes, input)),
+            Err(status) => Err(status),
+        },
     }
 }
 
@@ -205,7 +209,10 @@ fn play_input<V: Versions<P = BuiltIn>, S: Source, K: Sink>(
         StopsText flags t (V.log world.old) (V.log world.new) (K.written sink.old) (K.written sink.new)) }
 {
     match read_input(alloc, false, source, sink) {
-        Ok(input) => status_of(do_command(alloc, command, world, input, sink)),
+        Ok((bytes, input)) => {
+            drop(bytes);
+            status_of(do_command(alloc, command, world, input, sink))
+        }
         Err(status) => status,
     }
 }
@@ -225,7 +232,10 @@ fn play_threads<R: Threads + Wait + Sync, S: Source, K: Sink, G: Gate + Sync>(
     ensures clean { result ≢ Status.WriteFault → K.faults sink.new ≡ K.faults sink.old }
 {
     match read_input(alloc, true, source, sink) {
-        Ok(input) => status_of(run_threads(rt, alloc, &input.job, flags, gate, sink)),
+        Ok((bytes, input)) => {
+            drop(bytes);
+            status_of(run_threads(rt, alloc, &input.job, flags, gate, sink))
+        }
         Err(status) => status,
     }
 }

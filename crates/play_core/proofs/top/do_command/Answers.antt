@@ -1,8 +1,8 @@
-use Rattle.std.proofs.Common.{refl, sym, ap, ◌∙◌, subst, ◌≡◌, OnErr}
+use Rattle.std.proofs.Common.{refl, sym, ap, ◌∙◌, subst, ◌≡◌, OnErr, Some}
 use Rattle.sexp_text.specs.Layout.{lines}
 use Rattle.sexp_text.specs.View.{forest_view}
 use Rattle.play_core.specs.CommandOutput.{SaysOutput}
-use Rattle.play_core.specs.Texts.{run_output, check_output}
+use Rattle.play_core.specs.Texts.{IsOutput, run_output, check_output}
 use Rattle.play_core.proofs.TreeLines.{check-is}
 use Rattle.play_core.proofs.Plays.{run-is, logs-is, stops-is}
 use Rattle.play_run.proofs.Written.{says_same}
@@ -15,8 +15,8 @@ use Rattle.play_core.proofs.top.do_command.Goals as goal
 
 pub returns-in-Run-clause-says : goal.returns-in-Run-clause-says
 returns-in-Run-clause-says g c bytes p read text =
-    subst (λ k. SaysOutput (g.K.Sink.written c.args.sink.now) (g.K.Sink.written c.run_script.new.sink) k p
-    c.run_script.result) (sym c.in-Run.is) (
+    subst (λ k. SaysOutput (g.K.Sink.written c.args.sink.now) (g.K.Sink.written c.run_script.new.sink)
+    (IsOutput k (Some p)) c.run_script.result) (sym c.in-Run.is) (
       run_output c.in-Run.flags p,
       refl,
       says_same _ _ _ _ _ (run-is c.in-Run.flags read.read p text) c.run_script.ensures.says,
@@ -24,8 +24,8 @@ returns-in-Run-clause-says g c bytes p read text =
 
 pub returns-in-Check-clause-says : goal.returns-in-Check-clause-says
 returns-in-Check-clause-says g c bytes p read text =
-    subst (λ k. SaysOutput (g.K.Sink.written c.args.sink.now) (g.K.Sink.written c.write_canonical.new.sink) k p
-    c.write_canonical.result) (sym c.in-Check.is) (
+    subst (λ k. SaysOutput (g.K.Sink.written c.args.sink.now) (g.K.Sink.written c.write_canonical.new.sink)
+    (IsOutput k (Some p)) c.write_canonical.result) (sym c.in-Check.is) (
       check_output p,
       refl,
       says_same _ _ _ _ _

@@ -1,6 +1,6 @@
-use Rattle.std.proofs.Common.{◌≡◌, ◌⊎◌, ap, sym, subst, Some, Err, inl, inr}
+use Rattle.std.proofs.Common.{◌≡◌, ◌⊎◌, ap, refl, Some, Err, inl, inr}
 use Rattle.play_core.specs.Faults.{IsFault}
-use Rattle.play_core.specs.Texts.{IsNoText, has_threads}
+use Rattle.play_core.specs.Promise.{exactly}
 use Rattle.play_core.specs.declared.fault.Fault.{Fault}
 use Rattle.play_core.specs.declared.top.Status.TheVariants as status
 use Rattle.play_core.proofs.Plays.{nothing-part, refused-part}
@@ -16,17 +16,18 @@ returns-in-Err-Bad-clause-bad_input g c e =
     (why.0, (c.in-Err-Bad.fault, why.1, c.refuse.ensures.all is))
 
 pub returns-in-Err-Bad-clause-part : goal.returns-in-Err-Bad-clause-part
-returns-in-Err-Bad-clause-part g c k threads e =
+returns-in-Err-Bad-clause-part g c output e =
     let why = c.in-Err-Bad.ensures.bad c.in-Err-Bad.fault (ap Err c.in-Err-Bad.field-0-is) in
-    let one : (other : Fault) → IsFault (has_threads k) c.args.bytes.now other → other ≡ c.in-Err-Bad.fault = λ other f.
-    elim (c.in-Err-Bad.ensures.told other (subst (λ b. IsFault b c.args.bytes.now other) threads f)) [
+    let one : (other : Fault) → IsFault c.args.threads c.args.bytes.now other → other ≡ c.in-Err-Bad.fault = λ other f.
+    elim (c.in-Err-Bad.ensures.told other f) [
       | inl a ↦ cc
       | inr b ↦ absurd cc
     ] in
     let stopped : (c.refuse.result ≡ status.WriteFault) ⊎ (c.refuse.result ≡ status.NoMemory) =
     elim e [ inl a ↦ inl cc | inr b ↦ inr cc ] in
-    refused-part k c.args.bytes.now c.in-Err-Bad.fault _ _
-    (subst (λ b. IsNoText b c.args.bytes.now) (sym threads) why.0) one (c.refuse.ensures.part stopped)
+    refused-part c.args.threads (exactly output) c.args.bytes.now c.in-Err-Bad.fault _ _ why.0 one
+    (c.refuse.ensures.part stopped)
 
 pub returns-in-Err-NoMemory-clause-part : goal.returns-in-Err-NoMemory-clause-part
-returns-in-Err-NoMemory-clause-part g c k threads e = nothing-part k (Some c.args.bytes.now) _
+returns-in-Err-NoMemory-clause-part g c output e =
+    nothing-part c.args.threads (exactly output) (λ bytes p. (output bytes p, refl)) (Some c.args.bytes.now) _

@@ -1,15 +1,17 @@
 use Rattle.std.proofs.Common.{Some, sym, ap, ◌∙◌, arith, refl, inr}
 use Rattle.rt_streams.proofs.Parts.{part-none}
 use Rattle.play_args.specs.CommandWords.{command_of_args, texts}
-use Rattle.play_core.specs.Promise.{streams}
-use Rattle.play_core.proofs.Plays.{memory-meets, generated-meets, keeps-same, unlogged-texts}
+use Rattle.play_core.specs.Texts.{has_threads}
+use Rattle.play_core.specs.Promise.{streams, allowed_by}
+use Rattle.play_core.proofs.Plays.{some-output, memory-meets, generated-meets, keeps-same, unlogged-texts}
 use Rattle.play_core.proofs.Sizes.{size_fits}
 use Rattle.play_core.proofs.top.play_alone.Goals as goal
 
 pub returns-in-Err-clause-meets : goal.returns-in-Err-clause-meets
 returns-in-Err-clause-meets g c = record {
   no_command = λ none. inr (refl, keeps-same _);
-  command = λ k told needs. memory-meets k _ _ _ _ _ _ _ _ (omega arith);
+  command = λ k told needs. memory-meets (has_threads k) (allowed_by k) (λ bytes p. some-output k p) _ _ _ _ _ _ _ _
+      (omega arith);
   generated = λ number size told. record {
     answers = inr (inr refl);
     done = λ e. absurd cc;

@@ -1,8 +1,8 @@
 use Rattle.std.proofs.Common.{true, refl, sym, subst}
-use Rattle.play_core.specs.Promise.{streams, CommandMeets}
+use Rattle.play_core.specs.Promise.{streams, CommandMeets, allowed_by}
 use Rattle.play_core.specs.declared.top.Status.{Status}
 use Rattle.play_args.specs.declared.command.Command.TheVariants.{Threads}
-use Rattle.play_core.proofs.Plays.{parsed-meets, woven-is}
+use Rattle.play_core.proofs.Plays.{one-output, parsed-meets, rejected-meets, woven-is}
 use Rattle.play_core.proofs.top.play_threads.Goals as goal
 
 pub returns-in-Ok-clause-meets : goal.returns-in-Ok-clause-meets
@@ -14,9 +14,11 @@ returns-in-Ok-clause-meets g c =
     let said = c.run_threads.ensures.says in
     subst (λ (s : Status). CommandMeets (Threads c.args.flags) before
     (shown c.read_input.new.source c.run_threads.new.sink) s) (sym c.status_of.ensures)
-    (parsed-meets (Threads c.args.flags) true refl before middle c.in-Ok.input c.run_threads.result _ _ read
+    (parsed-meets true (allowed_by (Threads c.args.flags)) before middle c.in-Ok.bytes.items c.in-Ok.input c.run_threads.result _ _ read
     (λ t text. (said.0, woven-is c.args.flags read.parsed.read t text said.0 said.1, said.2))
     c.run_threads.ensures.faults)
 
 pub returns-in-Err-clause-meets : goal.returns-in-Err-clause-meets
-returns-in-Err-clause-meets g c = c.in-Err.ensures.failed (Threads c.args.flags) refl
+returns-in-Err-clause-meets g c =
+    rejected-meets (Threads c.args.flags) true refl _ _ c.in-Err.status
+    (c.in-Err.ensures.failed (one-output (Threads c.args.flags)))
