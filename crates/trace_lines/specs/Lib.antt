@@ -1,0 +1,3 @@
+pub mod TraceLines
+pub mod ProgramLine
+pub mod LineLaws
