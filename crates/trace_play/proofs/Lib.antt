@@ -1,0 +1,4 @@
+pub mod FrameLines
+pub mod CallSteps
+pub mod Histories
+pub mod Runs
