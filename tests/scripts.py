@@ -1,4 +1,5 @@
-"""Tests of the script compose_play with a stand-in for the command `rt`: without a proved program, with one, and --prove."""
+"""Tests of the scripts compose_play and compose_trace with a stand-in for the command `rt`: without a proved program, with one, and
+--prove."""
 import os
 import pty
 import re
@@ -11,14 +12,16 @@ import time
 TOP = os.path.dirname(os.path.dirname(os.path.abspath(__file__)))
 TOOLS = "awk bash cat dirname env find grep head kill mktemp mkdir readlink rm sed tail touch chmod printf date".split()
 
-# Two crates that may be proved side by side, one on both, and the program. A crate that the program does not need comes last.
+# Two crates that may be proved side by side, one on both, and the programs. A crate that no program needs comes last.
 CRATES = """# NAME: the crates that it depends on
 top: left right kit_crate
 left:
 right: kit_crate
 compose_play may_wait=1: top
+compose_trace: top
 tests_top: top
 """
+PROGRAMS = "compose_play", "compose_trace"
 
 # The stand-in logs its calls. `try` prints its arguments and its input, and ends as the file `tried` says. `lib` takes a
 # while, and fails for the crate that the file `failing` names. `run` makes a program that prints its arguments and input.
@@ -39,13 +42,13 @@ case $1 in
         ;;
     run)
         mkdir -p out
-        cat >out/compose_play <<'END'
+        cat >"out/$name" <<'END'
 #!/usr/bin/env bash
 printf 'proved %s\\n' "$@"
 cat
 exit 3
 END
-        chmod +x out/compose_play
+        chmod +x "out/$name"
         ;;
 esac
 echo "end $name $1" >>"$STAND_IN/calls"
@@ -70,12 +73,15 @@ class Checkout:
         self.tool("basename", '#!/usr/bin/env bash\necho "${1##*/}"\n')
         if has_rt:
             self.tool("rt", RT)
-        shutil.copy(os.path.join(TOP, "compose_play"), folder)
+        os.mkdir(os.path.join(folder, "tools"))
+        for script in *PROGRAMS, "tools/run_program":
+            shutil.copy(os.path.join(TOP, script), os.path.join(folder, script))
         self.file("crates.txt", CRATES)
         self.file("HANDLES", "Handles allowed: none.\n")
-        for crate in "top", "left", "right", "compose_play", "tests_top":
+        for crate in "top", "left", "right", "tests_top", *PROGRAMS:
             self.file("crates/%s/src/lib.rt" % crate, "\n")
-        self.file("crates/compose_play/stdin", "input\n")
+        for program in PROGRAMS:
+            self.file("crates/%s/stdin" % program, "input\n")
 
     def tool(self, name, text):
         self.file(os.path.join("bin", name), text)
@@ -97,10 +103,10 @@ class Checkout:
         os.remove(at)
         return lines
 
-    def run(self, *words, data="(compose 1)\n", stdin=None):
-        """Returns the status, standard output and standard error of the script."""
+    def run(self, *words, program="compose_play", data="(compose 1)\n", stdin=None):
+        """Returns the status, standard output and standard error of a script."""
         given = {"input": data} if stdin is None else {"stdin": stdin}
-        ran = subprocess.run([os.path.join(self.folder, "compose_play"), *words], capture_output=True, text=True, timeout=60,
+        ran = subprocess.run([os.path.join(self.folder, program), *words], capture_output=True, text=True, timeout=60,
                              env={"PATH": self.bin, "STAND_IN": self.stand_in, "HOME": self.folder}, **given)
         return ran.returncode, ran.stdout, ran.stderr
 
@@ -114,6 +120,7 @@ def test(tally):
         without_rt(Checkout(os.path.join(folder, "no_rt"), has_rt=False), fact)
         checkout = Checkout(os.path.join(folder, "rt"))
         unproved(checkout, fact)
+        unproved_trace(checkout, fact)
         progress(checkout, fact)
         proving_fails(checkout, fact)
         proving(checkout, fact)
@@ -151,6 +158,15 @@ def unproved(checkout, fact):
     checkout.calls()
 
 
+def unproved_trace(checkout, fact):
+    """Without a proved program compose_trace: its script reads the input without a word, and says its own name."""
+    got = checkout.run(program="compose_trace", data="x\ny")
+    fact("unproved trace", got[:2] == (0, "\nx\ny"), got)
+    fact("unproved trace, what is said", all(it.startswith("compose_trace: ") or it == NOTE[:-1] for it in got[2].splitlines())
+         and "./compose_trace --prove" in got[2], got)
+    fact("unproved trace, the calls of rt", checkout.calls() == ["begin compose_trace try"], "other calls")
+
+
 def progress(checkout, fact):
     """A long build says every 15 seconds how long it takes. The stand-in for `sleep` is asked for 15 seconds."""
     checkout.tool("sleep", '#!/usr/bin/env bash\necho "sleep $1" >>"$STAND_IN/calls"\nread -rt 0.1 <>"$STAND_IN/never"\ntrue\n')
@@ -175,37 +191,48 @@ def proving_fails(checkout, fact):
     fact("a crate without a proof", got[:2] == (1, "") and "no proof of right" in got[2]
          and "right could not be proved" in got[2], got)
     calls = checkout.calls()
-    fact("a crate without a proof, the crates above it", not any("top" in it or "compose_play" in it for it in calls), calls)
+    fact("a crate without a proof, the crates above it", not any("top" in it or "compose" in it for it in calls), calls)
     os.remove(os.path.join(checkout.stand_in, "failing"))
 
 
 def proving(checkout, fact):
-    """The crates that the program needs are proved in the order of their dependencies, and side by side."""
-    got = checkout.run("--prove")
+    """The crates that the programs need are proved in the order of their dependencies, and side by side."""
+    got = checkout.run("--prove", program="compose_trace")
     calls = checkout.calls()
     fact("--prove", got[:2] == (0, ""), got)
-    fact("--prove, each crate once", sorted(calls) == sorted("%s %s %s" % (at, crate, "run" if crate == "compose_play" else "lib")
-         for at in ("begin", "end") for crate in ("left", "right", "top", "compose_play")), calls)
+    fact("--prove, each crate once", sorted(calls) == sorted("%s %s %s" % (at, crate, "run" if crate in PROGRAMS else "lib")
+         for at in ("begin", "end") for crate in ("left", "right", "top", *PROGRAMS)), calls)
     fact("--prove, in order", calls.index("begin top lib") > max(calls.index("end left lib"), calls.index("end right lib"))
-         and calls.index("begin compose_play run") > calls.index("end top lib"), calls)
+         and min(calls.index("begin %s run" % program) for program in PROGRAMS) > calls.index("end top lib"), calls)
     most = int(re.search(r"at most (\d+) at a time", got[2]).group(1))
     together = calls.index("begin right lib") < calls.index("end left lib")
     fact("--prove, side by side", most in (1, 2) and together == (most == 2), got)
-    fact("--prove, what is said", "left is done" in got[2] and "running: top" in got[2] and "1 left after them" in got[2]
-         and "all 4 crates are proved" in got[2], got)
+    fact("--prove, what is said", "left is done" in got[2] and "running: top" in got[2] and "2 left after them" in got[2]
+         and "all 5 crates are proved" in got[2], got)
 
 
 def proved(checkout, fact):
     got = checkout.run("run", "a b", data="x\ny")
     fact("proved", got == (3, "proved run\nproved a b\nx\ny", ""), got)
-    got = checkout.run("--prove")
-    fact("--prove again", got[:2] == (0, "") and not checkout.calls(), got)
+    got = checkout.run(program="compose_trace", data="x\ny")
+    fact("proved trace", got == (3, "proved \nx\ny", ""), got)
+    for program in PROGRAMS:
+        got = checkout.run("--prove", program=program)
+        fact("%s --prove again" % program, got[:2] == (0, "") and not checkout.calls(), got)
     later = time.time() + 10
     os.utime(os.path.join(checkout.folder, "crates/tests_top/src/lib.rt"), (later, later))
     fact("proved, a changed test", checkout.run("run")[0] == 3, got)
     os.utime(os.path.join(checkout.folder, "crates/left/src/lib.rt"), (later, later))
     got = checkout.run("run")
     fact("proved, a changed source", got[:2] == (0, "run\n(compose 1)\n") and "unproved build" in got[2], got)
+    got = checkout.run(program="compose_trace")
+    fact("proved trace, a changed source", got[:2] == (0, "\n(compose 1)\n") and "unproved build" in got[2], got)
+    built = os.path.join(checkout.folder, "crates/compose_play/out/compose_play")
+    os.utime(built, (later + 10, later + 10))
+    fact("one of two programs is old", [checkout.run("run")[0], checkout.run(program="compose_trace")[0]] == [3, 0], got)
+    checkout.calls()
+    checkout.run("--prove")
+    fact("--prove of one of two programs", "begin compose_trace run" in checkout.calls(), got)
 
 
 class Failures:
