@@ -321,6 +321,35 @@ pub with_first : (xs : List ℕ) (b : Block) (bs : List Block)
 with_first xs b bs = sym (with_append xs (block_ids (b ∷ [])) (block_ids bs))
     ∙ ap (λ (l : List ℕ). with_ids xs (l ++ block_ids bs)) (append-nil (window 64 (64 * b.number) b.bits))
 
+pub with_only : (xs : List ℕ) → IsRising xs → with_ids [] xs ≡ xs
+with_only xs r = same_rising (with_ids [] xs) xs (rising-with_ids [] xs tt) r
+    (λ i h. sym (contains-with_ids i [] xs) ∙ h) (λ i h. contains-with_ids i [] xs ∙ h)
+
+pub no_blocks : AreBlocks []
+no_blocks = (tt, (λ n h. absurd (no h), λ n h. absurd (no h))) where
+  no : false ≡ true → ⊥
+  no k = cc
+
+-- The order in which ids are added makes no difference.
+pub with_swap : (xs ys zs : List ℕ) → IsRising xs → with_ids (with_ids xs ys) zs ≡ with_ids (with_ids xs zs) ys
+with_swap xs ys zs r = same_rising (with_ids (with_ids xs ys) zs) (with_ids (with_ids xs zs) ys)
+    (rising-with_ids (with_ids xs ys) zs (rising-with_ids xs ys r))
+    (rising-with_ids (with_ids xs zs) ys (rising-with_ids xs zs r))
+    (λ i h. sym (swapped i) ∙ h) (λ i h. swapped i ∙ h) where
+      or_swap : (a b c : Bool) → ((a || b) || c) ≡ ((a || c) || b)
+      or_swap true b c = refl
+      or_swap false true true = refl
+      or_swap false true false = refl
+      or_swap false false true = refl
+      or_swap false false false = refl
+
+      swapped : (i : ℕ) → contains i (with_ids (with_ids xs ys) zs) ≡ contains i (with_ids (with_ids xs zs) ys)
+      swapped i = contains-with_ids i (with_ids xs ys) zs
+          ∙ ap (λ t. t || contains i zs) (contains-with_ids i xs ys)
+          ∙ or_swap (contains i xs) (contains i ys) (contains i zs)
+          ∙ ap (λ t. t || contains i ys) (sym (contains-with_ids i xs zs))
+          ∙ sym (contains-with_ids i (with_ids xs zs) ys)
+
 -- ---- The ids of a block less.
 zero_bit : (x : ℕ) → x ≡ 0 → (x == 1) ≡ false
 zero_bit x h = ap (λ (y : ℕ). y == 1) h

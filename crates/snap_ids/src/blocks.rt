@@ -9,6 +9,7 @@ ghost use Rattle.snap_ids.specs.IdBlocks.{block_ids, numbers, bits_of, block_at,
 use crate::bits::{WIDTH, first_above, has_bit};
 use rt_values::NoMemory;
 use smallvec::SmallVec;
+use std::alloc::Global;
 
 /// A block of 64 ids. Its lowest bit is that of 64 times the number.
 #[derive(Clone, Copy, Default)]
@@ -206,6 +207,50 @@ pub fn add_all_reserved(blocks: &mut Blocks, others: &[Block])
         };
         rest = more;
     }
+}
+
+// Adds the first of the other blocks, those with numbers below `number`, and returns the rest of them.
+fn add_below<'a>(
+    blocks: &mut Blocks,
+    others: &'a [Block],
+    number: u64,
+) -> Result<&'a [Block], NoMemory>
+    requires sound { AreBlocks blocks.old.items }
+    requires others { AreBlocks others.now }
+    ensures ids { IfOk result (λ rest. with_ids (block_ids blocks.new.items) (block_ids rest.now)
+        ≡ with_ids (block_ids blocks.old.items) (block_ids others.now)) }
+    ensures rest { IfOk result (λ rest. AreBlocks rest.now) }
+    ensures sound { OnOk result (AreBlocks blocks.new.items) }
+{
+    let mut rest = others;
+    while let Some((block, more)) = rest.split_first() {
+        if block.number >= number {
+            return Ok(rest);
+        }
+        add_block(blocks, *block)?;
+        rest = more;
+    }
+    Ok(rest)
+}
+
+/// Returns the ids of both lists of blocks. Goes over each of them once.
+pub fn union(alloc: Global, first: &[Block], second: &[Block]) -> Result<Blocks, NoMemory>
+    requires first { AreBlocks first.now }
+    requires second { AreBlocks second.now }
+    ensures ids { IfOk result (λ all. block_ids all.items ≡ with_ids (block_ids first.now) (block_ids second.now)) }
+    ensures sound { IfOk result (λ all. AreBlocks all.items) }
+{
+    let mut all = SmallVec::with_capacity(alloc, first.len().max(second.len()))?;
+    let mut left = first;
+    let mut right = second;
+    while let Some((block, more)) = right.split_first() {
+        left = add_below(&mut all, left, block.number)?;
+        add_block(&mut all, *block)?;
+        right = more;
+    }
+    all.reserve(left.len())?;
+    add_all_reserved(&mut all, left);
+    Ok(all)
 }
 
 // Clears bits of the block at an index, and returns whether it has no bits any more.
