@@ -19,10 +19,11 @@ use Rattle.lang_ast.specs.declared.syntax.Operator.TheVariants as operator
 use Rattle.lang_limits.specs.Tokens.{fits}
 use Rattle.lang_forms.specs.Names.{is_name, all_fit, is_string, is_list_long, number_of}
 use Rattle.rt_values.specs.Keywords.{kind_word, type_word}
-use Rattle.lang_forms.specs.Words.{policy_word, operator_word, takes, type_for_word, policy_for_word, kind_for_word, number_operator, truth_operator, list_operator, operator_for_word}
+use Rattle.lang_forms.specs.Words.{operator_word, takes}
 use Rattle.lang_forms.specs.Sketch.{Sketch, nothing, Fits}
 use Rattle.lang_forms.specs.Forms.{numbers, literal, expr_forms, exprs_forms, pairs_forms, stmt_forms, stmts_forms, literal_fits, KnownNames, Spelled, AllSpelled, SpelledPairs, site_after, site_after_all, SpelledStmt, SpelledStmts}
-use Rattle.lang_forms.specs.Readings.{Seen, seen_trees, form, roles, word_of, name_of, type_of, policy_of, kind_of, operator_of, truth_of, plain_of, string_of, number_of_first, ints_of, literal_form, literal_at, literal_of, leaf_of, expr_at, expr_of, exprs_of, get_form, apply_form, expr_form, pair_form, pairs_form, stmt_at, stmts_of, block_of, binding_of, named_pairs_of, node_form, call_form, key_form, if_form, for_form, let_form, remember_form, stmt_form}
+use Rattle.lang_forms.specs.Readings.{Seen, seen_trees, form, roles, word_of, name_of, truth_of, plain_of, string_of, number_of_first, ints_of, literal_form, literal_at, literal_of, leaf_of, expr_at, expr_of, exprs_of, get_form, apply_form, expr_form, pair_form, pairs_form, stmt_at, stmts_of, block_of, binding_of, named_pairs_of, node_form, call_form, key_form, if_form, for_form, let_form, remember_form, stmt_form}
+use Rattle.lang_forms.proofs.KeywordTables.{operator_table, keyword_there}
 use Rattle.lang_forms.proofs.Ints.{int-decimal, letters_no_int, decimal_no_name}
 
 -- A first tree that is parsed as a part, and the trees after it.
@@ -77,72 +78,10 @@ pub name_there : (n : Ident) (r : Forest) → is_name n.text ≡ true
 unfolding name_of
 name_there n r h = rw h
 
-pub type_there : (t : Ty) (a : ℕ) (r : Forest) → type_of (seen_trees (atom a (type_word t) r)) ≡ Some (t, seen_trees r)
-unfolding type_of type_for_word
-type_there ty.Int a r = refl
-type_there ty.Bool a r = refl
-type_there ty.Text a r = refl
-type_there ty.Ints a r = refl
-
-pub policy_there : (p : BuiltIn) (a : ℕ) (r : Forest)
-    → policy_of (seen_trees (atom a (policy_word p) r)) ≡ Some (p, seen_trees r)
-unfolding policy_of policy_for_word
-policy_there policy.Structural a r = refl
-policy_there policy.Never a r = refl
-policy_there policy.Counter a r = refl
-policy_there policy.Largest a r = refl
-policy_there policy.Append a r = refl
-
-pub kind_there : (k : Kind) (a : ℕ) (r : Forest)
-    → kind_of (seen_trees (atom a (kind_word k) r)) ≡ Some (k, seen_trees r)
-unfolding kind_of kind_for_word
-kind_there kind.Mutable a r = refl
-kind_there kind.Readonly a r = refl
-
-operator_there : (o : Operator) (a : ℕ) (r : Forest)
-    → operator_of (seen_trees (atom a (operator_word o) r)) ≡ Some (o, seen_trees r)
-unfolding operator_of operator_for_word number_operator truth_operator list_operator
-operator_there operator.Add a r = refl
-operator_there operator.Subtract a r = refl
-operator_there operator.Multiply a r = refl
-operator_there operator.Divide a r = refl
-operator_there operator.Remainder a r = refl
-operator_there operator.Equal a r = refl
-operator_there operator.Less a r = refl
-operator_there operator.Not a r = refl
-operator_there operator.And a r = refl
-operator_there operator.Or a r = refl
-operator_there operator.Pick a r = refl
-operator_there operator.Join a r = refl
-operator_there operator.Text a r = refl
-operator_there operator.Ints a r = refl
-operator_there operator.Range a r = refl
-operator_there operator.Push a r = refl
-operator_there operator.Concat a r = refl
-operator_there operator.Length a r = refl
-operator_there operator.At a r = refl
-
 operator_no_get : (o : Operator) (a : ℕ) (r : Forest) → word_of (codes "get") (seen_trees (atom a (operator_word o) r)) ≡ None
 unfolding word_of
 operator_no_get operator.Add a r = refl
-operator_no_get operator.Subtract a r = refl
-operator_no_get operator.Multiply a r = refl
-operator_no_get operator.Divide a r = refl
-operator_no_get operator.Remainder a r = refl
-operator_no_get operator.Equal a r = refl
-operator_no_get operator.Less a r = refl
-operator_no_get operator.Not a r = refl
-operator_no_get operator.And a r = refl
-operator_no_get operator.Or a r = refl
-operator_no_get operator.Pick a r = refl
-operator_no_get operator.Join a r = refl
-operator_no_get operator.Text a r = refl
-operator_no_get operator.Ints a r = refl
-operator_no_get operator.Range a r = refl
-operator_no_get operator.Push a r = refl
-operator_no_get operator.Concat a r = refl
-operator_no_get operator.Length a r = refl
-operator_no_get operator.At a r = refl
+operator_no_get _ a r = refl
 
 -- Literals.
 
@@ -227,7 +166,7 @@ apply_read : (m : List (List ℕ)) (at a : ℕ) (o : Operator) (es : Exprs) (f :
 unfolding expr_form apply_form
 apply_read m at a o es f h r =
     let enough : takes o (length r.found) ≡ true = ap (takes o) (sym (count_is r.found) ∙ ap operand_count r.is) ∙ h in
-    rw (operator_no_get o a f, operator_there o a f, r.read, enough, r.is)
+    rw (operator_no_get o a f, keyword_there operator_table o a f, r.read, enough, r.is)
 
 none_read : (m : List (List ℕ)) (f : Forest) → f ≡ empty → ReadsAll m f none
 unfolding exprs_of

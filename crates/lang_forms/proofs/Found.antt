@@ -22,11 +22,11 @@ use Rattle.lang_ast.specs.declared.syntax.Operator.TheVariants as operator
 use Rattle.lang_limits.specs.Tokens.{fits}
 use Rattle.lang_forms.specs.Names.{is_name, all_fit, is_string, is_list_long}
 use Rattle.rt_values.specs.Keywords.{kind_word, type_word}
-use Rattle.lang_forms.specs.Words.{policy_word, operator_word, if_word, type_for_word, policy_for_word, kind_for_word, number_operator, truth_operator, list_operator, operator_for_word}
 use Rattle.lang_forms.specs.Sketch.{Sketch, Fits, IsAtOffset}
 use Rattle.lang_forms.specs.Forms.{numbers, literal, literal_fits, plain_fits}
-use Rattle.lang_forms.specs.Readings.{◌>>=◌, choose, Seen, seen_trees, is_end, word_of, name_of, type_of, policy_of, kind_of, operator_of, int_of, truth_of, plain_of, string_of, number_of_first, ints_of, literal_form, literal_of}
+use Rattle.lang_forms.specs.Readings.{◌>>=◌, choose, Seen, seen_trees, is_end, word_of, name_of, keyword_of, int_of, truth_of, plain_of, string_of, number_of_first, ints_of, literal_form, literal_of}
 use Rattle.lang_forms.proofs.Ints.{decimal-int}
+use Rattle.lang_forms.proofs.KeywordTables.{IsTable, bytes_same}
 
 pub inject : {A : Type 0} {a b : A} → Some a ≡ Some b → a ≡ b
 inject h = cc
@@ -47,9 +47,6 @@ choose_some None f other y h = inr (refl, h)
 choose_some (Some x) f other y h = inl (x, refl, h)
 
 -- Words and names.
-
-bytes_same : (a b : List ℕ) → bytes_eq a b ≡ true → a ≡ b
-bytes_same a b h = (bytes_eq-Decides a b).0 h
 
 -- A first tree that is a keyword, and the trees after it.
 pub record Worded (i : Forest) (w : List ℕ) (ss : List Seen) : Type 0 where
@@ -93,157 +90,25 @@ pub name_next : (i : Forest) (rs : List Seen) (n : Ident × List Seen) → rs �
     → NamedBy i n
 name_next i rs n is h = name_found i n (ap name_of (sym is) ∙ h)
 
--- The keyword of one value, or of another.
-named_some : {A : Type 0} (word : A → List ℕ) (a b : A) (w : List ℕ) (other : Option A) → (other ≡ Some b → w ≡ word b)
-    → if_word (word a) a w other ≡ Some b → w ≡ word b
-named_some word a b w other rest h = by (bytes_eq w (word a)) refl h
-  where
-    by : (t : Bool) → bytes_eq w (word a) ≡ t → cond t (Some a) other ≡ Some b → w ≡ word b
-    by true e i = bytes_same w (word a) e ∙ ap word (inject i)
-    by false e i = rest i
-
-no_word : {A : Type 0} (word : A → List ℕ) (b : A) (w : List ℕ) → None ≡ Some b → w ≡ word b
-no_word word b w h = absurd (cc)
-
-type_found : (w : List ℕ) (t : Ty) → type_for_word w ≡ Some t → w ≡ type_word t
-unfolding type_for_word
-type_found w t = named_some type_word ty.Int t w _
-    (named_some type_word ty.Bool t w _
-    (named_some type_word ty.Text t w _ (named_some type_word ty.Ints t w _ (no_word type_word t w))))
-
-policy_found : (w : List ℕ) (p : BuiltIn) → policy_for_word w ≡ Some p → w ≡ policy_word p
-unfolding policy_for_word
-policy_found w p =
-    named_some policy_word policy.Structural p w _
-    (named_some policy_word policy.Never p w _ (named_some policy_word policy.Counter p w _ (
-    named_some policy_word policy.Largest p w _
-    (named_some policy_word policy.Append p w _ (no_word policy_word p w)))))
-
-kind_found : (w : List ℕ) (k : Kind) → kind_for_word w ≡ Some k → w ≡ kind_word k
-unfolding kind_for_word
-kind_found w k =
-    named_some kind_word kind.Mutable k w _ (named_some kind_word kind.Readonly k w _ (no_word kind_word k w))
-
-number_operator_found : (w : List ℕ) (o : Operator) → number_operator w ≡ Some o → w ≡ operator_word o
-unfolding number_operator
-number_operator_found w o =
-    named_some operator_word operator.Add o w _
-    (named_some operator_word operator.Subtract o w _ (named_some operator_word operator.Multiply o w _ (
-    named_some operator_word operator.Divide o w _
-    (named_some operator_word operator.Remainder o w _ (no_word operator_word o w)))))
-
-truth_operator_found : (w : List ℕ) (o : Operator) → truth_operator w ≡ Some o → w ≡ operator_word o
-unfolding truth_operator
-truth_operator_found w o =
-    named_some operator_word operator.Equal o w _
-    (named_some operator_word operator.Less o w _ (named_some operator_word operator.Not o w _ (
-    named_some operator_word operator.And o w _
-    (named_some operator_word operator.Or o w _
-    (named_some operator_word operator.Pick o w _ (no_word operator_word o w))))))
-
-list_operator_found : (w : List ℕ) (o : Operator) → list_operator w ≡ Some o → w ≡ operator_word o
-unfolding list_operator
-list_operator_found w o =
-    named_some operator_word operator.Join o w _
-    (named_some operator_word operator.Text o w _ (named_some operator_word operator.Ints o w _ (
-    named_some operator_word operator.Range o w _
-    (named_some operator_word operator.Push o w _ (named_some operator_word operator.Concat o w _ (
-    named_some operator_word operator.Length o w _
-    (named_some operator_word operator.At o w _ (no_word operator_word o w))))))))
-
-option_or_some : {A : Type 0} (o other : Option A) (a : A) → option_or o other ≡ Some a
-    → (o ≡ Some a) ⊎ (other ≡ Some a)
-option_or_some None other a h = inr h
-option_or_some (Some b) other a h = inl h
-
-operator_word_found : (w : List ℕ) (o : Operator) → operator_for_word w ≡ Some o → w ≡ operator_word o
-unfolding operator_for_word
-operator_word_found w o h = elim (option_or_some (number_operator w) _ o h) [
-  | inl x ↦ number_operator_found w o x
-  | inr x ↦ elim (option_or_some (truth_operator w) (list_operator w) o x) [
-    | inl y ↦ truth_operator_found w o y
-    | inr y ↦ list_operator_found w o y
-  ]
-]
-
--- A first tree that is a type, and the trees after it.
-pub record Typed (i : Forest) (t : Ty × List Seen) : Type 0 where
+-- A first tree that is the keyword of a value, and the trees after it.
+pub record KeywordFirst {A : Type 0} (word : A → List ℕ) (i : Forest) (v : A × List Seen) : Type 0 where
   pub at : ℕ
   pub rest : Forest
-  pub is : i ≡ atom at (type_word t.0) rest
-  pub behind : t.1 ≡ seen_trees rest
+  pub is : i ≡ atom at (word v.0) rest
+  pub behind : v.1 ≡ seen_trees rest
 
-pub type_next : (i : Forest) (rs : List Seen) (t : Ty × List Seen) → rs ≡ seen_trees i → type_of rs ≡ Some t → Typed i t
-unfolding type_of
-type_next empty rs t is h = absurd (cc (ap type_of (sym is) ∙ h))
-type_next (atom b v r) rs t is h =
-    let c = bind_some (type_for_word v) (λ x. Some (x, seen_trees r)) t (ap type_of (sym is) ∙ h) in
-    let same : (c.0, seen_trees r) ≡ t = inject c.2 in
-    subst (λ (m : Ty × List Seen). Typed (atom b v r) m) same
-    (record { at = b; rest = r; is = ap (λ (x : List ℕ). atom b x r) (type_found v c.0 c.1); behind = refl })
-type_next (text b v r) rs t is h = absurd (cc (ap type_of (sym is) ∙ h))
-type_next (list b j r) rs t is h = absurd (cc (ap type_of (sym is) ∙ h))
-
--- A first tree that is a policy, and the trees after it.
-pub record Policied (i : Forest) (p : BuiltIn × List Seen) : Type 0 where
-  pub at : ℕ
-  pub rest : Forest
-  pub is : i ≡ atom at (policy_word p.0) rest
-  pub behind : p.1 ≡ seen_trees rest
-
-pub policy_next : (i : Forest) (rs : List Seen) (p : BuiltIn × List Seen) → rs ≡ seen_trees i → policy_of rs ≡ Some p
-    → Policied i p
-unfolding policy_of
-policy_next empty rs p is h = absurd (cc (ap policy_of (sym is) ∙ h))
-policy_next (atom b v r) rs p is h =
-    let c = bind_some (policy_for_word v) (λ x. Some (x, seen_trees r)) p (ap policy_of (sym is) ∙ h) in
-    let same : (c.0, seen_trees r) ≡ p = inject c.2 in
-    subst (λ (m : BuiltIn × List Seen). Policied (atom b v r) m) same
-    (record { at = b; rest = r; is = ap (λ (x : List ℕ). atom b x r) (policy_found v c.0 c.1); behind = refl })
-policy_next (text b v r) rs p is h = absurd (cc (ap policy_of (sym is) ∙ h))
-policy_next (list b j r) rs p is h = absurd (cc (ap policy_of (sym is) ∙ h))
-
--- A first tree that is a kind of snapshots, and the trees after it.
-pub record Kinded (i : Forest) (k : Kind × List Seen) : Type 0 where
-  pub at : ℕ
-  pub rest : Forest
-  pub is : i ≡ atom at (kind_word k.0) rest
-  pub behind : k.1 ≡ seen_trees rest
-
-pub kind_next : (i : Forest) (rs : List Seen) (k : Kind × List Seen) → rs ≡ seen_trees i → kind_of rs ≡ Some k
-    → Kinded i k
-unfolding kind_of
-kind_next empty rs k is h = absurd (cc (ap kind_of (sym is) ∙ h))
-kind_next (atom b v r) rs k is h =
-    let c = bind_some (kind_for_word v) (λ x. Some (x, seen_trees r)) k (ap kind_of (sym is) ∙ h) in
-    let same : (c.0, seen_trees r) ≡ k = inject c.2 in
-    subst (λ (m : Kind × List Seen). Kinded (atom b v r) m) same
-    (record { at = b; rest = r; is = ap (λ (x : List ℕ). atom b x r) (kind_found v c.0 c.1); behind = refl })
-kind_next (text b v r) rs k is h = absurd (cc (ap kind_of (sym is) ∙ h))
-kind_next (list b j r) rs k is h = absurd (cc (ap kind_of (sym is) ∙ h))
-
--- A first tree that is an operator, and the trees after it.
-pub record Operated (i : Forest) (o : Operator × List Seen) : Type 0 where
-  pub at : ℕ
-  pub rest : Forest
-  pub is : i ≡ atom at (operator_word o.0) rest
-  pub behind : o.1 ≡ seen_trees rest
-
-pub operator_found : (i : Forest) (o : Operator × List Seen) → operator_of (seen_trees i) ≡ Some o → Operated i o
-unfolding operator_of
-operator_found empty o h = absurd (cc)
-operator_found (atom b v r) o h =
-    let c = bind_some (operator_for_word v) (λ x. Some (x, seen_trees r)) o h in
-    let same : (c.0, seen_trees r) ≡ o = inject c.2 in
-    subst (λ (m : Operator × List Seen). Operated (atom b v r) m) same
-    (record {
-      at = b;
-      rest = r;
-      is = ap (λ (x : List ℕ). atom b x r) (operator_word_found v c.0 c.1);
-      behind = refl;
-    })
-operator_found (text b v r) o h = absurd (cc)
-operator_found (list b j r) o h = absurd (cc)
+pub keyword_next : {A : Type 0} {word : A → List ℕ} {table : List ℕ → Option A} → IsTable word table
+    → (i : Forest) (rs : List Seen) (v : A × List Seen) → rs ≡ seen_trees i → keyword_of table rs ≡ Some v
+    → KeywordFirst word i v
+unfolding keyword_of
+keyword_next {table = table} t empty rs v is h = absurd (cc (ap (keyword_of table) (sym is) ∙ h))
+keyword_next {A = A} {word = word} {table = table} t (atom b w r) rs v is h =
+    let c = bind_some (table w) (λ x. Some (x, seen_trees r)) v (ap (keyword_of table) (sym is) ∙ h) in
+    let same : (c.0, seen_trees r) ≡ v = inject c.2 in
+    subst (λ (m : A × List Seen). KeywordFirst word (atom b w r) m) same
+    (record { at = b; rest = r; is = ap (λ (x : List ℕ). atom b x r) (t.found w c.0 c.1); behind = refl })
+keyword_next {table = table} t (text b w r) rs v is h = absurd (cc (ap (keyword_of table) (sym is) ∙ h))
+keyword_next {table = table} t (list b j r) rs v is h = absurd (cc (ap (keyword_of table) (sym is) ∙ h))
 
 end_found : (i : Forest) → is_end (seen_trees i) ≡ true → i ≡ empty
 end_found empty h = refl

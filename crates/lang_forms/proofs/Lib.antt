@@ -1,6 +1,7 @@
 pub mod Trees
 pub mod SeenIs
 pub mod Ints
+pub mod KeywordTables
 pub mod FormsAreRead
 pub mod StepsAreRead
 pub mod TextIsRead

@@ -8,12 +8,13 @@ use Rattle.rt_values.specs.declared.value.Value.TheVariants as value
 use Rattle.lang_ast.specs.Terms.{Expr, Literal, Variable, Get, Apply, Named, Stmt, If, exprs, stmts, operand_count}
 use Rattle.lang_ast.specs.declared.syntax.Ident.{Ident}
 use Rattle.lang_forms.specs.Names.{is_name, number_of}
-use Rattle.lang_forms.specs.Words.{takes}
+use Rattle.lang_forms.specs.Words.{takes, operator_for_word}
 use Rattle.lang_forms.specs.Sketch.{Sketch, nothing, Fits}
 use Rattle.lang_forms.specs.Forms.{name, expr_forms, exprs_forms, pairs_forms, stmt_forms, stmts_forms, KnownNames, Spelled, AllSpelled, SpelledPairs, site_after, site_after_all, SpelledStmt, SpelledStmts, plain_fits}
-use Rattle.lang_forms.specs.Readings.{choose, Seen, seen_trees, is_end, word_of, name_of, plain_of, string_of, leaf_of, expr_at, expr_of, exprs_of, get_form, apply_form, expr_form, pair_form, pairs_form, pairs_of, stmts_of, block_of, node_form, call_form, key_form, if_form, for_form, let_form, remember_form, stmt_form, operator_of}
+use Rattle.lang_forms.specs.Readings.{choose, Seen, seen_trees, is_end, word_of, name_of, plain_of, string_of, leaf_of, expr_at, expr_of, exprs_of, get_form, apply_form, expr_form, pair_form, pairs_form, pairs_of, stmts_of, block_of, node_form, call_form, key_form, if_form, for_form, let_form, remember_form, stmt_form, keyword_of}
 use Rattle.lang_forms.proofs.Bindings.{node_is, for_is, let_is, remember_is}
-use Rattle.lang_forms.proofs.Found.{inject, bind_some, map_some, choose_some, Worded, word_found, name_next, operator_found, end_next, plain_found, string_found, tail}
+use Rattle.lang_forms.proofs.KeywordTables.{operator_table}
+use Rattle.lang_forms.proofs.Found.{inject, bind_some, map_some, choose_some, Worded, word_found, name_next, keyword_next, end_next, plain_found, string_found, tail}
 
 -- The forms of statements that are parsed.
 pub record BodyFits (m : KnownNames) (k : ℕ) (f : Forest) (b : List Stmt × ℕ) : Type 0 where
@@ -142,8 +143,8 @@ apply_found : (m : List (List ℕ)) (at : ℕ) (i : Forest) (e : Expr) → Good 
     → ListExpr m at i e
 unfolding apply_form
 apply_found m at i e good h =
-    let o = bind_some (operator_of (seen_trees i)) _ e h in
-    let w = operator_found i o.0 o.1 in
+    let o = bind_some (keyword_of operator_for_word (seen_trees i)) _ e h in
+    let w = keyword_next operator_table i (seen_trees i) o.0 refl o.1 in
     let es = bind_some (exprs_of m o.0.1) _ e o.2 in
     let c = cond_some (takes o.0.0 (length es.0)) (Apply at o.0.0 (exprs es.0)) e es.2 in
     let all = (behind_claims i _ _ w.rest w.is good).exprs_fit m es.0 (ap (exprs_of m) (sym w.behind) ∙ es.1) in

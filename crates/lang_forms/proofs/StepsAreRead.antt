@@ -23,7 +23,8 @@ use Rattle.rt_values.specs.Keywords.{kind_word}
 use Rattle.lang_forms.specs.Sketch.{Sketch, nothing, Fits}
 use Rattle.lang_forms.specs.Forms.{name, snapshot_forms, call_forms, calls_forms, step_forms, steps_forms, actor_step_forms, actor_forms, is_snapshot, SpelledCall, SpelledCalls, SpelledStep, SpelledSteps, SpelledActorStep, SpelledActor}
 use Rattle.lang_forms.specs.Readings.{when, Seen, seen_trees, word, chars, form, word_of, name_of, literal_at, number_of_first, snapshot_of, state_in_snapshot, take_form, read_form, write_form, add_form, only_snapshot, plain_step_form, plain_steps_of, during_form, frame_form, step_form, steps_of, repeat_form, actor_step_form, actor_steps_of}
-use Rattle.lang_forms.proofs.FormsAreRead.{First, name_there, kind_there, number_there, literal_read, literal_there, list_with_word}
+use Rattle.lang_forms.proofs.KeywordTables.{kind_table, keyword_there}
+use Rattle.lang_forms.proofs.FormsAreRead.{First, name_there, number_there, literal_read, literal_there, list_with_word}
 use Rattle.lang_forms.proofs.ReadHasForms.{either}
 
 -- A first tree that is a list, with what its trees are parsed as.
@@ -109,7 +110,7 @@ take_inside : (at b : ℕ) (n : Ident) (k : Kind) (p : SnapshotRef) (f : Forest)
     → SnapshotFirst f p nothing →
     take_form at (seen_trees (atom n.at n.text (atom b (kind_word k) f))) ≡ Some (call.Take at n k p)
 unfolding take_form
-take_inside at b n k p f h one = rw (name_there n _ h, kind_there k b f, one.read, one.behind)
+take_inside at b n k p f h one = rw (name_there n _ h, keyword_there kind_table k b f, one.read, one.behind)
 
 take_there : (m : List (List ℕ)) (at a b : ℕ) (n : Ident) (k : Kind) (p : SnapshotRef) (f : Forest)
     → is_name n.text ≡ true → SnapshotFirst f p nothing →

@@ -15,8 +15,10 @@ use Rattle.lang_ast.specs.declared.script.ScriptForm.TheVariants.{Once}
 use Rattle.lang_forms.specs.Names.{is_name, number_of}
 use Rattle.lang_forms.specs.Sketch.{Sketch, nothing, Fits}
 use Rattle.lang_forms.specs.Forms.{name, snapshot_forms, call_forms, calls_forms, step_forms, steps_forms, actor_step_forms, actor_forms, is_snapshot, SpelledCall, SpelledCalls, SpelledStep, SpelledSteps, SpelledActorStep, SpelledActor}
-use Rattle.lang_forms.specs.Readings.{◌>>=◌, when, Seen, seen_trees, is_end, word_of, name_of, kind_of, literal_of, number_of_first, snapshot_of, state_in_snapshot, take_form, read_form, write_form, add_form, only_snapshot, plain_step_form, plain_steps_of, during_form, during_of, frame_form, step_form, steps_of, repeat_form, actor_step_form, actor_steps_of}
-use Rattle.lang_forms.proofs.Found.{inject, bind_some, map_some, choose_some, Worded, word_found, name_next, kind_next, literal_next, number_next, end_next, tail}
+use Rattle.lang_forms.specs.Words.{kind_for_word}
+use Rattle.lang_forms.specs.Readings.{◌>>=◌, when, Seen, seen_trees, is_end, word_of, name_of, keyword_of, literal_of, number_of_first, snapshot_of, state_in_snapshot, take_form, read_form, write_form, add_form, only_snapshot, plain_step_form, plain_steps_of, during_form, during_of, frame_form, step_form, steps_of, repeat_form, actor_step_form, actor_steps_of}
+use Rattle.lang_forms.proofs.KeywordTables.{kind_table}
+use Rattle.lang_forms.proofs.Found.{inject, bind_some, map_some, choose_some, Worded, word_found, name_next, keyword_next, literal_next, number_next, end_next, tail}
 use Rattle.lang_forms.proofs.ReadHasForms.{either}
 
 -- Snapshots.
@@ -84,8 +86,8 @@ unfolding take_form
 take_found m at i c ss w h =
     let n = bind_some (name_of ss) _ c h in
     let x = name_next w.rest ss n.0 w.behind n.1 in
-    let k = bind_some (kind_of n.0.1) _ c n.2 in
-    let y = kind_next x.rest n.0.1 k.0 x.behind k.1 in
+    let k = bind_some (keyword_of kind_for_word n.0.1) _ c n.2 in
+    let y = keyword_next kind_table x.rest n.0.1 k.0 x.behind k.1 in
     let s = bind_some (snapshot_of k.0.1) _ c k.2 in
     let z = snapshot_next y.rest k.0.1 s.0 y.behind s.1 in
     let made : CallForm = call.Take at n.0.0 k.0.0 s.0.0 in

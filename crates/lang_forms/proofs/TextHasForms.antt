@@ -13,9 +13,11 @@ use Rattle.lang_forms.specs.Names.{is_name}
 use Rattle.lang_forms.specs.Sketch.{Sketch, nothing, Fits}
 use Rattle.lang_forms.specs.Sources.{Source}
 use Rattle.lang_forms.specs.Forms.{parameters_forms, state_forms, function_forms, do_forms, top_forms, KnownNames, site_after_all, state_name, function_name, literal_fits, SpelledStmts, SpelledParameters, SpelledStates, SpelledFunctions, SpelledActor, SpelledScripts, HasForms}
-use Rattle.lang_forms.specs.Readings.{Top, StateTop, FunctionTop, DoTop, Seen, seen_trees, is_end, word_of, name_of, type_of, policy_of, literal_of, actor_steps_of, parameter_form, parameters_form, parameters_of, stmts_of, state_form, function_form, do_form, top_form, header_form, is_there}
+use Rattle.lang_forms.specs.Words.{type_for_word, policy_for_word}
+use Rattle.lang_forms.specs.Readings.{Top, StateTop, FunctionTop, DoTop, Seen, seen_trees, is_end, word_of, name_of, keyword_of, literal_of, actor_steps_of, parameter_form, parameters_form, parameters_of, stmts_of, state_form, function_form, do_form, top_form, header_form, is_there}
 use Rattle.lang_forms.specs.TextReading.{PartialSource, known_names, source, is_none, source_with_form, source_with_rest, tops_of, text_of, start, source_of, source_or_offset}
-use Rattle.lang_forms.proofs.Found.{inject, bind_some, map_some, Worded, word_found, word_next, name_next, type_next, policy_next, literal_next, end_next, tail}
+use Rattle.lang_forms.proofs.KeywordTables.{type_table, policy_table}
+use Rattle.lang_forms.proofs.Found.{inject, bind_some, map_some, Worded, word_found, word_next, name_next, keyword_next, literal_next, end_next, tail}
 use Rattle.lang_forms.proofs.ReadHasForms.{either, body_found}
 use Rattle.lang_forms.proofs.StepsHaveForms.{actor_found}
 
@@ -32,8 +34,8 @@ unfolding parameter_form
 parameter_found i p h =
     let n = bind_some (name_of (seen_trees i)) _ p h in
     let x = name_next i (seen_trees i) n.0 refl n.1 in
-    let t = bind_some (type_of n.0.1) _ p n.2 in
-    let y = type_next x.rest n.0.1 t.0 x.behind t.1 in
+    let t = bind_some (keyword_of type_for_word n.0.1) _ p n.2 in
+    let y = keyword_next type_table x.rest n.0.1 t.0 x.behind t.1 in
     let made : Parameter = record { name = n.0.0; ty = t.0.0 } in
     let c = cond_some (is_end t.0.1) made p t.2 in
     let over = end_next y.rest t.0.1 y.behind c.0 in
@@ -106,10 +108,10 @@ unfolding state_form
 state_found m k at i s ss w h =
     let n = bind_some (name_of ss) _ s h in
     let x = name_next w.rest ss n.0 w.behind n.1 in
-    let t = bind_some (type_of n.0.1) _ s n.2 in
-    let y = type_next x.rest n.0.1 t.0 x.behind t.1 in
-    let o = bind_some (policy_of t.0.1) _ s t.2 in
-    let p = policy_next y.rest t.0.1 o.0 y.behind o.1 in
+    let t = bind_some (keyword_of type_for_word n.0.1) _ s n.2 in
+    let y = keyword_next type_table x.rest n.0.1 t.0 x.behind t.1 in
+    let o = bind_some (keyword_of policy_for_word t.0.1) _ s t.2 in
+    let p = keyword_next policy_table y.rest t.0.1 o.0 y.behind o.1 in
     let v = bind_some (literal_of o.0.1) _ s o.2 in
     let z = literal_next p.rest o.0.1 v.0 p.behind v.1 in
     let made : State = record { at = at; name = n.0.0; ty = t.0.0; policy = o.0.0; initial = v.0.0 } in

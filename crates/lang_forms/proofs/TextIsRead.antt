@@ -14,7 +14,8 @@ use Rattle.lang_forms.specs.Sources.{Source}
 use Rattle.lang_forms.specs.Forms.{parameters_forms, states_forms, functions_forms, scripts_forms, KnownNames, site_after_all, state_name, function_name, SpelledParameters, SpelledStates, SpelledFunctions, SpelledScripts, HasForms}
 use Rattle.lang_forms.specs.Readings.{Top, StateTop, FunctionTop, DoTop, seen_trees, word_of, literal_at, actor_steps_of, parameter_form, parameters_form, state_form, function_form, do_form, top_form, header_form}
 use Rattle.lang_forms.specs.TextReading.{PartialSource, known_names, source_with_form, tops_of, text_of, start, source_of, source_or_offset}
-use Rattle.lang_forms.proofs.FormsAreRead.{First, ReadsBody, name_there, type_there, policy_there, literal_read, literal_there, stmts_read, list_with_word}
+use Rattle.lang_forms.proofs.KeywordTables.{type_table, policy_table, keyword_there}
+use Rattle.lang_forms.proofs.FormsAreRead.{First, ReadsBody, name_there, literal_read, literal_there, stmts_read, list_with_word}
 use Rattle.lang_forms.proofs.StepsAreRead.{actor_read}
 
 -- Parameters, states, functions and scripts.
@@ -22,7 +23,7 @@ use Rattle.lang_forms.proofs.StepsAreRead.{actor_read}
 parameter_read : (p : Parameter) (b : ℕ) → is_name p.name.text ≡ true
     → parameter_form (seen_trees (atom p.name.at p.name.text (atom b (type_word p.ty) empty))) ≡ Some p
 unfolding parameter_form
-parameter_read p b h = rw (name_there p.name _ h, type_there p.ty b empty)
+parameter_read p b h = rw (name_there p.name _ h, keyword_there type_table p.ty b empty)
 
 parameters_read : (ps : List Parameter) (f : Forest) → SpelledParameters ps → Fits f (parameters_forms ps)
     → parameters_form (seen_trees f) ≡ Some ps
@@ -44,8 +45,8 @@ state_inside : (b c : ℕ) (s : State) (f : Forest) → is_name s.name.text ≡ 
 unfolding state_form word_of
 state_inside b c s f h one = rw (
   name_there s.name _ h,
-  type_there s.ty b _,
-  policy_there s.policy c _,
+  keyword_there type_table s.ty b _,
+  keyword_there policy_table s.policy c _,
   literal_there s.initial f nothing one,
   one.behind,
 )

@@ -12,6 +12,7 @@ use Rattle.rt_values.specs.declared.value.Ty.TheVariants as ty
 use Rattle.rt_values.specs.declared.value.Value.{Value}
 use Rattle.rt_values.specs.declared.value.Value.TheVariants as value
 use Rattle.sexp_text.specs.Forest.{Forest, empty, atom, text, list}
+use Rattle.sexp_text.proofs.Complete.{negated}
 use Rattle.lang_ast.specs.Terms.{Expr, Literal, Variable, Get, Apply, Exprs, none, more, Named, Stmt, Node, Call, Key, If, For, Let, Remember, Stmts, done, next, Func}
 use Rattle.lang_ast.specs.declared.syntax.Operator.{Operator}
 use Rattle.lang_ast.specs.declared.syntax.Operator.TheVariants as operator
@@ -255,10 +256,6 @@ Clean (string p s g) = Clean g
 Clean (group p i g) = (shows_ints i ≡ false) × Clean i × Clean g
 Clean (sequence p i g) = Clean i × Clean g
 
-not_true : (b : Bool) → not b ≡ true → b ≡ false
-not_true true h = absurd (true≢false (sym h))
-not_true false h = refl
-
 leaf_back : (b a : List ℕ) → is_token a ≡ true → clamped_atom b ≡ a → b ≡ a
 leaf_back b a tok h = by (is_oversized_int b) refl
   where
@@ -268,7 +265,7 @@ leaf_back b a tok h = by (is_oversized_int b) refl
 
 leaf_stays : (a : List ℕ) → is_token a ≡ true → clamped_atom a ≡ a
 leaf_stays a tok =
-    let parts = and_parts (not (is_nearest a)) _ tok in ap (clamped a) (not_true (is_oversized_int a) parts.1)
+    let parts = and_parts (not (is_nearest a)) _ tok in ap (clamped a) (negated (is_oversized_int a) parts.1)
 
 -- Clamped trees that have the forms of a sketch have them without the limits of literals.
 unlimited : (g : Sketch) (f : Forest) → Clean g → Fits (clamped_trees f) g → FitsUnlimited f g
@@ -400,41 +397,19 @@ name_token a h = by (bytes_eq a (codes "-9223372036854775808")) (bytes_eq a (cod
 
 operator_token : (o : Operator) → is_token (operator_word o) ≡ true
 operator_token operator.Add = refl
-operator_token operator.Subtract = refl
-operator_token operator.Multiply = refl
-operator_token operator.Divide = refl
-operator_token operator.Remainder = refl
-operator_token operator.Equal = refl
-operator_token operator.Less = refl
-operator_token operator.Not = refl
-operator_token operator.And = refl
-operator_token operator.Or = refl
-operator_token operator.Pick = refl
-operator_token operator.Join = refl
-operator_token operator.Text = refl
-operator_token operator.Ints = refl
-operator_token operator.Range = refl
-operator_token operator.Push = refl
-operator_token operator.Concat = refl
-operator_token operator.Length = refl
-operator_token operator.At = refl
+operator_token _ = refl
 
 type_token : (t : Ty) → is_token (type_word t) ≡ true
 type_token ty.Int = refl
-type_token ty.Bool = refl
-type_token ty.Text = refl
-type_token ty.Ints = refl
+type_token _ = refl
 
 policy_token : (p : BuiltIn) → is_token (policy_word p) ≡ true
 policy_token policy.Structural = refl
-policy_token policy.Never = refl
-policy_token policy.Counter = refl
-policy_token policy.Largest = refl
-policy_token policy.Append = refl
+policy_token _ = refl
 
 kind_token : (k : Kind) → is_token (kind_word k) ≡ true
 kind_token kind.Mutable = refl
-kind_token kind.Readonly = refl
+kind_token _ = refl
 
 clean_numbers : (zs : List ℤ) → Clean (numbers zs)
 clean_numbers [] = tt

@@ -96,33 +96,12 @@ name_of ss = do
   a ← atom_of ss
   when (is_name a.1) (record { at = a.0; text = a.1 }, a.2)
 
--- The first tree as a type.
-unfoldable pub type_of : List Seen → Option (Ty × List Seen)
-type_of ss = do
+-- The first tree as the value that a table has for its keyword.
+unfoldable pub keyword_of : {A : Type 0} → (List ℕ → Option A) → List Seen → Option (A × List Seen)
+keyword_of table ss = do
   a ← atom_of ss
-  t ← type_for_word a.1
-  Some (t, a.2)
-
--- The first tree as a policy.
-unfoldable pub policy_of : List Seen → Option (BuiltIn × List Seen)
-policy_of ss = do
-  a ← atom_of ss
-  p ← policy_for_word a.1
-  Some (p, a.2)
-
--- The first tree as a kind of snapshots.
-unfoldable pub kind_of : List Seen → Option (Kind × List Seen)
-kind_of ss = do
-  a ← atom_of ss
-  k ← kind_for_word a.1
-  Some (k, a.2)
-
--- The first tree as an operator.
-unfoldable pub operator_of : List Seen → Option (Operator × List Seen)
-operator_of ss = do
-  a ← atom_of ss
-  o ← operator_for_word a.1
-  Some (o, a.2)
+  v ← table a.1
+  Some (v, a.2)
 
 -- Literals.
 
@@ -207,7 +186,7 @@ get_form m at ss = do
 -- `OPERATOR EXPR..`
 unfoldable pub apply_form : List (List ℕ) → ℕ → List Seen → Option Expr
 apply_form m at ss = do
-  o ← operator_of ss
+  o ← keyword_of operator_for_word ss
   es ← exprs_of m o.1
   when (takes o.0 (length es)) (Apply at o.0 (exprs es))
 
@@ -350,7 +329,7 @@ state_in_snapshot ss = do
 unfoldable pub take_form : ℕ → List Seen → Option CallForm
 take_form at ss = do
   n ← name_of ss
-  k ← kind_of n.1
+  k ← keyword_of kind_for_word n.1
   s ← snapshot_of k.1
   when (is_end s.1) (call.Take at n.0 k.0 s.0)
 
@@ -461,7 +440,7 @@ actor_steps_of m (s ∷ ss) = actor_step_at m s >>= λ t. option_map (λ ts. t �
 unfoldable pub parameter_form : List Seen → Option Parameter
 parameter_form ss = do
   n ← name_of ss
-  t ← type_of n.1
+  t ← keyword_of type_for_word n.1
   when (is_end t.1) (record { name = n.0; ty = t.0 })
 
 abbrev pub parameter_at : Seen → Option Parameter
@@ -485,8 +464,8 @@ parameters_of (form at r ∷ ss) = option_map (λ ps. (ps, ss)) r.parameters
 unfoldable pub state_form : ℕ → List Seen → Option State
 state_form at ss = do
   n ← name_of ss
-  t ← type_of n.1
-  p ← policy_of t.1
+  t ← keyword_of type_for_word n.1
+  p ← keyword_of policy_for_word t.1
   v ← literal_of p.1
   when (is_end v.1) (record { at = at; name = n.0; ty = t.0; policy = p.0; initial = v.0 })
 

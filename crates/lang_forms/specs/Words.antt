@@ -1,11 +1,12 @@
 -- Trusted: the keywords of types, policies, kinds of snapshots and operators, and how many operands an operator has.
-use Rattle.std.specs.Prelude.{ℕ, ◌==◌, List, Bool, true, Option, Some, None, codes, if◌then◌else◌}
+use Rattle.std.specs.Prelude.{ℕ, ◌==◌, List, [], ◌∷◌, Bool, true, Option, Some, None, codes, if◌then◌else◌}
 use Rattle.std.specs.Option.{option_or}
 use Rattle.std.specs.Str.{bytes_eq}
 use Rattle.rt_values.specs.declared.value.Ty.{Ty}
 use Rattle.rt_values.specs.declared.value.Ty.TheVariants as ty
 use Rattle.rt_values.specs.declared.names.Kind.{Kind}
 use Rattle.rt_values.specs.declared.names.Kind.TheVariants as kind
+use Rattle.rt_values.specs.Keywords.{type_word, kind_word}
 use Rattle.snap_policy.specs.declared.policy.BuiltIn.{BuiltIn}
 use Rattle.snap_policy.specs.declared.policy.BuiltIn.TheVariants as policy
 use Rattle.lang_ast.specs.declared.syntax.Operator.{Operator}
@@ -63,48 +64,53 @@ takes operator.Concat n = n == 2
 takes operator.Length n = n == 1
 takes operator.At n = n == 2
 
--- A value if the word is c, and else another.
-abbrev pub if_word : {A : Type 0} → List ℕ → A → List ℕ → Option A → Option A
-if_word c a w other = if bytes_eq w c then Some a else other
+-- The first of these values that has the keyword w.
+abbrev pub value_with : {A : Type 0} → (A → List ℕ) → List A → List ℕ → Option A
+value_with word [] w = None
+value_with word (a ∷ more) w = if bytes_eq w (word a) then Some a else value_with word more w
+
+abbrev pub all_types : List Ty
+all_types = ty.Int ∷ ty.Bool ∷ ty.Text ∷ ty.Ints ∷ []
+
+abbrev pub all_policies : List BuiltIn
+all_policies = policy.Structural ∷ policy.Never ∷ policy.Counter ∷ policy.Largest ∷ policy.Append ∷ []
+
+abbrev pub all_kinds : List Kind
+all_kinds = kind.Mutable ∷ kind.Readonly ∷ []
+
+-- The operators on numbers.
+abbrev pub number_operators : List Operator
+number_operators = operator.Add ∷ operator.Subtract ∷ operator.Multiply ∷ operator.Divide ∷ operator.Remainder ∷ []
+
+-- The operators that compare and choose.
+abbrev pub truth_operators : List Operator
+truth_operators = operator.Equal ∷ operator.Less ∷ operator.Not ∷ operator.And ∷ operator.Or ∷ operator.Pick ∷ []
+
+-- The operators on texts and lists.
+abbrev pub list_operators : List Operator
+list_operators = operator.Join ∷ operator.Text ∷ operator.Ints ∷ operator.Range ∷ operator.Push ∷ operator.Concat
+    ∷ operator.Length ∷ operator.At ∷ []
 
 -- The type of a keyword.
 unfoldable pub type_for_word : List ℕ → Option Ty
-type_for_word w = if_word (codes "Int") ty.Int w
-    (if_word (codes "Bool") ty.Bool w (if_word (codes "Text") ty.Text w (if_word (codes "Ints") ty.Ints w None)))
+type_for_word = value_with type_word all_types
 
 -- The policy of a keyword.
 unfoldable pub policy_for_word : List ℕ → Option BuiltIn
-policy_for_word w =
-    if_word (codes "Structural") policy.Structural w (if_word (codes "Never") policy.Never w (
-    if_word (codes "Counter") policy.Counter w
-    (if_word (codes "Largest") policy.Largest w (if_word (codes "Append") policy.Append w None))))
+policy_for_word = value_with policy_word all_policies
 
 -- The kind of snapshots of a keyword.
 unfoldable pub kind_for_word : List ℕ → Option Kind
-kind_for_word w = if_word (codes "mutable") kind.Mutable w (if_word (codes "readonly") kind.Readonly w None)
+kind_for_word = value_with kind_word all_kinds
 
--- The operators on numbers.
 unfoldable pub number_operator : List ℕ → Option Operator
-number_operator w =
-    if_word (codes "+") operator.Add w (if_word (codes "-") operator.Subtract w (
-    if_word (codes "*") operator.Multiply w (
-    if_word (codes "/") operator.Divide w (if_word (codes "%") operator.Remainder w None))))
+number_operator = value_with operator_word number_operators
 
--- The operators that compare and choose.
 unfoldable pub truth_operator : List ℕ → Option Operator
-truth_operator w =
-    if_word (codes "=") operator.Equal w (if_word (codes "<") operator.Less w (if_word (codes "not") operator.Not w (
-    if_word (codes "and") operator.And w
-    (if_word (codes "or") operator.Or w (if_word (codes "pick") operator.Pick w None)))))
+truth_operator = value_with operator_word truth_operators
 
--- The operators on texts and lists.
 unfoldable pub list_operator : List ℕ → Option Operator
-list_operator w =
-    if_word (codes "join") operator.Join w (if_word (codes "text") operator.Text w (
-    if_word (codes "ints") operator.Ints w (
-    if_word (codes "range") operator.Range w
-    (if_word (codes "push") operator.Push w (if_word (codes "concat") operator.Concat w (
-    if_word (codes "len") operator.Length w (if_word (codes "at") operator.At w None)))))))
+list_operator = value_with operator_word list_operators
 
 -- The operator of a keyword.
 unfoldable pub operator_for_word : List ℕ → Option Operator

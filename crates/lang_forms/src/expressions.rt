@@ -7,7 +7,7 @@ ghost use Rattle.lang_forms.specs.Readings.{string_of, leaf_of, expr_at, expr_of
 ghost use Rattle.lang_forms.specs.Views.{widest, seen_tree, seen_all, state_names, Reads};
 
 use crate::cursor::{is_at_end, is_good_name, parse_name, skip_keyword};
-use crate::keywords::{has_operands, parse_operator};
+use crate::keywords::{has_operands, parse_keyword};
 use crate::known_names::state_number;
 use crate::literals::{parse_plain_literal, parse_string};
 use crate::stop::ParseStop;
@@ -17,7 +17,7 @@ use sexp_text::Tree;
 use std::alloc::Global;
 
 // Parses an atom as an expression.
-#[tactic(auto, unfolding(crate::specs::Readings::leaf_of), using(crate::proofs::Trees::syntax))]
+#[tactic(auto, unfolding(crate::specs::Readings::leaf_of), using(lang_ast::proofs::Views::views))]
 fn parse_leaf(alloc: Global, at: usize, atom: &[u8]) -> Result<Expression, ParseStop>
     ensures { Reads expr_view result (leaf_of at atom.now) }
 {
@@ -32,7 +32,7 @@ fn parse_leaf(alloc: Global, at: usize, atom: &[u8]) -> Result<Expression, Parse
 }
 
 // Parses a string as an expression.
-#[tactic(auto, using(crate::proofs::Trees::syntax))]
+#[tactic(auto, using(lang_ast::proofs::Views::views))]
 fn parse_string_expression(alloc: Global, at: usize, chars: &[u8]) -> Result<Expression, ParseStop>
     ensures { Reads expr_view result (option_map (Literal at) (string_of chars.now)) }
 {
@@ -41,7 +41,7 @@ fn parse_string_expression(alloc: Global, at: usize, chars: &[u8]) -> Result<Exp
 }
 
 // Parses `NAME` after the word `get`.
-#[tactic(auto, unfolding(crate::specs::Readings::get_form), using(crate::proofs::Trees::syntax))]
+#[tactic(auto, unfolding(crate::specs::Readings::get_form), using(lang_ast::proofs::Views::views))]
 fn parse_get(
     alloc: Global,
     states: &[State],
@@ -90,7 +90,7 @@ fn parse_expression_list(
 }
 
 // Parses `OPERATOR EXPR..`.
-#[tactic(auto, unfolding(crate::specs::Readings::apply_form), using(crate::proofs::Trees::syntax))]
+#[tactic(auto, unfolding(crate::specs::Readings::apply_form), using(lang_ast::proofs::Views::views))]
 #[cycle(expressions)]
 fn parse_apply(
     alloc: Global,
@@ -100,7 +100,7 @@ fn parse_apply(
 ) -> Result<Expression, ParseStop>
     ensures { Reads expr_view result (apply_form (state_names states.now) at (seen_all trees.now)) }
 {
-    let Some((operator, rest)) = parse_operator(trees) else {
+    let Some((operator, rest)) = parse_keyword(trees) else {
         return Err(ParseStop::NoForm);
     };
     let operands = parse_expressions(alloc, states, rest)?;

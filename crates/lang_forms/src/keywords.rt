@@ -1,9 +1,8 @@
 // The keywords of types, policies, kinds of snapshots and operators.
-ghost use Rattle.std.specs.Prelude.{◌≡◌, ◌≤◌, Bool};
+ghost use Rattle.std.specs.Prelude.{◌≡◌, ◌≤◌, ℕ, List, Bool, Option};
 ghost use Rattle.std.specs.Option.{option_map, IfSome};
-ghost use Rattle.rt_values.specs.Keywords.{type_word};
-ghost use Rattle.lang_forms.specs.Words.{operator_word, takes, type_for_word, policy_for_word, kind_for_word, number_operator, truth_operator, list_operator, operator_for_word};
-ghost use Rattle.lang_forms.specs.Readings.{type_of, policy_of, kind_of, operator_of};
+ghost use Rattle.lang_forms.specs.Words.{takes, type_for_word, policy_for_word, kind_for_word, number_operator, truth_operator, list_operator, operator_for_word};
+ghost use Rattle.lang_forms.specs.Readings.{keyword_of};
 ghost use Rattle.lang_forms.specs.Views.{widest, seen_all};
 
 use crate::cursor::{same_bytes, split_first_atom};
@@ -12,92 +11,86 @@ use rt_values::{Kind, Ty};
 use sexp_text::Tree;
 use snap_policy::BuiltIn;
 
-// Finds the type of a keyword.
-#[tactic(auto, unfolding(crate::specs::Words::type_for_word))]
-fn type_in_word(word: &[u8]) -> Option<Ty>
-    ensures { result ≡ type_for_word word.now }
-{
-    if same_bytes(word, b"Int") {
-        Some(Ty::Int)
-    } else if same_bytes(word, b"Bool") {
-        Some(Ty::Bool)
-    } else if same_bytes(word, b"Text") {
-        Some(Ty::Text)
-    } else if same_bytes(word, b"Ints") {
-        Some(Ty::Ints)
-    } else {
-        None
-    }
+/// A value that the source text has as a keyword.
+pub trait Keyword {
+    // The value of each keyword.
+    ghost table: { List ℕ → Option Self };
+
+    /// Returns the value of the keyword `word`, or `None` if `word` is no keyword of such a value.
+    fn from_word(word: &[u8]) -> Option<Self>
+        ensures { result ≡ table word.now };
 }
 
-// Parses the first tree as a type, and returns the trees after it.
-#[tactic(auto, unfolding(crate::specs::Readings::type_of))]
-pub fn parse_type(trees: &[Tree]) -> Option<(Ty, &[Tree])>
-    ensures seen { option_map (λ p. (p.0, seen_all p.1.now)) result ≡ type_of (seen_all trees.now) }
+/// Parses the first tree as a keyword. Returns its value, and the trees after it.
+#[tactic(auto, unfolding(crate::specs::Readings::keyword_of))]
+pub fn parse_keyword<K: Keyword>(trees: &[Tree]) -> Option<(K, &[Tree])>
+    ensures seen { option_map (λ p. (p.0, seen_all p.1.now)) result
+        ≡ keyword_of K.table (seen_all trees.now) }
     ensures within { IfSome result (λ p. widest p.1.now ≤ widest trees.now) }
 {
     let (_, word, rest) = split_first_atom(trees)?;
-    let ty = type_in_word(word)?;
-    Some((ty, rest))
+    let value = K::from_word(word)?;
+    Some((value, rest))
 }
 
-// Finds the policy of a keyword.
+#[tactic(auto, unfolding(crate::specs::Words::type_for_word))]
+impl Keyword for Ty {
+    ghost table = { type_for_word };
+
+    fn from_word(word: &[u8]) -> Option<Ty> {
+        if same_bytes(word, b"Int") {
+            Some(Ty::Int)
+        } else if same_bytes(word, b"Bool") {
+            Some(Ty::Bool)
+        } else if same_bytes(word, b"Text") {
+            Some(Ty::Text)
+        } else if same_bytes(word, b"Ints") {
+            Some(Ty::Ints)
+        } else {
+            None
+        }
+    }
+}
+
 #[tactic(auto, unfolding(crate::specs::Words::policy_for_word))]
-fn policy_in_word(word: &[u8]) -> Option<BuiltIn>
-    ensures { result ≡ policy_for_word word.now }
-{
-    if same_bytes(word, b"Structural") {
-        Some(BuiltIn::Structural)
-    } else if same_bytes(word, b"Never") {
-        Some(BuiltIn::Never)
-    } else if same_bytes(word, b"Counter") {
-        Some(BuiltIn::Counter)
-    } else if same_bytes(word, b"Largest") {
-        Some(BuiltIn::Largest)
-    } else if same_bytes(word, b"Append") {
-        Some(BuiltIn::Append)
-    } else {
-        None
+impl Keyword for BuiltIn {
+    ghost table = { policy_for_word };
+
+    fn from_word(word: &[u8]) -> Option<BuiltIn> {
+        if same_bytes(word, b"Structural") {
+            Some(BuiltIn::Structural)
+        } else if same_bytes(word, b"Never") {
+            Some(BuiltIn::Never)
+        } else if same_bytes(word, b"Counter") {
+            Some(BuiltIn::Counter)
+        } else if same_bytes(word, b"Largest") {
+            Some(BuiltIn::Largest)
+        } else if same_bytes(word, b"Append") {
+            Some(BuiltIn::Append)
+        } else {
+            None
+        }
     }
 }
 
-// Parses the first tree as a policy, and returns the trees after it.
-#[tactic(auto, unfolding(crate::specs::Readings::policy_of))]
-pub fn parse_policy(trees: &[Tree]) -> Option<(BuiltIn, &[Tree])>
-    ensures { option_map (λ p. (p.0, seen_all p.1.now)) result ≡ policy_of (seen_all trees.now) }
-{
-    let (_, word, rest) = split_first_atom(trees)?;
-    let policy = policy_in_word(word)?;
-    Some((policy, rest))
-}
-
-// Finds the kind of snapshots of a keyword.
 #[tactic(auto, unfolding(crate::specs::Words::kind_for_word))]
-fn kind_in_word(word: &[u8]) -> Option<Kind>
-    ensures { result ≡ kind_for_word word.now }
-{
-    if same_bytes(word, b"mutable") {
-        Some(Kind::Mutable)
-    } else if same_bytes(word, b"readonly") {
-        Some(Kind::Readonly)
-    } else {
-        None
+impl Keyword for Kind {
+    ghost table = { kind_for_word };
+
+    fn from_word(word: &[u8]) -> Option<Kind> {
+        if same_bytes(word, b"mutable") {
+            Some(Kind::Mutable)
+        } else if same_bytes(word, b"readonly") {
+            Some(Kind::Readonly)
+        } else {
+            None
+        }
     }
 }
 
-// Parses the first tree as a kind of snapshots, and returns the trees after it.
-#[tactic(auto, unfolding(crate::specs::Readings::kind_of))]
-pub fn parse_kind(trees: &[Tree]) -> Option<(Kind, &[Tree])>
-    ensures { option_map (λ p. (p.0, seen_all p.1.now)) result ≡ kind_of (seen_all trees.now) }
-{
-    let (_, word, rest) = split_first_atom(trees)?;
-    let kind = kind_in_word(word)?;
-    Some((kind, rest))
-}
-
-// Finds the operator on numbers of a keyword.
+// Returns the operator on numbers of a keyword.
 #[tactic(auto, unfolding(crate::specs::Words::number_operator))]
-fn number_operator_in(word: &[u8]) -> Option<Operator>
+fn find_number_operator(word: &[u8]) -> Option<Operator>
     ensures { result ≡ number_operator word.now }
 {
     if same_bytes(word, b"+") {
@@ -115,9 +108,9 @@ fn number_operator_in(word: &[u8]) -> Option<Operator>
     }
 }
 
-// Finds the operator of a keyword that compares or chooses.
+// Returns the operator of a keyword that compares or chooses.
 #[tactic(auto, unfolding(crate::specs::Words::truth_operator))]
-fn truth_operator_in(word: &[u8]) -> Option<Operator>
+fn find_truth_operator(word: &[u8]) -> Option<Operator>
     ensures { result ≡ truth_operator word.now }
 {
     if same_bytes(word, b"=") {
@@ -137,9 +130,9 @@ fn truth_operator_in(word: &[u8]) -> Option<Operator>
     }
 }
 
-// Finds the operator on texts or lists of a keyword.
+// Returns the operator on texts or lists of a keyword.
 #[tactic(auto, unfolding(crate::specs::Words::list_operator))]
-fn list_operator_in(word: &[u8]) -> Option<Operator>
+fn find_list_operator(word: &[u8]) -> Option<Operator>
     ensures { result ≡ list_operator word.now }
 {
     if same_bytes(word, b"join") {
@@ -163,33 +156,22 @@ fn list_operator_in(word: &[u8]) -> Option<Operator>
     }
 }
 
-// Finds the operator of a keyword.
 #[tactic(auto, unfolding(crate::specs::Words::operator_for_word))]
-fn operator_in_word(word: &[u8]) -> Option<Operator>
-    ensures { result ≡ operator_for_word word.now }
-{
-    if let Some(operator) = number_operator_in(word) {
-        return Some(operator);
+impl Keyword for Operator {
+    ghost table = { operator_for_word };
+
+    fn from_word(word: &[u8]) -> Option<Operator> {
+        if let Some(operator) = find_number_operator(word) {
+            return Some(operator);
+        }
+        if let Some(operator) = find_truth_operator(word) {
+            return Some(operator);
+        }
+        find_list_operator(word)
     }
-    if let Some(operator) = truth_operator_in(word) {
-        return Some(operator);
-    }
-    list_operator_in(word)
 }
 
-// Parses the first tree as an operator, and returns the trees after it.
-#[tactic(auto, unfolding(crate::specs::Readings::operator_of))]
-pub fn parse_operator(trees: &[Tree]) -> Option<(Operator, &[Tree])>
-    ensures seen { option_map (λ p. (p.0, seen_all p.1.now)) result
-        ≡ operator_of (seen_all trees.now) }
-    ensures within { IfSome result (λ p. widest p.1.now ≤ widest trees.now) }
-{
-    let (_, word, rest) = split_first_atom(trees)?;
-    let operator = operator_in_word(word)?;
-    Some((operator, rest))
-}
-
-// Whether an operator has `count` operands.
+// Returns whether an operator has `count` operands.
 pub fn has_operands(operator: Operator, count: usize) -> bool
     ensures { result ≡ takes operator count }
 {

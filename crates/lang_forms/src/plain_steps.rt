@@ -4,7 +4,7 @@ ghost use Rattle.lang_forms.specs.Readings.{snapshot_of, state_in_snapshot, take
 ghost use Rattle.lang_forms.specs.Views.{seen_tree, seen_all, state_names, Reads};
 
 use crate::cursor::{is_at_end, parse_name, skip_keyword};
-use crate::keywords::parse_kind;
+use crate::keywords::parse_keyword;
 use crate::known_names::state_number;
 use crate::literals::{parse_first_int, parse_literal};
 use crate::stop::ParseStop;
@@ -45,7 +45,7 @@ fn parse_take(alloc: Global, at: usize, trees: &[Tree]) -> Result<CallForm, Pars
     ensures { Reads (λ s. s) result (take_form at (seen_all trees.now)) }
 {
     let (name, rest) = parse_name(alloc, trees)?;
-    let Some((kind, rest)) = parse_kind(rest) else {
+    let Some((kind, rest)) = parse_keyword(rest) else {
         return Err(ParseStop::NoForm);
     };
     let (parent, rest) = parse_snapshot(alloc, rest)?;

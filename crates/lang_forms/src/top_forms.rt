@@ -5,7 +5,7 @@ ghost use Rattle.lang_forms.specs.Readings.{parameter_form, parameter_at, parame
 ghost use Rattle.lang_forms.specs.Views.{seen_tree, seen_all, known_names_view, top_view, Reads};
 
 use crate::cursor::{is_at_end, parse_name, skip_keyword};
-use crate::keywords::{parse_policy, parse_type};
+use crate::keywords::parse_keyword;
 use crate::known_names::KnownNames;
 use crate::literals::parse_literal;
 use crate::script::parse_do_form;
@@ -29,7 +29,7 @@ fn parse_parameter(alloc: Global, trees: &[Tree]) -> Result<Parameter, ParseStop
     ensures { Reads (λ p. p) result (parameter_form (seen_all trees.now)) }
 {
     let (name, rest) = parse_name(alloc, trees)?;
-    let Some((ty, rest)) = parse_type(rest) else {
+    let Some((ty, rest)) = parse_keyword(rest) else {
         return Err(ParseStop::NoForm);
     };
     if is_at_end(rest) {
@@ -84,10 +84,10 @@ fn parse_state(alloc: Global, at: usize, trees: &[Tree]) -> Result<State, ParseS
     ensures { Reads (λ s. s) result (state_form at (seen_all trees.now)) }
 {
     let (name, rest) = parse_name(alloc, trees)?;
-    let Some((ty, rest)) = parse_type(rest) else {
+    let Some((ty, rest)) = parse_keyword(rest) else {
         return Err(ParseStop::NoForm);
     };
-    let Some((policy, rest)) = parse_policy(rest) else {
+    let Some((policy, rest)) = parse_keyword(rest) else {
         return Err(ParseStop::NoForm);
     };
     let (initial, rest) = parse_literal(alloc, rest)?;
