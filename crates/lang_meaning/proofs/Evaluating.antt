@@ -189,24 +189,7 @@ pick_evaluated m x at op es es' env n c noting free free' asked mid asked' reads
 list_apply : (o : Operator) (vs : List Value) → is_list o ≡ true
     → apply o vs ≡ value.Ints (take most_items (map number_of vs))
 list_apply operator.Ints vs h = refl
-list_apply operator.Add vs h = cc
-list_apply operator.Subtract vs h = cc
-list_apply operator.Multiply vs h = cc
-list_apply operator.Divide vs h = cc
-list_apply operator.Remainder vs h = cc
-list_apply operator.Equal vs h = cc
-list_apply operator.Less vs h = cc
-list_apply operator.Not vs h = cc
-list_apply operator.And vs h = cc
-list_apply operator.Or vs h = cc
-list_apply operator.Pick vs h = cc
-list_apply operator.Join vs h = cc
-list_apply operator.Text vs h = cc
-list_apply operator.Range vs h = cc
-list_apply operator.Push vs h = cc
-list_apply operator.Concat vs h = cc
-list_apply operator.Length vs h = cc
-list_apply operator.At vs h = cc
+list_apply _ vs h = cc
 
 list_reading : (m : Map) (x : Expr) (at : ℕ) (op : Operator) (es : Exprs) (env : Bindings) → x ≡ Apply at op es
     → is_pick op ≡ false → is_list op ≡ true → eval m x env
