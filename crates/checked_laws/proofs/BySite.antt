@@ -10,7 +10,8 @@ use Rattle.lang_checks.specs.Expressions.{ExpressionScope, expr_faults, exprs_fa
 use Rattle.lang_checks.specs.Statements.{StatementContext, inside, stmt_faults, stmts_faults}
 use Rattle.lang_checks.specs.Numbers.{stmt_sites, stmts_sites, functions_sites}
 use Rattle.lang_checks.proofs.RisingSites.{Rises, counts_rise, last_of, last_on, rises_to, rises_apart}
-use Rattle.lang_checks.proofs.Fine.{none_in, held}
+use Rattle.lang_ast.proofs.Limits.{none_in}
+use Rattle.lang_checks.proofs.Fine.{held}
 use Rattle.lang_meaning.specs.Skipping.{has_get, have_get}
 use Rattle.recompose_laws.specs.CalculatedCells.{Calculation, StmtCalculates, StmtsCalculate, FunctionsCalculate, calculated_from}
 use Rattle.checked_laws.specs.CheckedPrograms.{stmt_calculation, stmts_calculation, functions_calculation, CalculationsAreBySite}

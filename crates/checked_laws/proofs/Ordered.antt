@@ -8,7 +8,8 @@ use Rattle.lang_checks.specs.declared.environment.TypedName.{TypedName}
 use Rattle.lang_checks.specs.Scopes.{first_named, numbered_or, named_function}
 use Rattle.lang_checks.specs.Statements.{StatementContext, call_faults, stmt_faults, stmts_faults}
 use Rattle.lang_checks.specs.Numbers.{HasItsNumber, StmtCalls, StmtsCalls, FunctionsCalls}
-use Rattle.lang_checks.proofs.Fine.{none_in, held}
+use Rattle.lang_ast.proofs.Limits.{none_in}
+use Rattle.lang_checks.proofs.Fine.{held}
 use Rattle.lang_ast.specs.declared.program.State.{State}
 use Rattle.recompose_laws.specs.MadeCalls.{CallsBelow, AllBelow, AreOrdered}
 use Rattle.checked_laws.specs.CheckedPrograms.{ProgramIsOrdered}

@@ -12,7 +12,7 @@ use Rattle.lang_checks.specs.Chains.{chains_faults}
 use Rattle.lang_checks.specs.Expressions.{type, types_of, expr_faults, exprs_faults, values_faults}
 use Rattle.lang_checks.specs.Statements.{StatementContext, plain_scope, inside, call_faults, stmt_faults, stmts_faults}
 use Rattle.lang_checks.specs.ProgramFaults.{bound_parameters, states_faults, functions_faults, program_faults}
-use Rattle.lang_checks.proofs.Fine.{none_in}
+use Rattle.lang_ast.proofs.Limits.{none_in}
 
 -- The parts of a statement have no faults.
 abbrev pub PartsAreFine : StatementContext → List TypedName → Stmt → Type 0

@@ -13,7 +13,8 @@ use Rattle.lang_checks.specs.Scopes.{type_if_named, state_type}
 use Rattle.lang_checks.specs.Expressions.{ExpressionScope, expr_faults, exprs_faults, values_faults}
 use Rattle.lang_checks.specs.Statements.{StatementContext, plain_scope, inside, stmt_faults, stmts_faults}
 use Rattle.lang_checks.specs.ProgramFaults.{bound_parameters}
-use Rattle.lang_checks.proofs.Fine.{none_in, held}
+use Rattle.lang_ast.proofs.Limits.{none_in}
+use Rattle.lang_checks.proofs.Fine.{held}
 use Rattle.compose_model.specs.Composing.{Meaning, forest}
 use Rattle.recompose_laws.proofs.ForestProperties.{StatementFacts, IsForestProperty, AllHold, meanings_hold}
 use Rattle.checked_laws.specs.CheckedPrograms.{ReadsAreOfStates}

@@ -18,7 +18,7 @@ use Rattle.recompose_laws.specs.Work.{Work, no_work}
 use Rattle.recompose_laws.proofs.Owed.{owed_is_what_changed}
 use Rattle.recompose_laws.proofs.Renewals.{composing_again_is_the_frame}
 use Rattle.recompose_laws.proofs.Plain.{kept_trail_is_the_forest}
-use Rattle.recompose_laws.proofs.Idles.{kept_is_numbered, idle_frame, quiet_part_is_kept}
+use Rattle.recompose_laws.proofs.Idles.{how_many-without_numbers, nodes-without_numbers, kept_is_numbered, idle_frame, quiet_part_is_kept}
 use Rattle.tree_laws.proofs.ForestTrees.{kept_tree_is_distinct}
 use Rattle.tree_laws.proofs.KeptShapes.{next_tree_can_follow}
 use Rattle.node_tree.specs.FrameOps.{frame_ops}
@@ -145,18 +145,6 @@ same_values : (owed xs : List ℕ) (m n : Map) → SameBut owed m n → SameRead
 same_values owed [] m n h = tt
 same_values owed (x ∷ xs) m n h = (h x, same_values owed xs m n h)
 
--- The same counts, with and without numbers.
-how_many-plain : (t : GroupForest) → how_many (without_numbers t) ≡ how_many t
-how_many-plain End = refl
-how_many-plain (Read x rest) = how_many-plain rest
-how_many-plain (Group site n what inside rest) = omega (arith, how_many-plain inside, how_many-plain rest)
-
-how_many_nodes-plain : (t : GroupForest) → how_many_nodes (without_numbers t) ≡ how_many_nodes t
-how_many_nodes-plain End = refl
-how_many_nodes-plain (Read x rest) = how_many_nodes-plain rest
-how_many_nodes-plain (Group site n what inside rest) =
-    omega (arith, how_many_nodes-plain inside, how_many_nodes-plain rest)
-
 no_reads : min 0 (2 ^ 64 - 1) ≡ 0
 no_reads = omega arith
 
@@ -189,8 +177,8 @@ unread_result functions root m n trail next was numbers same unread =
     let work = sym both.1 ∙ kept.1 in
     let told : report owed trail new ≡ unchanged_report trail =
     ap (λ (w : Work). told_of w (how_many new) (how_many_nodes new)) work
-    ∙ ap (λ k. told_of no_work k (how_many_nodes new)) (ap how_many plain ∙ how_many-plain trail)
-    ∙ ap (λ k. told_of no_work (how_many trail) k) (ap how_many_nodes plain ∙ how_many_nodes-plain trail)
+    ∙ ap (λ k. told_of no_work k (how_many_nodes new)) (ap how_many plain ∙ how_many-without_numbers trail)
+    ∙ ap (λ k. told_of no_work (how_many trail) k) (ap how_many_nodes plain ∙ nodes-without_numbers trail)
     ∙ ap {B = Report} (λ x. record {
       ran = 0;
       calculated = 0;

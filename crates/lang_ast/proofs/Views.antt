@@ -54,17 +54,11 @@ pub view-Remember : (at site : ℕ) (name : Ident) (keys : Vec Named Global) (va
     ≡ Remember at site name (nameds_view keys.items) (expr_view value) (stmts_view body.items)
 view-Remember at site name keys value body = search (rules, stmt_lemmas)
 
+-- The view of each kind of expression in memory.
+pub ruleset expressions = (view-Literal, view-Variable, view-Get, view-Apply)
+
+-- The view of each kind of statement in memory.
+pub ruleset statements = (view-Node, view-Call, view-Key, view-If, view-For, view-Let, view-Remember)
+
 -- The view of each form in memory.
-pub ruleset views = (
-  view-Literal,
-  view-Variable,
-  view-Get,
-  view-Apply,
-  view-Node,
-  view-Call,
-  view-Key,
-  view-If,
-  view-For,
-  view-Let,
-  view-Remember,
-)
+pub ruleset views = (expressions, statements)

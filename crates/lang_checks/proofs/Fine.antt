@@ -6,13 +6,10 @@ use Rattle.lang_ast.specs.Programs.{root_number}
 use Rattle.lang_ast.specs.SyntaxView.{function_view, functions_view}
 use Rattle.lang_ast.specs.declared.program.State.{State}
 use Rattle.lang_ast.specs.declared.syntax.Function.{Function}
+use Rattle.lang_ast.proofs.Limits.{none_in}
 use Rattle.lang_checks.specs.declared.faults.CheckKind.{CheckKind}
 use Rattle.lang_checks.specs.FaultOrder.{fault_unless}
 use Rattle.lang_checks.specs.ProgramFaults.{program_faults}
-
-pub none_in : {A : Type 0} (xs ys : List A) → xs ++ ys ≡ [] → (xs ≡ []) × (ys ≡ [])
-none_in [] ys h = (refl, h)
-none_in (x ∷ xs) ys h = absurd (cc)
 
 pub held : (b : Bool) (k : CheckKind) (at : ℕ) → fault_unless b k at ≡ [] → b ≡ true
 held true k at h = refl

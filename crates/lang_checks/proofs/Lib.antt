@@ -1,4 +1,3 @@
-pub mod Forms
 pub mod Least
 pub mod Rows
 pub mod Steps

@@ -1,7 +1,7 @@
 -- Functions in memory by their numbers, and the names of parts in memory.
 use Rattle.std.proofs.Common.{◌≡◌, ℕ, List, [], ◌∷◌, length, map, slice_get, option_map, refl, ap}
-use Rattle.std.proofs.lemmas.List.{length-map}
 use Rattle.std.proofs.lemmas.Option.{slice_get-map}
+use Rattle.lang_ast.proofs.Functions.{how_many_functions}
 use Rattle.lang_ast.specs.Terms.{Named as named, Func}
 use Rattle.lang_ast.specs.SyntaxView.{function_view, functions_view, nameds_view}
 use Rattle.lang_ast.specs.declared.syntax.Ident.{Ident}
@@ -20,8 +20,5 @@ pub function_names : (fs : List Function)
     → map (λ (f : Func). f.name) (functions_view fs) ≡ map (λ (f : Function). f.name) fs
 function_names [] = refl
 function_names (f ∷ fs) = ap (λ (rest : List Ident). f.name ∷ rest) (function_names fs)
-
-pub how_many_functions : (fs : List Function) → length (functions_view fs) ≡ length fs
-how_many_functions fs = length-map fs function_view
 
 pub ruleset functions = (function_names, how_many_functions)

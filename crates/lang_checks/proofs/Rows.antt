@@ -1,17 +1,12 @@
 -- Expressions, statements and functions in memory, in order.
 use Rattle.std.proofs.Common.{◌≡◌, ℕ, suc, ◌+◌, ◌<◌, List, ◌∷◌, length, get_or, drop, sym, ap, ◌∙◌, drop-cons, add-one}
+use Rattle.lang_ast.proofs.Lists.{drop_item}
 use Rattle.lang_ast.specs.Terms.{more, next}
 use Rattle.lang_ast.specs.SyntaxView.{expr_view, exprs_view, named_view, nameds_view, stmt_view, stmts_view, function_view, functions_view}
 use Rattle.lang_ast.specs.declared.syntax.Expression.{Expression}
 use Rattle.lang_ast.specs.declared.syntax.Statement.{Statement}
 use Rattle.lang_ast.specs.declared.syntax.Named.{Named}
 use Rattle.lang_ast.specs.declared.syntax.Function.{Function}
-
--- The item at an index, and those after it.
-pub drop_item : {A : Type 0} (xs : List A) (i : ℕ) (x : A) → i < length xs → x ≡ get_or xs i x
-    → drop i xs ≡ x ∷ drop (i + 1) xs
-drop_item {A} xs i x h is =
-    drop-cons xs i x h ∙ ap (λ (y : A). y ∷ drop (suc i) xs) (sym is) ∙ ap (λ (k : ℕ). x ∷ drop k xs) (sym (add-one i))
 
 pub exprs_drop : (es : List Expression) (i : ℕ) (e : Expression) → i < length es → e ≡ get_or es i e
     → exprs_view (drop i es) ≡ more (expr_view e) (exprs_view (drop (i + 1) es))

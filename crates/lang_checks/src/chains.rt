@@ -16,7 +16,7 @@ const MOST_CHAIN: usize = 32;
 
 // Returns the length of the longest chain that a statement calls. `chains` has the lengths for the
 // functions before its own.
-#[tactic(auto, using(crate::proofs::Forms::statements))]
+#[tactic(auto, using(lang_ast::proofs::Views::statements))]
 #[cycle(chains)]
 fn longest(chains: &[usize], s: &Statement) -> usize
     ensures { result ≡ longest chains.now (stmt_view s.now) }

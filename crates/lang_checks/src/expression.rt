@@ -85,7 +85,7 @@ fn get(
 }
 
 /// Infers the type of `e`, and updates `least` with the faults in `e`.
-#[tactic(auto, using(crate::proofs::Forms::expressions, crate::proofs::Least::answers))]
+#[tactic(auto, using(lang_ast::proofs::Views::expressions, crate::proofs::Least::answers))]
 #[cycle(types)]
 pub fn expression(
     alloc: Global,

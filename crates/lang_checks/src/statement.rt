@@ -115,7 +115,7 @@ fn check_call(
 }
 
 /// Updates `least` with the faults of a statement. `scope` has the variables in scope.
-#[tactic(auto, using(crate::proofs::Forms::statements, crate::proofs::Least::answers))]
+#[tactic(auto, using(lang_ast::proofs::Views::statements, crate::proofs::Least::answers))]
 #[cycle(faults)]
 pub fn statement(
     alloc: Global,

@@ -1,6 +1,5 @@
 -- Trees and syntax in memory, level by level.
 use Rattle.std.proofs.Common.{◌≡◌, ℕ, List, Vec, Global, rules}
-use Rattle.lang_ast.proofs.Views.{view-Literal, view-Variable, view-Get, view-Apply, view-Node, view-Call, view-Key, view-If, view-For, view-Let, view-Remember}
 use Rattle.lang_forms.specs.Readings.{word, chars, form, roles}
 use Rattle.lang_forms.specs.Views.{seen_tree, seen_all}
 use Rattle.sexp_text.specs.declared.tree.Tree.{Tree, Atom, Text, List as TreeList, the_lemmas}
@@ -17,18 +16,3 @@ seen-List at trees = search (rules, the_lemmas)
 
 -- The view of each kind of tree.
 pub ruleset trees = (seen-Atom, seen-Text, seen-List)
-
--- The view of each form in memory.
-pub ruleset syntax = (
-  view-Literal,
-  view-Variable,
-  view-Get,
-  view-Apply,
-  view-Node,
-  view-Call,
-  view-Key,
-  view-If,
-  view-For,
-  view-Let,
-  view-Remember,
-)

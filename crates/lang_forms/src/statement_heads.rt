@@ -143,7 +143,7 @@ pub fn parse_head<'a>(
 }
 
 // Returns the statement with the head and the body.
-#[tactic(auto, using(crate::proofs::Trees::syntax))]
+#[tactic(auto, using(lang_ast::proofs::Views::views))]
 fn add_body(head: StatementHead, at: usize, site: u32, body: Vec<Statement>) -> Statement
     ensures { stmt_view result
         ≡ with_body (head_view head) at site (map stmt_view body.items) }

@@ -29,7 +29,7 @@ fn site_after(site: u32) -> Result<u32, ParseStop>
 }
 
 // Parses `NAME EXPR..` after the word `call`.
-#[tactic(auto, unfolding(crate::specs::Readings::call_form), using(crate::proofs::Trees::syntax))]
+#[tactic(auto, unfolding(crate::specs::Readings::call_form), using(lang_ast::proofs::Views::views))]
 fn parse_call(
     alloc: Global,
     known: &KnownNames,
@@ -117,7 +117,7 @@ fn parse_with_body(
 }
 
 // Parses `EXPR (STMT..) (STMT..)` after the word `if`.
-#[tactic(auto, unfolding(crate::specs::StatementHeads::branch_form), using(crate::proofs::Trees::syntax))]
+#[tactic(auto, unfolding(crate::specs::StatementHeads::branch_form), using(lang_ast::proofs::Views::views))]
 #[cycle(statements)]
 fn parse_if(
     alloc: Global,

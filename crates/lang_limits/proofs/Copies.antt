@@ -4,6 +4,7 @@ use Rattle.sexp_text.specs.Forest.{Forest, empty, atom, text, list, joined_trees
 use Rattle.sexp_text.specs.View.{tree_view, forest_view}
 use Rattle.sexp_text.specs.declared.tree.Tree.{Tree}
 use Rattle.sexp_text.proofs.Trees.{joined_trees-empty, joined_trees_assoc, forest_view-push, OneTree, one_atom, one_text, one_list, one_tree, view-Atom, view-Text, view-List}
+use Rattle.lang_ast.proofs.Limits.{none_in}
 use Rattle.lang_limits.specs.Laws.{SmallTreesStay}
 use Rattle.lang_ast.specs.Sizes.{offset_if}
 use Rattle.lang_limits.specs.Tokens.{is_int, is_oversized_int, is_oversized_atom, is_oversized_string, is_oversized_list, oversized_offsets, is_do, program_trees, script_trees}
@@ -50,10 +51,6 @@ pub ruleset copies = (forest_view-push, joined_trees_assoc, joined_trees-empty, 
 
 -- What a walk over numbers needs.
 pub ruleset numbers = (are_ints-joined, three_view)
-
-none_in : {A : Type 0} (xs ys : List A) → xs ++ ys ≡ [] → (xs ≡ []) × (ys ≡ [])
-none_in [] ys h = (refl, h)
-none_in (x ∷ xs) ys h = absurd (cc)
 
 not_over : (b : Bool) (at : ℕ) → offset_if b at ≡ [] → b ≡ false
 not_over true at h = absurd (cc)

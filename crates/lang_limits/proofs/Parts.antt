@@ -3,7 +3,8 @@ use Rattle.std.proofs.Common.{arith, ◌≡◌, ◌∙◌, ◌≤◌, ◌<◌, �
 use Rattle.std.proofs.lemmas.Bool.{lt-ltb, leb-true, leb-false}
 use Rattle.std.proofs.lemmas.List.{append-nil, length-map}
 use Rattle.std.proofs.lemmas.Option.{slice_get-map}
-use Rattle.lang_ast.proofs.Views.{view-Literal, view-Variable, view-Get, view-Apply, view-Node, view-Call, view-Key, view-If, view-For, view-Let, view-Remember}
+use Rattle.lang_ast.proofs.Lists.{drop_item}
+use Rattle.lang_ast.proofs.Views.{views}
 use Rattle.lang_ast.specs.Terms.{Stmt, Node, Call, Key, If, For, Let, Remember, Stmts, done, next, operand_count}
 use Rattle.lang_ast.specs.SyntaxView.{expr_view, exprs_view, nameds_view, stmt_view, stmts_view, function_view, functions_view}
 use Rattle.lang_ast.specs.declared.program.State.{State}
@@ -17,27 +18,7 @@ use Rattle.lang_ast.specs.Sizes.{most_parts, nesting, deepest, name_sizes, expr_
 use Rattle.lang_limits.proofs.Lesser.{least_append}
 
 -- The view of each form in memory, and the least of one list after another.
-pub ruleset parts = (
-  view-Literal,
-  view-Variable,
-  view-Get,
-  view-Apply,
-  view-Node,
-  view-Call,
-  view-Key,
-  view-If,
-  view-For,
-  view-Let,
-  view-Remember,
-  least_append,
-  append-nil,
-)
-
--- The item at an index, and those after it.
-drop_item : {A : Type 0} (xs : List A) (i : ℕ) (x : A) → i < length xs → x ≡ get_or xs i x
-    → drop i xs ≡ x ∷ drop (i + 1) xs
-drop_item {A} xs i x h is =
-    drop-cons xs i x h ∙ ap (λ (y : A). y ∷ drop (suc i) xs) (sym is) ∙ ap (λ (k : ℕ). x ∷ drop k xs) (sym (add-one i))
+pub ruleset parts = (views, least_append, append-nil)
 
 pub deepest_step : (es : List Expression) (i : ℕ) (e : Expression) → i < length es → e ≡ get_or es i e →
     deepest (exprs_view (drop i es)) ≡ max (nesting (expr_view e)) (deepest (exprs_view (drop (i + 1) es)))

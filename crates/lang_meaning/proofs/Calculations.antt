@@ -1,15 +1,12 @@
 -- An expression without a `Get` reads nothing.
 use Rattle.std.proofs.Common.{ℕ, zero, suc, List, [], ◌∷◌, ◌++◌, ◌≡◌, refl, ap, ◌∙◌, sym, subst, Bool, true, false, ◌||◌, if◌then◌else◌}
+use Rattle.std.proofs.lemmas.Bool.{or_parts}
 use Rattle.rt_values.specs.Maps.{Map}
 use Rattle.lang_ast.specs.Terms.{Expr, Literal, Variable, Get, Apply, Exprs, none, more}
 use Rattle.lang_ast.specs.ResultsWithReads.{Reading, mapped_reading, with}
 use Rattle.lang_ast.specs.Evaluation.{Bindings, apply, is_pick, operand_taken, eval, eval_all, eval_nth}
 use Rattle.lang_meaning.specs.Skipping.{Agree, has_get, have_get, CellsMayBeKept}
 use Rattle.lang_meaning.proofs.Agreeing.{eval_agree}
-
-or_false : (a b : Bool) → (a || b) ≡ false → (a ≡ false) × (b ≡ false)
-or_false true b e = (e, absurd cc)
-or_false false b e = (refl, e)
 
 with_none : {A B : Type 0} (r : Reading A) (go : A → Reading B) → r.reads ≡ [] → ((a : A) → (go a).reads ≡ [])
     → (with r go).reads ≡ []
@@ -34,14 +31,14 @@ mutual
   all_reads_none m none env h = refl
   all_reads_none m (more e es) env h =
       with_none (eval m e env) (λ v. mapped_reading (λ vs. v ∷ vs) (eval_all m es env))
-      (reads_none m e env (or_false (has_get e) (have_get es) h).0)
-      (λ v. all_reads_none m es env (or_false (has_get e) (have_get es) h).1)
+      (reads_none m e env (or_parts (has_get e) (have_get es) h).0)
+      (λ v. all_reads_none m es env (or_parts (has_get e) (have_get es) h).1)
 
   nth_reads_none : (m : Map) (es : Exprs) (n : ℕ) (env : Bindings) → have_get es ≡ false
       → (eval_nth m es n env).reads ≡ []
   nth_reads_none m none n env h = refl
-  nth_reads_none m (more e es) zero env h = reads_none m e env (or_false (has_get e) (have_get es) h).0
-  nth_reads_none m (more e es) (suc n) env h = nth_reads_none m es n env (or_false (has_get e) (have_get es) h).1
+  nth_reads_none m (more e es) zero env h = reads_none m e env (or_parts (has_get e) (have_get es) h).0
+  nth_reads_none m (more e es) (suc n) env h = nth_reads_none m es n env (or_parts (has_get e) (have_get es) h).1
 
 pub cells_may_be_kept : CellsMayBeKept
 cells_may_be_kept e h m m' env =

@@ -16,6 +16,7 @@ use Rattle.lang_ast.specs.declared.syntax.Parameter.{Parameter}
 use Rattle.lang_ast.specs.declared.syntax.Function.{Function}
 use Rattle.lang_ast.specs.declared.syntax.Expression.{Expression}
 use Rattle.lang_ast.specs.declared.syntax.Statement.{Statement, Node as NodeOf, Call as CallOf, Key as KeyOf, If as IfOf, For as ForOf, Let as LetOf, Remember as RememberOf}
+use Rattle.lang_ast.proofs.Functions.{how_many_functions, functions_at, functions_front}
 use Rattle.lang_ast.proofs.Views.{view-Node, view-Call, view-Key, view-If, view-For, view-Let, view-Remember}
 use Rattle.lang_meaning.specs.ComposesForest.{ComposesForest, statement_forest, body_forest, call_forest}
 use Rattle.lang_meaning.specs.declared.composition.ScratchStop.{ScratchStop}
@@ -162,21 +163,6 @@ bound_as m fs body name env env' v v' d out out' asked asked' mine mine' result 
     (ap (λ (s : Bindings). s ++ new_binding name v ∷ []) e ∙ ap (λ (w : Value). env' ++ new_binding name w ∷ []) f) h
 
 -- A call makes the forest of the body of its function, which sees only the earlier functions.
-
-functions_at : (fs : List Function) (j : ℕ) (f : Function) → j < length fs
-    → get_or (functions_view fs) j (function_view f) ≡ function_view (get_or fs j f)
-functions_at [] j f below = absurd (omega arith)
-functions_at (g ∷ fs) zero f below = refl
-functions_at (g ∷ fs) (suc j) f below = functions_at fs j f (omega arith)
-
-functions_front : (fs : List Function) (j : ℕ) → take j (functions_view fs) ≡ functions_view (take j fs)
-functions_front fs zero = refl
-functions_front [] (suc j) = refl
-functions_front (f ∷ fs) (suc j) = ap (λ (l : List Func). function_view f ∷ l) (functions_front fs j)
-
-how_many_functions : (fs : List Function) → length (functions_view fs) ≡ length fs
-how_many_functions [] = refl
-how_many_functions (f ∷ fs) = ap suc (how_many_functions fs)
 
 -- The forest inside a call.
 abbrev pub inside_call : Map → List Function → ℕ → List Value → GroupForest

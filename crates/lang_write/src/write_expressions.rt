@@ -150,7 +150,7 @@ pub fn put_literal(alloc: Global, value: &Value, out: &mut Vec<Tree>) -> Result<
 }
 
 // Appends an expression.
-#[tactic(auto, using(lang_forms::proofs::Trees::syntax, crate::proofs::Written::written))]
+#[tactic(auto, using(lang_ast::proofs::Views::views, crate::proofs::Written::written))]
 #[cycle(expressions)]
 pub fn put_expr(alloc: Global, expr: &Expression, out: &mut Vec<Tree>) -> Result<(), NoMemory>
     ensures { OnOk result ((g : Sketch) →

@@ -18,7 +18,7 @@ use sexp_text::Tree;
 use std::alloc::Global;
 
 // Appends the form of a statement.
-#[tactic(auto, using(lang_forms::proofs::Trees::syntax, crate::proofs::Written::written))]
+#[tactic(auto, using(lang_ast::proofs::Views::views, crate::proofs::Written::written))]
 #[cycle(statements)]
 fn put_stmt(alloc: Global, statement: &Statement, out: &mut Vec<Tree>) -> Result<(), NoMemory>
     ensures { OnOk result (AppendsForms out.old.items out.new.items

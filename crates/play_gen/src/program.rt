@@ -93,7 +93,7 @@ fn generated_states(alloc: Global, size: u32) -> Result<Vec<State>, NoMemory>
 }
 
 // Returns the variable with this name.
-#[tactic(auto, using(crate::proofs::Parts::parts))]
+#[tactic(auto, using(lang_ast::proofs::Views::views))]
 fn variable(alloc: Global, name: &[u8]) -> Result<Expression, NoMemory>
     ensures { IfOk result (λ e. expr_view e ≡ variable name.now) }
 {
@@ -103,7 +103,7 @@ fn variable(alloc: Global, name: &[u8]) -> Result<Expression, NoMemory>
 }
 
 // Returns the `get` of the state with this name and number.
-#[tactic(auto, using(crate::proofs::Parts::parts))]
+#[tactic(auto, using(lang_ast::proofs::Views::views))]
 fn state_value(alloc: Global, name: &[u8], number: ObjectNo) -> Result<Expression, NoMemory>
     ensures { IfOk result (λ e. expr_view e ≡ state_value name.now number) }
 {
@@ -116,7 +116,7 @@ fn state_value(alloc: Global, name: &[u8], number: ObjectNo) -> Result<Expressio
 }
 
 // Returns the product of two expressions.
-#[tactic(auto, using(crate::proofs::Parts::parts))]
+#[tactic(auto, using(lang_ast::proofs::Views::views))]
 fn product(alloc: Global, a: Expression, b: Expression) -> Result<Expression, NoMemory>
     ensures { IfOk result (λ e. expr_view e ≡ product (expr_view a) (expr_view b)) }
 {
@@ -174,7 +174,7 @@ fn add_state_value(
 }
 
 // Returns the node of this kind.
-#[tactic(auto, using(crate::proofs::Parts::parts))]
+#[tactic(auto, using(lang_ast::proofs::Views::views))]
 fn node(
     alloc: Global,
     site: u32,
@@ -196,7 +196,7 @@ fn node(
 }
 
 // Returns the call of the function with this name and number.
-#[tactic(auto, using(crate::proofs::Parts::parts))]
+#[tactic(auto, using(lang_ast::proofs::Views::views))]
 fn call(
     alloc: Global,
     site: u32,
@@ -275,7 +275,7 @@ fn row_node(alloc: Global) -> Result<Statement, NoMemory>
 }
 
 // Returns the `remember` with this name.
-#[tactic(auto, using(crate::proofs::Parts::parts))]
+#[tactic(auto, using(lang_ast::proofs::Views::views))]
 fn remember(
     alloc: Global,
     site: u32,
@@ -351,7 +351,7 @@ fn row_function(alloc: Global) -> Result<Function, NoMemory>
 }
 
 // Returns the call of `row`.
-#[tactic(auto, using(crate::proofs::Parts::parts))]
+#[tactic(auto, using(lang_ast::proofs::Views::views))]
 fn row_call(alloc: Global) -> Result<Statement, NoMemory>
     ensures { IfOk result (λ s. stmt_view s ≡
         Call 0 5 (ident (codes "row")) 0 (exprs (variable (codes "i") ∷ []))) }
@@ -362,7 +362,7 @@ fn row_call(alloc: Global) -> Result<Statement, NoMemory>
 }
 
 // Returns the call of `row` under its key.
-#[tactic(auto, using(crate::proofs::Parts::parts))]
+#[tactic(auto, using(lang_ast::proofs::Views::views))]
 fn keyed_row(alloc: Global) -> Result<Statement, NoMemory>
     ensures { IfOk result (λ s. stmt_view s ≡ keyed_row) }
 {
@@ -377,7 +377,7 @@ fn keyed_row(alloc: Global) -> Result<Statement, NoMemory>
 }
 
 // Returns the statement of the function `list`.
-#[tactic(auto, using(crate::proofs::Parts::parts))]
+#[tactic(auto, using(lang_ast::proofs::Views::views))]
 fn all_rows(alloc: Global) -> Result<Statement, NoMemory>
     ensures { IfOk result (λ s. stmt_view s ≡ all_rows) }
 {

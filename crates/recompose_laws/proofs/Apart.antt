@@ -1,7 +1,7 @@
 -- Each old group is matched at most once, so node numbers stay unique.
 use Rattle.std.proofs.Common.{ℕ, zero, suc, ◌+◌, ◌<◌, ◌≤◌, ◌==◌, ◌≡◌, ◌⊎◌, inl, inr, List, [], ◌∷◌, refl, ap, ◌∙◌, sym, subst, Bool, true, false, ◌&&◌, nat_lt, if◌then◌else◌, Option, Some, None, arith}
 use Rattle.std.specs.Option.{option_eq}
-use Rattle.std.proofs.lemmas.Bool.{eqb-true, le-ltb, lt-ltb}
+use Rattle.std.proofs.lemmas.Bool.{and_parts, eqb-true, le-ltb, lt-ltb}
 use Rattle.rt_values.specs.declared.value.Value.{Value}
 use Rattle.rt_values.specs.Values.{same_value}
 use Rattle.rt_groups.specs.GroupForest.{GroupForest, End, Read, Group, GroupKind, Call, Node, Key, Cell, is_node}
@@ -16,10 +16,6 @@ use Rattle.recompose_laws.proofs.Numbers.{path_numbers_are_sibling_numbers}
 
 -- Siblings with the same site and key are equal.
 
-both_true : (a b : Bool) → (a && b) ≡ true → (a ≡ true) × (b ≡ true)
-both_true true b e = (refl, e)
-both_true false b e = absurd cc
-
 same_key : (k l : Option Value) → option_eq same_value k l ≡ true → k ≡ l
 same_key None None e = refl
 same_key None (Some w) e = absurd cc
@@ -28,7 +24,7 @@ same_key (Some v) (Some w) e = ap Some ((told_equal v w (same_value v w) refl).0
 
 same_is : (s t : GroupKey) → same_sibling s t ≡ true → s ≡ t
 same_is s t e =
-    let both = both_true (s.site == t.site) (option_eq same_value s.key t.key) e in
+    let both = and_parts (s.site == t.site) (option_eq same_value s.key t.key) e in
     let site : s.site ≡ t.site = eqb-true s.site t.site both.0 in
     ap (λ n. record { site = n; key = s.key }) site
     ∙ ap (λ k. record { site = t.site; key = k }) (same_key s.key t.key both.1)

@@ -1,6 +1,7 @@
 -- Looking a group up by its path is descending through matched siblings.
 use Rattle.std.proofs.Common.{ℕ, ◌+◌, List, [], ◌∷◌, ◌++◌, ◌≡◌, refl, ap, ◌∙◌, sym, map, length, length-append, Bool, true, false, ◌&&◌, if◌then◌else◌}
 use Rattle.std.specs.List.{filter}
+use Rattle.std.proofs.lemmas.List.{map-append}
 use Rattle.std.proofs.lemmas.List.Elements.{filter-append}
 use Rattle.rt_groups.specs.GroupForest.{GroupForest, End, Read, Group, GroupKind, Call, Node, Key, Cell}
 use Rattle.rt_groups.specs.Paths.{Path, PathStep, GroupKey, sibling, step, occurrence, matching_sibling, inside_of, at_path}
@@ -32,10 +33,6 @@ count-append p xs ys = ap length (filter-append p xs ys) ∙ length-append (filt
 
 abbrev taken : List ℕ → GroupForest → List (CallAtPath × ℕ) → List ℕ
 taken owed old rs = map (λ r. r.1) (filter (λ r. call_runs owed old r.0) rs)
-
-map-append : {X Y : Type 0} (f : X → Y) (xs ys : List X) → map f (xs ++ ys) ≡ map f xs ++ map f ys
-map-append f [] ys = refl
-map-append f (x ∷ xs) ys = ap (λ l. f x ∷ l) (map-append f xs ys)
 
 taken-append : (owed : List ℕ) (old : GroupForest) (rs ss : List (CallAtPath × ℕ))
     → taken owed old (rs ++ ss) ≡ taken owed old rs ++ taken owed old ss

@@ -10,6 +10,7 @@ use Rattle.lang_ast.specs.Terms.{Stmt, Node, Call, Key, If, For, Let, Remember, 
 use Rattle.lang_ast.specs.ResultsWithReads.{Reading}
 use Rattle.lang_ast.specs.Evaluation.{Bindings, new_binding, eval, eval_all, eval_named}
 use Rattle.compose_model.specs.Composing.{Meaning, forest_after, turns, attribute, bind, run, run_all, meaning, meaning_at, meanings_from, meanings}
+use Rattle.recompose_laws.proofs.Selves.{joined_forest-joined_forest}
 
 -- A group is allowed if its contents and the forest after it have the property `P`.
 abbrev pub Encloses : (GroupForest → Type 0) → ℕ → GroupKind → Type 0
@@ -67,11 +68,6 @@ joined-end End = refl
 joined-end (Read x rest) = ap (λ t. Read x t) (joined-end rest)
 joined-end (Group site n what inside rest) = ap (λ t. Group site n what inside t) (joined-end rest)
 
-joined-joined : (t u v : GroupForest) → joined_forest (joined_forest t u) v ≡ joined_forest t (joined_forest u v)
-joined-joined End u v = refl
-joined-joined (Read x rest) u v = ap (λ w. Read x w) (joined-joined rest u v)
-joined-joined (Group site n what inside rest) u v = ap (λ w. Group site n what inside w) (joined-joined rest u v)
-
 module _ {m : Map} {fs : List Meaning} {R : List ℕ → Type 0} {P : GroupForest → Type 0} {S : Stmt → Type 0}
     {SS : Stmts → Type 0} (p : IsForestProperty m fs R P S SS) where
   -- The forests of the parts of a statement, each with the forest `u` after it.
@@ -90,7 +86,7 @@ module _ {m : Map} {fs : List Meaning} {R : List ℕ → Type 0} {P : GroupFores
 
   both_before : (t u v : GroupForest) → P (joined_forest t (joined_forest u v))
       → P (joined_forest (joined_forest t u) v)
-  both_before t u v h = subst (λ (w : GroupForest). P w) (sym (joined-joined t u v)) h
+  both_before t u v h = subst (λ (w : GroupForest). P w) (sym (joined_forest-joined_forest t u v)) h
 
   turns_before : (go : ℤ → GroupForest) (is : List ℤ) (u : GroupForest)
       → ((i : ℤ) (v : GroupForest) → P v → P (joined_forest (go i) v)) → P u → P (joined_forest (turns go is) u)

@@ -112,15 +112,15 @@ quiet_part_is_kept m owed t functions k q h = (stays m owed t functions k q h, i
 
 -- Node numbers do not change what is counted.
 
-groups-without_numbers : (t : GroupForest) → how_many (without_numbers t) ≡ how_many t
-groups-without_numbers End = refl
-groups-without_numbers (Read x rest) = groups-without_numbers rest
-groups-without_numbers (Group site n what inside rest) =
-    let e = groups-without_numbers inside in
-    let f = groups-without_numbers rest in
+pub how_many-without_numbers : (t : GroupForest) → how_many (without_numbers t) ≡ how_many t
+how_many-without_numbers End = refl
+how_many-without_numbers (Read x rest) = how_many-without_numbers rest
+how_many-without_numbers (Group site n what inside rest) =
+    let e = how_many-without_numbers inside in
+    let f = how_many-without_numbers rest in
     omega (arith, e, f)
 
-nodes-without_numbers : (t : GroupForest) → how_many_nodes (without_numbers t) ≡ how_many_nodes t
+pub nodes-without_numbers : (t : GroupForest) → how_many_nodes (without_numbers t) ≡ how_many_nodes t
 nodes-without_numbers End = refl
 nodes-without_numbers (Read x rest) = nodes-without_numbers rest
 nodes-without_numbers (Group site n what inside rest) =
@@ -162,7 +162,7 @@ idle_frame m m' functions root old k kept numbers same =
         calculated = length (calculated_cells [] old new);
         reads = reads [] old new;
       }) (how_many new) (how_many_nodes new) (how_many old) (how_many_nodes old)
-          (sym both.1 ∙ idles m' [] old functions (quiet old)) (ap how_many plain ∙ groups-without_numbers old)
+          (sym both.1 ∙ idles m' [] old functions (quiet old)) (ap how_many plain ∙ how_many-without_numbers old)
           (ap how_many_nodes plain ∙ nodes-without_numbers old)
           ∙ idle_is old,
     )

@@ -1,7 +1,7 @@
 -- A node that keeps its number keeps its site.
 use Rattle.std.proofs.Common.{ℕ, zero, suc, ◌+◌, ◌≤◌, ◌==◌, ◌≡◌, List, [], ◌∷◌, refl, ap, ◌∙◌, sym, subst, Bool, true, false, ◌&&◌, if◌then◌else◌, Option, Some, None, arith, eq-eqb}
 use Rattle.std.specs.Option.{option_eq}
-use Rattle.std.proofs.lemmas.Bool.{eqb-true, false≢true}
+use Rattle.std.proofs.lemmas.Bool.{and_parts, eqb-true, false≢true}
 use Rattle.rt_values.specs.Values.{same_value}
 use Rattle.rt_groups.specs.GroupForest.{GroupForest, End, Read, Group, GroupKind, is_node}
 use Rattle.rt_groups.specs.Paths.{GroupKey, sibling, same_sibling, occurrence, Found, nth, matching_sibling, inside_of}
@@ -100,16 +100,12 @@ later_found at_site s site n what inside rest (Some g) h = record {
       omega (arith, whole, here, deep));
 }
 
-both_true : (a b : Bool) → (a && b) ≡ true → (a ≡ true) × (b ≡ true)
-both_true true b e = (refl, e)
-both_true false b e = absurd (false≢true e)
-
 found_here : (at_site : ℕ → Bool) (s : GroupKey) (site n : ℕ) (what : GroupKind) (inside rest : GroupForest)
     → same_sibling (sibling site what) s ≡ true → NodesAt at_site (Group site n what inside rest)
     → FoundGroup at_site s (Group site n what inside rest) (record { number = n; what = what; inside = inside })
 found_here at_site s site n what inside rest e h =
     let at : (site == s.site) ≡ true =
-    (both_true (site == s.site) (option_eq same_value (sibling site what).key s.key) e).0 in
+    (and_parts (site == s.site) (option_eq same_value (sibling site what).key s.key) e).0 in
     record {
       is_node_at = h.0 ∙ ap at_site (eqb-true site s.site at);
       sites = h.1;

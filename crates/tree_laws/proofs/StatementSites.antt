@@ -15,7 +15,8 @@ use Rattle.lang_checks.specs.Statements.{StatementContext, names, stmt_faults, s
 use Rattle.lang_checks.specs.Numbers.{stmt_sites, stmts_sites, functions_sites, IsNumberedProgram}
 use Rattle.lang_checks.specs.ProgramFaults.{program_faults}
 use Rattle.lang_checks.proofs.RisingSites.{Rises, counts_rise, last_of, last_on, rises_to, rises_apart}
-use Rattle.lang_checks.proofs.Fine.{none_in, held}
+use Rattle.lang_ast.proofs.Limits.{none_in}
+use Rattle.lang_checks.proofs.Fine.{held}
 use Rattle.checked_laws.proofs.Parts.{parts, BodiesAreFine, bodies}
 
 -- The kind and the attribute names of the nodes of a statement.
