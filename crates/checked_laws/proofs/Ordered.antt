@@ -3,17 +3,18 @@ use Rattle.std.proofs.Common.{arith, ◌≡◌, ◌<◌, ◌+◌, ℕ, List, [],
 use Rattle.std.specs.Str.{bytes_eq}
 use Rattle.std.proofs.lemmas.Bool.{ltb-true}
 use Rattle.rt_values.specs.declared.value.Ty.{Ty}
-use Rattle.lang_ast.specs.Terms.{Stmt, Node, Call, Key, If, For, Let, Remember, Stmts, done, next, Func}
-use Rattle.lang_checks.specs.declared.environment.TypedName.{TypedName}
+use Rattle.lang_ast.specs.Terms.{Stmt, Call, Func}
+use Rattle.lang_ast.specs.Programs.{statements_in}
+use Rattle.lang_ast.proofs.Statements.{each_of_both}
 use Rattle.lang_checks.specs.Scopes.{first_named, numbered_or, named_function}
-use Rattle.lang_checks.specs.Statements.{StatementContext, call_faults, stmt_faults, stmts_faults}
-use Rattle.lang_checks.specs.Numbers.{HasItsNumber, StmtCalls, StmtsCalls, FunctionsCalls}
+use Rattle.lang_checks.specs.Statements.{StatementContext, call_faults}
+use Rattle.lang_checks.specs.Numbers.{HasItsNumber, CallHasItsNumber, FunctionsCalls}
 use Rattle.lang_ast.proofs.Limits.{none_in}
 use Rattle.lang_checks.proofs.Fine.{held}
 use Rattle.lang_ast.specs.declared.program.State.{State}
-use Rattle.recompose_laws.specs.MadeCalls.{CallsBelow, AllBelow, AreOrdered}
+use Rattle.recompose_laws.specs.MadeCalls.{CallsBelow, AreOrdered}
 use Rattle.checked_laws.specs.CheckedPrograms.{ProgramIsOrdered}
-use Rattle.checked_laws.proofs.Parts.{parts, BodiesAreFine, bodies}
+use Rattle.checked_laws.proofs.Parts.{parts, IsFine, all_are_fine, context, BodiesAreFine, bodies}
 
 -- The function that a call refers to is an earlier one.
 refers_below : (me at : ℕ) (ts : List Ty) (p : ℕ × Func) → call_faults me at ts (Some p) ≡ [] → p.0 < me
@@ -42,36 +43,19 @@ call_below me at number ts functions name has h = by (slice_get functions number
     by None g = first_below me at number ts functions name has g
     by (Some f) g = named (bytes_eq f.name.text name) f g
 
-mutual
-  stmt_below : (p : StatementContext) (scope : List TypedName) (s : Stmt) → StmtCalls p.functions p.me s
-      → stmt_faults p scope s ≡ [] → CallsBelow p.me s
-  stmt_below p scope (Node at site name attributes body) h e =
-      body_below p scope body h (parts p scope (Node at site name attributes body) e).1
-  stmt_below p scope (Call at site name function arguments) h e =
-      call_below p.me at function _ p.functions name.text h (parts p scope (Call at site name function arguments) e).1
-  stmt_below p scope (Key at site key body) h e = body_below p scope body h (parts p scope (Key at site key body) e).1
-  stmt_below p scope (If at site condition a b) h e =
-      let fine = parts p scope (If at site condition a b) e in
-      (body_below p scope a h.0 fine.1, body_below p scope b h.1 fine.2)
-  stmt_below p scope (For at site name list body) h e =
-      body_below p _ body h (parts p scope (For at site name list body) e).1
-  stmt_below p scope (Let at site name value body) h e =
-      body_below p _ body h (parts p scope (Let at site name value body) e).1
-  stmt_below p scope (Remember at site name keys value body) h e =
-      body_below p _ body h (parts p scope (Remember at site name keys value body) e).2
-
-  body_below : (p : StatementContext) (scope : List TypedName) (ss : Stmts) → StmtsCalls p.functions p.me ss
-      → stmts_faults p scope ss ≡ [] → AllBelow p.me ss
-  body_below p scope done h e = tt
-  body_below p scope (next s ss) h e =
-      let both = none_in _ _ e in
-      (stmt_below p scope s h.0 both.0, body_below p scope ss h.1 both.1)
+below : (p : StatementContext) (s : Stmt) → CallHasItsNumber p.functions p.me s → IsFine p s → CallsBelow p.me s
+below p (Call at site name function arguments) h fine =
+    call_below p.me at function _ p.functions name.text h
+    (parts p fine.scope (Call at site name function arguments) fine.none).1
+below p _ h fine = tt
 
 ordered_from : (states : List State) (functions : List Func) (me : ℕ) (fs : List Func) → FunctionsCalls functions me fs
     → BodiesAreFine states functions me fs → AreOrdered me fs
 ordered_from states functions me [] h e = tt
 ordered_from states functions me (f ∷ fs) h e = (
-  body_below (record { states = states; functions = functions; me = me }) _ f.body h.0 e.0,
+  each_of_both (CallHasItsNumber functions me) (IsFine (context states functions me)) (CallsBelow me)
+      (statements_in f.body) (λ s has fine. below (context states functions me) s has fine) h.0
+      (all_are_fine (context states functions me) _ f.body e.0),
   ordered_from states functions (me + 1) fs h.1 e.1,
 )
 

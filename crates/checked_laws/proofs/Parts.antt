@@ -1,8 +1,9 @@
 -- If a program has no fault, its parts have none.
 use Rattle.std.proofs.Common.{◌≡◌, ℕ, ◌+◌, List, [], ◌∷◌, ◌++◌, map, length, nat_lt}
 use Rattle.rt_values.specs.declared.value.Ty.TheVariants as ty
-use Rattle.lang_ast.specs.Terms.{Stmt, Node, Call, Key, If, For, Let, Remember, Func}
-use Rattle.lang_ast.specs.Programs.{Program, root_number}
+use Rattle.lang_ast.specs.Terms.{Stmt, Node, Call, Key, If, For, Let, Remember, Stmts, done, next, Func}
+use Rattle.lang_ast.specs.Programs.{Program, root_number, statement_with_inner, statements_in, functions_statements, Each}
+use Rattle.lang_ast.proofs.Statements.{each_joined, each_follows}
 use Rattle.lang_ast.specs.declared.program.State.{State}
 use Rattle.lang_checks.specs.declared.environment.TypedName.{TypedName}
 use Rattle.lang_checks.specs.declared.faults.CheckKind.TheVariants as kind
@@ -56,13 +57,66 @@ parts p scope (Remember at site name keys value body) h =
     let more = none_in _ _ rest.1 in
     (rest.0, more.0, (none_in _ _ more.1).1)
 
+-- A statement of a function has no faults, with some variables in scope.
+pub record IsFine (p : StatementContext) (s : Stmt) : Type 0 where
+  pub scope : List TypedName
+  pub none : stmt_faults p scope s ≡ []
+
+mutual
+  inner_are_fine : (p : StatementContext) (scope : List TypedName) (s : Stmt) → stmt_faults p scope s ≡ []
+      → Each (IsFine p) (statement_with_inner s)
+  inner_are_fine p scope (Node at site name attributes body) h =
+      (record { scope = scope; none = h }, all_are_fine p scope body (parts p scope (Node at site name attributes body) h).1)
+  inner_are_fine p scope (Call at site name function arguments) h = (record { scope = scope; none = h }, tt)
+  inner_are_fine p scope (Key at site key body) h =
+      (record { scope = scope; none = h }, all_are_fine p scope body (parts p scope (Key at site key body) h).1)
+  inner_are_fine p scope (If at site condition a b) h =
+      let fine = parts p scope (If at site condition a b) h in (
+        record { scope = scope; none = h },
+        each_joined (IsFine p) (statements_in a) (statements_in b) (all_are_fine p scope a fine.1)
+            (all_are_fine p scope b fine.2),
+      )
+  inner_are_fine p scope (For at site name list body) h =
+      (record { scope = scope; none = h }, all_are_fine p _ body (parts p scope (For at site name list body) h).1)
+  inner_are_fine p scope (Let at site name value body) h =
+      (record { scope = scope; none = h }, all_are_fine p _ body (parts p scope (Let at site name value body) h).1)
+  inner_are_fine p scope (Remember at site name keys value body) h = (
+    record { scope = scope; none = h },
+    all_are_fine p _ body (parts p scope (Remember at site name keys value body) h).2,
+  )
+
+  -- Each statement in a body without faults has no faults.
+  pub all_are_fine : (p : StatementContext) (scope : List TypedName) (ss : Stmts) → stmts_faults p scope ss ≡ []
+      → Each (IsFine p) (statements_in ss)
+  all_are_fine p scope done h = tt
+  all_are_fine p scope (next s ss) h =
+      let both = none_in _ _ h in
+      each_joined (IsFine p) (statement_with_inner s) (statements_in ss) (inner_are_fine p scope s both.0)
+      (all_are_fine p scope ss both.1)
+
+abbrev pub context : List State → List Func → ℕ → StatementContext
+context states functions me = record { states = states; functions = functions; me = me }
+
+-- A statement of some function has no faults.
+abbrev pub IsFineIn : List State → List Func → Stmt → Type 0
+IsFineIn states functions s = (me : ℕ) × IsFine (context states functions me) s
+
 -- The bodies of functions have no faults, where the first of these functions is function `me`.
 abbrev pub BodiesAreFine : List State → List Func → ℕ → List Func → Type 0
 BodiesAreFine states functions me [] = Unit {0}
 BodiesAreFine states functions me (f ∷ fs) =
-    (stmts_faults (record { states = states; functions = functions; me = me }) (bound_parameters f.parameters) f.body
-    ≡ [])
+    (stmts_faults (context states functions me) (bound_parameters f.parameters) f.body ≡ [])
     × BodiesAreFine states functions (me + 1) fs
+
+-- Each statement of such functions has no faults.
+pub functions_are_fine : (states : List State) (functions : List Func) (me : ℕ) (fs : List Func)
+    → BodiesAreFine states functions me fs → Each (IsFineIn states functions) (functions_statements fs)
+functions_are_fine states functions me [] h = tt
+functions_are_fine states functions me (f ∷ fs) h =
+    each_joined (IsFineIn states functions) (statements_in f.body) (functions_statements fs)
+    (each_follows (IsFine (context states functions me)) (IsFineIn states functions) (statements_in f.body)
+    (λ s fine. (me, fine)) (all_are_fine (context states functions me) _ f.body h.0))
+    (functions_are_fine states functions (me + 1) fs h.1)
 
 bodies_from : (states : List State) (functions : List Func) (me : ℕ) (fs : List Func)
     → functions_faults states functions me fs ≡ [] → BodiesAreFine states functions me fs

@@ -18,7 +18,7 @@ use Rattle.lang_checks.proofs.Fine.{held}
 use Rattle.compose_model.specs.Composing.{Meaning, forest}
 use Rattle.recompose_laws.proofs.ForestProperties.{StatementFacts, IsForestProperty, AllHold, meanings_hold}
 use Rattle.checked_laws.specs.CheckedPrograms.{ReadsAreOfStates}
-use Rattle.checked_laws.proofs.Parts.{PartsAreFine, parts, BodiesAreFine, bodies}
+use Rattle.checked_laws.proofs.Parts.{PartsAreFine, parts, context, BodiesAreFine, bodies}
 
 -- All numbers of a list are below n.
 abbrev Below : ℕ → List ℕ → Type 0
@@ -91,9 +91,6 @@ abbrev ReadsBelow : ℕ → GroupForest → Type 0
 ReadsBelow n End = Unit {0}
 ReadsBelow n (Read x rest) = (x < n) × ReadsBelow n rest
 ReadsBelow n (Group site number what inside rest) = ReadsBelow n inside × ReadsBelow n rest
-
-abbrev context : List State → List Func → ℕ → StatementContext
-context states functions me = record { states = states; functions = functions; me = me }
 
 -- A statement has no faults in some function and scope.
 abbrev IsFine : List State → List Func → Stmt → Type 0

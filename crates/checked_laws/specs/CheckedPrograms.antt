@@ -1,12 +1,11 @@
 -- Trusted: what a numbered program without faults promises to composing.
-use Rattle.std.specs.Prelude.{ℕ, ◌<◌, ◌==◌, ◌≡◌, List, [], ◌∷◌, length, All, Option, Some, None, if◌then◌else◌}
-use Rattle.std.specs.Option.{option_or, unwrap_or}
+use Rattle.std.specs.Prelude.{ℕ, ◌<◌, ◌≡◌, List, [], length, All, Option, Some}
 use Rattle.rt_values.specs.declared.value.Value.{Value}
 use Rattle.rt_values.specs.Values.{no_value}
 use Rattle.rt_values.specs.Maps.{Map}
 use Rattle.rt_groups.specs.GroupForest.{asks}
-use Rattle.lang_ast.specs.Terms.{Stmt, Node, Call, Key, If, For, Let, Remember, Stmts, done, next, Func}
-use Rattle.lang_ast.specs.Programs.{Program}
+use Rattle.lang_ast.specs.Terms.{Stmt, Remember, Func}
+use Rattle.lang_ast.specs.Programs.{Program, functions_statements, statement_at}
 use Rattle.lang_checks.specs.ProgramFaults.{program_faults}
 use Rattle.lang_checks.specs.Numbers.{IsNumberedProgram}
 use Rattle.compose_model.specs.Composing.{forest}
@@ -17,31 +16,14 @@ use Rattle.recompose_laws.specs.CalculatedCells.{Calculation, FunctionsCalculate
 abbrev pub ProgramIsOrdered : Type 0
 ProgramIsOrdered = (p : Program) → IsNumberedProgram p → program_faults p ≡ [] → AreOrdered 0 p.functions
 
-abbrev mutual
-  -- The calculation of the first `remember` at a site in a statement, as a function of the values of its keys.
-  pub stmt_calculation : Stmt → ℕ → Option (List Value → Value)
-  stmt_calculation (Node at here kind attributes body) site = stmts_calculation body site
-  stmt_calculation (Call at here name function arguments) site = None
-  stmt_calculation (Key at here key body) site = stmts_calculation body site
-  stmt_calculation (If at here condition then_branch else_branch) site =
-      option_or (stmts_calculation then_branch site) (stmts_calculation else_branch site)
-  stmt_calculation (For at here name list body) site = stmts_calculation body site
-  stmt_calculation (Let at here name value body) site = stmts_calculation body site
-  stmt_calculation (Remember at here name keys value body) site =
-      if here == site then Some (calculated_from keys value) else stmts_calculation body site
+-- The calculation of a `remember`, as a function of the values of its keys. Everything else has the default value.
+abbrev pub calculation : Option Stmt → List Value → Value
+calculation (Some (Remember at site name keys value body)) vs = calculated_from keys value vs
+calculation _ vs = no_value
 
-  pub stmts_calculation : Stmts → ℕ → Option (List Value → Value)
-  stmts_calculation done site = None
-  stmts_calculation (next s ss) site = option_or (stmt_calculation s site) (stmts_calculation ss site)
-
--- The calculation of the first `remember` at a site in functions.
-abbrev pub functions_calculation : List Func → ℕ → Option (List Value → Value)
-functions_calculation [] site = None
-functions_calculation (f ∷ fs) site = option_or (stmts_calculation f.body site) (functions_calculation fs site)
-
--- The value that functions calculate at a site, or the default value if no `remember` is there.
+-- The value that functions calculate at a site.
 abbrev pub calculation_of : List Func → Calculation
-calculation_of functions site vs = unwrap_or (functions_calculation functions site) (λ ws. no_value) vs
+calculation_of functions site vs = calculation (statement_at site (functions_statements functions)) vs
 
 -- Law: in a numbered program without faults, the value of each calculation follows from its site and its keys, and no
 -- calculation reads a state.

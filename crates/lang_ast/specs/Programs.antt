@@ -1,9 +1,9 @@
--- Trusted: programs without pointers, and the index of the root function.
-use Rattle.std.specs.Prelude.{ℕ, suc, List, [], ◌∷◌, Bool, codes, if◌then◌else◌}
+-- Trusted: programs without pointers, their statements in the order of the text, and the index of the root function.
+use Rattle.std.specs.Prelude.{ℕ, ◌==◌, suc, List, [], ◌∷◌, ◌++◌, Bool, Option, Some, None, codes, if◌then◌else◌}
 use Rattle.std.specs.Str.{bytes_eq}
 use Rattle.lang_ast.specs.declared.program.State.{State}
 use Rattle.lang_ast.specs.declared.program.Program as declared
-use Rattle.lang_ast.specs.Terms.{Func}
+use Rattle.lang_ast.specs.Terms.{Stmt, Node, Call, Key, If, For, Let, Remember, Stmts, done, next, Func}
 use Rattle.lang_ast.specs.SyntaxView.{functions_view}
 
 -- The offset of the header, the states by number, and the functions by index.
@@ -26,3 +26,46 @@ is_root f = bytes_eq f.name.text (codes "root")
 abbrev pub root_number : List Func → ℕ
 root_number [] = 0
 root_number (f ∷ fs) = if is_root f then 0 else suc (root_number fs)
+
+-- The site of a statement.
+abbrev pub site_of : Stmt → ℕ
+site_of (Node at site kind attributes body) = site
+site_of (Call at site name function arguments) = site
+site_of (Key at site key body) = site
+site_of (If at site condition then_branch else_branch) = site
+site_of (For at site name list body) = site
+site_of (Let at site name value body) = site
+site_of (Remember at site name keys value body) = site
+
+abbrev mutual
+  -- A statement, and after it the statements inside it, in the order of the text.
+  pub statement_with_inner : Stmt → List Stmt
+  statement_with_inner (Node at site kind attributes body) = Node at site kind attributes body ∷ statements_in body
+  statement_with_inner (Call at site name function arguments) = Call at site name function arguments ∷ []
+  statement_with_inner (Key at site key body) = Key at site key body ∷ statements_in body
+  statement_with_inner (If at site condition then_branch else_branch) =
+      If at site condition then_branch else_branch ∷ (statements_in then_branch ++ statements_in else_branch)
+  statement_with_inner (For at site name list body) = For at site name list body ∷ statements_in body
+  statement_with_inner (Let at site name value body) = Let at site name value body ∷ statements_in body
+  statement_with_inner (Remember at site name keys value body) =
+      Remember at site name keys value body ∷ statements_in body
+
+  -- Each statement of a body, followed by the statements inside it, in the order of the text.
+  pub statements_in : Stmts → List Stmt
+  statements_in done = []
+  statements_in (next s ss) = statement_with_inner s ++ statements_in ss
+
+-- All statements of functions, in the order of the text.
+abbrev pub functions_statements : List Func → List Stmt
+functions_statements [] = []
+functions_statements (f ∷ fs) = statements_in f.body ++ functions_statements fs
+
+-- The first of some statements that has a site.
+abbrev pub statement_at : ℕ → List Stmt → Option Stmt
+statement_at site [] = None
+statement_at site (s ∷ ss) = if site_of s == site then Some s else statement_at site ss
+
+-- Each of some statements satisfies `P`.
+abbrev pub Each : (Stmt → Type 0) → List Stmt → Type 0
+Each P [] = Unit {0}
+Each P (s ∷ ss) = P s × Each P ss

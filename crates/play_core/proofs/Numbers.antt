@@ -4,7 +4,8 @@ use Rattle.std.specs.Str.{bytes_eq}
 use Rattle.std.proofs.lemmas.List.{map-append, length-map, length-append}
 use Rattle.sexp_text.specs.Forest.{Forest}
 use Rattle.lang_ast.specs.Terms.{Stmt, Node, Call, Key, If, For, Let, Remember, Stmts, done, next, Func}
-use Rattle.lang_ast.specs.Programs.{program_view}
+use Rattle.lang_ast.specs.Programs.{program_view, site_of, statement_with_inner, statements_in, functions_statements, Each}
+use Rattle.lang_ast.proofs.Statements.{each_joined}
 use Rattle.lang_ast.specs.declared.program.Program as memory
 use Rattle.lang_ast.specs.declared.script.Rest.{Rest}
 use Rattle.lang_limits.specs.Clamped.{clamped_trees}
@@ -14,48 +15,58 @@ use Rattle.lang_forms.specs.Names.{number_in, number_of}
 use Rattle.lang_forms.specs.Forms.{HasForms, KnownNames, state_name, function_name, site_after, site_after_all, SpelledStmt, SpelledStmts, SpelledFunctions}
 use Rattle.lang_forms.specs.Sources.{Source, parsed_source_view}
 use Rattle.lang_checks.specs.Scopes.{first_named}
-use Rattle.lang_checks.specs.Numbers.{stmt_sites, stmts_sites, functions_sites, Counts, HasItsNumber, StmtCalls, StmtsCalls, FunctionsCalls, IsNumberedProgram}
+use Rattle.lang_checks.specs.Numbers.{Counts, HasItsNumber, CallHasItsNumber, FunctionsCalls, IsNumberedProgram}
 use Rattle.play_core.proofs.Uniques.{few_functions}
 
-counts_on : (k n : ℕ) (xs ys : List ℕ) → Counts k xs → k + length xs ≡ n → Counts n ys → Counts k (xs ++ ys)
-counts_on k n [] ys h many g = subst (λ j. Counts j ys) (sym many ∙ omega arith) g
+counts_on : (k n : ℕ) (xs ys : List Stmt) → Counts k (map site_of xs) → k + length xs ≡ n → Counts n (map site_of ys)
+    → Counts k (map site_of (xs ++ ys))
+counts_on k n [] ys h many g = subst (λ j. Counts j (map site_of ys)) (sym many ∙ omega arith) g
 counts_on k n (x ∷ xs) ys h many g = (h.0, counts_on (k + 1) n xs ys h.1 (omega (arith, many)) g)
 
--- Sites from `k` to before `n`.
-abbrev AreSites : List ℕ → ℕ → ℕ → Type 0
-AreSites xs k n = Counts k xs × (k + length xs ≡ n)
+-- Statements with the sites from `k` to before `n`.
+abbrev HaveSites : List Stmt → ℕ → ℕ → Type 0
+HaveSites xs k n = Counts k (map site_of xs) × (k + length xs ≡ n)
 
-first_site : (site k n : ℕ) (xs : List ℕ) → site ≡ k → AreSites xs (k + 1) n → AreSites (site ∷ xs) k n
-first_site site k n xs e h = ((e, h.0), omega (arith, h.1))
+first_site : (s : Stmt) (k n : ℕ) (xs : List Stmt) → site_of s ≡ k → HaveSites xs (k + 1) n → HaveSites (s ∷ xs) k n
+first_site s k n xs e h = ((e, h.0), omega (arith, h.1))
 
-joined_sites : (xs ys : List ℕ) (k n p : ℕ) → AreSites xs k n → AreSites ys n p → AreSites (xs ++ ys) k p
+joined_sites : (xs ys : List Stmt) (k n p : ℕ) → HaveSites xs k n → HaveSites ys n p → HaveSites (xs ++ ys) k p
 joined_sites xs ys k n p h g =
     (counts_on k n xs ys h.0 h.1 g.0, let all = length-append xs ys in omega (arith, all, h.1, g.1))
 
 mutual
-  stmt_has_sites : (m : KnownNames) (k : ℕ) (s : Stmt) → SpelledStmt m k s → AreSites (stmt_sites s) k (site_after k s)
-  stmt_has_sites m k (Node at site n ns body) h = first_site site k _ _ h.0 (stmts_have_sites m (k + 1) body h.3)
-  stmt_has_sites m k (Call at site n function es) h = first_site site k _ [] h.0 (tt, omega arith)
-  stmt_has_sites m k (Key at site e body) h = first_site site k _ _ h.0 (stmts_have_sites m (k + 1) body h.2)
+  stmt_has_sites : (m : KnownNames) (k : ℕ) (s : Stmt) → SpelledStmt m k s
+      → HaveSites (statement_with_inner s) k (site_after k s)
+  stmt_has_sites m k (Node at site n ns body) h =
+      first_site (Node at site n ns body) k _ _ h.0 (stmts_have_sites m (k + 1) body h.3)
+  stmt_has_sites m k (Call at site n function es) h =
+      first_site (Call at site n function es) k _ [] h.0 (tt, omega arith)
+  stmt_has_sites m k (Key at site e body) h =
+      first_site (Key at site e body) k _ _ h.0 (stmts_have_sites m (k + 1) body h.2)
   stmt_has_sites m k (If at site e a b) h =
-      first_site site k _ _ h.0 (joined_sites (stmts_sites a) (stmts_sites b) (k + 1) (site_after_all (k + 1) a) _
+      first_site (If at site e a b) k _ _ h.0
+      (joined_sites (statements_in a) (statements_in b) (k + 1) (site_after_all (k + 1) a) _
       (stmts_have_sites m (k + 1) a h.2) (stmts_have_sites m (site_after_all (k + 1) a) b h.3))
-  stmt_has_sites m k (For at site n e body) h = first_site site k _ _ h.0 (stmts_have_sites m (k + 1) body h.3)
-  stmt_has_sites m k (Let at site n e body) h = first_site site k _ _ h.0 (stmts_have_sites m (k + 1) body h.3)
-  stmt_has_sites m k (Remember at site n ks e body) h = first_site site k _ _ h.0 (stmts_have_sites m (k + 1) body h.4)
+  stmt_has_sites m k (For at site n e body) h =
+      first_site (For at site n e body) k _ _ h.0 (stmts_have_sites m (k + 1) body h.3)
+  stmt_has_sites m k (Let at site n e body) h =
+      first_site (Let at site n e body) k _ _ h.0 (stmts_have_sites m (k + 1) body h.3)
+  stmt_has_sites m k (Remember at site n ks e body) h =
+      first_site (Remember at site n ks e body) k _ _ h.0 (stmts_have_sites m (k + 1) body h.4)
 
   stmts_have_sites : (m : KnownNames) (k : ℕ) (ss : Stmts) → SpelledStmts m k ss
-      → AreSites (stmts_sites ss) k (site_after_all k ss)
+      → HaveSites (statements_in ss) k (site_after_all k ss)
   stmts_have_sites m k done h = (tt, omega arith)
   stmts_have_sites m k (next s ss) h =
-      joined_sites (stmt_sites s) (stmts_sites ss) k (site_after k s) _ (stmt_has_sites m k s h.0)
+      joined_sites (statement_with_inner s) (statements_in ss) k (site_after k s) _ (stmt_has_sites m k s h.0)
       (stmts_have_sites m (site_after k s) ss h.1)
 
-functions_count : (m : KnownNames) (k : ℕ) (fs : List Func) → SpelledFunctions m k fs → Counts k (functions_sites fs)
+functions_count : (m : KnownNames) (k : ℕ) (fs : List Func) → SpelledFunctions m k fs
+    → Counts k (map site_of (functions_statements fs))
 functions_count m k [] h = tt
 functions_count m k (f ∷ fs) h =
     let here = stmts_have_sites m k f.body h.2 in
-    counts_on k (site_after_all k f.body) (stmts_sites f.body) (functions_sites fs) here.0 here.1
+    counts_on k (site_after_all k f.body) (statements_in f.body) (functions_statements fs) here.0 here.1
     (functions_count (record { states = m.states; functions = m.functions ++ function_name f ∷ [] })
     (site_after_all k f.body) fs h.3)
 
@@ -102,24 +113,28 @@ named_before functions before rest m name all names few i f h lt =
 mutual
   stmt_calls : (functions : List Func) (me : ℕ) (m : KnownNames) (k : ℕ) (s : Stmt)
       → ((name : List ℕ) → HasItsNumber functions me name (number_of name m.functions)) → SpelledStmt m k s
-      → StmtCalls functions me s
-  stmt_calls functions me m k (Node at site n ns body) named h = stmts_calls functions me m (k + 1) body named h.3
-  stmt_calls functions me m k (Call at site n function es) named h = λ i f e lt. h.2 ∙ named n.text i f e lt
-  stmt_calls functions me m k (Key at site e body) named h = stmts_calls functions me m (k + 1) body named h.2
+      → Each (CallHasItsNumber functions me) (statement_with_inner s)
+  stmt_calls functions me m k (Node at site n ns body) named h = (tt, stmts_calls functions me m (k + 1) body named h.3)
+  stmt_calls functions me m k (Call at site n function es) named h = (λ i f e lt. h.2 ∙ named n.text i f e lt, tt)
+  stmt_calls functions me m k (Key at site e body) named h = (tt, stmts_calls functions me m (k + 1) body named h.2)
   stmt_calls functions me m k (If at site e a b) named h = (
-    stmts_calls functions me m (k + 1) a named h.2,
-    stmts_calls functions me m (site_after_all (k + 1) a) b named h.3,
+    tt,
+    each_joined (CallHasItsNumber functions me) (statements_in a) (statements_in b)
+        (stmts_calls functions me m (k + 1) a named h.2)
+        (stmts_calls functions me m (site_after_all (k + 1) a) b named h.3),
   )
-  stmt_calls functions me m k (For at site n e body) named h = stmts_calls functions me m (k + 1) body named h.3
-  stmt_calls functions me m k (Let at site n e body) named h = stmts_calls functions me m (k + 1) body named h.3
-  stmt_calls functions me m k (Remember at site n ks e body) named h = stmts_calls functions me m (k + 1) body named h.4
+  stmt_calls functions me m k (For at site n e body) named h = (tt, stmts_calls functions me m (k + 1) body named h.3)
+  stmt_calls functions me m k (Let at site n e body) named h = (tt, stmts_calls functions me m (k + 1) body named h.3)
+  stmt_calls functions me m k (Remember at site n ks e body) named h =
+      (tt, stmts_calls functions me m (k + 1) body named h.4)
 
   stmts_calls : (functions : List Func) (me : ℕ) (m : KnownNames) (k : ℕ) (ss : Stmts)
       → ((name : List ℕ) → HasItsNumber functions me name (number_of name m.functions)) → SpelledStmts m k ss
-      → StmtsCalls functions me ss
+      → Each (CallHasItsNumber functions me) (statements_in ss)
   stmts_calls functions me m k done named h = tt
   stmts_calls functions me m k (next s ss) named h =
-      (stmt_calls functions me m k s named h.0, stmts_calls functions me m (site_after k s) ss named h.1)
+      each_joined (CallHasItsNumber functions me) (statement_with_inner s) (statements_in ss)
+      (stmt_calls functions me m k s named h.0) (stmts_calls functions me m (site_after k s) ss named h.1)
 
 functions_calls : (functions before fs : List Func) (m : KnownNames) (me k : ℕ) → functions ≡ before ++ fs
     → m.functions ≡ map function_name before → me ≡ length before → length functions ≤ most_forms

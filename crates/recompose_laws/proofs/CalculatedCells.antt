@@ -4,12 +4,14 @@ use Rattle.rt_values.specs.declared.value.Value.{Value}
 use Rattle.rt_values.specs.Maps.{Map}
 use Rattle.rt_groups.specs.GroupForest.{GroupForest, End, Read, Group, GroupKind}
 use Rattle.rt_groups.specs.Paths.{GroupKey, sibling, same_sibling, Found, nth, matching_sibling, inside_of}
-use Rattle.lang_ast.specs.Terms.{Named, Stmt, Node, Call, Key, If, For, Let, Remember}
+use Rattle.lang_ast.specs.Terms.{Named, Stmt, Node, Call, Key, If, For, Let, Remember, Stmts, done, next, Func}
+use Rattle.lang_ast.specs.Programs.{statement_with_inner, statements_in, functions_statements, Each}
+use Rattle.lang_ast.proofs.Statements.{each_apart}
 use Rattle.lang_ast.specs.ResultsWithReads.{Reading}
 use Rattle.lang_ast.specs.Evaluation.{Bindings, new_binding, eval, eval_named}
 use Rattle.compose_model.specs.Composing.{Meaning}
 use Rattle.recompose_laws.specs.Numbering.{without_numbers}
-use Rattle.recompose_laws.specs.CalculatedCells.{Calculation, IsCalculatedFor, CellsAreCalculated, IsFoundCalculated, StmtCalculates, StmtsCalculate, FunctionsCalculate, KeptCellsAreCalculated, named_with, PureCalculationsAreBySite}
+use Rattle.recompose_laws.specs.CalculatedCells.{Calculation, IsCalculatedFor, CellsAreCalculated, IsFoundCalculated, CalculatesAtSite, StmtCalculates, StmtsCalculate, FunctionsCalculate, KeptCellsAreCalculated, named_with, PureCalculationsAreBySite}
 use Rattle.lang_meaning.proofs.Calculations.{cells_may_be_kept}
 use Rattle.recompose_laws.proofs.ForestProperties.{StatementFacts, AnyReads, IsForestProperty, AllHold, meanings_hold}
 
@@ -32,6 +34,37 @@ calculated_cells calc m fs calls = record {
     facts (For at site name list body) env h = (tt, h)
     facts (Let at site name e body) env h = (tt, h)
     facts (Remember at site name keys e body) env h = (tt, tt, h.1, λ u g. ((h.0 m env).0, tt, g))
+
+-- If a statement is a `remember`, `calc` gives the values of its calculation.
+abbrev pub Calculates : Calculation → Stmt → Type 0
+Calculates calc (Remember at site name keys e body) = CalculatesAtSite calc site keys e
+Calculates calc _ = Unit {0}
+
+mutual
+  inner_calculate : (calc : Calculation) (s : Stmt) → Each (Calculates calc) (statement_with_inner s)
+      → StmtCalculates calc s
+  inner_calculate calc (Node at site kind attributes body) h = all_calculate calc body h.1
+  inner_calculate calc (Call at site name function arguments) h = tt
+  inner_calculate calc (Key at site key body) h = all_calculate calc body h.1
+  inner_calculate calc (If at site condition a b) h =
+      let both = each_apart (Calculates calc) (statements_in a) (statements_in b) h.1 in
+      (all_calculate calc a both.0, all_calculate calc b both.1)
+  inner_calculate calc (For at site name list body) h = all_calculate calc body h.1
+  inner_calculate calc (Let at site name e body) h = all_calculate calc body h.1
+  inner_calculate calc (Remember at site name keys e body) h = (h.0, all_calculate calc body h.1)
+
+  all_calculate : (calc : Calculation) (ss : Stmts) → Each (Calculates calc) (statements_in ss) → StmtsCalculate calc ss
+  all_calculate calc done h = tt
+  all_calculate calc (next s ss) h =
+      let both = each_apart (Calculates calc) (statement_with_inner s) (statements_in ss) h in
+      (inner_calculate calc s both.0, all_calculate calc ss both.1)
+
+pub functions_calculate : (calc : Calculation) (fs : List Func) → Each (Calculates calc) (functions_statements fs)
+    → FunctionsCalculate calc fs
+functions_calculate calc [] h = tt
+functions_calculate calc (f ∷ fs) h =
+    let both = each_apart (Calculates calc) (statements_in f.body) (functions_statements fs) h in
+    (all_calculate calc f.body both.0, functions_calculate calc fs both.1)
 
 numbered_calculated : (calc : Calculation) (t : GroupForest) → CellsAreCalculated calc (without_numbers t)
     → CellsAreCalculated calc t

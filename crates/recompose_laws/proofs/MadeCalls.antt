@@ -6,11 +6,13 @@ use Rattle.rt_groups.specs.GroupForest.{GroupForest, End, Read, Group, GroupKind
 use Rattle.rt_groups.specs.GroupForest as trail
 use Rattle.rt_groups.specs.Paths.{GroupKey, sibling, same_sibling, Found, nth, matching_sibling, inside_of}
 use Rattle.lang_ast.specs.Terms.{Stmt, Node, Call, Key, If, For, Let, Remember, Func}
+use Rattle.lang_ast.specs.Programs.{statement_with_inner, statements_in, Each}
 use Rattle.lang_ast.specs.Evaluation.{Bindings, eval_all}
+use Rattle.lang_ast.proofs.Statements.{each_apart}
 use Rattle.compose_model.specs.Composing.{Meaning, bind, meaning, meaning_at, meanings}
 use Rattle.lang_meaning.proofs.Meanings.{meaning_found, meaning_none}
 use Rattle.recompose_laws.specs.Numbering.{without_numbers}
-use Rattle.recompose_laws.specs.MadeCalls.{IsMadeInside, IsMade, IsFoundMade, CallsBelow, AllBelow, AreOrdered, KeptCallsAreMade}
+use Rattle.recompose_laws.specs.MadeCalls.{IsMadeInside, IsMade, IsFoundMade, CallsBelow, AreOrdered, KeptCallsAreMade}
 use Rattle.recompose_laws.proofs.Plain.{meaning_plain}
 use Rattle.recompose_laws.proofs.Refreshes.{split_at}
 use Rattle.recompose_laws.proofs.ForestProperties.{StatementFacts, AnyReads, IsForestProperty, body_holds}
@@ -91,32 +93,35 @@ FrontMade m all k fs = (f : ℕ) (vs : List Value) → f < k
 
 -- The property that calls are made, for statements that call only the first `k` functions.
 front_calls : (m : Map) (all : List Func) (k : ℕ) (fs : List Meaning) → FrontMade m all k fs
-    → IsForestProperty m fs AnyReads (IsMade m all) (CallsBelow k) (AllBelow k)
+    → IsForestProperty m fs AnyReads (IsMade m all) (λ s. Each (CallsBelow k) (statement_with_inner s))
+    (λ ss. Each (CallsBelow k) (statements_in ss))
 front_calls m all k fs front = record {
   none = tt;
   read = λ x xs r. (tt, λ t h. h);
-  split = λ s ss h. h;
+  split = λ s ss h. each_apart (CallsBelow k) (statement_with_inner s) (statements_in ss) h;
   facts = facts;
 }
   where
-    facts : (s : Stmt) (env : Bindings) → CallsBelow k s
-        → StatementFacts m fs AnyReads (IsMade m all) (AllBelow k) s env
-    facts (Node at site kind attributes body) env h = (tt, h, λ t u f g. (tt, f, g))
+    facts : (s : Stmt) (env : Bindings) → Each (CallsBelow k) (statement_with_inner s)
+        → StatementFacts m fs AnyReads (IsMade m all) (λ ss. Each (CallsBelow k) (statements_in ss)) s env
+    facts (Node at site kind attributes body) env h = (tt, h.1, λ t u f g. (tt, f, g))
     facts (Call at site name function arguments) env h =
-        let f = front function (eval_all m arguments env).value h in (tt, λ u g. (f.0, f.1, g))
-    facts (Key at site key body) env h = (tt, h, λ t u f g. (tt, f, g))
-    facts (If at site condition then_branch else_branch) env h = (tt, h.0, h.1)
-    facts (For at site name list body) env h = (tt, h)
-    facts (Let at site name e body) env h = (tt, h)
-    facts (Remember at site name keys e body) env h = (tt, tt, h, λ u g. (tt, tt, g))
+        let f = front function (eval_all m arguments env).value h.0 in (tt, λ u g. (f.0, f.1, g))
+    facts (Key at site key body) env h = (tt, h.1, λ t u f g. (tt, f, g))
+    facts (If at site condition then_branch else_branch) env h =
+        let both = each_apart (CallsBelow k) (statements_in then_branch) (statements_in else_branch) h.1 in
+        (tt, both.0, both.1)
+    facts (For at site name list body) env h = (tt, h.1)
+    facts (Let at site name e body) env h = (tt, h.1)
+    facts (Remember at site name keys e body) env h = (tt, tt, h.1, λ u g. (tt, tt, g))
 
 ordered_at : (fs : List Func) (k f : ℕ) (d : Func) → f < length fs → AreOrdered k fs
-    → AllBelow (k + f) (get_or fs f d).body
+    → Each (CallsBelow (k + f)) (statements_in (get_or fs f d).body)
 ordered_at [] k f d h o = absurd (omega (arith, h))
-ordered_at (g ∷ fs) k zero d h o = let e : k ≡ k + 0 = omega arith in subst (λ n. AllBelow n g.body) e o.0
+ordered_at (g ∷ fs) k zero d h o = let e : k ≡ k + 0 = omega arith in subst (λ n. Each (CallsBelow n) (statements_in g.body)) e o.0
 ordered_at (g ∷ fs) k (suc f) d h o =
     let e : (k + 1) + f ≡ k + suc f = omega arith in
-    subst (λ n. AllBelow n (get_or fs f d).body) e (ordered_at fs (k + 1) f d (omega (arith, h)) o.1)
+    subst (λ n. Each (CallsBelow n) (statements_in (get_or fs f d).body)) e (ordered_at fs (k + 1) f d (omega (arith, h)) o.1)
 
 -- The forest of function `f` has made calls, if the forests of the earlier functions have.
 made_at : (m : Map) (all : List Func) (f : ℕ) (vs : List Value) → AreOrdered 0 all
@@ -141,7 +146,7 @@ made_at m all f vs ordered earlier = elim (split_at f (length all)) [
     by (g ∷ fs) below e =
         let long : f < length all = let z = ap (λ (l : List Func). length l) e in omega (arith, z, below) in
         let zero_is : 0 + f ≡ f = omega arith in
-        let body = subst (λ j. AllBelow j (get_or all f g).body) zero_is (ordered_at all 0 f g long ordered) in
+        let body = subst (λ j. Each (CallsBelow j) (statements_in (get_or all f g).body)) zero_is (ordered_at all 0 f g long ordered) in
         subst (λ (t : GroupForest). IsMade m all t) (sym (meaning_found m all f vs g long))
         (body_holds (front_calls m all f (meanings m (take f all)) front) (get_or all f g).body
         (bind (get_or all f g).parameters vs) body)

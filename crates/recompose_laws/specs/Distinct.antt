@@ -3,7 +3,8 @@ use Rattle.std.specs.Prelude.{ℕ, ◌+◌, ◌≤◌, ◌==◌, ◌&&◌, ◌�
 use Rattle.rt_values.specs.Maps.{Map}
 use Rattle.rt_groups.specs.GroupForest.{GroupForest, End, Read, Group, GroupKind, is_node}
 use Rattle.rt_groups.specs.Frames.{numbered_forest}
-use Rattle.lang_ast.specs.Terms.{Stmt, Node, Call, Key, If, For, Let, Remember, Stmts, done, next, Func}
+use Rattle.lang_ast.specs.Terms.{Stmt, Node, Call, Key, Remember, Func}
+use Rattle.lang_ast.specs.Programs.{statements_in, Each}
 use Rattle.compose_model.specs.Composing.{forest}
 
 -- 1 if a group is a node with number `x`, else 0.
@@ -27,26 +28,19 @@ NodesAt at_site (Read x rest) = NodesAt at_site rest
 NodesAt at_site (Group site n what inside rest) =
     (is_node what ≡ at_site site) × NodesAt at_site inside × NodesAt at_site rest
 
-abbrev mutual
-  -- `at_site` is true for the site of a statement exactly if the statement makes a node.
-  pub SiteTells : (ℕ → Bool) → Stmt → Type 0
-  SiteTells at_site (Node at site kind attributes body) = (true ≡ at_site site) × SitesTell at_site body
-  SiteTells at_site (Call at site name function arguments) = false ≡ at_site site
-  SiteTells at_site (Key at site key body) = (false ≡ at_site site) × SitesTell at_site body
-  SiteTells at_site (If at site condition then_branch else_branch) =
-      SitesTell at_site then_branch × SitesTell at_site else_branch
-  SiteTells at_site (For at site name list body) = SitesTell at_site body
-  SiteTells at_site (Let at site name e body) = SitesTell at_site body
-  SiteTells at_site (Remember at site name keys e body) = (false ≡ at_site site) × SitesTell at_site body
-
-  pub SitesTell : (ℕ → Bool) → Stmts → Type 0
-  SitesTell at_site done = Unit {0}
-  SitesTell at_site (next s ss) = SiteTells at_site s × SitesTell at_site ss
+-- `at_site` is true for the site of a statement that makes a node, and false for the site of any other statement that
+-- makes a group.
+abbrev pub SiteTells : (ℕ → Bool) → Stmt → Type 0
+SiteTells at_site (Node at site kind attributes body) = true ≡ at_site site
+SiteTells at_site (Call at site name function arguments) = false ≡ at_site site
+SiteTells at_site (Key at site key body) = false ≡ at_site site
+SiteTells at_site (Remember at site name keys e body) = false ≡ at_site site
+SiteTells at_site _ = Unit {0}
 
 -- `at_site` fits the statements of all functions.
 abbrev pub FunctionsTell : (ℕ → Bool) → List Func → Type 0
 FunctionsTell at_site [] = Unit {0}
-FunctionsTell at_site (f ∷ fs) = SitesTell at_site f.body × FunctionsTell at_site fs
+FunctionsTell at_site (f ∷ fs) = Each (SiteTells at_site) (statements_in f.body) × FunctionsTell at_site fs
 
 -- Law: a program's nodes are at the sites of its node statements, and the call of the root is at site 0.
 abbrev pub NodesAreAtNodeSites : Type 0

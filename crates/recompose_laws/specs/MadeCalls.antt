@@ -3,8 +3,9 @@ use Rattle.std.specs.Prelude.{ℕ, ◌+◌, ◌<◌, List, [], ◌∷◌, ◌≡
 use Rattle.rt_values.specs.Maps.{Map}
 use Rattle.rt_groups.specs.GroupForest.{GroupForest, End, Read, Group, GroupKind, Call, Node, Key, Cell}
 use Rattle.rt_groups.specs.Paths.{Found}
-use Rattle.lang_ast.specs.Terms.{Func, Stmt, Stmts, done, next}
+use Rattle.lang_ast.specs.Terms.{Func, Stmt}
 use Rattle.lang_ast.specs.Terms as terms
+use Rattle.lang_ast.specs.Programs.{statements_in, Each}
 use Rattle.compose_model.specs.Composing.{meanings, meaning_at, forest}
 use Rattle.recompose_laws.specs.Numbering.{without_numbers}
 
@@ -28,25 +29,15 @@ abbrev pub IsFoundMade : Map → List Func → Option Found → Type 0
 IsFoundMade m functions None = Unit {0}
 IsFoundMade m functions (Some g) = IsMadeInside m functions g.what g.inside × IsMade m functions g.inside
 
-abbrev mutual
-  -- A statement calls only functions with numbers below `k`.
-  pub CallsBelow : ℕ → Stmt → Type 0
-  CallsBelow k (terms.Node at site kind attributes body) = AllBelow k body
-  CallsBelow k (terms.Call at site name function arguments) = function < k
-  CallsBelow k (terms.Key at site key body) = AllBelow k body
-  CallsBelow k (terms.If at site condition then_branch else_branch) = AllBelow k then_branch × AllBelow k else_branch
-  CallsBelow k (terms.For at site name list body) = AllBelow k body
-  CallsBelow k (terms.Let at site name e body) = AllBelow k body
-  CallsBelow k (terms.Remember at site name keys e body) = AllBelow k body
-
-  pub AllBelow : ℕ → Stmts → Type 0
-  AllBelow k done = Unit {0}
-  AllBelow k (next s ss) = CallsBelow k s × AllBelow k ss
+-- If a statement is a call, it calls a function with a number below `k`.
+abbrev pub CallsBelow : ℕ → Stmt → Type 0
+CallsBelow k (terms.Call at site name function arguments) = function < k
+CallsBelow k _ = Unit {0}
 
 -- Each function calls only earlier functions. The first function of the list has number `k`.
 abbrev pub AreOrdered : ℕ → List Func → Type 0
 AreOrdered k [] = Unit {0}
-AreOrdered k (f ∷ fs) = AllBelow k f.body × AreOrdered (k + 1) fs
+AreOrdered k (f ∷ fs) = Each (CallsBelow k) (statements_in f.body) × AreOrdered (k + 1) fs
 
 -- Law: if each function calls only earlier functions, each call of a kept forest contains what its function makes in
 -- the map of that forest.

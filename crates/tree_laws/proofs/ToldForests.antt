@@ -5,20 +5,21 @@ use Rattle.std.specs.Str.{bytes_eq}
 use Rattle.rt_values.specs.Maps.{Map}
 use Rattle.rt_groups.specs.GroupForest.{GroupForest, End, Read, Group, GroupKind, Attribute}
 use Rattle.rt_groups.specs.GroupForest as trail
-use Rattle.lang_ast.specs.Terms.{Named, Stmt, Node, Call, Key, If, For, Let, Remember, Stmts, done, next, Func}
-use Rattle.lang_ast.specs.Programs.{Program}
+use Rattle.lang_ast.specs.Terms.{Named, Stmt, Node, Call, Key, If, For, Let, Remember, Func}
+use Rattle.lang_ast.specs.Programs.{Program, statement_with_inner, statements_in, Each}
+use Rattle.lang_ast.proofs.Statements.{each_apart, each_follows}
 use Rattle.lang_ast.specs.Evaluation.{Bindings, eval_named}
 use Rattle.lang_checks.specs.Numbers.{IsNumberedProgram}
 use Rattle.lang_checks.specs.ProgramFaults.{program_faults}
 use Rattle.compose_model.specs.Composing.{Meaning, attribute, forest}
 use Rattle.recompose_laws.specs.Numbering.{without_numbers}
-use Rattle.recompose_laws.specs.Distinct.{NodesAt, SiteTells, SitesTell, FunctionsTell}
+use Rattle.recompose_laws.specs.Distinct.{NodesAt, SiteTells, FunctionsTell}
 use Rattle.recompose_laws.proofs.ForestProperties.{StatementFacts, AnyReads, IsForestProperty, AllHold, meanings_hold}
 use Rattle.recompose_laws.proofs.Sites.{nodes_are_at_node_sites}
 use Rattle.node_tree.specs.Calls.{has_attribute}
 use Rattle.node_tree.specs.Premises.{HaveDistinctNames, names_of}
 use Rattle.tree_laws.specs.FollowingTrees.{WasComposed}
-use Rattle.tree_laws.proofs.StatementSites.{Shape, Told, texts, AreApart, IsTold, AreTold, FunctionsAreTold, look_up, functions_are_told, none_at_root}
+use Rattle.tree_laws.proofs.StatementSites.{Shape, Told, texts, AreApart, IsTold, FunctionsAreTold, look_up, functions_are_told, none_at_root}
 
 -- Whether the statement at a site makes a node.
 abbrev pub tells_node : Told → Bool
@@ -29,23 +30,19 @@ tells_node (Some (Some shape)) = true
 abbrev pub at_node : (ℕ → Told) → ℕ → Bool
 at_node look site = tells_node (look site)
 
-mutual
-  site_tells : (look : ℕ → Told) (s : Stmt) → IsTold look s → SiteTells (at_node look) s
-  site_tells look (Node at site kind attributes body) h = (sym (ap tells_node h.0), sites_tell look body h.2)
-  site_tells look (Call at site name function arguments) h = sym (ap tells_node h)
-  site_tells look (Key at site key body) h = (sym (ap tells_node h.0), sites_tell look body h.1)
-  site_tells look (If at site condition a b) h = (sites_tell look a h.0, sites_tell look b h.1)
-  site_tells look (For at site name list body) h = sites_tell look body h
-  site_tells look (Let at site name value body) h = sites_tell look body h
-  site_tells look (Remember at site name keys value body) h = (sym (ap tells_node h.0), sites_tell look body h.1)
-
-  sites_tell : (look : ℕ → Told) (ss : Stmts) → AreTold look ss → SitesTell (at_node look) ss
-  sites_tell look done h = tt
-  sites_tell look (next s ss) h = (site_tells look s h.0, sites_tell look ss h.1)
+site_tells : (look : ℕ → Told) (s : Stmt) → IsTold look s → SiteTells (at_node look) s
+site_tells look (Node at site kind attributes body) h = sym (ap tells_node h.0)
+site_tells look (Call at site name function arguments) h = sym (ap tells_node h)
+site_tells look (Key at site key body) h = sym (ap tells_node h)
+site_tells look (Remember at site name keys value body) h = sym (ap tells_node h)
+site_tells look _ h = tt
 
 functions_tell : (look : ℕ → Told) (fs : List Func) → FunctionsAreTold look fs → FunctionsTell (at_node look) fs
 functions_tell look [] h = tt
-functions_tell look (f ∷ fs) h = (sites_tell look f.body h.0, functions_tell look fs h.1)
+functions_tell look (f ∷ fs) h = (
+  each_follows (IsTold look) (SiteTells (at_node look)) (statements_in f.body) (site_tells look) h.0,
+  functions_tell look fs h.1,
+)
 
 -- The shape of a node.
 abbrev pub shape_of : List ℕ → List Attribute → Shape
@@ -92,31 +89,34 @@ made_shape look site kind ns attributes same told apart = (
 
 -- The property that nodes have shapes, for statements whose shapes `look` gives.
 shaped_forests : (look : ℕ → Told) (m : Map) (fs : List Meaning) → AllHold (HaveShapes look) fs
-    → IsForestProperty m fs AnyReads (HaveShapes look) (IsTold look) (AreTold look)
+    → IsForestProperty m fs AnyReads (HaveShapes look) (λ s. Each (IsTold look) (statement_with_inner s))
+    (λ ss. Each (IsTold look) (statements_in ss))
 shaped_forests look m fs calls = record {
   none = tt;
   read = λ x xs r. (tt, λ t h. h);
-  split = λ s ss h. h;
+  split = λ s ss h. each_apart (IsTold look) (statement_with_inner s) (statements_in ss) h;
   facts = facts;
 }
   where
-    facts : (s : Stmt) (env : Bindings) → IsTold look s
-        → StatementFacts m fs AnyReads (HaveShapes look) (AreTold look) s env
+    facts : (s : Stmt) (env : Bindings) → Each (IsTold look) (statement_with_inner s)
+        → StatementFacts m fs AnyReads (HaveShapes look) (λ ss. Each (IsTold look) (statements_in ss)) s env
     facts (Node at site kind attributes body) env h = (
       tt,
-      h.2,
+      h.1,
       λ t u f g. (
         made_shape look site kind.text attributes (map attribute (eval_named m attributes env).value)
-            (names_made m attributes env) h.0 h.1,
+            (names_made m attributes env) h.0.0 h.0.1,
         f,
         g,
       ),
     )
     facts (Call at site name function arguments) env h = (tt, λ u g. (tt, calls function _, g))
     facts (Key at site key body) env h = (tt, h.1, λ t u f g. (tt, f, g))
-    facts (If at site condition then_branch else_branch) env h = (tt, h.0, h.1)
-    facts (For at site name list body) env h = (tt, h)
-    facts (Let at site name e body) env h = (tt, h)
+    facts (If at site condition then_branch else_branch) env h =
+        let both = each_apart (IsTold look) (statements_in then_branch) (statements_in else_branch) h.1 in
+        (tt, both.0, both.1)
+    facts (For at site name list body) env h = (tt, h.1)
+    facts (Let at site name e body) env h = (tt, h.1)
     facts (Remember at site name keys e body) env h = (tt, tt, h.1, λ u g. (tt, tt, g))
 
 forest_shaped : (look : ℕ → Told) (functions : List Func) (root : ℕ) (m : Map) → FunctionsAreTold look functions
@@ -142,11 +142,7 @@ pub record IsShaped (look : ℕ → Told) (t : GroupForest) : Type 0 where
   pub shapes : HaveShapes look t
 
 root_is_no_node : (p : Program) → IsNumberedProgram p → false ≡ at_node (look_up p.functions) 0
-root_is_no_node p h = by (look_up p.functions 0) refl
-  where
-    by : (o : Told) → look_up p.functions 0 ≡ o → false ≡ tells_node o
-    by None e = refl
-    by (Some v) e = absurd (none_at_root p v h e)
+root_is_no_node p h = sym (ap tells_node (none_at_root p h))
 
 pub composed_at_sites : (p : Program) (root : ℕ) (m : Map) → IsNumberedProgram p → program_faults p ≡ []
     → NodesAt (at_node (look_up p.functions)) (forest p.functions root m)
