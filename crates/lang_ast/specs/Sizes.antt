@@ -120,20 +120,20 @@ states_sizes (s ∷ ss) = name_sizes s.name ++ states_sizes ss
 
 -- The first of these offsets over the limit of forms.
 abbrev pub first_excess : List ℕ → List ℕ
-first_excess places = told (slice_get places most_forms)
+first_excess offsets = told (slice_get offsets most_forms)
   where
     told : Option ℕ → List ℕ
     told None = []
     told (Some at) = at ∷ []
 
-abbrev pub state_place : State → ℕ
-state_place s = s.at
+abbrev pub state_offset : State → ℕ
+state_offset s = s.at
 
-abbrev pub function_place : Func → ℕ
-function_place f = f.at
+abbrev pub function_offset : Func → ℕ
+function_offset f = f.at
 
 -- The offsets of the oversized parts of a program with these states and functions: the 257th state, the 257th function,
 -- and those in the states and functions.
 abbrev pub oversized_parts : List State → List Func → List ℕ
-oversized_parts states functions = first_excess (map state_place states) ++ first_excess (map function_place functions)
+oversized_parts states functions = first_excess (map state_offset states) ++ first_excess (map function_offset functions)
     ++ (states_sizes states ++ functions_sizes functions)

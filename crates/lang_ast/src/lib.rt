@@ -9,7 +9,7 @@
 #![tactic(auto)]
 
 mod binding;
-mod place;
+mod offset;
 mod program;
 mod root;
 mod script;

@@ -10,12 +10,11 @@ use lang_ast::{Function, Statement};
 use rt_values::NoMemory;
 use std::alloc::Global;
 
-// The most functions of a chain of calls. A rule of this project, so that composing has bounded
-// depth.
+// The most functions of a chain of calls. A rule of this project, so that composing has bounded depth.
 const MOST_CHAIN: usize = 32;
 
-// Returns the length of the longest chain that a statement calls. `chains` has the lengths for the
-// functions before its own.
+// Returns the length of the longest chain that a statement calls. `chains` has the lengths for the functions before its
+// own.
 #[tactic(auto, using(lang_ast::proofs::Views::statements))]
 #[cycle(chains)]
 fn longest(chains: &[usize], s: &Statement) -> usize

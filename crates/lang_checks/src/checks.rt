@@ -93,9 +93,9 @@ impl Checked {
 
 /// Checks a program, and returns it as one without faults.
 ///
-/// The statements and calls of the program must be numbered as `lang_forms::program` numbers them.
-/// Fails with the fault of the first pass that finds any, at the least offset, and if memory runs
-/// out. The rules are this project's own; the Compose compiler plugin finds such faults in Kotlin.
+/// The statements and calls of the program must be numbered as `lang_forms::program` numbers them. Fails with the fault
+/// of the first pass that finds any, at the least offset, and if memory runs out. The rules are this project's own; the
+/// Compose compiler plugin finds such faults in Kotlin.
 #[tactic(auto, using(crate::proofs::Least::no_answer))]
 pub fn check(alloc: Global, program: Program) -> Result<Checked, CheckStop>
     requires numbered { IsNumberedProgram (program_view program) }

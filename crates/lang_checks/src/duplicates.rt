@@ -49,7 +49,7 @@ impl HasName for Named {
     }
 }
 
-// Whether one of the parts has the name.
+// Returns whether one of the parts has the name.
 fn is_among<T: HasName>(parts: &[T], name: &[u8]) -> bool
     ensures { result ≡ is_among name.now (map T.title parts.now) }
 {

@@ -14,8 +14,7 @@ use lang_ast::{Expression, Ident, Named, State};
 use rt_values::{NoMemory, ObjectNo, Ty};
 use std::alloc::Global;
 
-/// What an expression may name: the states, the variables around it, and in the calculation of a
-/// remember its keys.
+/// What an expression may name: the states, the variables around it, and in the calculation of a remember its keys.
 #[derive(Clone, Copy)]
 pub struct ExpressionScope<'a> {
     pub states: &'a [State],
@@ -36,7 +35,7 @@ fn or_int(ty: Option<Ty>) -> Ty
 
 // Infers the type of a variable, and updates `least` with its faults.
 #[tactic(auto, using(crate::proofs::Least::answers))]
-fn variable(
+fn infer_variable(
     look: &ExpressionScope,
     name: &Ident,
     least: Option<ProgramFault>,
@@ -67,7 +66,7 @@ fn variable(
 
 // Infers the type of a `get`, and updates `least` with its faults.
 #[tactic(auto, using(crate::proofs::Least::answers))]
-fn get(
+fn infer_get(
     look: &ExpressionScope,
     name: &Ident,
     number: ObjectNo,
@@ -87,7 +86,7 @@ fn get(
 /// Infers the type of `e`, and updates `least` with the faults in `e`.
 #[tactic(auto, using(lang_ast::proofs::Views::expressions, crate::proofs::Least::answers))]
 #[cycle(types)]
-pub fn expression(
+pub fn infer_expression(
     alloc: Global,
     look: &ExpressionScope,
     e: &Expression,
@@ -99,14 +98,14 @@ pub fn expression(
 {
     match e {
         Expression::Literal { value, .. } => Ok((value.ty(), least)),
-        Expression::Variable { name } => Ok(variable(look, name, least)),
-        Expression::Get { at, name, number } => Ok(get(look, name, *number, *at, least)),
+        Expression::Variable { name } => Ok(infer_variable(look, name, least)),
+        Expression::Get { at, name, number } => Ok(infer_get(look, name, *number, *at, least)),
         Expression::Apply {
             at,
             operator,
             operands,
         } => {
-            let (types, least) = expressions(alloc, look, operands, least)?;
+            let (types, least) = infer_expressions(alloc, look, operands, least)?;
             let least = fault_unless(
                 accepts_types(*operator, &types),
                 CheckKind::Type,
@@ -133,14 +132,14 @@ fn add_type(
     ensures least { IfOk result (λ r. r
         ≡ least_fault_from least (expr_faults (expression_scope_view look.now) (expr_view e.now))) }
 {
-    let (ty, least) = expression(alloc, look, e, least)?;
+    let (ty, least) = infer_expression(alloc, look, e, least)?;
     types.push(ty)?;
     Ok(least)
 }
 
 /// Infers the types of expressions, and updates `least` with their faults.
 #[cycle(types)]
-pub fn expressions(
+pub fn infer_expressions(
     alloc: Global,
     look: &ExpressionScope,
     es: &[Expression],
@@ -172,13 +171,13 @@ fn add_bound(
     ensures least { IfOk result (λ r. r
         ≡ least_fault_from least (expr_faults (expression_scope_view look.now) (named_view named.now).value)) }
 {
-    let (ty, least) = expression(alloc, look, &named.value, least)?;
+    let (ty, least) = infer_expression(alloc, look, &named.value, least)?;
     into.push(&named.name, ty)?;
     Ok(least)
 }
 
 /// Binds names to the types of their expressions, and updates `least` with the faults of those.
-pub fn values(
+pub fn infer_values(
     alloc: Global,
     look: &ExpressionScope,
     all: &[Named],

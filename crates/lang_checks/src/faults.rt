@@ -2,21 +2,18 @@
 ghost use Rattle.std.specs.Prelude.{◌≡◌};
 ghost use Rattle.lang_checks.specs.FaultOrder.{pass, before, least_fault_with, least_fault_from, fault_unless};
 
-/// The kind of a fault, by the pass that finds it. The passes run in this order, a rule of this
-/// project.
+/// The kind of a fault, by the pass that finds it. The passes run in this order, a rule of this project.
 #[derive(Clone, Copy, Debug, PartialEq, Eq)]
 pub enum CheckKind {
-    /// A name that is taken already: a second state, function, parameter, attribute or key of that
-    /// name, or a variable in scope. The offset is that of the later name.
+    /// A name that is taken already: a second state, function, parameter, attribute or key of that name, or a variable
+    /// in scope. The offset is that of the later name.
     Double,
-    /// A variable, a state or a function that does not exist, at its use; or no function `root`, at
-    /// the header.
+    /// A variable, a state or a function that does not exist, at its use; or no function `root`, at the header.
     Unknown,
-    /// A call of the function itself or of a later one, at the call; or a chain of more than 32
-    /// calls, at the function.
+    /// A call of the function itself or of a later one, at the call; or a chain of more than 32 calls, at the function.
     Order,
-    /// Values of the wrong types for an operator, a statement, a call or a state, at the operator's
-    /// list, the statement, the call or the state; or a `root` with parameters, at the function.
+    /// Values of the wrong types for an operator, a statement, a call or a state, at the operator's list, the
+    /// statement, the call or the state; or a `root` with parameters, at the function.
     Type,
     /// A calculation that reads a state or a variable that is not a key, at the read.
     Remember,
@@ -29,8 +26,8 @@ pub struct ProgramFault {
     pub at: usize,
 }
 
-// The number of the pass that finds a kind, from 0.
-fn pass(kind: CheckKind) -> usize
+// Returns the number of the pass that finds a kind, from 0.
+fn pass_of(kind: CheckKind) -> usize
     ensures { result ≡ pass kind }
 {
     match kind {
@@ -42,22 +39,22 @@ fn pass(kind: CheckKind) -> usize
     }
 }
 
-// Whether `a` is reported rather than `b`.
-fn before(a: ProgramFault, b: ProgramFault) -> bool
+// Returns whether `a` is reported rather than `b`.
+fn is_before(a: ProgramFault, b: ProgramFault) -> bool
     ensures { result ≡ before a b }
 {
-    pass(a.kind) < pass(b.kind) || (pass(a.kind) == pass(b.kind) && a.at < b.at)
+    pass_of(a.kind) < pass_of(b.kind) || (pass_of(a.kind) == pass_of(b.kind) && a.at < b.at)
 }
 
 // Returns the fault that is reported of two.
 #[tactic(auto, unfolding(crate::specs::FaultOrder::least_fault_with))]
-fn note(least: Option<ProgramFault>, fault: ProgramFault) -> Option<ProgramFault>
+fn note_fault(least: Option<ProgramFault>, fault: ProgramFault) -> Option<ProgramFault>
     ensures { result ≡ least_fault_with least fault }
 {
     match least {
         None => Some(fault),
         Some(kept) => {
-            if before(fault, kept) {
+            if is_before(fault, kept) {
                 Some(fault)
             } else {
                 Some(kept)
@@ -78,6 +75,6 @@ pub fn fault_unless(
     if holds {
         least
     } else {
-        note(least, ProgramFault { kind, at })
+        note_fault(least, ProgramFault { kind, at })
     }
 }

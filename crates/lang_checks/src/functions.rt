@@ -9,13 +9,13 @@ use crate::chains::check_chains;
 use crate::duplicates::duplicate_faults;
 use crate::environment::TypeEnv;
 use crate::faults::{CheckKind, ProgramFault, fault_unless};
-use crate::statement::{StatementContext, statements};
+use crate::statement::{StatementContext, check_statements};
 use lang_ast::{Function, Parameter, Program, State, root_number};
 use rt_values::NoMemory;
 use snap_policy::Policy;
 use std::alloc::Global;
 
-// Whether the initial value of a state has its type, and its policy fits the type.
+// Returns whether the initial value of a state has its type, and its policy fits the type.
 fn is_well_typed(state: &State) -> bool
     ensures { result ≡ is_well_typed state.now }
 {
@@ -63,7 +63,7 @@ fn check_function(
     let callable = !function.name.text.is(b"root") || function.parameters.is_empty();
     let least = fault_unless(callable, CheckKind::Type, function.at, least);
     let mut scope = bind_parameters(alloc, &function.parameters)?;
-    statements(alloc, around, &mut scope, &function.body, least)
+    check_statements(alloc, around, &mut scope, &function.body, least)
 }
 
 // Updates `least` with the faults of all functions.

@@ -36,8 +36,8 @@ fn first_named<'a>(functions: &'a [Function], name: &Ident) -> Option<(usize, &'
     None
 }
 
-/// Returns the function that a call refers to, with its number: the one with the call's number if
-/// it has the name, and else the first that has it.
+/// Returns the function that a call refers to, with its number: the one with the call's number if it has the name, and
+/// else the first that has it.
 #[tactic(auto, using(crate::proofs::Numbered::function_at))]
 pub fn named_function<'a>(
     functions: &'a [Function],

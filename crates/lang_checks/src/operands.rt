@@ -5,7 +5,7 @@ ghost use Rattle.lang_checks.specs.Operands.{same_types, all_ints, is_pair, is_c
 use lang_ast::Operator;
 use rt_values::Ty;
 
-/// Whether two lists of types are equal.
+/// Returns whether two lists of types are equal.
 pub fn same_types(types: &[Ty], others: &[Ty]) -> bool
     ensures { result ≡ same_types types.now others.now }
 {
@@ -30,7 +30,7 @@ fn all_ints(types: &[Ty]) -> bool
     types.iter().all(|ty| ty.same(Ty::Int))
 }
 
-// Whether the types are two equal ones.
+// Returns whether the types are two equal ones.
 fn is_pair(types: &[Ty]) -> bool
     ensures { result ≡ is_pair types.now }
 {
@@ -40,7 +40,7 @@ fn is_pair(types: &[Ty]) -> bool
     }
 }
 
-// Whether the types are a Bool and two equal ones.
+// Returns whether the types are a Bool and two equal ones.
 fn is_choice(types: &[Ty]) -> bool
     ensures { result ≡ is_choice types.now }
 {
@@ -50,7 +50,7 @@ fn is_choice(types: &[Ty]) -> bool
     }
 }
 
-// Whether the types are one Int or one Bool.
+// Returns whether the types are one Int or one Bool.
 fn is_plain(types: &[Ty]) -> bool
     ensures { result ≡ is_plain types.now }
 {
@@ -69,7 +69,7 @@ fn second_type(types: &[Ty]) -> Ty
     }
 }
 
-/// Whether an operator takes operands of these types.
+/// Returns whether an operator takes operands of these types.
 pub fn accepts_types(operator: Operator, types: &[Ty]) -> bool
     ensures { result ≡ accepts_types operator types.now }
 {
@@ -96,8 +96,7 @@ pub fn accepts_types(operator: Operator, types: &[Ty]) -> bool
     }
 }
 
-/// Returns the type of an operator's result: for a pick that of its second operand, and else the
-/// same for all operands.
+/// Returns the type of an operator's result: for a pick that of its second operand, and else the same for all operands.
 pub fn result_type(operator: Operator, types: &[Ty]) -> Ty
     ensures { result ≡ result_type operator types.now }
 {

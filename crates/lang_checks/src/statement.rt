@@ -12,7 +12,7 @@ ghost use Rattle.lang_checks.specs.Views.{expression_scope_view, statement_conte
 
 use crate::duplicates::duplicate_faults;
 use crate::environment::TypeEnv;
-use crate::expression::{ExpressionScope, expression, expressions, values};
+use crate::expression::{ExpressionScope, infer_expression, infer_expressions, infer_values};
 use crate::faults::{CheckKind, ProgramFault, fault_unless};
 use crate::named_parts::named_function;
 use crate::operands::same_types;
@@ -45,8 +45,8 @@ fn plain_scope<'a>(
     }
 }
 
-// Whether parameters have these types.
-fn takes(parameters: &[Parameter], types: &[Ty]) -> bool
+// Returns whether parameters have these types.
+fn accepts_arguments(parameters: &[Parameter], types: &[Ty]) -> bool
     ensures { result ≡ same_types (parameter_types parameters.now) types.now }
 {
     let mut left = parameters;
@@ -66,7 +66,7 @@ fn takes(parameters: &[Parameter], types: &[Ty]) -> bool
 
 // Updates `least` with the faults of a call whose arguments have these types.
 #[tactic(auto, using(crate::proofs::Least::answers))]
-fn call(
+fn check_callee(
     around: &StatementContext,
     name: &Ident,
     number: usize,
@@ -83,7 +83,7 @@ fn call(
         Some((number, function)) => {
             let least = fault_unless(number < around.me, CheckKind::Order, at, least);
             fault_unless(
-                takes(&function.parameters, types),
+                accepts_arguments(&function.parameters, types),
                 CheckKind::Type,
                 at,
                 least,
@@ -110,14 +110,14 @@ fn check_call(
 {
     let none = TypeEnv::new(alloc);
     let look = plain_scope(around.states, scope, &none);
-    let (types, least) = expressions(alloc, &look, arguments, least)?;
-    Ok(call(around, name, number, at, &types, least))
+    let (types, least) = infer_expressions(alloc, &look, arguments, least)?;
+    Ok(check_callee(around, name, number, at, &types, least))
 }
 
 /// Updates `least` with the faults of a statement. `scope` has the variables in scope.
 #[tactic(auto, using(lang_ast::proofs::Views::statements, crate::proofs::Least::answers))]
 #[cycle(faults)]
-pub fn statement(
+pub fn check_statement(
     alloc: Global,
     around: &StatementContext,
     scope: &mut TypeEnv,
@@ -201,8 +201,8 @@ fn check_node(
     let none = TypeEnv::new(alloc);
     let look = plain_scope(around.states, &*scope, &none);
     let least = duplicate_faults(attributes, least);
-    let (_, least) = values(alloc, &look, attributes, least)?;
-    statements(alloc, around, scope, body, least)
+    let (_, least) = infer_values(alloc, &look, attributes, least)?;
+    check_statements(alloc, around, scope, body, least)
 }
 
 // Updates `least` with the faults of a key and its body.
@@ -223,8 +223,8 @@ fn check_key(
 {
     let none = TypeEnv::new(alloc);
     let look = plain_scope(around.states, &*scope, &none);
-    let (_, least) = expression(alloc, &look, key, least)?;
-    statements(alloc, around, scope, body, least)
+    let (_, least) = infer_expression(alloc, &look, key, least)?;
+    check_statements(alloc, around, scope, body, least)
 }
 
 // Updates `least` with the faults of an if, whose condition is a Bool.
@@ -248,10 +248,10 @@ fn check_if(
 {
     let none = TypeEnv::new(alloc);
     let look = plain_scope(around.states, &*scope, &none);
-    let (ty, least) = expression(alloc, &look, condition, least)?;
+    let (ty, least) = infer_expression(alloc, &look, condition, least)?;
     let least = fault_unless(ty.same(Ty::Bool), CheckKind::Type, at, least);
-    let least = statements(alloc, around, scope, then_branch, least)?;
-    statements(alloc, around, scope, else_branch, least)
+    let least = check_statements(alloc, around, scope, then_branch, least)?;
+    check_statements(alloc, around, scope, else_branch, least)
 }
 
 // Updates `least` with the faults of a for, whose list is an Ints and whose name is an Int.
@@ -274,7 +274,7 @@ fn check_for(
 {
     let none = TypeEnv::new(alloc);
     let look = plain_scope(around.states, &*scope, &none);
-    let (ty, least) = expression(alloc, &look, list, least)?;
+    let (ty, least) = infer_expression(alloc, &look, list, least)?;
     let least = fault_unless(ty.same(Ty::Ints), CheckKind::Type, at, least);
     check_body(alloc, around, scope, name, Ty::Int, body, least)
 }
@@ -298,12 +298,12 @@ fn check_let(
 {
     let none = TypeEnv::new(alloc);
     let look = plain_scope(around.states, &*scope, &none);
-    let (ty, least) = expression(alloc, &look, value, least)?;
+    let (ty, least) = infer_expression(alloc, &look, value, least)?;
     check_body(alloc, around, scope, name, ty, body, least)
 }
 
-// Updates `least` with the faults of a remember, whose keys have unique names and whose calculation
-// depends only on them.
+// Updates `least` with the faults of a remember, whose keys have unique names and whose calculation depends only on
+// them.
 #[tactic(auto, using(crate::proofs::Least::answers, crate::proofs::Numbered::names_of))]
 #[cycle(faults)]
 fn check_remember(
@@ -325,19 +325,18 @@ fn check_remember(
     let none = TypeEnv::new(alloc);
     let look = plain_scope(around.states, &*scope, &none);
     let least = duplicate_faults(keys, least);
-    let (typed_name, least) = values(alloc, &look, keys, least)?;
+    let (typed_name, least) = infer_values(alloc, &look, keys, least)?;
     let within = ExpressionScope {
         states: around.states,
         scope: &*scope,
         keys: &typed_name,
         calculating: true,
     };
-    let (ty, least) = expression(alloc, &within, value, least)?;
+    let (ty, least) = infer_expression(alloc, &within, value, least)?;
     check_body(alloc, around, scope, name, ty, body, least)
 }
 
-// Updates `least` with the faults of a body in which `name` is bound. A variable in scope may not
-// be bound again.
+// Updates `least` with the faults of a body in which `name` is bound. A variable in scope may not be bound again.
 #[tactic(auto, using(crate::proofs::Least::answers))]
 #[cycle(faults)]
 fn check_body(
@@ -362,7 +361,7 @@ fn check_body(
         least,
     );
     scope.push(name, ty)?;
-    let least = statements(alloc, around, scope, body, least)?;
+    let least = check_statements(alloc, around, scope, body, least)?;
     scope.pop();
     Ok(least)
 }
@@ -370,7 +369,7 @@ fn check_body(
 /// Updates `least` with the faults of statements in order.
 #[tactic(auto, using(crate::proofs::Steps::statements_step))]
 #[cycle(faults)]
-pub fn statements(
+pub fn check_statements(
     alloc: Global,
     around: &StatementContext,
     scope: &mut TypeEnv,
@@ -383,7 +382,7 @@ pub fn statements(
 {
     let mut least = least;
     for s in body {
-        least = statement(alloc, around, scope, s, least)?;
+        least = check_statement(alloc, around, scope, s, least)?;
     }
     Ok(least)
 }

@@ -9,8 +9,8 @@ use Rattle.lang_forms.specs.declared.stop.FormStop.TheVariants.{Form, Limit, NoM
 use Rattle.lang_forms.specs.TextAnswers.{parsed_answer, unless_beyond, text_answer}
 use Rattle.lang_forms.specs.Sources.{Source}
 use Rattle.lang_forms.specs.Forms.{HasForms}
-use Rattle.lang_forms.specs.Readings.{Seen, seen_trees, is_there, header_form, is_header, place}
-use Rattle.lang_forms.specs.FirstWrong.{only, first_place, IsFirstWrong, IsAnswerFor}
+use Rattle.lang_forms.specs.Readings.{Seen, seen_trees, is_there, header_form, is_header, offset_of}
+use Rattle.lang_forms.specs.FirstWrong.{only, first_offset, IsFirstWrong, IsAnswerFor}
 use Rattle.lang_forms.specs.TextReading.{PartialSource, source, source_with_tree, source_with_rest, tops_of, text_of, start, source_or_offset, source_of}
 use Rattle.lang_forms.proofs.FirstWrong.{listed}
 use Rattle.lang_forms.proofs.Limits.{stop_read}
@@ -32,11 +32,11 @@ go_on (s ∷ xs) ys p q h = by (λ r. go_on xs ys r q) (source_with_tree p s) re
   where
     by : ((r : PartialSource) → tops_of r xs ≡ Ok q → tops_of r (xs ++ ys) ≡ tops_of q ys) → (o : Option PartialSource)
         → source_with_tree p s ≡ o
-        → source_with_rest (place s) o (λ r. tops_of r xs) ≡ Ok q
-        → source_with_rest (place s) (source_with_tree p s) (λ r. tops_of r (xs ++ ys)) ≡ tops_of q ys
+        → source_with_rest (offset_of s) o (λ r. tops_of r xs) ≡ Ok q
+        → source_with_rest (offset_of s) (source_with_tree p s) (λ r. tops_of r (xs ++ ys)) ≡ tops_of q ys
     by go None e k = absurd (cc)
     by go (Some r) e k =
-        ap (λ (o : Option PartialSource). source_with_rest (place s) o (λ r. tops_of r (xs ++ ys))) e ∙ go r k
+        ap (λ (o : Option PartialSource). source_with_rest (offset_of s) o (λ r. tops_of r (xs ++ ys))) e ∙ go r k
 
 text_on : (end : ℕ) (xs ys : List Seen) (q : PartialSource) → text_of end xs ≡ Ok q
     → text_of end (xs ++ ys) ≡ tops_of q ys
@@ -44,10 +44,10 @@ unfolding text_of
 text_on end [] ys q h = absurd (cc)
 text_on end (s ∷ xs) ys q h = by (is_header s) refl h
   where
-    by : (b : Bool) → is_header s ≡ b → cond b (tops_of (start (place s)) xs) (Err (place s)) ≡ Ok q
-        → cond (is_header s) (tops_of (start (place s)) (xs ++ ys)) (Err (place s)) ≡ tops_of q ys
-    by true e k = ap (λ (b : Bool). cond b (tops_of (start (place s)) (xs ++ ys)) (Err (place s))) e
-        ∙ go_on xs ys (start (place s)) q k
+    by : (b : Bool) → is_header s ≡ b → cond b (tops_of (start (offset_of s)) xs) (Err (offset_of s)) ≡ Ok q
+        → cond (is_header s) (tops_of (start (offset_of s)) (xs ++ ys)) (Err (offset_of s)) ≡ tops_of q ys
+    by true e k = ap (λ (b : Bool). cond b (tops_of (start (offset_of s)) (xs ++ ys)) (Err (offset_of s))) e
+        ∙ go_on xs ys (start (offset_of s)) q k
     by false e k = absurd (cc)
 
 abbrev stop_at : ℕ → Result PartialSource ℕ
@@ -56,7 +56,7 @@ stop_at at = Err at
 -- The first tree after the parsed ones stops the parser, if it is not taken with nothing after it.
 next_stop : (end : ℕ) (w : Forest) (q : PartialSource)
     → ((r : PartialSource) → tops_of q (seen_trees (only w)) ≡ Ok r → ⊥)
-    → tops_of q (seen_trees w) ≡ stop_at (first_place end w)
+    → tops_of q (seen_trees w) ≡ stop_at (first_offset end w)
 unfolding tops_of
 next_stop end empty q never = absurd (never q refl)
 next_stop end (atom x a f) q never = refl
@@ -70,7 +70,7 @@ next_stop end (list x i f) q never = by (source_with_tree q (listed x i)) refl
 
 -- The first tree of all.
 first_stop : (end : ℕ) (w : Forest) → ((r : PartialSource) → text_of end (seen_trees (only w)) ≡ Ok r → ⊥)
-    → text_of end (seen_trees w) ≡ stop_at (first_place end w)
+    → text_of end (seen_trees w) ≡ stop_at (first_offset end w)
 unfolding text_of tops_of
 first_stop end empty never = refl
 first_stop end (atom x a f) never = refl
@@ -101,7 +101,7 @@ wrong_read end at f h = elim h.before [
       ∙ first_stop end h.wrong (λ r k. h.none (source r)
       (source_found end (joined_trees h.front (only h.wrong)) (source r)
       (ap (λ (x : Forest). source_of end (seen_trees x)) alone ∙ ap source_or_offset k)))
-      ∙ ap stop_at (sym h.place)
+      ∙ ap stop_at (sym h.offset)
   | inr some ↦
       let q = front_read (text_of end (seen_trees h.front)) some.0 (text_read end h.front some.0 some.1) in
       let site_after = λ (w : Forest). ap (text_of end) (seen-behind h.front w)
@@ -110,7 +110,7 @@ wrong_read end at f h = elim h.before [
       ∙ next_stop end h.wrong q.0 (λ r k. h.none (source r)
       (source_found end (joined_trees h.front (only h.wrong)) (source r)
       (ap source_or_offset (site_after (only h.wrong) ∙ k))))
-      ∙ ap stop_at (sym h.place)
+      ∙ ap stop_at (sym h.offset)
 ]
 
 -- The answer of the parser is one of the forms.

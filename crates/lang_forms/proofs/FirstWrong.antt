@@ -5,7 +5,7 @@ use Rattle.lang_forms.specs.Sources.{Source}
 use Rattle.lang_forms.specs.Forms.{HasForms}
 use Rattle.lang_forms.specs.Readings.{Seen, seen_trees, form, roles, is_there, header_form}
 use Rattle.lang_forms.specs.TextReading.{PartialSource, source, source_with_tree, source_with_rest, tops_of, text_of, start, source_or_offset}
-use Rattle.lang_forms.specs.FirstWrong.{only, first_place, IsFirstWrong}
+use Rattle.lang_forms.specs.FirstWrong.{only, first_offset, IsFirstWrong}
 use Rattle.lang_forms.proofs.TextIsRead.{text_read}
 use Rattle.lang_forms.proofs.TextHasForms.{source_found}
 
@@ -14,7 +14,7 @@ record Stopped (end : ℕ) (f : Forest) (p : PartialSource) (at : ℕ) : Type 0 
   front : Forest
   wrong : Forest
   is : f ≡ joined_trees front wrong
-  place : at ≡ first_place end wrong
+  offset : at ≡ first_offset end wrong
   last : PartialSource
   before : tops_of p (seen_trees front) ≡ Ok last
   stuck : tops_of p (seen_trees (joined_trees front (only wrong))) ≡ Err at
@@ -31,18 +31,18 @@ err_same p s at x go none h = err_is at x (sym h ∙ ap (λ o. source_with_rest 
 
 -- A first tree that the parser does not take.
 stuck_here : (end at x : ℕ) (f g : Forest) (s : Seen) (p : PartialSource) → seen_trees f ≡ s ∷ seen_trees g
-    → seen_trees (only f) ≡ s ∷ seen_trees empty → first_place end f ≡ x → source_with_tree p s ≡ None
+    → seen_trees (only f) ≡ s ∷ seen_trees empty → first_offset end f ≡ x → source_with_tree p s ≡ None
     → source_with_rest x (source_with_tree p s) (λ q. tops_of q (seen_trees g)) ≡ Err at
     → tops_of p (s ∷ seen_trees empty) ≡ source_with_rest x (source_with_tree p s) (λ q. tops_of q (seen_trees empty))
     → Stopped end f p at
 unfolding tops_of
-stuck_here end at x f g s p is alone place none h step =
+stuck_here end at x f g s p is alone offset none h step =
     let here : at ≡ x = err_same p s at x (λ q. tops_of q (seen_trees g)) none h in
     record {
       front = empty;
       wrong = f;
       is = refl;
-      place = here ∙ sym place;
+      offset = here ∙ sym offset;
       last = p;
       before = refl;
       stuck = ap (tops_of p) alone ∙ step ∙ ap (λ o. source_with_rest x o (λ q. tops_of q (seen_trees empty))) none
@@ -69,7 +69,7 @@ stopped end at (list x i f) p h = by (λ q. stopped end at f q) (source_with_tre
           front = list x i more.front;
           wrong = more.wrong;
           is = ap (list x i) more.is;
-          place = more.place;
+          offset = more.offset;
           last = more.last;
           before = ap (λ o. source_with_rest x o (λ r. tops_of r (seen_trees more.front))) e ∙ more.before;
           stuck = ap (λ o. source_with_rest x o
@@ -86,13 +86,13 @@ refused end at f t h has = apart (sym (ap source_or_offset h) ∙ text_read end 
     apart e = cc
 
 -- A first tree that is no header.
-no_header : (end at : ℕ) (f : Forest) → text_of end (seen_trees f) ≡ Err at → at ≡ first_place end f
+no_header : (end at : ℕ) (f : Forest) → text_of end (seen_trees f) ≡ Err at → at ≡ first_offset end f
     → ((x : ℕ) × (text_of end (seen_trees (only f)) ≡ Err x)) → IsFirstWrong end f at
-no_header end at f h place alone = record {
+no_header end at f h offset alone = record {
   front = empty;
   wrong = f;
   is = refl;
-  place = place;
+  offset = offset;
   before = inl refl;
   none = λ t. refused end alone.0 (only f) t alone.1;
   nor_all = λ t. refused end at f t h;
@@ -120,7 +120,7 @@ first_wrong end at (list x i f) h = by (is_there (header_form (seen_trees i))) r
           front = list x i s.front;
           wrong = s.wrong;
           is = ap (list x i) s.is;
-          place = s.place;
+          offset = s.offset;
           before = inr (source s.last, source_found end (list x i s.front) (source s.last) (ap source_or_offset front));
           none = λ t. refused end at (list x i (joined_trees s.front (only s.wrong))) t stuck;
           nor_all = λ t. refused end at (list x i f) t h;

@@ -17,11 +17,11 @@ only (text at s f) = text at s empty
 only (list at i f) = list at i empty
 
 -- The offset of the first tree, or `end` if there is none.
-abbrev pub first_place : ℕ → Forest → ℕ
-first_place end empty = end
-first_place end (atom at a f) = at
-first_place end (text at s f) = at
-first_place end (list at i f) = at
+abbrev pub first_offset : ℕ → Forest → ℕ
+first_offset end empty = end
+first_offset end (atom at a f) = at
+first_offset end (text at s f) = at
+first_offset end (list at i f) = at
 
 -- The trees before the offset have the forms of a text, or there are none. With the tree at the offset they have the
 -- forms of no text, and neither have all trees.
@@ -29,7 +29,7 @@ pub record IsFirstWrong (end : ℕ) (f : Forest) (at : ℕ) : Type 0 where
   pub front : Forest
   pub wrong : Forest
   pub is : f ≡ joined_trees front wrong
-  pub place : at ≡ first_place end wrong
+  pub offset : at ≡ first_offset end wrong
   pub before : (front ≡ empty) ⊎ ((t : Source) × HasForms front t)
   pub none : (t : Source) → ¬ HasForms (joined_trees front (only wrong)) t
   pub nor_all : (t : Source) → ¬ HasForms f t

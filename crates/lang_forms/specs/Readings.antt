@@ -526,10 +526,10 @@ seen_trees (atom at a f) = word at a ∷ seen_trees f
 seen_trees (text at s f) = chars at s ∷ seen_trees f
 seen_trees (list at i f) = form at (roles at (seen_trees i)) ∷ seen_trees f
 
-abbrev pub place : Seen → ℕ
-place (word at a) = at
-place (chars at s) = at
-place (form at r) = at
+abbrev pub offset_of : Seen → ℕ
+offset_of (word at a) = at
+offset_of (chars at s) = at
+offset_of (form at r) = at
 
 abbrev pub top_at : KnownNames → ℕ → Seen → Option (Top × ℕ)
 top_at m k (word at a) = None

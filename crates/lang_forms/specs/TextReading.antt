@@ -5,7 +5,7 @@ use Rattle.lang_ast.specs.declared.program.State.{State}
 use Rattle.lang_ast.specs.declared.script.DoForm.{DoForm}
 use Rattle.lang_forms.specs.Sources.{Source}
 use Rattle.lang_forms.specs.Forms.{KnownNames, state_name, function_name}
-use Rattle.lang_forms.specs.Readings.{◌>>=◌, when, Top, StateTop, FunctionTop, DoTop, Seen, place, top_at, is_header}
+use Rattle.lang_forms.specs.Readings.{◌>>=◌, when, Top, StateTop, FunctionTop, DoTop, Seen, offset_of, top_at, is_header}
 
 -- The part of a source text that is parsed already, and the number of the next statement.
 pub record PartialSource : Type 0 where
@@ -54,7 +54,7 @@ source_with_rest at (Some q) go = go q
 -- The part with all the trees, or the offset of the first that is no top form or out of order.
 unfoldable pub tops_of : PartialSource → List Seen → Result PartialSource ℕ
 tops_of p [] = Ok p
-tops_of p (s ∷ ss) = source_with_rest (place s) (source_with_tree p s) (λ q. tops_of q ss)
+tops_of p (s ∷ ss) = source_with_rest (offset_of s) (source_with_tree p s) (λ q. tops_of q ss)
 
 -- The part that has only a header.
 abbrev pub start : ℕ → PartialSource
@@ -63,7 +63,7 @@ start at = record { header = at; states = []; functions = []; script = []; site 
 -- The parsed trees of a text: the header, and the top forms after it. Without trees the header is missing at `end`.
 unfoldable pub text_of : ℕ → List Seen → Result PartialSource ℕ
 text_of end [] = Err end
-text_of end (s ∷ ss) = if is_header s then tops_of (start (place s)) ss else Err (place s)
+text_of end (s ∷ ss) = if is_header s then tops_of (start (offset_of s)) ss else Err (offset_of s)
 
 -- The program and the script that are parsed.
 abbrev pub source_or_offset : Result PartialSource ℕ → Result Source ℕ

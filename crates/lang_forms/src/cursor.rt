@@ -26,7 +26,7 @@ pub fn split_first_atom(trees: &[Tree]) -> Option<(usize, &[u8], &[Tree])>
     }
 }
 
-// Whether there are no trees. Each kind has its own arm, so that the proof knows the tree.
+// Returns whether there are no trees. Each kind has its own arm, so that the proof knows the tree.
 #[tactic(auto, using(crate::proofs::Trees::trees))]
 pub fn is_at_end(trees: &[Tree]) -> bool
     ensures { result ≡ is_end (seen_all trees.now) }
@@ -39,7 +39,7 @@ pub fn is_at_end(trees: &[Tree]) -> bool
     }
 }
 
-// Whether two slices have equal bytes.
+// Returns whether two slices have equal bytes.
 pub fn same_bytes(a: &[u8], b: &[u8]) -> bool
     ensures { result ≡ bytes_eq a.now b.now }
 {
@@ -60,21 +60,21 @@ pub fn skip_keyword<'a>(word: &[u8], trees: &'a [Tree]) -> Option<&'a [Tree]>
     }
 }
 
-// Whether a byte is a letter.
+// Returns whether a byte is a letter.
 fn is_letter_byte(b: u8) -> bool
     ensures { result ≡ is_letter b }
 {
     (b'a' <= b && b <= b'z') || (b'A' <= b && b <= b'Z')
 }
 
-// Whether a name may have the byte.
+// Returns whether a name may have the byte.
 fn is_byte_of_name(b: u8) -> bool
     ensures { result ≡ is_name_byte b }
 {
     is_letter_byte(b) || (b'0' <= b && b <= b'9') || b == b'_'
 }
 
-// Whether the first byte is a letter.
+// Returns whether the first byte is a letter.
 fn begins_with_letter(name: &[u8]) -> bool
     ensures { result ≡ is_letter (slice_index name.now 0) }
 {
@@ -84,21 +84,21 @@ fn begins_with_letter(name: &[u8]) -> bool
     }
 }
 
-// Whether a name may have each of the bytes.
+// Returns whether a name may have each of the bytes.
 fn has_bytes_of_name(name: &[u8]) -> bool
     ensures { result ≡ list_all is_name_byte name.now }
 {
     name.iter().all(|b| is_byte_of_name(*b))
 }
 
-// Whether a word may not be a name.
+// Returns whether a word may not be a name.
 fn is_kept_name(name: &[u8]) -> bool
     ensures { result ≡ is_kept_word name.now }
 {
     same_bytes(name, b"global") || same_bytes(name, b"true") || same_bytes(name, b"false")
 }
 
-// Whether an atom is a name.
+// Returns whether an atom is a name.
 pub fn is_good_name(name: &[u8]) -> bool
     ensures { result ≡ is_name name.now }
 {

@@ -28,16 +28,14 @@ fn state_among(states: &[State], name: &Word) -> usize
     states.len()
 }
 
-// Returns the index of the first state with the name among as many as a program may have, or their
-// number.
+// Returns the index of the first state with the name among as many as a program may have, or their number.
 pub fn state_number(states: &[State], name: &Word) -> usize
     ensures { result ≡ number_of name.now (state_names states.now) }
 {
     state_among(&states[..states.len().min(MOST_FORMS)], name)
 }
 
-// Returns the index of the first function with the name, or the number of functions if there is
-// none.
+// Returns the index of the first function with the name, or the number of functions if there is none.
 fn function_among(functions: &[Function], name: &Word) -> usize
     ensures { result ≡ number_in name.now (map function_name (functions_view functions.now)) }
 {
@@ -49,8 +47,7 @@ fn function_among(functions: &[Function], name: &Word) -> usize
     functions.len()
 }
 
-// Returns the index of the first function with the name among as many as a program may have, or
-// their number.
+// Returns the index of the first function with the name among as many as a program may have, or their number.
 pub fn function_number(functions: &[Function], name: &Word) -> usize
     ensures { result ≡ number_of name.now (map function_name (functions_view functions.now)) }
 {

@@ -16,8 +16,8 @@ pub fn forms_of_one_text()
 
 /// Clamping all tokens of a source text to their limits changes only literals.
 ///
-/// Clamped trees have the forms of a text exactly if the trees themselves have them without the
-/// limits of literals. A rule of this project. The function does nothing: its contract is the law.
+/// Clamped trees have the forms of a text exactly if the trees themselves have them without the limits of literals. A
+/// rule of this project. The function does nothing: its contract is the law.
 pub fn limits_keep_the_forms()
     ensures unlimited { (f : Forest) → (t : Source) → HasForms (clamped_trees f) t →
         HasUnlimitedForms f t }

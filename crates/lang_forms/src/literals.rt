@@ -57,7 +57,7 @@ pub fn parse_plain_literal(alloc: Global, atom: &[u8]) -> Result<Value, ParseSto
     }
 }
 
-// Whether the bytes are UTF-8.
+// Returns whether the bytes are UTF-8.
 fn is_text(chars: &[u8]) -> bool
     ensures { result ≡ is_utf8 chars.now }
 {

@@ -18,7 +18,7 @@ ghost use Rattle.lang_forms.specs.Views.{seen_all, partial_source_view, Gives};
 use crate::FormStop;
 use crate::partial_source::PartialSource;
 use crate::stop::ParseStop;
-use crate::top_forms::{is_header, place_of};
+use crate::top_forms::{is_header, offset_of};
 use lang_ast::{Program, Rest};
 use lang_limits::{TokenLimits, clamped_trees, size_limit, token_limits};
 use sexp_text::Tree;
@@ -40,7 +40,9 @@ fn parse_top_forms(
                 read = more;
             }
             Err(ParseStop::NoForm) => {
-                return Err(FormStop::Form { at: place_of(tree) });
+                return Err(FormStop::Form {
+                    at: offset_of(tree),
+                });
             }
             Err(ParseStop::NoMemory) => {
                 return Err(FormStop::NoMemory);
@@ -60,10 +62,10 @@ fn parse_text(alloc: Global, trees: &[Tree], end: usize) -> Result<PartialSource
     };
     if !is_header(header) {
         return Err(FormStop::Form {
-            at: place_of(header),
+            at: offset_of(header),
         });
     }
-    parse_top_forms(alloc, PartialSource::new(alloc, place_of(header)), rest)
+    parse_top_forms(alloc, PartialSource::new(alloc, offset_of(header)), rest)
 }
 
 // Parses the trees clamped to the limits. Copies them only if a token is oversized.
@@ -85,8 +87,8 @@ fn parse_clamped_text(
     parse_text(alloc, &small, end)
 }
 
-// Returns the parsed text, or the first offset of its program that exceeds a limit. The clauses
-// hold for all trees with these limits, since only the least offset counts.
+// Returns the parsed text, or the first offset of its program that exceeds a limit. The clauses hold for all trees with
+// these limits, since only the least offset counts.
 #[tactic(auto, using(lang_limits::proofs::Lesser::least_append, lang_limits::proofs::Lesser::none_exceeds))]
 fn unless_beyond(front: PartialSource, limits: TokenLimits) -> Result<(Program, Rest), FormStop>
     ensures read { (f : Forest) → limits.program ≡ least (oversized_offsets (program_trees f)) →
@@ -121,11 +123,10 @@ fn text_or_limit(alloc: Global, trees: &[Tree], end: usize) -> Result<(Program, 
 
 /// Parses trees as a program with its script. `end` is the length of the input in bytes.
 ///
-/// A `get` of an unknown state has the number of states as its number, and a call of an unknown
-/// function the number of functions before it. `Rest` has the offset of the first oversized token
-/// of the script. A rule of this project. Fails at the first top form that is wrong or out of
-/// order, or at `end` if there are no trees; at the first offset of the program that exceeds a
-/// limit, if the forms are right; and if memory runs out.
+/// A `get` of an unknown state has the number of states as its number, and a call of an unknown function the number of
+/// functions before it. `Rest` has the offset of the first oversized token of the script. A rule of this project. Fails
+/// at the first top form that is wrong or out of order, or at `end` if there are no trees; at the first offset of the
+/// program that exceeds a limit, if the forms are right; and if memory runs out.
 pub fn program(alloc: Global, trees: &[Tree], end: usize) -> Result<(Program, Rest), FormStop>
     ensures answer { (a : Result Source FormStop) → IsAnswerFor end (forest_view trees.now) a →
         Answers parsed_source_view result a }

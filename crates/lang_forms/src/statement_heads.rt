@@ -108,8 +108,7 @@ fn parse_remember_head<'a>(
     Ok((StatementHead::Remember { name, keys, value }, rest))
 }
 
-// Parses the parts between the keyword of a statement and its body, and returns the trees of the
-// body.
+// Parses the parts between the keyword of a statement and its body, and returns the trees of the body.
 #[tactic(auto, unfolding(crate::specs::StatementHeads::head_of))]
 pub fn parse_head<'a>(
     alloc: Global,

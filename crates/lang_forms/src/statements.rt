@@ -16,8 +16,7 @@ use lang_ast::Statement;
 use sexp_text::Tree;
 use std::alloc::Global;
 
-// Returns the next statement number. Fails with `NoMemory` at `u32::MAX`, which no 1 MiB input
-// reaches.
+// Returns the next statement number. Fails with `NoMemory` at `u32::MAX`, which no 1 MiB input reaches.
 fn site_after(site: u32) -> Result<u32, ParseStop>
     ensures next { IfOk result (λ n. n ≡ site + 1) }
     ensures form { result ≢ Err ParseStop.NoForm }
@@ -143,8 +142,7 @@ fn parse_if(
     ))
 }
 
-// Parses `(STMT..) (STMT..)` inside the statement with the number `site`, and returns the number of
-// the next statement.
+// Parses `(STMT..) (STMT..)` inside the statement with the number `site`, and returns the number of the next statement.
 #[tactic(auto, unfolding(crate::specs::StatementHeads::branches_of))]
 #[cycle(statements)]
 fn parse_branches(
@@ -166,8 +164,8 @@ fn parse_branches(
     }
 }
 
-// Parses the first tree as a list of statements. Returns the number of the next statement and the
-// trees after the first.
+// Parses the first tree as a list of statements. Returns the number of the next statement and the trees after the
+// first.
 #[tactic(auto, using(crate::proofs::Trees::trees))]
 #[cycle(statements)]
 fn parse_block<'a>(
@@ -189,8 +187,7 @@ fn parse_block<'a>(
     }
 }
 
-// Parses the statements inside the statement with the number `site`, and returns the number of the
-// next statement.
+// Parses the statements inside the statement with the number `site`, and returns the number of the next statement.
 #[cycle(statements)]
 fn parse_body(
     alloc: Global,

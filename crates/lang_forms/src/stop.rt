@@ -5,8 +5,7 @@ use std::alloc::{AllocError, AllocFailed};
 /// Why trees are no program with a script. A rule of this project.
 #[derive(Clone, Copy, Debug, PartialEq, Eq)]
 pub enum FormStop {
-    /// The first top form that is wrong or out of order is at `at`, or the input ends at `at`
-    /// without a header.
+    /// The first top form that is wrong or out of order is at `at`, or the input ends at `at` without a header.
     Form { at: usize },
     /// The forms are right, and `at` is the first offset of the program that exceeds a limit.
     Limit { at: usize },

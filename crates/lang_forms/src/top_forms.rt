@@ -1,7 +1,7 @@
 // The parser of top forms: states, functions and scripts.
 ghost use Rattle.std.specs.Prelude.{◌≡◌, Bool, List, codes};
 ghost use Rattle.lang_ast.specs.SyntaxView.{function_view};
-ghost use Rattle.lang_forms.specs.Readings.{parameter_form, parameter_at, parameters_form, parameters_of, state_form, function_form, top_form, header_form, top_at, is_header, is_there, place};
+ghost use Rattle.lang_forms.specs.Readings.{parameter_form, parameter_at, parameters_form, parameters_of, state_form, function_form, top_form, header_form, top_at, is_header, is_there, offset_of};
 ghost use Rattle.lang_forms.specs.Views.{seen_tree, seen_all, known_names_view, top_view, Reads};
 
 use crate::cursor::{is_at_end, parse_name, skip_keyword};
@@ -103,8 +103,7 @@ fn parse_state(alloc: Global, at: usize, trees: &[Tree]) -> Result<State, ParseS
     })
 }
 
-// Parses `NAME ((NAME TYPE)..) STMT..` after the word `fun`, and returns the number of the next
-// statement.
+// Parses `NAME ((NAME TYPE)..) STMT..` after the word `fun`, and returns the number of the next statement.
 #[tactic(auto, unfolding(crate::specs::Readings::function_form))]
 fn parse_function(
     alloc: Global,
@@ -175,7 +174,7 @@ pub fn parse_top_form(
     }
 }
 
-// Whether the trees are `compose 1`.
+// Returns whether the trees are `compose 1`.
 #[tactic(auto, unfolding(crate::specs::Readings::header_form))]
 fn is_header_list(trees: &[Tree]) -> bool
     ensures { result ≡ is_there (header_form (seen_all trees.now)) }
@@ -189,7 +188,7 @@ fn is_header_list(trees: &[Tree]) -> bool
     }
 }
 
-// Whether a tree is the header.
+// Returns whether a tree is the header.
 #[tactic(auto, using(crate::proofs::Trees::trees))]
 pub fn is_header(tree: &Tree) -> bool
     ensures { result ≡ is_header (seen_tree tree.now) }
@@ -203,8 +202,8 @@ pub fn is_header(tree: &Tree) -> bool
 
 // Returns the offset of a tree.
 #[tactic(auto, using(crate::proofs::Trees::trees))]
-pub fn place_of(tree: &Tree) -> usize
-    ensures { result ≡ place (seen_tree tree.now) }
+pub fn offset_of(tree: &Tree) -> usize
+    ensures { result ≡ offset_of (seen_tree tree.now) }
 {
     match tree {
         Tree::Atom(at, _) => *at,

@@ -12,7 +12,7 @@ least_append o (x ∷ xs) ys = least_append (lesser_offset o x) xs ys
 
 -- The least offset from a first one: at most that, one of all, and no offset before it.
 Least : List ℕ → ℕ → ℕ → Type 0
-Least places kept at = ((kept ≡ at) ⊎ Contains places at) × (at ≤ kept) × All (λ other. nat_lt other at ≡ false) places
+Least offsets kept at = ((kept ≡ at) ⊎ Contains offsets at) × (at ≤ kept) × All (λ other. nat_lt other at ≡ false) offsets
 
 here : (p at : ℕ) (ps : List ℕ) → p ≡ at → Contains (p ∷ ps) at
 here p at ps is = (0, omega arith, is)
@@ -32,7 +32,7 @@ lesser_is kept p = grind arith
 not_before : (other at : ℕ) → at ≤ other → nat_lt other at ≡ false
 not_before other at h = grind (arith, nat_tests)
 
-least_from : (places : List ℕ) (kept at : ℕ) → least_offset_from (Some kept) places ≡ Some at → Least places kept at
+least_from : (offsets : List ℕ) (kept at : ℕ) → least_offset_from (Some kept) offsets ≡ Some at → Least offsets kept at
 unfolding Least
 least_from [] kept at h = (inl (inject h), omega (arith, inject h), All-nil (λ (other : ℕ). nat_lt other at ≡ false))
 least_from (p ∷ ps) kept at h = by (least_from ps (min kept p) at h) (lesser_is kept p)
@@ -54,7 +54,7 @@ least_is_least (p ∷ ps) at h =
     let l = least_from ps p at h in
     (first p at ps l.0, All-cons (λ (other : ℕ). nat_lt other at ≡ false) p ps (not_before p at l.1) l.2)
 
-kept : (places : List ℕ) (at : ℕ) → (least : ℕ) × (least_offset_from (Some at) places ≡ Some least)
+kept : (offsets : List ℕ) (at : ℕ) → (least : ℕ) × (least_offset_from (Some at) offsets ≡ Some least)
 kept [] at = (at, refl)
 kept (p ∷ ps) at = kept ps (min at p)
 
@@ -64,7 +64,7 @@ no_least [] h = refl
 no_least (p ∷ ps) h = let k = kept ps p in absurd (cc (k.1))
 
 -- No least offset of further ones, so there are none.
-pub none_exceeds : (o : Option ℕ) (places : List ℕ) → least_offset_from o places ≡ None → places ≡ []
+pub none_exceeds : (o : Option ℕ) (offsets : List ℕ) → least_offset_from o offsets ≡ None → offsets ≡ []
 none_exceeds o [] h = refl
 none_exceeds None (p ∷ ps) h = let k = kept ps p in absurd (cc (k.1))
 none_exceeds (Some at) (p ∷ ps) h = let k = kept ps (min at p) in absurd (cc (k.1))

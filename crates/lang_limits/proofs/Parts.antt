@@ -14,7 +14,7 @@ use Rattle.lang_ast.specs.declared.syntax.Function.{Function}
 use Rattle.lang_ast.specs.declared.syntax.Parameter.{Parameter}
 use Rattle.lang_ast.specs.declared.syntax.Named as named
 use Rattle.lang_limits.specs.LeastOffset.{least_offset_from}
-use Rattle.lang_ast.specs.Sizes.{most_parts, nesting, deepest, name_sizes, expr_lengths, exprs_lengths, expr_sizes, exprs_sizes, named_sizes, stmt_sizes, stmts_sizes, parameters_sizes, function_sizes, functions_sizes, states_sizes, state_place, function_place, offset_if}
+use Rattle.lang_ast.specs.Sizes.{most_parts, nesting, deepest, name_sizes, expr_lengths, exprs_lengths, expr_sizes, exprs_sizes, named_sizes, stmt_sizes, stmts_sizes, parameters_sizes, function_sizes, functions_sizes, states_sizes, state_offset, function_offset, offset_if}
 use Rattle.lang_limits.proofs.Lesser.{least_append}
 
 -- The view of each form in memory, and the least of one list after another.
@@ -86,13 +86,13 @@ functions_step fs i f o h is =
     ap (λ (l : List Function). least_offset_from o (functions_sizes (functions_view l))) (drop_item fs i f h is)
     ∙ least_append o (function_sizes (function_view f)) (functions_sizes (functions_view (drop (i + 1) fs)))
 
-pub state_at : (ss : List State) (i : ℕ) → slice_get (map state_place ss) i ≡ option_map state_place (slice_get ss i)
-state_at ss i = slice_get-map state_place ss i
+pub state_at : (ss : List State) (i : ℕ) → slice_get (map state_offset ss) i ≡ option_map state_offset (slice_get ss i)
+state_at ss i = slice_get-map state_offset ss i
 
 -- The offsets of functions in memory.
-pub function_places : (fs : List Function) → map function_place (functions_view fs) ≡ map (λ (f : Function). f.at) fs
-function_places [] = refl
-function_places (f ∷ fs) = ap (λ (rest : List ℕ). f.at ∷ rest) (function_places fs)
+pub function_offsets : (fs : List Function) → map function_offset (functions_view fs) ≡ map (λ (f : Function). f.at) fs
+function_offsets [] = refl
+function_offsets (f ∷ fs) = ap (λ (rest : List ℕ). f.at ∷ rest) (function_offsets fs)
 
 pub function_at : (fs : List Function) (i : ℕ)
     → slice_get (map (λ (f : Function). f.at) fs) i ≡ option_map (λ (f : Function). f.at) (slice_get fs i)

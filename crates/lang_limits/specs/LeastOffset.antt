@@ -12,4 +12,4 @@ least_offset_from kept [] = kept
 least_offset_from kept (at ∷ more) = least_offset_from (lesser_offset kept at) more
 
 abbrev pub least : List ℕ → Option ℕ
-least places = least_offset_from None places
+least offsets = least_offset_from None offsets

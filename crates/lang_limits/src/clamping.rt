@@ -40,7 +40,7 @@ fn clamped_string(alloc: Global, chars: &[u8]) -> Result<Vec<u8>, NoMemory>
     Ok(chars.to_vec(alloc)?)
 }
 
-// Whether a tree is a number.
+// Returns whether a tree is a number.
 #[tactic(auto, using(crate::proofs::Walks::walks))]
 fn is_int_tree(tree: &Tree) -> bool
     ensures { result ≡ are_ints (tree_view tree.now) }
@@ -52,7 +52,7 @@ fn is_int_tree(tree: &Tree) -> bool
     }
 }
 
-// Whether all trees are numbers.
+// Returns whether all trees are numbers.
 #[tactic(auto, using(crate::proofs::Copies::numbers))]
 fn are_ints(trees: &[Tree]) -> bool
     ensures { result ≡ are_ints (forest_view trees.now) }
@@ -67,7 +67,7 @@ fn are_ints(trees: &[Tree]) -> bool
     true
 }
 
-// Whether a list is an `ints` list of too many numbers and nothing else.
+// Returns whether a list is an `ints` list of too many numbers and nothing else.
 #[tactic(auto, using(crate::proofs::Walks::walks))]
 fn is_oversized_ints(trees: &[Tree]) -> bool
     ensures { result ≡ is_oversized_ints (forest_view trees.now) }
@@ -80,8 +80,7 @@ fn is_oversized_ints(trees: &[Tree]) -> bool
     }
 }
 
-// Returns the trees of a list, or the word and the first two numbers if they are an `ints` list of
-// too many numbers.
+// Returns the trees of a list, or the word and the first two numbers if they are an `ints` list of too many numbers.
 #[tactic(auto, using(crate::proofs::Copies::numbers))]
 fn clamped_list(mut trees: Vec<Tree>) -> Vec<Tree>
     ensures { forest_view result.items ≡ clamped_list (forest_view trees.items) }
@@ -110,9 +109,8 @@ fn put_tree(alloc: Global, tree: &Tree, out: &mut Vec<Tree>) -> Result<(), NoMem
 
 /// Copies trees and clamps each oversized token.
 ///
-/// A number becomes the nearest number of 64 bits, a string the empty string, and an `ints` list of too
-/// many numbers the list of the first two. Names stay as they are. A rule of this project. Fails if
-/// memory runs out.
+/// A number becomes the nearest number of 64 bits, a string the empty string, and an `ints` list of too many numbers
+/// the list of the first two. Names stay as they are. A rule of this project. Fails if memory runs out.
 #[tactic(auto, using(crate::proofs::Copies::within_step, crate::proofs::Copies::copies))]
 #[cycle(copies)]
 pub fn clamped_trees(alloc: Global, trees: &[Tree]) -> Result<Vec<Tree>, NoMemory>

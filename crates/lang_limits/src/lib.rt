@@ -1,12 +1,11 @@
-//! The limits of programs and scripts: how long names, numbers, strings and lists of numbers may
-//! be, how many parts a program may have, and how deep its parts may nest.
+//! The limits of programs and scripts: how long names, numbers, strings and lists of numbers may be, how many parts a
+//! program may have, and how deep its parts may nest.
 //!
-//! `specs/Tokens.antt` and `specs/Sizes.antt` list the offsets of all that exceeds a limit. An
-//! oversized token is no fault of the forms: `clamped_trees` clamps each to its limit, and the forms are
-//! parsed from the clamped trees. The parser of programs calls all three functions. Compose has no
-//! source text and no such limits. They are rules of this project, so that parsing, checking and
-//! composing have bounded depth. Each function returns the least offset, and `clamped_trees` changes
-//! nothing if no token is oversized.
+//! `specs/Tokens.antt` and `specs/Sizes.antt` list the offsets of all that exceeds a limit. An oversized token is no
+//! fault of the forms: `clamped_trees` clamps each to its limit, and the forms are parsed from the clamped trees. The
+//! parser of programs calls all three functions. Compose has no source text and no such limits. They are rules of this
+//! project, so that parsing, checking and composing have bounded depth. Each function returns the least offset, and
+//! `clamped_trees` changes nothing if no token is oversized.
 #![tactic(auto)]
 
 mod clamping;

@@ -5,14 +5,14 @@ ghost use Rattle.std.specs.List.{list_all};
 ghost use Rattle.std.specs.Str.Parse.{signed_digits_value};
 ghost use Rattle.lang_limits.specs.Tokens.{fits, is_counting, is_int, is_oversized_int};
 
-// Whether all bytes are digits.
+// Returns whether all bytes are digits.
 fn are_digits(bytes: &[u8]) -> bool
     ensures { result ≡ list_all is_ascii_digit bytes.now }
 {
     bytes.iter().all(|b| b.is_ascii_digit())
 }
 
-// Whether the bytes are digits, the first of which is not 0.
+// Returns whether the bytes are digits, the first of which is not 0.
 fn is_counting(bytes: &[u8]) -> bool
     ensures { result ≡ is_counting bytes.now }
 {
@@ -22,7 +22,7 @@ fn is_counting(bytes: &[u8]) -> bool
     }
 }
 
-/// Whether the bytes are a number of the notation.
+/// Returns whether the bytes are a number of the notation.
 pub fn is_int(bytes: &[u8]) -> bool
     ensures { result ≡ is_int bytes.now }
 {
@@ -33,7 +33,7 @@ pub fn is_int(bytes: &[u8]) -> bool
     }
 }
 
-// Whether a number fits into 64 bits with a sign.
+// Returns whether a number fits into 64 bits with a sign.
 fn fits(digits: &[u8]) -> bool
     requires { is_int digits.now ≡ true }
     ensures { result ≡ fits (signed_digits_value 10 digits.now) }
@@ -44,7 +44,7 @@ fn fits(digits: &[u8]) -> bool
     }
 }
 
-/// Whether the bytes are a number that does not fit into 64 bits.
+/// Returns whether the bytes are a number that does not fit into 64 bits.
 pub fn is_oversized_int(bytes: &[u8]) -> bool
     ensures { result ≡ is_oversized_int bytes.now }
 {

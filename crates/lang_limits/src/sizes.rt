@@ -3,23 +3,22 @@ ghost use Rattle.std.specs.Prelude.{◌≡◌, ◌+◌, ◌++◌, nat_lt, map, l
 ghost use Rattle.lang_ast.specs.SyntaxView.{expr_view, exprs_view, nameds_view, stmt_view, stmts_view, function_view, functions_view};
 ghost use Rattle.lang_ast.specs.declared.syntax.Function.{Function as function_data};
 ghost use Rattle.lang_limits.specs.LeastOffset.{least_offset_from};
-ghost use Rattle.lang_ast.specs.Sizes.{most_parts, nesting, deepest, expr_sizes, exprs_sizes, named_sizes, stmt_sizes, stmts_sizes, function_sizes, functions_sizes, first_excess, state_place, oversized_parts, offset_if};
+ghost use Rattle.lang_ast.specs.Sizes.{most_parts, nesting, deepest, expr_sizes, exprs_sizes, named_sizes, stmt_sizes, stmts_sizes, function_sizes, functions_sizes, first_excess, state_offset, oversized_parts, offset_if};
 
-use crate::least::note;
-use crate::lengths::{lengths, name, parameter_names, state_names};
+use crate::least::note_excess;
+use crate::lengths::{measure_lengths, measure_name, measure_parameter_names, measure_state_names};
 use lang_ast::{Expression, Function, Named, State, Statement};
 
 /// The most states of a program, and the most functions. A rule of this project.
 pub const MOST_FORMS: usize = 256;
 
-// The most parameters of a function, attributes of a node and keys of a remember, and the most
-// nested blocks.
+// The most parameters of a function, attributes of a node and keys of a remember, and the most nested blocks.
 const MOST_PARTS: usize = 16;
 
 // The most nested expressions.
 const MOST_NESTING: usize = 64;
 
-// Whether an expression nests deeper than `most`.
+// Returns whether an expression nests deeper than `most`.
 #[tactic(auto, using(crate::proofs::Parts::parts))]
 #[cycle(nestings)]
 fn is_deeper(most: usize, e: &Expression) -> bool
@@ -33,7 +32,7 @@ fn is_deeper(most: usize, e: &Expression) -> bool
     }
 }
 
-// Whether one of the expressions nests deeper than `most`.
+// Returns whether one of the expressions nests deeper than `most`.
 #[tactic(auto, using(crate::proofs::Parts::deepest_step))]
 #[cycle(nestings)]
 fn has_deeper(most: usize, es: &[Expression]) -> bool
@@ -50,32 +49,35 @@ fn has_deeper(most: usize, es: &[Expression]) -> bool
 // Updates `least` with the offset of an outermost expression if it nests too deep, and with those of what is too long
 // in it.
 #[tactic(auto, using(crate::proofs::Parts::parts))]
-fn expression(e: &Expression, least: Option<usize>) -> Option<usize>
+fn measure_expression(e: &Expression, least: Option<usize>) -> Option<usize>
     ensures { result ≡ least_offset_from least (expr_sizes (expr_view e.now)) }
 {
-    lengths(e, note(is_deeper(MOST_NESTING, e), e.place(), least))
+    measure_lengths(
+        e,
+        note_excess(is_deeper(MOST_NESTING, e), e.offset(), least),
+    )
 }
 
 // Updates `least` with the oversized parts of expressions.
 #[tactic(auto, using(crate::proofs::Parts::exprs_step))]
-fn expressions(es: &[Expression], least: Option<usize>) -> Option<usize>
+fn measure_expressions(es: &[Expression], least: Option<usize>) -> Option<usize>
     ensures { result ≡ least_offset_from least (exprs_sizes (exprs_view es.now)) }
 {
     let mut least = least;
     for e in es {
-        least = expression(e, least);
+        least = measure_expression(e, least);
     }
     least
 }
 
 // Updates `least` with the oversized parts of named expressions.
 #[tactic(auto, using(crate::proofs::Parts::named_step))]
-fn values(all: &[Named], least: Option<usize>) -> Option<usize>
+fn measure_values(all: &[Named], least: Option<usize>) -> Option<usize>
     ensures { result ≡ least_offset_from least (named_sizes (nameds_view all.now)) }
 {
     let mut least = least;
     for named in all {
-        least = expression(&named.value, name(&named.name, least));
+        least = measure_expression(&named.value, measure_name(&named.name, least));
     }
     least
 }
@@ -83,7 +85,7 @@ fn values(all: &[Named], least: Option<usize>) -> Option<usize>
 // Updates `least` with the oversized parts of a statement in `depth` blocks.
 #[tactic(auto, using(crate::proofs::Parts::parts))]
 #[cycle(blocks)]
-fn statement(depth: usize, s: &Statement, least: Option<usize>) -> Option<usize>
+fn measure_statement(depth: usize, s: &Statement, least: Option<usize>) -> Option<usize>
     ensures { result ≡ least_offset_from least (stmt_sizes depth (stmt_view s.now)) }
 {
     match s {
@@ -93,38 +95,38 @@ fn statement(depth: usize, s: &Statement, least: Option<usize>) -> Option<usize>
             attributes,
             body,
             ..
-        } => node(depth, *at, attributes, body, name(kind, least)),
+        } => measure_node(depth, *at, attributes, body, measure_name(kind, least)),
         Statement::Call {
             at,
             name: callee,
             arguments,
             ..
-        } => expressions(
+        } => measure_expressions(
             arguments,
-            note(depth > MOST_PARTS, *at, name(callee, least)),
+            note_excess(depth > MOST_PARTS, *at, measure_name(callee, least)),
         ),
-        Statement::Key { at, key, body, .. } => block(depth, *at, key, body, least),
+        Statement::Key { at, key, body, .. } => measure_block(depth, *at, key, body, least),
         Statement::If {
             at,
             condition,
             then_branch,
             else_branch,
             ..
-        } => if_in(depth, *at, condition, then_branch, else_branch, least),
+        } => measure_if(depth, *at, condition, then_branch, else_branch, least),
         Statement::For {
             at,
             name: variable,
             list,
             body,
             ..
-        } => block(depth, *at, list, body, name(variable, least)),
+        } => measure_block(depth, *at, list, body, measure_name(variable, least)),
         Statement::Let {
             at,
             name: variable,
             value,
             body,
             ..
-        } => block(depth, *at, value, body, name(variable, least)),
+        } => measure_block(depth, *at, value, body, measure_name(variable, least)),
         Statement::Remember {
             at,
             name: variable,
@@ -132,14 +134,14 @@ fn statement(depth: usize, s: &Statement, least: Option<usize>) -> Option<usize>
             value,
             body,
             ..
-        } => remember(depth, *at, keys, value, body, name(variable, least)),
+        } => measure_remember(depth, *at, keys, value, body, measure_name(variable, least)),
     }
 }
 
 // Updates `least` with the oversized parts of a statement with an expression and a body.
 #[tactic(auto, using(crate::proofs::Parts::parts))]
 #[cycle(blocks)]
-fn block(
+fn measure_block(
     depth: usize,
     at: usize,
     e: &Expression,
@@ -149,15 +151,15 @@ fn block(
     ensures { result ≡ least_offset_from least (offset_if (nat_lt most_parts depth) at
         ++ expr_sizes (expr_view e.now) ++ stmts_sizes (depth + 1) (stmts_view body.now)) }
 {
-    let least = note(depth > MOST_PARTS, at, least);
-    let least = expression(e, least);
-    inside(depth, body, least)
+    let least = note_excess(depth > MOST_PARTS, at, least);
+    let least = measure_expression(e, least);
+    measure_body(depth, body, least)
 }
 
 // Updates `least` with the oversized parts of a node.
 #[tactic(auto, using(crate::proofs::Parts::parts))]
 #[cycle(blocks)]
-fn node(
+fn measure_node(
     depth: usize,
     at: usize,
     attributes: &[Named],
@@ -169,16 +171,16 @@ fn node(
         ++ named_sizes (nameds_view attributes.now)
         ++ stmts_sizes (depth + 1) (stmts_view body.now)) }
 {
-    let least = note(depth > MOST_PARTS, at, least);
-    let least = note(attributes.len() > MOST_PARTS, at, least);
-    let least = values(attributes, least);
-    inside(depth, body, least)
+    let least = note_excess(depth > MOST_PARTS, at, least);
+    let least = note_excess(attributes.len() > MOST_PARTS, at, least);
+    let least = measure_values(attributes, least);
+    measure_body(depth, body, least)
 }
 
 // Updates `least` with the oversized parts of an if.
 #[tactic(auto, using(crate::proofs::Parts::parts))]
 #[cycle(blocks)]
-fn if_in(
+fn measure_if(
     depth: usize,
     at: usize,
     condition: &Expression,
@@ -191,14 +193,14 @@ fn if_in(
         ++ stmts_sizes (depth + 1) (stmts_view then_branch.now)
         ++ stmts_sizes (depth + 1) (stmts_view else_branch.now)) }
 {
-    let least = block(depth, at, condition, then_branch, least);
-    inside(depth, else_branch, least)
+    let least = measure_block(depth, at, condition, then_branch, least);
+    measure_body(depth, else_branch, least)
 }
 
 // Updates `least` with the oversized parts of a remember.
 #[tactic(auto, using(crate::proofs::Parts::parts))]
 #[cycle(blocks)]
-fn remember(
+fn measure_remember(
     depth: usize,
     at: usize,
     keys: &[Named],
@@ -210,78 +212,78 @@ fn remember(
         ++ offset_if (nat_lt most_parts (length keys.now)) at ++ named_sizes (nameds_view keys.now)
         ++ expr_sizes (expr_view value.now) ++ stmts_sizes (depth + 1) (stmts_view body.now)) }
 {
-    let least = note(depth > MOST_PARTS, at, least);
-    let least = note(keys.len() > MOST_PARTS, at, least);
-    let least = values(keys, least);
-    let least = expression(value, least);
-    inside(depth, body, least)
+    let least = note_excess(depth > MOST_PARTS, at, least);
+    let least = note_excess(keys.len() > MOST_PARTS, at, least);
+    let least = measure_values(keys, least);
+    let least = measure_expression(value, least);
+    measure_body(depth, body, least)
 }
 
-// Updates `least` with the oversized parts of the body of a statement in `depth` blocks. All bodies
-// that are nested too deep count as the first of them.
+// Updates `least` with the oversized parts of the body of a statement in `depth` blocks. All bodies that are nested too
+// deep count as the first of them.
 #[tactic(auto, using(crate::proofs::Parts::too_deep))]
 #[cycle(blocks)]
-fn inside(depth: usize, body: &[Statement], least: Option<usize>) -> Option<usize>
+fn measure_body(depth: usize, body: &[Statement], least: Option<usize>) -> Option<usize>
     ensures { result ≡ least_offset_from least (stmts_sizes (depth + 1) (stmts_view body.now)) }
 {
-    statements(depth.min(MOST_PARTS) + 1, body, least)
+    measure_statements(depth.min(MOST_PARTS) + 1, body, least)
 }
 
 // Updates `least` with the oversized parts of statements in `depth` blocks.
 #[tactic(auto, using(crate::proofs::Parts::stmts_step))]
 #[cycle(blocks)]
-fn statements(depth: usize, body: &[Statement], least: Option<usize>) -> Option<usize>
+fn measure_statements(depth: usize, body: &[Statement], least: Option<usize>) -> Option<usize>
     ensures { result ≡ least_offset_from least (stmts_sizes depth (stmts_view body.now)) }
 {
     let mut least = least;
     for s in body {
-        least = statement(depth, s, least);
+        least = measure_statement(depth, s, least);
     }
     least
 }
 
 // Updates `least` with the oversized parts of a function.
 #[tactic(auto, using(crate::proofs::Parts::parts))]
-fn function(function: &Function, least: Option<usize>) -> Option<usize>
+fn measure_function(function: &Function, least: Option<usize>) -> Option<usize>
     ensures { result ≡ least_offset_from least (function_sizes (function_view function.now)) }
 {
-    let least = name(&function.name, least);
-    let least = parameter_names(&function.parameters, least);
-    let least = note(function.parameters.len() > MOST_PARTS, function.at, least);
-    statements(1, &function.body, least)
+    let least = measure_name(&function.name, least);
+    let least = measure_parameter_names(&function.parameters, least);
+    let least = note_excess(function.parameters.len() > MOST_PARTS, function.at, least);
+    measure_statements(1, &function.body, least)
 }
 
 // Updates `least` with the oversized parts of functions.
 #[tactic(auto, using(crate::proofs::Parts::functions_step))]
-fn functions(all: &[Function], least: Option<usize>) -> Option<usize>
+fn measure_functions(all: &[Function], least: Option<usize>) -> Option<usize>
     ensures { result ≡ least_offset_from least (functions_sizes (functions_view all.now)) }
 {
     let mut least = least;
     for one in all {
-        least = function(one, least);
+        least = measure_function(one, least);
     }
     least
 }
 
 // Updates `least` with the offset of the first state over the limit.
 #[tactic(auto, using(crate::proofs::Parts::state_at))]
-fn states_too_many(states: &[State], least: Option<usize>) -> Option<usize>
-    ensures { result ≡ least_offset_from least (first_excess (map state_place states.now)) }
+fn note_too_many_states(states: &[State], least: Option<usize>) -> Option<usize>
+    ensures { result ≡ least_offset_from least (first_excess (map state_offset states.now)) }
 {
     match states.get(MOST_FORMS) {
-        Some(state) => note(true, state.at, least),
+        Some(state) => note_excess(true, state.at, least),
         None => least,
     }
 }
 
 // Updates `least` with the offset of the first function over the limit.
 #[tactic(auto, using(crate::proofs::Parts::function_at))]
-fn functions_too_many(functions: &[Function], least: Option<usize>) -> Option<usize>
+fn note_too_many_functions(functions: &[Function], least: Option<usize>) -> Option<usize>
     ensures { result ≡ least_offset_from least
         (first_excess (map (λ (f : function_data). f.at) functions.now)) }
 {
     match functions.get(MOST_FORMS) {
-        Some(function) => note(true, function.at, least),
+        Some(function) => note_excess(true, function.at, least),
         None => least,
     }
 }
@@ -290,11 +292,11 @@ fn functions_too_many(functions: &[Function], least: Option<usize>) -> Option<us
 ///
 /// Those are too many states, functions, parameters, attributes or keys, names that are too long, lists of too many
 /// numbers, and expressions or statements that nest too deep. A rule of this project.
-#[tactic(auto, using(crate::proofs::Parts::parts, crate::proofs::Parts::function_places))]
+#[tactic(auto, using(crate::proofs::Parts::parts, crate::proofs::Parts::function_offsets))]
 pub fn size_limit(states: &[State], all: &[Function], least: Option<usize>) -> Option<usize>
     ensures { result ≡ least_offset_from least (oversized_parts states.now (functions_view all.now)) }
 {
-    let least = states_too_many(states, least);
-    let least = functions_too_many(all, least);
-    functions(all, state_names(states, least))
+    let least = note_too_many_states(states, least);
+    let least = note_too_many_functions(all, least);
+    measure_functions(all, measure_state_names(states, least))
 }

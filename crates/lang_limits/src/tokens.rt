@@ -4,7 +4,7 @@ ghost use Rattle.sexp_text.specs.View.{tree_view, forest_view};
 ghost use Rattle.lang_limits.specs.LeastOffset.{least_offset_from, least};
 ghost use Rattle.lang_limits.specs.Tokens.{is_oversized_atom, is_oversized_string, is_oversized_list, is_do, is_script, oversized_offsets, program_trees, script_trees, oversized_script_offsets};
 
-use crate::least::note;
+use crate::least::note_excess;
 use crate::lengths::MOST_NAME_BYTES;
 use crate::numbers::is_oversized_int;
 use rt_values::{IntList, Txt};
@@ -19,21 +19,21 @@ pub struct TokenLimits {
     pub script: Option<usize>,
 }
 
-// Whether an atom is a name that is too long, or a number that does not fit into 64 bits.
+// Returns whether an atom is a name that is too long, or a number that does not fit into 64 bits.
 fn is_oversized_atom(atom: &[u8]) -> bool
     ensures { result ≡ is_oversized_atom atom.now }
 {
     atom.len() > MOST_NAME_BYTES || is_oversized_int(atom)
 }
 
-/// Whether a string is too long.
+/// Returns whether a string is too long.
 pub fn is_oversized_string(chars: &[u8]) -> bool
     ensures { result ≡ is_oversized_string chars.now }
 {
     chars.len() > Txt::MOST_BYTES
 }
 
-/// Whether a list is an `ints` list with too many items.
+/// Returns whether a list is an `ints` list with too many items.
 #[tactic(auto, using(crate::proofs::Walks::walks))]
 pub fn is_oversized_list(trees: &[Tree]) -> bool
     ensures { result ≡ is_oversized_list (forest_view trees.now) }
@@ -55,10 +55,10 @@ fn tree_limit(tree: &Tree, least: Option<usize>) -> Option<usize>
     ensures { result ≡ least_offset_from least (oversized_offsets (tree_view tree.now)) }
 {
     match tree {
-        Tree::Atom(at, atom) => note(is_oversized_atom(atom.bytes()), *at, least),
-        Tree::Text(at, chars) => note(is_oversized_string(chars), *at, least),
+        Tree::Atom(at, atom) => note_excess(is_oversized_atom(atom.bytes()), *at, least),
+        Tree::Text(at, chars) => note_excess(is_oversized_string(chars), *at, least),
         Tree::List(at, trees) => {
-            let least = note(is_oversized_list(trees), *at, least);
+            let least = note_excess(is_oversized_list(trees), *at, least);
             trees_limit(trees, least)
         }
     }
@@ -77,7 +77,7 @@ fn trees_limit(trees: &[Tree], least: Option<usize>) -> Option<usize>
     least
 }
 
-// Whether the first tree is the word `do`.
+// Returns whether the first tree is the word `do`.
 #[tactic(auto, using(crate::proofs::Walks::walks))]
 fn is_do(trees: &[Tree]) -> bool
     ensures { result ≡ is_do (forest_view trees.now) }
@@ -90,7 +90,7 @@ fn is_do(trees: &[Tree]) -> bool
     }
 }
 
-// Whether a tree is a part of the script.
+// Returns whether a tree is a part of the script.
 #[tactic(auto, using(crate::proofs::Walks::walks))]
 fn is_script(tree: &Tree) -> bool
     ensures { result ≡ is_script (tree_view tree.now) }
@@ -122,8 +122,8 @@ fn before_script(trees: &[Tree]) -> (Option<usize>, &[Tree])
 
 /// Returns the offsets of the first oversized tokens of the program and of the script.
 ///
-/// Oversized are a name of more than 64 bytes, a number beyond 64 bits with a sign, a string of
-/// more than 4,096 bytes, and an `ints` list of more than 4,096 items. A rule of this project.
+/// Oversized are a name of more than 64 bytes, a number beyond 64 bits with a sign, a string of more than 4,096 bytes,
+/// and an `ints` list of more than 4,096 items. A rule of this project.
 pub fn token_limits(trees: &[Tree]) -> TokenLimits
     ensures program { result.program ≡ least (oversized_offsets (program_trees (forest_view trees.now))) }
     ensures script { result.script ≡ least (oversized_script_offsets (forest_view trees.now)) }

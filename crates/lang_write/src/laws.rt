@@ -5,8 +5,8 @@ ghost use Rattle.lang_forms.specs.Sources.{Source};
 ghost use Rattle.lang_forms.specs.Forms.{HasForms, scripts_forms, text_forms};
 ghost use Rattle.lang_forms.specs.Sketch.{unplaced_sketch};
 
-/// The trees that `forms_of` returns for a program are those that it was parsed from, except for
-/// offsets and for the script.
+/// The trees that `forms_of` returns for a program are those that it was parsed from, except for offsets and for the
+/// script.
 ///
 /// A rule of this project. The function does nothing: its contract is the law.
 pub fn forms_are_those_read()
@@ -14,8 +14,8 @@ pub fn forms_are_those_read()
         without_offsets f ≡ unplaced_sketch (text_forms t) }
 {}
 
-/// The trees of a text are those that `forms_of` returns for its program, followed by those that
-/// `script_forms_of` returns for its script.
+/// The trees of a text are those that `forms_of` returns for its program, followed by those that `script_forms_of`
+/// returns for its script.
 ///
 /// A rule of this project. The function does nothing: its contract is the law.
 pub fn script_follows_program()

@@ -1,9 +1,8 @@
 //! Writes programs and scripts as trees, in the forms of `lang_forms`.
 //!
-//! `forms_of` returns the trees of a program, and `script_forms_of` those of a script. All trees are at
-//! offset 0. A rule of this project: `compose_play check` prints a text in its canonical form.
-//! Promises: the trees have the forms of the program and of the script, and are those that they were
-//! parsed from, except for offsets.
+//! `forms_of` returns the trees of a program, and `script_forms_of` those of a script. All trees are at offset 0. A
+//! rule of this project: `compose_play check` prints a text in its canonical form. Promises: the trees have the forms
+//! of the program and of the script, and are those that they were parsed from, except for offsets.
 #![tactic(auto)]
 
 mod laws;

@@ -357,8 +357,8 @@ fn put_functions(alloc: Global, functions: &[Function], out: &mut Vec<Tree>) -> 
 
 /// Returns the trees of a program, all at offset 0: the header, the states and the functions.
 ///
-/// They are the trees that the program was parsed from, except for offsets and for the script. A
-/// rule of this project. Fails if memory runs out.
+/// They are the trees that the program was parsed from, except for offsets and for the script. A rule of this project.
+/// Fails if memory runs out.
 #[tactic(auto, using(crate::proofs::Written::written))]
 pub fn forms_of(alloc: Global, program: &Program) -> Result<Vec<Tree>, NoMemory>
     ensures { IfOk result (λ trees. forest_view trees.items

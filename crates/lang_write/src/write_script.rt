@@ -277,8 +277,8 @@ fn put_do_form(alloc: Global, form: &DoForm, out: &mut Vec<Tree>) -> Result<(), 
 
 /// Returns the trees of the `do` forms of a script, all at offset 0.
 ///
-/// They are the trees that the script was parsed from, except for offsets. A rule of this project.
-/// Fails if memory runs out.
+/// They are the trees that the script was parsed from, except for offsets. A rule of this project. Fails if memory runs
+/// out.
 #[tactic(auto, using(crate::proofs::Written::written))]
 pub fn script_forms_of(alloc: Global, forms: &[DoForm]) -> Result<Vec<Tree>, NoMemory>
     ensures { IfOk result (λ trees. forest_view trees.items

@@ -5,7 +5,7 @@ use Rattle.rt_values.specs.Maps.{Map}
 use Rattle.rt_groups.specs.GroupForest.{GroupForest, End, Read, Group, GroupKind}
 use Rattle.rt_groups.specs.GroupForest as trail
 use Rattle.rt_groups.specs.Paths.{GroupKey, sibling, same_sibling, Found, nth, matching_sibling, inside_of}
-use Rattle.lang_ast.specs.Terms.{Stmt, Node, Call, Key, If, For, Let, Remember, Func}
+use Rattle.lang_ast.specs.Terms.{Stmt, Node, Call, Key, If, For, Let, Remember, Stmts, Func}
 use Rattle.lang_ast.specs.Programs.{statement_with_inner, statements_in, Each}
 use Rattle.lang_ast.specs.Evaluation.{Bindings, eval_all}
 use Rattle.lang_ast.proofs.Statements.{each_apart}
@@ -91,10 +91,14 @@ abbrev FrontMade : Map → List Func → ℕ → List Meaning → Type 0
 FrontMade m all k fs = (f : ℕ) (vs : List Value) → f < k
     → (without_numbers (meaning_at fs f vs) ≡ meaning_at (meanings m all) f vs) × IsMade m all (meaning_at fs f vs)
 
+-- The statements of a body call only functions with numbers below `k`.
+abbrev AllBelow : ℕ → Stmts → Type 0
+AllBelow k ss = Each (CallsBelow k) (statements_in ss)
+
 -- The property that calls are made, for statements that call only the first `k` functions.
 front_calls : (m : Map) (all : List Func) (k : ℕ) (fs : List Meaning) → FrontMade m all k fs
     → IsForestProperty m fs AnyReads (IsMade m all) (λ s. Each (CallsBelow k) (statement_with_inner s))
-    (λ ss. Each (CallsBelow k) (statements_in ss))
+    (AllBelow k)
 front_calls m all k fs front = record {
   none = tt;
   read = λ x xs r. (tt, λ t h. h);
@@ -103,7 +107,7 @@ front_calls m all k fs front = record {
 }
   where
     facts : (s : Stmt) (env : Bindings) → Each (CallsBelow k) (statement_with_inner s)
-        → StatementFacts m fs AnyReads (IsMade m all) (λ ss. Each (CallsBelow k) (statements_in ss)) s env
+        → StatementFacts m fs AnyReads (IsMade m all) (AllBelow k) s env
     facts (Node at site kind attributes body) env h = (tt, h.1, λ t u f g. (tt, f, g))
     facts (Call at site name function arguments) env h =
         let f = front function (eval_all m arguments env).value h.0 in (tt, λ u g. (f.0, f.1, g))
@@ -116,12 +120,12 @@ front_calls m all k fs front = record {
     facts (Remember at site name keys e body) env h = (tt, tt, h.1, λ u g. (tt, tt, g))
 
 ordered_at : (fs : List Func) (k f : ℕ) (d : Func) → f < length fs → AreOrdered k fs
-    → Each (CallsBelow (k + f)) (statements_in (get_or fs f d).body)
+    → AllBelow (k + f) (get_or fs f d).body
 ordered_at [] k f d h o = absurd (omega (arith, h))
-ordered_at (g ∷ fs) k zero d h o = let e : k ≡ k + 0 = omega arith in subst (λ n. Each (CallsBelow n) (statements_in g.body)) e o.0
+ordered_at (g ∷ fs) k zero d h o = let e : k ≡ k + 0 = omega arith in subst (λ n. AllBelow n g.body) e o.0
 ordered_at (g ∷ fs) k (suc f) d h o =
     let e : (k + 1) + f ≡ k + suc f = omega arith in
-    subst (λ n. Each (CallsBelow n) (statements_in (get_or fs f d).body)) e (ordered_at fs (k + 1) f d (omega (arith, h)) o.1)
+    subst (λ n. AllBelow n (get_or fs f d).body) e (ordered_at fs (k + 1) f d (omega (arith, h)) o.1)
 
 -- The forest of function `f` has made calls, if the forests of the earlier functions have.
 made_at : (m : Map) (all : List Func) (f : ℕ) (vs : List Value) → AreOrdered 0 all
@@ -146,7 +150,7 @@ made_at m all f vs ordered earlier = elim (split_at f (length all)) [
     by (g ∷ fs) below e =
         let long : f < length all = let z = ap (λ (l : List Func). length l) e in omega (arith, z, below) in
         let zero_is : 0 + f ≡ f = omega arith in
-        let body = subst (λ j. Each (CallsBelow j) (statements_in (get_or all f g).body)) zero_is (ordered_at all 0 f g long ordered) in
+        let body = subst (λ j. AllBelow j (get_or all f g).body) zero_is (ordered_at all 0 f g long ordered) in
         subst (λ (t : GroupForest). IsMade m all t) (sym (meaning_found m all f vs g long))
         (body_holds (front_calls m all f (meanings m (take f all)) front) (get_or all f g).body
         (bind (get_or all f g).parameters vs) body)

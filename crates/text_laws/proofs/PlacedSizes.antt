@@ -6,7 +6,7 @@ use Rattle.std.specs.Option.{option_map}
 use Rattle.lang_ast.specs.Terms.{Expr, Literal, Variable, Get, Apply, Exprs, none, more, Named, Stmt, Node, Call, Key, If, For, Let, Remember, Stmts, done, next, Func, operand_count}
 use Rattle.lang_ast.specs.Programs.{Program}
 use Rattle.lang_ast.specs.Offsets.{expr_offset}
-use Rattle.lang_ast.specs.Sizes.{offset_if, most_forms, most_parts, most_nesting, most_name_bytes, name_sizes, is_long_list, expr_lengths, exprs_lengths, nesting, deepest, expr_sizes, exprs_sizes, named_sizes, stmt_sizes, stmts_sizes, parameters_sizes, function_sizes, functions_sizes, states_sizes, first_excess, state_place, function_place}
+use Rattle.lang_ast.specs.Sizes.{offset_if, most_forms, most_parts, most_nesting, most_name_bytes, name_sizes, is_long_list, expr_lengths, exprs_lengths, nesting, deepest, expr_sizes, exprs_sizes, named_sizes, stmt_sizes, stmts_sizes, parameters_sizes, function_sizes, functions_sizes, states_sizes, first_excess, state_offset, function_offset}
 use Rattle.lang_ast.specs.declared.syntax.Ident.{Ident}
 use Rattle.lang_ast.specs.declared.syntax.Parameter.{Parameter}
 use Rattle.lang_ast.specs.declared.program.State.{State}
@@ -195,9 +195,9 @@ module _ (g : ℕ → ℕ) where
 
   pub program-sized : (p : Program) → program_sizes p ≡ [] → program_sizes (placed_program g p) ≡ []
   program-sized p h =
-      let parts = none_in_3 (first_excess (map state_place p.states)) (first_excess (map function_place p.functions))
+      let parts = none_in_3 (first_excess (map state_offset p.states)) (first_excess (map function_offset p.functions))
       (states_sizes p.states ++ functions_sizes p.functions) h in
       let both = none_in (states_sizes p.states) (functions_sizes p.functions) parts.2 in
-      join_3 _ _ _ (no_excess state_place (placed_state g) (λ s. refl) p.states parts.0)
-      (no_excess function_place (placed_function g) (λ f. refl) p.functions parts.1)
+      join_3 _ _ _ (no_excess state_offset (placed_state g) (λ s. refl) p.states parts.0)
+      (no_excess function_offset (placed_function g) (λ f. refl) p.functions parts.1)
       (join_none _ _ (states-sized p.states both.0) (functions-sized p.functions both.1))

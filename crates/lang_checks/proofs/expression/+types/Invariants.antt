@@ -5,8 +5,8 @@ use Rattle.lang_checks.specs.Expressions.{types_of, exprs_faults}
 use Rattle.lang_checks.specs.Views.{expression_scope_view}
 use Rattle.lang_checks.proofs.expression.+types.Given as goal
 
-abbrev pub invariant-expressions-loop-e : goal.invariant-expressions-loop-e
-invariant-expressions-loop-e l = record {
+abbrev pub invariant-infer_expressions-loop-e : goal.invariant-infer_expressions-loop-e
+invariant-infer_expressions-loop-e l = record {
   types : l.types.items ++ types_of (expression_scope_view l.look) (exprs_view (drop l.e-index l.es))
       ≡ types_of (expression_scope_view l.look) (exprs_view l.es);
   least : least_fault_from l.least (exprs_faults (expression_scope_view l.look) (exprs_view (drop l.e-index l.es)))

@@ -7,8 +7,8 @@ use Rattle.lang_checks.specs.Statements.{stmts_faults}
 use Rattle.lang_checks.specs.Views.{statement_context_view}
 use Rattle.lang_checks.proofs.statement.+faults.Given as goal
 
-abbrev pub invariant-statements-loop-s : goal.invariant-statements-loop-s
-invariant-statements-loop-s l = record {
+abbrev pub invariant-check_statements-loop-s : goal.invariant-check_statements-loop-s
+invariant-check_statements-loop-s l = record {
   scope : l.scope ≡ l.initial.scope;
   least : least_fault_from l.least
       (stmts_faults (statement_context_view l.around) l.initial.scope (stmts_view (drop l.s-index l.body)))
@@ -16,8 +16,8 @@ invariant-statements-loop-s l = record {
       (stmts_faults (statement_context_view l.around) l.initial.scope (stmts_view l.body));
 }
 
-abbrev pub decreases-statement : goal.decreases-statement
-decreases-statement l = 4 * the_size l.s.now
+abbrev pub decreases-check_statement : goal.decreases-check_statement
+decreases-check_statement l = 4 * the_size l.s.now
 
 abbrev pub decreases-check_node : goal.decreases-check_node
 decreases-check_node l = 4 * most the_size l.body.now + 3
@@ -40,5 +40,5 @@ decreases-check_remember l = 4 * most the_size l.body.now + 3
 abbrev pub decreases-check_body : goal.decreases-check_body
 decreases-check_body l = 4 * most the_size l.body.now + 2
 
-abbrev pub decreases-statements : goal.decreases-statements
-decreases-statements l = 4 * most the_size l.body.now + 1
+abbrev pub decreases-check_statements : goal.decreases-check_statements
+decreases-check_statements l = 4 * most the_size l.body.now + 1

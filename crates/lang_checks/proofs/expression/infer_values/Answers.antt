@@ -1,6 +1,6 @@
 use Rattle.lang_checks.specs.Views.{expression_scope_view}
 use Rattle.lang_checks.proofs.Steps.{bounds_step, values_step, one_more}
-use Rattle.lang_checks.proofs.expression.values.Goals as goal
+use Rattle.lang_checks.proofs.expression.infer_values.Goals as goal
 
 pub loop-named-preserved : goal.loop-named-preserved
 loop-named-preserved c =

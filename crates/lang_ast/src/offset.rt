@@ -8,7 +8,7 @@ use crate::Expression;
 #[tactic(auto, using(crate::proofs::Views::views))]
 impl Expression {
     /// Returns the offset of the first byte in the source text. A fault of the whole expression is reported there.
-    pub fn place(&self) -> usize
+    pub fn offset(&self) -> usize
         ensures { result ≡ expr_offset (expr_view self.now) }
     {
         match self {

@@ -1,7 +1,7 @@
 use Rattle.std.proofs.Common.{◌≡◌, length}
 use Rattle.lang_checks.specs.Operands.{same_types}
 use Rattle.lang_checks.specs.Statements.{parameter_types}
-use Rattle.lang_checks.proofs.statement.takes.Given as goal
+use Rattle.lang_checks.proofs.statement.accepts_arguments.Given as goal
 
 abbrev pub invariant-loop-parameter : goal.invariant-loop-parameter
 invariant-loop-parameter l =

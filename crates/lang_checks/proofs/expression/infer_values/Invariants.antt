@@ -3,7 +3,7 @@ use Rattle.lang_ast.specs.SyntaxView.{nameds_view}
 use Rattle.lang_checks.specs.FaultOrder.{least_fault_from}
 use Rattle.lang_checks.specs.Expressions.{values_faults, typed_names}
 use Rattle.lang_checks.specs.Views.{expression_scope_view}
-use Rattle.lang_checks.proofs.expression.values.Given as goal
+use Rattle.lang_checks.proofs.expression.infer_values.Given as goal
 
 abbrev pub invariant-loop-named : goal.invariant-loop-named
 invariant-loop-named l = record {
