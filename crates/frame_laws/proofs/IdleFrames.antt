@@ -115,9 +115,7 @@ own_unread owed (Group site n what inside rest) h =
     by : (what : GroupKind) → AreNotOwed owed (asks (own_part inside)) → AreNotOwed owed (asks (own_part rest))
         → AreNotOwed owed (asks (inside_own what (own_part inside)) ++ asks (own_part rest))
     by (Call f vs) inner later = later
-    by (Node kind attributes) inner later = unread_both owed (asks (own_part inside)) (asks (own_part rest)) inner later
-    by (Key v) inner later = unread_both owed (asks (own_part inside)) (asks (own_part rest)) inner later
-    by (Cell ks v) inner later = unread_both owed (asks (own_part inside)) (asks (own_part rest)) inner later
+    by _ inner later = unread_both owed (asks (own_part inside)) (asks (own_part rest)) inner later
 
 meets_none : (owed xs : List ℕ) → AreNotOwed owed xs → meets xs owed ≡ false
 meets_none owed [] h = refl
@@ -126,9 +124,7 @@ meets_none owed (x ∷ xs) h = ap (λ b. b || meets xs owed) h.0 ∙ meets_none 
 quiet_call : (owed : List ℕ) (what : GroupKind) (inside : GroupForest) → AreNotOwed owed (asks inside)
     → IsNotOwed owed what inside
 quiet_call owed (Call f vs) inside h = meets_none owed (asks (own_part inside)) (own_unread owed inside h)
-quiet_call owed (Node kind attributes) inside h = tt
-quiet_call owed (Key v) inside h = tt
-quiet_call owed (Cell ks v) inside h = tt
+quiet_call owed _ inside h = tt
 
 quiet : (owed : List ℕ) (t : GroupForest) → AreNotOwed owed (asks t) → IsQuiet owed t
 quiet owed End h = tt

@@ -15,9 +15,7 @@ Agree m m' (x ∷ xs) = (value_at m x ≡ value_at m' x) × Agree m m' xs
 -- The forest inside a group, where the forest inside a call is composed again.
 abbrev pub recomposed_inside : List Meaning → GroupKind → GroupForest → GroupForest
 recomposed_inside fs (Call f vs) inside = meaning_at fs f vs
-recomposed_inside fs (Node kind attributes) inside = inside
-recomposed_inside fs (Key v) inside = inside
-recomposed_inside fs (Cell ks v) inside = inside
+recomposed_inside fs _ inside = inside
 
 -- A forest in which each call is composed again by the meaning of its function, and everything else is kept.
 abbrev pub recomposed_forest : List Meaning → GroupForest → GroupForest

@@ -131,9 +131,7 @@ go_on : (owed : List ℕ) (old : GroupForest) (caller : CallAtPath) (here : Path
 go_on owed old caller here s (Call f vs) running beside e r =
     ap (λ g. runs_after owed g (Call f vs))
     (ap (λ t. matching_sibling s.of s.occurrence t) e ∙ sym (at_path-append here s old))
-go_on owed old caller here s (Node kind attributes) running beside e r = r
-go_on owed old caller here s (Key v) running beside e r = r
-go_on owed old caller here s (Cell ks v) running beside e r = r
+go_on owed old caller here s _ running beside e r = r
 
 same_place : (owed : List ℕ) (old : GroupForest) (caller : CallAtPath) (here : Path) (s : PathStep) (what : GroupKind)
     (running : Bool) (beside : GroupForest) (w : Work) → beside ≡ inside_at here old

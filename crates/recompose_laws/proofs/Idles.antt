@@ -20,9 +20,7 @@ use Rattle.recompose_laws.proofs.Renewals.{composing_again_is_the_frame}
 own_number : (what : GroupKind) (old : Option Found) (k : ℕ)
     → (number_of what old k).0 ≡ kept_number what (number_of what old k).0
 own_number (Call f vs) old k = refl
-own_number (Node kind attributes) old k = refl
-own_number (Key v) old k = refl
-own_number (Cell ks v) old k = refl
+own_number _ old k = refl
 
 numbered_is_numbered : (old : GroupForest) (here : Path) (seen : List GroupKey) (k : ℕ) (t : GroupForest)
     → IsNumbered (numbered_forest old here seen k t).0
@@ -50,9 +48,7 @@ nothing_owed inside = meets_none (asks (own_part inside))
 
 quiet_call : (what : GroupKind) (inside : GroupForest) → IsNotOwed [] what inside
 quiet_call (Call f vs) inside = nothing_owed inside
-quiet_call (Node kind attributes) inside = tt
-quiet_call (Key v) inside = tt
-quiet_call (Cell ks v) inside = tt
+quiet_call _ inside = tt
 
 quiet : (t : GroupForest) → IsQuiet [] t
 quiet End = tt
@@ -68,9 +64,7 @@ inside_stays m owed functions (Call f vs) inside k none h =
     ap (λ b. if b then numbered_by_siblings inside [] k (meaning_at (meanings m functions) f vs)
     else renewed_groups m owed inside (take f functions) k) none
     ∙ h (take f functions)
-inside_stays m owed functions (Node kind attributes) inside k none h = h functions
-inside_stays m owed functions (Key v) inside k none h = h functions
-inside_stays m owed functions (Cell ks v) inside k none h = h functions
+inside_stays m owed functions _ inside k none h = h functions
 
 stays : (m : Map) (owed : List ℕ) (t : GroupForest) (functions : List Func) (k : ℕ) → IsQuiet owed t → IsNumbered t
     → renewed_groups m owed t functions k ≡ (t, k)
@@ -94,9 +88,7 @@ inside_idles m owed functions (Call f vs) inside none h =
     ap (λ b. if b then with_call true (work owed inside [] true (meaning_at (meanings m functions) f vs))
     else walk_work m owed inside (take f functions)) none
     ∙ h (take f functions)
-inside_idles m owed functions (Node kind attributes) inside none h = h functions
-inside_idles m owed functions (Key v) inside none h = h functions
-inside_idles m owed functions (Cell ks v) inside none h = h functions
+inside_idles m owed functions _ inside none h = h functions
 
 idles : (m : Map) (owed : List ℕ) (t : GroupForest) (functions : List Func) → IsQuiet owed t
     → walk_work m owed t functions ≡ no_work

@@ -173,9 +173,7 @@ without_numbers-without_numbers (Group site n what inside rest) =
 numbered_inside : (m : Map) (all : List Func) (what : GroupKind) (inside : GroupForest)
     → IsMadeInside m all what (without_numbers inside) → IsMadeInside m all what inside
 numbered_inside m all (trail.Call f vs) inside h = sym (without_numbers-without_numbers inside) ∙ h
-numbered_inside m all (trail.Node kind attributes) inside h = tt
-numbered_inside m all (trail.Key v) inside h = tt
-numbered_inside m all (trail.Cell ks v) inside h = tt
+numbered_inside m all _ inside h = tt
 
 numbered_made : (m : Map) (all : List Func) (t : GroupForest) → IsMade m all (without_numbers t) → IsMade m all t
 numbered_made m all End h = tt

@@ -159,8 +159,7 @@ inside-without_numbers m owed functions (trail.Call f vs) inside h =
     else refreshed_groups m owed (without_numbers inside) (take f functions))
     (sym (asks-own-without_numbers inside))
 inside-without_numbers m owed functions (trail.Node kind attributes) inside h = h functions
-inside-without_numbers m owed functions (trail.Key v) inside h = h functions
-inside-without_numbers m owed functions (trail.Cell ks v) inside h = h functions
+inside-without_numbers m owed functions _ inside h = h functions
 
 pub refreshed_groups-without_numbers : (m : Map) (owed : List ℕ) (t : GroupForest) (functions : List Func)
     → without_numbers (refreshed_groups m owed t functions) ≡ refreshed_groups m owed (without_numbers t) functions

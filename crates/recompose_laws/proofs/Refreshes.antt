@@ -17,9 +17,7 @@ use Rattle.recompose_laws.proofs.ForestProperties.{StatementFacts, AnyReads, Any
 abbrev pub MadeInside : Map → List Func → GroupKind → GroupForest → (List Func → Type 0) → Type 0
 MadeInside m functions (trail.Call f vs) inside made =
     (inside ≡ meaning_at (meanings m functions) f vs) × made (take f functions)
-MadeInside m functions (trail.Node kind attributes) inside made = made functions
-MadeInside m functions (trail.Key v) inside made = made functions
-MadeInside m functions (trail.Cell ks v) inside made = made functions
+MadeInside m functions _ inside made = made functions
 
 -- Each call in the forest was made by the meanings of the functions.
 abbrev pub Made : Map → GroupForest → List Func → Type 0

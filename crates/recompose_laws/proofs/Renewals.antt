@@ -37,16 +37,12 @@ inside_renewal : (m : Map) (owed : List ℕ) (functions : List Func) (what : Gro
     (refreshed_inside m functions what (is_owed owed inside) (refreshed_groups m owed inside))
 inside_renewal m owed functions (Call f vs) inside k h =
     call_renewal m owed functions f vs inside k (is_owed owed inside) (h (take f functions))
-inside_renewal m owed functions (Node kind attributes) inside k h = h functions
-inside_renewal m owed functions (Key v) inside k h = h functions
-inside_renewal m owed functions (Cell ks v) inside k h = h functions
+inside_renewal m owed functions _ inside k h = h functions
 
 keeps_number : (what : GroupKind) (n : ℕ) (inside : GroupForest) (k : ℕ)
     → (kept_number what n, k) ≡ number_of what (Some (record { number = n; what = what; inside = inside })) k
 keeps_number (Call f vs) n inside k = refl
-keeps_number (Node kind attributes) n inside k = refl
-keeps_number (Key v) n inside k = refl
-keeps_number (Cell ks v) n inside k = refl
+keeps_number _ n inside k = refl
 
 pub renewal : (m : Map) (owed : List ℕ) (t before whole : GroupForest) (seen : List GroupKey) (functions : List Func)
     (k : ℕ) → whole ≡ joined_forest before t → seen ≡ siblings before [] →

@@ -41,9 +41,7 @@ group_walk m owed functions n (Call f vs) inside h =
     (work owed inside [] (not b || is_owed owed inside)
     (refreshed_inside m functions (Call f vs) (is_owed owed inside) (refreshed_groups m owed inside))))
     (sym (call_itself f vs))
-group_walk m owed functions n (Node kind attributes) inside h = h functions
-group_walk m owed functions n (Key v) inside h = h functions
-group_walk m owed functions n (Cell ks v) inside h = h functions
+group_walk m owed functions n _ inside h = h functions
 
 pub walk_is : (m : Map) (owed : List ℕ) (t before whole : GroupForest) (seen : List GroupKey) (functions : List Func)
     → whole ≡ joined_forest before t → seen ≡ siblings before [] →

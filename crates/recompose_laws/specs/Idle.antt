@@ -28,9 +28,7 @@ KeptTrailIsNumbered = (old new : GroupForest) (next : ℕ) → IsNumbered (numbe
 -- A group is not an owed call.
 abbrev pub IsNotOwed : List ℕ → GroupKind → GroupForest → Type 0
 IsNotOwed owed (Call f vs) inside = is_owed owed inside ≡ false
-IsNotOwed owed (Node kind attributes) inside = Unit {0}
-IsNotOwed owed (Key v) inside = Unit {0}
-IsNotOwed owed (Cell ks v) inside = Unit {0}
+IsNotOwed owed _ inside = Unit {0}
 
 -- No call in a group forest is owed.
 abbrev pub IsQuiet : List ℕ → GroupForest → Type 0

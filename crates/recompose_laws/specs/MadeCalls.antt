@@ -13,9 +13,7 @@ use Rattle.recompose_laws.specs.Numbering.{without_numbers}
 -- all functions of the program.
 abbrev pub IsMadeInside : Map → List Func → GroupKind → GroupForest → Type 0
 IsMadeInside m functions (Call f vs) inside = without_numbers inside ≡ meaning_at (meanings m functions) f vs
-IsMadeInside m functions (Node kind attributes) inside = Unit {0}
-IsMadeInside m functions (Key v) inside = Unit {0}
-IsMadeInside m functions (Cell ks v) inside = Unit {0}
+IsMadeInside m functions _ inside = Unit {0}
 
 -- Each call in a forest contains what its function makes in the map `m`.
 abbrev pub IsMade : Map → List Func → GroupForest → Type 0

@@ -39,9 +39,7 @@ abbrev pub renewed_inside : Map → List Func → GroupKind → Bool → GroupFo
 renewed_inside m functions (Call f vs) anew inside next go =
     if anew then numbered_by_siblings inside [] next (meaning_at (meanings m functions) f vs)
     else go (take f functions) next
-renewed_inside m functions (Node kind attributes) anew inside next go = go functions next
-renewed_inside m functions (Key v) anew inside next go = go functions next
-renewed_inside m functions (Cell ks v) anew inside next go = go functions next
+renewed_inside m functions _ anew inside next go = go functions next
 
 -- The walk over the old groups with their numbers: calls whose own reads include an owed object are composed again,
 -- and the rest keeps its numbers. The second result is the next unused number.

@@ -15,9 +15,7 @@ is_owed owed inside = meets (asks (own_part inside)) owed
 abbrev pub refreshed_inside : Map → List Func → GroupKind → Bool → (List Func → GroupForest) → GroupForest
 refreshed_inside m functions (Call f vs) anew go =
     if anew then meaning_at (meanings m functions) f vs else go (take f functions)
-refreshed_inside m functions (Node kind attributes) anew go = go functions
-refreshed_inside m functions (Key v) anew go = go functions
-refreshed_inside m functions (Cell ks v) anew go = go functions
+refreshed_inside m functions _ anew go = go functions
 
 -- The groups after the walk: calls whose own reads include an owed object are composed again, and the rest is kept.
 abbrev pub refreshed_groups : Map → List ℕ → GroupForest → List Func → GroupForest

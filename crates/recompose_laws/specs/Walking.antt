@@ -14,9 +14,7 @@ abbrev pub walk_work_inside : Map → List ℕ → List Func → GroupKind → B
 walk_work_inside m owed functions (Call f vs) anew inside go =
     if anew then with_call true (work owed inside [] true (meaning_at (meanings m functions) f vs))
     else go (take f functions)
-walk_work_inside m owed functions (Node kind attributes) anew inside go = go functions
-walk_work_inside m owed functions (Key v) anew inside go = go functions
-walk_work_inside m owed functions (Cell ks v) anew inside go = go functions
+walk_work_inside m owed functions _ anew inside go = go functions
 
 -- The work of the walk: that of the calls that are composed again.
 abbrev pub walk_work : Map → List ℕ → GroupForest → List Func → Work

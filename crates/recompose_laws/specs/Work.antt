@@ -36,9 +36,7 @@ with_read false x w = w
 -- around it.
 abbrev pub runs_in : List ℕ → Bool → Option Found → GroupKind → Bool
 runs_in owed running old (Call f vs) = runs_after owed old (Call f vs)
-runs_in owed running old (Node kind attributes) = running
-runs_in owed running old (Key v) = running
-runs_in owed running old (Cell ks v) = running
+runs_in owed running old _ = running
 
 -- Adds the work at one group to the work `w` inside it.
 abbrev pub work_at_group : Bool → Option Found → GroupKind → Work → Work

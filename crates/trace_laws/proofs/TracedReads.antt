@@ -103,9 +103,7 @@ elsewhere_beside here a b q p is n r e =
 other_caller : (caller : CallAtPath) (path p : Path) (what : GroupKind) → (caller.path ≡ p → ⊥) → (path ≡ p → ⊥)
     → (innermost_call caller path what).path ≡ p → ⊥
 other_caller caller path p (Call f vs) n m = m
-other_caller caller path p (Node kind attributes) n m = n
-other_caller caller path p (Key v) n m = n
-other_caller caller path p (Cell ks v) n m = n
+other_caller caller path p _ n m = n
 
 -- No call at `here` or deeper has the path.
 none_elsewhere : (t : GroupForest) (p : Path) (caller : CallAtPath) (here : Path) (seen : List GroupKey)
@@ -149,9 +147,7 @@ own_reads (Group site k what inside rest) p caller here seen same h =
         → reads_at p (trace (innermost_call caller path kind) path [] inside) ≡ asks (inside_own kind (own_part inside))
     within (Call f vs) away deeper =
         none_elsewhere inside p (record { path = path; what = Call f vs }) path [] (elsewhere_itself path p away) away
-    within (Node kind attributes) away deeper = deeper
-    within (Key v) away deeper = deeper
-    within (Cell ks v) away deeper = deeper
+    within _ away deeper = deeper
 
 -- No sibling after the one on the path has reads of the path.
 none_later : (t : GroupForest) (caller : CallAtPath) (here : Path) (s : GroupKey) (n : ℕ) (q p : Path)
@@ -201,9 +197,7 @@ no_group {g} e = none-some g e
 short_caller : (caller : CallAtPath) (here : Path) (s : PathStep) (what : GroupKind) → length caller.path ≤ length here
     → length (innermost_call caller (here ++ s ∷ []) what).path ≤ length (here ++ s ∷ [])
 short_caller caller here s (Call f vs) h = omega arith
-short_caller caller here s (Node kind attributes) h = let front = length-append here (s ∷ []) in omega (arith, front, h)
-short_caller caller here s (Key v) h = let front = length-append here (s ∷ []) in omega (arith, front, h)
-short_caller caller here s (Cell ks v) h = let front = length-append here (s ∷ []) in omega (arith, front, h)
+short_caller caller here s _ h = let front = length-append here (s ∷ []) in omega (arith, front, h)
 
 found_reads : (t : GroupForest) (caller : CallAtPath) (here : Path) (s : GroupKey) (n : ℕ) (q p : Path)
     (seen : List GroupKey) (g : Found) → here ++ record { of = s; occurrence = occurrence s seen + n } ∷ q ≡ p

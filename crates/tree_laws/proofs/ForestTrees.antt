@@ -24,9 +24,7 @@ often_joined x (Branch n kind attributes children rest) t = let e = often_joined
 group_often : (x n inner : ℕ) (what : GroupKind) (inside : Nodes) → nodes_often x inside ≡ inner
     → nodes_often x (group_nodes what n inside) ≡ has_group_number x n what + inner
 group_often x n inner (Call f vs) inside e = omega (arith, e)
-group_often x n inner (Node kind attributes) inside e = omega (arith, e)
-group_often x n inner (Key v) inside e = omega (arith, e)
-group_often x n inner (Cell ks v) inside e = omega (arith, e)
+group_often x n inner _ inside e = omega (arith, e)
 
 often_same : (x : ℕ) (t : GroupForest) → nodes_often x (nodes t) ≡ how_often x t
 often_same x End = refl

@@ -59,8 +59,7 @@ module _ (look : ℕ → Told) where
     deep,
     tt,
   )
-  group_alike n site kind attributes s m (Key v) inside told here shape deep = deep
-  group_alike n site kind attributes s m (Cell ks v) inside told here shape deep = deep
+  group_alike n site kind attributes s m _ inside told here shape deep = deep
 
   old_alike : (n site : ℕ) (kind : List ℕ) (attributes : List Attribute) (t : GroupForest)
       → look site ≡ Some (Some (shape_of kind attributes)) → IsOnlyAt n site t → HaveShapes look t
@@ -80,8 +79,7 @@ module _ (look : ℕ → Told) where
   group_keeps old s m (Call f vs) inside g here shape deep = deep
   group_keeps old s m (Node kind attributes) inside g here shape deep =
       ((old_alike m s kind attributes old shape.0 (here refl) g, shape.1), deep, tt)
-  group_keeps old s m (Key v) inside g here shape deep = deep
-  group_keeps old s m (Cell ks v) inside g here shape deep = deep
+  group_keeps old s m _ inside g here shape deep = deep
 
   new_keeps : (old t : GroupForest) → HaveShapes look old → KeepSites old t → HaveShapes look t
       → Everywhere (Keeps (nodes old)) (nodes t)

@@ -50,11 +50,9 @@ shape_of kind attributes = record { kind = kind; names = names_of attributes }
 
 -- A node has the shape of the statement at its site, and its attributes have distinct names.
 abbrev pub HasShape : (ℕ → Told) → ℕ → GroupKind → Type 0
-HasShape look site (trail.Call f vs) = Unit {0}
 HasShape look site (trail.Node kind attributes) =
     (look site ≡ Some (Some (shape_of kind attributes))) × HaveDistinctNames attributes
-HasShape look site (trail.Key v) = Unit {0}
-HasShape look site (trail.Cell ks v) = Unit {0}
+HasShape look site _ = Unit {0}
 
 abbrev pub HaveShapes : (ℕ → Told) → GroupForest → Type 0
 HaveShapes look End = Unit {0}
