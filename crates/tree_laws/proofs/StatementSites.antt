@@ -33,11 +33,11 @@ Told = Option (Option Shape)
 abbrev pub node_shape : Ident → List Named → Option Shape
 node_shape kind attributes = Some (record { kind = kind.text; names = texts attributes })
 
--- What a look-up says of the statement that it finds.
-abbrev pub told : Option Stmt → Told
-told None = None
-told (Some (Node at site kind attributes body)) = Some (node_shape kind attributes)
-told (Some _) = Some None
+-- The shape of the nodes of the statement that a look-up finds, if it makes nodes.
+abbrev pub statement_shape : Option Stmt → Told
+statement_shape None = None
+statement_shape (Some (Node at site kind attributes body)) = Some (node_shape kind attributes)
+statement_shape (Some _) = Some None
 
 -- No name equals a later one.
 abbrev pub AreApart : List (List ℕ) → Type 0
@@ -114,21 +114,21 @@ names_apart ns e = subst (λ (l : List (List ℕ)). AreApart l) (same_texts ns) 
 -- The sites of all statements are looked up.
 
 is_told : (states : List State) (functions : List Func) (all : List Stmt) (s : Stmt) → IsFineIn states functions s
-    → statement_at (site_of s) all ≡ Some s → IsTold (λ x. told (statement_at x all)) s
+    → statement_at (site_of s) all ≡ Some s → IsTold (λ x. statement_shape (statement_at x all)) s
 is_told states functions all (Node at site kind attributes body) fine found =
-    (ap told found, names_apart attributes (none_in _ _ fine.1.none).0)
-is_told states functions all _ fine found = ap told found
+    (ap statement_shape found, names_apart attributes (none_in _ _ fine.1.none).0)
+is_told states functions all _ fine found = ap statement_shape found
 
-functions_told : (look : ℕ → Told) (fs : List Func) → Each (IsTold look) (functions_statements fs)
+each_is_told : (look : ℕ → Told) (fs : List Func) → Each (IsTold look) (functions_statements fs)
     → FunctionsAreTold look fs
-functions_told look [] h = tt
-functions_told look (f ∷ fs) h =
+each_is_told look [] h = tt
+each_is_told look (f ∷ fs) h =
     let both = each_apart (IsTold look) (statements_in f.body) (functions_statements fs) h in
-    (both.0, functions_told look fs both.1)
+    (both.0, each_is_told look fs both.1)
 
 -- The statement of the program at a site. The site 0 of the root's call has no statement.
 abbrev pub look_up : List Func → ℕ → Told
-look_up functions x = told (statement_at x (functions_statements functions))
+look_up functions x = statement_shape (statement_at x (functions_statements functions))
 
 rising : (p : Program) → IsNumberedProgram p → Rises 0 (map site_of (functions_statements p.functions))
 rising p h = counts_rise 0 1 _ (omega arith) h.sites
@@ -137,11 +137,11 @@ pub functions_are_told : (p : Program) → IsNumberedProgram p → program_fault
     → FunctionsAreTold (look_up p.functions) p.functions
 functions_are_told p h e =
     let all = functions_statements p.functions in
-    functions_told (look_up p.functions) p.functions
+    each_is_told (look_up p.functions) p.functions
     (each_of_both (IsFineIn p.states p.functions) (λ s. statement_at (site_of s) all ≡ Some s)
     (IsTold (look_up p.functions)) all (is_told p.states p.functions all)
     (functions_are_fine p.states p.functions 0 p.functions (bodies p e)) (each_is_found 0 all (rising p h)))
 
 -- No statement is at site 0.
 pub none_at_root : (p : Program) → IsNumberedProgram p → look_up p.functions 0 ≡ None
-none_at_root p h = ap told (none_before 0 0 (functions_statements p.functions) (omega arith) (rising p h))
+none_at_root p h = ap statement_shape (none_before 0 0 (functions_statements p.functions) (omega arith) (rising p h))
