@@ -1,5 +1,5 @@
 -- The calculations of a checked program follow from their sites.
-use Rattle.std.proofs.Common.{arith, ◌≡◌, true≢false, ◌||◌, ℕ, List, [], ◌∷◌, Bool, true, false, Option, Some, refl, sym, ap, ◌∙◌, not}
+use Rattle.std.proofs.Common.{arith, ◌≡◌, true≢false, ◌||◌, List, [], Bool, true, false, Option, Some, refl, sym, ap, ◌∙◌, not}
 use Rattle.lang_ast.specs.Terms.{Expr, Literal, Variable, Get, Apply, Exprs, none, more, Stmt, Remember, Func}
 use Rattle.lang_ast.specs.Programs.{site_of, functions_statements, statement_at}
 use Rattle.lang_ast.specs.declared.program.State.{State}

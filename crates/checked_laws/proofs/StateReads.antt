@@ -11,7 +11,7 @@ use Rattle.lang_ast.specs.Evaluation.{Bindings, new_binding, apply, is_pick, ope
 use Rattle.lang_checks.specs.declared.environment.TypedName.{TypedName}
 use Rattle.lang_checks.specs.Scopes.{type_if_named, state_type}
 use Rattle.lang_checks.specs.Expressions.{ExpressionScope, expr_faults, exprs_faults, values_faults}
-use Rattle.lang_checks.specs.Statements.{StatementContext, plain_scope, inside, stmt_faults, stmts_faults}
+use Rattle.lang_checks.specs.Statements.{plain_scope, inside, stmt_faults, stmts_faults}
 use Rattle.lang_checks.specs.ProgramFaults.{bound_parameters}
 use Rattle.lang_ast.proofs.Limits.{none_in}
 use Rattle.lang_checks.proofs.Fine.{held}

@@ -3,7 +3,7 @@ use Rattle.std.proofs.Common.{ℕ, ◌-◌, ◌^◌, min, ◌||◌, nat_le, List
 use Rattle.std.specs.Option.{option_map}
 use Rattle.rt_values.specs.Maps.{Map, differ}
 use Rattle.rt_groups.specs.declared.report.Report.{Report}
-use Rattle.rt_groups.specs.GroupForest.{GroupForest, End, Read, Group, GroupKind, Call, Node, Key, Cell, asks, inside_own, own_part, how_many, how_many_nodes}
+use Rattle.rt_groups.specs.GroupForest.{GroupForest, End, Read, Group, GroupKind, Call, asks, inside_own, own_part, how_many, how_many_nodes}
 use Rattle.rt_groups.specs.Nodes.{nodes}
 use Rattle.rt_groups.specs.Frames.{LastFrame, meets, most_groups, numbered_forest, report}
 use Rattle.lang_ast.specs.Terms.{Func}

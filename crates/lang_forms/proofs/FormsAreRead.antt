@@ -3,12 +3,6 @@ use Rattle.std.proofs.Common.{◌≡◌, ℕ, suc, ◌+◌, List, [], ◌∷◌,
 use Rattle.std.specs.Fmt.{signed_decimal}
 use Rattle.std.proofs.lemmas.Bool.{and_parts}
 use Rattle.sexp_text.specs.Forest.{Forest, empty, atom, text, list}
-use Rattle.rt_values.specs.declared.names.Kind.{Kind}
-use Rattle.rt_values.specs.declared.names.Kind.TheVariants as kind
-use Rattle.snap_policy.specs.declared.policy.BuiltIn.{BuiltIn}
-use Rattle.snap_policy.specs.declared.policy.BuiltIn.TheVariants as policy
-use Rattle.rt_values.specs.declared.value.Ty.{Ty}
-use Rattle.rt_values.specs.declared.value.Ty.TheVariants as ty
 use Rattle.rt_values.specs.declared.value.Value.{Value}
 use Rattle.rt_values.specs.declared.value.Value.TheVariants as value
 use Rattle.rt_values.specs.Values.{truth_text}
@@ -18,7 +12,6 @@ use Rattle.lang_ast.specs.declared.syntax.Operator.{Operator}
 use Rattle.lang_ast.specs.declared.syntax.Operator.TheVariants as operator
 use Rattle.lang_limits.specs.Tokens.{fits}
 use Rattle.lang_forms.specs.Names.{is_name, all_fit, is_string, is_list_long, number_of}
-use Rattle.rt_values.specs.Keywords.{kind_word, type_word}
 use Rattle.lang_forms.specs.Words.{operator_word, takes}
 use Rattle.lang_forms.specs.Sketch.{Sketch, nothing, Fits}
 use Rattle.lang_forms.specs.Forms.{numbers, literal, expr_forms, exprs_forms, pairs_forms, stmt_forms, stmts_forms, literal_fits, KnownNames, Spelled, AllSpelled, SpelledPairs, site_after, site_after_all, SpelledStmt, SpelledStmts}

@@ -1,27 +1,17 @@
 -- The first trees that are parsed have the forms.
 use Rattle.std.proofs.Common.{◌≡◌, ◌⊎◌, inl, inr, ℕ, List, ◌∷◌, length, Option, Some, None, Bool, true, false, cond, ℤ, refl, sym, ap, ◌∙◌, subst, codes}
 use Rattle.std.specs.Fmt.{signed_decimal}
-use Rattle.std.specs.Option.{option_map, option_or}
+use Rattle.std.specs.Option.{option_map}
 use Rattle.std.specs.Str.{bytes_eq}
 use Rattle.std.proofs.lemmas.Bool.{and_from}
 use Rattle.std.proofs.lemmas.Option.{cond_some}
-use Rattle.std.proofs.lemmas.Slice.Eq.{bytes_eq-Decides}
 use Rattle.sexp_text.specs.Forest.{Forest, empty, atom, text, list}
-use Rattle.rt_values.specs.declared.names.Kind.{Kind}
-use Rattle.rt_values.specs.declared.names.Kind.TheVariants as kind
-use Rattle.snap_policy.specs.declared.policy.BuiltIn.{BuiltIn}
-use Rattle.snap_policy.specs.declared.policy.BuiltIn.TheVariants as policy
-use Rattle.rt_values.specs.declared.value.Ty.{Ty}
-use Rattle.rt_values.specs.declared.value.Ty.TheVariants as ty
 use Rattle.rt_values.specs.declared.value.Value.{Value}
 use Rattle.rt_values.specs.declared.value.Value.TheVariants as value
 use Rattle.rt_values.specs.Values.{truth_text}
 use Rattle.lang_ast.specs.declared.syntax.Ident.{Ident}
-use Rattle.lang_ast.specs.declared.syntax.Operator.{Operator}
-use Rattle.lang_ast.specs.declared.syntax.Operator.TheVariants as operator
 use Rattle.lang_limits.specs.Tokens.{fits}
 use Rattle.lang_forms.specs.Names.{is_name, all_fit, is_string, is_list_long}
-use Rattle.rt_values.specs.Keywords.{kind_word, type_word}
 use Rattle.lang_forms.specs.Sketch.{Sketch, Fits, IsAtOffset}
 use Rattle.lang_forms.specs.Forms.{numbers, literal, literal_fits, plain_fits}
 use Rattle.lang_forms.specs.Readings.{◌>>=◌, choose, Seen, seen_trees, is_end, word_of, name_of, keyword_of, int_of, truth_of, plain_of, string_of, number_of_first, ints_of, literal_form, literal_of}

@@ -6,13 +6,10 @@ use Rattle.std.specs.Fmt.{signed_decimal}
 use Rattle.std.specs.Str.{bytes_eq}
 use Rattle.std.specs.Str.Parse.{signed_digits_value}
 use Rattle.sexp_text.specs.Forest.{Forest, empty, atom, text, list}
-use Rattle.rt_values.specs.declared.names.Kind.{Kind}
-use Rattle.rt_values.specs.declared.value.Ty.{Ty}
 use Rattle.rt_values.specs.declared.value.Value.{Value}
 use Rattle.rt_values.specs.declared.value.Value.TheVariants as value
 use Rattle.lang_ast.specs.Terms.{Expr, Literal, Variable, Get, Apply, Named, Stmt, Node, Call, Key, If, For, Let, Remember, Func, exprs, stmts}
 use Rattle.lang_ast.specs.declared.syntax.Ident.{Ident}
-use Rattle.lang_ast.specs.declared.syntax.Operator.{Operator}
 use Rattle.lang_ast.specs.declared.syntax.Parameter.{Parameter}
 use Rattle.lang_ast.specs.declared.program.State.{State}
 use Rattle.lang_ast.specs.declared.script.SnapshotRef.{SnapshotRef}
@@ -24,7 +21,6 @@ use Rattle.lang_ast.specs.declared.script.StepForm.TheVariants as step
 use Rattle.lang_ast.specs.declared.script.ScriptForm.{ScriptForm}
 use Rattle.lang_ast.specs.declared.script.ScriptForm.TheVariants.{Once, Repeat}
 use Rattle.lang_ast.specs.declared.script.DoForm.{DoForm}
-use Rattle.snap_policy.specs.declared.policy.BuiltIn.{BuiltIn}
 use Rattle.lang_limits.specs.Tokens.{fits}
 use Rattle.lang_forms.specs.Names.{is_name, is_string, is_list_long, number_of}
 use Rattle.lang_forms.specs.Words.{type_for_word, policy_for_word, kind_for_word, operator_for_word, takes}

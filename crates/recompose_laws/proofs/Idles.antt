@@ -2,7 +2,7 @@
 use Rattle.std.proofs.Common.{ℕ, ◌-◌, ◌^◌, min, List, [], ◌∷◌, ◌++◌, ◌≡◌, refl, ap, ◌∙◌, sym, length, true, false, if◌then◌else◌, Option, take, arith}
 use Rattle.rt_groups.specs.declared.report.Report.{Report}
 use Rattle.rt_values.specs.Maps.{Map}
-use Rattle.rt_groups.specs.GroupForest.{GroupForest, End, Read, Group, GroupKind, Call, Node, Key, Cell, asks, own_part, how_many, how_many_nodes}
+use Rattle.rt_groups.specs.GroupForest.{GroupForest, End, Read, Group, GroupKind, Call, asks, own_part, how_many, how_many_nodes}
 use Rattle.rt_groups.specs.Paths.{Path, GroupKey, sibling, step, Found, at_path}
 use Rattle.rt_groups.specs.Frames.{meets, number_of, numbered_forest, ran, calculated_cells, reads}
 use Rattle.lang_ast.specs.Terms.{Func}

@@ -2,7 +2,7 @@
 use Rattle.std.proofs.Common.{ℕ, List, [], ◌∷◌, ◌≡◌, refl, ap, ◌∙◌, sym, Bool, true, false, not, ◌||◌, if◌then◌else◌, Option, Some, take}
 use Rattle.rt_values.specs.declared.value.Value.{Value}
 use Rattle.rt_values.specs.Maps.{Map}
-use Rattle.rt_groups.specs.GroupForest.{GroupForest, End, Read, Group, GroupKind, Call, Node, Key, Cell, joined_forest}
+use Rattle.rt_groups.specs.GroupForest.{GroupForest, End, Read, Group, GroupKind, Call, joined_forest}
 use Rattle.rt_groups.specs.Paths.{GroupKey, sibling, occurrence, Found, matching_sibling, inside_of}
 use Rattle.lang_ast.specs.Terms.{Func}
 use Rattle.compose_model.specs.Composing.{meanings, meaning_at, forest}

@@ -1,7 +1,7 @@
 -- Trusted: the calls of a kept forest, each made by its function.
 use Rattle.std.specs.Prelude.{ℕ, ◌+◌, ◌<◌, List, [], ◌∷◌, ◌≡◌, Option, Some, None}
 use Rattle.rt_values.specs.Maps.{Map}
-use Rattle.rt_groups.specs.GroupForest.{GroupForest, End, Read, Group, GroupKind, Call, Node, Key, Cell}
+use Rattle.rt_groups.specs.GroupForest.{GroupForest, End, Read, Group, GroupKind, Call}
 use Rattle.rt_groups.specs.Paths.{Found}
 use Rattle.lang_ast.specs.Terms.{Func, Stmt}
 use Rattle.lang_ast.specs.Terms as terms

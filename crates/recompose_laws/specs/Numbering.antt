@@ -1,7 +1,7 @@
 -- Trusted: node numbers, from the groups of one frame to those of the next.
 use Rattle.std.specs.Prelude.{ℕ, List, [], ◌∷◌, ◌≡◌, length, Bool, take, if◌then◌else◌}
 use Rattle.rt_values.specs.Maps.{Map}
-use Rattle.rt_groups.specs.GroupForest.{GroupForest, End, Read, Group, GroupKind, Call, Node, Key, Cell, is_node, asks}
+use Rattle.rt_groups.specs.GroupForest.{GroupForest, End, Read, Group, GroupKind, Call, is_node, asks}
 use Rattle.rt_groups.specs.Paths.{GroupKey, sibling, occurrence, matching_sibling, inside_of}
 use Rattle.rt_groups.specs.Frames.{number_of, numbered_forest, ran, calculated_cells, reads}
 use Rattle.lang_ast.specs.Terms.{Func}

@@ -1,7 +1,7 @@
 -- Trusted: the groups of a frame, made from those of the last frame in one walk.
 use Rattle.std.specs.Prelude.{ℕ, ◌<◌, ◌≤◌, List, [], ◌∷◌, ◌≡◌, length, Bool, false, Some, take, if◌then◌else◌}
 use Rattle.rt_values.specs.Maps.{Map, entry_at, value_at, contains, differ}
-use Rattle.rt_groups.specs.GroupForest.{GroupForest, End, Read, Group, GroupKind, Call, Node, Key, Cell, asks, own_part}
+use Rattle.rt_groups.specs.GroupForest.{GroupForest, End, Read, Group, GroupKind, Call, asks, own_part}
 use Rattle.rt_groups.specs.Frames.{meets}
 use Rattle.lang_ast.specs.Terms.{Func}
 use Rattle.compose_model.specs.Composing.{meanings, meaning_at, forest}

@@ -1,7 +1,7 @@
 -- Trusted: the work of one walk over the old groups.
 use Rattle.std.specs.Prelude.{ℕ, List, [], ◌≡◌, length, Bool, true, take, if◌then◌else◌}
 use Rattle.rt_values.specs.Maps.{Map}
-use Rattle.rt_groups.specs.GroupForest.{GroupForest, End, Read, Group, GroupKind, Call, Node, Key, Cell, asks}
+use Rattle.rt_groups.specs.GroupForest.{GroupForest, End, Read, Group, GroupKind, Call, asks}
 use Rattle.rt_groups.specs.Frames.{ran, calculated_cells, reads}
 use Rattle.lang_ast.specs.Terms.{Func}
 use Rattle.compose_model.specs.Composing.{meanings, meaning_at, forest}

@@ -1,5 +1,5 @@
 -- The sites at which a checked program has node statements are those of its nodes.
-use Rattle.std.proofs.Common.{◌≡◌, ℕ, List, [], Bool, Option, None, Some, refl, ◌∙◌}
+use Rattle.std.proofs.Common.{◌≡◌, ℕ, Bool, Option, None, Some, refl, ◌∙◌}
 use Rattle.rt_groups.specs.GroupForest.{GroupForest, End, Read, Group}
 use Rattle.lang_ast.specs.Terms.{Stmt, Node}
 use Rattle.lang_ast.specs.Programs.{functions_statements, statement_at}

@@ -8,7 +8,7 @@ use Rattle.std.proofs.lemmas.List.{append-nil, append_cancel_left, map-append}
 use Rattle.std.proofs.lemmas.List.Elements.{filter-append}
 use Rattle.std.proofs.lemmas.Option.{none-some, same_Some}
 use Rattle.std.proofs.lemmas.Slice.Eq.{slice_eq-Decides}
-use Rattle.rt_groups.specs.GroupForest.{GroupForest, End, Read, Group, GroupKind, Call, Node, Key, Cell, is_call, asks, own_part, inside_own}
+use Rattle.rt_groups.specs.GroupForest.{GroupForest, End, Read, Group, GroupKind, Call, Node, is_call, asks, own_part, inside_own}
 use Rattle.rt_groups.specs.Paths.{Path, PathStep, GroupKey, sibling, same_sibling, step, occurrence, Found, nth, matching_sibling, inside_of, at_path}
 use Rattle.rt_groups.specs.Frames.{CallAtPath, nobody, innermost_call, trace}
 use Rattle.group_paths.specs.SiblingEquality.{same_is, itself}

@@ -1,7 +1,7 @@
 -- The numbers of a forest's nodes are those of its node tree.
 use Rattle.std.proofs.Common.{ℕ, ◌+◌, ◌≤◌, ◌==◌, ◌≡◌, refl, ap, Bool, true, false, ◌||◌, if◌then◌else◌, arith, inl, inr, eq-eqb}
 use Rattle.std.proofs.lemmas.Bool.{cases_Bool, false≢true}
-use Rattle.rt_groups.specs.GroupForest.{GroupForest, End, Read, Group, GroupKind, Call, Node, Key, Cell}
+use Rattle.rt_groups.specs.GroupForest.{GroupForest, End, Read, Group, GroupKind, Call}
 use Rattle.rt_groups.specs.Nodes.{Nodes, Branch, joined_nodes, group_nodes, nodes}
 use Rattle.rt_groups.specs.Nodes as tree
 use Rattle.recompose_laws.specs.Distinct.{how_often}

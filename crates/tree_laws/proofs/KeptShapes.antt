@@ -1,7 +1,7 @@
 -- A node that keeps its number keeps its shape.
 use Rattle.std.proofs.Common.{ℕ, ◌==◌, ◌≡◌, List, [], refl, ap, ◌∙◌, sym, subst, Bool, true, false, if◌then◌else◌, Option, Some, None}
 use Rattle.std.proofs.lemmas.Bool.{eqb-true}
-use Rattle.rt_groups.specs.GroupForest.{GroupForest, End, Read, Group, GroupKind, Call, Node, Key, Cell, Attribute, is_node}
+use Rattle.rt_groups.specs.GroupForest.{GroupForest, End, Read, Group, GroupKind, Call, Node, Attribute, is_node}
 use Rattle.rt_groups.specs.Nodes.{Nodes, Branch, joined_nodes, group_nodes, nodes}
 use Rattle.rt_groups.specs.Nodes as tree
 use Rattle.rt_groups.specs.Frames.{numbered_forest}
