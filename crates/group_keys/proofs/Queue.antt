@@ -28,6 +28,18 @@ queue_after items find t s w now f changed is = by (same_sibling t s) (λ e. ap 
         ∙ ap (λ o. f (option_map_or items o [])) (same refl)
     by false same is = ap (λ o. option_map_or items o []) is
 
+-- The queues after the queue of one sibling goes back to its key.
+pub queue_kept : {V : Type 0} (items : V → List ℕ) (find : GroupKey → Option V) (t s : GroupKey) (w : V)
+    (now : Option V) → items w ≡ option_map_or items (find t) [] → now ≡ cond (same_sibling t s) (Some w) (find s)
+    → option_map_or items now [] ≡ option_map_or items (find s) []
+queue_kept items find t s w now kept is = by (same_sibling t s) (λ e. ap find (same_is t s e)) is
+  where
+    by : (b : Bool) → (b ≡ true → find t ≡ find s) → now ≡ cond b (Some w) (find s)
+        → option_map_or items now [] ≡ option_map_or items (find s) []
+    by true same is =
+        ap (λ o. option_map_or items o []) is ∙ kept ∙ ap (λ o. option_map_or items o []) (same refl)
+    by false same is = ap (λ o. option_map_or items o []) is
+
 -- Taking from a missing queue changes no queue.
 pub none_after : {V : Type 0} (items : V → List ℕ) (find : GroupKey → Option V) (t s : GroupKey) → find t ≡ None
     → option_map_or items (find s) [] ≡ (if same_sibling t s then drop 1 (option_map_or items (find s) [])

@@ -1,5 +1,5 @@
 // Queues of old siblings.
-ghost use Rattle.std.specs.Prelude.{◌≡◌, ◌++◌, ◌∷◌, [], true, false, drop, slice_get, IfOk, OnOk, if◌then◌else◌};
+ghost use Rattle.std.specs.Prelude.{◌≡◌, ◌++◌, ◌∷◌, [], true, false, drop, slice_get, IfOk, OnOk, OnErr, if◌then◌else◌};
 ghost use Rattle.rt_groups.specs.Paths.{GroupKey, same_sibling};
 ghost use Rattle.group_keys.specs.Queues.{queue_of, queued_indexes, mapped_queue};
 
@@ -31,7 +31,8 @@ impl Queue {
 
     // Appends `index`.
     fn push(&mut self, index: usize) -> Result<(), NoMemory>
-        ensures { OnOk result (queued_indexes self.new ≡ queued_indexes self.old ++ index ∷ []) }
+        ensures added { OnOk result (queued_indexes self.new ≡ queued_indexes self.old ++ index ∷ []) }
+        ensures same { OnErr result (queued_indexes self.new ≡ queued_indexes self.old) }
     {
         self.later.push_back(index)?;
         Ok(())
@@ -106,11 +107,12 @@ impl<'a> SiblingQueues<'a> {
         })
     }
 
-    /// Appends `index` to the queue of `key`.
+    /// Appends `index` to the queue of `key`. After `NoMemory` the queues are unchanged.
     #[inline(always)]
     pub fn push(&mut self, alloc: Global, key: SiblingKey<'a>, index: usize) -> Result<(), NoMemory>
-        ensures { OnOk result ((s : GroupKey) → queue_of self.new s
+        ensures added { OnOk result ((s : GroupKey) → queue_of self.new s
             ≡ (if same_sibling key.entry s then queue_of self.old s ++ index ∷ [] else queue_of self.old s)) }
+        ensures same { OnErr result ((s : GroupKey) → queue_of self.new s ≡ queue_of self.old s) }
     {
         if self.push_listed(&key, index) {
             return Ok(());
@@ -132,7 +134,7 @@ impl<'a> SiblingQueues<'a> {
         self.numbered.put(key, index)
     }
 
-    // Appends `index` to the queue of `key` in the map.
+    // Appends `index` to the queue of `key` in the map. After `NoMemory` the queues are unchanged.
     #[inline(never)]
     fn push_mapped(
         &mut self,
@@ -142,17 +144,21 @@ impl<'a> SiblingQueues<'a> {
     ) -> Result<(), NoMemory>
         ensures queue { OnOk result ((s : GroupKey) → mapped_queue self.new s
             ≡ (if same_sibling key.entry s then mapped_queue self.old s ++ index ∷ [] else mapped_queue self.old s)) }
-        ensures list { OnOk result (self.new.numbered ≡ self.old.numbered) }
+        ensures same { OnErr result ((s : GroupKey) → mapped_queue self.new s ≡ mapped_queue self.old s) }
+        ensures list { self.new.numbered ≡ self.old.numbered }
     {
         let again = key.copy();
         match self.queues.insert(key, Queue::with(alloc, index))? {
-            None => {}
+            None => Ok(()),
             Some(mut queue) => {
-                queue.push(index)?;
-                self.queues.insert(again, queue)?;
+                let pushed = queue.push(index);
+                // The queue goes back to its key in any case, which takes no memory.
+                let Ok(_) = self.queues.insert(again, queue) else {
+                    unreachable!();
+                };
+                pushed
             }
         }
-        Ok(())
     }
 
     /// Removes and returns the first index in the queue of `key` (`getNext` of `Pending`). The value in `key` need not

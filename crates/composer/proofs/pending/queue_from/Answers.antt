@@ -18,7 +18,7 @@ loop-alloc-preserved c = λ s.
     queue_grows s c.args.table.now.groups c.args.depth c.loop-alloc.at c.index_after-at.result c.sibling_at.result
     (queue_of c.loop-alloc.queues s) (queue_of c.push.new.self s) _
     (sym c.is_level.ensures ∙ c.loop-alloc-test.true) c.index_after-at.ensures.after c.index_after-at.ensures.inside
-    c.sibling_at.ensures (c.in_ok-push.ensures s) (c.loop-alloc.invariant s)
+    c.sibling_at.ensures (c.in_ok-push.ensures.added s) (c.loop-alloc.invariant s)
 
 pub returns-clause-inside : goal.returns-clause-inside
 returns-clause-inside c = λ s k i.

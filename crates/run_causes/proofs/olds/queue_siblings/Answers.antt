@@ -24,14 +24,14 @@ loop-i-preserved c = (
         next.siblings,
         λ s.
             queue_grows groups depth c.loop-i.i c.index_after-i.result c.args.to left.0 next s c.key_at.result
-            (queue_of c.loop-i.queues s) (queue_of c.push.new.self s) _ c.key_at.ensures (c.in_ok-push.ensures s)
+            (queue_of c.loop-i.queues s) (queue_of c.push.new.self s) _ c.key_at.ensures (c.in_ok-push.ensures.added s)
             (left.2 s),
       ),
   λ s.
       let more = c.loop-i-test.true in
       let inside = c.requires in
       queue_below _ c.loop-i.i (same_sibling c.key_at.result s) (queue_of c.loop-i.queues s)
-      (queue_of c.push.new.self s) (c.in_ok-push.ensures s) (omega (arith, more, inside))
+      (queue_of c.push.new.self s) (c.in_ok-push.ensures.added s) (omega (arith, more, inside))
       (c.loop-i.invariant.1 s),
 )
 
