@@ -26,7 +26,9 @@ abbrev pub with_owed : ScopeLists → List ℕ → List ℕ → List ℕ
 with_owed l [] places = places
 with_owed l (x ∷ objects) places = with_owed l objects (with_places l.anchors (scopes_in x l.links) places)
 
--- No item of `places` is at least `at` and less than the item at index k. If there are k items, no item is at least
--- `at`.
+-- The item of `places` at index k is at least `at`, and no item is at least `at` and less than this item. If there are
+-- k items, no item is at least `at`.
 pub record Splits (places : List ℕ) (k at : ℕ) : Type 0 where
+  pub inside : k ≤ length places
+  pub after : k < length places → at ≤ slice_index places k
   pub none : (i : ℕ) → at ≤ i → (k < length places → i < slice_index places k) → contains i places ≡ false

@@ -1,5 +1,5 @@
 // The calls that are owed in a frame.
-ghost use Rattle.std.specs.Prelude.{◌≡◌, ◌≤◌, ◌<◌, ℕ, true, false};
+ghost use Rattle.std.specs.Prelude.{◌≡◌, ◌≤◌, ◌<◌, ◌-◌, ◌^◌, ℕ, true, false};
 ghost use Rattle.std.specs.List.Sorted.{IsNonDecreasing};
 ghost use Rattle.rt_values.specs.Maps.{contains};
 ghost use Rattle.recompose_scopes.specs.Building.{Splits};
@@ -49,8 +49,10 @@ impl OwedCalls {
     }
 
     // Finds the index of the first of the places that is at least `at`. Tries the last answer and the next index before
-    // it searches. The caller tests the result, so no clause speaks of it.
-    fn find_split(&self, at: usize) -> usize {
+    // it searches.
+    fn find_split(&self, at: usize) -> usize
+        ensures { Splits self.now result at }
+    {
         let hint = self.hint.get();
         if splits(&self.places, hint, at) {
             return hint;
@@ -62,16 +64,14 @@ impl OwedCalls {
         self.places.partition_point(|place| *place < at)
     }
 
-    /// Returns an index before which no call from index `at` on is owed (`firstInRange` of the invalidations): the
-    /// least index of an owed call that is at least `at`, or `usize::MAX` if there is none. Contracts do not promise
-    /// an owed call at the index. Takes constant time for ascending `at`, and otherwise the time of a binary search.
+    /// Returns the least index of an owed call that is at least `at`, or `usize::MAX` if there is none (`firstInRange`
+    /// of the invalidations). Takes constant time for ascending `at`, and otherwise the time of a binary search.
     pub fn next_from(&self, at: usize) -> usize
-        ensures { (i : ℕ) → at ≤ i → i < result → contains i self.now ≡ false }
+        ensures none { (i : ℕ) → at ≤ i → i < result → contains i self.now ≡ false }
+        ensures from { at ≤ result }
+        ensures owed { result < 2 ^ 64 - 1 → contains result self.now ≡ true }
     {
         let index = self.find_split(at);
-        if !splits(&self.places, index, at) {
-            return at;
-        }
         self.hint.set(index);
         if index < self.places.len() {
             self.places[index]
