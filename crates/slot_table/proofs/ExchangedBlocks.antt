@@ -210,6 +210,8 @@ written_exchanged olds fresh first later gap places before len nodes e blocks w 
       gaps_are = w.gaps_are ∙ gaps_exchanged first later gap e;
       fits = w.fits;
       long = w.long;
+      ordered = w.ordered;
+      fewer = w.fewer;
       placed = λ gs i g size lt.
           let old = w.placed gs i g size lt in (
             subst (λ l. get_or places i 0 < length l) (same gs) old.0,

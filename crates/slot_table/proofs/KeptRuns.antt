@@ -7,7 +7,7 @@ use Rattle.slot_table.proofs.GroupRuns.{run_grows}
 use Rattle.slot_table.specs.TableGroups.{group_at, is_node_kind, with_reads}
 use Rattle.slot_table.specs.ChangeLists.{ChangedGroups, nodes_in}
 use Rattle.slot_table.specs.declared.runs.KeptRun.{KeptRun}
-use Rattle.slot_table.specs.KeptRuns.{run_groups, patched, gaps, AreInside, ArePlaces, IsWritten, IsRunAdded}
+use Rattle.slot_table.specs.KeptRuns.{run_groups, patched, gaps, AreInside, ArePlaces, AreOrdered, IsWritten, IsRunAdded}
 
 drop_last : (k : ℕ) (gs : List Group) (g : Group) → k ≤ length gs → drop k (gs ++ g ∷ []) ≡ drop k gs ++ g ∷ []
 drop_last zero gs g le = refl
@@ -283,6 +283,41 @@ places_push olds fresh rs places before len nodes g w = λ gs i v long lt.
         let two = long_patched olds front rs enough in
         omega (arith, one, two, size)
 
+-- The order of places after the greatest is appended.
+ordered_push : (places : List ℕ) (kept len : ℕ) → ((i : ℕ) → i < length places → get_or places i 0 < len)
+    → length places + kept ≡ len → AreOrdered kept places → AreOrdered kept (places ++ len ∷ [])
+ordered_push places kept len below sum o =
+    let more = length-append places (len ∷ []) in
+    let before : (i : ℕ) → i < length places → get_or (places ++ len ∷ []) i 0 ≡ get_or places i 0 =
+    λ i lt. get_or_append_left places (len ∷ []) 0 i lt in
+    let last : get_or (places ++ len ∷ []) (length places) 0 ≡ len = get_or-append_seam places len [] 0 in
+    let at_end : (i : ℕ) → i ≡ length places → get_or (places ++ len ∷ []) i 0 ≡ len =
+    λ i e. ap (λ k. get_or (places ++ len ∷ []) k 0) e ∙ last in
+    record {
+      ascend = λ i j less lt. before_or_last j (length places) (omega (arith, more, lt))
+          (λ h. let one = before i (omega (arith, less, h)) in
+          let two = before j h in
+          let old = o.ascend i j less h in omega (arith, one, two, old))
+          (λ e. let h : i < length places = omega (arith, less, e) in
+          let one = before i h in
+          let two = at_end j e in
+          let old = below i h in omega (arith, one, two, old));
+      low = λ i lt. before_or_last i (length places) (omega (arith, more, lt))
+          (λ h. let one = before i h in let old = o.low i h in omega (arith, one, old))
+          (λ e. let one = at_end i e in omega (arith, one, e, sum));
+      high = λ i lt. before_or_last i (length places) (omega (arith, more, lt))
+          (λ h. let one = before i h in let old = o.high i h in omega (arith, one, old))
+          (λ e. let one = at_end i e in omega (arith, one, e, sum));
+    }
+
+-- The order of places holds for a greater bound.
+ordered_more : (places : List ℕ) (kept more : ℕ) → kept ≤ more → AreOrdered kept places → AreOrdered more places
+ordered_more places kept more le o = record {
+  ascend = o.ascend;
+  low = o.low;
+  high = λ i lt. let old = o.high i lt in omega (arith, old, le);
+}
+
 -- A writer after a new group is appended.
 pub written_push : (olds fresh fresh' : List Group) (rs : List KeptRun) (places places' : List ℕ)
     (before len len' nodes nodes' : ℕ) (g : Group) → IsWritten olds fresh rs places before len nodes
@@ -302,12 +337,19 @@ written_push olds fresh fresh' rs places places' before len len' nodes nodes' g 
     let longer : length (patched olds (fresh ++ g ∷ []) rs) ≡ length (patched olds fresh rs ++ g ∷ []) =
     ap length pushed in
     let one = length-append (patched olds fresh rs) (g ∷ []) in
+    let few = w.fewer in
+    let kept : len - length fresh ≡ len' - length (fresh ++ g ∷ []) = omega (arith, is_len, more, few) in
     record {
       inside = w.inside;
       gaps_are = sum;
       fits = omega (arith, fits, more);
       long = omega (arith, long, more, places_more);
       placed = places_push olds fresh rs places before len nodes g w;
+      ordered = subst (λ k. AreOrdered k (places ++ len ∷ [])) kept
+          (ordered_push places (len - length fresh) len
+          (λ i lt. let inside = (w.placed fresh i g refl (omega (arith, long, lt))).0 in omega (arith, inside, count))
+          (omega (arith, long, few)) w.ordered);
+      fewer = omega (arith, few, is_len, more);
       len_is = omega (arith, is_len, count, longer, one);
       nodes_are = is_nodes ∙ ap (λ n. n + nodes_in (g ∷ [])) some
           ∙ sym (nodes_append (patched olds fresh rs) (g ∷ [])) ∙ ap nodes_in (sym pushed);
@@ -334,11 +376,14 @@ written_keep olds fresh rs rs' places before before' len len' nodes nodes' gap f
     let size = length-take-le (to - from) (drop from olds) (omega (arith, rest, low, high)) in
     let longer : length (patched olds fresh rs') ≡ length (patched olds fresh rs ++ run) = ap length grown in
     let one = length-append (patched olds fresh rs) run in
+    let few = w.fewer in
     record {
       inside = added.inside;
       gaps_are = omega (arith, sum, fits, is, sum', all);
       fits = omega (arith, all);
       long = w.long;
+      ordered = ordered_more places (len - length fresh) (len' - length fresh) (omega (arith, is_len)) w.ordered;
+      fewer = omega (arith, few, is_len);
       placed = λ gs i g long lt.
           let old = w.placed gs i g long lt in
           let inside = old.0 in
@@ -396,6 +441,7 @@ pub written_set : (olds fresh fresh' : List Group) (rs : List KeptRun) (places :
 written_set olds fresh fresh' rs places before len nodes i reads w lt is =
     let same : length fresh' ≡ length fresh = ap length is ∙ length-set fresh i (with_reads (group_at fresh i) reads) in
     let fits = w.fits in
+    let few = w.fewer in
     let p : ℕ = get_or places i 0 in
     let now = reads_set olds fresh fresh' rs places before len nodes i p reads w lt refl is in
     record {
@@ -404,6 +450,8 @@ written_set olds fresh fresh' rs places before len nodes i reads w lt is =
       fits = omega (arith, fits, same);
       long = w.long ∙ sym same;
       placed = subst (λ n. ArePlaces olds rs n places) (sym same) w.placed;
+      ordered = subst (λ n. AreOrdered (len - n) places) (sym same) w.ordered;
+      fewer = omega (arith, few, same);
       len_is = w.len_is ∙ sym (ap length now
           ∙ length-set (patched olds fresh rs) p (with_reads (group_at (patched olds fresh rs) p) reads));
       nodes_are = w.nodes_are ∙ sym (ap nodes_in now

@@ -81,6 +81,12 @@ ArePlaces olds rs n places = (fresh : List Group) (i : ℕ) (g : Group) → leng
     → (slice_index_or places i 0 < length (patched olds fresh rs))
     × (patched olds (slice_set fresh i g) rs ≡ slice_set (patched olds fresh rs) (slice_index_or places i 0) g)
 
+-- The places are in increasing order. Each is at least its index in the list, and exceeds it by at most `kept`.
+pub record AreOrdered (kept : ℕ) (places : List ℕ) : Type 0 where
+  pub ascend : (i j : ℕ) → i < j → j < length places → slice_index_or places i 0 < slice_index_or places j 0
+  pub low : (i : ℕ) → i < length places → i ≤ slice_index_or places i 0
+  pub high : (i : ℕ) → i < length places → slice_index_or places i 0 ≤ i + kept
+
 -- What a writer keeps: the places of its new groups, the number of new groups before the last run, and the numbers of
 -- groups and of nodes.
 pub record IsWritten (olds fresh : List Group) (rs : List KeptRun) (ps : List ℕ) (before len nodes : ℕ) : Type 0 where
@@ -89,6 +95,8 @@ pub record IsWritten (olds fresh : List Group) (rs : List KeptRun) (ps : List �
   pub fits : before ≤ length fresh
   pub long : length ps ≡ length fresh
   pub placed : ArePlaces olds rs (length fresh) ps
+  pub ordered : AreOrdered (len - length fresh) ps
+  pub fewer : length fresh ≤ len
   pub len_is : len ≡ length (patched olds fresh rs)
   pub nodes_are : nodes ≡ nodes_in (patched olds fresh rs)
 

@@ -1,10 +1,10 @@
 // The changes that take a table to the groups of a new frame.
-ghost use Rattle.std.specs.Prelude.{◌≡◌, ◌≤◌, ◌<◌, ◌+◌, ◌-◌, ◌^◌, ◌++◌, ◌∷◌, [], List, length, map, drop, take, slice_set, slice_index_or, true, false, IfOk, IfSome, OnOk, OnErr};
+ghost use Rattle.std.specs.Prelude.{◌≡◌, ◌≤◌, ◌<◌, ◌+◌, ◌-◌, ◌^◌, ◌++◌, ◌∷◌, [], List, length, map, drop, take, slice_set, slice_index_or, true, false, ℕ, IfOk, IfSome, IsNone, OnOk, OnErr};
 ghost use Rattle.rt_groups.specs.declared.groups.Group.{Group as group_data};
 ghost use Rattle.rt_groups.specs.PreorderGroups.{flat_group};
 ghost use Rattle.slot_table.specs.TableGroups.{group_at, is_node_kind, with_reads};
 ghost use Rattle.slot_table.specs.ChangeLists.{nodes_in};
-ghost use Rattle.slot_table.specs.KeptRuns.{patched, gaps, AreInside, HaveOwnIndexes, IsRunAdded, set_all, KeepDepths, MoveDown, HasBlocks, AreExchanged, AreOutside, after_exchange};
+ghost use Rattle.slot_table.specs.KeptRuns.{patched, gaps, AreInside, AreOrdered, HaveOwnIndexes, IsRunAdded, set_all, KeepDepths, MoveDown, HasBlocks, AreExchanged, AreOutside, after_exchange};
 
 use crate::change_forms::{find_exchange, fits_around, fits_in_place, shrinks};
 use crate::groups_before::GroupsBefore;
@@ -105,13 +105,14 @@ impl<'t> ChangeListWriter<'t> {
         self.nodes
     }
 
-    /// Appends a new group.
+    /// Appends a new group. After `NoMemory` the groups are unchanged.
     #[inline(always)]
     pub fn push(&mut self, group: SharedGroup) -> Result<(), NoMemory>
         ensures added { OnOk result (self.new ≡ record {
           olds = self.old.olds;
           news = self.old.news ++ group ∷ [];
         }) }
+        ensures same { OnErr result (self.new ≡ self.old) }
     {
         let Some(nodes) = self.nodes.checked_add(count_node(&group)) else {
             return Err(NoMemory); // No memory holds so many groups.
@@ -128,7 +129,7 @@ impl<'t> ChangeListWriter<'t> {
     }
 
     /// Appends the groups of the table from index `from` to before index `to`, which stay as they are. They are not
-    /// copied.
+    /// copied. After `NoMemory` the groups are unchanged.
     #[inline(always)]
     pub fn keep(&mut self, from: usize, to: usize) -> Result<(), NoMemory>
         requires order { from ≤ to }
@@ -137,6 +138,7 @@ impl<'t> ChangeListWriter<'t> {
           olds = self.old.olds;
           news = self.old.news ++ take (to - from) (drop from self.old.olds);
         }) }
+        ensures same { OnErr result (self.new ≡ self.old) }
     {
         let Some(nodes) = self.nodes.checked_add(self.table.count_nodes(from, to)) else {
             return Err(NoMemory); // No table has so many groups.
@@ -153,12 +155,13 @@ impl<'t> ChangeListWriter<'t> {
     }
 
     /// Gives the group at index `place`, which was pushed, these reads in place of its own. Takes logarithmic time.
-    /// Returns `NoMemory` for a group that is kept.
+    /// Returns `NoMemory` for a group that is kept. After `NoMemory` the groups are unchanged.
     pub fn set_reads(&mut self, alloc: Global, place: usize, reads: Deps) -> Result<(), NoMemory>
         requires { place < length self.old.news }
         ensures olds { OnOk result (self.new.olds ≡ self.old.olds) }
         ensures set { OnOk result
             (self.new.news ≡ slice_set self.old.news place (with_reads (group_at self.old.news place) reads)) }
+        ensures same { OnErr result (self.new ≡ self.old) }
     {
         let kept = self.len.saturating_sub(self.fresh.len());
         let Some(i) = find_place(&self.places, place, kept) else {
@@ -268,10 +271,12 @@ fn extend_last(runs: &mut Vec<KeptRun>, gap: usize, from: usize, to: usize) -> b
     true
 }
 
-// Returns the index of `place` in `places`, which are in increasing order. The index is at least `place` less `kept`,
-// and at most `place`.
+// Returns the index of `place` in `places`, which are in increasing order, or `None` if `places` do not contain it. Only
+// an index from `place` less `kept` to `place` may be that of `place`.
 fn find_place(places: &[usize], place: usize, kept: usize) -> Option<usize>
-    ensures { IfSome result (λ i. (i < length places.now) × (slice_index_or places.now i 0 ≡ place)) }
+    requires { AreOrdered kept places.now }
+    ensures found { IfSome result (λ i. (i < length places.now) × (slice_index_or places.now i 0 ≡ place)) }
+    ensures none { IsNone result → (i : ℕ) → i < length places.now → slice_index_or places.now i 0 ≡ place → ⊥ }
 {
     let mut low = place.saturating_sub(kept);
     let mut high = places.len();

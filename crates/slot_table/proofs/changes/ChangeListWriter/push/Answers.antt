@@ -14,9 +14,8 @@ invariant_of-self-2 c =
     (c.push_reserved.ensures.items ∙ ap (λ l. l ++ w.len ∷ []) c.make_room.ensures.items)
     (omega (arith, len)) (nodes ∙ ap (λ n. w.nodes + n) one)
 
-pub returns : goal.returns
-returns c =
-    let w = c.self.inside in record {
-      added = changed_push w.table.now.groups w.fresh c.push.new.self w.runs.items w.places.items w.before w.len
-          w.nodes c.args.group c.args.self.now c.self.view_is c.self.invariant c.in_ok-push.ensures.added;
-    }
+pub returns-clause-added : goal.returns-clause-added
+returns-clause-added c =
+    let w = c.self.inside in
+    changed_push w.table.now.groups w.fresh c.push.new.self w.runs.items w.places.items w.before w.len w.nodes
+    c.args.group c.args.self.now c.self.view_is c.self.invariant c.in_ok-push.ensures.added

@@ -11,7 +11,7 @@ either (Err x) p q ok err = err q
 
 pub set_reads-requires : goal.set_reads-requires
 set_reads-requires c =
-    let found = c.in-Some.ensures.0 in
+    let found = c.in-Some.ensures.found.0 in
     let same = ap (λ l. length l) c.deref.ensures.value in
     let long = c.self.invariant.long in
     omega (arith, found, same, long)
@@ -19,7 +19,7 @@ set_reads-requires c =
 pub invariant_of-self-2 : goal.invariant_of-self-2
 invariant_of-self-2 c =
     let w = c.self.inside in
-    let found = c.in-Some.ensures.0 in
+    let found = c.in-Some.ensures.found.0 in
     let same = ap (λ l. length l) c.deref.ensures.value in
     let long = c.self.invariant.long in
     either c.set_reads.result c.set_reads.ensures.set c.set_reads.ensures.same
@@ -31,10 +31,10 @@ invariant_of-self-2 c =
 pub returns-clause-set : goal.returns-clause-set
 returns-clause-set c =
     let w = c.self.inside in
-    let found = c.in-Some.ensures.0 in
+    let found = c.in-Some.ensures.found.0 in
     let same = ap (λ l. length l) c.deref.ensures.value in
     let long = c.self.invariant.long in
     reads_set w.table.now.groups w.fresh c.set_reads.new.self w.runs.items w.places.items w.before w.len w.nodes
     c.in-Some.i c.args.place c.args.reads c.self.invariant (omega (arith, found, same, long))
-    (ap (λ l. get_or l c.in-Some.i 0) (sym c.deref.ensures.value) ∙ c.in-Some.ensures.1) c.in_ok-set_reads.ensures.set
+    (ap (λ l. get_or l c.in-Some.i 0) (sym c.deref.ensures.value) ∙ c.in-Some.ensures.found.1) c.in_ok-set_reads.ensures.set
     ∙ ap (λ s. set s.news c.args.place (with_reads (group_at s.news c.args.place) c.args.reads)) c.self.view_is
