@@ -1,7 +1,7 @@
 // The scopes that depend on each object.
 ghost use Rattle.std.specs.Prelude.{ℕ, ◌≡◌, ◌≤◌, ◌<◌, ◌+◌, ◌-◌, [], nat_eq, None, length, vec_len, vec_capacity, OnOk, OnErr};
 ghost use Rattle.indexmap.specs.IndexMap.{get, spare};
-ghost use Rattle.read_links.specs.LinkLists.{links_with, links_with_all, links_without, scopes_in};
+ghost use Rattle.read_links.specs.LinkLists.{links_with, links_with_all, links_without, scopes_in, LinksFirst};
 ghost use Rattle.read_links.specs.Storage.{entry_links, links_spare, AllHaveSpare};
 
 use crate::lists::{append_scope, new_pool, remove_scope, take_list};
@@ -65,7 +65,7 @@ fn remove_from_lists(objects: &mut IndexMap<Dep, Vec<Scope>>, scope: Scope)
     }
 }
 
-// Adds a list with `scope` for an object that has no list yet.
+// Adds a list with `scope` for an object that has no list yet. After `NoMemory` the lists are unchanged.
 fn put_first(
     alloc: Global,
     objects: &mut IndexMap<Dep, Vec<Scope>>,
@@ -76,6 +76,8 @@ fn put_first(
     requires { get nat_eq objects.old object ≡ None }
     ensures links { OnOk result (entry_links (λ v. v.items) objects.new.entries
         ≡ links_with scope object (entry_links (λ v. v.items) objects.old.entries)) }
+    ensures same { OnErr result (entry_links (λ v. v.items) objects.new.entries
+        ≡ entry_links (λ v. v.items) objects.old.entries) }
     ensures free { 0 < links_spare (λ v. vec_capacity v - vec_len v) (spare objects.old) objects.old.entries
         pool.old.items → OnErr result ⊥ }
     ensures spare { OnOk result (links_spare (λ v. vec_capacity v - vec_len v) (spare objects.old) objects.old.entries
@@ -112,9 +114,10 @@ impl Links {
         Ok(())
     }
 
-    // Links `scope` to one object.
+    // Links `scope` to one object. After `NoMemory` the links are unchanged.
     fn put_one(&mut self, alloc: Global, scope: Scope, object: Dep) -> Result<(), NoMemory>
         ensures links { OnOk result (self.new.links ≡ links_with scope object self.old.links) }
+        ensures same { OnErr result (self.new.links ≡ self.old.links) }
         ensures free { 0 < self.old.spare → OnErr result ⊥ }
         ensures spare { OnOk result (self.old.spare ≤ self.new.spare + 1) }
     {
@@ -125,9 +128,10 @@ impl Links {
     }
 
     /// Links `scope` to each of `objects`, which may repeat. Takes no memory if the spare capacity is at least their
-    /// number. After `NoMemory` some of them may be linked.
+    /// number. After `NoMemory` the objects before some index are linked, and the others are as before.
     pub fn put(&mut self, alloc: Global, scope: Scope, objects: &[Dep]) -> Result<(), NoMemory>
         ensures links { OnOk result (self.new.links ≡ links_with_all scope objects.now self.old.links) }
+        ensures part { OnErr result (LinksFirst scope objects.now self.old.links self.new.links) }
         ensures free { length objects.now ≤ self.old.spare → OnErr result ⊥ }
         ensures spare { OnOk result (self.old.spare ≤ self.new.spare + length objects.now) }
     {

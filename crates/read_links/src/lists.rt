@@ -17,9 +17,11 @@ fn is_last(scopes: &[Scope], scope: Scope) -> bool
     }
 }
 
-// Appends `scope` unless it is the last of the scopes. Takes no memory if the list has spare capacity.
+// Appends `scope` unless it is the last of the scopes. Takes no memory if the list has spare capacity. After `NoMemory`
+// the scopes are unchanged.
 pub fn append_scope(scopes: &mut Vec<Scope>, scope: Scope) -> Result<(), NoMemory>
     ensures items { OnOk result (scopes.new.items ≡ with_scope scope scopes.old.items) }
+    ensures same { OnErr result (scopes.new.items ≡ scopes.old.items) }
     ensures free { vec_len scopes.old < vec_capacity scopes.old → OnErr result ⊥ }
     ensures capacity { vec_capacity scopes.old ≤ vec_capacity scopes.new }
     ensures len { vec_len scopes.new ≤ vec_len scopes.old + 1 }

@@ -3,7 +3,8 @@ use Rattle.indexmap.specs.IndexMap.{spare}
 use Rattle.read_links.specs.LinkLists.{links_with}
 use Rattle.read_links.specs.Storage.{links_spare, entry_links}
 use Rattle.read_links.proofs.Spares.{below_spare, found_has_spare, set_spare, on_ok}
-use Rattle.read_links.proofs.Entries.{set_links}
+use Rattle.std.proofs.lemmas.Result.{on_err_weaker}
+use Rattle.read_links.proofs.Entries.{set_links, kept_links}
 use Rattle.read_links.proofs.links.Links.put_one.Goals as goal
 
 pub returns-in-Some-clause-links : goal.returns-in-Some-clause-links
@@ -12,6 +13,13 @@ returns-in-Some-clause-links c = on_ok c.append_scope.result c.append_scope.ensu
     ∙ set_links (λ v. v.items) c.args.scope c.args.object c.self.inside.objects.entries c.in-Some.scopes.now
     c.append_scope.new.scopes (sym c.in-Some.ensures.value) is
     ∙ ap (λ l. links_with c.args.scope c.args.object l.links) c.self.view_is)
+
+pub returns-in-Some-clause-same : goal.returns-in-Some-clause-same
+returns-in-Some-clause-same c = on_err_weaker c.append_scope.result (λ same.
+    ap (λ es. entry_links (λ v. v.items) es) (c.get_mut.follows.holds c.append_scope.new.scopes).0
+    ∙ kept_links (λ v. v.items) (nat_eq c.args.object) c.self.inside.objects.entries c.in-Some.scopes.now
+    c.append_scope.new.scopes (sym c.in-Some.ensures.value) same
+    ∙ ap (λ l. l.links) c.self.view_is) c.append_scope.ensures.same
 
 pub returns-in-Some-clause-free : goal.returns-in-Some-clause-free
 returns-in-Some-clause-free c = λ some.
