@@ -7,5 +7,6 @@ pub mod KeptNodes
 pub mod StoredTree
 pub mod Counting
 pub mod FlatNodes
+pub mod Planned
 pub mod SiblingLists
 pub mod NodeGroups

@@ -1,6 +1,10 @@
 // A node tree whose calls fail where a test wants it.
-ghost use Rattle.std.specs.Prelude.{◌≡◌, ◌≤◌, IsTrue, Some};
-ghost use Rattle.rt_streams.specs.Streams.{Rose};
+ghost use Rattle.std.specs.Prelude.{◌≡◌, ◌≤◌, ◌+◌, ◌<◌, IsTrue, Some, OnOk, if◌then◌else◌};
+ghost use Rattle.rt_streams.specs.Streams.{Rose, HasCause, next_count};
+ghost use Rattle.rt_streams.specs.Memory.{fails_next};
+ghost use Rattle.node_tree.specs.Calls.{Allows, Becomes, insert_count};
+ghost use Rattle.node_tree.specs.declared.ops.Op.TheVariants as op;
+ghost use Rattle.node_tree.specs.Planned.{FollowsPlan};
 ghost use Rattle.node_tree.specs.NodeTrees.{CursorTree, tree_at_root};
 ghost use Rattle.node_tree.specs.StoredTree.{cursor_tree};
 ghost use Rattle.rt_groups.specs.Nodes.{None as no_nodes};
@@ -12,9 +16,9 @@ use rt_streams::Failed;
 use rt_values::{NoMemory, Value, Word};
 use std::alloc::Global;
 
-/// A tree of nodes in memory whose calls fail as a list says. For tests of what follows a failure.
+/// A tree of nodes in memory whose calls fail exactly as a list says. For tests of what follows a failure.
 ///
-/// A call that fails changes nothing. Calls are counted from 1, without `reserve`.
+/// A call that fails leaves the tree. Calls are counted from 1, without `reserve`.
 #[derive(Drop)]
 pub struct FailingTree {
     tree: NodeTree,
@@ -45,7 +49,11 @@ impl FailingTree {
 
     // Counts a call, and returns whether it fails.
     fn fails(&mut self) -> bool
+        ensures fails { result ≡ fails_next self.old.failing.items self.old.calls }
         ensures tree { self.new.tree ≡ self.old.tree }
+        ensures failing { self.new.failing ≡ self.old.failing }
+        ensures calls { self.new.calls ≡ next_count self.old.calls }
+        ensures faults { self.new.faults ≡ (if result then next_count self.old.faults else self.old.faults) }
         ensures later { self.old.faults ≤ self.new.faults }
         ensures rose { IsTrue result → Rose self.old.faults self.new.faults }
     {
@@ -58,7 +66,7 @@ impl FailingTree {
     }
 }
 
-#[tactic(auto, using(crate::proofs::Faults::cause_kept))]
+#[tactic(auto, using(crate::proofs::Faults::cause_kept, crate::proofs::Faults::passes, crate::proofs::Faults::fails))]
 impl Applier for FailingTree {
     ghost tree = { λ t. Some (cursor_tree t.tree) };
 
@@ -66,60 +74,123 @@ impl Applier for FailingTree {
 
     ghost faults = { λ t. t.faults };
 
-    fn reserve(&mut self, alloc: Global, ops: &Ops) -> Result<(), NoMemory> {
+    fn reserve(&mut self, alloc: Global, ops: &Ops) -> Result<(), NoMemory>
+        ensures tree { Some (cursor_tree self.new.tree) ≡ Some (cursor_tree self.old.tree) }
+        ensures spare { self.old.tree.spare ≤ self.new.tree.spare }
+        ensures room { OnOk result (insert_count ops.now ≤ self.new.tree.spare) }
+        ensures faults { self.new.faults ≡ self.old.faults }
+        ensures plan { self.new.failing ≡ self.old.failing }
+        ensures calls { self.new.calls ≡ self.old.calls }
+    {
         self.tree.reserve(alloc, ops)
     }
 
-    fn down(&mut self, index: usize) -> Result<(), Failed> {
+    fn down(&mut self, index: usize) -> Result<(), Failed>
+        requires { Allows (Some (cursor_tree self.old.tree)) (op.Down index) }
+        ensures tree { OnOk result (Becomes
+            (Some (cursor_tree self.old.tree)) (Some (cursor_tree self.new.tree)) (op.Down index)) }
+        ensures spare { self.old.tree.spare ≤ self.new.tree.spare }
+        ensures cause { HasCause self.old.faults self.new.faults result }
+        ensures plan { FollowsPlan self.old self.new result }
+    {
         if self.fails() {
             return Err(Failed);
         }
         self.tree.down(index)
     }
 
-    fn up(&mut self) -> Result<(), Failed> {
+    fn up(&mut self) -> Result<(), Failed>
+        requires { Allows (Some (cursor_tree self.old.tree)) op.Up }
+        ensures tree { OnOk result (Becomes
+            (Some (cursor_tree self.old.tree)) (Some (cursor_tree self.new.tree)) op.Up) }
+        ensures spare { self.old.tree.spare ≤ self.new.tree.spare }
+        ensures cause { HasCause self.old.faults self.new.faults result }
+        ensures plan { FollowsPlan self.old self.new result }
+    {
         if self.fails() {
             return Err(Failed);
         }
         self.tree.up()
     }
 
-    fn insert_top_down(&mut self, index: usize, node: NewNode) -> Result<(), Failed> {
+    fn insert_top_down(&mut self, index: usize, node: NewNode) -> Result<(), Failed>
+        requires inside { Allows (Some (cursor_tree self.old.tree)) (op.InsertTopDown index node) }
+        requires room { 0 < self.old.tree.spare }
+        ensures tree { OnOk result (Becomes
+            (Some (cursor_tree self.old.tree)) (Some (cursor_tree self.new.tree)) (op.InsertTopDown index node)) }
+        ensures spare { self.old.tree.spare ≤ self.new.tree.spare + 1 }
+        ensures cause { HasCause self.old.faults self.new.faults result }
+        ensures plan { FollowsPlan self.old self.new result }
+    {
         if self.fails() {
             return Err(Failed);
         }
         self.tree.insert_top_down(index, node)
     }
 
-    fn insert_bottom_up(&mut self, index: usize, node: NewNode) -> Result<(), Failed> {
+    fn insert_bottom_up(&mut self, index: usize, node: NewNode) -> Result<(), Failed>
+        requires { Allows (Some (cursor_tree self.old.tree)) (op.InsertBottomUp index node) }
+        ensures tree { OnOk result (Becomes
+            (Some (cursor_tree self.old.tree)) (Some (cursor_tree self.new.tree)) (op.InsertBottomUp index node)) }
+        ensures spare { self.old.tree.spare ≤ self.new.tree.spare }
+        ensures cause { HasCause self.old.faults self.new.faults result }
+        ensures plan { FollowsPlan self.old self.new result }
+    {
         if self.fails() {
             return Err(Failed);
         }
         self.tree.insert_bottom_up(index, node)
     }
 
-    fn remove(&mut self, index: usize, count: usize) -> Result<(), Failed> {
+    fn remove(&mut self, index: usize, count: usize) -> Result<(), Failed>
+        requires { Allows (Some (cursor_tree self.old.tree)) (op.Remove index count) }
+        ensures tree { OnOk result (Becomes
+            (Some (cursor_tree self.old.tree)) (Some (cursor_tree self.new.tree)) (op.Remove index count)) }
+        ensures spare { self.old.tree.spare ≤ self.new.tree.spare }
+        ensures cause { HasCause self.old.faults self.new.faults result }
+        ensures plan { FollowsPlan self.old self.new result }
+    {
         if self.fails() {
             return Err(Failed);
         }
         self.tree.remove(index, count)
     }
 
-    fn move_range(&mut self, from: usize, to: usize, count: usize) -> Result<(), Failed> {
+    fn move_range(&mut self, from: usize, to: usize, count: usize) -> Result<(), Failed>
+        requires { Allows (Some (cursor_tree self.old.tree)) (op.Move from to count) }
+        ensures tree { OnOk result (Becomes
+            (Some (cursor_tree self.old.tree)) (Some (cursor_tree self.new.tree)) (op.Move from to count)) }
+        ensures spare { self.old.tree.spare ≤ self.new.tree.spare }
+        ensures cause { HasCause self.old.faults self.new.faults result }
+        ensures plan { FollowsPlan self.old self.new result }
+    {
         if self.fails() {
             return Err(Failed);
         }
         self.tree.move_range(from, to, count)
     }
 
-    fn set(&mut self, name: Word, value: Value) -> Result<(), Failed> {
+    fn set(&mut self, name: Word, value: Value) -> Result<(), Failed>
+        requires { Allows (Some (cursor_tree self.old.tree)) (op.Set name value) }
+        ensures tree { OnOk result (Becomes
+            (Some (cursor_tree self.old.tree)) (Some (cursor_tree self.new.tree)) (op.Set name value)) }
+        ensures spare { self.old.tree.spare ≤ self.new.tree.spare }
+        ensures cause { HasCause self.old.faults self.new.faults result }
+        ensures plan { FollowsPlan self.old self.new result }
+    {
         if self.fails() {
             return Err(Failed);
         }
         self.tree.set(name, value)
     }
 
-    fn clear(&mut self) -> Result<(), Failed> {
+    fn clear(&mut self) -> Result<(), Failed>
+        ensures tree { OnOk result (Becomes
+            (Some (cursor_tree self.old.tree)) (Some (cursor_tree self.new.tree)) op.Clear) }
+        ensures spare { self.old.tree.spare ≤ self.new.tree.spare }
+        ensures cause { HasCause self.old.faults self.new.faults result }
+        ensures plan { FollowsPlan self.old self.new result }
+    {
         if self.fails() {
             return Err(Failed);
         }
