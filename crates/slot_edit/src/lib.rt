@@ -45,7 +45,8 @@ impl Model for Patch {
 
 impl Patch {
     /// Returns the patch that gives `groups`, which are in preorder. `olds` has for each of them the index of the old
-    /// group with its path, or `None` if the group is new. Takes all the memory that `apply` needs.
+    /// group with its path, or `None` if the group is new. Takes all the memory that `apply` needs, so the patch needs
+    /// no spare capacity of the table and of the anchors.
     pub fn new(
         alloc: Global,
         groups: TableBuilder,
@@ -53,6 +54,7 @@ impl Patch {
     ) -> Result<Patch, NoMemory>
         ensures groups { IfOk result (λ p. p.groups ≡ groups) }
         ensures olds { IfOk result (λ p. p.olds ≡ olds.items) }
+        ensures need { IfOk result (λ p. p.need ≡ 0) }
     {
         let table = Table::from_groups(alloc, groups)?;
         let news = inverse::invert(alloc, &olds)?;
