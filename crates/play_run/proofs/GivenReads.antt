@@ -1,9 +1,11 @@
 -- The reads of a frame that were given, and those that are left.
-use Rattle.std.proofs.Common.{◌≡◌, ℕ, zero, suc, ◌<◌, ◌+◌, List, [], ◌∷◌, ◌++◌, length, take, drop, refl, ap, ◌∙◌, arith, slice_index_or, slice_set}
+use Rattle.std.proofs.Common.{◌≡◌, ℕ, zero, suc, ◌<◌, ◌+◌, List, [], ◌∷◌, ◌++◌, length, take, drop, refl, sym, ap, ◌∙◌, subst, arith, slice_index_or, slice_set}
 use Rattle.rt_values.specs.Maps.{Map, value_at}
 use Rattle.rt_values.specs.Views.{Extends, Grew}
 use Rattle.rt_values.specs.declared.value.Value.{Value}
 use Rattle.play_run.specs.RecordedReads.{AgreesWith, objects_read}
+use Rattle.play_run.specs.ReplayState.{IsRecordedMap}
+use Rattle.play_run.specs.declared.recorded.RecordedReads.{RecordedReads}
 
 -- The object of a read that is given is the next one asked for.
 pub asked_next : (reads : List (ℕ × Value)) (i x : ℕ) (d r : ℕ × Value) (v : Value) → i < length reads
@@ -30,3 +32,8 @@ not_asked asked x = record { rest = x ∷ []; is = refl }
 
 pub asks_more : (asked asked' : List ℕ) (x : ℕ) → asked' ≡ asked ++ x ∷ [] → Extends asked asked'
 asks_more asked asked' x is = record { more = x ∷ []; is = is }
+
+-- A map that agrees with all recorded reads agrees with those that are left, since none was given.
+pub agrees_with_rest : (reads : RecordedReads) (m : Map) → IsRecordedMap reads m
+    → AgreesWith m (drop reads.given reads.reads.items)
+agrees_with_rest reads m is = subst (λ n. AgreesWith m (drop n reads.reads.items)) (sym is.0) is.1

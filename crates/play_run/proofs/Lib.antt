@@ -1,6 +1,7 @@
 pub mod Written
 pub mod Frames
 pub mod FrameCalls
+pub mod ComposedFrames
 pub mod CallLines
 pub mod OpenFrames
 pub mod RunLogs

@@ -46,6 +46,10 @@ abbrev pub AreFrameReads : Option OpenFrame → Option Map → List (ℕ × Valu
 AreFrameReads None last reads = reads ≡ []
 AreFrameReads (Some f) last reads = (m : Map) → last ≡ Some m → AgreesWith m reads
 
+-- The map agrees with the recorded reads, and none of them was given again.
+abbrev pub IsRecordedMap : RecordedReads → Map → Type 0
+IsRecordedMap reads m = (reads.given ≡ zero) × AgreesWith m reads.reads.items
+
 -- Reads were recorded, and none of them was given again.
 pub record IsRecorded (frame : Option OpenFrame) (last : Option Map) (reads : RecordedReads) : Type 0 where
   pub new : reads.given ≡ zero

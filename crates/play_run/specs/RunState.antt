@@ -1,20 +1,22 @@
 -- Internal: how the state of a run in memory represents the state of the definitions, and what was written.
-use Rattle.std.specs.Prelude.{◌≡◌, ◌≢◌, ◌⊎◌, ◌<◌, ◌≤◌, ◌+◌, ℕ, List, [], ◌∷◌, ◌++◌, All, true, false, length, map, Option, Some, None, Result, OnOk, OnErr}
+use Rattle.std.specs.Prelude.{◌≡◌, ◌≢◌, ◌⊎◌, ◌<◌, ◌≤◌, ◌+◌, ℕ, List, [], ◌∷◌, ◌++◌, All, true, false, length, map, Option, Some, None, Result, IfOk, OnOk, OnErr}
 use Rattle.std.specs.List.{flat_map}
+use Rattle.std.specs.Option.{option_map}
 use Rattle.rt_values.specs.Maps.{Map}
 use Rattle.rt_values.specs.Views.{Grew}
 use Rattle.rt_groups.specs.Frames.{LastFrame}
 use Rattle.rt_groups.specs.declared.report.Report.{Report}
 use Rattle.lang_ast.specs.Terms.{Func}
-use Rattle.compose_model.specs.Frame.{FrameResult}
+use Rattle.compose_model.specs.Frame.{FrameResult, kept_after}
 use Rattle.node_tree.specs.declared.ops.Op.{Op}
 use Rattle.lang_ast.specs.Programs.{functions_of}
 use Rattle.recomposer.specs.Compositions.{IsAt}
+use Rattle.recomposer.specs.FrameContracts.{frame_result, InShownFrames}
 use Rattle.recomposer.specs.declared.composition.Composition.{Composition}
 use Rattle.snap_policy.specs.Table.{table}
 use Rattle.snap_policy.specs.declared.policy.BuiltIn.{BuiltIn}
 use Rattle.snap_api.specs.declared.data.Entry.{Entry}
-use Rattle.snap_api.specs.DeskReads.{call_of, reads_of}
+use Rattle.snap_api.specs.DeskReads.{LogsReadsIn, AreLegal, call_of, reads_of}
 use Rattle.snap_api.specs.World.{World, History, IsLegal, world_after, last_of, snapshot_of, is_mutable}
 use Rattle.snap_api.specs.Valid.{IsValid}
 use Rattle.snap_api.specs.Calls.{IsOwn}
@@ -24,10 +26,11 @@ use Rattle.script_lang.specs.StepCalls.{Part, Take, BeginFrame, EndFrame, ActorP
 use Rattle.script_lang.specs.declared.flags.Flags.{Flags}
 use Rattle.script_lang.specs.Lines.{LineStyle}
 use Rattle.node_tree.specs.FrameOps.{frame_ops}
-use Rattle.play_run.specs.RunPromise.{WritesBytes, WritesAtLeast}
+use Rattle.play_run.specs.RunPromise.{WritesBytes, WritesAtLeast, style_of, job_functions}
 use Rattle.script_lang.specs.PrintedCalls.{printed_calls}
 use Rattle.play_run.specs.RunLog.{frames_in, ReadsOwed}
-use Rattle.play_run.specs.RunOutput.{Run, parts_lines, parts_after}
+use Rattle.play_run.specs.RunOutput.{Run, parts_of, parts_lines, parts_after}
+use Rattle.play_run.specs.declared.calls.JobActor.{JobActor}
 use Rattle.play_run.specs.declared.memory.RunMemory.{RunMemory}
 use Rattle.play_run.specs.declared.write_lines.Stop.{Stop}
 
@@ -107,6 +110,13 @@ abbrev pub HasAsked : List ℕ → List ℕ → List ℕ → Option Report → T
 HasAsked asked asked' reads (Some told) = asked' ≡ asked ++ reads
 HasAsked asked asked' reads None = Grew asked asked' reads
 
+-- The log grew by reads in the caller's snapshot `name`, and each has the plain world's reply.
+pub record LogsLegalReads (stands : World BuiltIn → Type 0) (old new : Option (List Entry))
+    (caller name : ℕ) : Type 0 where
+  pub xs : List ℕ
+  pub reads : LogsReadsIn old new caller (Some name) xs
+  pub legal : AreLegal table stands old new
+
 -- A log grew by the reads of a frame after the kept state `k` in the map `m`. Their replies are those of each
 -- represented plain world, which they do not change, and the frame read what it owes.
 pub record FrameReadsLogged (functions : List Func) (stands : World BuiltIn → Type 0) (caller name : ℕ)
@@ -145,6 +155,22 @@ IsPlain BeginFrame = ⊥
 IsPlain EndFrame = ⊥
 IsPlain _ = Unit {0}
 
+-- The composition `c` composed what it owes in the shown map for a run with these flags, and is `c'` now. The result
+-- is the report of the frame, or `None` if it has too many groups.
+pub record ComposesForRun (flags : Flags) (c c' : Composition) (shows : Map → Type 0)
+    (result : Result (Option Report) Stop) : Type 0 where
+  -- The report is that of the frame.
+  pub told : InShownFrames c shows
+      (λ k m. IfOk result (λ r. r ≡ option_map (λ g. g.told) (frame_result c.program.now k m)))
+  -- The frame leaves the state that the definition of frames gives.
+  pub left : InShownFrames c shows
+      (λ k m. OnOk result (IsAt c' (kept_after k (frame_result c.program.now k m)) (Some m)))
+  -- With `--ops` the composition lists the calls of the frame.
+  pub calls : InShownFrames c shows
+      (λ k m. OnOk result (MadeCalls flags k (frame_result c.program.now k m) c'.ops))
+  -- The program stays.
+  pub program : c'.program ≡ c.program
+
 -- A part that neither begins nor ends a frame and takes no snapshot.
 abbrev pub KeepsNames : Part → Type 0
 KeepsNames (Take name kind parent) = ⊥
@@ -181,3 +207,46 @@ abbrev pub RunsParts : {V T : Type 0} (style : LineStyle) (functions : List Func
 RunsParts style functions stands log actor parts world world' memory memory' frame frame' written written' result =
     (r : Run) → IsRun functions stands log world memory actor frame r →
     RunsAt style functions stands log actor parts world' memory' frame' written written' r result
+
+-- What a run is at one time: the world, the memory, the open frame, and the bytes that the sink was given.
+pub record Scene (V : Type 0) : Type 0 where
+  pub world : V
+  pub memory : RunMemory
+  pub frame : Option ℕ
+  pub written : Option (List ℕ)
+
+abbrev pub scene : {V : Type 0} → V → RunMemory → Option ℕ → Option (List ℕ) → Scene V
+scene world memory frame written = record { world = world; memory = memory; frame = frame; written = written }
+
+-- The lines of these parts of the actor's steps after the state `r`.
+abbrev pub actor_lines : JobActor → List Part → Run → List ℕ
+actor_lines actor parts r =
+    flat (parts_lines (style_of actor) (job_functions actor.job.now) r (parts_of actor.number parts))
+
+-- The state after these parts of the actor's steps after the state `r`.
+abbrev pub after_parts : JobActor → List Part → Run → Run
+after_parts actor parts r = parts_after (job_functions actor.job.now) r (parts_of actor.number parts)
+
+-- The world and the memory represent the state `r` of the actor's run, in which `frame` is open.
+abbrev pub IsActorRun : {V : Type 0} → JobActor → (V → World BuiltIn → Type 0) → (V → Option (List Entry)) → V
+    → RunMemory → Option ℕ → Run → Type 0
+IsActorRun actor stands log world memory frame r =
+    IsRun (job_functions actor.job.now) stands log world memory actor.number frame r
+
+-- The actor's run of these parts after the state `r` stopped.
+abbrev pub ActorStopsAt : JobActor → List Part → Option (List Entry) → Option (List ℕ) → Option (List ℕ) → Run → Type 0
+ActorStopsAt actor parts now written written' r = StopsAt (style_of actor) (job_functions actor.job.now)
+    (parts_of actor.number parts) now written written' r
+
+-- These parts of the actor's steps were run after the state `r`, with the bytes `written` written before them.
+abbrev pub ActorRunsAt : {V T : Type 0} → JobActor → (V → World BuiltIn → Type 0) → (V → Option (List Entry))
+    → List Part → Scene V → Option (List ℕ) → Run → Result T Stop → Type 0
+ActorRunsAt actor stands log parts after written r result = RunsAt (style_of actor) (job_functions actor.job.now) stands
+    log actor.number (parts_of actor.number parts) after.world after.memory after.frame written after.written r result
+
+-- `ActorRunsAt` holds for every state that the scene `before` represents.
+abbrev pub ActorRuns : {V T : Type 0} → JobActor → (V → World BuiltIn → Type 0) → (V → Option (List Entry)) → List Part
+    → Scene V → Scene V → Result T Stop → Type 0
+ActorRuns actor stands log parts before after result = RunsParts (style_of actor) (job_functions actor.job.now) stands
+    log actor.number (parts_of actor.number parts) before.world after.world before.memory after.memory before.frame
+    after.frame before.written after.written result

@@ -9,9 +9,9 @@ ghost use Rattle.lang_ast.specs.declared.script.SnapshotRef.{SnapshotRef as snap
 ghost use Rattle.script_lang.specs.SnapshotNames.{snapshot_number};
 ghost use Rattle.script_lang.specs.StepCalls.{Part, Take, Read, WriteSum, request_of, number_taken, value_read, sum_request, entry, call_parts, calls_parts};
 ghost use Rattle.script_lang.specs.Lines.{call_text, reply_text, line, entry_line};
-ghost use Rattle.play_run.specs.RunOutput.{Run, parts_of};
-ghost use Rattle.play_run.specs.RunPromise.{job_titles, style_of, job_functions};
-ghost use Rattle.play_run.specs.RunState.{KeepsNames, AddsEntry, MayAddEntry, IsRun, RunsAt, RunsParts};
+ghost use Rattle.play_run.specs.RunOutput.{Run};
+ghost use Rattle.play_run.specs.RunPromise.{job_titles};
+ghost use Rattle.play_run.specs.RunState.{KeepsNames, AddsEntry, MayAddEntry, IsActorRun, ActorRunsAt, ActorRuns, scene};
 ghost use Rattle.play_run.specs.RunPromise.{WritesBytes, FaultsAfter};
 
 use crate::job::Job;
@@ -124,11 +124,10 @@ fn run_part<V: Versions<P = BuiltIn>, K: Sink>(
     sink: &mut K,
 ) -> Result<Reply, Stop>
     ensures runs { (frame : Option ℕ) (r : Run) (p : Part) → KeepsNames p →
-        IsRun (job_functions actor.entry.job.now) V.stands V.log world.old memory.old actor.entry.number frame r →
+        IsActorRun actor.entry V.stands V.log world.old memory.old frame r →
         request_of r.notes p ≡ Some request →
-        RunsAt (style_of actor.entry) (job_functions actor.entry.job.now) V.stands V.log actor.entry.number
-        (parts_of actor.entry.number (p ∷ []))
-        world.new memory.new frame (K.written sink.old) (K.written sink.new) r result }
+        ActorRunsAt actor.entry V.stands V.log (p ∷ [])
+        (scene world.new memory.new frame (K.written sink.new)) (K.written sink.old) r result }
     ensures reply { (w : World built_in) → V.stands world.old w →
         IfOk result (λ y. y ≡ (call table w actor.entry.number request).1) }
     ensures faults { FaultsAfter (K.faults sink.old) (K.faults sink.new) result }
@@ -157,11 +156,10 @@ fn run_take<V: Versions<P = BuiltIn>, K: Sink>(
     sink: &mut K,
 ) -> Result<(), Stop>
     ensures runs { (frame : Option ℕ) (r : Run) (kind : kind_data) (parent : snapshot_ref) →
-        IsRun (job_functions actor.entry.job.now) V.stands V.log world.old memory.old actor.entry.number frame r →
+        IsActorRun actor.entry V.stands V.log world.old memory.old frame r →
         request_of r.notes (Take name.now kind parent) ≡ Some request →
-        RunsAt (style_of actor.entry) (job_functions actor.entry.job.now) V.stands V.log actor.entry.number
-        (parts_of actor.entry.number (Take name.now kind parent ∷ []))
-        world.new memory.new frame (K.written sink.old) (K.written sink.new) r result }
+        ActorRunsAt actor.entry V.stands V.log (Take name.now kind parent ∷ [])
+        (scene world.new memory.new frame (K.written sink.new)) (K.written sink.old) r result }
     ensures faults { FaultsAfter (K.faults sink.old) (K.faults sink.new) result }
 {
     match make_call(alloc, actor, request, &mut memory.text, world, sink) {
@@ -199,11 +197,10 @@ fn run_add<V: Versions<P = BuiltIn>, K: Sink>(
     sink: &mut K,
 ) -> Result<(), Stop>
     ensures runs { (frame : Option ℕ) (r : Run) (snapshot : snapshot_ref) →
-        IsRun (job_functions actor.entry.job.now) V.stands V.log world.old memory.old actor.entry.number frame r →
+        IsActorRun actor.entry V.stands V.log world.old memory.old frame r →
         snapshot_number r.notes.names snapshot ≡ name →
-        RunsAt (style_of actor.entry) (job_functions actor.entry.job.now) V.stands V.log actor.entry.number
-        (parts_of actor.entry.number (Read snapshot object ∷ WriteSum snapshot object amount ∷ []))
-        world.new memory.new frame (K.written sink.old) (K.written sink.new) r result }
+        ActorRunsAt actor.entry V.stands V.log (Read snapshot object ∷ WriteSum snapshot object amount ∷ [])
+        (scene world.new memory.new frame (K.written sink.new)) (K.written sink.old) r result }
     ensures faults { FaultsAfter (K.faults sink.old) (K.faults sink.new) result }
 {
     let reply = match run_part(
@@ -236,11 +233,10 @@ fn run_single<V: Versions<P = BuiltIn>, K: Sink>(
     sink: &mut K,
 ) -> Result<(), Stop>
     ensures runs { (frame : Option ℕ) (r : Run) (p : Part) → KeepsNames p →
-        IsRun (job_functions actor.entry.job.now) V.stands V.log world.old memory.old actor.entry.number frame r →
+        IsActorRun actor.entry V.stands V.log world.old memory.old frame r →
         request_of r.notes p ≡ Some request →
-        RunsAt (style_of actor.entry) (job_functions actor.entry.job.now) V.stands V.log actor.entry.number
-        (parts_of actor.entry.number (p ∷ []))
-        world.new memory.new frame (K.written sink.old) (K.written sink.new) r result }
+        ActorRunsAt actor.entry V.stands V.log (p ∷ [])
+        (scene world.new memory.new frame (K.written sink.new)) (K.written sink.old) r result }
     ensures faults { FaultsAfter (K.faults sink.old) (K.faults sink.new) result }
 {
     match run_part(alloc, actor, request, memory, world, sink) {
@@ -261,11 +257,10 @@ fn run_write<V: Versions<P = BuiltIn>, K: Sink>(
     sink: &mut K,
 ) -> Result<(), Stop>
     ensures runs { (frame : Option ℕ) (r : Run) (p : Part) → KeepsNames p →
-        IsRun (job_functions actor.entry.job.now) V.stands V.log world.old memory.old actor.entry.number frame r →
+        IsActorRun actor.entry V.stands V.log world.old memory.old frame r →
         request_of r.notes p ≡ Some (request_data.Write name object value.now) →
-        RunsAt (style_of actor.entry) (job_functions actor.entry.job.now) V.stands V.log actor.entry.number
-        (parts_of actor.entry.number (p ∷ []))
-        world.new memory.new frame (K.written sink.old) (K.written sink.new) r result }
+        ActorRunsAt actor.entry V.stands V.log (p ∷ [])
+        (scene world.new memory.new frame (K.written sink.new)) (K.written sink.old) r result }
     ensures faults { FaultsAfter (K.faults sink.old) (K.faults sink.new) result }
 {
     let Ok(value) = value.copy(alloc) else {
@@ -288,10 +283,9 @@ pub fn run_call<V: Versions<P = BuiltIn>, K: Sink>(
     world: &mut V,
     sink: &mut K,
 ) -> Result<(), Stop>
-    ensures runs { (frame : Option ℕ) → RunsParts (style_of actor.entry)
-        (job_functions actor.entry.job.now) V.stands V.log actor.entry.number
-        (parts_of actor.entry.number (call_parts form.now)) world.old world.new memory.old memory.new frame frame
-        (K.written sink.old) (K.written sink.new) result }
+    ensures runs { (frame : Option ℕ) → ActorRuns actor.entry V.stands V.log (call_parts form.now)
+        (scene world.old memory.old frame (K.written sink.old))
+        (scene world.new memory.new frame (K.written sink.new)) result }
     ensures faults { FaultsAfter (K.faults sink.old) (K.faults sink.new) result }
 {
     match form {
@@ -358,10 +352,9 @@ pub fn run_calls<V: Versions<P = BuiltIn>, K: Sink>(
     world: &mut V,
     sink: &mut K,
 ) -> Result<(), Stop>
-    ensures runs { (frame : Option ℕ) → RunsParts (style_of actor.entry)
-        (job_functions actor.entry.job.now) V.stands V.log actor.entry.number
-        (parts_of actor.entry.number (calls_parts forms.now)) world.old world.new memory.old memory.new frame frame
-        (K.written sink.old) (K.written sink.new) result }
+    ensures runs { (frame : Option ℕ) → ActorRuns actor.entry V.stands V.log (calls_parts forms.now)
+        (scene world.old memory.old frame (K.written sink.old))
+        (scene world.new memory.new frame (K.written sink.new)) result }
     ensures faults { FaultsAfter (K.faults sink.old) (K.faults sink.new) result }
 {
     let mut rest = forms;

@@ -3,27 +3,25 @@ ghost use Rattle.std.specs.Prelude.{◌≡◌, ◌≢◌, ◌<◌, ◌++◌, ◌
 ghost use Rattle.std.specs.List.{flat_map};
 ghost use Rattle.std.specs.Option.{option_map};
 ghost use Rattle.rt_values.specs.Maps.{Map, differ};
-ghost use Rattle.rt_values.specs.Views.{Grew};
 ghost use Rattle.rt_groups.specs.PreorderGroups.{preorder};
 ghost use Rattle.rt_groups.specs.Frames.{LastFrame};
-ghost use Rattle.compose_model.specs.Frame.{FrameResult, frame as frame_of, kept_after};
+ghost use Rattle.compose_model.specs.Frame.{FrameResult, kept_after};
 ghost use Rattle.slot_table.specs.TableGroups.{group_at};
 ghost use Rattle.lang_ast.specs.Programs.{functions_of};
 ghost use Rattle.recomposer.specs.Compositions.{IsAt, frame_reads};
+ghost use Rattle.recomposer.specs.FrameContracts.{frame_result, InShownFrames, ComposesShown, AsksOwed};
 ghost use Rattle.snap_policy.specs.declared.policy.BuiltIn.{BuiltIn as built_in};
 ghost use Rattle.snap_policy.specs.Table.{table};
 ghost use Rattle.snap_api.specs.World.{World};
 ghost use Rattle.snap_api.specs.ShownMap.{ShownMap};
 ghost use Rattle.snap_api.specs.Desks.{FollowsLast};
-ghost use Rattle.snap_api.specs.DeskReads.{LogsReadsIn, AreLegal};
 ghost use Rattle.snap_api.specs.declared.data.Reply.TheVariants as reply_data;
 ghost use Rattle.script_lang.specs.StepCalls.{BeginFrame, EndFrame, calls_parts, frame_begun};
 ghost use Rattle.script_lang.specs.Lines.{line, report_line, op_line, frame_lines};
 ghost use Rattle.script_lang.specs.GroupLines.{group_lines, open_after, group_line};
 ghost use Rattle.script_lang.specs.GroupJson.{group_json, json_after_group};
-ghost use Rattle.play_run.specs.RunOutput.{Run, parts_of, parts_lines, parts_after, shown_ops, json_line, shown_groups};
-ghost use Rattle.play_run.specs.RunPromise.{style_of, job_functions};
-ghost use Rattle.play_run.specs.RunState.{HasAsked, IsRun, MadeCalls, LogsFrameReads, RunsParts, StopsAt, flat};
+ghost use Rattle.play_run.specs.RunOutput.{Run, shown_ops, json_line, shown_groups};
+ghost use Rattle.play_run.specs.RunState.{HasAsked, MadeCalls, LogsFrameReads, LogsLegalReads, ComposesForRun, IsActorRun, ActorRuns, ActorStopsAt, scene, actor_lines, after_parts, flat};
 ghost use Rattle.play_run.specs.RunPromise.{WritesBytes, FaultsAfter};
 
 use crate::calls::{JobActor, make_call, run_calls};
@@ -53,23 +51,12 @@ fn recompose<V: View, L: Ledger>(
     steps: &mut Steps<L>,
 ) -> Result<Report, FrameStop>
     ensures keeps { V.keeps view.old view.new }
-    ensures good { (k : LastFrame) (m : Map) → IsAt composition.old k (Some m) → V.shows view.old m →
-        let good = frame_of (functions_of composition.old.program.now) k m in
-        OnOk result (IsAt composition.new (kept_after k good) (Some m)) }
-    ensures report { (k : LastFrame) (m : Map) → IsAt composition.old k (Some m) → V.shows view.old m →
-        IfOk result (λ r. Some r ≡ option_map (λ g. g.told) (frame_of (functions_of composition.old.program.now) k m)) }
-    ensures many { (k : LastFrame) (m : Map) → IsAt composition.old k (Some m) → V.shows view.old m →
-        result ≡ Err FrameStop.TooManyGroups → frame_of (functions_of composition.old.program.now) k m ≡ None }
-    ensures calls { (k : LastFrame) (m : Map) → IsAt composition.old k (Some m) → V.shows view.old m →
-        let good = frame_of (functions_of composition.old.program.now) k m in
-        OnOk result (MadeCalls flags k good composition.new.ops) }
+    ensures frame { ComposesShown composition.old composition.new (V.shows view.old) result }
+    ensures calls { InShownFrames composition.old (V.shows view.old)
+        (λ k m. OnOk result (MadeCalls flags k (frame_result composition.old.program.now k m) composition.new.ops)) }
     ensures err { OnErr result (composition.new ≡ composition.old) }
     ensures no_fault { flags.ops ≡ true → result ≡ Err FrameStop.ApplierFault → ⊥ }
-    ensures program { composition.new.program ≡ composition.old.program }
-    ensures asks { (k : LastFrame) (m : Map) → IsAt composition.old k (Some m) → V.shows view.old m →
-        OnOk result (V.asked view.new ≡ V.asked view.old ++ frame_reads composition.old.program.now k m) }
-    ensures part { (k : LastFrame) (m : Map) → IsAt composition.old k (Some m) → V.shows view.old m →
-        OnErr result (Grew (V.asked view.old) (V.asked view.new) (frame_reads composition.old.program.now k m)) }
+    ensures reads { AsksOwed composition.old (V.shows view.old) (V.asked view.old) (V.asked view.new) result }
 {
     if flags.ops {
         return composition.recompose_with(alloc, view, &mut UnitApplier, steps);
@@ -91,19 +78,9 @@ pub fn compose_in<V: View, L: Ledger>(
     requires parts { blank.parts ≡ L.parts }
     requires some { 0 < L.parts }
     ensures keeps { V.keeps view.old view.new }
-    ensures told { (k : LastFrame) (m : Map) → IsAt composition.old k (Some m) → V.shows view.old m →
-        let good = frame_of (functions_of composition.old.program.now) k m in
-        IfOk result (λ r. r ≡ option_map (λ g. g.told) good) }
-    ensures left { (k : LastFrame) (m : Map) → IsAt composition.old k (Some m) → V.shows view.old m →
-        let good = frame_of (functions_of composition.old.program.now) k m in
-        OnOk result (IsAt composition.new (kept_after k good) (Some m)) }
-    ensures calls { (k : LastFrame) (m : Map) → IsAt composition.old k (Some m) → V.shows view.old m →
-        let good = frame_of (functions_of composition.old.program.now) k m in
-        OnOk result (MadeCalls flags k good composition.new.ops) }
-    ensures asks { (k : LastFrame) (m : Map) → IsAt composition.old k (Some m) → V.shows view.old m →
-        let reads = frame_reads composition.old.program.now k m in
-        IfOk result (λ r. HasAsked (V.asked view.old) (V.asked view.new) reads r) }
-    ensures program { composition.new.program ≡ composition.old.program }
+    ensures frame { ComposesForRun flags composition.old composition.new (V.shows view.old) result }
+    ensures asks { InShownFrames composition.old (V.shows view.old) (λ k m. IfOk result
+        (HasAsked (V.asked view.old) (V.asked view.new) (frame_reads composition.old.program.now k m))) }
     ensures fault { result ≢ Err Stop.WriteFault }
 {
     let (book, share) = blank.open();
@@ -131,26 +108,12 @@ pub fn compose<V: Versions<P = BuiltIn>, L: Ledger>(
     requires parts { blank.parts ≡ L.parts }
     requires some { 0 < L.parts }
     ensures same { (w : World built_in) → V.stands world.old w → V.stands world.new w }
-    ensures told { (k : LastFrame) (m : Map) → ShownMap table (V.stands world.old) caller (Some name) m →
-        IsAt memory.old.composition k (Some m) →
-        let good = frame_of (functions_of memory.old.composition.program.now) k m in
-        IfOk result (λ r. r ≡ option_map (λ g. g.told) good) }
-    ensures left { (k : LastFrame) (m : Map) → ShownMap table (V.stands world.old) caller (Some name) m →
-        IsAt memory.old.composition k (Some m) →
-        let good = frame_of (functions_of memory.old.composition.program.now) k m in
-        OnOk result (IsAt memory.new.composition (kept_after k good) (Some m)) }
-    ensures calls { (k : LastFrame) (m : Map) → ShownMap table (V.stands world.old) caller (Some name) m →
-        IsAt memory.old.composition k (Some m) →
-        let good = frame_of (functions_of memory.old.composition.program.now) k m in
-        OnOk result (MadeCalls flags k good memory.new.composition.ops) }
-    ensures log { (k : LastFrame) (m : Map) → ShownMap table (V.stands world.old) caller (Some name) m →
-        IsAt memory.old.composition k (Some m) →
-        let functions = functions_of memory.old.composition.program.now in
-        OnOk result
-        (LogsFrameReads functions (V.stands world.old) caller name k m (V.log world.old) (V.log world.new)) }
-    ensures reads { (xs : List ℕ) × LogsReadsIn (V.log world.old) (V.log world.new) caller (Some name) xs }
-    ensures legal { AreLegal table (V.stands world.old) (V.log world.old) (V.log world.new) }
-    ensures program { memory.new.composition.program ≡ memory.old.composition.program }
+    ensures frame { ComposesForRun flags memory.old.composition memory.new.composition
+        (ShownMap table (V.stands world.old) caller (Some name)) result }
+    ensures log { InShownFrames memory.old.composition (ShownMap table (V.stands world.old) caller (Some name))
+        (λ k m. OnOk result (LogsFrameReads (functions_of memory.old.composition.program.now) (V.stands world.old)
+        caller name k m (V.log world.old) (V.log world.new))) }
+    ensures reads { LogsLegalReads (V.stands world.old) (V.log world.old) (V.log world.new) caller name }
     ensures names { memory.new.names ≡ memory.old.names }
     ensures fault { result ≢ Err Stop.WriteFault }
 {
@@ -430,20 +393,14 @@ fn begin_frame<V: Versions<P = BuiltIn>, K: Sink>(
     world: &mut V,
     sink: &mut K,
 ) -> Result<Option<Name>, Stop>
-    ensures says { (r : Run) → IsRun (job_functions actor.entry.job.now) V.stands V.log world.old memory.old
-        actor.entry.number None r →
-        WritesBytes (K.written sink.old) (K.written sink.new)
-        (flat (parts_lines (style_of actor.entry) (job_functions actor.entry.job.now) r
-        (parts_of actor.entry.number (BeginFrame ∷ [])))) result }
-    ensures left { (r : Run) → IsRun (job_functions actor.entry.job.now) V.stands V.log world.old memory.old
-        actor.entry.number None r →
-        IfOk result (λ o. IsRun (job_functions actor.entry.job.now) V.stands V.log world.new memory.new
-        actor.entry.number o
-        (parts_after (job_functions actor.entry.job.now) r (parts_of actor.entry.number (BeginFrame ∷ [])))) }
-    ensures stops { (r : Run) → IsRun (job_functions actor.entry.job.now) V.stands V.log world.old memory.old
-        actor.entry.number None r →
-        OnErr result (StopsAt (style_of actor.entry) (job_functions actor.entry.job.now)
-        (parts_of actor.entry.number (BeginFrame ∷ [])) (V.log world.new) (K.written sink.old) (K.written sink.new) r) }
+    ensures says { (r : Run) → IsActorRun actor.entry V.stands V.log world.old memory.old None r →
+        WritesBytes (K.written sink.old) (K.written sink.new) (actor_lines actor.entry (BeginFrame ∷ []) r) result }
+    ensures left { (r : Run) → IsActorRun actor.entry V.stands V.log world.old memory.old None r →
+        IfOk result (λ frame. IsActorRun actor.entry V.stands V.log world.new memory.new frame
+        (after_parts actor.entry (BeginFrame ∷ []) r)) }
+    ensures stops { (r : Run) → IsActorRun actor.entry V.stands V.log world.old memory.old None r →
+        OnErr result (ActorStopsAt actor.entry (BeginFrame ∷ []) (V.log world.new)
+        (K.written sink.old) (K.written sink.new) r) }
     ensures faults { FaultsAfter (K.faults sink.old) (K.faults sink.new) result }
 {
     let request = Request::TakeFor { watcher: WATCHER };
@@ -463,10 +420,9 @@ pub fn finish_frame<V: Versions<P = BuiltIn>, K: Sink>(
     world: &mut V,
     sink: &mut K,
 ) -> Result<(), Stop>
-    ensures runs { RunsParts (style_of actor.entry) (job_functions actor.entry.job.now) V.stands V.log
-        actor.entry.number
-        (parts_of actor.entry.number (EndFrame ∷ [])) world.old world.new memory.old memory.new (Some name) None
-        (K.written sink.old) (K.written sink.new) result }
+    ensures runs { ActorRuns actor.entry V.stands V.log (EndFrame ∷ [])
+        (scene world.old memory.old (Some name) (K.written sink.old))
+        (scene world.new memory.new None (K.written sink.new)) result }
     ensures faults { FaultsAfter (K.faults sink.old) (K.faults sink.new) result }
 {
     let composed = compose::<V, Brand>(
@@ -510,10 +466,9 @@ fn end_frame<V: Versions<P = BuiltIn>, K: Sink>(
     world: &mut V,
     sink: &mut K,
 ) -> Result<(), Stop>
-    ensures runs { RunsParts (style_of actor.entry) (job_functions actor.entry.job.now) V.stands V.log
-        actor.entry.number
-        (parts_of actor.entry.number (EndFrame ∷ [])) world.old world.new memory.old memory.new frame None
-        (K.written sink.old) (K.written sink.new) result }
+    ensures runs { ActorRuns actor.entry V.stands V.log (EndFrame ∷ [])
+        (scene world.old memory.old frame (K.written sink.old))
+        (scene world.new memory.new None (K.written sink.new)) result }
     ensures faults { FaultsAfter (K.faults sink.old) (K.faults sink.new) result }
 {
     match frame {
@@ -533,10 +488,9 @@ pub fn run_frame<V: Versions<P = BuiltIn>, K: Sink>(
     world: &mut V,
     sink: &mut K,
 ) -> Result<(), Stop>
-    ensures runs { RunsParts (style_of actor.entry) (job_functions actor.entry.job.now) V.stands V.log
-        actor.entry.number
-        (parts_of actor.entry.number (BeginFrame ∷ (calls_parts during.now ++ EndFrame ∷ [])))
-        world.old world.new memory.old memory.new None None (K.written sink.old) (K.written sink.new) result }
+    ensures runs { ActorRuns actor.entry V.stands V.log (BeginFrame ∷ (calls_parts during.now ++ EndFrame ∷ []))
+        (scene world.old memory.old None (K.written sink.old))
+        (scene world.new memory.new None (K.written sink.new)) result }
     ensures faults { FaultsAfter (K.faults sink.old) (K.faults sink.new) result }
 {
     let frame = match begin_frame(alloc, actor, memory, world, sink) {

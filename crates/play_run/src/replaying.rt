@@ -1,11 +1,10 @@
 // The lines of a history, written from its calls and their replies.
 ghost use Rattle.std.specs.Prelude.{◌≡◌, ◌≢◌, ◌∷◌, [], zero, false, Option, Some, None, Err, IfOk, OnOk};
 ghost use Rattle.std.specs.Option.{option_map};
-ghost use Rattle.rt_values.specs.Maps.{Map};
-ghost use Rattle.rt_groups.specs.Frames.{LastFrame, no_last_frame};
-ghost use Rattle.compose_model.specs.Frame.{frame as frame_at, kept_after};
-ghost use Rattle.lang_ast.specs.Programs.{functions_of};
+ghost use Rattle.rt_groups.specs.Frames.{no_last_frame};
+ghost use Rattle.compose_model.specs.Frame.{kept_after};
 ghost use Rattle.recomposer.specs.Compositions.{IsAt};
+ghost use Rattle.recomposer.specs.FrameContracts.{frame_result, InShownFrames};
 ghost use Rattle.snap_policy.specs.Table.{table};
 ghost use Rattle.snap_api.specs.World.{IsLegal};
 ghost use Rattle.script_lang.specs.StepCalls.{opening_world};
@@ -13,10 +12,9 @@ ghost use Rattle.script_lang.specs.Lines.{Standing, initial_standing, lines, fra
 ghost use Rattle.woven_laws.specs.FramesInTurn.{AreInTurn};
 ghost use Rattle.woven_laws.specs.PrintedHistory.{printed_history};
 ghost use Rattle.play_run.specs.RunPromise.{WritesBytes, FaultsAfter, job_style, job_functions};
-ghost use Rattle.play_run.specs.RunState.{MadeCalls, flat};
-ghost use Rattle.play_run.specs.RecordedReads.{AgreesWith};
+ghost use Rattle.play_run.specs.RunState.{ComposesForRun, flat};
 ghost use Rattle.play_run.specs.CallsInFrames.{frame_by, is_frame_read, object_asked, value_given, IsInTurn};
-ghost use Rattle.play_run.specs.ReplayState.{as_open, frame_of, IsAnswered, IsReplay, PlaysCall};
+ghost use Rattle.play_run.specs.ReplayState.{as_open, frame_of, IsAnswered, IsRecordedMap, IsReplay, PlaysCall};
 
 use crate::calls::write_call;
 use crate::frame::{compose_in, note_frame, write_frame};
@@ -121,19 +119,8 @@ pub fn compose_recorded(
     flags: Flags,
     memory: &mut ReplayMemory,
 ) -> Result<Option<Report>, Stop>
-    ensures told { (k : LastFrame) (m : Map) → IsAt memory.old.composition k (Some m) →
-        AgreesWith m memory.old.reads.reads.items → memory.old.reads.given ≡ zero →
-        let good = frame_at (functions_of memory.old.composition.program.now) k m in
-        IfOk result (λ r. r ≡ option_map (λ g. g.told) good) }
-    ensures left { (k : LastFrame) (m : Map) → IsAt memory.old.composition k (Some m) →
-        AgreesWith m memory.old.reads.reads.items → memory.old.reads.given ≡ zero →
-        let good = frame_at (functions_of memory.old.composition.program.now) k m in
-        OnOk result (IsAt memory.new.composition (kept_after k good) (Some m)) }
-    ensures calls { (k : LastFrame) (m : Map) → IsAt memory.old.composition k (Some m) →
-        AgreesWith m memory.old.reads.reads.items → memory.old.reads.given ≡ zero →
-        let good = frame_at (functions_of memory.old.composition.program.now) k m in
-        OnOk result (MadeCalls flags k good memory.new.composition.ops) }
-    ensures program { memory.new.composition.program ≡ memory.old.composition.program }
+    ensures frame { ComposesForRun flags memory.old.composition memory.new.composition
+        (IsRecordedMap memory.old.reads) result }
     ensures reads { memory.new.reads.reads.items ≡ [] }
     ensures given { memory.new.reads.given ≡ zero }
     ensures fault { result ≢ Err Stop.WriteFault }
@@ -156,14 +143,11 @@ fn compose_again<K: Sink>(
     memory: &mut ReplayMemory,
     sink: &mut K,
 ) -> Result<(), Stop>
-    ensures says { (k : LastFrame) (m : Map) → IsAt memory.old.composition k (Some m) →
-        AgreesWith m memory.old.reads.reads.items → memory.old.reads.given ≡ zero →
-        let good = frame_at (functions_of memory.old.composition.program.now) k m in
-        WritesBytes (K.written sink.old) (K.written sink.new) (flat (frame_lines flags k good)) result }
-    ensures left { (k : LastFrame) (m : Map) → IsAt memory.old.composition k (Some m) →
-        AgreesWith m memory.old.reads.reads.items → memory.old.reads.given ≡ zero →
-        let good = frame_at (functions_of memory.old.composition.program.now) k m in
-        OnOk result (IsAt memory.new.composition (kept_after k good) (Some m)) }
+    ensures says { InShownFrames memory.old.composition (IsRecordedMap memory.old.reads)
+        (λ k m. WritesBytes (K.written sink.old) (K.written sink.new)
+        (flat (frame_lines flags k (frame_result memory.old.composition.program.now k m))) result) }
+    ensures left { InShownFrames memory.old.composition (IsRecordedMap memory.old.reads) (λ k m. OnOk result
+        (IsAt memory.new.composition (kept_after k (frame_result memory.old.composition.program.now k m)) (Some m))) }
     ensures program { memory.new.composition.program ≡ memory.old.composition.program }
     ensures reads { memory.new.reads.reads.items ≡ [] }
     ensures given { memory.new.reads.given ≡ zero }

@@ -5,10 +5,9 @@ ghost use Rattle.lang_ast.specs.declared.program.State.{State as state_data};
 ghost use Rattle.script_lang.specs.Scripts.{index_of, written_out, times_of, repeated_steps};
 ghost use Rattle.script_lang.specs.StepCalls.{step_parts, steps_parts, script_parts};
 ghost use Rattle.script_lang.specs.Lines.{run_text};
-ghost use Rattle.play_run.specs.RunOutput.{Run, parts_of};
-ghost use Rattle.play_run.specs.RunPromise.{job_titles, job_style, style_of, job_functions};
+ghost use Rattle.play_run.specs.RunPromise.{job_titles, job_style, job_functions};
 ghost use Rattle.play_run.specs.RunLog.{LogsRun, StopsRun};
-ghost use Rattle.play_run.specs.RunState.{RunsParts, flat};
+ghost use Rattle.play_run.specs.RunState.{RunsParts, ActorRuns, scene};
 ghost use Rattle.play_run.specs.RunPromise.{WritesBytes, FaultsAfter};
 
 use crate::calls::{JobActor, run_call};
@@ -34,10 +33,9 @@ fn run_step<V: Versions<P = BuiltIn>, K: Sink>(
     world: &mut V,
     sink: &mut K,
 ) -> Result<(), Stop>
-    ensures runs { RunsParts (style_of actor.entry) (job_functions actor.entry.job.now) V.stands V.log
-        actor.entry.number
-        (parts_of actor.entry.number (step_parts step.now)) world.old world.new memory.old memory.new None None
-        (K.written sink.old) (K.written sink.new) result }
+    ensures runs { ActorRuns actor.entry V.stands V.log (step_parts step.now)
+        (scene world.old memory.old None (K.written sink.old))
+        (scene world.new memory.new None (K.written sink.new)) result }
     ensures faults { FaultsAfter (K.faults sink.old) (K.faults sink.new) result }
 {
     match step {
@@ -58,10 +56,9 @@ fn run_steps<V: Versions<P = BuiltIn>, K: Sink>(
     world: &mut V,
     sink: &mut K,
 ) -> Result<(), Stop>
-    ensures runs { RunsParts (style_of actor.entry) (job_functions actor.entry.job.now) V.stands V.log
-        actor.entry.number
-        (parts_of actor.entry.number (steps_parts steps.now)) world.old world.new memory.old memory.new None None
-        (K.written sink.old) (K.written sink.new) result }
+    ensures runs { ActorRuns actor.entry V.stands V.log (steps_parts steps.now)
+        (scene world.old memory.old None (K.written sink.old))
+        (scene world.new memory.new None (K.written sink.new)) result }
     ensures faults { FaultsAfter (K.faults sink.old) (K.faults sink.new) result }
 {
     let mut rest = steps;
@@ -91,11 +88,9 @@ fn run_repeat<V: Versions<P = BuiltIn>, K: Sink>(
     world: &mut V,
     sink: &mut K,
 ) -> Result<(), Stop>
-    ensures runs { RunsParts (style_of actor.entry) (job_functions actor.entry.job.now) V.stands V.log
-        actor.entry.number
-        (parts_of actor.entry.number (steps_parts (repeated_steps times steps.now))) world.old world.new memory.old
-        memory.new None None
-        (K.written sink.old) (K.written sink.new) result }
+    ensures runs { ActorRuns actor.entry V.stands V.log (steps_parts (repeated_steps times steps.now))
+        (scene world.old memory.old None (K.written sink.old))
+        (scene world.new memory.new None (K.written sink.new)) result }
     ensures faults { FaultsAfter (K.faults sink.old) (K.faults sink.new) result }
 {
     let mut left = times;
@@ -117,11 +112,9 @@ fn run_form<V: Versions<P = BuiltIn>, K: Sink>(
     world: &mut V,
     sink: &mut K,
 ) -> Result<(), Stop>
-    ensures runs { RunsParts (style_of actor.entry) (job_functions actor.entry.job.now) V.stands V.log
-        actor.entry.number
-        (parts_of actor.entry.number (steps_parts (written_out (form.now ∷ [])))) world.old world.new memory.old
-        memory.new None None
-        (K.written sink.old) (K.written sink.new) result }
+    ensures runs { ActorRuns actor.entry V.stands V.log (steps_parts (written_out (form.now ∷ [])))
+        (scene world.old memory.old None (K.written sink.old))
+        (scene world.new memory.new None (K.written sink.new)) result }
     ensures faults { FaultsAfter (K.faults sink.old) (K.faults sink.new) result }
 {
     match form {
@@ -147,11 +140,9 @@ fn run_forms<V: Versions<P = BuiltIn>, K: Sink>(
     world: &mut V,
     sink: &mut K,
 ) -> Result<(), Stop>
-    ensures runs { RunsParts (style_of actor.entry) (job_functions actor.entry.job.now) V.stands V.log
-        actor.entry.number
-        (parts_of actor.entry.number (steps_parts (written_out forms.now))) world.old world.new memory.old memory.new
-        None None
-        (K.written sink.old) (K.written sink.new) result }
+    ensures runs { ActorRuns actor.entry V.stands V.log (steps_parts (written_out forms.now))
+        (scene world.old memory.old None (K.written sink.old))
+        (scene world.new memory.new None (K.written sink.new)) result }
     ensures faults { FaultsAfter (K.faults sink.old) (K.faults sink.new) result }
 {
     let mut rest = forms;

@@ -1,11 +1,8 @@
 -- How a composed frame ends.
 use Rattle.std.proofs.Common.{◌≡◌, ℕ, ◌≤◌, List, [], length, refl, sym, ap, ◌∙◌, subst, Option, Some, None, Err, Ok, arith}
-use Rattle.std.specs.Option.{option_map}
 use Rattle.rt_streams.specs.Streams.{Rose}
 use Rattle.rt_groups.specs.declared.report.Report.{Report}
-use Rattle.compose_model.specs.Frame.{frame, kept_after}
 use Rattle.composer.specs.FrameDrafts.{DraftGroups}
-use Rattle.lang_ast.specs.Programs.{functions_of}
 use Rattle.node_tree.specs.Calls.{BecomesAfter}
 use Rattle.node_tree.specs.declared.ops.Op.{Op}
 use Rattle.node_tree.specs.NodeTrees.{CursorTree}
@@ -13,23 +10,10 @@ use Rattle.recomposer.specs.declared.composition.Composition.{Composition}
 use Rattle.recomposer.specs.declared.composition.FrameStop.TheVariants.{ApplierFault, NoMemory}
 use Rattle.recomposer.specs.AppliedFrames.{Applies, kept_after_fault, ops_of}
 use Rattle.recomposer.specs.Compositions.{IsAt}
-use Rattle.recomposer.specs.FrameEnds.{InFrames, EndsComposed}
+use Rattle.recomposer.specs.FrameContracts.{KeepsSettings, frame_result}
+use Rattle.recomposer.specs.FrameEnds.{InFrames, AreCalls, KeepsGroups, IsReport, EndsComposed}
 use Rattle.recomposer.proofs.Frames.{no_calls, frame_applies, none_applies, idle_applies, detached_after}
 use Rattle.recomposer.proofs.Stops.{good_not_err, memory_not_fault, memory_not_many, memory_not_spent, fault_not_many, fault_not_spent}
-
--- `calls` are the calls on the applier of the frames that composed `composed`.
-abbrev pub AreCalls : Composition → Option DraftGroups → List Op → Type 0
-AreCalls c composed calls = InFrames c composed (λ k m. calls ≡ ops_of k (frame (functions_of c.program.now) k m))
-
--- The composition `c'` has kept the groups of the frames that composed `composed`.
-abbrev pub KeepsGroups : Composition → Option DraftGroups → Composition → Type 0
-KeepsGroups c composed c' =
-    InFrames c composed (λ k m. IsAt c' (kept_after k (frame (functions_of c.program.now) k m)) (Some m))
-
--- `report` is the report of the frames that composed `composed`.
-abbrev pub IsReport : Composition → Option DraftGroups → Report → Type 0
-IsReport c composed report =
-    InFrames c composed (λ k m. Some report ≡ option_map (λ g. g.told) (frame (functions_of c.program.now) k m))
 
 -- A draft is there.
 pub not_none : {A : Type 0} (d : DraftGroups) → Some d ≡ None → A
@@ -38,7 +22,7 @@ not_none d none = absurd cc
 -- Out of memory, the composition and the tree stay. The applier is unchanged if there was no call to make.
 pub ends_without_memory : (c : Composition) (composed : Option DraftGroups) (tree tree' : Option CursorTree)
     (faults faults' : ℕ) (untouched : Type 0) → tree' ≡ tree → faults' ≡ faults
-    → InFrames c composed (λ k m. ops_of k (frame (functions_of c.program.now) k m) ≡ [] → untouched)
+    → InFrames c composed (λ k m. ops_of k (frame_result c.program.now k m) ≡ [] → untouched)
     → (composed ≡ None → untouched) → EndsComposed c c composed tree tree' faults faults' untouched (Err NoMemory)
 ends_without_memory c composed tree tree' faults faults' untouched same counted unchanged idle = record {
   good = λ k m h made. tt;
@@ -55,18 +39,17 @@ ends_without_memory c composed tree tree' faults faults' untouched same counted 
   idle = λ none. (idle none, tt);
   few = λ stop. memory_not_many stop;
   not_spent = λ stop. memory_not_spent stop;
-  program = refl;
-  watcher = refl;
+  settings = record { program = refl; watcher = refl };
 }
 
 -- A frame is good. The applier is unchanged if the frame made no call.
 module _ (c c' : Composition) (composed : Option DraftGroups) (tree tree' : Option CursorTree) (faults faults' : ℕ)
-    (untouched : Type 0) (report : Report) (program : c'.program ≡ c.program) (watcher : c'.watcher ≡ c.watcher)
+    (untouched : Type 0) (report : Report) (settings : KeepsSettings c c')
     (good : KeepsGroups c composed c') (told : IsReport c composed report) where
   ends_well : faults ≤ faults'
-      → InFrames c composed (λ k m. Applies tree tree' c'.ops k (frame (functions_of c.program.now) k m))
+      → InFrames c composed (λ k m. Applies tree tree' c'.ops k (frame_result c.program.now k m))
       → (c'.ops ≡ [] → untouched)
-      → InFrames c composed (λ k m. ops_of k (frame (functions_of c.program.now) k m) ≡ [] → c'.ops ≡ [])
+      → InFrames c composed (λ k m. ops_of k (frame_result c.program.now k m) ≡ [] → c'.ops ≡ [])
       → (composed ≡ None → c'.ops ≡ [])
       → EndsComposed c c' composed tree tree' faults faults' untouched (Ok report)
   ends_well later applied uncalled unchanged idle = record {
@@ -84,28 +67,27 @@ module _ (c c' : Composition) (composed : Option DraftGroups) (tree tree' : Opti
     idle = λ none. let empty = idle none in (uncalled empty, empty);
     few = λ stop. good_not_err stop;
     not_spent = λ stop. good_not_err stop;
-    program = program;
-    watcher = watcher;
+    settings = settings;
   }
 
 -- A frame that owes nothing makes no call.
 pub ends_idle : (c c' : Composition) (tree : Option CursorTree) (faults : ℕ) (untouched : Type 0) (report : Report)
-    → c'.program ≡ c.program → c'.watcher ≡ c.watcher → KeepsGroups c None c' → IsReport c None report → untouched
+    → KeepsSettings c c' → KeepsGroups c None c' → IsReport c None report → untouched
     → c'.ops ≡ [] → EndsComposed c c' None tree tree faults faults untouched (Ok report)
-ends_idle c c' tree faults untouched report program watcher good told still none =
-    ends_well c c' None tree tree faults faults untouched report program watcher good told (omega arith)
-    (λ k m h owed. subst (λ (l : List Op). Applies tree tree l k (frame (functions_of c.program.now) k m)) (sym none)
+ends_idle c c' tree faults untouched report settings good told still none =
+    ends_well c c' None tree tree faults faults untouched report settings good told (omega arith)
+    (λ k m h owed. subst (λ (l : List Op). Applies tree tree l k (frame_result c.program.now k m)) (sym none)
     (idle_applies c k m h owed.0 owed.1 tree))
     (λ e. still) (λ k m h owed e. none) (λ e. none)
 
 -- A draft is kept that needs no call.
 pub ends_uncalled : (c c' : Composition) (d : DraftGroups) (tree : Option CursorTree) (faults : ℕ) (untouched : Type 0)
     (report : Report) (calls : List Op)
-    → c'.program ≡ c.program → c'.watcher ≡ c.watcher → KeepsGroups c (Some d) c' → IsReport c (Some d) report
+    → KeepsSettings c c' → KeepsGroups c (Some d) c' → IsReport c (Some d) report
     → untouched → c'.ops ≡ calls → calls ≡ [] → AreCalls c (Some d) calls
     → EndsComposed c c' (Some d) tree tree faults faults untouched (Ok report)
-ends_uncalled c c' d tree faults untouched report calls program watcher good told still kept none are =
-    ends_well c c' (Some d) tree tree faults faults untouched report program watcher good told (omega arith)
+ends_uncalled c c' d tree faults untouched report calls settings good told still kept none are =
+    ends_well c c' (Some d) tree tree faults faults untouched report settings good told (omega arith)
     (λ k m h made. none_applies c k m d h made.1 tree c'.ops calls kept (ap (λ (l : List Op). length l) none)
     (are k m h made))
     (λ e. still) (λ k m h made e. kept ∙ none) (λ e. kept ∙ none)
@@ -113,12 +95,12 @@ ends_uncalled c c' d tree faults untouched report calls program watcher good tol
 -- A draft is kept after its calls.
 pub ends_called : (c c' : Composition) (d : DraftGroups) (tree mid tree' : Option CursorTree) (faults faults' : ℕ)
     (untouched : Type 0) (report : Report) (ops calls : List Op)
-    → c'.program ≡ c.program → c'.watcher ≡ c.watcher → KeepsGroups c (Some d) c' → IsReport c (Some d) report
+    → KeepsSettings c c' → KeepsGroups c (Some d) c' → IsReport c (Some d) report
     → faults ≤ faults' → mid ≡ tree → BecomesAfter mid tree' calls → calls ≡ ops → c'.ops ≡ ops → (ops ≡ [] → ⊥)
     → AreCalls c (Some d) ops → EndsComposed c c' (Some d) tree tree' faults faults' untouched (Ok report)
-ends_called c c' d tree mid tree' faults faults' untouched report ops calls program watcher good told later same
+ends_called c c' d tree mid tree' faults faults' untouched report ops calls settings good told later same
     becomes copied kept some are =
-    ends_well c c' (Some d) tree tree' faults faults' untouched report program watcher good told later
+    ends_well c c' (Some d) tree tree' faults faults' untouched report settings good told later
     (λ k m h made. frame_applies c k m d h made.1 tree mid tree' c'.ops calls same becomes (copied ∙ sym kept)
     (kept ∙ are k m h made))
     (λ e. absurd (some (sym kept ∙ e))) (λ k m h made e. kept ∙ are k m h made ∙ e)
@@ -127,12 +109,12 @@ ends_called c c' d tree mid tree' faults faults' untouched report ops calls prog
 -- A call on the applier failed, and the composition is detached.
 pub ends_with_fault : (c c' : Composition) (d : DraftGroups) (tree tree' : Option CursorTree) (faults faults' : ℕ)
     (untouched : Type 0) (ops : List Op)
-    → c'.program ≡ c.program → c'.watcher ≡ c.watcher → c'.ops ≡ c.ops
+    → KeepsSettings c c' → c'.ops ≡ c.ops
     → InFrames c (Some d)
-    (λ k m. IsAt c' (kept_after_fault k (frame (functions_of c.program.now) k m)) (Some m))
+    (λ k m. IsAt c' (kept_after_fault k (frame_result c.program.now k m)) (Some m))
     → faults ≤ faults' → Rose faults faults' → (ops ≡ [] → ⊥) → AreCalls c (Some d) ops
     → EndsComposed c c' (Some d) tree tree' faults faults' untouched (Err ApplierFault)
-ends_with_fault c c' d tree tree' faults faults' untouched ops program watcher lent fault later rose some are = record {
+ends_with_fault c c' d tree tree' faults faults' untouched ops settings lent fault later rose some are = record {
   good = λ k m h made. tt;
   report = λ k m h made. tt;
   applied = λ k m h made. tt;
@@ -148,6 +130,5 @@ ends_with_fault c c' d tree tree' faults faults' untouched ops program watcher l
   idle = not_none d;
   few = λ stop. fault_not_many stop;
   not_spent = λ stop. fault_not_spent stop;
-  program = program;
-  watcher = watcher;
+  settings = settings;
 }

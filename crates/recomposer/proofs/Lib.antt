@@ -8,3 +8,4 @@ pub mod FrameEnds
 pub mod QuietFrames
 pub mod Logs
 pub mod Draws
+pub mod ShownFrames

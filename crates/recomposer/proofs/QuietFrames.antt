@@ -1,5 +1,5 @@
 -- A frame in which no call is owed changes nothing.
-use Rattle.std.proofs.Common.{ℕ, ◌-◌, ◌^◌, ◌≤◌, min, List, [], ◌++◌, ◌≡◌, refl, ap, ◌∙◌, sym, subst, length, append-nil, Bool, true, false, if◌then◌else◌, Option, Some, None, Result, Ok, Err, OnOk, take, arith}
+use Rattle.std.proofs.Common.{ℕ, ◌-◌, ◌^◌, ◌≤◌, min, List, [], ◌++◌, ◌≡◌, refl, ap, ◌∙◌, sym, subst, length, append-nil, Bool, true, false, if◌then◌else◌, Option, Some, None, take, arith}
 use Rattle.std.specs.Option.{is_none}
 use Rattle.rt_values.specs.Maps.{Map, differ}
 use Rattle.rt_groups.specs.declared.report.Report.{Report}
@@ -28,7 +28,6 @@ use Rattle.lang_checks.specs.CheckedProgram.{IsChecked}
 use Rattle.recomposer.specs.declared.composition.Composition.{Composition}
 use Rattle.recomposer.specs.AppliedFrames.{ops_of}
 use Rattle.node_tree.specs.FrameOps.{frame_ops}
-use Rattle.recomposer.specs.declared.composition.FrameStop.{FrameStop}
 use Rattle.recomposer.specs.Compositions.{IsKept, Owes, IsAt, frame_reads, OwesNoCall, seen_again, ChangesNothing}
 use Rattle.recomposer.proofs.Applied.{usual_ops}
 use Rattle.recomposer.proofs.Frames.{good_is, groups_counted, nodes_counted}
@@ -202,11 +201,3 @@ module _ (p : Program) (k : LastFrame) (m : Map) (nothing : ChangesNothing p k m
   pub quiet_kept : (c : Composition) → IsAt c (kept_after k (frame (functions_of p) k m)) (Some m)
       → IsAt c (seen_again k m) (Some m)
   quiet_kept c good = subst (λ (o : Option FrameResult). IsAt c (kept_after k o) (Some m)) nothing.is good
-
-  pub quiet_ends : {U Same : Type 0} (c : Composition) (asked asked' : List ℕ) (r : Result U FrameStop)
-      → Same × OnOk r (c.ops ≡ []) → asked' ≡ asked ++ frame_reads p k m →
-      OnOk r (IsAt c (kept_after k (frame (functions_of p) k m)) (Some m))
-      → Same × OnOk r ((c.ops ≡ []) × (asked' ≡ asked) × IsAt c (seen_again k m) (Some m))
-  quiet_ends c asked asked' (Ok u) calls reads good =
-      (calls.0, (calls.1, quiet_reads asked asked' reads, quiet_kept c good))
-  quiet_ends c asked asked' (Err e) calls reads good = (calls.0, tt)

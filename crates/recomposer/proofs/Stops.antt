@@ -55,6 +55,16 @@ pub on_good : {U E X : Type 0} (r : Result U E) (u : U) → r ≡ Ok u → OnOk 
 on_good (Ok v) u is x = x
 on_good (Err e) u is x = err_not_good is
 
+-- What holds of a known good result, and what stays of a good one after a step that may stop.
+pub if_good : {U E : Type 0} (P : U → Type 0) (r : Result U E) (u : U) → r ≡ Ok u → P u → IfOk r P
+if_good P (Ok v) u is p = subst P (sym (same_good is)) p
+if_good P (Err e) u is p = err_not_good is
+
+pub if_then : {U E F : Type 0} (X : Type 0) (P : U → Type 0) (r : Result U E) (q : Result U F)
+    → IfOk q (λ u. (r ≡ Ok u) × X) → IfOk r P → IfOk q P
+if_then X P r (Ok u) both p = when_ok P r u both.0 p
+if_then X P r (Err e) both p = tt
+
 pub good_not_err : {U E A : Type 0} {u : U} {e : E} → Ok u ≡ Err e → A
 good_not_err is = absurd cc
 

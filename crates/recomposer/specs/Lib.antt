@@ -1,4 +1,5 @@
 pub mod AppliedFrames
 pub mod Compositions
+pub mod FrameContracts
 pub mod Composed
 pub mod FrameEnds

@@ -1,23 +1,21 @@
 // A composition of one program, frame by frame.
-ghost use Rattle.std.specs.Prelude.{◌≡◌, ◌≤◌, ◌<◌, ◌++◌, [], ℕ, List, Option, Some, None, Ok, Err, true, IfOk, IfErr, OnOk, OnErr, IsOk, IsTrue, length, slice_get};
-ghost use Rattle.std.specs.Option.{option_map, unwrap_or};
+ghost use Rattle.std.specs.Prelude.{◌≡◌, ◌≤◌, ◌<◌, [], ℕ, List, Option, Some, None, Ok, Err, IfOk, IfErr, OnOk, OnErr, IsOk, IsTrue, length, slice_get};
+ghost use Rattle.std.specs.Option.{unwrap_or};
 ghost use Rattle.rt_values.specs.Maps.{Map, differ, differs, entry_at};
-ghost use Rattle.rt_values.specs.Views.{Grew};
 ghost use Rattle.rt_values.specs.declared.value.Ty.{Ty};
 ghost use Rattle.rt_groups.specs.Frames.{LastFrame, no_last_frame, is_detached};
 ghost use Rattle.rt_groups.specs.PreorderGroups.{preorder};
-ghost use Rattle.compose_model.specs.Frame.{frame as frame_of, kept_after};
 ghost use Rattle.composer.specs.FrameDrafts.{DraftGroups};
-ghost use Rattle.lang_ast.specs.Programs.{functions_of};
-ghost use Rattle.snap_api.specs.Calls.{Calls, Logs};
+ghost use Rattle.snap_api.specs.Calls.{Calls};
 ghost use Rattle.snap_api.specs.Desks.{FollowsLast};
 ghost use Rattle.snap_api.specs.World.{World};
 ghost use Rattle.node_tree.specs.Calls.{insert_count};
 ghost use Rattle.recompose_scopes.specs.Scopes.{AreScopesOf, own_reads};
-ghost use Rattle.recomposer.specs.AppliedFrames.{MayCall, Applies, UnlessFault, FaultHasCause, OwesNothing, kept_after_fault, ops_of};
+ghost use Rattle.recomposer.specs.AppliedFrames.{MayCall, Applies, OwesNothing, kept_after_fault, ops_of};
 ghost use Rattle.recomposer.specs.Composed.{IsComposed, IsForHeld};
-ghost use Rattle.recomposer.specs.FrameEnds.{InFrames, EndsComposed};
-ghost use Rattle.recomposer.specs.Compositions.{IsAt, StopsAtEnd, refused_take, frame_reads, BeginsFrame, EndsFrame, EndsPart, ClosesFrame, GrowsFor, MakesFrame, MakesNoFrame, MakesReads, OwesNoCall, seen_again, LogsFrame, LogsNoFrame, world_of_frame};
+ghost use Rattle.recomposer.specs.Compositions.{IsAt, StopsAtEnd, GrowsFor, MakesFrame, MakesNoFrame, LogsNoFrame, world_of_frame};
+ghost use Rattle.recomposer.specs.FrameContracts.{frame_result, InShownFrames, InWatchedFrames, KnowsLast, KeepsSettings, KeepsCalls, ComposesShown, LeavesApplier, DrivesApplier, AsksOwed, LogsEnd, IsSameDesk, KeepsDesk, BeginsShown, StopsBefore, CallsAndLogs, RepliesToTake, ReadsInFrame, LogsCalls};
+ghost use Rattle.recomposer.specs.FrameEnds.{InFrames, AreCalls, KeepsGroups, IsReport, StopsUncomposed, EndsComposed};
 
 use composer::{ComposeStop, Draft, Held, Owed, compose};
 use lang_checks::Checked;
@@ -191,9 +189,7 @@ impl<'p> Composition<'p> {
     pub fn note(&mut self, changed: &[ObjectNo])
         ensures noted { (k : LastFrame) (l : Option Map) (m : Map) → IsAt self.old k l → FollowsLast l m →
             changed.now ≡ differ l m → IsAt self.new k (Some m) }
-        ensures program { self.new.program ≡ self.old.program }
-        ensures watcher { self.new.watcher ≡ self.old.watcher }
-        ensures ops { self.new.ops ≡ self.old.ops }
+        ensures calls { KeepsCalls self.old self.new }
     {
         self.owed.mark(changed);
     }
@@ -201,34 +197,17 @@ impl<'p> Composition<'p> {
     /// Begins a frame: takes its snapshot, and marks the states that changed since the last frame as owed. Fails with
     /// `Spent` exactly if the world's clock is at its limit, or out of memory, and then changes nothing.
     pub fn begin<D: Desk>(&mut self, alloc: Global, desk: &mut D) -> Result<Begun, FrameStop>
-        ensures good { (k : LastFrame) (types : List Ty) (l : Option Map) → IsAt self.old k l →
-            D.last desk.old self.old.watcher types l → D.alone desk.new self.old.watcher →
-            IfOk result (λ b. BeginsFrame (IsAt self.new k) (D.shows desk.new)
-            (D.last desk.new self.old.watcher types) l b.name b.changed) }
-        ensures err { OnErr result (self.new ≡ self.old) }
-        ensures last { (types : List Ty) (l : Option Map) → D.last desk.old self.old.watcher types l →
-            D.alone desk.new self.old.watcher → OnErr result (D.last desk.new self.old.watcher types l) }
+        ensures frame { BeginsShown self.old self.new (D.shows desk.new) (D.last desk.old self.old.watcher)
+            (D.last desk.new self.old.watcher) (D.alone desk.new self.old.watcher) result }
+        ensures stops { StopsBefore self.old self.new result }
         ensures spent { (k : ℕ) → D.clock desk.old k → StopsAtEnd (D.clock desk.new) k result }
-        ensures refused { (types : List Ty) (l : Option Map) → D.last desk.old self.old.watcher types l →
-            D.alone desk.new self.old.watcher →
-            IfErr result (λ stop. Calls D.P.rules (D.behind desk.old) (D.behind desk.new) (D.caller desk.old)
-            (Request.TakeFor self.old.watcher) (refused_take stop)
-            × Logs (D.log desk.old) (D.log desk.new) (D.caller desk.old)
-            (Request.TakeFor self.old.watcher) (refused_take stop)) }
-        ensures few { result ≡ Err FrameStop.TooManyGroups → ⊥ }
-        ensures no_fault { result ≡ Err FrameStop.ApplierFault → ⊥ }
-        ensures program { self.new.program ≡ self.old.program }
-        ensures watcher { self.new.watcher ≡ self.old.watcher }
-        ensures ops { self.new.ops ≡ self.old.ops }
-        ensures name { IfOk result (λ b. D.opened desk.new ≡ Some b.name) }
-        ensures world { IfOk result (λ b. Calls D.P.rules (D.behind desk.old) (D.behind desk.new) (D.caller desk.old)
-            (Request.TakeFor self.old.watcher) (Reply.TakenFor b.name b.changed)) }
-        ensures log { IfOk result (λ b. Logs (D.log desk.old) (D.log desk.new) (D.caller desk.old)
-            (Request.TakeFor self.old.watcher) (Reply.TakenFor b.name b.changed)) }
+        ensures take { RepliesToTake (CallsAndLogs D.P.rules (D.behind desk.old) (D.behind desk.new)
+            (D.log desk.old) (D.log desk.new) (D.caller desk.old) (Request.TakeFor self.old.watcher))
+            (KnowsLast (D.last desk.old self.old.watcher) (D.alone desk.new self.old.watcher)) result }
         ensures draws { GrowsFor self.old.watcher (D.log desk.old) (D.log desk.new) }
-        ensures alone { (n : ℕ) → D.alone desk.new n → D.alone desk.old n }
-        ensures lends { D.lends desk.old desk.new }
-        ensures caller { D.caller desk.new ≡ D.caller desk.old }
+        ensures calls { KeepsCalls self.old self.new }
+        ensures name { IfOk result (λ b. D.opened desk.new ≡ Some b.name) }
+        ensures desk { IsSameDesk D.lends D.alone D.caller desk.old desk.new }
         ensures asks { D.asked desk.new ≡ D.asked desk.old }
     {
         match desk.take_for(alloc, self.watcher) {
@@ -264,14 +243,10 @@ impl<'p> Composition<'p> {
     ) -> Result<Option<Draft>, ComposeStop>
         ensures keeps { V.keeps view.old view.new }
         ensures same { (m : Map) → V.shows view.old m → V.shows view.new m }
-        ensures made { (k : LastFrame) (m : Map) → IsAt self.now k (Some m) → V.shows view.old m →
-            IfOk result (IsComposed self.now k m) }
-        ensures many { (k : LastFrame) (m : Map) → IsAt self.now k (Some m) → V.shows view.old m →
-            result ≡ Err ComposeStop.TooManyGroups → frame_of (functions_of self.now.program.now) k m ≡ None }
-        ensures asks { (k : LastFrame) (m : Map) → IsAt self.now k (Some m) → V.shows view.old m →
-            OnOk result (V.asked view.new ≡ V.asked view.old ++ frame_reads self.now.program.now k m) }
-        ensures part { (k : LastFrame) (m : Map) → IsAt self.now k (Some m) → V.shows view.old m →
-            OnErr result (Grew (V.asked view.old) (V.asked view.new) (frame_reads self.now.program.now k m)) }
+        ensures made { InShownFrames self.now (V.shows view.old) (λ k m. IfOk result (IsComposed self.now k m)) }
+        ensures many { InShownFrames self.now (V.shows view.old)
+            (λ k m. result ≡ Err ComposeStop.TooManyGroups → frame_result self.now.program.now k m ≡ None) }
+        ensures reads { AsksOwed self.now (V.shows view.old) (V.asked view.old) (V.asked view.new) result }
         ensures idle { OwesNothing self.now → (result ≡ Ok None) × (view.new ≡ view.old) × (steps.new ≡ steps.old) }
         ensures olds { IfOk result (λ composed. IsForHeld self.now composed) }
     {
@@ -284,6 +259,34 @@ impl<'p> Composition<'p> {
         }
     }
 
+    // Composes what the frame owes in the snapshot of the frame that has begun, and disposes the snapshot. Returns what
+    // was composed, or why the frame does not happen. What is kept stays as it is.
+    fn compose_and_dispose<D: Desk, L: Ledger>(
+        &self,
+        alloc: Global,
+        begun: Begun,
+        desk: &mut D,
+        steps: &mut Steps<L>,
+    ) -> Result<Option<Draft>, FrameStop>
+        requires opened { D.opened desk.old ≡ Some begun.name }
+        ensures made { InShownFrames self.now (D.shows desk.old) (λ k m. IfOk result (IsComposed self.now k m)) }
+        ensures stops { StopsUncomposed self.now (D.shows desk.old) result }
+        ensures olds { IfOk result (IsForHeld self.now) }
+        ensures reads { AsksOwed self.now (D.shows desk.old) (D.asked desk.old) (D.asked desk.new) result }
+        ensures idle { OwesNothing self.now → IfOk result (λ composed. composed ≡ None)
+            × (D.asked desk.new ≡ D.asked desk.old) × (steps.new ≡ steps.old) }
+        ensures world { (m : Map) → D.shows desk.old m → 0 < begun.name →
+            Calls D.P.rules (D.behind desk.old) (D.behind desk.new) (D.caller desk.old)
+            (Request.Dispose begun.name) Reply.Disposed }
+        ensures log { LogsEnd self.now (D.shows desk.old) (D.asked desk.old) (D.asked desk.new) (D.log desk.old)
+            (D.log desk.new) (D.caller desk.old, begun.name) result }
+        ensures desk { KeepsDesk D.lends D.alone D.caller D.last desk.old desk.new }
+    {
+        let composed = self.compose_owed(alloc, desk, steps);
+        let disposed = desk.dispose();
+        composed_frame(composed, disposed)
+    }
+
     // Returns whether an applier failed in an earlier frame, so that nothing is kept though nodes had numbers.
     fn is_detached(&self) -> bool
         ensures { (k : LastFrame) (l : Option Map) → IsAt self.now k l → result ≡ is_detached k }
@@ -293,8 +296,8 @@ impl<'p> Composition<'p> {
 
     // Returns whether the frame of the draft keeps all groups: a good frame was kept before it, and no call ran.
     fn keeps_all(&self, draft: &Draft) -> bool
-        ensures { (k : LastFrame) (m : Map) → IsAt self.now k (Some m) → IsComposed self.now k m (Some draft.now) →
-            IsTrue result → ops_of k (frame_of (functions_of self.now.program.now) k m) ≡ [] }
+        ensures { InFrames self.now (Some draft.now)
+            (λ k m. IsTrue result → ops_of k (frame_result self.now.program.now k m) ≡ []) }
     {
         if self.owed.is_all() {
             return false;
@@ -306,8 +309,8 @@ impl<'p> Composition<'p> {
     // the frame keeps all groups.
     fn list_calls(&self, alloc: Global, draft: &Draft) -> Result<Ops, NoMemory>
         requires { draft.now.olds ≡ self.now.held.groups }
-        ensures { (k : LastFrame) (m : Map) → IsAt self.now k (Some m) → IsComposed self.now k m (Some draft.now) →
-            IfOk result (λ ops. ops ≡ ops_of k (frame_of (functions_of self.now.program.now) k m)) }
+        ensures { InFrames self.now (Some draft.now)
+            (λ k m. IfOk result (λ ops. ops ≡ ops_of k (frame_result self.now.program.now k m))) }
     {
         if self.keeps_all(draft) {
             return Ok(Ops::new(alloc));
@@ -320,7 +323,7 @@ impl<'p> Composition<'p> {
     fn calls_to(&self, alloc: Global, groups: &Table) -> Result<Ops, NoMemory>
         ensures { (k : LastFrame) (m : Map) (d : DraftGroups) → IsAt self.now k (Some m) →
             IsComposed self.now k m (Some d) → groups.now.groups ≡ d.groups →
-            IfOk result (λ ops. ops ≡ ops_of k (frame_of (functions_of self.now.program.now) k m)) }
+            IfOk result (λ ops. ops ≡ ops_of k (frame_result self.now.program.now k m)) }
     {
         let new = list_nodes(alloc, groups)?;
         if self.is_detached() {
@@ -334,13 +337,10 @@ impl<'p> Composition<'p> {
     // report.
     fn keep(&mut self, draft: Draft, ops: Ops) -> Report
         requires { draft.olds ≡ self.old.held.groups }
-        ensures program { self.new.program ≡ self.old.program }
-        ensures watcher { self.new.watcher ≡ self.old.watcher }
+        ensures settings { KeepsSettings self.old self.new }
         ensures ops { self.new.ops ≡ ops }
-        ensures good { (k : LastFrame) (m : Map) → IsAt self.old k (Some m) → IsComposed self.old k m (Some draft) →
-            IsAt self.new (kept_after k (frame_of (functions_of self.old.program.now) k m)) (Some m) }
-        ensures report { (k : LastFrame) (m : Map) → IsAt self.old k (Some m) → IsComposed self.old k m (Some draft) →
-            Some result ≡ option_map (λ g. g.told) (frame_of (functions_of self.old.program.now) k m) }
+        ensures good { KeepsGroups self.old (Some draft) self.new }
+        ensures report { IsReport self.old (Some draft) result }
     {
         let report = draft.report();
         self.held.apply(draft);
@@ -354,11 +354,9 @@ impl<'p> Composition<'p> {
     // Keeps nothing of the frame whose applier failed, except that the numbers of its nodes are used. Everything is
     // owed.
     fn detach(&mut self, alloc: Global, draft: Draft)
-        ensures program { self.new.program ≡ self.old.program }
-        ensures watcher { self.new.watcher ≡ self.old.watcher }
-        ensures ops { self.new.ops ≡ self.old.ops }
-        ensures fault { (k : LastFrame) (m : Map) → IsAt self.old k (Some m) → IsComposed self.old k m (Some draft) →
-            IsAt self.new (kept_after_fault k (frame_of (functions_of self.old.program.now) k m)) (Some m) }
+        ensures calls { KeepsCalls self.old self.new }
+        ensures fault { InFrames self.old (Some draft)
+            (λ k m. IsAt self.new (kept_after_fault k (frame_result self.old.program.now k m)) (Some m)) }
     {
         self.held.detach(alloc, draft);
         self.owed.owe_all();
@@ -368,13 +366,10 @@ impl<'p> Composition<'p> {
 
     // Keeps a frame that owed nothing: all groups stay, and no call was made on the applier.
     fn keep_idle(&mut self, alloc: Global) -> Report
-        ensures program { self.new.program ≡ self.old.program }
-        ensures watcher { self.new.watcher ≡ self.old.watcher }
+        ensures settings { KeepsSettings self.old self.new }
         ensures ops { self.new.ops ≡ [] }
-        ensures good { (k : LastFrame) (m : Map) → IsAt self.old k (Some m) → OwesNothing self.old →
-            IsAt self.new (kept_after k (frame_of (functions_of self.old.program.now) k m)) (Some m) }
-        ensures report { (k : LastFrame) (m : Map) → IsAt self.old k (Some m) → OwesNothing self.old →
-            Some result ≡ option_map (λ g. g.told) (frame_of (functions_of self.old.program.now) k m) }
+        ensures good { KeepsGroups self.old None self.new }
+        ensures report { IsReport self.old None result }
     {
         self.ops = Ops::new(alloc);
         self.idle_report()
@@ -420,8 +415,7 @@ impl<'p> Composition<'p> {
             (λ k. (m : Map) × IsAt self.old k (Some m) × IsComposed self.old k m (Some draft)) }
         requires olds { draft.olds ≡ self.old.held.groups }
         requires some { ops ≡ [] → ⊥ }
-        requires ops { InFrames self.old (Some draft)
-            (λ k m. ops ≡ ops_of k (frame_of (functions_of self.old.program.now) k m)) }
+        requires ops { AreCalls self.old (Some draft) ops }
         ensures { EndsComposed self.old self.new (Some draft) (A.tree applier.old) (A.tree applier.new)
             (A.faults applier.old) (A.faults applier.new) (applier.new ≡ applier.old) result }
     {
@@ -441,13 +435,10 @@ impl<'p> Composition<'p> {
     // Keeps a frame that is composed and makes no call on an applier. Without a draft the frame owed nothing.
     fn keep_composed(&mut self, alloc: Global, composed: Option<Draft>) -> Report
         requires { IsForHeld self.old composed }
-        ensures program { self.new.program ≡ self.old.program }
-        ensures watcher { self.new.watcher ≡ self.old.watcher }
+        ensures settings { KeepsSettings self.old self.new }
         ensures ops { self.new.ops ≡ [] }
-        ensures good { (k : LastFrame) (m : Map) → IsAt self.old k (Some m) → IsComposed self.old k m composed →
-            IsAt self.new (kept_after k (frame_of (functions_of self.old.program.now) k m)) (Some m) }
-        ensures report { (k : LastFrame) (m : Map) → IsAt self.old k (Some m) → IsComposed self.old k m composed →
-            Some result ≡ option_map (λ g. g.told) (frame_of (functions_of self.old.program.now) k m) }
+        ensures good { KeepsGroups self.old composed self.new }
+        ensures report { IsReport self.old composed result }
     {
         let Some(draft) = composed else {
             return self.keep_idle(alloc);
@@ -470,25 +461,12 @@ impl<'p> Composition<'p> {
     ) -> Result<Report, FrameStop>
         ensures keeps { V.keeps view.old view.new }
         ensures same { (m : Map) → V.shows view.old m → V.shows view.new m }
-        ensures good { (k : LastFrame) (m : Map) → IsAt self.old k (Some m) → V.shows view.old m →
-            OnOk result (IsAt self.new (kept_after k (frame_of (functions_of self.old.program.now) k m)) (Some m)) }
-        ensures report { (k : LastFrame) (m : Map) → IsAt self.old k (Some m) → V.shows view.old m →
-            IfOk result (λ r. Some r ≡ option_map (λ g. g.told) (frame_of (functions_of self.old.program.now) k m)) }
-        ensures many { (k : LastFrame) (m : Map) → IsAt self.old k (Some m) → V.shows view.old m →
-            result ≡ Err FrameStop.TooManyGroups → frame_of (functions_of self.old.program.now) k m ≡ None }
-        ensures not_spent { result ≡ Err FrameStop.Spent → ⊥ }
-        ensures no_fault { result ≡ Err FrameStop.ApplierFault → ⊥ }
+        ensures frame { ComposesShown self.old self.new (V.shows view.old) result }
+        ensures reads { AsksOwed self.old (V.shows view.old) (V.asked view.old) (V.asked view.new) result }
         ensures err { OnErr result (self.new ≡ self.old) }
-        ensures quiet { (k : LastFrame) (m : Map) → IsAt self.old k (Some m) → V.shows view.old m → OwesNoCall k m →
-            OnOk result ((V.asked view.new ≡ V.asked view.old) × IsAt self.new (seen_again k m) (Some m)) }
-        ensures idle { OwesNothing self.old → (view.new ≡ view.old) × (steps.new ≡ steps.old) }
+        ensures no_fault { result ≡ Err FrameStop.ApplierFault → ⊥ }
         ensures ops { OnOk result (self.new.ops ≡ []) }
-        ensures program { self.new.program ≡ self.old.program }
-        ensures watcher { self.new.watcher ≡ self.old.watcher }
-        ensures asks { (k : LastFrame) (m : Map) → IsAt self.old k (Some m) → V.shows view.old m →
-            OnOk result (V.asked view.new ≡ V.asked view.old ++ frame_reads self.old.program.now k m) }
-        ensures part { (k : LastFrame) (m : Map) → IsAt self.old k (Some m) → V.shows view.old m →
-            OnErr result (Grew (V.asked view.old) (V.asked view.new) (frame_reads self.old.program.now k m)) }
+        ensures idle { OwesNothing self.old → (view.new ≡ view.old) × (steps.new ≡ steps.old) }
     {
         match self.compose_owed(alloc, view, steps) {
             Ok(composed) => Ok(self.keep_composed(alloc, composed)),
@@ -516,38 +494,11 @@ impl<'p> Composition<'p> {
             (λ k. (m : Map) × IsAt self.old k (Some m) × V.shows view.old m) }
         ensures keeps { V.keeps view.old view.new }
         ensures same { (m : Map) → V.shows view.old m → V.shows view.new m }
-        ensures good { (k : LastFrame) (m : Map) → IsAt self.old k (Some m) → V.shows view.old m →
-            OnOk result (IsAt self.new (kept_after k (frame_of (functions_of self.old.program.now) k m)) (Some m)) }
-        ensures report { (k : LastFrame) (m : Map) → IsAt self.old k (Some m) → V.shows view.old m →
-            IfOk result (λ r. Some r ≡ option_map (λ g. g.told) (frame_of (functions_of self.old.program.now) k m)) }
-        ensures many { (k : LastFrame) (m : Map) → IsAt self.old k (Some m) → V.shows view.old m →
-            result ≡ Err FrameStop.TooManyGroups → frame_of (functions_of self.old.program.now) k m ≡ None }
-        ensures not_spent { result ≡ Err FrameStop.Spent → ⊥ }
-        ensures applied { (k : LastFrame) (m : Map) → IsAt self.old k (Some m) → V.shows view.old m →
-            OnOk result (Applies (A.tree applier.old) (A.tree applier.new) self.new.ops k
-            (frame_of (functions_of self.old.program.now) k m)) }
-        ensures fault { (k : LastFrame) (m : Map) → IsAt self.old k (Some m) → V.shows view.old m →
-            result ≡ Err FrameStop.ApplierFault →
-            IsAt self.new (kept_after_fault k (frame_of (functions_of self.old.program.now) k m)) (Some m) }
-        ensures detached { (k : LastFrame) (m : Map) → IsAt self.old k (Some m) → V.shows view.old m →
-            result ≡ Err FrameStop.ApplierFault →
-            is_detached (kept_after_fault k (frame_of (functions_of self.old.program.now) k m)) ≡ true }
-        ensures quiet { (k : LastFrame) (m : Map) → IsAt self.old k (Some m) → V.shows view.old m → OwesNoCall k m →
-            (applier.new ≡ applier.old) × OnOk result ((self.new.ops ≡ []) × (V.asked view.new ≡ V.asked view.old)
-            × IsAt self.new (seen_again k m) (Some m)) }
-        ensures uncalled { OnOk result (self.new.ops ≡ [] → applier.new ≡ applier.old) }
-        ensures err { UnlessFault (self.new ≡ self.old) result }
-        ensures still { UnlessFault (A.tree applier.new ≡ A.tree applier.old) result }
-        ensures cause { FaultHasCause (A.faults applier.old) (A.faults applier.new) result }
-        ensures lent { OnErr result (self.new.ops ≡ self.old.ops) }
-        ensures idle { OwesNothing self.old → (applier.new ≡ applier.old) × (view.new ≡ view.old)
-            × (steps.new ≡ steps.old) × OnOk result (self.new.ops ≡ []) }
-        ensures program { self.new.program ≡ self.old.program }
-        ensures watcher { self.new.watcher ≡ self.old.watcher }
-        ensures asks { (k : LastFrame) (m : Map) → IsAt self.old k (Some m) → V.shows view.old m →
-            OnOk result (V.asked view.new ≡ V.asked view.old ++ frame_reads self.old.program.now k m) }
-        ensures part { (k : LastFrame) (m : Map) → IsAt self.old k (Some m) → V.shows view.old m →
-            OnErr result (Grew (V.asked view.old) (V.asked view.new) (frame_reads self.old.program.now k m)) }
+        ensures frame { ComposesShown self.old self.new (V.shows view.old) result }
+        ensures applier { DrivesApplier A.tree A.faults applier.old applier.new self.old self.new
+            (V.shows view.old) result }
+        ensures reads { AsksOwed self.old (V.shows view.old) (V.asked view.old) (V.asked view.new) result }
+        ensures idle { OwesNothing self.old → (view.new ≡ view.old) × (steps.new ≡ steps.old) }
     {
         match self.compose_owed(alloc, view, steps) {
             Ok(composed) => self.apply(alloc, composed, applier),
@@ -572,59 +523,19 @@ impl<'p> Composition<'p> {
         requires opened { D.opened desk.old ≡ Some begun.name }
         requires tree { MayCall (A.tree applier.old)
             (λ k. (m : Map) × IsAt self.old k (Some m) × D.shows desk.old m) }
-        ensures good { (k : LastFrame) (m : Map) → IsAt self.old k (Some m) → D.shows desk.old m →
-            OnOk result (IsAt self.new (kept_after k (frame_of (functions_of self.old.program.now) k m)) (Some m)) }
-        ensures report { (k : LastFrame) (m : Map) → IsAt self.old k (Some m) → D.shows desk.old m →
-            IfOk result (λ r. Some r ≡ option_map (λ g. g.told) (frame_of (functions_of self.old.program.now) k m)) }
-        ensures many { (k : LastFrame) (m : Map) → IsAt self.old k (Some m) → D.shows desk.old m →
-            result ≡ Err FrameStop.TooManyGroups → frame_of (functions_of self.old.program.now) k m ≡ None }
-        ensures applied { (k : LastFrame) (m : Map) → IsAt self.old k (Some m) → D.shows desk.old m →
-            OnOk result (Applies (A.tree applier.old) (A.tree applier.new) self.new.ops k
-            (frame_of (functions_of self.old.program.now) k m)) }
-        ensures fault { (k : LastFrame) (m : Map) → IsAt self.old k (Some m) → D.shows desk.old m →
-            result ≡ Err FrameStop.ApplierFault →
-            IsAt self.new (kept_after_fault k (frame_of (functions_of self.old.program.now) k m)) (Some m) }
-        ensures detached { (k : LastFrame) (m : Map) → IsAt self.old k (Some m) → D.shows desk.old m →
-            result ≡ Err FrameStop.ApplierFault →
-            is_detached (kept_after_fault k (frame_of (functions_of self.old.program.now) k m)) ≡ true }
-        ensures quiet { (k : LastFrame) (m : Map) → IsAt self.old k (Some m) → D.shows desk.old m → OwesNoCall k m →
-            (applier.new ≡ applier.old) × OnOk result ((self.new.ops ≡ []) × (D.asked desk.new ≡ D.asked desk.old)
-            × IsAt self.new (seen_again k m) (Some m)) }
-        ensures uncalled { OnOk result (self.new.ops ≡ [] → applier.new ≡ applier.old) }
-        ensures err { UnlessFault (self.new ≡ self.old) result }
-        ensures still { UnlessFault (A.tree applier.new ≡ A.tree applier.old) result }
-        ensures cause { FaultHasCause (A.faults applier.old) (A.faults applier.new) result }
-        ensures lent { OnErr result (self.new.ops ≡ self.old.ops) }
-        ensures idle { OwesNothing self.old → (applier.new ≡ applier.old) × (D.asked desk.new ≡ D.asked desk.old)
-            × (steps.new ≡ steps.old) × OnOk result (self.new.ops ≡ []) }
-        ensures program { self.new.program ≡ self.old.program }
-        ensures watcher { self.new.watcher ≡ self.old.watcher }
-        ensures asks { (k : LastFrame) (m : Map) → IsAt self.old k (Some m) → D.shows desk.old m →
-            OnOk result (D.asked desk.new ≡ D.asked desk.old ++ frame_reads self.old.program.now k m) }
-        ensures part { (k : LastFrame) (m : Map) → IsAt self.old k (Some m) → D.shows desk.old m →
-            OnErr result (Grew (D.asked desk.old) (D.asked desk.new) (frame_reads self.old.program.now k m)) }
+        ensures frame { ComposesShown self.old self.new (D.shows desk.old) result }
+        ensures applier { DrivesApplier A.tree A.faults applier.old applier.new self.old self.new
+            (D.shows desk.old) result }
+        ensures reads { AsksOwed self.old (D.shows desk.old) (D.asked desk.old) (D.asked desk.new) result }
+        ensures idle { OwesNothing self.old → (D.asked desk.new ≡ D.asked desk.old) × (steps.new ≡ steps.old) }
         ensures world { (m : Map) → D.shows desk.old m → 0 < begun.name →
             Calls D.P.rules (D.behind desk.old) (D.behind desk.new) (D.caller desk.old)
             (Request.Dispose begun.name) Reply.Disposed }
-        ensures log { (k : LastFrame) (m : Map) → IsAt self.old k (Some m) → D.shows desk.old m →
-            OnOk result (EndsFrame (D.log desk.old) (D.log desk.new) (D.caller desk.old) begun.name
-            (frame_reads self.old.program.now k m)) }
-        ensures refused { (k : LastFrame) (m : Map) → IsAt self.old k (Some m) → D.shows desk.old m → 0 < begun.name →
-            OnErr result (EndsPart (D.log desk.old) (D.log desk.new) (D.caller desk.old) begun.name
-            (frame_reads self.old.program.now k m)) }
-        ensures closed { ClosesFrame (D.shows desk.old) (D.asked desk.old) (D.asked desk.new) (D.log desk.old)
-            (D.log desk.new) (D.caller desk.old) begun.name result }
-        ensures draws { (n : ℕ) → GrowsFor n (D.log desk.old) (D.log desk.new) }
-        ensures not_spent { result ≡ Err FrameStop.Spent → ⊥ }
-        ensures last { (n : ℕ) (types : List Ty) (l : Option Map) → D.last desk.old n types l → D.alone desk.new n →
-            D.last desk.new n types l }
-        ensures alone { (n : ℕ) → D.alone desk.new n → D.alone desk.old n }
-        ensures lends { D.lends desk.old desk.new }
-        ensures caller { D.caller desk.new ≡ D.caller desk.old }
+        ensures log { LogsEnd self.old (D.shows desk.old) (D.asked desk.old) (D.asked desk.new) (D.log desk.old)
+            (D.log desk.new) (D.caller desk.old, begun.name) result }
+        ensures desk { KeepsDesk D.lends D.alone D.caller D.last desk.old desk.new }
     {
-        let composed = self.compose_owed(alloc, desk, steps);
-        let disposed = desk.dispose();
-        match composed_frame(composed, disposed) {
+        match self.compose_and_dispose(alloc, begun, desk, steps) {
             Ok(draft) => self.apply(alloc, draft, applier),
             Err(stop) => Err(stop),
         }
@@ -644,33 +555,26 @@ impl<'p> Composition<'p> {
     ) -> Result<Report, FrameStop>
         requires tree { MayCall (A.tree applier.old) (λ k. (types : List Ty) × (l : Option Map) × IsAt self.old k l
             × D.last desk.old self.old.watcher types l × ((d : D) → D.alone d self.old.watcher)) }
-        ensures good { (k : LastFrame) (types : List Ty) (l : Option Map) → IsAt self.old k l →
-            D.last desk.old self.old.watcher types l → D.alone desk.new self.old.watcher →
-            IfOk result (MakesFrame self.old.program.now k (IsAt self.new) (D.last desk.new self.old.watcher types)
-            (λ xs. (D.asked desk.new ≡ D.asked desk.old ++ xs)
-            × LogsFrame (D.log desk.old) (D.log desk.new) (D.caller desk.old) self.old.watcher xs)
-            (λ good. Applies (A.tree applier.old) (A.tree applier.new) self.new.ops k good)) }
-        ensures err { (k : LastFrame) (types : List Ty) (l : Option Map) → IsAt self.old k l →
-            D.last desk.old self.old.watcher types l → D.alone desk.new self.old.watcher →
-            IfErr result (MakesNoFrame self.old.program.now k (IsAt self.new) (D.last desk.new self.old.watcher types)
+        ensures good { InWatchedFrames self.old (D.last desk.old self.old.watcher) (D.alone desk.new self.old.watcher)
+            (λ k types l. IfOk result (MakesFrame self.old.program.now k (IsAt self.new)
+            (D.last desk.new self.old.watcher types)
+            (ReadsInFrame (D.asked desk.old) (D.asked desk.new) (D.log desk.old) (D.log desk.new)
+            (D.caller desk.old) self.old.watcher)
+            (λ good. Applies (A.tree applier.old) (A.tree applier.new) self.new.ops k good))) }
+        ensures err { InWatchedFrames self.old (D.last desk.old self.old.watcher) (D.alone desk.new self.old.watcher)
+            (λ k types l. IfErr result (MakesNoFrame self.old.program.now k (IsAt self.new)
+            (D.last desk.new self.old.watcher types)
             (LogsNoFrame self.old.program.now k (D.log desk.old) (D.log desk.new) (D.caller desk.old)
-            self.old.watcher)) }
-        ensures uncalled { OnOk result (self.new.ops ≡ [] → applier.new ≡ applier.old) }
+            self.old.watcher))) }
+        ensures applier { LeavesApplier A.tree A.faults applier.old applier.new self.old self.new result }
         ensures spent { (k : ℕ) → D.clock desk.old k → StopsAtEnd (D.clock desk.new) k result }
-        ensures still { UnlessFault (A.tree applier.new ≡ A.tree applier.old) result }
-        ensures cause { FaultHasCause (A.faults applier.old) (A.faults applier.new) result }
-        ensures lent { OnErr result (self.new.ops ≡ self.old.ops) }
-        ensures log { OnOk result (MakesReads (D.asked desk.old) (D.asked desk.new) (D.log desk.old) (D.log desk.new)
-            (D.caller desk.old) self.old.watcher) }
-        ensures draws { GrowsFor self.old.watcher (D.log desk.old) (D.log desk.new) }
-        ensures world { (k : LastFrame) (types : List Ty) (l : Option Map) (w : World D.P) → IsAt self.old k l →
-            D.last desk.old self.old.watcher types l → D.alone desk.new self.old.watcher → D.behind desk.old w →
-            OnOk result (D.behind desk.new (world_of_frame D.P.rules w (D.caller desk.old) self.old.watcher)) }
-        ensures program { self.new.program ≡ self.old.program }
-        ensures watcher { self.new.watcher ≡ self.old.watcher }
-        ensures alone { (n : ℕ) → D.alone desk.new n → D.alone desk.old n }
-        ensures lends { D.lends desk.old desk.new }
-        ensures caller { D.caller desk.new ≡ D.caller desk.old }
+        ensures log { LogsCalls (D.asked desk.old) (D.asked desk.new) (D.log desk.old) (D.log desk.new)
+            (D.caller desk.old) self.old.watcher result }
+        ensures world { InWatchedFrames self.old (D.last desk.old self.old.watcher) (D.alone desk.new self.old.watcher)
+            (λ k types l. (w : World D.P) → D.behind desk.old w →
+            OnOk result (D.behind desk.new (world_of_frame D.P.rules w (D.caller desk.old) self.old.watcher))) }
+        ensures settings { KeepsSettings self.old self.new }
+        ensures desk { IsSameDesk D.lends D.alone D.caller desk.old desk.new }
     {
         let begun = match self.begin(alloc, desk) {
             Ok(begun) => begun,

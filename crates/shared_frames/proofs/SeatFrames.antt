@@ -1,5 +1,5 @@
 -- The frames of a seat's desk.
-use Rattle.std.proofs.Common.{ℕ, List, ◌≡◌, ◌++◌, ◌∷◌, [], refl, sym, ap, ◌∙◌, subst, Option, Some, None, Result, Ok, Err, IfOk, IfErr, append_assoc}
+use Rattle.std.proofs.Common.{ℕ, List, ◌≡◌, ◌++◌, ◌∷◌, [], refl, sym, ap, ◌∙◌, subst, Option, Some, None, Result, Ok, Err, IfOk, IfErr, OnErr, append_assoc}
 use Rattle.rt_values.specs.Maps.{Map}
 use Rattle.rt_values.specs.declared.value.Ty.{Ty}
 use Rattle.rt_groups.specs.Frames.{LastFrame}
@@ -12,18 +12,20 @@ use Rattle.recomposer.specs.declared.composition.FrameStop.{FrameStop}
 use Rattle.node_tree.specs.NodeTrees.{CursorTree}
 use Rattle.recomposer.specs.AppliedFrames.{MayCall}
 use Rattle.recomposer.specs.Compositions.{IsAt, BeginsFrame, MakesFrame, MakesNoFrame, LogsFrame, LogsNoFrame}
+use Rattle.recomposer.specs.FrameContracts.{RepliesToTake}
 use Rattle.snap_policy.specs.Rules.{Rules}
 use Rattle.snap_api.specs.Calls.{Logs}
 use Rattle.snap_api.specs.World.{World}
 use Rattle.snap_api.specs.declared.data.Entry.{Entry}
+use Rattle.snap_api.specs.declared.data.Reply.{Reply}
 use Rattle.snap_api.specs.declared.data.Reply.TheVariants as reply
 use Rattle.snap_api.specs.declared.data.Request.TheVariants as request
-use Rattle.snap_shared.specs.SeatDesk.{SeesMap, IsOnlyTaker, objects_read}
-use Rattle.snap_shared.specs.Seats.{opening_of, number_of, seen_by, mine_of}
+use Rattle.snap_shared.specs.SeatDesk.{SeesMap, SeesFurther, IsOnlyTaker, objects_read}
+use Rattle.snap_shared.specs.Seats.{opening_of, number_of, seen_by, mine_of, IsSeat}
 use Rattle.snap_shared.specs.SharedCalls.{own_calls}
 use Rattle.snap_shared.specs.declared.shared.Seat.{Seat}
 use Rattle.snap_shared.specs.declared.shared.Shared.{Shared}
-use Rattle.shared_frames.specs.SeatFrames.{HasLast, ShowsIn, HasTaken, MakesThrough}
+use Rattle.shared_frames.specs.SeatFrames.{ReturnsSeat, HasLast, ShowsIn, HasTaken, MakesThrough}
 use Rattle.shared_frames.proofs.TakePlaces.{TakesNone, reads_take_none, map_at_take}
 
 -- An applier that knows no tree may always be called.
@@ -111,6 +113,18 @@ module _ {W P : Type 0} (rules : Rules P) (stands : W → World P → Type 0) (s
     (before after back : Seat W) (watcher : ℕ) (types : List Ty)
     (same_world : other ≡ shared) (is_back : back ≡ after) (same : number_of after ≡ number_of before)
     (only : IsOnlyTaker (number_of back) watcher (seen_by back)) where
+  -- The watcher's last map.
+  pub last_back : (l : Option Map) → HasLast rules stands other after watcher types l
+      → HasLast rules stands shared back watcher types l
+  last_back l h = subst (λ (s : Seat W). HasLast rules stands shared s watcher types l) (sym is_back)
+      (subst (λ (v : Shared W P). HasLast rules stands v after watcher types l) same_world h)
+
+  pub last_stays : {U : Type 0} (l : Option Map) (r : Result U FrameStop)
+      → OnErr r (HasLast rules stands other after watcher types l)
+      → OnErr r (HasLast rules stands shared back watcher types l)
+  last_stays l (Ok u) h = tt
+  last_stays l (Err e) h = last_back l h
+
   begun_back : {at_map : Option Map → Type 0} {l : Option Map} (opened : Option ℕ) (name : ℕ) (changed : List ℕ)
       → opened ≡ Some name →
       Logs (Some (mine_of before)) (Some (mine_of after)) (number_of before) (request.TakeFor watcher)
@@ -134,17 +148,17 @@ module _ {W P : Type 0} (rules : Rules P) (stands : W → World P → Type 0) (s
       (request.TakeFor watcher) (reply.TakenFor name changed)) (sym is_back) logged) named
 
   -- A good beginning of a frame.
-  pub begun_ok : (at_map : Option Map → Type 0) (l : Option Map) (opened : Option ℕ) (r : Result Begun FrameStop)
-      → IfOk r (λ b. opened ≡ Some b.name) →
-      IfOk r (λ b. Logs (Some (mine_of before)) (Some (mine_of after)) (number_of before) (request.TakeFor watcher)
-      (reply.TakenFor b.name b.changed)) →
+  pub begun_ok : {calls : Reply → Type 0} {known : Type 0} (at_map : Option Map → Type 0) (l : Option Map)
+      (opened : Option ℕ) (r : Result Begun FrameStop) → IfOk r (λ b. opened ≡ Some b.name) →
+      RepliesToTake (λ y. calls y
+      × Logs (Some (mine_of before)) (Some (mine_of after)) (number_of before) (request.TakeFor watcher) y) known r →
       IfOk r (λ b. BeginsFrame at_map
       (λ m. SeesMap rules (stands (opening_of other)) (seen_by after) (number_of after) opened m)
       (λ k. HasLast rules stands other after watcher types k) l b.name b.changed) →
       IfOk r (λ b. BeginsFrame at_map (λ m. ShowsIn rules stands shared back b.name m)
       (λ k. HasTaken rules stands shared before back watcher types k) l b.name b.changed)
-  begun_ok at_map l opened (Ok b) is logged f = begun_back opened b.name b.changed is logged f
-  begun_ok at_map l opened (Err e) is logged f = tt
+  begun_ok at_map l opened (Ok b) is take f = begun_back opened b.name b.changed is take.taken.1 f
+  begun_ok at_map l opened (Err e) is take f = tt
 
   abbrev Does : Seat W → List ℕ → Type 0
   Does s xs = (objects_read (mine_of s) ≡ objects_read (mine_of before) ++ xs)
@@ -200,3 +214,15 @@ module _ {W P : Type 0} (rules : Rules P) (stands : W → World P → Type 0) (s
       (MakesNoFrame p k at_frame (λ l. HasLast rules stands v after watcher types l)
       (LogsNoFrame p k (Some (mine_of before)) (Some (mine_of after)) (number_of before) watcher))) same_world
       f)
+
+-- The seat of a desk returns. `shared` is the shared world of the desk before the calls, `other` the one after them.
+pub seat_returns : {W P : Type 0} (rules : Rules P) (stands : W → World P → Type 0) (shared other : Shared W P)
+    (before after back : Seat W) → other ≡ shared → back ≡ after → IsSeat other after
+    → number_of after ≡ number_of before → SeesFurther rules (stands (opening_of shared)) (seen_by before) (seen_by after)
+    → ReturnsSeat rules stands shared before back
+seat_returns {W} rules stands shared other before after back same_world is_back fits number further =
+    subst (λ (s : Seat W). ReturnsSeat rules stands shared before s) (sym is_back) (record {
+      fits = subst (λ (v : Shared W _). IsSeat v after) same_world fits;
+      number = number;
+      further = further;
+    })

@@ -6,15 +6,16 @@ use Rattle.rt_groups.specs.Frames.{LastFrame}
 use Rattle.rt_groups.specs.declared.report.Report.{Report}
 use Rattle.compose_model.specs.Frame.{FrameResult}
 use Rattle.recomposer.specs.declared.composition.Composition.{Composition}
-use Rattle.recomposer.specs.Compositions.{IsAt, BeginsFrame, MakesFrame, LogsFrame}
+use Rattle.recomposer.specs.Compositions.{IsAt, BeginsFrame, MakesFrame}
+use Rattle.recomposer.specs.FrameContracts.{ReadsInFrame}
 use Rattle.snap_policy.specs.Rules.{Rules}
 use Rattle.snap_api.specs.Desks.{Lasts}
 use Rattle.snap_api.specs.World.{World, snapshot_of}
 use Rattle.snap_api.specs.declared.data.Entry.{Entry}
 use Rattle.snap_api.specs.declared.data.Reply.TheVariants.{TakenFor}
 use Rattle.snap_api.specs.declared.data.Request.TheVariants.{TakeFor}
-use Rattle.snap_shared.specs.SeatDesk.{IsPossibleWorld, SeesMap, ClockIsAtLeast, IsOnlyTaker, objects_read}
-use Rattle.snap_shared.specs.Seats.{opening_of, number_of, seen_by, mine_of}
+use Rattle.snap_shared.specs.SeatDesk.{IsPossibleWorld, SeesMap, SeesFurther, ClockIsAtLeast, IsOnlyTaker, objects_read}
+use Rattle.snap_shared.specs.Seats.{opening_of, number_of, seen_by, mine_of, IsSeat}
 use Rattle.snap_shared.specs.SharedCalls.{own_calls}
 use Rattle.snap_shared.specs.declared.shared.Seat.{Seat}
 use Rattle.snap_shared.specs.declared.shared.Shared.{Shared}
@@ -32,6 +33,14 @@ pub record IsMapAtTake {P : Type 0} (rules : Rules P) (opens : World P → Type 
   pub world : World P
   pub possible : IsPossibleWorld rules opens before world
   pub shows : m ≡ (snapshot_of world 0).view
+
+-- The seat `before` returns from calls on the shared world as `after`: at rest, with the same number, and with at least
+-- as much of the history seen.
+pub record ReturnsSeat {W P : Type 0} (rules : Rules P) (stands : W → World P → Type 0) (shared : Shared W P)
+    (before after : Seat W) : Type 0 where
+  pub fits : IsSeat shared after
+  pub number : number_of after ≡ number_of before
+  pub further : SeesFurther rules (stands (opening_of shared)) (seen_by before) (seen_by after)
 
 module _ {W P : Type 0} (rules : Rules P) (stands : W → World P → Type 0) (shared : Shared W P) where
   -- The watcher's last map after what the seat has seen, with the types of the objects.
@@ -76,5 +85,5 @@ module _ {W P : Type 0} (rules : Rules P) (stands : W → World P → Type 0) (s
       → (Option FrameResult → Type 0) → Report → Type 0
   MakesThrough c k before after types applies =
       MakesFrame c.program.now k (IsAt c) (HasTaken before after c.watcher types)
-      (λ xs. (objects_read (mine_of after) ≡ objects_read (mine_of before) ++ xs)
-      × LogsFrame (Some (mine_of before)) (Some (mine_of after)) (number_of before) c.watcher xs) applies
+      (ReadsInFrame (objects_read (mine_of before)) (objects_read (mine_of after)) (Some (mine_of before))
+      (Some (mine_of after)) (number_of before) c.watcher) applies

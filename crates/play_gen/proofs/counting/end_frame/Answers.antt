@@ -13,9 +13,9 @@ returns-in-Ok g c functions r h =
     let shows = frame_shows 0 c.args.name r h in
     let at = frame_at 0 c.args.name r h in
     let stood = c.compose-composed.ensures.same r.standing.world h.world_stands in
-    let told = c.in-Ok.ensures.told k m shows at
+    let told = c.in-Ok.ensures.frame.told k m at shows
     ∙ ap (λ (o : Option FrameResult). option_map (λ (f : FrameResult). f.told) o) (frame_is 0 c.args.name r h) in
     counts_end {stands = g.V.Versions.stands} {world = c.args.world.now} c.args.counting.now _ r c.args.name h
-    (c.in_ok-make_call.ensures.left r.standing.world stood) (c.in-Ok.ensures.left k m shows at)
-    c.compose-composed.ensures.program
+    (c.in_ok-make_call.ensures.left r.standing.world stood) (c.in-Ok.ensures.frame.left k m at shows)
+    c.compose-composed.ensures.frame.program
     (c.count_frame.ensures ∙ ap (option_counted c.args.counting.now.tally) told)

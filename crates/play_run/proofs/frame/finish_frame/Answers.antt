@@ -21,24 +21,24 @@ returns-in-Ok-composed-clause-runs g c r h =
     let shows = frame_shows a c.args.name r h.facts in
     let at = frame_at a c.args.name r h.facts in
     let stood = c.compose-composed.ensures.same r.standing.world h.facts.world_stands in
-    let left = c.in-Ok-composed.ensures.left k m shows at in
+    let left = c.in-Ok-composed.ensures.frame.left k m at shows in
     let good = frame_is a c.args.name r h.facts in
     let bytes = end_bytes a c.args.name r h.facts (job_style c.args.actor.job.now c.args.actor.flags) in
     let says = says_same c.write_frame.result _ _ _ _ (sym bytes)
     (says_behind c.write_frame.result _ _ _ _ _
     (c.in-Ok.ensures.says r.standing.world stood).all (c.write_frame.ensures.says k (Some m)
     (outcome fs r c.args.name)
-    (c.in-Ok-composed.ensures.told k m shows at
+    (c.in-Ok-composed.ensures.frame.told k m at shows
     ∙ ap (λ (o : Option FrameResult). option_map (λ (f : FrameResult). f.told) o) good)
     (subst (λ (o : Option FrameResult). IsAt c.compose-composed.new.memory.composition (kept_after k o) (Some m))
     good left)
     (subst (λ (o : Option FrameResult). MadeCalls c.args.actor.flags k o
-    c.compose-composed.new.memory.composition.ops) good (c.in-Ok-composed.ensures.calls k m shows at)))) in
+    c.compose-composed.new.memory.composition.ops) good (c.in-Ok-composed.ensures.frame.calls k m at shows)))) in
     record {
       says = says;
       left = anyway c.write_frame.result (record {
         facts = end_facts a c.args.name r h.facts (c.in-Ok.ensures.left r.standing.world stood) left
-            c.compose-composed.ensures.program;
+            c.compose-composed.ensures.frame.program;
         named = subst (λ n. Holds n (part_after fs r (of_actor a EndFrame)).notes.names)
             (sym c.compose-composed.ensures.names)
             (subst (Holds c.args.memory.now.names) (sym (end_names a c.args.name r h.facts)) h.named);
@@ -46,14 +46,14 @@ returns-in-Ok-composed-clause-runs g c r h =
             (g.V.Versions.log c.compose-composed.new.world) (g.V.Versions.log c.make_call.new.world) h.logged
             (subst (λ f. LogsFrameReads f (g.V.Versions.stands c.args.world.now) a c.args.name k m
             (g.V.Versions.log c.args.world.now) (g.V.Versions.log c.compose-composed.new.world))
-            h.facts.same_program (c.in-Ok-composed.ensures.log k m shows at))
+            h.facts.same_program (c.in-Ok-composed.ensures.log k m at shows))
             (c.in-Ok.ensures.log r.standing.world stood);
       });
       stops = after_error c.write_frame.result
           (λ part. end_stops a c.args.name r h.facts (job_style c.args.actor.job.now c.args.actor.flags)
-          c.compose-composed.ensures.reads.0 (g.V.Versions.log c.args.world.now)
+          c.compose-composed.ensures.reads.xs (g.V.Versions.log c.args.world.now)
           (g.V.Versions.log c.compose-composed.new.world) (g.V.Versions.log c.make_call.new.world) _ _
-          h.logged c.compose-composed.ensures.reads.1 c.compose-composed.ensures.legal
+          h.logged c.compose-composed.ensures.reads.reads c.compose-composed.ensures.reads.legal
           (inr (c.in-Ok.ensures.log r.standing.world stood)) part) says.part;
     }
 
@@ -67,9 +67,9 @@ returns-in-Ok-clause-runs g c r h =
           (record { all = tt; part = part-all _ _ _ _ (c.in-Ok.ensures.says r.standing.world stood).all });
       left = tt;
       stops = end_stops c.args.actor.number c.args.name r h.facts (job_style c.args.actor.job.now c.args.actor.flags)
-          c.compose-composed.ensures.reads.0 (g.V.Versions.log c.args.world.now)
+          c.compose-composed.ensures.reads.xs (g.V.Versions.log c.args.world.now)
           (g.V.Versions.log c.compose-composed.new.world) (g.V.Versions.log c.make_call.new.world) _ _
-          h.logged c.compose-composed.ensures.reads.1 c.compose-composed.ensures.legal
+          h.logged c.compose-composed.ensures.reads.reads c.compose-composed.ensures.reads.legal
           (inr (c.in-Ok.ensures.log r.standing.world stood))
           (part-all _ _ _ [] (c.in-Ok.ensures.says r.standing.world stood).all);
     }
@@ -84,8 +84,8 @@ returns-clause-runs g c r h =
           (record { all = tt; part = part-front _ _ _ _ (c.in-Err.ensures.says r.standing.world stood).part });
       left = tt;
       stops = end_stops c.args.actor.number c.args.name r h.facts (job_style c.args.actor.job.now c.args.actor.flags)
-          c.compose-composed.ensures.reads.0 (g.V.Versions.log c.args.world.now)
+          c.compose-composed.ensures.reads.xs (g.V.Versions.log c.args.world.now)
           (g.V.Versions.log c.compose-composed.new.world) (g.V.Versions.log c.make_call.new.world) _ _
-          h.logged c.compose-composed.ensures.reads.1 c.compose-composed.ensures.legal
+          h.logged c.compose-composed.ensures.reads.reads c.compose-composed.ensures.reads.legal
           (c.in-Err.ensures.stops r.standing.world stood) (c.in-Err.ensures.says r.standing.world stood).part;
     }

@@ -20,8 +20,8 @@ returns-in-Ok-compose_again-clause-plays g c s h legal turn printed =
     let agree = reads_agree f s h in
     let composed = c.in-Ok-compose_again.ensures in
     plays_end f s h (job_style c.args.job.now c.args.flags) _ _ _ c.args.call.now legal ends turn
-    c.in-Ok.ensures.says.all _ (composed.says s.kept m at agree h.recorded.new)
-    (composed.left s.kept m at agree h.recorded.new)
+    c.in-Ok.ensures.says.all _ (composed.says s.kept m at (h.recorded.new, agree))
+    (composed.left s.kept m at (h.recorded.new, agree))
     composed.program composed.given composed.reads
 
 pub returns-in-Err-compose_again-clause-plays : goal.returns-in-Err-compose_again-clause-plays
@@ -30,7 +30,7 @@ returns-in-Err-compose_again-clause-plays g c s h legal turn printed =
     let ends = sym c.is_dispose.ensures ∙ c.if-not-is_dispose.false in
     plays_end_stopped f s h (job_style c.args.job.now c.args.flags) _ _ _ c.args.call.now legal ends turn
     c.in-Ok.ensures.says.all _ c.in-Err-compose_again.stop
-    (c.in-Err-compose_again.ensures.says s.kept (view_now f s h) (composed_at f s h) (reads_agree f s h) h.recorded.new)
+    (c.in-Err-compose_again.ensures.says s.kept (view_now f s h) (composed_at f s h) (h.recorded.new, reads_agree f s h))
 
 pub returns-in-Err-clause-plays : goal.returns-in-Err-clause-plays
 returns-in-Err-clause-plays g c s h legal turn printed =

@@ -15,8 +15,7 @@ returns-in_default g c =
     subst (λ (o : Option DraftGroups). EndsComposed c.args.self.now c.keep_idle.new.self o tree tree faults faults
     (c.args.applier.now ≡ c.args.applier.now) (Ok c.keep_idle.result)) (sym c.in_default.is)
     (ends_idle c.args.self.now c.keep_idle.new.self tree faults _ c.keep_idle.result
-    c.keep_idle.ensures.program c.keep_idle.ensures.watcher c.keep_idle.ensures.good c.keep_idle.ensures.report
-    refl c.keep_idle.ensures.ops)
+    c.keep_idle.ensures.settings c.keep_idle.ensures.good c.keep_idle.ensures.report refl c.keep_idle.ensures.ops)
 
 pub returns-in_default-list_calls : goal.returns-in_default-list_calls
 returns-in_default-list_calls g c =
@@ -29,7 +28,7 @@ returns-then-len-eq0 g c =
     subst (λ (o : Option DraftGroups). EndsComposed c.args.self.now c.keep.new.self o tree tree faults faults
     (c.args.applier.now ≡ c.args.applier.now) (Ok c.keep.result)) (sym c.in-Some.is)
     (ends_uncalled c.args.self.now c.keep.new.self c.in-Some.draft tree faults _ c.keep.result c.in-Ok.ops
-    c.keep.ensures.program c.keep.ensures.watcher c.keep.ensures.good c.keep.ensures.report refl c.keep.ensures.ops
+    c.keep.ensures.settings c.keep.ensures.good c.keep.ensures.report refl c.keep.ensures.ops
     (no_calls c.in-Ok.ops (sym c.len.ensures ∙ c.if-len-eq0.true)) c.in-Ok.ensures)
 
 pub apply_calls-requires-clause-tree : goal.apply_calls-requires-clause-tree

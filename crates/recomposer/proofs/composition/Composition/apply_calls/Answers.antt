@@ -24,7 +24,7 @@ returns-in-Ok-carry g c =
     let counted = c.take_memory.ensures.faults in
     ends_called c.args.self.now c.keep.new.self c.args.draft (g.A.Applier.tree c.args.applier.now)
     (g.A.Applier.tree c.take_memory.new.applier) (g.A.Applier.tree c.carry.new.applier) _ _ _ c.keep.result
-    c.args.ops c.in-Ok.calls c.keep.ensures.program c.keep.ensures.watcher c.keep.ensures.good c.keep.ensures.report
+    c.args.ops c.in-Ok.calls c.keep.ensures.settings c.keep.ensures.good c.keep.ensures.report
     (omega (arith, later, counted)) c.take_memory.ensures.tree c.in-Ok-carry.ensures.tree c.in-Ok.ensures.same
     c.keep.ensures.ops c.requires.some c.requires.ops
 
@@ -33,7 +33,7 @@ returns-in-Err g c =
     let later = c.carry.ensures.cause.later in
     let counted = c.take_memory.ensures.faults in
     ends_with_fault c.args.self.now c.detach.new.self c.args.draft _ _ _ _ _ c.args.ops
-    c.detach.ensures.program c.detach.ensures.watcher c.detach.ensures.ops c.detach.ensures.fault
+    c.detach.ensures.calls.settings c.detach.ensures.calls.ops c.detach.ensures.fault
     (omega (arith, later, counted))
     (subst (λ (n : ℕ). Rose n (g.A.Applier.faults c.carry.new.applier)) counted c.in-Err.ensures.cause.failed)
     c.requires.some c.requires.ops

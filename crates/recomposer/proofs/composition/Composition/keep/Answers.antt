@@ -13,3 +13,6 @@ returns-clause-good c k m h made =
 pub returns-clause-report : goal.returns-clause-report
 returns-clause-report c k m h made =
     ap Some c.report-report.ensures ∙ told_at c.args.self.now k m c.args.draft h made.1 made.0
+
+pub returns-clause-settings : goal.returns-clause-settings
+returns-clause-settings c = record { program = refl; watcher = refl }

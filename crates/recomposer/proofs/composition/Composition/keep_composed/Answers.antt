@@ -22,3 +22,9 @@ pub returns-clause-report : goal.returns-clause-report
 returns-clause-report c k m h composed =
     c.keep.ensures.report k m h (subst (λ (o : Option DraftGroups). IsComposed c.args.self.now k m o) c.in-Some.is
     composed)
+
+pub returns-in_default-clause-settings : goal.returns-in_default-clause-settings
+returns-in_default-clause-settings c = c.keep_idle.ensures.settings
+
+pub returns-clause-settings : goal.returns-clause-settings
+returns-clause-settings c = c.keep.ensures.settings

@@ -9,3 +9,6 @@ returns-clause-good c k m h nothing =
 pub returns-clause-report : goal.returns-clause-report
 returns-clause-report c k m h nothing =
     idle_told c.args.self.now k m h nothing.0 nothing.1 c.idle_report.result c.idle_report.ensures
+
+pub returns-clause-settings : goal.returns-clause-settings
+returns-clause-settings c = record { program = refl; watcher = refl }

@@ -1,4 +1,4 @@
-use Rattle.std.proofs.Common.{◌<◌, ◌∙◌, subst, sym}
+use Rattle.std.proofs.Common.{◌<◌, ◌∙◌, refl, subst, sym}
 use Rattle.recomposer.proofs.Owings.{owes_more}
 use Rattle.recomposer.proofs.composition.Composition.note.Goals as goal
 
@@ -15,3 +15,6 @@ returns-clause-noted c k l m h follows is = record {
   groups = h.groups;
   nodes = h.nodes;
 }
+
+pub returns-clause-calls : goal.returns-clause-calls
+returns-clause-calls c = record { settings = record { program = refl; watcher = refl }; ops = refl }

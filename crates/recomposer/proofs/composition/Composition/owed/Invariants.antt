@@ -1,4 +1,4 @@
-use Rattle.std.proofs.Common.{◌≡◌, ◌≤◌, ◌++◌, drop, length, Some, []}
+use Rattle.std.proofs.Common.{◌≡◌, ◌++◌, drop, length, Some, []}
 use Rattle.std.specs.Option.{unwrap_or}
 use Rattle.rt_values.specs.Maps.{Map, differ, differ_from}
 use Rattle.rt_groups.specs.Frames.{LastFrame}

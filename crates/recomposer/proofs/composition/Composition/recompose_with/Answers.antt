@@ -1,10 +1,7 @@
-use Rattle.std.proofs.Common.{rules, ◌≡◌, ◌∙◌, refl, sym, Err, Ok, None}
+use Rattle.std.proofs.Common.{◌≡◌, ◌∙◌, sym, ap, Ok, Err, None}
 use Rattle.rt_groups.specs.declared.report.Report.{Report}
-use Rattle.composer.specs.declared.stop.ComposeStop.TheVariants.{TooManyGroups}
-use Rattle.recomposer.specs.declared.composition.FrameStop.TheVariants.{ApplierFault}
-use Rattle.recomposer.proofs.Frames.{grew_in_all}
-use Rattle.recomposer.proofs.QuietFrames.{quiet_at, quiet_ends}
-use Rattle.recomposer.proofs.Stops.{on_ok, on_err, unless_fault, no_cause, may_be_called}
+use Rattle.recomposer.proofs.ShownFrames.{asks_on, asks_refused, shown_composed, shown_refused, applier_driven, applier_untouched}
+use Rattle.recomposer.proofs.Stops.{may_be_called}
 use Rattle.recomposer.proofs.composition.Composition.recompose_with.Goals as goal
 
 pub apply-requires : goal.apply-requires
@@ -14,75 +11,45 @@ apply-requires g c =
       olds = c.in-Ok.ensures.olds;
     }
 
-pub returns-in-Ok-clause-good : goal.returns-in-Ok-clause-good
-returns-in-Ok-clause-good g c k m h shows = c.apply.ensures.good k m h (c.in-Ok.ensures.made k m h shows)
+pub returns-in-Ok-clause-frame : goal.returns-in-Ok-clause-frame
+returns-in-Ok-clause-frame g c =
+    shown_composed c.args.self.now c.apply.new.self (g.V.View.shows c.args.view.now) c.in-Ok.composed c.apply.result
+    c.in-Ok.ensures.made c.apply.ensures
 
-pub returns-in-Ok-clause-report : goal.returns-in-Ok-clause-report
-returns-in-Ok-clause-report g c k m h shows = c.apply.ensures.report k m h (c.in-Ok.ensures.made k m h shows)
+pub returns-in-Ok-clause-applier : goal.returns-in-Ok-clause-applier
+returns-in-Ok-clause-applier g c =
+    applier_driven g.A.Applier.tree g.A.Applier.faults c.args.applier.now c.apply.new.applier c.args.self.now
+    c.apply.new.self (g.V.View.shows c.args.view.now) c.in-Ok.composed c.apply.result c.in-Ok.ensures.made
+    (λ nothing. let both : Ok c.in-Ok.composed ≡ Ok None = sym c.in-Ok.is ∙ (c.compose_owed.ensures.idle nothing).0 in
+    cc) c.apply.ensures
 
-pub returns-in-Ok-clause-applied : goal.returns-in-Ok-clause-applied
-returns-in-Ok-clause-applied g c k m h shows = c.apply.ensures.applied k m h (c.in-Ok.ensures.made k m h shows)
-
-pub returns-in-Ok-clause-fault : goal.returns-in-Ok-clause-fault
-returns-in-Ok-clause-fault g c k m h shows stop = c.apply.ensures.fault k m h (c.in-Ok.ensures.made k m h shows) stop
-
-pub returns-in-Ok-clause-many : goal.returns-in-Ok-clause-many
-returns-in-Ok-clause-many g c k m h shows stop = absurd (c.apply.ensures.few stop)
-
-pub returns-in-Ok-clause-asks : goal.returns-in-Ok-clause-asks
-returns-in-Ok-clause-asks g c k m h shows = on_ok c.apply.result (c.in-Ok.ensures.asks k m h shows)
-
-pub returns-in-Ok-clause-part : goal.returns-in-Ok-clause-part
-returns-in-Ok-clause-part g c k m h shows =
-    on_err c.apply.result (grew_in_all c.compose_owed.result _ _ _ _ refl (c.compose_owed.ensures.asks k m h shows)
-    (c.compose_owed.ensures.part k m h shows))
+pub returns-in-Ok-clause-reads : goal.returns-in-Ok-clause-reads
+returns-in-Ok-clause-reads g c =
+    asks_on c.args.self.now (g.V.View.shows c.args.view.now) (g.V.View.asked c.args.view.now)
+    (g.V.View.asked c.compose_owed.new.view) c.in-Ok.composed c.apply.result c.in-Ok.ensures.reads
 
 pub returns-in-Ok-clause-idle : goal.returns-in-Ok-clause-idle
 returns-in-Ok-clause-idle g c h =
     let idle = c.compose_owed.ensures.idle h in
-    let none : c.in-Ok.composed ≡ None = let both : Ok c.in-Ok.composed ≡ Ok None = sym c.in-Ok.is ∙ idle.0 in cc in
-    let calls = c.apply.ensures.idle none in
-    (calls.0, idle.1, idle.2, calls.1)
+    (idle.1, idle.2)
 
-pub returns-in-Err-clause-many : goal.returns-in-Err-clause-many
-returns-in-Err-clause-many g c k m h shows stop =
-    let is : c.compose_owed.result ≡ Err TooManyGroups = search rules in
-    c.compose_owed.ensures.many k m h shows is
+pub returns-in-Err-clause-frame : goal.returns-in-Err-clause-frame
+returns-in-Err-clause-frame g c =
+    shown_refused c.args.self.now (g.V.View.shows c.args.view.now) c.frame_stop.result
+    (λ k m h shows stop. c.in-Err.ensures.many k m h shows (ap Err (c.frame_stop.ensures.many stop)))
+    c.frame_stop.ensures.not_spent c.frame_stop.ensures.no_fault
 
-pub returns-in-Err-clause-fault : goal.returns-in-Err-clause-fault
-returns-in-Err-clause-fault g c k m h shows stop =
-    absurd (c.frame_stop.ensures.no_fault (let e : c.frame_stop.result ≡ ApplierFault = cc in e))
+pub returns-in-Err-clause-applier : goal.returns-in-Err-clause-applier
+returns-in-Err-clause-applier g c =
+    applier_untouched g.A.Applier.tree g.A.Applier.faults c.args.applier.now c.args.self.now
+    (g.V.View.shows c.args.view.now) c.frame_stop.result c.frame_stop.ensures.no_fault
 
-pub returns-in-Err-clause-err : goal.returns-in-Err-clause-err
-returns-in-Err-clause-err g c =
-    unless_fault {U = Report} {X = c.args.self.now ≡ c.args.self.now} (Err c.frame_stop.result) refl
-
-pub returns-in-Err-clause-still : goal.returns-in-Err-clause-still
-returns-in-Err-clause-still g c = let tree = g.A.Applier.tree c.args.applier.now in
-    unless_fault {U = Report} {X = tree ≡ tree} (Err c.frame_stop.result) refl
-
-pub returns-in-Err-clause-cause : goal.returns-in-Err-clause-cause
-returns-in-Err-clause-cause g c =
-    no_cause _ _ (λ stop. c.frame_stop.ensures.no_fault (let e : c.frame_stop.result ≡ ApplierFault = cc in e))
+pub returns-in-Err-clause-reads : goal.returns-in-Err-clause-reads
+returns-in-Err-clause-reads g c =
+    asks_refused c.args.self.now (g.V.View.shows c.args.view.now) (g.V.View.asked c.args.view.now)
+    (g.V.View.asked c.compose_owed.new.view) Report c.in-Err.stop c.frame_stop.result c.in-Err.ensures.reads
 
 pub returns-in-Err-clause-idle : goal.returns-in-Err-clause-idle
 returns-in-Err-clause-idle g c h =
-    let both : Err c.in-Err.stop ≡ Ok None = sym c.in-Err.is ∙ (c.compose_owed.ensures.idle h).0 in
-    absurd cc
-
-pub returns-in-Ok-clause-detached : goal.returns-in-Ok-clause-detached
-returns-in-Ok-clause-detached g c k m h shows stop =
-    c.apply.ensures.detached k m h (c.in-Ok.ensures.made k m h shows) stop
-
-pub returns-in-Ok-clause-quiet : goal.returns-in-Ok-clause-quiet
-returns-in-Ok-clause-quiet g c k m h shows quiet =
-    let made = c.in-Ok.ensures.made k m h shows in
-    let nothing = quiet_at c.args.self.now k m h quiet in
-    quiet_ends c.args.self.now.program.now k m nothing c.apply.new.self (g.V.View.asked c.args.view.now)
-    (g.V.View.asked c.compose_owed.new.view) c.apply.result
-    (c.apply.ensures.unchanged k m h made nothing.calls_none)
-    (c.in-Ok.ensures.asks k m h shows) (c.apply.ensures.good k m h made)
-
-pub returns-in-Err-clause-detached : goal.returns-in-Err-clause-detached
-returns-in-Err-clause-detached g c k m h shows stop =
-    absurd (c.frame_stop.ensures.no_fault (let e : c.frame_stop.result ≡ ApplierFault = cc in e))
+    let idle = c.compose_owed.ensures.idle h in
+    (idle.1, idle.2)
