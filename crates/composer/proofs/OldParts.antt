@@ -4,7 +4,7 @@ use Rattle.std.proofs.Common.{ℕ, zero, suc, List, [], ◌∷◌, ◌++◌, ◌
 use Rattle.rt_values.specs.Maps.{Map}
 use Rattle.rt_groups.specs.GroupForest.{GroupForest, End, Read, Group, GroupKind, asks}
 use Rattle.rt_groups.specs.Paths.{GroupKey, sibling, same_sibling, Found, nth, matching_sibling, inside_of}
-use Rattle.group_paths.specs.SiblingEquality.{same_is}
+use Rattle.path_laws.specs.SiblingEquality.{same_is}
 use Rattle.lang_ast.specs.Terms.{Func}
 use Rattle.recompose_laws.specs.Refreshing.{SameReads}
 use Rattle.recompose_laws.specs.Idle.{IsNumbered}

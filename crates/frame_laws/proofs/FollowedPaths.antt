@@ -6,7 +6,7 @@ use Rattle.rt_groups.specs.Frames.{number_for, number_of}
 use Rattle.recompose_laws.specs.Numbering.{numbered_by_siblings}
 use Rattle.recompose_laws.proofs.Numbers.{path_numbers_are_sibling_numbers}
 use Rattle.tree_laws.proofs.KeptSites.{number_rises, next_rises}
-use Rattle.group_paths.specs.SiblingEquality.{same_is}
+use Rattle.path_laws.specs.SiblingEquality.{same_is}
 use Rattle.frame_laws.specs.FollowedPaths.{NumbersFollowPaths}
 
 -- A new group that was matched with `old`: it has the number for `old` at some unused number from `next` on, and its

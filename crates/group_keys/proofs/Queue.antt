@@ -9,7 +9,7 @@ use Rattle.std.proofs.lemmas.List.Quantifiers.{position-Some}
 use Rattle.indexmap.specs.IndexMap.{IndexMap, get, keys, with_value_at, index_map_len, IsUnique}
 use Rattle.indexmap.proofs.CallerLemmas.{updates-with_value_at}
 use Rattle.rt_groups.specs.Paths.{GroupKey, same_sibling}
-use Rattle.group_paths.specs.SiblingEquality.{same_is, siblings_equiv}
+use Rattle.path_laws.specs.SiblingEquality.{same_is, siblings_equiv}
 use Rattle.group_keys.specs.declared.queues.SiblingQueues.{SiblingQueues}
 use Rattle.group_keys.specs.Queues.{queued_indexes, mapped_queue}
 

@@ -5,7 +5,7 @@ use Rattle.std.specs.Hash as fed
 use Rattle.rt_values.specs.declared.value.Value.{Value}
 use Rattle.rt_values.specs.declared.value.Value.TheVariants as value
 use Rattle.rt_groups.specs.Paths.{GroupKey, same_sibling}
-use Rattle.group_paths.specs.SiblingEquality.{same_is}
+use Rattle.path_laws.specs.SiblingEquality.{same_is}
 
 abbrev pub hashed_value : Value → List (List ℕ)
 hashed_value (value.Int z) = fed.i64 z

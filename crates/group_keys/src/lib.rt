@@ -12,7 +12,7 @@ ghost use Rattle.std.specs.Option.{option_map, option_eq};
 ghost use Rattle.std.specs.Cmp.{partial_equiv_from_equiv};
 ghost use Rattle.rt_values.specs.Values.{same_value};
 ghost use Rattle.rt_groups.specs.Paths.{same_sibling};
-ghost use Rattle.group_paths.specs.SiblingEquality.{siblings_equiv};
+ghost use Rattle.path_laws.specs.SiblingEquality.{siblings_equiv};
 ghost use Rattle.group_keys.specs.Keys.{hashed_value, hashed_key, hashed_sibling, equal_hashes};
 
 mod matching;

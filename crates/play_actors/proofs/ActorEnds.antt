@@ -14,11 +14,11 @@ use Rattle.snap_shared.specs.declared.shared.Seat.{Seat}
 use Rattle.snap_shared.specs.declared.shared.Shared.{Shared}
 use Rattle.script_lang.specs.PrintedCalls.{reads_frame, frames_after, printed_calls}
 use Rattle.script_lang.specs.StepCalls.{ActorPart, no_notes}
-use Rattle.woven_laws.specs.Laws.{CanBeCompleted}
-use Rattle.woven_laws.specs.FirstParts.{IsFirstPart, SpellsTo}
-use Rattle.woven_laws.specs.PrintedHistory.{no_frames, with_frames, printed_from, printed_history, frames_after_calls}
-use Rattle.woven_laws.specs.Woven.{actor_at, initial_actor, parts_of, IsWoven, SpellsAll}
-use Rattle.woven_laws.proofs.Steps.{nothing_is_spelled, all_is_spelled}
+use Rattle.play_laws.specs.Laws.{CanBeCompleted}
+use Rattle.play_laws.specs.FirstParts.{IsFirstPart, SpellsTo}
+use Rattle.play_laws.specs.PrintedHistory.{no_frames, with_frames, printed_from, printed_history, frames_after_calls}
+use Rattle.play_laws.specs.Woven.{actor_at, initial_actor, parts_of, IsWoven, SpellsAll}
+use Rattle.play_laws.proofs.Steps.{nothing_is_spelled, all_is_spelled}
 use Rattle.play_actors.specs.ActorNotes.{IsNoted}
 use Rattle.play_actors.specs.ActorSteps.{CountsSnapshots, HasCome, HasActed, ActsThrough}
 use Rattle.play_actors.specs.declared.worker.Worker.{Worker}

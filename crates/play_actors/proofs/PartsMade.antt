@@ -15,11 +15,11 @@ use Rattle.snap_shared.specs.Seats.{seen_by, mine_of}
 use Rattle.snap_shared.specs.SharedCalls.{own_calls, entries_added, SeesOwnCall}
 use Rattle.script_lang.specs.PrintedCalls.{printed_calls, reads_frame, frames_after}
 use Rattle.script_lang.specs.StepCalls.{Part, Take, Read, Write, WriteSum, Apply, Dispose, BeginFrame, EndFrame, ActorPart, Notes, of_actor, request_of, notes_after}
-use Rattle.woven_laws.specs.FirstParts.{IsFirstPart, SpellsTo}
-use Rattle.woven_laws.specs.PrintedHistory.{frames_after_calls}
-use Rattle.woven_laws.specs.Woven.{ActorState, actor_at}
-use Rattle.woven_laws.proofs.Prints.{call_is_printed, frame_reads_are_left_out}
-use Rattle.woven_laws.proofs.Steps.{call_is_spelled}
+use Rattle.play_laws.specs.FirstParts.{IsFirstPart, SpellsTo}
+use Rattle.play_laws.specs.PrintedHistory.{frames_after_calls}
+use Rattle.play_laws.specs.Woven.{ActorState, actor_at}
+use Rattle.play_laws.proofs.Prints.{call_is_printed, frame_reads_are_left_out}
+use Rattle.play_laws.proofs.Steps.{call_is_spelled}
 use Rattle.play_run.specs.RunState.{AreKnown}
 use Rattle.play_actors.specs.ActorNotes.{IsNoted}
 use Rattle.play_actors.specs.ActorSteps.{CountsSnapshots, FrameIsApart, frame_list, HasCome, IsActorAt, MayMake, frame_then}

@@ -6,7 +6,7 @@ use Rattle.snap_api.specs.World.{World}
 use Rattle.snap_shared.specs.declared.shared.Shared.{Shared}
 use Rattle.script_lang.specs.Scripts.{index_of, written_out}
 use Rattle.script_lang.specs.StepCalls.{Part, ActorPart, of_actor, steps_parts}
-use Rattle.woven_laws.specs.Woven.{actor_parts}
+use Rattle.play_laws.specs.Woven.{actor_parts}
 use Rattle.play_actors.specs.ActorSteps.{by_actor, HasCome, Leads, Makes}
 use Rattle.play_actors.specs.declared.worker.Worker.{Worker}
 

@@ -13,9 +13,9 @@ use Rattle.script_lang.specs.SnapshotNames.{NamedNumber, latest, never_taken}
 use Rattle.script_lang.specs.StepCalls.{Part, BeginFrame, EndFrame, ActorPart, Notes, of_actor, request_of}
 use Rattle.script_lang.specs.PrintedCalls.{printed_calls}
 use Rattle.play_run.specs.RunState.{AreKnown}
-use Rattle.woven_laws.specs.FirstParts.{IsFirstPart, SpellsTo}
-use Rattle.woven_laws.specs.PrintedHistory.{frames_after_calls}
-use Rattle.woven_laws.specs.Woven.{ActorState, actor_at, initial_actor, SpellsAll}
+use Rattle.play_laws.specs.FirstParts.{IsFirstPart, SpellsTo}
+use Rattle.play_laws.specs.PrintedHistory.{frames_after_calls}
+use Rattle.play_laws.specs.Woven.{ActorState, actor_at, initial_actor, SpellsAll}
 use Rattle.play_actors.specs.ActorNotes.{IsNoted}
 use Rattle.play_actors.specs.declared.memory.ActorMemory.{ActorMemory}
 use Rattle.play_actors.specs.declared.worker.Worker.{Worker}

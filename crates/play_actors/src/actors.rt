@@ -5,9 +5,9 @@ ghost use Rattle.snap_api.specs.World.{IsLegal};
 ghost use Rattle.snap_shared.specs.Seats.{number_of, IsNewSeat};
 ghost use Rattle.snap_shared.specs.SharedCalls.{numbers_below};
 ghost use Rattle.script_lang.specs.StepCalls.{script_parts, opening_world};
-ghost use Rattle.woven_laws.specs.Laws.{CanBeCompleted};
-ghost use Rattle.woven_laws.specs.PrintedHistory.{printed_history};
-ghost use Rattle.woven_laws.specs.Woven.{initial_actor, IsWoven};
+ghost use Rattle.play_laws.specs.Laws.{CanBeCompleted};
+ghost use Rattle.play_laws.specs.PrintedHistory.{printed_history};
+ghost use Rattle.play_laws.specs.Woven.{initial_actor, IsWoven};
 ghost use Rattle.play_actors.specs.ActorSteps.{ActsThrough, IsActorsHistory};
 
 use crate::cut::cut_history;

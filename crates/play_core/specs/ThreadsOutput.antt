@@ -4,7 +4,7 @@ use Rattle.lang_forms.specs.Sources.{Source}
 use Rattle.snap_api.specs.World.{History}
 use Rattle.script_lang.specs.Lines.{initial_standing}
 use Rattle.script_lang.specs.declared.flags.Flags.{Flags}
-use Rattle.woven_laws.specs.Laws.{text_of}
+use Rattle.play_laws.specs.Laws.{text_of}
 use Rattle.play_threads.specs.WovenText.{IsScriptHistory}
 use Rattle.play_core.specs.Texts.{IsText, style}
 

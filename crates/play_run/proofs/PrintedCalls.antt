@@ -13,8 +13,8 @@ use Rattle.snap_api.specs.declared.data.Request.{Request}
 use Rattle.snap_api.specs.declared.data.Request.TheVariants as request
 use Rattle.script_lang.specs.Lines.{LineStyle, Standing, ends_frame, frame_taken, lines, lines_at, name_in, next}
 use Rattle.script_lang.specs.PrintedCalls.{reads_frame, frames_after}
-use Rattle.woven_laws.specs.FramesInTurn.{OpenFrame, AreInTurn, frame_opened}
-use Rattle.woven_laws.specs.PrintedHistory.{with_frames, printed_from}
+use Rattle.play_laws.specs.FramesInTurn.{OpenFrame, AreInTurn, frame_opened}
+use Rattle.play_laws.specs.PrintedHistory.{with_frames, printed_from}
 use Rattle.play_run.specs.CallsInFrames.{frames_by, is_frame_read, frame_after, IsInTurn, call_lines, standing_then, object_asked}
 
 -- While a frame is open, what is required of a call, by whether the call ends the frame.

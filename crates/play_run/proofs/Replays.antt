@@ -37,8 +37,8 @@ use Rattle.script_lang.specs.PrintedCalls.{reads_frame}
 use Rattle.lang_ast.specs.Programs.{functions_of}
 use Rattle.recomposer.specs.Compositions.{IsAt}
 use Rattle.recomposer.specs.declared.composition.Composition.{Composition}
-use Rattle.woven_laws.specs.FramesInTurn.{OpenFrame, AreInTurn, frame_opened}
-use Rattle.woven_laws.specs.PrintedHistory.{no_frames, printed_from, printed_history}
+use Rattle.play_laws.specs.FramesInTurn.{OpenFrame, AreInTurn, frame_opened}
+use Rattle.play_laws.specs.PrintedHistory.{no_frames, printed_from, printed_history}
 use Rattle.play_run.specs.Opening.{StatesFit}
 use Rattle.play_run.specs.RecordedReads.{AgreesWith}
 use Rattle.play_run.specs.CallsInFrames.{frame_by, name_of, caller_of, frames_by, is_frame_read, object_asked, value_given, frame_after, IsInTurn, call_lines, standing_then}

@@ -11,7 +11,7 @@ use Rattle.snap_api.specs.declared.data.Request.{Request}
 use Rattle.snap_api.specs.declared.data.Request.TheVariants as request
 use Rattle.script_lang.specs.Lines.{LineStyle, Standing, ends_frame, frame_taken, lines_at, next}
 use Rattle.script_lang.specs.PrintedCalls.{reads_frame}
-use Rattle.woven_laws.specs.FramesInTurn.{OpenFrame, frame_opened}
+use Rattle.play_laws.specs.FramesInTurn.{OpenFrame, frame_opened}
 
 -- The snapshot of the open frame, if a frame is open.
 abbrev pub name_of : Option OpenFrame → Option ℕ

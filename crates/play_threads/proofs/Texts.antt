@@ -9,17 +9,17 @@ use Rattle.snap_policy.specs.Table.{table}
 use Rattle.snap_api.specs.World.{History}
 use Rattle.script_lang.specs.Lines.{LineStyle, initial_standing, standing_after, ends_frame, frame_taken}
 use Rattle.script_lang.specs.StepCalls.{script_parts, opening_world}
-use Rattle.woven_laws.specs.FramesInTurn.{OpenFrame, frame_opened, AreInTurn}
-use Rattle.woven_laws.specs.Laws.{CanBeCompleted, text_of}
-use Rattle.woven_laws.specs.PrintedHistory.{printed_history}
-use Rattle.woven_laws.specs.Woven.{initial_actor}
-use Rattle.woven_laws.proofs.Prints.{printed_is_legal}
-use Rattle.woven_laws.proofs.Rests.{part_is_completed}
-use Rattle.woven_laws.proofs.Steps.{nothing_is_spelled}
-use Rattle.woven_laws.proofs.Weaves.{text_goes_on, lines_tell_the_history}
-use Rattle.woven_laws.specs.Woven.{IsWoven}
-use Rattle.woven_laws.proofs.Turns.{Turn}
-use Rattle.woven_laws.proofs.ScriptTurns.{frames_are_in_turn}
+use Rattle.play_laws.specs.FramesInTurn.{OpenFrame, frame_opened, AreInTurn}
+use Rattle.play_laws.specs.Laws.{CanBeCompleted, text_of}
+use Rattle.play_laws.specs.PrintedHistory.{printed_history}
+use Rattle.play_laws.specs.Woven.{initial_actor}
+use Rattle.play_laws.proofs.Prints.{printed_is_legal}
+use Rattle.play_laws.proofs.Rests.{part_is_completed}
+use Rattle.play_laws.proofs.Steps.{nothing_is_spelled}
+use Rattle.play_laws.proofs.Weaves.{text_goes_on, lines_tell_the_history}
+use Rattle.play_laws.specs.Woven.{IsWoven}
+use Rattle.play_laws.proofs.Turns.{Turn}
+use Rattle.play_laws.proofs.ScriptTurns.{frames_are_in_turn}
 use Rattle.script_lang.specs.declared.flags.Flags.{Flags}
 use Rattle.play_actors.specs.declared.actors.ActorsEnd.{ActorsEnd}
 use Rattle.play_run.specs.Opening.{StatesFit}

@@ -3,9 +3,9 @@ use Rattle.std.specs.Prelude.{◌≡◌, false, length}
 use Rattle.snap_policy.specs.Table.{table}
 use Rattle.snap_api.specs.World.{IsLegal}
 use Rattle.script_lang.specs.StepCalls.{script_parts, opening_world}
-use Rattle.woven_laws.specs.Laws.{CanBeCompleted}
-use Rattle.woven_laws.specs.PrintedHistory.{printed_history}
-use Rattle.woven_laws.specs.Woven.{initial_actor, IsWoven}
+use Rattle.play_laws.specs.Laws.{CanBeCompleted}
+use Rattle.play_laws.specs.PrintedHistory.{printed_history}
+use Rattle.play_laws.specs.Woven.{initial_actor, IsWoven}
 use Rattle.play_actors.specs.declared.actors.ActorsEnd.{ActorsEnd}
 use Rattle.play_run.specs.declared.job.Job.{Job}
 

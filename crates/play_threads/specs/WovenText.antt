@@ -9,8 +9,8 @@ use Rattle.script_lang.specs.Scripts.{actors_of}
 use Rattle.script_lang.specs.ScriptFaults.{script_faults}
 use Rattle.script_lang.specs.StepCalls.{script_parts, opening_world}
 use Rattle.script_lang.specs.declared.flags.Flags.{Flags}
-use Rattle.woven_laws.specs.Laws.{AreActorNames, text_of}
-use Rattle.woven_laws.specs.Woven.{initial_actor, IsWoven}
+use Rattle.play_laws.specs.Laws.{AreActorNames, text_of}
+use Rattle.play_laws.specs.Woven.{initial_actor, IsWoven}
 use Rattle.play_run.specs.RunPromise.{WritesBytes, job_style, job_functions}
 use Rattle.play_run.specs.declared.job.Job.{Job}
 

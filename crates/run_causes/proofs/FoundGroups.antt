@@ -6,7 +6,7 @@ use Rattle.rt_groups.specs.GroupForest.{GroupForest, End, Read, Group, how_many}
 use Rattle.rt_groups.specs.PreorderGroups.{preorder, flat_group, flat_kind, flat_reads}
 use Rattle.rt_groups.specs.Paths.{Path, GroupKey, sibling, same_sibling, Found, nth, matching_sibling, inside_of, at_path}
 use Rattle.slot_table.specs.TableGroups.{group_at}
-use Rattle.group_paths.specs.GroupPaths.{indexed_forest, number_found, index_at}
+use Rattle.path_laws.specs.GroupPaths.{indexed_forest, number_found, index_at}
 use Rattle.run_causes.proofs.OldForests.{preorder_count, index_after}
 use Rattle.run_causes.proofs.SiblingSteps.{next_of}
 

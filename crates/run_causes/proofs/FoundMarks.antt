@@ -9,7 +9,7 @@ use Rattle.rt_groups.specs.PreorderGroups.{preorder, flat_group, flat_kind, flat
 use Rattle.rt_groups.specs.Paths.{Path, PathStep, GroupKey, sibling, step, Found, at_path}
 use Rattle.rt_groups.specs.Frames.{CallAtPath, nobody, innermost_call, call_runs, other_keys}
 use Rattle.slot_table.specs.TableGroups.{group_at}
-use Rattle.group_paths.specs.GroupPaths.{paths, index_at, old_indexes}
+use Rattle.path_laws.specs.GroupPaths.{paths, index_at, old_indexes}
 use Rattle.run_causes.specs.declared.causes.Cause.{Cause}
 use Rattle.run_causes.specs.declared.causes.Mark.{Mark}
 use Rattle.run_causes.specs.declared.causes.Mark.TheVariants as mark

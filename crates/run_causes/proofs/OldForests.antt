@@ -6,7 +6,7 @@ use Rattle.rt_groups.specs.GroupForest.{GroupForest, End, Read, Group, GroupKind
 use Rattle.rt_groups.specs.PreorderGroups.{preorder, flat_group, flat_kind}
 use Rattle.rt_groups.specs.Paths.{GroupKey, sibling, same_sibling, key_of, Found, nth, matching_sibling, inside_of}
 use Rattle.slot_table.specs.ReaderStates.{group_key}
-use Rattle.group_paths.specs.GroupPaths.{indexed_forest, number_found}
+use Rattle.path_laws.specs.GroupPaths.{indexed_forest, number_found}
 use Rattle.run_causes.specs.OldMatches.{table_key, key_indexes, inside_at, level_of, inner_level}
 
 -- A group of a table has the key of the group.

@@ -6,8 +6,8 @@ use Rattle.rt_groups.specs.declared.groups.Group.{Group as TableGroup}
 use Rattle.rt_groups.specs.GroupForest.{GroupForest, End, Read, Group}
 use Rattle.rt_groups.specs.PreorderGroups.{preorder, flat_group, flat_kind, flat_reads}
 use Rattle.rt_groups.specs.Paths.{GroupKey, sibling, same_sibling, occurrence, Found, matching_sibling, inside_of}
-use Rattle.group_paths.specs.GroupPaths.{indexed_forest, matched_numbers, old_indexes}
-use Rattle.group_paths.proofs.SiblingMatches.{matching_finds_the_old_path}
+use Rattle.path_laws.specs.GroupPaths.{indexed_forest, matched_numbers, old_indexes}
+use Rattle.path_laws.proofs.SiblingMatches.{matching_finds_the_old_path}
 use Rattle.slot_table.specs.TableGroups.{group_at}
 use Rattle.run_causes.specs.OldMatches.{table_key, key_indexes, Level, level_of, inner_level, level_without, levels_around, innermost_level, found_in, levels_after, olds_from, levels_from, level_at}
 use Rattle.run_causes.proofs.SiblingSteps.{split_at}

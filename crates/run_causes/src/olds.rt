@@ -4,7 +4,7 @@ ghost use Rattle.std.specs.Option.{option_map};
 ghost use Rattle.rt_groups.specs.GroupForest.{GroupForest};
 ghost use Rattle.rt_groups.specs.Paths.{GroupKey};
 ghost use Rattle.rt_groups.specs.PreorderGroups.{preorder};
-ghost use Rattle.group_paths.specs.GroupPaths.{old_indexes};
+ghost use Rattle.path_laws.specs.GroupPaths.{old_indexes};
 ghost use Rattle.group_keys.specs.Queues.{queue_of};
 ghost use Rattle.slot_table.specs.ReaderStates.{group_key};
 ghost use Rattle.slot_table.specs.TableGroups.{group_at};

@@ -5,10 +5,10 @@ use Rattle.std.specs.Option.{option_eq, option_map, option_map_or}
 use Rattle.std.proofs.lemmas.Bool.{eqb-true}
 use Rattle.rt_groups.specs.GroupForest.{GroupForest}
 use Rattle.rt_groups.specs.Paths.{Path}
-use Rattle.group_paths.specs.GroupPaths.{paths, path_at, index_at, old_indexes}
-use Rattle.group_paths.proofs.Indexes.{same_item, no_item, get-map}
-use Rattle.group_paths.proofs.SiblingMatches.{each_path_finds_its_group}
-use Rattle.group_paths.proofs.FoundPaths.{each_found_group_has_the_path}
+use Rattle.path_laws.specs.GroupPaths.{paths, path_at, index_at, old_indexes}
+use Rattle.path_laws.proofs.Indexes.{same_item, no_item, get-map}
+use Rattle.path_laws.proofs.SiblingMatches.{each_path_finds_its_group}
+use Rattle.path_laws.proofs.FoundPaths.{each_found_group_has_the_path}
 use Rattle.slot_anchors.specs.Anchors.{first_from, index_after_edit}
 use Rattle.slot_edit.specs.Patches.{anchor_index}
 

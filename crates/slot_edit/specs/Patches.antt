@@ -3,7 +3,7 @@ use Rattle.std.specs.Prelude.{ℕ, List, ◌≡◌, Option, Some, None}
 use Rattle.rt_groups.specs.declared.groups.Group.{Group}
 use Rattle.rt_groups.specs.GroupForest.{GroupForest}
 use Rattle.rt_groups.specs.PreorderGroups.{preorder}
-use Rattle.group_paths.specs.GroupPaths.{old_indexes, new_index}
+use Rattle.path_laws.specs.GroupPaths.{old_indexes, new_index}
 
 -- The new groups in preorder, the old index of each, and the spare capacity that the edit needs.
 pub record PatchData : Type 0 where

@@ -7,7 +7,7 @@ use Rattle.snap_api.specs.declared.data.Reply.{Reply}
 use Rattle.snap_api.specs.declared.data.Request.{Request}
 use Rattle.snap_api.specs.CallLists.{WereMade, LogGrew, entries_of, replies_to}
 use Rattle.snap_api.specs.World.{World, IsLegal, call}
-use Rattle.woven_laws.specs.FramesInTurn.{OpenFrame}
+use Rattle.play_laws.specs.FramesInTurn.{OpenFrame}
 
 -- A caller and a snapshot as an open frame.
 abbrev pub seen : Option (ℕ × ℕ) → Option OpenFrame

@@ -5,8 +5,8 @@ ghost use Rattle.snap_policy.specs.Table.{table};
 ghost use Rattle.snap_api.specs.World.{IsLegal, start};
 ghost use Rattle.script_lang.specs.StepCalls.{opening_world};
 ghost use Rattle.script_lang.specs.Lines.{ends_frame, frame_taken};
-ghost use Rattle.woven_laws.specs.FramesInTurn.{AreInTurn, frame_opened};
-ghost use Rattle.woven_laws.specs.PrintedHistory.{printed_history};
+ghost use Rattle.play_laws.specs.FramesInTurn.{AreInTurn, frame_opened};
+ghost use Rattle.play_laws.specs.PrintedHistory.{printed_history};
 ghost use Rattle.play_run.specs.CallsInFrames.{frame_by, frame_after, IsInTurn};
 
 use crate::memory_runs::{logged_world, sink_failing};

@@ -14,7 +14,7 @@ use recomposer::{Composition, FrameStop};
 use rt_groups::{GroupKind, Report};
 use rt_streams::OpenGate;
 use rt_values::{Steps, Ty, Value, Word};
-use shared_frames::frame_among;
+use recompose_seats::frame_among;
 use slot_table::Table;
 use snap_api::{Entry, Request, Versions};
 use snap_policy::BuiltIn;

@@ -1,4 +1,4 @@
-//! Tests of `snap_shared` and `shared_frames` from outside: seats that meet, the gate of a desk, frames through a seat,
+//! Tests of `snap_shared` and `recompose_seats` from outside: seats that meet, the gate of a desk, frames through a seat,
 //! and real threads.
 #![tactic(auto)]
 

@@ -15,8 +15,8 @@ use Rattle.script_lang.specs.StepCalls.{Notes, ActorPart, no_notes, request_of, 
 use Rattle.script_lang.specs.StepLaws.{BeginsWith, Spells}
 use Rattle.script_lang.specs.Lines.{lines, initial_standing}
 use Rattle.script_lang.specs.declared.flags.Flags.{Flags}
-use Rattle.woven_laws.specs.Woven.{parts_of, initial_actor, IsWoven}
-use Rattle.woven_laws.specs.Laws.{text_of}
+use Rattle.play_laws.specs.Woven.{parts_of, initial_actor, IsWoven}
+use Rattle.play_laws.specs.Laws.{text_of}
 use Rattle.play_threads.specs.WovenText.{IsWovenText}
 use Rattle.lang_forms.specs.Sources.{Source}
 use Rattle.play_args.specs.declared.command.Command.TheVariants.{Run, Threads, Check, Gen}

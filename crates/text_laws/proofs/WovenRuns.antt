@@ -31,8 +31,8 @@ use Rattle.script_lang.specs.StepCalls.{Part, Take, Read, Write, WriteSum, Apply
 use Rattle.script_lang.specs.StepLaws.{Spells, BeginsWith}
 use Rattle.script_lang.proofs.Sequential.{spelled}
 use Rattle.script_lang.specs.Lines.{run_text}
-use Rattle.woven_laws.specs.Woven.{parts_of, actor_parts}
-use Rattle.woven_laws.proofs.Callers.{differs, own_calls-first, own_calls-skip, parts_are_of_script}
+use Rattle.play_laws.specs.Woven.{parts_of, actor_parts}
+use Rattle.play_laws.proofs.Callers.{differs, own_calls-first, own_calls-skip, parts_are_of_script}
 use Rattle.play_core.specs.Texts.{run_output}
 use Rattle.text_laws.specs.WovenRuns.{RunIsWoven, RunWritesAnOutputOfThreads}
 use Rattle.text_laws.proofs.OwnNames.{Owners, OwnsSnapshot, OwnsCall, AreOwned, owned_append, not_false, have_owners, no_faults}

@@ -7,7 +7,7 @@ use Rattle.script_lang.specs.Scripts.{actors_of}
 use Rattle.script_lang.specs.ScriptFaults.{script_faults}
 use Rattle.script_lang.specs.StepCalls.{no_notes, opening_world, script_parts, sequential}
 use Rattle.script_lang.specs.declared.flags.Flags.{Flags}
-use Rattle.woven_laws.specs.Woven.{initial_actor, IsWoven}
+use Rattle.play_laws.specs.Woven.{initial_actor, IsWoven}
 use Rattle.play_args.specs.declared.command.Command.TheVariants.{Threads}
 use Rattle.play_core.specs.Texts.{IsText, IsOutput, run_output}
 

@@ -11,7 +11,7 @@ use Rattle.std.proofs.lemmas.Slice.Eq.{slice_eq-Decides}
 use Rattle.rt_groups.specs.GroupForest.{GroupForest, End, Read, Group, GroupKind, Call, Node, is_call, asks, own_part, inside_own}
 use Rattle.rt_groups.specs.Paths.{Path, PathStep, GroupKey, sibling, same_sibling, step, occurrence, Found, nth, matching_sibling, inside_of, at_path}
 use Rattle.rt_groups.specs.Frames.{CallAtPath, nobody, innermost_call, trace}
-use Rattle.group_paths.specs.SiblingEquality.{same_is, itself}
+use Rattle.path_laws.specs.SiblingEquality.{same_is, itself}
 use Rattle.trace_laws.specs.OwnReads.{same_step, same_path, reads_at, OwnReadsAreTraced}
 
 -- Examples. In the first forest a call reads 1 and 4, and a call in its node reads 2 and 3. In the second, two calls

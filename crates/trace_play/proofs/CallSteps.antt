@@ -23,7 +23,7 @@ use Rattle.recomposer.specs.declared.composition.Composition.{Composition}
 use Rattle.script_lang.specs.StepCalls.{frame_begun}
 use Rattle.script_lang.specs.Lines.{Titles, LineStyle, call_text, reply_text, ends_frame, frame_at, frame_taken, next, actor_name}
 use Rattle.script_lang.specs.PrintedCalls.{reads_frame}
-use Rattle.woven_laws.specs.FramesInTurn.{OpenFrame}
+use Rattle.play_laws.specs.FramesInTurn.{OpenFrame}
 use Rattle.play_run.specs.CallsInFrames.{frame_by, is_frame_read, object_asked, value_given, IsInTurn, standing_then}
 use Rattle.play_run.specs.ReplayState.{frame_of, IsAnswered, IsReplay, PlaysCall}
 use Rattle.play_run.specs.RunPromise.{WritesBytes}

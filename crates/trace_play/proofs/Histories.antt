@@ -17,7 +17,7 @@ use Rattle.recomposer.specs.Compositions.{IsAt}
 use Rattle.script_lang.specs.StepCalls.{opening_world, with_states}
 use Rattle.script_lang.specs.Lines.{Titles, next}
 use Rattle.script_lang.specs.PrintedCalls.{reads_frame, frames_after, printed_calls}
-use Rattle.woven_laws.specs.FramesInTurn.{OpenFrame}
+use Rattle.play_laws.specs.FramesInTurn.{OpenFrame}
 use Rattle.play_run.specs.ReplayState.{frame_of, IsAnswered}
 use Rattle.play_run.specs.RunPromise.{WritesBytes}
 use Rattle.play_run.specs.RunState.{flat}

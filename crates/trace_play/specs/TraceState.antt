@@ -5,7 +5,7 @@ use Rattle.lang_ast.specs.Terms.{Func}
 use Rattle.snap_api.specs.declared.data.Entry.{Entry}
 use Rattle.script_lang.specs.Lines.{Titles}
 use Rattle.script_lang.specs.PrintedCalls.{reads_frame}
-use Rattle.woven_laws.specs.FramesInTurn.{OpenFrame}
+use Rattle.play_laws.specs.FramesInTurn.{OpenFrame}
 use Rattle.play_run.specs.ReplayState.{frame_of, IsReplay}
 use Rattle.play_run.specs.RunPromise.{WritesBytes}
 use Rattle.play_run.specs.RunState.{flat}

@@ -3,10 +3,10 @@ use Rattle.snap_policy.specs.Table.{table}
 use Rattle.snap_api.specs.World.{IsLegal}
 use Rattle.script_lang.specs.StepCalls.{script_parts, opening_world}
 use Rattle.snap_shared.specs.HistoryEffects.{legal_parts}
-use Rattle.woven_laws.specs.PrintedHistory.{printed_history}
-use Rattle.woven_laws.specs.Woven.{initial_actor, IsWoven}
-use Rattle.woven_laws.proofs.Prints.{printed_is_woven}
-use Rattle.woven_laws.proofs.Rests.{printed_part_is_completed}
+use Rattle.play_laws.specs.PrintedHistory.{printed_history}
+use Rattle.play_laws.specs.Woven.{initial_actor, IsWoven}
+use Rattle.play_laws.proofs.Prints.{printed_is_woven}
+use Rattle.play_laws.proofs.Rests.{printed_part_is_completed}
 use Rattle.play_actors.proofs.ActorEnds.{part_completed, printed_part}
 use Rattle.play_actors.proofs.actors.run_actors.Goals as goal
 use Rattle.play_actors.proofs.actors.run_actors.Goals.{then-whole, else-whole}

@@ -1,7 +1,7 @@
 use Rattle.std.proofs.Common.{◌++◌, [], ◌∙◌, sym, subst, append-nil, false, None}
 use Rattle.script_lang.specs.StepCalls.{script_parts}
-use Rattle.woven_laws.specs.Woven.{actor_parts, initial_actor}
-use Rattle.woven_laws.proofs.Callers.{parts_are_of_script}
+use Rattle.play_laws.specs.Woven.{actor_parts, initial_actor}
+use Rattle.play_laws.proofs.Callers.{parts_are_of_script}
 use Rattle.play_actors.specs.declared.steps.EndedActor.{EndedActor}
 use Rattle.play_actors.specs.ActorSteps.{ActsThrough}
 use Rattle.play_actors.proofs.ActorEnds.{started, ended, unstarted}

@@ -1,5 +1,5 @@
 use Rattle.std.proofs.Common.{ap, refl, ◌∙◌, ◌∷◌, [], None}
-use Rattle.woven_laws.specs.Woven.{actor_parts}
+use Rattle.play_laws.specs.Woven.{actor_parts}
 use Rattle.play_actors.proofs.Sequences.{leads_as, leads_on, none_left, actor_parts_first}
 use Rattle.play_actors.proofs.steps.run_script.Goals as goal
 

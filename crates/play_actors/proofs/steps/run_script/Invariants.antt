@@ -1,5 +1,5 @@
 use Rattle.std.proofs.Common.{length, None}
-use Rattle.woven_laws.specs.Woven.{actor_parts}
+use Rattle.play_laws.specs.Woven.{actor_parts}
 use Rattle.play_actors.specs.ActorSteps.{IsSeated, Leads}
 use Rattle.play_actors.proofs.steps.run_script.Given as goal
 

@@ -3,8 +3,8 @@ use Rattle.std.specs.Vec.Iter.{into_iter_items, into_iter_len}
 use Rattle.snap_policy.specs.Table.{table}
 use Rattle.snap_api.specs.World.{IsLegal}
 use Rattle.script_lang.specs.Lines.{Standing, lines}
-use Rattle.woven_laws.specs.FramesInTurn.{AreInTurn}
-use Rattle.woven_laws.specs.PrintedHistory.{printed_history}
+use Rattle.play_laws.specs.FramesInTurn.{AreInTurn}
+use Rattle.play_laws.specs.PrintedHistory.{printed_history}
 use Rattle.play_run.specs.RunPromise.{job_style, job_functions}
 use Rattle.play_run.specs.RunState.{flat}
 use Rattle.play_run.specs.ReplayState.{IsReplay}

@@ -1,7 +1,7 @@
 use Rattle.std.proofs.Common.{Option, sym, subst, List}
 use Rattle.snap_api.specs.declared.data.Entry.{Entry}
-use Rattle.woven_laws.specs.FramesInTurn.{OpenFrame, AreInTurn}
-use Rattle.woven_laws.specs.PrintedHistory.{printed_from}
+use Rattle.play_laws.specs.FramesInTurn.{OpenFrame, AreInTurn}
+use Rattle.play_laws.specs.PrintedHistory.{printed_from}
 use Rattle.play_run.specs.CallsInFrames.{frames_by}
 use Rattle.play_run.proofs.PrintedCalls.{turn_before}
 use Rattle.tests_play.proofs.Histories.{seen}

@@ -1,6 +1,6 @@
 use Rattle.std.proofs.Common.{None, length}
-use Rattle.woven_laws.specs.FramesInTurn.{AreInTurn}
-use Rattle.woven_laws.specs.PrintedHistory.{printed_from, printed_history}
+use Rattle.play_laws.specs.FramesInTurn.{AreInTurn}
+use Rattle.play_laws.specs.PrintedHistory.{printed_from, printed_history}
 use Rattle.play_run.specs.CallsInFrames.{frames_by}
 use Rattle.tests_play.proofs.Histories.{seen}
 use Rattle.tests_play.proofs.replays.is_in_turn.Given as goal

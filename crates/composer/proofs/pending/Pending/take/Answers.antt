@@ -1,6 +1,6 @@
 use Rattle.std.proofs.Common.{drop, if◌then◌else◌, ap, sym, ◌∙◌}
 use Rattle.rt_groups.specs.Paths.{GroupKey, same_sibling}
-use Rattle.group_paths.specs.SiblingEquality.{same_is}
+use Rattle.path_laws.specs.SiblingEquality.{same_is}
 use Rattle.composer.specs.Waiting.{waiting_siblings}
 use Rattle.composer.proofs.pending.Pending.take.Goals as goal
 

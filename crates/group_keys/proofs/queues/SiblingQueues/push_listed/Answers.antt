@@ -1,6 +1,6 @@
 use Rattle.std.proofs.Common.{rules, ap, sym, ◌∙◌}
 use Rattle.rt_groups.specs.Paths.{same_sibling}
-use Rattle.group_paths.specs.SiblingEquality.{same_is}
+use Rattle.path_laws.specs.SiblingEquality.{same_is}
 use Rattle.group_keys.specs.Queues.{queue_of, listed_index, mapped_queue}
 use Rattle.group_keys.proofs.Queue.{listed_after_push, nothing_mapped}
 use Rattle.group_keys.proofs.queues.SiblingQueues.push_listed.Goals as goal

@@ -1,5 +1,0 @@
-use Rattle.woven_laws.proofs.ActorNames.{actor_names_are_distinct}
-use Rattle.woven_laws.proofs.laws.actor_names_are_distinct.Goals as goal
-
-pub returns : goal.returns
-returns c = actor_names_are_distinct

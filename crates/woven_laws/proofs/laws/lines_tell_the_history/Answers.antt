@@ -1,5 +1,0 @@
-use Rattle.woven_laws.proofs.Weaves.{lines_tell_the_history}
-use Rattle.woven_laws.proofs.laws.lines_tell_the_history.Goals as goal
-
-pub returns : goal.returns
-returns c = lines_tell_the_history

@@ -1,5 +1,0 @@
-use Rattle.woven_laws.proofs.Prints.{printed_is_woven}
-use Rattle.woven_laws.proofs.laws.printed_is_woven.Goals as goal
-
-pub returns : goal.returns
-returns g c = printed_is_woven g.P.Policy.rules

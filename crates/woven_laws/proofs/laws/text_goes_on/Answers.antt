@@ -1,5 +1,0 @@
-use Rattle.woven_laws.proofs.Weaves.{text_goes_on}
-use Rattle.woven_laws.proofs.laws.text_goes_on.Goals as goal
-
-pub returns : goal.returns
-returns c = text_goes_on
