@@ -5,7 +5,7 @@ use Rattle.rt_groups.specs.Paths.{Path, PathStep, GroupKey, sibling, same_siblin
 use Rattle.rt_groups.specs.Frames.{number_for, number_of}
 use Rattle.recompose_laws.specs.Numbering.{numbered_by_siblings}
 use Rattle.recompose_laws.proofs.Numbers.{path_numbers_are_sibling_numbers}
-use Rattle.tree_laws.proofs.KeptSites.{number_rises, next_rises}
+use Rattle.node_laws.proofs.KeptSites.{number_rises, next_rises}
 use Rattle.path_laws.specs.SiblingEquality.{same_is}
 use Rattle.frame_laws.specs.FollowedPaths.{NumbersFollowPaths}
 

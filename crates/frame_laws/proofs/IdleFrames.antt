@@ -19,8 +19,8 @@ use Rattle.recompose_laws.proofs.Owed.{owed_is_what_changed}
 use Rattle.recompose_laws.proofs.Renewals.{composing_again_is_the_frame}
 use Rattle.recompose_laws.proofs.Plain.{kept_trail_is_the_forest}
 use Rattle.recompose_laws.proofs.Idles.{how_many-without_numbers, nodes-without_numbers, kept_is_numbered, idle_frame, quiet_part_is_kept}
-use Rattle.tree_laws.proofs.ForestTrees.{kept_tree_is_distinct}
-use Rattle.tree_laws.proofs.KeptShapes.{next_tree_can_follow}
+use Rattle.node_laws.proofs.ForestTrees.{kept_tree_is_distinct}
+use Rattle.node_laws.proofs.KeptShapes.{next_tree_can_follow}
 use Rattle.node_tree.specs.FrameOps.{frame_ops}
 use Rattle.node_tree.proofs.SameLevels.{unchanged_tree_needs_no_calls}
 use Rattle.world_laws.proofs.MapDifferences.{differs_from_itself}

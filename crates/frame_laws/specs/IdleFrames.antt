@@ -11,7 +11,7 @@ use Rattle.compose_model.specs.Frame.{FrameResult, frame}
 use Rattle.recompose_laws.specs.Distinct.{AreDistinct}
 use Rattle.recompose_laws.specs.Idle.{unchanged_report}
 use Rattle.recompose_laws.specs.Refreshing.{StampsTell}
-use Rattle.tree_laws.specs.FollowingTrees.{WasComposed}
+use Rattle.node_laws.specs.FollowingTrees.{WasComposed}
 use Rattle.node_tree.specs.FrameOps.{frame_ops}
 
 -- The result of a frame in the map `m` that keeps all that `k` keeps.

@@ -21,7 +21,7 @@ use Rattle.play_laws.specs.Woven.{IsWoven}
 use Rattle.play_laws.proofs.Turns.{Turn}
 use Rattle.play_laws.proofs.ScriptTurns.{frames_are_in_turn}
 use Rattle.script_lang.specs.declared.flags.Flags.{Flags}
-use Rattle.play_actors.specs.declared.actors.ActorsEnd.{ActorsEnd}
+use Rattle.play_threads.specs.declared.actors.ActorsEnd.{ActorsEnd}
 use Rattle.play_run.specs.Opening.{StatesFit}
 use Rattle.play_run.specs.RunPromise.{job_style, job_functions}
 use Rattle.play_run.specs.declared.job.Job.{Job}

@@ -6,7 +6,7 @@ use Rattle.script_lang.specs.StepCalls.{script_parts, opening_world}
 use Rattle.play_laws.specs.Laws.{CanBeCompleted}
 use Rattle.play_laws.specs.PrintedHistory.{printed_history}
 use Rattle.play_laws.specs.Woven.{initial_actor, IsWoven}
-use Rattle.play_actors.specs.declared.actors.ActorsEnd.{ActorsEnd}
+use Rattle.play_threads.specs.declared.actors.ActorsEnd.{ActorsEnd}
 use Rattle.play_run.specs.declared.job.Job.{Job}
 
 -- The history is legal. Its printed calls can be continued to a legal and woven history, and are one if no actor ran

@@ -1,2 +1,4 @@
 pub mod WovenText
 pub mod ActorsCalls
+pub mod ActorNotes
+pub mod ActorSteps

@@ -7,7 +7,7 @@ ghost use Rattle.play_threads.specs.ActorsCalls.{AreActorsCalls};
 ghost use Rattle.play_threads.specs.WovenText.{HasNoFault, WritesWovenText};
 
 use lang_checks::Checked;
-use play_actors::{ActorsEnd, run_actors};
+use crate::actors::{ActorsEnd, run_actors};
 use play_run::{Job, Stop, replay, set_up_world};
 use rt_streams::{Gate, Sink};
 use rt_values::NoMemory;

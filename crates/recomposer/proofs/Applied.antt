@@ -20,10 +20,10 @@ use Rattle.node_tree.specs.Placing.{ops}
 use Rattle.node_tree.specs.Premises.{CanFollow}
 use Rattle.node_tree.proofs.InnerCalls.{ops_turn}
 use Rattle.node_tree.proofs.SameLevels.{unchanged_tree_needs_no_calls}
-use Rattle.tree_laws.specs.FollowingTrees.{WasComposed}
-use Rattle.tree_laws.proofs.ForestTrees.{kept_tree_is_distinct}
-use Rattle.tree_laws.proofs.KeptShapes.{next_tree_can_follow}
-use Rattle.tree_laws.proofs.GivenNumbers.{numbers_are_not_given_again}
+use Rattle.node_laws.specs.FollowingTrees.{WasComposed}
+use Rattle.node_laws.proofs.ForestTrees.{kept_tree_is_distinct}
+use Rattle.node_laws.proofs.KeptShapes.{next_tree_can_follow}
+use Rattle.node_laws.proofs.GivenNumbers.{numbers_are_not_given_again}
 use Rattle.composer.specs.OwedObjects.{OwedObjects}
 use Rattle.composer.specs.FrameDrafts.{root_of}
 use Rattle.lang_ast.specs.Programs.{program_view, functions_of}

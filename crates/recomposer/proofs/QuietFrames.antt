@@ -20,7 +20,7 @@ use Rattle.recompose_laws.proofs.Idles.{quiet_part_is_kept}
 use Rattle.recompose_laws.proofs.Plain.{kept_trail_is_the_forest}
 use Rattle.recompose_laws.proofs.Renewals.{composing_again_is_the_frame}
 use Rattle.node_tree.proofs.SameLevels.{unchanged_tree_needs_no_calls}
-use Rattle.tree_laws.proofs.ForestTrees.{kept_tree_is_distinct}
+use Rattle.node_laws.proofs.ForestTrees.{kept_tree_is_distinct}
 use Rattle.composer.specs.OwedObjects.{OwedObjects}
 use Rattle.composer.specs.FrameDrafts.{root_of}
 use Rattle.lang_ast.specs.Programs.{program_view, functions_of}

@@ -7,7 +7,7 @@ use Rattle.snap_api.specs.Settle.{Settled, settled, conflict, put_kept, put_chan
 use Rattle.snap_api.specs.World.{with_members}
 use Rattle.snap_plain.specs.Choices.{choice_verdict, put_all}
 use Rattle.snap_plain.specs.CallParts.{conflict_of}
-use Rattle.snap_settle.specs.declared.choice.Choice.TheVariants.{Changed, Kept}
+use Rattle.snap_api.specs.declared.choice.Choice.TheVariants.{Changed, Kept}
 
 -- A changed object comes after those before it.
 pub put_all-changed : (front : Map) (changed : List ℕ) (x : ℕ) (e : StampedValue) (rest : Settled)

@@ -4,7 +4,7 @@ use Rattle.rt_values.specs.Maps.{Map, value_at, contains}
 use Rattle.rt_values.specs.declared.maps.StampedValue.{StampedValue}
 use Rattle.rt_values.specs.declared.value.Value.{Value}
 use Rattle.snap_policy.specs.Rules.{Rules}
-use Rattle.snap_api.specs.Settle.{Settled, settled, conflict, settle, settle_from, put_verdict, put_kept}
+use Rattle.snap_api.specs.Settle.{Settled, settled, conflict, verdict, settle_from, put_verdict, put_kept}
 use Rattle.snap_api.specs.World.{World, snapshot_of, write, write_to, world_after_write, apply, apply_to, settled_of, with_members}
 use Rattle.snap_api.specs.declared.data.Object.{Object}
 use Rattle.snap_api.specs.declared.data.Refusal.{Refusal}
@@ -69,7 +69,7 @@ with_view s m wrote = record s { view = m; wrote = wrote }
 abbrev pub settle_one : {P : Type 0} → Rules P → Bool → P → StampedValue → StampedValue → StampedValue → ℕ → ℕ → Settled
     → Settled
 settle_one rules wrote p previous current applied now x rest =
-    if wrote then put_verdict x current (settle rules p previous current applied now) rest else put_kept current rest
+    if wrote then put_verdict x current (verdict rules p previous current applied now) rest else put_kept current rest
 
 -- The objects of a snapshot were settled: the parent's new view and the objects written in the parent then, or the
 -- least conflict. Nothing is known if memory ran out.

@@ -2,8 +2,8 @@
 use Rattle.std.specs.Prelude.{ℕ, List, ◌++◌}
 use Rattle.rt_values.specs.Maps.{Map}
 use Rattle.snap_api.specs.Settle.{Settled, settled, conflict, put_kept, put_changed}
-use Rattle.snap_settle.specs.declared.choice.Choice.{Choice}
-use Rattle.snap_settle.specs.declared.choice.Choice.TheVariants.{Changed, Kept, Clash}
+use Rattle.snap_api.specs.declared.choice.Choice.{Choice}
+use Rattle.snap_api.specs.declared.choice.Choice.TheVariants.{Changed, Kept, Clash}
 
 -- The choice for object x, before the choices for the later objects.
 abbrev pub choice_verdict : ℕ → Choice → Settled → Settled

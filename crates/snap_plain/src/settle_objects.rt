@@ -6,9 +6,8 @@ ghost use Rattle.snap_plain.specs.Choices.{choice_verdict, put_all};
 ghost use Rattle.snap_plain.specs.CallParts.{settle_one, settle_shot, conflict_of, AreFree};
 
 use rt_values::{Map, NoMemory, ObjectNo, Objects, StampedValue};
-use snap_api::{Object, Snapshot};
+use snap_api::{Choice, Object, Snapshot};
 use snap_policy::Policy;
-use snap_settle::Choice;
 use std::alloc::Global;
 
 // Checks whether the snapshot wrote an object, and the two changes of it conflict.
@@ -30,7 +29,7 @@ fn is_conflict<P: Policy>(
     if !wrote {
         return Ok(false);
     }
-    snap_settle::is_conflict(alloc, policy, previous, current, applied)
+    snap_api::is_conflict(alloc, policy, previous, current, applied)
 }
 
 /// Finds the least object that conflicts, by the snapshot's base, its parent's view and its own view. Takes
@@ -81,7 +80,7 @@ fn choose<P: Policy>(
         rest) }
 {
     if wrote {
-        snap_settle::choose(alloc, policy, previous, current, applied, now)
+        snap_api::choose(alloc, policy, previous, current, applied, now)
     } else {
         Ok(Choice::Kept(current.copy(alloc)?))
     }

@@ -5,10 +5,10 @@ use Rattle.std.specs.Option.{option_map}
 use Rattle.rt_values.specs.Maps.{contains, entry_at}
 use Rattle.rt_values.specs.declared.maps.StampedValue.{StampedValue}
 use Rattle.snap_policy.specs.Rules.{Rules}
-use Rattle.snap_api.specs.Settle.{settle}
+use Rattle.snap_api.specs.Settle.{verdict}
 use Rattle.snap_api.specs.World.{World, snapshot_of}
 use Rattle.snap_api.specs.declared.data.Object.{Object}
-use Rattle.snap_settle.specs.Choices.{choice_of}
+use Rattle.snap_api.specs.Choices.{choice_of}
 use Rattle.snap_records.specs.Chains.{record_at, chain_of}
 use Rattle.snap_records.specs.declared.chains.Chains.{Chains}
 use Rattle.snap_records.specs.declared.slots.RecordNo.{RecordNo}
@@ -47,19 +47,19 @@ read_base {P} {h} {w} s n x live inner within = read_is (valid_for_base h.ids n)
 -- The records that the search finds give the choice of the plain world.
 pub choice_read : {P : Type 0} (rules : Rules P) (s : RecordWorld P) (name into x : ℕ) (r : ReadRecords) (o : Object P)
     → AreRead s name into x r → slice_get s.objects.items x ≡ Some o →
-    choice_of (settle rules o.policy
+    choice_of (verdict rules o.policy
     (record_at s.chains r.previous.0).entry (record_at s.chains r.current.0).entry (record_at s.chains
     r.applied.0).entry (s.clock + 1)) (record_at s.chains r.current.0).entry
     ≡ choice_at rules (parts_of s) name into x
 choice_read {P} rules s name into x r o a there =
     let h = parts_of s in
     let c : StampedValue = read_entry (h.ids.sees into) (h.chains x) in
-    ap (λ (e : StampedValue). choice_of (settle rules o.policy e
+    ap (λ (e : StampedValue). choice_of (verdict rules o.policy e
     (record_at s.chains r.current.0).entry (record_at s.chains r.applied.0).entry (s.clock + 1))
     (record_at s.chains r.current.0).entry) a.previous
-    ∙ ap (λ (e : StampedValue). choice_of (settle rules o.policy (read_entry (valid_for_base h.ids name) (h.chains x)) e
+    ∙ ap (λ (e : StampedValue). choice_of (verdict rules o.policy (read_entry (valid_for_base h.ids name) (h.chains x)) e
     (record_at s.chains r.applied.0).entry (s.clock + 1)) e) a.current
-    ∙ ap (λ (e : StampedValue). choice_of (settle rules o.policy (read_entry (valid_for_base h.ids name) (h.chains x)) c
+    ∙ ap (λ (e : StampedValue). choice_of (verdict rules o.policy (read_entry (valid_for_base h.ids name) (h.chains x)) c
     e (s.clock + 1)) c) a.applied
     ∙ sym (ap (λ (p : Option (Object P)). choice_on rules h name into x p) there)
 

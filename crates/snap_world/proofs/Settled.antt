@@ -8,8 +8,8 @@ use Rattle.std.specs.Prelude.{slice_get, slice_index_or, not}
 use Rattle.rt_values.specs.Maps.{contains, with_member}
 use Rattle.rt_values.specs.declared.maps.StampedValue.{StampedValue}
 use Rattle.snap_ids.proofs.Booleans.{or_true, or_left, or_right}
-use Rattle.snap_settle.specs.Choices.{is_changed, is_clash, entry_of_choice}
-use Rattle.snap_settle.specs.declared.choice.Choice.TheVariants.{Changed, Kept}
+use Rattle.snap_api.specs.Choices.{is_changed, is_clash, entry_of_choice}
+use Rattle.snap_api.specs.declared.choice.Choice.TheVariants.{Changed, Kept}
 use Rattle.snap_world.specs.Choices.{choice_of_settled, objects_of, is_taken, with_taken, lesser, IsLeast}
 use Rattle.snap_policy.specs.Rules.{Rules}
 use Rattle.snap_laws.specs.Applies.{choice_at}

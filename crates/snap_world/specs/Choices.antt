@@ -3,8 +3,8 @@ use Rattle.std.specs.Prelude.{◌≡◌, ℕ, ◌<◌, ◌==◌, ◌&&◌, nat_l
 use Rattle.std.specs.List.{list_any}
 use Rattle.rt_values.specs.Maps.{contains, with_member}
 use Rattle.rt_values.specs.declared.maps.StampedValue.{StampedValue}
-use Rattle.snap_settle.specs.declared.choice.Choice.{Choice}
-use Rattle.snap_settle.specs.declared.choice.Choice.TheVariants.{Changed, Kept}
+use Rattle.snap_api.specs.declared.choice.Choice.{Choice}
+use Rattle.snap_api.specs.declared.choice.Choice.TheVariants.{Changed, Kept}
 use Rattle.snap_world.specs.declared.settling.Settled.{Settled}
 
 -- The verdict on a settled object.

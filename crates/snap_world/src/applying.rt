@@ -8,7 +8,7 @@ use crate::noting::{clear_noted_objects, fill, note_settled, noted, set_noted};
 use crate::settling::{ReadRecords, Settled, lesser, settled_of};
 use rt_values::{Name, NoMemory, ObjectNo};
 use snap_policy::Policy;
-use snap_settle::{Choice, choose, is_conflict};
+use snap_api::{Choice, choose, is_conflict};
 use std::alloc::Global;
 
 impl<P: Policy> RecordWorld<P> {
@@ -17,7 +17,7 @@ impl<P: Policy> RecordWorld<P> {
     ghost use Rattle.snap_laws.specs.Applies.{choice_at, HasNoClash, Pads, Merges};
     ghost use Rattle.snap_laws.specs.FreeRefusals.{IsMergeFree};
     ghost use Rattle.snap_laws.specs.Represents.{Represents};
-    ghost use Rattle.snap_settle.specs.Choices.{is_clash};
+    ghost use Rattle.snap_api.specs.Choices.{is_clash};
     ghost use Rattle.snap_world.specs.Choices.{objects_of, IsLeast};
     ghost use Rattle.snap_world.specs.Holding.{parts_of, AreRead, AreSettled};
 

@@ -1,11 +1,11 @@
 // The objects that an apply settles.
 ghost use Rattle.std.specs.Prelude.{◌≡◌, true, IfSome, IfNone};
-ghost use Rattle.snap_settle.specs.Choices.{is_clash};
+ghost use Rattle.snap_api.specs.Choices.{is_clash};
 ghost use Rattle.snap_world.specs.Choices.{choice_of_settled, lesser};
 
 use rt_values::{ObjectNo, StampedValue};
 use snap_records::RecordNo;
-use snap_settle::Choice;
+use snap_api::Choice;
 
 /// The stamped value that an object has in the parent after an apply, and whether the parent takes it from the
 /// snapshot.

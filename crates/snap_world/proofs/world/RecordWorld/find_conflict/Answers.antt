@@ -3,7 +3,7 @@ use Rattle.std.proofs.lemmas.List.{take_all}
 use Rattle.std.specs.Prelude.{slice_index_or}
 use Rattle.rt_values.specs.Maps.{contains}
 use Rattle.snap_ids.proofs.IdLists.{contains-at}
-use Rattle.snap_settle.specs.Choices.{is_clash}
+use Rattle.snap_api.specs.Choices.{is_clash}
 use Rattle.snap_laws.specs.Applies.{choice_at}
 use Rattle.snap_world.specs.Choices.{IsLeast}
 use Rattle.snap_world.specs.Holding.{parts_of}

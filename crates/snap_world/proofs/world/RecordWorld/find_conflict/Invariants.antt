@@ -1,5 +1,5 @@
 use Rattle.std.proofs.Common.{take}
-use Rattle.snap_settle.specs.Choices.{is_clash}
+use Rattle.snap_api.specs.Choices.{is_clash}
 use Rattle.snap_laws.specs.Applies.{choice_at}
 use Rattle.snap_world.specs.Choices.{IsLeast}
 use Rattle.snap_world.specs.Holding.{parts_of}

@@ -3,8 +3,8 @@ use Rattle.std.proofs.lemmas.Option.{slice_get_within}
 use Rattle.std.specs.Option.{unwrap_or}
 use Rattle.std.specs.Prelude.{slice_index_or, slice_get}
 use Rattle.rt_values.specs.Maps.{contains}
-use Rattle.snap_settle.specs.Choices.{entry_of_choice, is_changed}
-use Rattle.snap_settle.specs.declared.choice.Choice.{Choice}
+use Rattle.snap_api.specs.Choices.{entry_of_choice, is_changed}
+use Rattle.snap_api.specs.declared.choice.Choice.{Choice}
 use Rattle.snap_records.specs.Edits.{with_head_id}
 use Rattle.snap_nested.specs.Moves.{Applies}
 use Rattle.snap_records.proofs.Padding.{padded_same}

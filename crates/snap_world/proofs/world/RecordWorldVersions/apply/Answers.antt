@@ -1,6 +1,6 @@
 use Rattle.std.proofs.Common.{◌≡◌, ℕ, List, sym, ◌∙◌, subst, true, false, None, Option, Some}
 use Rattle.std.specs.Prelude.{slice_index_or, []}
-use Rattle.snap_settle.specs.Choices.{is_clash}
+use Rattle.snap_api.specs.Choices.{is_clash}
 use Rattle.snap_laws.specs.Applies.{apply_refusal, choice_at, HasNoClash, IsLeastClash, Merges}
 use Rattle.snap_laws.specs.FreeRefusals.{IsMergeFree}
 use Rattle.snap_laws.proofs.FreeRefusals.{apply_not_refused, apply_conflicts}

@@ -1,0 +1,3 @@
+pub mod FollowingTrees
+pub mod NodeSites
+pub mod OwnReads

@@ -1,6 +1,0 @@
-pub mod Worlds
-pub mod PartFacts
-pub mod PartsMade
-pub mod Sequences
-pub mod Openings
-pub mod ActorEnds

@@ -1,4 +1,0 @@
-use Rattle.play_actors.proofs.frames.finish_frame.Given as goal
-
-abbrev pub ghosts-compose : goal.ghosts-compose
-ghosts-compose g a = record { name = a.blank.name; parts = a.blank.parts }

@@ -1,2 +1,0 @@
-pub mod ActorNotes
-pub mod ActorSteps

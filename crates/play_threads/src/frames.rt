@@ -1,0 +1,132 @@
+// Frames, each composed in its own snapshot through the actor's seat.
+ghost use Rattle.std.specs.Prelude.{◌≡◌, ◌<◌, ◌∷◌, ◌++◌, [], Option, ℕ, Some, None, false, OnOk, IsOk};
+ghost use Rattle.script_lang.specs.StepCalls.{BeginFrame, EndFrame, calls_parts};
+ghost use Rattle.play_threads.specs.ActorSteps.{by_actor, IsSeated, Makes};
+
+use crate::parts::StepPart;
+use crate::worker::{ActorRun, Worker, make_part, run_calls};
+use lang_ast::CallForm;
+use recomposer::FrameStop;
+use rt_groups::Report;
+use rt_streams::Gate;
+use rt_values::{Name, NoMemory, Steps};
+use snap_api::Versions;
+use snap_policy::BuiltIn;
+use snap_shared::SeatView;
+use std::marker::Brand;
+use std::sync::Wait;
+use std::sync::ledger::{Blank, Ledger};
+
+// Fails if a frame ran out of memory. Too many groups are no failure, because nothing of the frame is printed.
+fn out_of_memory(frame: Result<Report, FrameStop>) -> Result<(), NoMemory>
+    ensures { OnOk frame (IsOk result) }
+{
+    match frame {
+        Ok(_) => Ok(()),
+        Err(FrameStop::TooManyGroups) => Ok(()),
+        Err(_) => Err(NoMemory),
+    }
+}
+
+// Composes the program in the worker's open snapshot `name`. `blank` is the ledger of the steps, which nothing reads.
+fn compose<'p, V: Versions<P = BuiltIn> + Drop, R: Wait, G: Gate, L: Ledger>(
+    run: &ActorRun<'_, V, R, G>,
+    name: Name,
+    worker: Worker<'p, V>,
+    blank: Blank,
+) -> (Worker<'p, V>, Result<(), NoMemory>)
+    requires ledger { blank.name ≡ L.name }
+    requires parts { blank.parts ≡ L.parts }
+    requires some { 0 < L.parts }
+    requires going { worker.short ≡ false }
+    requires seated { IsSeated run.now.shared.now run.now.number worker.seat }
+    ensures seated { IsSeated run.now.shared.now run.now.number result.0.seat }
+    ensures makes { Makes V.stands run.now.shared.now worker.entry result.0 (Some name) (Some name) [] }
+{
+    let (book, share) = blank.open();
+    let mut steps: Steps<L> = Steps::new(book, share);
+    let Worker {
+        seat,
+        mut memory,
+        step,
+        short,
+        failed,
+    } = worker;
+    let mut view = SeatView::new(run.rt, run.shared, seat, run.gate, step, Some(name));
+    let frame = memory
+        .composition
+        .recompose(run.alloc, &mut view, &mut steps);
+    let composed = out_of_memory(frame);
+    let (seat, step) = view.into_seat();
+    let worker = Worker {
+        seat,
+        memory,
+        step,
+        short,
+        failed,
+    };
+    (worker, composed)
+}
+
+// Composes the program in the frame's snapshot and disposes the snapshot, also if composing ran out of memory.
+fn finish_frame<'p, V: Versions<P = BuiltIn> + Drop, R: Wait, G: Gate>(
+    run: &ActorRun<'_, V, R, G>,
+    name: Name,
+    worker: Worker<'p, V>,
+) -> Worker<'p, V>
+    requires going { worker.short ≡ false }
+    requires seated { IsSeated run.now.shared.now run.now.number worker.seat }
+    ensures seated { IsSeated run.now.shared.now run.now.number result.seat }
+    ensures makes { Makes V.stands run.now.shared.now worker.entry result (Some name) None
+        (by_actor run.now.number (EndFrame ∷ [])) }
+{
+    let (mut worker, composed) = compose::<V, R, G, Brand>(run, name, worker, Blank::new(1));
+    make_part(run, &StepPart::EndFrame, &mut worker);
+    match composed {
+        Ok(()) => worker,
+        Err(_) => {
+            worker.short = true;
+            worker.failed = Some(name);
+            worker
+        }
+    }
+}
+
+// Ends a frame. The frame of a refused take has nothing to end.
+fn end_frame<'p, V: Versions<P = BuiltIn> + Drop, R: Wait, G: Gate>(
+    run: &ActorRun<'_, V, R, G>,
+    mut worker: Worker<'p, V>,
+) -> Worker<'p, V>
+    requires seated { IsSeated run.now.shared.now run.now.number worker.seat }
+    ensures seated { IsSeated run.now.shared.now run.now.number result.seat }
+    ensures makes { (frame : Option ℕ) → Makes V.stands run.now.shared.now worker.entry result frame None
+        (by_actor run.now.number (EndFrame ∷ [])) }
+{
+    if worker.short {
+        return worker;
+    }
+    match worker.memory.frame {
+        Some(name) => finish_frame(run, name, worker),
+        None => {
+            make_part(run, &StepPart::EndFrame, &mut worker);
+            worker
+        }
+    }
+}
+
+/// Makes a frame: takes its snapshot, makes the steps of `during`, composes the program in the snapshot and disposes
+/// it. If the take is refused, only the steps of `during` follow.
+pub(crate) fn run_frame<'p, V: Versions<P = BuiltIn> + Drop, R: Wait, G: Gate>(
+    run: &ActorRun<'_, V, R, G>,
+    during: &[CallForm],
+    mut worker: Worker<'p, V>,
+) -> Worker<'p, V>
+    requires seated { IsSeated run.now.shared.now run.now.number worker.seat }
+    ensures seated { IsSeated run.now.shared.now run.now.number result.seat }
+    ensures makes { Makes V.stands run.now.shared.now worker.entry result None None
+        (by_actor run.now.number (BeginFrame ∷ (calls_parts during.now ++ EndFrame ∷ []))) }
+{
+    make_part(run, &StepPart::BeginFrame, &mut worker);
+    run_calls(run, during, &mut worker);
+    end_frame(run, worker)
+}

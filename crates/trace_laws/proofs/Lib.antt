@@ -1,2 +1,0 @@
-pub mod ProgramNodes
-pub mod TracedReads

@@ -1,2 +1,0 @@
-pub mod NodeSites
-pub mod OwnReads

@@ -1,6 +1,0 @@
-pub mod StatementSites
-pub mod ToldForests
-pub mod KeptSites
-pub mod GivenNumbers
-pub mod ForestTrees
-pub mod KeptShapes

@@ -1,5 +1,0 @@
-use Rattle.tree_laws.proofs.KeptShapes.{next_tree_can_follow}
-use Rattle.tree_laws.proofs.laws.next_tree_can_follow.Goals as goal
-
-pub returns : goal.returns
-returns c = next_tree_can_follow
