@@ -8,11 +8,11 @@ use Rattle.lang_ast.specs.declared.script.CallForm.TheVariants.{Take, Read, Writ
 use Rattle.lang_ast.specs.declared.script.ScriptForm.{ScriptForm}
 use Rattle.lang_ast.specs.declared.script.ScriptForm.TheVariants.{Once, Repeat}
 use Rattle.lang_ast.specs.declared.script.DoForm.{DoForm}
-use Rattle.script_lang.specs.Scripts.{actors_of, is_among, forms_count}
-use Rattle.script_lang.specs.SnapshotNames.{latest}
-use Rattle.script_lang.specs.ScriptFaults.{foreign_name, fault_if, most_steps, oversized_faults, long_forms, further_actors, may_repeat, wrong_repeats, forms_wrong_repeats, TextStep, CallStep, FrameStep, text_script, FirstUses, no_uses, uses_after, unknown_name, snapshot_faults, state_faults, is_int, add_faults, call_faults, step_faults, steps_faults, script_faults, goes_before, first_fault, first_of_faults, script_refusal}
-use Rattle.script_lang.specs.declared.faults.ScriptStop.{ScriptStop}
-use Rattle.script_lang.specs.declared.faults.ScriptStop.TheVariants as script
+use Rattle.lang_script.specs.Scripts.{actors_of, is_among, forms_count}
+use Rattle.lang_script.specs.SnapshotNames.{latest}
+use Rattle.lang_script.specs.ScriptFaults.{foreign_name, fault_if, most_steps, oversized_faults, long_forms, further_actors, may_repeat, wrong_repeats, forms_wrong_repeats, TextStep, CallStep, FrameStep, text_script, FirstUses, no_uses, uses_after, unknown_name, snapshot_faults, state_faults, is_int, add_faults, call_faults, step_faults, steps_faults, script_faults, goes_before, first_fault, first_of_faults, script_refusal}
+use Rattle.lang_script.specs.declared.faults.ScriptStop.{ScriptStop}
+use Rattle.lang_script.specs.declared.faults.ScriptStop.TheVariants as script
 
 AreKnown : List ScriptStop → Type 0
 AreKnown [] = Unit {0}

@@ -6,7 +6,7 @@ use Rattle.lang_forms.specs.Names.{is_letter, is_name_byte, is_kept_word, is_nam
 use Rattle.lang_forms.specs.Forms.{SpelledScripts}
 use Rattle.lang_forms.specs.Sources.{Source}
 use Rattle.script_lang.specs.Lines.{actor_name}
-use Rattle.script_lang.specs.Scripts.{most_actors, is_among, with_actor, actors_from, actors_of}
+use Rattle.lang_script.specs.Scripts.{most_actors, is_among, with_actor, actors_from, actors_of}
 use Rattle.play_laws.specs.Laws.{HasNoColon, AreActorNames}
 use Rattle.play_laws.proofs.ActorNames.{actor_names_are_distinct}
 use Rattle.play_threads.proofs.Texts.{text_tells}

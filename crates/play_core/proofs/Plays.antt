@@ -12,8 +12,8 @@ use Rattle.lang_ast.specs.Terms.{Func}
 use Rattle.lang_forms.specs.Sources.{Source}
 use Rattle.script_lang.specs.declared.flags.Flags.{Flags}
 use Rattle.script_lang.specs.Lines.{LineStyle, run_text}
-use Rattle.script_lang.specs.StepCalls.{script_parts}
-use Rattle.script_lang.specs.Scripts.{actors_of}
+use Rattle.lang_script.specs.StepCalls.{script_parts}
+use Rattle.lang_script.specs.Scripts.{actors_of}
 use Rattle.play_core.specs.declared.top.Status.{Status}
 use Rattle.play_core.specs.declared.top.Status.TheVariants as status
 use Rattle.play_args.specs.CommandWords.{command_of_args}

@@ -21,9 +21,9 @@ use Rattle.lang_checks.specs.declared.faults.CheckKind.{CheckKind}
 use Rattle.lang_checks.specs.declared.faults.CheckKind.TheVariants as kind
 use Rattle.lang_checks.specs.declared.faults.ProgramFault as checks
 use Rattle.lang_checks.specs.declared.checks.CheckStop.TheVariants as check
-use Rattle.script_lang.specs.ScriptFaults.{script_refusal}
-use Rattle.script_lang.specs.declared.faults.ScriptStop.{ScriptStop}
-use Rattle.script_lang.specs.declared.faults.ScriptStop.TheVariants as script
+use Rattle.lang_script.specs.ScriptFaults.{script_refusal}
+use Rattle.lang_script.specs.declared.faults.ScriptStop.{ScriptStop}
+use Rattle.lang_script.specs.declared.faults.ScriptStop.TheVariants as script
 use Rattle.play_core.specs.StageFaults.{text_end, check_kind, check_end, script_end}
 use Rattle.play_core.specs.Faults.{IsFaultAt, IsFault, IsRefused, reading_refusal}
 use Rattle.play_core.specs.ParserRefusal.{refusal}

@@ -23,9 +23,9 @@ use Rattle.lang_checks.specs.ProgramFaults.{program_faults}
 use Rattle.lang_checks.specs.declared.faults.ProgramFault as checks
 use Rattle.lang_checks.specs.declared.checks.CheckStop.TheVariants as check
 use Rattle.lang_checks.proofs.Least.{no_answer}
-use Rattle.script_lang.specs.ScriptFaults.{script_refusal}
-use Rattle.script_lang.specs.declared.faults.ScriptStop.{ScriptStop}
-use Rattle.script_lang.specs.declared.faults.ScriptStop.TheVariants as script
+use Rattle.lang_script.specs.ScriptFaults.{script_refusal}
+use Rattle.lang_script.specs.declared.faults.ScriptStop.{ScriptStop}
+use Rattle.lang_script.specs.declared.faults.ScriptStop.TheVariants as script
 use Rattle.play_core.specs.StageFaults.{check_fault, check_end, script_end}
 use Rattle.play_core.specs.Faults.{IsFault, reading_refusal}
 use Rattle.play_core.specs.ParserRefusal.{refusal}

@@ -26,8 +26,8 @@ use Rattle.lang_forms.proofs.TextHasForms.{ok_same}
 use Rattle.lang_checks.specs.FaultOrder.{least_fault}
 use Rattle.lang_checks.specs.ProgramFaults.{program_faults}
 use Rattle.lang_checks.specs.declared.checks.CheckStop.TheVariants as check
-use Rattle.script_lang.specs.ScriptFaults.{script_faults, script_refusal, first_of_faults}
-use Rattle.script_lang.proofs.FirstFault.{no_fault}
+use Rattle.lang_script.specs.ScriptFaults.{script_faults, script_refusal, first_of_faults}
+use Rattle.lang_script.proofs.FirstFault.{no_fault}
 use Rattle.play_core.specs.StageFaults.{check_end, script_end}
 use Rattle.play_core.specs.Faults.{source_refusal, reading_refusal}
 use Rattle.play_core.specs.ParserRefusal.{refusal}

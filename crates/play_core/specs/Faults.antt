@@ -15,7 +15,7 @@ use Rattle.lang_forms.specs.FirstWrong.{IsAnswerFor}
 use Rattle.lang_forms.specs.declared.stop.FormStop.{FormStop}
 use Rattle.lang_checks.specs.FaultOrder.{least_fault}
 use Rattle.lang_checks.specs.ProgramFaults.{program_faults}
-use Rattle.script_lang.specs.ScriptFaults.{script_refusal}
+use Rattle.lang_script.specs.ScriptFaults.{script_refusal}
 use Rattle.script_lang.specs.Lines.{line}
 use Rattle.play_args.specs.declared.command.Command.{Command}
 use Rattle.play_core.specs.StageFaults.{form_end, check_end, script_end}

@@ -7,8 +7,8 @@ use Rattle.play_args.specs.CommandWords.{command_of_args}
 use Rattle.play_args.specs.declared.command.Command.{Command}
 use Rattle.play_args.specs.declared.command.Command.TheVariants.{Run, Threads, Check, Gen}
 use Rattle.script_lang.specs.declared.flags.Flags.{Flags}
-use Rattle.script_lang.specs.Scripts.{actors_of}
-use Rattle.script_lang.specs.StepCalls.{script_parts}
+use Rattle.lang_script.specs.Scripts.{actors_of}
+use Rattle.lang_script.specs.StepCalls.{script_parts}
 use Rattle.snap_api.specs.declared.data.Entry.{Entry}
 use Rattle.play_run.specs.RunLog.{LogsRun, StopsRun}
 use Rattle.play_core.specs.Texts.{IsText, IsNoText, IsOutput, has_threads, has_input, gen_output, titles, style, usage_line, long_line, input_limit}

@@ -8,8 +8,8 @@ use Rattle.lang_checks.specs.declared.faults.CheckKind.TheVariants as kind
 use Rattle.lang_checks.specs.declared.faults.ProgramFault as checks
 use Rattle.lang_checks.specs.declared.checks.CheckStop.{CheckStop}
 use Rattle.lang_checks.specs.declared.checks.CheckStop.TheVariants as check
-use Rattle.script_lang.specs.declared.faults.ScriptStop.{ScriptStop}
-use Rattle.script_lang.specs.declared.faults.ScriptStop.TheVariants as script
+use Rattle.lang_script.specs.declared.faults.ScriptStop.{ScriptStop}
+use Rattle.lang_script.specs.declared.faults.ScriptStop.TheVariants as script
 use Rattle.play_core.specs.declared.fault.Fault.{Fault}
 use Rattle.play_core.specs.declared.fault.FaultKind.{FaultKind}
 use Rattle.play_core.specs.declared.fault.FaultKind.TheVariants.{Utf8, Text, Deep, Form, Limit, Double, Unknown, Order, «Type», Remember, Actor}

@@ -10,9 +10,9 @@ use Rattle.lang_forms.specs.Sources.{Source}
 use Rattle.lang_forms.specs.Forms.{HasForms, text_forms}
 use Rattle.lang_forms.specs.Sketch.{unplaced_sketch}
 use Rattle.lang_checks.specs.ProgramFaults.{program_faults}
-use Rattle.script_lang.specs.Scripts.{actors_of}
-use Rattle.script_lang.specs.ScriptFaults.{script_faults}
-use Rattle.script_lang.specs.StepCalls.{script_parts}
+use Rattle.lang_script.specs.Scripts.{actors_of}
+use Rattle.lang_script.specs.ScriptFaults.{script_faults}
+use Rattle.lang_script.specs.StepCalls.{script_parts}
 use Rattle.play_threads.specs.WovenText.{IsWovenText}
 use Rattle.play_gen.specs.Tallies.{generated_counts}
 use Rattle.play_gen.specs.SummaryText.{summary_text}

@@ -15,7 +15,7 @@ use Rattle.snap_api.specs.declared.data.Reply.{Reply}
 use Rattle.snap_api.specs.declared.data.Request.{Request}
 use Rattle.snap_api.specs.declared.data.Request.TheVariants as request
 use Rattle.snap_api.specs.declared.data.Entry.{Entry}
-use Rattle.script_lang.specs.StepCalls.{Part, BeginFrame, EndFrame, ActorPart, of_actor, request_of, end_request, notes_after, entry, sequential, frame_begun, watcher_number}
+use Rattle.lang_script.specs.StepCalls.{Part, BeginFrame, EndFrame, ActorPart, of_actor, request_of, end_request, notes_after, entry, sequential, frame_begun, watcher_number}
 use Rattle.script_lang.specs.Lines.{LineStyle, Standing, ends_frame, next}
 use Rattle.play_run.specs.RunOutput.{Run, first_run, run_after_request, part_after, parts_after}
 use Rattle.play_run.specs.RunState.{RunFacts, IsPlain}

@@ -1,8 +1,8 @@
 -- The parts of the rounds of the script, and the state of a counted run after them.
 use Rattle.std.proofs.Common.{◌≡◌, ◌<◌, ◌-◌, ◌++◌, ℕ, ℤ, List, [], ◌∷◌, length, refl, sym, ap, ◌∙◌, arith, append_assoc, append-nil}
 use Rattle.lang_ast.specs.declared.script.ScriptForm.{ScriptForm}
-use Rattle.script_lang.specs.Scripts.{actors_of}
-use Rattle.script_lang.specs.StepCalls.{BeginFrame, EndFrame, ActorPart, script_parts}
+use Rattle.lang_script.specs.Scripts.{actors_of}
+use Rattle.lang_script.specs.StepCalls.{BeginFrame, EndFrame, ActorPart, script_parts}
 use Rattle.play_run.specs.RunOutput.{parts_of}
 use Rattle.play_gen.specs.declared.rounds.Change.{Change}
 use Rattle.play_gen.specs.declared.rounds.Change.TheVariants as change

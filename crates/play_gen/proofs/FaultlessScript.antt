@@ -2,10 +2,10 @@
 use Rattle.std.proofs.Common.{◌≡◌, ◌≤◌, ◌+◌, ◌*◌, ◌++◌, ℕ, zero, suc, ℤ, List, [], ◌∷◌, false, Option, Some, None, refl, ap, ◌∙◌, arith, codes, append-nil}
 use Rattle.std.specs.Prelude.{nat_lt}
 use Rattle.lang_ast.specs.declared.script.ScriptForm.{ScriptForm}
-use Rattle.script_lang.specs.Scripts.{forms_count}
-use Rattle.script_lang.specs.SnapshotNames.{NamedNumber, latest}
-use Rattle.script_lang.specs.ScriptFaults.{FirstUses, no_uses, text_forms, steps_faults, wrong_repeats, most_steps, script_faults, unknown_name, with_taker, with_framer}
-use Rattle.script_lang.specs.declared.faults.ScriptStop.{ScriptStop}
+use Rattle.lang_script.specs.Scripts.{forms_count}
+use Rattle.lang_script.specs.SnapshotNames.{NamedNumber, latest}
+use Rattle.lang_script.specs.ScriptFaults.{FirstUses, no_uses, text_forms, steps_faults, wrong_repeats, most_steps, script_faults, unknown_name, with_taker, with_framer}
+use Rattle.lang_script.specs.declared.faults.ScriptStop.{ScriptStop}
 use Rattle.play_gen.specs.declared.rounds.Change.{Change}
 use Rattle.play_gen.specs.declared.rounds.Change.TheVariants as change
 use Rattle.play_gen.specs.Draws.{initial_state, next_state}

@@ -6,8 +6,8 @@ use Rattle.lang_ast.specs.declared.script.ScriptForm.{ScriptForm}
 use Rattle.snap_policy.specs.declared.policy.BuiltIn.{BuiltIn}
 use Rattle.snap_api.specs.declared.data.Request.{Request}
 use Rattle.snap_api.specs.World.{World}
-use Rattle.script_lang.specs.Scripts.{written_out}
-use Rattle.script_lang.specs.StepCalls.{ActorPart, request_of, entry, steps_parts}
+use Rattle.lang_script.specs.Scripts.{written_out}
+use Rattle.lang_script.specs.StepCalls.{ActorPart, request_of, entry, steps_parts}
 use Rattle.play_run.specs.RunOutput.{Run, part_after, parts_after, parts_of}
 use Rattle.play_run.specs.RunState.{RunFacts}
 use Rattle.play_gen.specs.declared.tally.Tally.{Tally}

@@ -14,8 +14,8 @@ use Rattle.snap_api.specs.declared.data.Refusal.{Refusal}
 use Rattle.snap_api.specs.declared.data.Refusal.TheVariants as refusal
 use Rattle.snap_api.specs.declared.data.Entry.{Entry}
 use Rattle.snap_api.specs.World.{History}
-use Rattle.script_lang.specs.Scripts.{actors_of}
-use Rattle.script_lang.specs.StepCalls.{ActorPart, no_notes, opening_world, sequential, script_parts}
+use Rattle.lang_script.specs.Scripts.{actors_of}
+use Rattle.lang_script.specs.StepCalls.{ActorPart, no_notes, opening_world, sequential, script_parts}
 use Rattle.script_lang.specs.Lines.{Standing, initial_standing, ends_frame, frame_at, next}
 use Rattle.play_gen.specs.declared.tally.Tally.{Tally}
 use Rattle.play_gen.specs.GeneratedProgram.{generated_states, generated_functions}

@@ -8,7 +8,7 @@ ghost use Rattle.snap_policy.specs.Table.{table};
 ghost use Rattle.snap_api.specs.World.{World, call};
 ghost use Rattle.rt_values.specs.declared.names.Kind.TheVariants as kind_data;
 ghost use Rattle.rt_values.specs.declared.value.Value.{Value as value_data};
-ghost use Rattle.script_lang.specs.StepCalls.{Part, Take, Read, Write, WriteSum, Apply, BeginFrame, EndFrame, request_of};
+ghost use Rattle.lang_script.specs.StepCalls.{Part, Take, Read, Write, WriteSum, Apply, BeginFrame, EndFrame, request_of};
 ghost use Rattle.play_run.specs.RunOutput.{Run, parts_of, parts_after};
 ghost use Rattle.play_run.specs.RunState.{IsPlain, RunFacts};
 ghost use Rattle.play_gen.specs.GeneratedScript.{named_g};

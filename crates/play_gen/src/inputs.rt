@@ -2,9 +2,9 @@
 ghost use Rattle.std.specs.Prelude.{◌≡◌, ◌<◌, ◌≤◌, [], ◌∷◌, length, None, false, codes, IfOk};
 ghost use Rattle.lang_ast.specs.Programs.{program_view};
 ghost use Rattle.lang_checks.specs.ProgramFaults.{program_faults};
-ghost use Rattle.script_lang.specs.ScriptFaults.{script_faults};
+ghost use Rattle.lang_script.specs.ScriptFaults.{script_faults};
 ghost use Rattle.play_gen.specs.GeneratedProgram.{first_items, generated_states, generated_program};
-ghost use Rattle.script_lang.specs.Scripts.{actors_of};
+ghost use Rattle.lang_script.specs.Scripts.{actors_of};
 ghost use Rattle.play_gen.specs.Draws.{initial_state};
 ghost use Rattle.play_gen.specs.GeneratedScript.{frame_step, rounds, generated_script};
 

@@ -3,8 +3,8 @@ ghost use Rattle.std.specs.Prelude.{◌≡◌, ◌<◌, ◌≤◌, None, [], ◌
 ghost use Rattle.rt_values.specs.declared.value.Value.{Value as value_data};
 ghost use Rattle.lang_ast.specs.declared.script.SnapshotRef.{SnapshotRef as snapshot_ref};
 ghost use Rattle.lang_ast.specs.Programs.{program_view};
-ghost use Rattle.script_lang.specs.Scripts.{actors_of};
-ghost use Rattle.script_lang.specs.StepCalls.{opening_world, script_parts};
+ghost use Rattle.lang_script.specs.Scripts.{actors_of};
+ghost use Rattle.lang_script.specs.StepCalls.{opening_world, script_parts};
 ghost use Rattle.snap_api.specs.World.{start};
 ghost use Rattle.play_gen.specs.Draws.{next_state};
 ghost use Rattle.play_gen.specs.GeneratedProgram.{generated_program};

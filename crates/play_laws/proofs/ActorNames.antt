@@ -5,7 +5,7 @@ use Rattle.std.specs.Cmp.Lexicographic.{bytes_decides}
 use Rattle.std.specs.Str.{bytes_eq}
 use Rattle.lang_ast.specs.declared.script.DoForm.{DoForm}
 use Rattle.script_lang.specs.Lines.{actor_name}
-use Rattle.script_lang.specs.Scripts.{most_actors, index_of, is_among, with_actor, actors_from, actors_of}
+use Rattle.lang_script.specs.Scripts.{most_actors, index_of, is_among, with_actor, actors_from, actors_of}
 use Rattle.play_laws.specs.Laws.{ActorNamesAreDistinct}
 
 -- No name is among the later ones.

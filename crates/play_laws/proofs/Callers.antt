@@ -11,8 +11,8 @@ use Rattle.snap_api.specs.World.{World, History, call}
 use Rattle.snap_shared.specs.SharedCalls.{own_calls, HasOnlyCallersBelow}
 use Rattle.snap_shared.proofs.OwnCalls.{itself}
 use Rattle.snap_shared.proofs.Prefixes.{calls_by-append}
-use Rattle.script_lang.specs.Scripts.{index_of, written_out}
-use Rattle.script_lang.specs.StepCalls.{Notes, Part, ActorPart, of_actor, steps_parts, script_parts, request_of, notes_after, entry, sequential}
+use Rattle.lang_script.specs.Scripts.{index_of, written_out}
+use Rattle.lang_script.specs.StepCalls.{Notes, Part, ActorPart, of_actor, steps_parts, script_parts, request_of, notes_after, entry, sequential}
 use Rattle.play_laws.specs.Woven.{actor_of, parts_of, AreOf, actor_parts}
 use Rattle.play_laws.specs.FirstParts.{state_given}
 use Rattle.play_laws.specs.Laws.{PartsAreOfScript}

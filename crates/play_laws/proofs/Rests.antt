@@ -7,8 +7,8 @@ use Rattle.snap_api.specs.World.{World, History, IsLegal, world_after, call}
 use Rattle.snap_shared.specs.SharedCalls.{own_calls}
 use Rattle.snap_shared.specs.Histories.{caller_of}
 use Rattle.snap_shared.proofs.Prefixes.{calls_by-append}
-use Rattle.script_lang.specs.StepCalls.{ActorPart, no_notes, sequential}
-use Rattle.script_lang.proofs.Sequential.{spelled, only}
+use Rattle.lang_script.specs.StepCalls.{ActorPart, no_notes, sequential}
+use Rattle.lang_script.proofs.Sequential.{spelled, only}
 use Rattle.play_laws.specs.PrintedHistory.{printed_history}
 use Rattle.play_laws.specs.Woven.{ActorState, initial_actor, parts_of, AreOf, SpellsAll}
 use Rattle.play_laws.specs.FirstParts.{replies_of, state_given, IsFirstPart}

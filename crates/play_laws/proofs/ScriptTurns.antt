@@ -13,11 +13,11 @@ use Rattle.lang_ast.specs.declared.script.StepForm.TheVariants as step
 use Rattle.lang_ast.specs.declared.script.ScriptForm.{ScriptForm}
 use Rattle.lang_ast.specs.declared.script.ScriptForm.TheVariants.{Once, Repeat}
 use Rattle.lang_ast.specs.declared.script.DoForm.{DoForm}
-use Rattle.script_lang.specs.Scripts.{actors_of, index_of, written_out, times_of, repeated_steps}
-use Rattle.script_lang.specs.ScriptFaults.{TextStep, CallStep, FrameStep, text_step, text_steps, text_forms, text_script, FirstUses, no_uses, with_framer, uses_after_call, uses_after, fault_if, foreign_name, step_faults, steps_faults, oversized_faults, long_forms, most_steps, further_actors, forms_wrong_repeats, script_faults}
-use Rattle.script_lang.specs.declared.faults.ScriptStop.{ScriptStop}
-use Rattle.script_lang.specs.declared.faults.ScriptStop.TheVariants as stop
-use Rattle.script_lang.specs.StepCalls.{Part, EndFrame, ActorPart, of_actor, call_parts, calls_parts, step_parts, steps_parts, with_states, opening_world, script_parts}
+use Rattle.lang_script.specs.Scripts.{actors_of, index_of, written_out, times_of, repeated_steps}
+use Rattle.lang_script.specs.ScriptFaults.{TextStep, CallStep, FrameStep, text_step, text_steps, text_forms, text_script, FirstUses, no_uses, with_framer, uses_after_call, uses_after, fault_if, foreign_name, step_faults, steps_faults, oversized_faults, long_forms, most_steps, further_actors, forms_wrong_repeats, script_faults}
+use Rattle.lang_script.specs.declared.faults.ScriptStop.{ScriptStop}
+use Rattle.lang_script.specs.declared.faults.ScriptStop.TheVariants as stop
+use Rattle.lang_script.specs.StepCalls.{Part, EndFrame, ActorPart, of_actor, call_parts, calls_parts, step_parts, steps_parts, with_states, opening_world, script_parts}
 use Rattle.play_laws.specs.Woven.{actor_parts, initial_actor}
 use Rattle.play_laws.specs.Laws.{FramesAreInTurn}
 use Rattle.play_laws.proofs.Callers.{parts_are_of_script}

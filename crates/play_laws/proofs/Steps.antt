@@ -4,8 +4,8 @@ use Rattle.snap_api.specs.declared.data.Entry.{Entry}
 use Rattle.snap_api.specs.declared.data.Reply.{Reply}
 use Rattle.snap_api.specs.declared.data.Request.{Request}
 use Rattle.snap_api.specs.World.{History}
-use Rattle.script_lang.specs.StepCalls.{Notes, ActorPart, request_of, notes_after}
-use Rattle.script_lang.specs.StepLaws.{BeginsWith, Spells}
+use Rattle.lang_script.specs.StepCalls.{Notes, ActorPart, request_of, notes_after}
+use Rattle.lang_script.specs.StepLaws.{BeginsWith, Spells}
 use Rattle.play_laws.specs.Woven.{ActorState, SpellsAll}
 use Rattle.play_laws.specs.FirstParts.{replies_of, calls_given, state_given}
 use Rattle.play_laws.specs.Laws.{NothingIsSpelled, CallIsSpelled, PartIsPassed, AllIsSpelled}

@@ -28,9 +28,9 @@ use Rattle.rt_values.specs.declared.names.Kind.TheVariants.{Readonly}
 use Rattle.std.proofs.Common.{length-append, length-set}
 use Rattle.snap_shared.proofs.OwnCalls.{itself}
 use Rattle.snap_shared.specs.SharedCalls.{own_calls}
-use Rattle.script_lang.specs.SnapshotNames.{NamedNumber, latest, never_taken, snapshot_number}
-use Rattle.script_lang.specs.StepCalls.{Notes, Part, Take, Read, Write, WriteSum, Apply, Dispose, BeginFrame, EndFrame, ActorPart, of_actor, request_of, notes_after, sum_request, end_request, number_taken, watcher_number}
-use Rattle.script_lang.specs.StepLaws.{BeginsWith, Spells}
+use Rattle.lang_script.specs.SnapshotNames.{NamedNumber, latest, never_taken, snapshot_number}
+use Rattle.lang_script.specs.StepCalls.{Notes, Part, Take, Read, Write, WriteSum, Apply, Dispose, BeginFrame, EndFrame, ActorPart, of_actor, request_of, notes_after, sum_request, end_request, number_taken, watcher_number}
+use Rattle.lang_script.specs.StepLaws.{BeginsWith, Spells}
 use Rattle.script_lang.specs.Lines.{ends_frame, frame_taken}
 use Rattle.play_laws.specs.Woven.{ActorState, IsWoven}
 use Rattle.play_laws.specs.FirstParts.{state_given}

@@ -2,7 +2,7 @@
 use Rattle.std.specs.Prelude.{◌≡◌, List, [], ◌∷◌, map, Some, None}
 use Rattle.snap_api.specs.declared.data.Reply.{Reply}
 use Rattle.snap_api.specs.World.{History}
-use Rattle.script_lang.specs.StepCalls.{Notes, ActorPart, request_of, notes_after}
+use Rattle.lang_script.specs.StepCalls.{Notes, ActorPart, request_of, notes_after}
 use Rattle.play_laws.specs.Woven.{ActorState, actor_at}
 
 -- The replies of a history, in order.

@@ -15,9 +15,9 @@ use Rattle.snap_api.specs.World.{World, History, IsLegal, world_after}
 use Rattle.snap_api.specs.DeskReads.{call_of, reads_of}
 use Rattle.snap_api.specs.Valid.{IsValid}
 use Rattle.snap_shared.specs.SharedCalls.{own_calls, HasOnlyCallersBelow}
-use Rattle.script_lang.specs.Scripts.{actors_of}
-use Rattle.script_lang.specs.ScriptFaults.{script_faults}
-use Rattle.script_lang.specs.StepCalls.{Notes, ActorPart, no_notes, request_of, notes_after, opening_world, script_parts, sequential}
+use Rattle.lang_script.specs.Scripts.{actors_of}
+use Rattle.lang_script.specs.ScriptFaults.{script_faults}
+use Rattle.lang_script.specs.StepCalls.{Notes, ActorPart, no_notes, request_of, notes_after, opening_world, script_parts, sequential}
 use Rattle.script_lang.specs.Lines.{LineStyle, Standing, actor_name, lines, standing_after}
 use Rattle.script_lang.specs.PrintedCalls.{reads_frame, frames_after, printed_calls}
 use Rattle.play_laws.specs.PrintedHistory.{printed_history, frames_after_calls}

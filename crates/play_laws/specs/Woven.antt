@@ -4,9 +4,9 @@ use Rattle.lang_ast.specs.declared.script.DoForm.{DoForm}
 use Rattle.snap_api.specs.World.{History}
 use Rattle.snap_shared.specs.Histories.{calls_by}
 use Rattle.snap_shared.specs.SharedCalls.{own_calls, HasOnlyCallersBelow}
-use Rattle.script_lang.specs.StepCalls.{Notes, ActorPart, no_notes, of_actor, steps_parts}
-use Rattle.script_lang.specs.Scripts.{index_of, written_out}
-use Rattle.script_lang.specs.StepLaws.{Spells}
+use Rattle.lang_script.specs.StepCalls.{Notes, ActorPart, no_notes, of_actor, steps_parts}
+use Rattle.lang_script.specs.Scripts.{index_of, written_out}
+use Rattle.lang_script.specs.StepLaws.{Spells}
 
 -- The number of the actor that a part belongs to.
 abbrev pub actor_of : ActorPart → ℕ

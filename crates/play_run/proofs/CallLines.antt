@@ -11,7 +11,7 @@ use Rattle.snap_api.specs.declared.data.Refusal.TheVariants as refusal
 use Rattle.snap_api.specs.declared.data.Reply.{Reply}
 use Rattle.snap_api.specs.declared.data.Reply.TheVariants as reply
 use Rattle.snap_api.specs.declared.data.Request.{Request}
-use Rattle.script_lang.specs.StepCalls.{entry}
+use Rattle.lang_script.specs.StepCalls.{entry}
 use Rattle.script_lang.specs.Lines.{Titles, call_text, reply_text, line, entry_line}
 use Rattle.play_run.specs.RunPromise.{WritesBytes}
 

@@ -27,8 +27,8 @@ use Rattle.snap_api.proofs.LawsCases.{Did, did, refused, took_for}
 use Rattle.snap_api.proofs.Takes.{call-TakeFor, took_own}
 use Rattle.snap_api.proofs.ValidCalls.{valid_call}
 use Rattle.script_lang.specs.Lines.{LineStyle, entry_line, frame_lines, frame_taken}
-use Rattle.script_lang.specs.StepCalls.{BeginFrame, EndFrame, of_actor, frame_begun, entry, watcher_number, end_request}
-use Rattle.script_lang.specs.NamesInMemory.{Holds}
+use Rattle.lang_script.specs.StepCalls.{BeginFrame, EndFrame, of_actor, frame_begun, entry, watcher_number, end_request}
+use Rattle.lang_script.specs.NamesInMemory.{Holds}
 use Rattle.play_run.specs.RunOutput.{Run, request_lines, run_after_request, part_lines, part_after, parts_lines}
 use Rattle.play_run.specs.RunState.{AreKnown, RunFacts, IsRun, IsLogged, AddsEntry, MayAddEntry, LogsFrameReads, StopsAt, flat}
 use Rattle.play_run.specs.declared.memory.RunMemory.{RunMemory}

@@ -21,9 +21,9 @@ use Rattle.snap_api.specs.declared.data.Reply.TheVariants as reply
 use Rattle.snap_api.specs.declared.data.Request.{Request}
 use Rattle.snap_api.specs.declared.data.Request.TheVariants as request
 use Rattle.snap_api.specs.declared.data.Snapshot.{Snapshot}
-use Rattle.script_lang.specs.SnapshotNames.{never_taken}
+use Rattle.lang_script.specs.SnapshotNames.{never_taken}
 use Rattle.script_lang.specs.Lines.{frame_taken}
-use Rattle.script_lang.specs.StepCalls.{frame_begun, number_taken, watcher_number}
+use Rattle.lang_script.specs.StepCalls.{frame_begun, number_taken, watcher_number}
 
 -- A call that is no take for a watcher.
 abbrev pub IsPlainCall : Request → Type 0

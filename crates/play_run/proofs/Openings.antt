@@ -22,8 +22,8 @@ use Rattle.snap_api.specs.declared.data.Entry.{Entry}
 use Rattle.snap_api.specs.World.{World, start, last_of, world_after_make, make_refusal, with_object}
 use Rattle.snap_api.proofs.ValidMade.{valid_start, valid_made, makeable}
 use Rattle.snap_api.proofs.ValidMoves.{valid_watched}
-use Rattle.script_lang.specs.NamesInMemory.{Holds}
-use Rattle.script_lang.specs.StepCalls.{with_states, opening_world, watcher_number}
+use Rattle.lang_script.specs.NamesInMemory.{Holds}
+use Rattle.lang_script.specs.StepCalls.{with_states, opening_world, watcher_number}
 use Rattle.recomposer.specs.Compositions.{IsAt}
 use Rattle.play_run.specs.Opening.{StatesFit}
 use Rattle.play_run.specs.RunOutput.{first_run}

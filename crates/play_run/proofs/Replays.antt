@@ -31,7 +31,7 @@ use Rattle.snap_api.specs.declared.data.Reply.TheVariants as reply
 use Rattle.snap_api.specs.declared.data.Request.{Request}
 use Rattle.snap_api.specs.declared.data.Request.TheVariants as request
 use Rattle.snap_api.specs.declared.data.Snapshot.{Snapshot}
-use Rattle.script_lang.specs.StepCalls.{entry, frame_begun, opening_world, watcher_number}
+use Rattle.lang_script.specs.StepCalls.{entry, frame_begun, opening_world, watcher_number}
 use Rattle.script_lang.specs.Lines.{LineStyle, Standing, entry_line, ends_frame, frame_lines, frame_taken, lines, lines_at, next, initial_standing}
 use Rattle.script_lang.specs.PrintedCalls.{reads_frame}
 use Rattle.lang_ast.specs.Programs.{functions_of}

@@ -5,7 +5,7 @@ use Rattle.snap_policy.specs.Table.{table}
 use Rattle.snap_api.specs.declared.data.Request.{Request}
 use Rattle.snap_api.specs.declared.data.Entry.{Entry}
 use Rattle.snap_api.specs.World.{call}
-use Rattle.script_lang.specs.StepCalls.{ActorPart, request_of, notes_after, entry, sequential}
+use Rattle.lang_script.specs.StepCalls.{ActorPart, request_of, notes_after, entry, sequential}
 use Rattle.script_lang.specs.Lines.{LineStyle, lines, lines_at, next, run_text}
 use Rattle.play_run.specs.RunOutput.{Run, first_run, request_lines, run_after_request, part_lines, part_after, parts_lines, parts_after}
 use Rattle.play_run.specs.RunState.{flat}

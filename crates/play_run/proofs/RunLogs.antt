@@ -25,7 +25,7 @@ use Rattle.snap_api.specs.declared.data.Reply.TheVariants as reply
 use Rattle.snap_api.specs.declared.data.Request.{Request}
 use Rattle.snap_api.specs.declared.data.Request.TheVariants as request
 use Rattle.recomposer.proofs.Draws.{read_first}
-use Rattle.script_lang.specs.StepCalls.{ActorPart, request_of, notes_after, entry, sequential}
+use Rattle.lang_script.specs.StepCalls.{ActorPart, request_of, notes_after, entry, sequential}
 use Rattle.script_lang.specs.Lines.{Titles, Standing, next, ends_frame, frame_at, frame_taken, name_in}
 use Rattle.script_lang.specs.PrintedCalls.{reads_frame, frames_after, printed_calls}
 use Rattle.play_run.specs.RunLog.{frames_in, owed_reads, ReadsForResult, ReadsOwed, LogsRun}

@@ -21,8 +21,8 @@ use Rattle.snap_api.specs.declared.data.Request.{Request}
 use Rattle.snap_api.specs.declared.data.Request.TheVariants as request
 use Rattle.snap_api.specs.declared.data.Entry.{Entry}
 use Rattle.snap_api.specs.declared.data.Snapshot.{Snapshot}
-use Rattle.script_lang.specs.SnapshotNames.{NamedNumber, latest, snapshot_number, never_taken}
-use Rattle.script_lang.specs.StepCalls.{Part, Take, Read, Write, WriteSum, Apply, Dispose, BeginFrame, EndFrame, of_actor, Notes, request_of, sum_request, notes_after, number_taken, entry, watcher_number}
+use Rattle.lang_script.specs.SnapshotNames.{NamedNumber, latest, snapshot_number, never_taken}
+use Rattle.lang_script.specs.StepCalls.{Part, Take, Read, Write, WriteSum, Apply, Dispose, BeginFrame, EndFrame, of_actor, Notes, request_of, sum_request, notes_after, number_taken, entry, watcher_number}
 use Rattle.script_lang.specs.Lines.{LineStyle, entry_line, ends_frame, frame_taken}
 use Rattle.recomposer.specs.Compositions.{IsAt}
 use Rattle.play_run.specs.RunOutput.{Run, request_lines, run_after_request, part_lines, part_after, parts_lines}
@@ -32,7 +32,7 @@ use Rattle.play_run.specs.RunPromise.{WritesBytes}
 use Rattle.recomposer.specs.declared.composition.Composition.{Composition}
 use Rattle.play_run.specs.declared.memory.RunMemory.{RunMemory}
 use Rattle.play_run.specs.declared.write_lines.Stop.{Stop}
-use Rattle.script_lang.specs.NamesInMemory.{Holds, number_in}
+use Rattle.lang_script.specs.NamesInMemory.{Holds, number_in}
 use Rattle.rt_streams.specs.Streams.{AppendsPart}
 use Rattle.rt_values.specs.declared.names.Kind.{Kind}
 use Rattle.play_run.proofs.OpenFrames.{IsPlainCall, Avoids, same_last, few_after, grown, same_snapshot, taken, own_after, within}

@@ -9,8 +9,8 @@ use Rattle.lang_ast.specs.declared.script.ScriptForm.TheVariants.{Once, Repeat}
 use Rattle.snap_policy.specs.declared.policy.BuiltIn.{BuiltIn}
 use Rattle.snap_api.specs.World.{World}
 use Rattle.snap_api.specs.declared.data.Entry.{Entry}
-use Rattle.script_lang.specs.Scripts.{repeated_steps, times_of, written_out}
-use Rattle.script_lang.specs.StepCalls.{Part, ActorPart, of_actor, step_parts, steps_parts}
+use Rattle.lang_script.specs.Scripts.{repeated_steps, times_of, written_out}
+use Rattle.lang_script.specs.StepCalls.{Part, ActorPart, of_actor, step_parts, steps_parts}
 use Rattle.script_lang.specs.Lines.{LineStyle}
 use Rattle.play_run.specs.RunOutput.{Run, parts_lines, parts_after, parts_of}
 use Rattle.play_run.specs.RunState.{RunFacts, IsRun, RunsAt, flat}

@@ -18,7 +18,7 @@ use Rattle.snap_api.specs.declared.data.Reply.{Reply}
 use Rattle.snap_api.specs.declared.data.Reply.TheVariants as reply
 use Rattle.snap_api.specs.declared.data.Request.{Request}
 use Rattle.snap_api.specs.declared.data.Request.TheVariants as request
-use Rattle.script_lang.specs.StepCalls.{ActorPart, entry, sequential, no_notes, opening_world}
+use Rattle.lang_script.specs.StepCalls.{ActorPart, entry, sequential, no_notes, opening_world}
 use Rattle.script_lang.specs.Lines.{LineStyle, Standing, initial_standing, run_text}
 use Rattle.script_lang.specs.PrintedCalls.{printed_calls}
 use Rattle.play_run.specs.RunLog.{StopsRun}

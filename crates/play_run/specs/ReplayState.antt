@@ -8,7 +8,7 @@ use Rattle.snap_policy.specs.declared.policy.BuiltIn.{BuiltIn}
 use Rattle.snap_policy.specs.Table.{table}
 use Rattle.snap_api.specs.declared.data.Entry.{Entry}
 use Rattle.snap_api.specs.World.{World, call, last_of}
-use Rattle.script_lang.specs.StepCalls.{no_notes, watcher_number}
+use Rattle.lang_script.specs.StepCalls.{no_notes, watcher_number}
 use Rattle.script_lang.specs.Lines.{LineStyle, Standing}
 use Rattle.play_laws.specs.FramesInTurn.{OpenFrame}
 use Rattle.play_run.specs.CallsInFrames.{name_of, caller_of, frame_after, call_lines, standing_then}

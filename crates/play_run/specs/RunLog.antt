@@ -11,7 +11,7 @@ use Rattle.snap_api.specs.declared.data.Entry.{Entry}
 use Rattle.snap_api.specs.declared.data.Request.{Request}
 use Rattle.snap_api.specs.declared.data.Request.TheVariants as request
 use Rattle.snap_api.specs.World.{History, IsLegal, snapshot_of}
-use Rattle.script_lang.specs.StepCalls.{ActorPart, no_notes, opening_world, sequential}
+use Rattle.lang_script.specs.StepCalls.{ActorPart, no_notes, opening_world, sequential}
 use Rattle.script_lang.specs.Lines.{Titles, LineStyle, Standing, initial_standing, next, ends_frame, name_in, run_text}
 use Rattle.script_lang.specs.PrintedCalls.{reads_frame, printed_calls}
 use Rattle.play_run.specs.RunPromise.{WritesAtLeast}

@@ -8,7 +8,7 @@ use Rattle.snap_policy.specs.Table.{table}
 use Rattle.snap_api.specs.declared.data.Request.{Request}
 use Rattle.snap_api.specs.declared.data.Entry.{Entry}
 use Rattle.snap_api.specs.World.{History, call}
-use Rattle.script_lang.specs.StepCalls.{Part, ActorPart, of_actor, Notes, no_notes, request_of, notes_after, entry}
+use Rattle.lang_script.specs.StepCalls.{Part, ActorPart, of_actor, Notes, no_notes, request_of, notes_after, entry}
 use Rattle.rt_groups.specs.declared.groups.Group.{Group}
 use Rattle.script_lang.specs.declared.flags.Flags.{Flags}
 use Rattle.script_lang.specs.GroupLines.{group_lines}

@@ -20,9 +20,9 @@ use Rattle.snap_api.specs.DeskReads.{LogsReadsIn, AreLegal, call_of, reads_of}
 use Rattle.snap_api.specs.World.{World, History, IsLegal, world_after, last_of, snapshot_of, is_mutable}
 use Rattle.snap_api.specs.Valid.{IsValid}
 use Rattle.snap_api.specs.Calls.{IsOwn}
-use Rattle.script_lang.specs.SnapshotNames.{NamedNumber, latest, never_taken}
-use Rattle.script_lang.specs.NamesInMemory.{Holds}
-use Rattle.script_lang.specs.StepCalls.{Part, Take, BeginFrame, EndFrame, ActorPart, watcher_number}
+use Rattle.lang_script.specs.SnapshotNames.{NamedNumber, latest, never_taken}
+use Rattle.lang_script.specs.NamesInMemory.{Holds}
+use Rattle.lang_script.specs.StepCalls.{Part, Take, BeginFrame, EndFrame, ActorPart, watcher_number}
 use Rattle.script_lang.specs.declared.flags.Flags.{Flags}
 use Rattle.script_lang.specs.Lines.{LineStyle}
 use Rattle.node_tree.specs.FrameOps.{frame_ops}

@@ -16,7 +16,7 @@ ghost use Rattle.snap_api.specs.World.{World};
 ghost use Rattle.snap_api.specs.ShownMap.{ShownMap};
 ghost use Rattle.snap_api.specs.Desks.{FollowsLast};
 ghost use Rattle.snap_api.specs.declared.data.Reply.TheVariants as reply_data;
-ghost use Rattle.script_lang.specs.StepCalls.{BeginFrame, EndFrame, calls_parts, frame_begun};
+ghost use Rattle.lang_script.specs.StepCalls.{BeginFrame, EndFrame, calls_parts, frame_begun};
 ghost use Rattle.script_lang.specs.Lines.{line, report_line, op_line, frame_lines};
 ghost use Rattle.script_lang.specs.GroupLines.{group_lines, open_after, group_line};
 ghost use Rattle.script_lang.specs.GroupJson.{group_json, json_after_group};

@@ -2,7 +2,7 @@
 ghost use Rattle.std.specs.Prelude.{◌≡◌, [], None, IfOk};
 ghost use Rattle.rt_groups.specs.Frames.{no_last_frame};
 ghost use Rattle.recomposer.specs.Compositions.{IsAt};
-ghost use Rattle.script_lang.specs.NamesInMemory.{Holds};
+ghost use Rattle.lang_script.specs.NamesInMemory.{Holds};
 
 use lang_checks::Checked;
 use recomposer::Composition;

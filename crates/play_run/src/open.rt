@@ -4,7 +4,7 @@ ghost use Rattle.snap_policy.specs.declared.policy.BuiltIn.{BuiltIn as built_in}
 ghost use Rattle.snap_policy.specs.Table.{table_fits};
 ghost use Rattle.rt_values.specs.Values.{type_of};
 ghost use Rattle.snap_api.specs.World.{World, start, world_after_make};
-ghost use Rattle.script_lang.specs.StepCalls.{opening_world, with_states};
+ghost use Rattle.lang_script.specs.StepCalls.{opening_world, with_states};
 ghost use Rattle.play_run.specs.Opening.{StatesFit};
 
 use lang_ast::State;

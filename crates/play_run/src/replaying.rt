@@ -7,7 +7,7 @@ ghost use Rattle.recomposer.specs.Compositions.{IsAt};
 ghost use Rattle.recomposer.specs.FrameContracts.{frame_result, InShownFrames};
 ghost use Rattle.snap_policy.specs.Table.{table};
 ghost use Rattle.snap_api.specs.World.{IsLegal};
-ghost use Rattle.script_lang.specs.StepCalls.{opening_world};
+ghost use Rattle.lang_script.specs.StepCalls.{opening_world};
 ghost use Rattle.script_lang.specs.Lines.{Standing, initial_standing, lines, frame_lines, ends_frame};
 ghost use Rattle.play_laws.specs.FramesInTurn.{AreInTurn};
 ghost use Rattle.play_laws.specs.PrintedHistory.{printed_history};

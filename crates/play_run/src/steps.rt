@@ -2,8 +2,8 @@
 ghost use Rattle.std.specs.Prelude.{◌≡◌, ◌≤◌, List, ℕ, Bool, true, Option, Some, None, Err, IfOk, OnOk, OnErr, [], ◌∷◌, length};
 ghost use Rattle.snap_api.specs.World.{start};
 ghost use Rattle.lang_ast.specs.declared.program.State.{State as state_data};
-ghost use Rattle.script_lang.specs.Scripts.{index_of, written_out, times_of, repeated_steps};
-ghost use Rattle.script_lang.specs.StepCalls.{step_parts, steps_parts, script_parts};
+ghost use Rattle.lang_script.specs.Scripts.{index_of, written_out, times_of, repeated_steps};
+ghost use Rattle.lang_script.specs.StepCalls.{step_parts, steps_parts, script_parts};
 ghost use Rattle.script_lang.specs.Lines.{run_text};
 ghost use Rattle.play_run.specs.RunPromise.{job_titles, job_style, job_functions};
 ghost use Rattle.play_run.specs.RunLog.{LogsRun, StopsRun};

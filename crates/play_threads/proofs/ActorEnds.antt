@@ -13,7 +13,7 @@ use Rattle.snap_shared.specs.SharedCalls.{own_calls, numbers_below, ContainsSeat
 use Rattle.snap_shared.specs.declared.shared.Seat.{Seat}
 use Rattle.snap_shared.specs.declared.shared.Shared.{Shared}
 use Rattle.script_lang.specs.PrintedCalls.{reads_frame, frames_after, printed_calls}
-use Rattle.script_lang.specs.StepCalls.{ActorPart, no_notes}
+use Rattle.lang_script.specs.StepCalls.{ActorPart, no_notes}
 use Rattle.play_laws.specs.Laws.{CanBeCompleted}
 use Rattle.play_laws.specs.FirstParts.{IsFirstPart, SpellsTo}
 use Rattle.play_laws.specs.PrintedHistory.{no_frames, with_frames, printed_from, printed_history, frames_after_calls}

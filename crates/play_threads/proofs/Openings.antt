@@ -12,7 +12,7 @@ use Rattle.snap_api.proofs.ValidMoves.{valid_watched}
 use Rattle.snap_api.specs.Shaped.{IsShaped}
 use Rattle.snap_api.specs.TracksLive.{OnlyGlobalIsLive}
 use Rattle.snap_api.specs.World.{World, start, is_closed, with_object, world_after_make}
-use Rattle.script_lang.specs.StepCalls.{with_states, opening_world}
+use Rattle.lang_script.specs.StepCalls.{with_states, opening_world}
 use Rattle.play_run.proofs.Openings.{makes-state}
 use Rattle.play_run.specs.Opening.{StatesFit}
 use Rattle.play_threads.specs.ActorSteps.{CountsSnapshots}

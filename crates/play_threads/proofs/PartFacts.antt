@@ -22,8 +22,8 @@ use Rattle.snap_api.specs.declared.data.Request.{Request}
 use Rattle.snap_api.specs.declared.data.Request.TheVariants as request
 use Rattle.script_lang.specs.Lines.{ends_frame, frame_taken, name_in}
 use Rattle.script_lang.specs.PrintedCalls.{reads_frame, frames_after}
-use Rattle.script_lang.specs.SnapshotNames.{NamedNumber, latest, snapshot_number, never_taken}
-use Rattle.script_lang.specs.StepCalls.{Part, Take, Read, Write, WriteSum, Apply, Dispose, BeginFrame, EndFrame, Notes, request_of, sum_request, end_request, notes_after, number_taken, frame_begun, watcher_number}
+use Rattle.lang_script.specs.SnapshotNames.{NamedNumber, latest, snapshot_number, never_taken}
+use Rattle.lang_script.specs.StepCalls.{Part, Take, Read, Write, WriteSum, Apply, Dispose, BeginFrame, EndFrame, Notes, request_of, sum_request, end_request, notes_after, number_taken, frame_begun, watcher_number}
 use Rattle.play_run.proofs.OpenFrames.{grown, taken}
 use Rattle.play_run.specs.RunState.{AreKnown}
 use Rattle.play_threads.specs.ActorSteps.{CountsSnapshots, IsApart, FrameIsApart, frame_list, MayMake}

@@ -14,7 +14,7 @@ use Rattle.snap_shared.specs.SeatDesk.{SeatAfterReads}
 use Rattle.snap_shared.specs.Seats.{seen_by, mine_of}
 use Rattle.snap_shared.specs.SharedCalls.{own_calls, entries_added, SeesOwnCall}
 use Rattle.script_lang.specs.PrintedCalls.{printed_calls, reads_frame, frames_after}
-use Rattle.script_lang.specs.StepCalls.{Part, Take, Read, Write, WriteSum, Apply, Dispose, BeginFrame, EndFrame, ActorPart, Notes, of_actor, request_of, notes_after}
+use Rattle.lang_script.specs.StepCalls.{Part, Take, Read, Write, WriteSum, Apply, Dispose, BeginFrame, EndFrame, ActorPart, Notes, of_actor, request_of, notes_after}
 use Rattle.play_laws.specs.FirstParts.{IsFirstPart, SpellsTo}
 use Rattle.play_laws.specs.PrintedHistory.{frames_after_calls}
 use Rattle.play_laws.specs.Woven.{ActorState, actor_at}

@@ -4,8 +4,8 @@ use Rattle.lang_ast.specs.declared.script.DoForm.{DoForm}
 use Rattle.snap_policy.specs.declared.policy.BuiltIn.{BuiltIn}
 use Rattle.snap_api.specs.World.{World}
 use Rattle.snap_shared.specs.declared.shared.Shared.{Shared}
-use Rattle.script_lang.specs.Scripts.{index_of, written_out}
-use Rattle.script_lang.specs.StepCalls.{Part, ActorPart, of_actor, steps_parts}
+use Rattle.lang_script.specs.Scripts.{index_of, written_out}
+use Rattle.lang_script.specs.StepCalls.{Part, ActorPart, of_actor, steps_parts}
 use Rattle.play_laws.specs.Woven.{actor_parts}
 use Rattle.play_threads.specs.ActorSteps.{by_actor, HasCome, Leads, Makes}
 use Rattle.play_threads.specs.declared.worker.Worker.{Worker}

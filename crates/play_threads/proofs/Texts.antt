@@ -8,7 +8,7 @@ use Rattle.lang_ast.specs.declared.script.DoForm.{DoForm}
 use Rattle.snap_policy.specs.Table.{table}
 use Rattle.snap_api.specs.World.{History}
 use Rattle.script_lang.specs.Lines.{LineStyle, initial_standing, standing_after, ends_frame, frame_taken}
-use Rattle.script_lang.specs.StepCalls.{script_parts, opening_world}
+use Rattle.lang_script.specs.StepCalls.{script_parts, opening_world}
 use Rattle.play_laws.specs.FramesInTurn.{OpenFrame, frame_opened, AreInTurn}
 use Rattle.play_laws.specs.Laws.{CanBeCompleted, text_of}
 use Rattle.play_laws.specs.PrintedHistory.{printed_history}

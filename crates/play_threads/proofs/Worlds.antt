@@ -8,7 +8,7 @@ use Rattle.snap_api.proofs.ValidCalls.{valid_call}
 use Rattle.snap_api.specs.World.{World, History, call, world_after}
 use Rattle.snap_api.specs.declared.data.Request.{Request}
 use Rattle.snap_shared.specs.HistoryEffects.{after_append}
-use Rattle.script_lang.specs.SnapshotNames.{NamedNumber}
+use Rattle.lang_script.specs.SnapshotNames.{NamedNumber}
 use Rattle.play_run.proofs.OpenFrames.{few_after, grown}
 use Rattle.play_run.specs.RunState.{AreKnown}
 use Rattle.play_threads.specs.ActorSteps.{CountsSnapshots, FrameIsApart}

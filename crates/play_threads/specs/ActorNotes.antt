@@ -1,8 +1,8 @@
 -- Internal: how an actor's memory represents the notes of its own calls.
 use Rattle.std.specs.Prelude.{◌≡◌}
-use Rattle.script_lang.specs.NamesInMemory.{Holds}
-use Rattle.script_lang.specs.StepCalls.{Part, Notes}
-use Rattle.script_lang.specs.StepCalls as calls
+use Rattle.lang_script.specs.NamesInMemory.{Holds}
+use Rattle.lang_script.specs.StepCalls.{Part, Notes}
+use Rattle.lang_script.specs.StepCalls as calls
 use Rattle.play_threads.specs.declared.memory.ActorMemory.{ActorMemory}
 use Rattle.play_threads.specs.declared.parts.StepPart.{StepPart}
 use Rattle.play_threads.specs.declared.parts.StepPart.TheVariants as part

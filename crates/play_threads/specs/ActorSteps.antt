@@ -9,8 +9,8 @@ use Rattle.snap_shared.specs.Seats.{opening_of, number_of, seen_by, mine_of, IsS
 use Rattle.snap_shared.specs.SharedCalls.{own_calls, HasOnlyCallersBelow}
 use Rattle.snap_shared.specs.declared.shared.Seat.{Seat}
 use Rattle.snap_shared.specs.declared.shared.Shared.{Shared}
-use Rattle.script_lang.specs.SnapshotNames.{NamedNumber, latest, never_taken}
-use Rattle.script_lang.specs.StepCalls.{Part, BeginFrame, EndFrame, ActorPart, Notes, of_actor, request_of}
+use Rattle.lang_script.specs.SnapshotNames.{NamedNumber, latest, never_taken}
+use Rattle.lang_script.specs.StepCalls.{Part, BeginFrame, EndFrame, ActorPart, Notes, of_actor, request_of}
 use Rattle.script_lang.specs.PrintedCalls.{printed_calls}
 use Rattle.play_run.specs.RunState.{AreKnown}
 use Rattle.play_laws.specs.FirstParts.{IsFirstPart, SpellsTo}

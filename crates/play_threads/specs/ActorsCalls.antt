@@ -2,7 +2,7 @@
 use Rattle.std.specs.Prelude.{◌≡◌, false, length}
 use Rattle.snap_policy.specs.Table.{table}
 use Rattle.snap_api.specs.World.{IsLegal}
-use Rattle.script_lang.specs.StepCalls.{script_parts, opening_world}
+use Rattle.lang_script.specs.StepCalls.{script_parts, opening_world}
 use Rattle.play_laws.specs.Laws.{CanBeCompleted}
 use Rattle.play_laws.specs.PrintedHistory.{printed_history}
 use Rattle.play_laws.specs.Woven.{initial_actor, IsWoven}

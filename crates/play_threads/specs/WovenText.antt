@@ -5,9 +5,9 @@ use Rattle.lang_ast.specs.declared.script.DoForm.{DoForm}
 use Rattle.snap_policy.specs.Table.{table}
 use Rattle.snap_api.specs.World.{History, IsLegal}
 use Rattle.script_lang.specs.Lines.{LineStyle, actor_name, initial_standing}
-use Rattle.script_lang.specs.Scripts.{actors_of}
-use Rattle.script_lang.specs.ScriptFaults.{script_faults}
-use Rattle.script_lang.specs.StepCalls.{script_parts, opening_world}
+use Rattle.lang_script.specs.Scripts.{actors_of}
+use Rattle.lang_script.specs.ScriptFaults.{script_faults}
+use Rattle.lang_script.specs.StepCalls.{script_parts, opening_world}
 use Rattle.script_lang.specs.declared.flags.Flags.{Flags}
 use Rattle.play_laws.specs.Laws.{AreActorNames, text_of}
 use Rattle.play_laws.specs.Woven.{initial_actor, IsWoven}

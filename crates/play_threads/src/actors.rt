@@ -4,7 +4,7 @@ ghost use Rattle.snap_policy.specs.Table.{table};
 ghost use Rattle.snap_api.specs.World.{IsLegal};
 ghost use Rattle.snap_shared.specs.Seats.{number_of, IsNewSeat};
 ghost use Rattle.snap_shared.specs.SharedCalls.{numbers_below};
-ghost use Rattle.script_lang.specs.StepCalls.{script_parts, opening_world};
+ghost use Rattle.lang_script.specs.StepCalls.{script_parts, opening_world};
 ghost use Rattle.play_laws.specs.Laws.{CanBeCompleted};
 ghost use Rattle.play_laws.specs.PrintedHistory.{printed_history};
 ghost use Rattle.play_laws.specs.Woven.{initial_actor, IsWoven};

@@ -1,6 +1,6 @@
 // Frames, each composed in its own snapshot through the actor's seat.
 ghost use Rattle.std.specs.Prelude.{◌≡◌, ◌<◌, ◌∷◌, ◌++◌, [], Option, ℕ, Some, None, false, OnOk, IsOk};
-ghost use Rattle.script_lang.specs.StepCalls.{BeginFrame, EndFrame, calls_parts};
+ghost use Rattle.lang_script.specs.StepCalls.{BeginFrame, EndFrame, calls_parts};
 ghost use Rattle.play_threads.specs.ActorSteps.{by_actor, IsSeated, Makes};
 
 use crate::parts::StepPart;

@@ -1,6 +1,6 @@
 // What an actor keeps between its calls.
 ghost use Rattle.std.specs.Prelude.{◌≡◌, IfOk, OnOk};
-ghost use Rattle.script_lang.specs.StepCalls.{Notes, no_notes, request_of, notes_after, value_read, frame_begun, sum_request};
+ghost use Rattle.lang_script.specs.StepCalls.{Notes, no_notes, request_of, notes_after, value_read, frame_begun, sum_request};
 ghost use Rattle.play_threads.specs.ActorNotes.{IsNoted, part_of};
 
 use crate::parts::StepPart;

@@ -1,8 +1,8 @@
 // The steps of an actor, one after the other.
 ghost use Rattle.std.specs.Prelude.{◌≡◌, ◌∷◌, [], ℕ, None};
 ghost use Rattle.snap_shared.specs.Seats.{number_of, IsNewSeat};
-ghost use Rattle.script_lang.specs.Scripts.{written_out, repeated_steps};
-ghost use Rattle.script_lang.specs.StepCalls.{step_parts, steps_parts, script_parts};
+ghost use Rattle.lang_script.specs.Scripts.{written_out, repeated_steps};
+ghost use Rattle.lang_script.specs.StepCalls.{step_parts, steps_parts, script_parts};
 ghost use Rattle.play_laws.specs.Woven.{actor_parts};
 ghost use Rattle.play_threads.specs.ActorSteps.{by_actor, IsSeated, Makes, ActsThrough};
 

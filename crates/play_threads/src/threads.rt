@@ -1,7 +1,7 @@
 // The command `threads`.
 ghost use Rattle.std.specs.Prelude.{◌≡◌, ◌≤◌, IfOk, length};
 ghost use Rattle.snap_api.specs.World.{start};
-ghost use Rattle.script_lang.specs.StepCalls.{opening_world};
+ghost use Rattle.lang_script.specs.StepCalls.{opening_world};
 ghost use Rattle.play_run.specs.RunPromise.{FaultsAfter};
 ghost use Rattle.play_threads.specs.ActorsCalls.{AreActorsCalls};
 ghost use Rattle.play_threads.specs.WovenText.{HasNoFault, WritesWovenText};

@@ -1,6 +1,6 @@
 // The worker of an actor, and the calls of its steps.
 ghost use Rattle.std.specs.Prelude.{◌∷◌, [], Option, ℕ};
-ghost use Rattle.script_lang.specs.StepCalls.{Read, WriteSum, call_parts, calls_parts};
+ghost use Rattle.lang_script.specs.StepCalls.{Read, WriteSum, call_parts, calls_parts};
 ghost use Rattle.play_threads.specs.ActorNotes.{part_of};
 ghost use Rattle.play_threads.specs.ActorSteps.{by_actor, IsSeated, Makes, MakesCall, MayMake, frame_then};
 

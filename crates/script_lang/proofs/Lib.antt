@@ -3,8 +3,3 @@ pub mod Digits
 pub mod Trees
 pub mod Jsons
 pub mod SortedNames
-pub mod FirstFault
-pub mod Capped
-pub mod HashedNames
-pub mod Scans
-pub mod Sequential

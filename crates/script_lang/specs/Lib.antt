@@ -1,10 +1,3 @@
-pub mod SnapshotNames
-pub mod Scripts
-pub mod ScriptFaults
-pub mod StepCalls
-pub mod StepLaws
-pub mod NamesInMemory
-pub mod NameScans
 pub mod TreeJson
 pub mod LastDigits
 pub mod Lines

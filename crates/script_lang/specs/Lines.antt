@@ -32,9 +32,9 @@ use Rattle.snap_api.specs.declared.data.Refusal.TheVariants as refusal
 use Rattle.snap_api.specs.declared.data.Entry.{Entry}
 use Rattle.snap_api.specs.World.{World, History, call, snapshot_of}
 use Rattle.script_lang.specs.declared.flags.Flags.{Flags}
-use Rattle.script_lang.specs.declared.scripts.Script.{Script}
-use Rattle.script_lang.specs.SnapshotNames.{never_taken}
-use Rattle.script_lang.specs.StepCalls.{ActorPart, no_notes, opening_world, sequential}
+use Rattle.lang_script.specs.declared.scripts.Script.{Script}
+use Rattle.lang_script.specs.SnapshotNames.{never_taken}
+use Rattle.lang_script.specs.StepCalls.{ActorPart, no_notes, opening_world, sequential}
 use Rattle.script_lang.specs.TreeJson.{tree_json}
 
 -- The names in lines: those of the states and those of the actors, by number.

@@ -1,7 +1,6 @@
-// Laws of scripts and of the lines of every frame.
+// Laws of the lines of every frame.
 ghost use Rattle.script_lang.specs.GroupLines.{GroupsTellTheTree};
 ghost use Rattle.script_lang.specs.GroupJson.{GroupsTellTheJson};
-ghost use Rattle.script_lang.specs.StepLaws.{SequentialIsSpelled, SequentialIsTheOnly};
 
 /// Law: the lines of a composition's groups in preorder are the lines of its node tree. Calls, keys and cells
 /// have no line; their contents take their place.
@@ -12,11 +11,4 @@ pub fn groups_tell_the_tree()
 /// Law: the JSON that a composition's groups make in preorder is that of its node tree.
 pub fn groups_tell_the_json()
     ensures { GroupsTellTheJson }
-{}
-
-/// Law: the history of a run has the plain world's replies, its calls are those that the script's steps make given
-/// these replies, and no other history has both properties.
-pub fn sequential_is_spelled()
-    ensures spelled { SequentialIsSpelled }
-    ensures only { SequentialIsTheOnly }
 {}

@@ -6,11 +6,10 @@ ghost use Rattle.rt_values.specs.Keywords.{kind_word};
 ghost use Rattle.script_lang.specs.LastDigits.{last_two_digits};
 ghost use Rattle.script_lang.specs.Lines.{Titles, titles_of, actor_name, state_name, state_names, snapshot, snapshot_number_text, request_text, refusal_text, reply_text, call_text, entry_line, line};
 
-use crate::Script;
-use crate::names::NEVER_TAKEN;
 use itoa::Buffer;
 use lang_ast::State;
 use lang_checks::Checked;
+use lang_script::{NEVER_TAKEN, Script};
 use rt_values::{Caller, Kind, Name, NoMemory, ObjectNo, Value, Word};
 use snap_api::{Entry, Refusal, Reply, Request};
 

@@ -3,7 +3,7 @@ ghost use Rattle.std.specs.Prelude.{◌≡◌, ◌≤◌, [], ◌∷◌, Option,
 ghost use Rattle.std.specs.Option.{option_map};
 ghost use Rattle.snap_policy.specs.Table.{table};
 ghost use Rattle.snap_api.specs.World.{IsLegal, start};
-ghost use Rattle.script_lang.specs.StepCalls.{opening_world};
+ghost use Rattle.lang_script.specs.StepCalls.{opening_world};
 ghost use Rattle.script_lang.specs.Lines.{ends_frame, frame_taken};
 ghost use Rattle.play_laws.specs.FramesInTurn.{AreInTurn, frame_opened};
 ghost use Rattle.play_laws.specs.PrintedHistory.{printed_history};

@@ -7,9 +7,9 @@ use Rattle.lang_ast.specs.declared.script.SnapshotRef.TheVariants.{Global, Named
 use Rattle.lang_ast.specs.declared.script.CallForm.{CallForm}
 use Rattle.lang_ast.specs.declared.script.CallForm.TheVariants as form
 use Rattle.lang_ast.specs.declared.script.DoForm.{DoForm}
-use Rattle.script_lang.specs.SnapshotNames.{latest}
-use Rattle.script_lang.specs.Scripts.{actors_of}
-use Rattle.script_lang.specs.ScriptFaults.{TextStep, CallStep, FrameStep, text_script, FirstUses, no_uses, uses_after, unknown_name, snapshot_faults, call_faults, step_faults, steps_faults, oversized_faults, long_forms, most_steps, further_actors, forms_wrong_repeats, script_faults}
+use Rattle.lang_script.specs.SnapshotNames.{latest}
+use Rattle.lang_script.specs.Scripts.{actors_of}
+use Rattle.lang_script.specs.ScriptFaults.{TextStep, CallStep, FrameStep, text_script, FirstUses, no_uses, uses_after, unknown_name, snapshot_faults, call_faults, step_faults, steps_faults, oversized_faults, long_forms, most_steps, further_actors, forms_wrong_repeats, script_faults}
 use Rattle.text_laws.specs.WovenRuns.{RunAcceptsTextsOfThreads}
 use Rattle.text_laws.proofs.PlacedForests.{join_none}
 

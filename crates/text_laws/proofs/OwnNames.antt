@@ -10,11 +10,11 @@ use Rattle.lang_ast.specs.declared.script.SnapshotRef.TheVariants.{Global, Named
 use Rattle.lang_ast.specs.declared.script.CallForm.{CallForm}
 use Rattle.lang_ast.specs.declared.script.CallForm.TheVariants as form
 use Rattle.lang_ast.specs.declared.script.DoForm.{DoForm}
-use Rattle.script_lang.specs.SnapshotNames.{NamedNumber, latest}
-use Rattle.script_lang.specs.Scripts.{actors_of}
-use Rattle.script_lang.specs.ScriptFaults.{TextStep, CallStep, FrameStep, text_script, FirstUses, no_uses, with_taker, uses_after_call, uses_after, fault_if, unknown_name, foreign_name, snapshot_faults, call_faults, step_faults, steps_faults, oversized_faults, long_forms, most_steps, further_actors, forms_wrong_repeats, script_faults}
-use Rattle.script_lang.specs.declared.faults.ScriptStop.{ScriptStop}
-use Rattle.script_lang.specs.declared.faults.ScriptStop.TheVariants as stop
+use Rattle.lang_script.specs.SnapshotNames.{NamedNumber, latest}
+use Rattle.lang_script.specs.Scripts.{actors_of}
+use Rattle.lang_script.specs.ScriptFaults.{TextStep, CallStep, FrameStep, text_script, FirstUses, no_uses, with_taker, uses_after_call, uses_after, fault_if, unknown_name, foreign_name, snapshot_faults, call_faults, step_faults, steps_faults, oversized_faults, long_forms, most_steps, further_actors, forms_wrong_repeats, script_faults}
+use Rattle.lang_script.specs.declared.faults.ScriptStop.{ScriptStop}
+use Rattle.lang_script.specs.declared.faults.ScriptStop.TheVariants as stop
 
 -- The owner of each name, if it has one.
 abbrev pub Owners : Type 0

@@ -40,9 +40,9 @@ use Rattle.snap_api.specs.declared.data.Reply.TheVariants as reply
 use Rattle.snap_api.specs.declared.data.Request.{Request}
 use Rattle.snap_api.specs.declared.data.Request.TheVariants as request
 use Rattle.script_lang.specs.declared.flags.Flags.{Flags}
-use Rattle.script_lang.specs.SnapshotNames.{snapshot_number}
-use Rattle.script_lang.specs.Scripts.{actors_of, index_of, written_out, times_of, repeated_steps}
-use Rattle.script_lang.specs.StepCalls.{Part, Take, Read, Write, WriteSum, Apply as ApplyPart, Dispose, BeginFrame, EndFrame, ActorPart, of_actor, call_parts, calls_parts, step_parts, steps_parts, script_parts, Notes, no_notes, request_of, sum_request, notes_after, entry, sequential, with_states, opening_world}
+use Rattle.lang_script.specs.SnapshotNames.{snapshot_number}
+use Rattle.lang_script.specs.Scripts.{actors_of, index_of, written_out, times_of, repeated_steps}
+use Rattle.lang_script.specs.StepCalls.{Part, Take, Read, Write, WriteSum, Apply as ApplyPart, Dispose, BeginFrame, EndFrame, ActorPart, of_actor, call_parts, calls_parts, step_parts, steps_parts, script_parts, Notes, no_notes, request_of, sum_request, notes_after, entry, sequential, with_states, opening_world}
 use Rattle.script_lang.specs.Lines.{snapshot, frame_taken, Titles, LineStyle, state_name, state_names, request_text, refusal_text, reply_text, entry_line, line, actor_name, frame_lines, Standing, ends_frame, name_in, frame_at, lines_at, next as next_standing, lines, initial_standing, run_text}
 use Rattle.lang_forms.specs.Sources.{Source}
 use Rattle.play_core.specs.Texts.{run_output}

@@ -14,11 +14,11 @@ use Rattle.lang_ast.specs.declared.script.ScriptForm.{ScriptForm}
 use Rattle.lang_ast.specs.declared.script.ScriptForm.TheVariants.{Once, Repeat}
 use Rattle.lang_ast.specs.declared.script.DoForm.{DoForm}
 use Rattle.lang_ast.proofs.Limits.{none_in}
-use Rattle.script_lang.specs.SnapshotNames.{latest}
-use Rattle.script_lang.specs.Scripts.{index_of, is_among, with_actor, actors_from, actors_of, times_of, step_count, steps_count, forms_count}
-use Rattle.script_lang.specs.ScriptFaults.{fault_if, most_steps, long_forms, further_actors, may_repeat, wrong_repeats, forms_wrong_repeats, TextStep, CallStep, FrameStep, text_calls, text_step, text_steps, text_form, text_forms, text_script, FirstUses, no_uses, uses_after, unknown_name, foreign_name, snapshot_faults, state_faults, is_int, add_faults, call_faults, step_faults, steps_faults, script_faults}
-use Rattle.script_lang.specs.declared.faults.ScriptStop.{ScriptStop}
-use Rattle.script_lang.specs.declared.faults.ScriptStop.TheVariants as stop
+use Rattle.lang_script.specs.SnapshotNames.{latest}
+use Rattle.lang_script.specs.Scripts.{index_of, is_among, with_actor, actors_from, actors_of, times_of, step_count, steps_count, forms_count}
+use Rattle.lang_script.specs.ScriptFaults.{fault_if, most_steps, long_forms, further_actors, may_repeat, wrong_repeats, forms_wrong_repeats, TextStep, CallStep, FrameStep, text_calls, text_step, text_steps, text_form, text_forms, text_script, FirstUses, no_uses, uses_after, unknown_name, foreign_name, snapshot_faults, state_faults, is_int, add_faults, call_faults, step_faults, steps_faults, script_faults}
+use Rattle.lang_script.specs.declared.faults.ScriptStop.{ScriptStop}
+use Rattle.lang_script.specs.declared.faults.ScriptStop.TheVariants as stop
 use Rattle.text_laws.specs.OtherOffsets.{placed_state, placed_snapshot, placed_call, placed_step, placed_script_form, placed_do}
 use Rattle.text_laws.proofs.PlacedForests.{join_none}
 

@@ -10,9 +10,9 @@ use Rattle.snap_api.specs.World.{History, IsLegal, start, world_after_watch}
 use Rattle.snap_api.specs.declared.data.Reply.{Reply}
 use Rattle.snap_api.specs.declared.data.Request.{Request}
 use Rattle.snap_shared.specs.SharedCalls.{own_calls}
-use Rattle.script_lang.specs.Scripts.{actors_of}
-use Rattle.script_lang.specs.StepCalls.{Notes, ActorPart, no_notes, request_of, notes_after, script_parts, opening_world}
-use Rattle.script_lang.specs.StepLaws.{BeginsWith, Spells}
+use Rattle.lang_script.specs.Scripts.{actors_of}
+use Rattle.lang_script.specs.StepCalls.{Notes, ActorPart, no_notes, request_of, notes_after, script_parts, opening_world}
+use Rattle.lang_script.specs.StepLaws.{BeginsWith, Spells}
 use Rattle.script_lang.specs.Lines.{lines, initial_standing}
 use Rattle.script_lang.specs.declared.flags.Flags.{Flags}
 use Rattle.play_laws.specs.Woven.{parts_of, initial_actor, IsWoven}

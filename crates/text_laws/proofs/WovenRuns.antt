@@ -23,13 +23,13 @@ use Rattle.lang_ast.specs.declared.script.StepForm.TheVariants as step
 use Rattle.lang_ast.specs.declared.script.ScriptForm.{ScriptForm}
 use Rattle.lang_ast.specs.declared.script.ScriptForm.TheVariants.{Once, Repeat}
 use Rattle.lang_ast.specs.declared.script.DoForm.{DoForm}
-use Rattle.script_lang.specs.SnapshotNames.{latest, never_taken, snapshot_number}
-use Rattle.script_lang.specs.Scripts.{actors_of, index_of, is_among, written_out, times_of, repeated_steps}
-use Rattle.script_lang.specs.ScriptFaults.{text_step, text_steps, text_calls, text_forms, text_script, no_uses, fault_if, further_actors}
-use Rattle.script_lang.specs.declared.faults.ScriptStop.TheVariants as stop
-use Rattle.script_lang.specs.StepCalls.{Part, Take, Read, Write, WriteSum, Apply, Dispose, BeginFrame, EndFrame, ActorPart, of_actor, call_parts, calls_parts, step_parts, steps_parts, script_parts, Notes, no_notes, request_of, sum_request, end_request, notes_after, number_taken, entry, sequential, opening_world}
-use Rattle.script_lang.specs.StepLaws.{Spells, BeginsWith}
-use Rattle.script_lang.proofs.Sequential.{spelled}
+use Rattle.lang_script.specs.SnapshotNames.{latest, never_taken, snapshot_number}
+use Rattle.lang_script.specs.Scripts.{actors_of, index_of, is_among, written_out, times_of, repeated_steps}
+use Rattle.lang_script.specs.ScriptFaults.{text_step, text_steps, text_calls, text_forms, text_script, no_uses, fault_if, further_actors}
+use Rattle.lang_script.specs.declared.faults.ScriptStop.TheVariants as stop
+use Rattle.lang_script.specs.StepCalls.{Part, Take, Read, Write, WriteSum, Apply, Dispose, BeginFrame, EndFrame, ActorPart, of_actor, call_parts, calls_parts, step_parts, steps_parts, script_parts, Notes, no_notes, request_of, sum_request, end_request, notes_after, number_taken, entry, sequential, opening_world}
+use Rattle.lang_script.specs.StepLaws.{Spells, BeginsWith}
+use Rattle.lang_script.proofs.Sequential.{spelled}
 use Rattle.script_lang.specs.Lines.{run_text}
 use Rattle.play_laws.specs.Woven.{parts_of, actor_parts}
 use Rattle.play_laws.proofs.Callers.{differs, own_calls-first, own_calls-skip, parts_are_of_script}

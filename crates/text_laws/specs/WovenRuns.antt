@@ -3,9 +3,9 @@ use Rattle.std.specs.Prelude.{◌≡◌, ℕ, List, [], length, true, false, Opt
 use Rattle.lang_ast.specs.declared.program.State.{State}
 use Rattle.lang_ast.specs.declared.script.DoForm.{DoForm}
 use Rattle.lang_forms.specs.Sources.{Source}
-use Rattle.script_lang.specs.Scripts.{actors_of}
-use Rattle.script_lang.specs.ScriptFaults.{script_faults}
-use Rattle.script_lang.specs.StepCalls.{no_notes, opening_world, script_parts, sequential}
+use Rattle.lang_script.specs.Scripts.{actors_of}
+use Rattle.lang_script.specs.ScriptFaults.{script_faults}
+use Rattle.lang_script.specs.StepCalls.{no_notes, opening_world, script_parts, sequential}
 use Rattle.script_lang.specs.declared.flags.Flags.{Flags}
 use Rattle.play_laws.specs.Woven.{initial_actor, IsWoven}
 use Rattle.play_args.specs.declared.command.Command.TheVariants.{Threads}

@@ -20,7 +20,7 @@ use Rattle.snap_api.specs.declared.data.Reply.{Reply}
 use Rattle.snap_api.specs.declared.data.Reply.TheVariants as reply
 use Rattle.recomposer.specs.Compositions.{IsAt}
 use Rattle.recomposer.specs.declared.composition.Composition.{Composition}
-use Rattle.script_lang.specs.StepCalls.{frame_begun}
+use Rattle.lang_script.specs.StepCalls.{frame_begun}
 use Rattle.script_lang.specs.Lines.{Titles, LineStyle, call_text, reply_text, ends_frame, frame_at, frame_taken, next, actor_name}
 use Rattle.script_lang.specs.PrintedCalls.{reads_frame}
 use Rattle.play_laws.specs.FramesInTurn.{OpenFrame}

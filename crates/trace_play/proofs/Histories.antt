@@ -14,7 +14,7 @@ use Rattle.snap_policy.specs.declared.policy.BuiltIn.{BuiltIn}
 use Rattle.snap_api.specs.World.{World, History, IsLegal, call, start, world_after_make}
 use Rattle.snap_api.specs.declared.data.Entry.{Entry}
 use Rattle.recomposer.specs.Compositions.{IsAt}
-use Rattle.script_lang.specs.StepCalls.{opening_world, with_states}
+use Rattle.lang_script.specs.StepCalls.{opening_world, with_states}
 use Rattle.script_lang.specs.Lines.{Titles, next}
 use Rattle.script_lang.specs.PrintedCalls.{reads_frame, frames_after, printed_calls}
 use Rattle.play_laws.specs.FramesInTurn.{OpenFrame}

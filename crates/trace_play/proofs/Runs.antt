@@ -9,8 +9,8 @@ use Rattle.snap_policy.specs.declared.policy.BuiltIn.{BuiltIn}
 use Rattle.snap_api.specs.TracksLive.{OnlyGlobalIsLive}
 use Rattle.snap_api.specs.World.{History, IsLegal, start}
 use Rattle.snap_api.specs.declared.data.Entry.{Entry}
-use Rattle.script_lang.specs.Scripts.{actors_of}
-use Rattle.script_lang.specs.StepCalls.{ActorPart, no_notes, opening_world, script_parts, sequential}
+use Rattle.lang_script.specs.Scripts.{actors_of}
+use Rattle.lang_script.specs.StepCalls.{ActorPart, no_notes, opening_world, script_parts, sequential}
 use Rattle.script_lang.specs.Lines.{Titles}
 use Rattle.script_lang.specs.PrintedCalls.{printed_calls}
 use Rattle.play_run.specs.RunLog.{RunLogged, LogsRun}

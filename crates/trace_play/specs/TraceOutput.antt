@@ -1,8 +1,8 @@
 -- Trusted: the output of a trace of a source text.
 use Rattle.std.specs.Prelude.{ℕ, List, ◌++◌, false}
 use Rattle.lang_forms.specs.Sources.{Source}
-use Rattle.script_lang.specs.Scripts.{actors_of}
-use Rattle.script_lang.specs.StepCalls.{script_parts}
+use Rattle.lang_script.specs.Scripts.{actors_of}
+use Rattle.lang_script.specs.StepCalls.{script_parts}
 use Rattle.play_core.specs.Texts.{titles}
 use Rattle.play_core.specs.Promise.{Streams, TextMeets, exactly}
 use Rattle.play_core.specs.declared.top.Status.{Status}

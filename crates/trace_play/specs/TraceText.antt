@@ -13,7 +13,7 @@ use Rattle.snap_api.specs.declared.data.Reply.{Reply}
 use Rattle.snap_api.specs.declared.data.Reply.TheVariants as reply
 use Rattle.snap_api.specs.World.{History, snapshot_of}
 use Rattle.node_tree.specs.FrameOps.{frame_ops}
-use Rattle.script_lang.specs.StepCalls.{ActorPart, no_notes, opening_world, sequential}
+use Rattle.lang_script.specs.StepCalls.{ActorPart, no_notes, opening_world, sequential}
 use Rattle.script_lang.specs.Lines.{Titles, Standing, initial_standing, next, ends_frame, name_in, frame_at, call_text, reply_text, actor_name, op_text}
 use Rattle.run_causes.specs.Causes.{marks}
 use Rattle.trace_lines.specs.TraceLines.{Names, names_of, FrameHead, good_frame_line, refused_frame_line, call_line}

@@ -7,7 +7,7 @@ ghost use Rattle.snap_policy.specs.Table.{table};
 ghost use Rattle.snap_api.specs.World.{IsLegal};
 ghost use Rattle.snap_api.specs.Desks.{FollowsLast};
 ghost use Rattle.snap_api.specs.declared.data.Reply.TheVariants as reply_data;
-ghost use Rattle.script_lang.specs.StepCalls.{opening_world, frame_begun};
+ghost use Rattle.lang_script.specs.StepCalls.{opening_world, frame_begun};
 ghost use Rattle.script_lang.specs.Lines.{call_text, reply_text};
 ghost use Rattle.script_lang.specs.PrintedCalls.{printed_calls};
 ghost use Rattle.play_run.specs.CallsInFrames.{IsInTurn};

@@ -2,7 +2,7 @@
 ghost use Rattle.std.specs.Prelude.{◌≡◌, ◌≢◌, ◌++◌};
 ghost use Rattle.snap_api.specs.World.{start};
 ghost use Rattle.play_run.specs.RunPromise.{WritesBytes, FaultsAfter, job_titles, job_functions};
-ghost use Rattle.script_lang.specs.StepCalls.{script_parts};
+ghost use Rattle.lang_script.specs.StepCalls.{script_parts};
 ghost use Rattle.trace_lines.specs.ProgramLine.{program_line};
 ghost use Rattle.play_core.specs.Promise.{streams};
 ghost use Rattle.trace_play.specs.TraceText.{trace_text};

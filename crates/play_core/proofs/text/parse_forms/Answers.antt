@@ -8,7 +8,7 @@ use Rattle.lang_limits.specs.Sizes.{program_limits}
 use Rattle.lang_limits.specs.Clamped.{clamped_trees}
 use Rattle.lang_forms.specs.Sources.{parsed_source_view}
 use Rattle.lang_forms.specs.Forms.{HasForms}
-use Rattle.script_lang.specs.ScriptFaults.{script_refusal}
+use Rattle.lang_script.specs.ScriptFaults.{script_refusal}
 use Rattle.play_core.proofs.Uniques.{is_text}
 use Rattle.play_core.proofs.text.parse_forms.Goals as goal
 

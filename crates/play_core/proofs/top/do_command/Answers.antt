@@ -7,7 +7,7 @@ use Rattle.play_core.proofs.TreeLines.{check-is}
 use Rattle.play_core.proofs.Plays.{run-is, logs-is, stops-is}
 use Rattle.play_run.proofs.Written.{says_same}
 use Rattle.script_lang.specs.declared.flags.Flags.{Flags}
-use Rattle.script_lang.specs.StepCalls.{script_parts}
+use Rattle.lang_script.specs.StepCalls.{script_parts}
 use Rattle.play_args.specs.declared.command.Command.TheVariants.{Run}
 use Rattle.play_run.specs.RunLog.{StopsRun}
 use Rattle.play_run.specs.RunPromise.{job_style, job_functions}

@@ -1,7 +1,7 @@
 use Rattle.std.proofs.Common.{◌≡◌, rules, refl, ◌∙◌, ap, sym, List, [], ◌∷◌, None}
 use Rattle.lang_ast.specs.declared.script.SnapshotRef.TheVariants.{Global}
 use Rattle.snap_api.specs.declared.data.Reply.{Reply}
-use Rattle.script_lang.specs.StepCalls.{Read, WriteSum, ActorPart, of_actor, sum_request, value_read}
+use Rattle.lang_script.specs.StepCalls.{Read, WriteSum, ActorPart, of_actor, sum_request, value_read}
 use Rattle.play_run.specs.RunOutput.{parts_after}
 use Rattle.play_gen.proofs.CountedParts.{counts_then, counts_no_call, then_ok}
 use Rattle.play_gen.proofs.counting.count_add.Goals as goal

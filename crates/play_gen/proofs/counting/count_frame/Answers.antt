@@ -1,5 +1,5 @@
 use Rattle.std.proofs.Common.{refl, ap, subst, List, [], ◌∷◌, ℕ, Option, Some, None}
-use Rattle.script_lang.specs.StepCalls.{BeginFrame, EndFrame, ActorPart, of_actor, end_request}
+use Rattle.lang_script.specs.StepCalls.{BeginFrame, EndFrame, ActorPart, of_actor, end_request}
 use Rattle.play_run.specs.RunOutput.{parts_after}
 use Rattle.play_gen.specs.Counting.{CountsAt}
 use Rattle.play_gen.proofs.CountedParts.{counts_then, counts_no_call, then_ok}

@@ -2,7 +2,7 @@ use Rattle.std.proofs.Common.{◌≡◌, rules, refl, ◌∙◌, ◌++◌, ap, s
 use Rattle.rt_values.specs.declared.names.Kind.TheVariants.{Mutable}
 use Rattle.lang_ast.specs.declared.script.SnapshotRef.TheVariants.{Global}
 use Rattle.snap_api.specs.declared.data.Request.TheVariants as request
-use Rattle.script_lang.specs.StepCalls.{Take, Write, Apply, ActorPart, of_actor, number_taken}
+use Rattle.lang_script.specs.StepCalls.{Take, Write, Apply, ActorPart, of_actor, number_taken}
 use Rattle.play_run.specs.RunOutput.{parts_after}
 use Rattle.play_gen.specs.GeneratedScript.{named_g}
 use Rattle.play_gen.proofs.CountedParts.{then_ok}

@@ -1,6 +1,6 @@
 use Rattle.std.proofs.Common.{refl}
 use Rattle.lang_ast.specs.declared.script.SnapshotRef.TheVariants.{Global}
-use Rattle.script_lang.specs.StepCalls.{Write}
+use Rattle.lang_script.specs.StepCalls.{Write}
 use Rattle.play_gen.proofs.counting.count_write.Goals as goal
 
 pub returns : goal.returns

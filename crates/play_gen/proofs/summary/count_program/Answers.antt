@@ -3,8 +3,8 @@ use Rattle.lang_ast.specs.SyntaxView.{functions_view}
 use Rattle.lang_ast.specs.Programs.{Program, program_view, functions_of}
 use Rattle.lang_ast.specs.declared.program.Program.{Program as declared}
 use Rattle.lang_checks.specs.ProgramFaults.{program_faults}
-use Rattle.script_lang.specs.Scripts.{actors_of}
-use Rattle.script_lang.specs.StepCalls.{script_parts}
+use Rattle.lang_script.specs.Scripts.{actors_of}
+use Rattle.lang_script.specs.StepCalls.{script_parts}
 use Rattle.play_run.specs.RunOutput.{first_run}
 use Rattle.play_run.proofs.Openings.{program-fits, opened_facts}
 use Rattle.play_gen.specs.GeneratedScript.{generated_script}

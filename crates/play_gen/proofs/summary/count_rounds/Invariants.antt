@@ -1,6 +1,6 @@
 use Rattle.std.proofs.Common.{◌≡◌, ◌++◌, length, List, None}
 use Rattle.lang_ast.specs.Terms.{Func}
-use Rattle.script_lang.specs.StepCalls.{ActorPart}
+use Rattle.lang_script.specs.StepCalls.{ActorPart}
 use Rattle.play_run.specs.RunOutput.{Run}
 use Rattle.play_run.specs.RunState.{RunFacts}
 use Rattle.play_gen.specs.GeneratedScript.{rounds}

@@ -3,7 +3,7 @@ use Rattle.snap_policy.specs.Table.{table}
 use Rattle.snap_api.specs.World.{call}
 use Rattle.snap_api.specs.declared.data.Reply.{Reply}
 use Rattle.snap_api.specs.declared.data.Request.TheVariants as request
-use Rattle.script_lang.specs.StepCalls.{Read, WriteSum, of_actor, sum_request, value_read}
+use Rattle.lang_script.specs.StepCalls.{Read, WriteSum, of_actor, sum_request, value_read}
 use Rattle.play_run.specs.RunOutput.{part_after}
 use Rattle.play_run.specs.RunPromise.{job_style, job_functions}
 use Rattle.play_run.proofs.RunParts.{no_sum}

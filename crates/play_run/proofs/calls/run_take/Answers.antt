@@ -1,6 +1,6 @@
 use Rattle.std.proofs.Common.{inr, refl, ◌∙◌, ap, Some, cond, List, [], ℕ, append-nil}
 use Rattle.std.specs.Str.{bytes_eq}
-use Rattle.script_lang.specs.NamesInMemory.{number_in}
+use Rattle.lang_script.specs.NamesInMemory.{number_in}
 use Rattle.play_run.specs.RunPromise.{job_style, job_functions}
 use Rattle.play_run.specs.declared.write_lines.Stop.TheVariants as stop
 use Rattle.play_run.proofs.RunParts.{ran_take, stopped_take}

@@ -1,7 +1,7 @@
 use Rattle.std.proofs.Common.{◌∙◌, ap, sym, Some, [], ◌∷◌}
 use Rattle.snap_api.specs.declared.data.Request.TheVariants as request
 use Rattle.play_run.specs.declared.write_lines.Stop.TheVariants as stop
-use Rattle.script_lang.specs.StepCalls.{of_actor}
+use Rattle.lang_script.specs.StepCalls.{of_actor}
 use Rattle.play_run.specs.RunPromise.{job_style, job_functions}
 use Rattle.play_run.proofs.Sequences.{runs_unmade}
 use Rattle.play_run.proofs.calls.run_write.Goals as goal

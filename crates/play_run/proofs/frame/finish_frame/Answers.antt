@@ -3,8 +3,8 @@ use Rattle.std.specs.Option.{option_map}
 use Rattle.compose_model.specs.Frame.{FrameResult, kept_after}
 use Rattle.recomposer.specs.Compositions.{IsAt}
 use Rattle.rt_streams.proofs.Parts.{part-all, part-front}
-use Rattle.script_lang.specs.NamesInMemory.{Holds}
-use Rattle.script_lang.specs.StepCalls.{EndFrame, of_actor}
+use Rattle.lang_script.specs.NamesInMemory.{Holds}
+use Rattle.lang_script.specs.StepCalls.{EndFrame, of_actor}
 use Rattle.play_run.specs.RunOutput.{part_after}
 use Rattle.play_run.specs.RunState.{MadeCalls, LogsFrameReads}
 use Rattle.play_run.specs.RunPromise.{job_style, job_functions}

@@ -1,5 +1,5 @@
 use Rattle.std.proofs.Common.{◌++◌, ◌∷◌, [], sym, ap, None, Err}
-use Rattle.script_lang.specs.StepCalls.{BeginFrame, EndFrame, calls_parts}
+use Rattle.lang_script.specs.StepCalls.{BeginFrame, EndFrame, calls_parts}
 use Rattle.play_run.specs.RunOutput.{parts_of, parts_after}
 use Rattle.play_run.specs.RunPromise.{job_style, job_functions}
 use Rattle.play_run.proofs.Sequences.{parts_append, runs_stopped, runs_then, runs_same}

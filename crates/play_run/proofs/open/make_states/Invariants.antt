@@ -1,7 +1,7 @@
 use Rattle.std.proofs.Common.{◌≡◌, ◌+◌, length}
 use Rattle.snap_policy.specs.declared.policy.BuiltIn.{BuiltIn}
 use Rattle.snap_api.specs.World.{World, start}
-use Rattle.script_lang.specs.StepCalls.{with_states}
+use Rattle.lang_script.specs.StepCalls.{with_states}
 use Rattle.play_run.specs.Opening.{StatesFit}
 use Rattle.play_run.proofs.open.make_states.Given as goal
 

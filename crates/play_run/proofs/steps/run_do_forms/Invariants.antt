@@ -1,5 +1,5 @@
 use Rattle.std.proofs.Common.{◌≡◌, ◌++◌, length, List, None, Ok}
-use Rattle.script_lang.specs.StepCalls.{ActorPart, script_parts}
+use Rattle.lang_script.specs.StepCalls.{ActorPart, script_parts}
 use Rattle.play_run.specs.RunOutput.{Run}
 use Rattle.play_run.specs.RunPromise.{job_style, job_functions}
 use Rattle.play_run.specs.RunState.{IsRun, RunsAt}

@@ -1,6 +1,6 @@
 use Rattle.std.proofs.Common.{◌≡◌, ◌∷◌, [], ◌∙◌, sym, ap, None, append-nil, rules}
-use Rattle.script_lang.specs.Scripts.{written_out, repeated_steps, times_of}
-use Rattle.script_lang.specs.StepCalls.{step_parts, steps_parts}
+use Rattle.lang_script.specs.Scripts.{written_out, repeated_steps, times_of}
+use Rattle.lang_script.specs.StepCalls.{step_parts, steps_parts}
 use Rattle.play_run.specs.RunOutput.{parts_of}
 use Rattle.play_run.specs.RunPromise.{job_style, job_functions}
 use Rattle.play_run.proofs.Sequences.{runs_same}

@@ -1,7 +1,7 @@
 use Rattle.std.proofs.Common.{◌++◌, ◌∙◌, ap, None}
-use Rattle.script_lang.specs.StepCalls.{steps_parts}
+use Rattle.lang_script.specs.StepCalls.{steps_parts}
 use Rattle.std.proofs.Common.{◌∷◌, []}
-use Rattle.script_lang.specs.Scripts.{written_out}
+use Rattle.lang_script.specs.Scripts.{written_out}
 use Rattle.play_run.specs.RunOutput.{parts_of, parts_after}
 use Rattle.play_run.specs.RunPromise.{job_style, job_functions}
 use Rattle.play_run.proofs.Sequences.{parts_append, steps_append, form_first, loop_next, loop_stopped}

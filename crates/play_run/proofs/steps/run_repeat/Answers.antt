@@ -1,6 +1,6 @@
 use Rattle.std.proofs.Common.{◌++◌, ◌-◌, ◌∙◌, ◌<◌, ◌≡◌, ap, sym, None, Ok, arith, append-nil, [], refl}
-use Rattle.script_lang.specs.Scripts.{repeated_steps}
-use Rattle.script_lang.specs.StepCalls.{steps_parts}
+use Rattle.lang_script.specs.Scripts.{repeated_steps}
+use Rattle.lang_script.specs.StepCalls.{steps_parts}
 use Rattle.play_run.specs.RunOutput.{parts_of, parts_after}
 use Rattle.play_run.specs.RunPromise.{job_style, job_functions}
 use Rattle.play_run.proofs.Sequences.{parts_append, steps_append, repeated_first, loop_next, loop_stopped, runs_none, runs_same}

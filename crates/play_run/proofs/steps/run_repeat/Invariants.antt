@@ -1,6 +1,6 @@
 use Rattle.std.proofs.Common.{◌≡◌, ◌++◌, List, None, Ok}
-use Rattle.script_lang.specs.Scripts.{repeated_steps}
-use Rattle.script_lang.specs.StepCalls.{ActorPart, steps_parts}
+use Rattle.lang_script.specs.Scripts.{repeated_steps}
+use Rattle.lang_script.specs.StepCalls.{ActorPart, steps_parts}
 use Rattle.play_run.specs.RunOutput.{Run, parts_of}
 use Rattle.play_run.specs.RunPromise.{job_style, job_functions}
 use Rattle.play_run.specs.RunState.{IsRun, RunsAt}

@@ -1,7 +1,7 @@
 use Rattle.std.proofs.Common.{sym, ap, None}
 use Rattle.lang_ast.specs.Programs.{functions_of}
 use Rattle.lang_ast.specs.SyntaxView.{functions_view}
-use Rattle.script_lang.specs.StepCalls.{script_parts}
+use Rattle.lang_script.specs.StepCalls.{script_parts}
 use Rattle.play_run.specs.RunOutput.{first_run, parts_after}
 use Rattle.play_run.specs.RunPromise.{job_titles, job_style, job_functions}
 use Rattle.play_run.specs.RunState.{IsRun}

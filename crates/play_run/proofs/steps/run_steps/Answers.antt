@@ -1,5 +1,5 @@
 use Rattle.std.proofs.Common.{◌++◌, ◌∙◌, ap, None}
-use Rattle.script_lang.specs.StepCalls.{step_parts, steps_parts}
+use Rattle.lang_script.specs.StepCalls.{step_parts, steps_parts}
 use Rattle.play_run.specs.RunOutput.{parts_of, parts_after}
 use Rattle.play_run.specs.RunPromise.{job_style, job_functions}
 use Rattle.play_run.proofs.Sequences.{parts_append, loop_next, loop_stopped}

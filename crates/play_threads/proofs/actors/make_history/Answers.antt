@@ -2,7 +2,7 @@ use Rattle.std.proofs.Common.{◌≡◌, ℕ, ◌<◌, sym, ap, ◌∙◌, subst
 use Rattle.std.proofs.lemmas.List.{length-map}
 use Rattle.snap_shared.specs.Seats.{IsNewSeat}
 use Rattle.snap_shared.specs.SharedCalls.{HasOnlyCallersBelow, numbers_below}
-use Rattle.script_lang.specs.StepCalls.{script_parts, opening_world}
+use Rattle.lang_script.specs.StepCalls.{script_parts, opening_world}
 use Rattle.lang_ast.specs.SyntaxView.{functions_view}
 use Rattle.play_run.proofs.Openings.{program-fits}
 use Rattle.play_threads.proofs.ActorEnds.{ready, all_fit, all_acted}

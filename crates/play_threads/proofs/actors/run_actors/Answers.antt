@@ -1,7 +1,7 @@
 use Rattle.std.proofs.Common.{◌≡◌, true, false, ap, sym, subst, ◌∙◌, length}
 use Rattle.snap_policy.specs.Table.{table}
 use Rattle.snap_api.specs.World.{IsLegal}
-use Rattle.script_lang.specs.StepCalls.{script_parts, opening_world}
+use Rattle.lang_script.specs.StepCalls.{script_parts, opening_world}
 use Rattle.snap_shared.specs.HistoryEffects.{legal_parts}
 use Rattle.play_laws.specs.PrintedHistory.{printed_history}
 use Rattle.play_laws.specs.Woven.{initial_actor, IsWoven}

@@ -1,5 +1,5 @@
 use Rattle.std.proofs.Common.{◌∷◌, ◌++◌, [], ap, sym, refl, None}
-use Rattle.script_lang.specs.StepCalls.{BeginFrame, EndFrame, calls_parts, of_actor}
+use Rattle.lang_script.specs.StepCalls.{BeginFrame, EndFrame, calls_parts, of_actor}
 use Rattle.play_threads.specs.ActorSteps.{by_actor}
 use Rattle.play_threads.proofs.Sequences.{by_append, makes_then, leads_as}
 use Rattle.play_threads.proofs.frames.run_frame.Goals as goal

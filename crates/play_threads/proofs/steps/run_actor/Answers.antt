@@ -1,5 +1,5 @@
 use Rattle.std.proofs.Common.{◌++◌, [], ◌∙◌, sym, subst, append-nil, false, None}
-use Rattle.script_lang.specs.StepCalls.{script_parts}
+use Rattle.lang_script.specs.StepCalls.{script_parts}
 use Rattle.play_laws.specs.Woven.{actor_parts, initial_actor}
 use Rattle.play_laws.proofs.Callers.{parts_are_of_script}
 use Rattle.play_threads.specs.declared.steps.EndedActor.{EndedActor}

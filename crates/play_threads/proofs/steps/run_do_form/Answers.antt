@@ -1,6 +1,6 @@
 use Rattle.std.proofs.Common.{◌≡◌, [], ap, refl, sym, ◌∙◌, None, arith}
-use Rattle.script_lang.specs.Scripts.{index_of, written_out}
-use Rattle.script_lang.specs.StepCalls.{steps_parts}
+use Rattle.lang_script.specs.Scripts.{index_of, written_out}
+use Rattle.lang_script.specs.StepCalls.{steps_parts}
 use Rattle.play_threads.specs.ActorSteps.{by_actor}
 use Rattle.play_threads.proofs.Sequences.{leads_as, form_mine}
 use Rattle.play_threads.proofs.steps.run_do_form.Goals as goal

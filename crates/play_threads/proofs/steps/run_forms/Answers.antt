@@ -1,6 +1,6 @@
 use Rattle.std.proofs.Common.{ap, refl, ◌∙◌, ◌∷◌, [], None}
-use Rattle.script_lang.specs.Scripts.{written_out}
-use Rattle.script_lang.specs.StepCalls.{steps_parts}
+use Rattle.lang_script.specs.Scripts.{written_out}
+use Rattle.lang_script.specs.StepCalls.{steps_parts}
 use Rattle.play_run.proofs.Sequences.{form_first, steps_append}
 use Rattle.play_threads.specs.ActorSteps.{by_actor}
 use Rattle.play_threads.proofs.Sequences.{by_append, leads_as, leads_on, none_left}

@@ -1,6 +1,6 @@
 use Rattle.std.proofs.Common.{◌≡◌, ◌<◌, ◌-◌, ap, refl, ◌∙◌, None, arith}
-use Rattle.script_lang.specs.Scripts.{repeated_steps}
-use Rattle.script_lang.specs.StepCalls.{steps_parts}
+use Rattle.lang_script.specs.Scripts.{repeated_steps}
+use Rattle.lang_script.specs.StepCalls.{steps_parts}
 use Rattle.play_run.proofs.Sequences.{repeated_first, steps_append}
 use Rattle.play_threads.specs.ActorSteps.{by_actor}
 use Rattle.play_threads.proofs.Sequences.{by_append, leads_as, leads_on}

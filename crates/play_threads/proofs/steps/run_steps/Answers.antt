@@ -1,5 +1,5 @@
 use Rattle.std.proofs.Common.{ap, refl, ◌∙◌, None}
-use Rattle.script_lang.specs.StepCalls.{step_parts, steps_parts}
+use Rattle.lang_script.specs.StepCalls.{step_parts, steps_parts}
 use Rattle.play_threads.specs.ActorSteps.{by_actor}
 use Rattle.play_threads.proofs.Sequences.{by_append, leads_as, leads_on, none_left}
 use Rattle.play_threads.proofs.steps.run_steps.Goals as goal

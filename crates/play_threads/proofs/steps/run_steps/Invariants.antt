@@ -1,5 +1,5 @@
 use Rattle.std.proofs.Common.{length, None}
-use Rattle.script_lang.specs.StepCalls.{steps_parts}
+use Rattle.lang_script.specs.StepCalls.{steps_parts}
 use Rattle.play_threads.specs.ActorSteps.{by_actor, IsSeated, Leads}
 use Rattle.play_threads.proofs.steps.run_steps.Given as goal
 

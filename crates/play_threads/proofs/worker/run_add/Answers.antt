@@ -1,7 +1,7 @@
 use Rattle.std.proofs.Common.{rules, subst, ◌∷◌, []}
 use Rattle.std.proofs.lemmas.Int.{to_z-of_z}
 use Rattle.std.specs.Int.{w64}
-use Rattle.script_lang.specs.StepCalls.{Read, WriteSum}
+use Rattle.lang_script.specs.StepCalls.{Read, WriteSum}
 use Rattle.play_threads.specs.ActorSteps.{by_actor, Makes}
 use Rattle.play_threads.proofs.Sequences.{makes_then}
 use Rattle.play_threads.proofs.worker.run_add.Goals as goal

@@ -1,7 +1,7 @@
 use Rattle.std.proofs.Common.{rules, ap, sym, refl, subst, ◌∷◌, []}
 use Rattle.std.proofs.lemmas.Int.{to_z-of_z}
 use Rattle.std.specs.Int.{w64}
-use Rattle.script_lang.specs.StepCalls.{Read, WriteSum, call_parts}
+use Rattle.lang_script.specs.StepCalls.{Read, WriteSum, call_parts}
 use Rattle.play_threads.specs.ActorSteps.{by_actor, Makes}
 use Rattle.play_threads.proofs.Sequences.{leads_as}
 use Rattle.play_threads.proofs.worker.run_call.Goals as goal

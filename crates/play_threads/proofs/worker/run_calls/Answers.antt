@@ -1,5 +1,5 @@
 use Rattle.std.proofs.Common.{ap, refl, ◌∙◌}
-use Rattle.script_lang.specs.StepCalls.{call_parts, calls_parts}
+use Rattle.lang_script.specs.StepCalls.{call_parts, calls_parts}
 use Rattle.play_threads.specs.ActorSteps.{by_actor}
 use Rattle.play_threads.proofs.Sequences.{by_append, leads_as, leads_on, none_left}
 use Rattle.play_threads.proofs.worker.run_calls.Goals as goal

@@ -1,5 +1,5 @@
 use Rattle.std.proofs.Common.{ℕ, length, Option}
-use Rattle.script_lang.specs.StepCalls.{calls_parts}
+use Rattle.lang_script.specs.StepCalls.{calls_parts}
 use Rattle.play_threads.specs.ActorSteps.{by_actor, IsSeated, Leads}
 use Rattle.play_threads.proofs.worker.run_calls.Given as goal
 

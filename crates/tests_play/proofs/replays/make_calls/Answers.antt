@@ -1,5 +1,5 @@
 use Rattle.std.proofs.Common.{◌∙◌}
-use Rattle.script_lang.specs.StepCalls.{opening_world}
+use Rattle.lang_script.specs.StepCalls.{opening_world}
 use Rattle.tests_play.proofs.Histories.{made_legal}
 use Rattle.tests_play.proofs.replays.make_calls.Goals as goal
 

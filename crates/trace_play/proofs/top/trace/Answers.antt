@@ -1,5 +1,5 @@
 use Rattle.std.proofs.Common.{refl, sym, subst, false, ap, ◌∙◌, ◌++◌}
-use Rattle.script_lang.specs.StepCalls.{script_parts}
+use Rattle.lang_script.specs.StepCalls.{script_parts}
 use Rattle.play_core.specs.Promise.{streams, exactly}
 use Rattle.play_core.specs.declared.top.Status.{Status}
 use Rattle.play_core.proofs.Plays.{parsed-meets}

@@ -1,7 +1,7 @@
 use Rattle.std.proofs.Common.{ap, ◌++◌}
 use Rattle.snap_api.proofs.Valid.{shaped_start}
 use Rattle.snap_api.specs.World.{start}
-use Rattle.script_lang.specs.StepCalls.{script_parts}
+use Rattle.lang_script.specs.StepCalls.{script_parts}
 use Rattle.play_run.specs.RunPromise.{job_titles, job_functions}
 use Rattle.play_run.proofs.Written.{says_same}
 use Rattle.trace_lines.specs.ProgramLine.{program_line}
