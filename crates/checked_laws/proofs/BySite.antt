@@ -9,7 +9,7 @@ use Rattle.lang_checks.specs.Expressions.{ExpressionScope, expr_faults, exprs_fa
 use Rattle.lang_checks.specs.Statements.{inside}
 use Rattle.lang_checks.proofs.RisingSites.{counts_rise, each_is_found}
 use Rattle.lang_checks.proofs.Fine.{held}
-use Rattle.lang_meaning.specs.Skipping.{has_get, have_get}
+use Rattle.recompose_laws.specs.Skipping.{has_get, have_get}
 use Rattle.checked_laws.specs.CheckedPrograms.{calculation, calculation_of, CalculationsAreBySite}
 use Rattle.recompose_laws.proofs.CalculatedCells.{Calculates, functions_calculate, pure_calculations_are_by_site}
 use Rattle.checked_laws.proofs.Parts.{parts, context, IsFineIn, functions_are_fine, bodies}

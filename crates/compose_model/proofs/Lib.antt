@@ -1,1 +1,3 @@
 pub mod SmallPrograms
+pub mod Sizes
+pub mod StatementForests

@@ -1,3 +1,4 @@
 pub mod Composing
 pub mod Frame
 pub mod SmallPrograms
+pub mod StatementForests

@@ -10,8 +10,8 @@ use Rattle.lang_ast.specs.declared.syntax.Parameter.{Parameter}
 use Rattle.lang_ast.specs.declared.syntax.Function.{Function}
 use Rattle.lang_ast.specs.declared.syntax.Statement.{Statement}
 use Rattle.compose_model.specs.Composing.{bind, run_all, meaning_at, meanings}
-use Rattle.lang_meaning.specs.ComposesForest.{body_forest}
-use Rattle.lang_meaning.proofs.Meanings.{meaning_found, meaning_none}
+use Rattle.compose_model.specs.StatementForests.{body_forest}
+use Rattle.recompose_laws.proofs.Meanings.{meaning_found, meaning_none}
 use Rattle.recompose_laws.specs.CalculatedCells.{Calculation, StmtCalculates, StmtsCalculate, FunctionsCalculate}
 use Rattle.composer.specs.BesideContracts.{LastComposition, IsSince}
 use Rattle.composer.proofs.OldParts.{since_front, since_calculates}

@@ -10,7 +10,7 @@ use Rattle.lang_ast.specs.declared.syntax.Parameter.{Parameter}
 use Rattle.lang_ast.specs.declared.syntax.Function.{Function}
 use Rattle.lang_ast.specs.declared.syntax.Statement.{Statement}
 use Rattle.compose_model.specs.Composing.{bind, meaning_at, meanings}
-use Rattle.lang_meaning.specs.ComposesForest.{body_forest}
+use Rattle.compose_model.specs.StatementForests.{body_forest}
 use Rattle.recompose_laws.specs.CalculatedCells.{StmtsCalculate}
 use Rattle.composer.specs.declared.stop.ComposeStop.{ComposeStop}
 use Rattle.composer.specs.declared.pending.Pending.{Pending}

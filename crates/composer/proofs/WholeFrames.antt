@@ -9,7 +9,7 @@ use Rattle.rt_groups.specs.PreorderGroups.{preorder, flat_kind}
 use Rattle.rt_groups.specs.Frames.{LastFrame, numbered_forest, ran as calls_run, calculated_cells as cells_made, reads, most_groups}
 use Rattle.lang_ast.specs.Terms.{Func}
 use Rattle.compose_model.specs.Composing.{meaning_at, meanings, forest}
-use Rattle.lang_meaning.proofs.ForestSteps.{how_many-preorder}
+use Rattle.rt_groups.proofs.GroupForests.{how_many-preorder}
 use Rattle.composer.specs.declared.stop.ComposeStop.{ComposeStop}
 use Rattle.composer.specs.declared.stop.ComposeStop.TheVariants.{TooManyGroups, NoMemory}
 use Rattle.recompose_laws.specs.Work.{Work, work}

@@ -12,7 +12,7 @@ use Rattle.lang_ast.specs.Terms.{Stmt, Stmts, Func}
 use Rattle.lang_ast.specs.SyntaxView.{functions_view}
 use Rattle.lang_ast.specs.Evaluation.{Bindings}
 use Rattle.compose_model.specs.Composing.{meaning_at, meanings}
-use Rattle.lang_meaning.specs.ComposesForest.{statement_forest, body_forest, call_forest, loop_forest}
+use Rattle.compose_model.specs.StatementForests.{statement_forest, body_forest, call_forest, loop_forest}
 use Rattle.recompose_laws.specs.Work.{siblings}
 use Rattle.recompose_laws.specs.Refreshing.{is_owed}
 use Rattle.recompose_laws.specs.CalculatedCells.{Calculation}

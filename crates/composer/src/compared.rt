@@ -10,7 +10,7 @@ ghost use Rattle.composer.specs.WrittenGroups.{kept_of};
 
 use crate::last_groups::LastGroups;
 use crate::old_groups::OldGroup;
-use lang_meaning::Env;
+use lang_eval::Env;
 use rt_groups::{Attribute, GroupKind};
 use rt_values::{NoMemory, ObjectNo, Value, Word};
 use std::alloc::Global;

@@ -30,7 +30,7 @@ use crate::writer::{CallArguments, CellValue, NewKind, Writer};
 use group_keys::SiblingKey;
 use lang_ast::{Expression, Function, Ident, Named, Statement};
 use lang_checks::Checked;
-use lang_meaning::{Env, bind, eval_noting, evaluate_all, evaluate_attributes, evaluate_keys};
+use lang_eval::{Env, bind, eval_noting, evaluate_all, evaluate_attributes, evaluate_keys};
 use rt_groups::{Deps, GroupKind, Values};
 use rt_values::{NoMemory, Steps, Value, View};
 use std::alloc::Global;

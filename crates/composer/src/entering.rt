@@ -18,7 +18,7 @@ use crate::stop::ComposeStop;
 use crate::writer::{NewKind, Writer};
 use group_keys::SiblingKey;
 use lang_ast::Ident;
-use lang_meaning::Env;
+use lang_eval::Env;
 use rt_groups::GroupKind;
 use rt_values::{NoMemory, Value};
 

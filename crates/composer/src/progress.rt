@@ -11,7 +11,7 @@ use crate::pending::Pending;
 use crate::spares::Spares;
 use crate::writer::Writer;
 use lang_ast::Function;
-use lang_meaning::Env;
+use lang_eval::Env;
 use rt_groups::Deps;
 use std::alloc::Global;
 use std::mem;

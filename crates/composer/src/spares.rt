@@ -2,7 +2,7 @@
 ghost use Rattle.std.specs.Prelude.{◌≡◌, [], IfOk};
 ghost use Rattle.rt_groups.specs.declared.groups.GroupKind.TheVariants as kinds;
 
-use lang_meaning::Env;
+use lang_eval::Env;
 use rt_groups::{Attributes, Deps, Values};
 use rt_values::{NoMemory, Word};
 use slot_table::{ChangeListWriter, ReplacedGroups, SharedGroup, Table};

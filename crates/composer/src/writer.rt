@@ -18,7 +18,7 @@ use crate::draft::Draft;
 use crate::old_groups::OldGroup;
 use crate::spares::Spares;
 use crate::stop::ComposeStop;
-use lang_meaning::Env;
+use lang_eval::Env;
 use rt_groups::{Attribute, Attributes, Deps, Group, GroupKind, Report, Values};
 use rt_values::{NoMemory, ObjectNo, Value, Word};
 use slot_table::{ChangeListWriter, SharedGroup, Table, same_reads};

@@ -15,7 +15,7 @@ use Rattle.compose_model.specs.Composing.{forest_after, turns}
 use Rattle.lang_meaning.specs.ComposesForest.{ComposesForest, LoopProgress}
 use Rattle.lang_meaning.specs.declared.composition.ScratchStop.{ScratchStop}
 use Rattle.lang_meaning.specs.declared.composition.ScratchStop.TheVariants.{TooManyGroups, NoMemory}
-use Rattle.lang_meaning.proofs.Grows.{grew_front, grew_behind, grew_left}
+use Rattle.lang_eval.proofs.Grows.{grew_front, grew_behind, grew_left}
 
 -- The groups and the own reads of forests in sequence.
 
@@ -41,14 +41,6 @@ own-joined_forest (Group site n what inside rest) u =
 own-reads_then : (xs : List ℕ) (t : GroupForest) → asks (own_part (reads_then xs t)) ≡ xs ++ asks (own_part t)
 own-reads_then [] t = refl
 own-reads_then (x ∷ xs) t = ap (λ l. x ∷ l) (own-reads_then xs t)
-
--- The list has as many groups as the forest.
-pub how_many-preorder : (d : ℕ) (t : GroupForest) → length (preorder d t) ≡ how_many t
-how_many-preorder d End = refl
-how_many-preorder d (Read x rest) = how_many-preorder d rest
-how_many-preorder d (Group site n what inside rest) =
-    let a = how_many-preorder (d + 1) inside in let b = how_many-preorder d rest in
-    omega (arith, a, b, length-append (preorder (d + 1) inside) (preorder d rest))
 
 -- The empty forest.
 pub ran_end : {U : Type 0} (u : U) (d : ℕ) (out : List Listed) (asked mine : List ℕ)
@@ -433,18 +425,6 @@ going_stop d rest s more t out0 out1 out2 asked0 asked1 asked2 mine0 mine1 mine2
         length-append (preorder d s) (preorder d more),
       );
 }
-
--- The turns from index i on are the one at i and the later ones.
-pub turns_at : (go : ℤ → GroupForest) (is : List ℤ) (i : ℕ) → i < length is
-    → turns go (drop i is) ≡ joined_forest (go (get_or is i (pos 0))) (turns go (drop (i + 1) is))
-unfolding turns
-turns_at go is i below = ap (λ (l : List ℤ). turns go l) (drop-cons is i (pos 0) below)
-    ∙ ap (λ (n : ℕ). joined_forest (go (get_or is i (pos 0))) (turns go (drop n is)))
-    (let e : suc i ≡ i + 1 = omega arith in e)
-
-pub turns_end : (go : ℤ → GroupForest) (is : List ℤ) (i : ℕ) → length is ≤ i → turns go (drop i is) ≡ End
-unfolding turns
-turns_end go is i past = ap (λ (l : List ℤ). turns go l) (drop_all i is past)
 
 -- A list with a group appended, after rewriting the group and the list before.
 pub added_to : {X : Type 0} {later before known : List X} {x y : X} → later ≡ before ++ x ∷ [] → x ≡ y → before ≡ known

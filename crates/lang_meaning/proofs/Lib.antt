@@ -1,13 +1,2 @@
-pub mod Agreeing
-pub mod Calculations
 pub mod StatementCases
-pub mod Flats
-pub mod Grows
-pub mod Lookups
-pub mod Meanings
-pub mod Operands
-pub mod Evaluating
-pub mod NotedReads
-pub mod Sizes
-pub mod Skips
 pub mod ForestSteps

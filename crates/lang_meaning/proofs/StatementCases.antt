@@ -18,27 +18,11 @@ use Rattle.lang_ast.specs.declared.syntax.Expression.{Expression}
 use Rattle.lang_ast.specs.declared.syntax.Statement.{Statement, Node as NodeOf, Call as CallOf, Key as KeyOf, If as IfOf, For as ForOf, Let as LetOf, Remember as RememberOf}
 use Rattle.lang_ast.proofs.Functions.{how_many_functions, functions_at, functions_front}
 use Rattle.lang_ast.proofs.Views.{view-Node, view-Call, view-Key, view-If, view-For, view-Let, view-Remember}
-use Rattle.lang_meaning.specs.ComposesForest.{ComposesForest, statement_forest, body_forest, call_forest}
+use Rattle.lang_meaning.specs.ComposesForest.{ComposesForest}
+use Rattle.compose_model.specs.StatementForests.{statement_forest, body_forest, call_forest}
 use Rattle.lang_meaning.specs.declared.composition.ScratchStop.{ScratchStop}
-use Rattle.lang_meaning.proofs.ForestSteps.{how_many-preorder}
-use Rattle.lang_meaning.proofs.Meanings.{meaning_found, meaning_none}
-
--- The statements from index i on are the one at i and the later ones.
-pub all_at : (m : Map) (fs : List Function) (body : List Statement) (i : ℕ) (s : Statement) (env : Bindings)
-    → i < length body → s ≡ get_or body i s →
-    body_forest m fs (stmts_view (drop i body)) env
-    ≡ joined_forest (statement_forest m fs (stmt_view s) env)
-    (body_forest m fs (stmts_view (drop (i + 1) body)) env)
-all_at m fs body i s env below is =
-    ap (λ (l : List Statement). body_forest m fs (stmts_view l) env) (drop-cons body i s below)
-    ∙ ap (λ (x : Statement). joined_forest (statement_forest m fs (stmt_view x) env)
-    (body_forest m fs (stmts_view (drop (suc i) body)) env)) (sym is)
-    ∙ ap (λ (n : ℕ). joined_forest (statement_forest m fs (stmt_view s) env)
-    (body_forest m fs (stmts_view (drop n body)) env)) (let e : suc i ≡ i + 1 = omega arith in e)
-
-pub all_end : (m : Map) (fs : List Function) (body : List Statement) (i : ℕ) (env : Bindings) → length body ≤ i
-    → body_forest m fs (stmts_view (drop i body)) env ≡ End
-all_end m fs body i env past = ap (λ (l : List Statement). body_forest m fs (stmts_view l) env) (drop_all i body past)
+use Rattle.rt_groups.proofs.GroupForests.{how_many-preorder}
+use Rattle.recompose_laws.proofs.Meanings.{meaning_found, meaning_none}
 
 pub node_ran : {U : Type 0} (m : Map) (fs : List Function) (s : Statement) (env : Bindings) (at site : ℕ) (kind : Ident)
     (attributes : Vec Named Global) (body : Vec Statement Global) (names : List Named) (slice : List Statement)

@@ -18,6 +18,7 @@ use Rattle.lang_meaning.specs.declared.composition.Level.{Level}
 use Rattle.lang_meaning.specs.declared.composition.Progress.{Progress}
 use Rattle.lang_meaning.specs.declared.composition.ScratchStop.{ScratchStop}
 use Rattle.lang_meaning.specs.declared.composition.ScratchStop.TheVariants.{TooManyGroups}
+use Rattle.compose_model.specs.StatementForests.{statement_forest, body_forest, call_forest, loop_forest}
 
 -- The effect of composing a forest at a depth on the groups, on the list of reads that the view was asked for and on
 -- the reads of the innermost call. A good result appends everything that the forest contains. Else the view was asked
@@ -36,24 +37,6 @@ pub record LoopProgress (depth : ℕ) (rest t : GroupForest) (groups groups' : L
   pub made : groups' ++ preorder depth rest ≡ groups ++ preorder depth t
   pub came : asked' ++ asks rest ≡ asked ++ asks t
   pub charged : reads' ++ asks (own_part rest) ≡ reads ++ asks (own_part t)
-
--- The forest of a statement, where `functions` are those that it can call.
-abbrev pub statement_forest : Map → List Function → Stmt → Bindings → GroupForest
-statement_forest m functions s env = run m (meanings m (functions_view functions)) s env
-
-abbrev pub body_forest : Map → List Function → Stmts → Bindings → GroupForest
-body_forest m functions body env = run_all m (meanings m (functions_view functions)) body env
-
--- The forest of a call, with its own group.
-abbrev pub call_forest : Map → List Function → ℕ → ℕ → List Value → GroupForest
-call_forest m functions site function arguments =
-    group site (trail.Call function arguments)
-    (meaning_at (meanings m (functions_view functions)) function arguments)
-
--- The forest of a loop: its body once for each number.
-abbrev pub loop_forest : Map → List Function → List ℕ → Stmts → Bindings → List ℤ → GroupForest
-loop_forest m functions name body env items =
-    turns (λ i. body_forest m functions body (env ++ new_binding name (value.Int i) ∷ [])) items
 
 -- The forests of statements and calls at a level, as functions of the map.
 

@@ -1,5 +1,1 @@
-pub mod Flatness
-pub mod Operands
-pub mod EvaluatesReading
 pub mod ComposesForest
-pub mod Skipping

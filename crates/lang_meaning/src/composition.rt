@@ -13,10 +13,8 @@ ghost use Rattle.lang_ast.specs.Evaluation.{new_binding, eval, eval_all, eval_na
 ghost use Rattle.compose_model.specs.Composing.{bind, forest_after, forest};
 ghost use Rattle.lang_meaning.specs.ComposesForest.{Composes, HasRoom, statement_at, body_at, call_at, loop_at, cell_at};
 
-use crate::arguments::{bind, evaluate_all, evaluate_attributes, evaluate_keys};
-use crate::evaluation::eval_noting;
-use crate::scope::Env;
 use lang_ast::{Expression, Function, Ident, Named, Statement};
+use lang_eval::{Env, bind, eval_noting, evaluate_all, evaluate_attributes, evaluate_keys};
 use rt_groups::{Group, GroupKind, Groups, Values};
 use rt_values::{NoMemory, Objects, Value, View};
 use std::alloc::Global;

@@ -12,7 +12,7 @@ use Rattle.lang_ast.specs.Evaluation.{Bindings, new_binding, eval, eval_named}
 use Rattle.compose_model.specs.Composing.{Meaning}
 use Rattle.recompose_laws.specs.Numbering.{without_numbers}
 use Rattle.recompose_laws.specs.CalculatedCells.{Calculation, IsCalculatedFor, CellsAreCalculated, IsFoundCalculated, CalculatesAtSite, StmtCalculates, StmtsCalculate, FunctionsCalculate, KeptCellsAreCalculated, named_with, PureCalculationsAreBySite}
-use Rattle.lang_meaning.proofs.Calculations.{cells_may_be_kept}
+use Rattle.recompose_laws.proofs.Calculations.{cells_may_be_kept}
 use Rattle.recompose_laws.proofs.ForestProperties.{StatementFacts, AnyReads, IsForestProperty, AllHold, meanings_hold}
 
 -- The property that cells have calculated values, for statements whose calculations `calc` gives.

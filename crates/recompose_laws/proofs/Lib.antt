@@ -15,3 +15,7 @@ pub mod Skipped
 pub mod Sites
 pub mod Walks
 pub mod Works
+pub mod Agreeing
+pub mod Calculations
+pub mod Meanings
+pub mod Skips

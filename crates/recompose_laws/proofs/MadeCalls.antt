@@ -10,7 +10,7 @@ use Rattle.lang_ast.specs.Programs.{statement_with_inner, statements_in, Each}
 use Rattle.lang_ast.specs.Evaluation.{Bindings, eval_all}
 use Rattle.lang_ast.proofs.Statements.{each_apart}
 use Rattle.compose_model.specs.Composing.{Meaning, bind, meaning, meaning_at, meanings}
-use Rattle.lang_meaning.proofs.Meanings.{meaning_found, meaning_none}
+use Rattle.recompose_laws.proofs.Meanings.{meaning_found, meaning_none}
 use Rattle.recompose_laws.specs.Numbering.{without_numbers}
 use Rattle.recompose_laws.specs.MadeCalls.{IsMadeInside, IsMade, IsFoundMade, CallsBelow, AreOrdered, KeptCallsAreMade}
 use Rattle.recompose_laws.proofs.Plain.{meaning_plain}

@@ -8,9 +8,9 @@ use Rattle.rt_groups.specs.Frames.{meets}
 use Rattle.lang_ast.specs.Terms.{Stmt, Node, Call, Key, If, For, Let, Remember, Func}
 use Rattle.lang_ast.specs.Evaluation.{Bindings}
 use Rattle.compose_model.specs.Composing.{Meaning, bind, run_all, meaning, meaning_at, meanings, forest}
-use Rattle.lang_meaning.specs.Skipping.{Agree, recomposed_forest}
-use Rattle.lang_meaning.proofs.Skips.{skipping_is_right}
-use Rattle.lang_meaning.proofs.Meanings.{meaning_found, meaning_none}
+use Rattle.recompose_laws.specs.Skipping.{Agree, recomposed_forest}
+use Rattle.recompose_laws.proofs.Skips.{skipping_is_right}
+use Rattle.recompose_laws.proofs.Meanings.{meaning_found, meaning_none}
 use Rattle.recompose_laws.specs.Refreshing.{is_owed, refreshed_groups, SameBut, SameReads, RefreshingIsScratch}
 use Rattle.recompose_laws.proofs.ForestProperties.{StatementFacts, AnyReads, AnyStmt, AnyStmts, IsForestProperty, body_holds}
 

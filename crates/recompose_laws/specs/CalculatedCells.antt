@@ -7,7 +7,7 @@ use Rattle.rt_groups.specs.Paths.{Found}
 use Rattle.lang_ast.specs.Terms.{Func, Stmt, Stmts, done, next}
 use Rattle.lang_ast.specs.Terms as terms
 use Rattle.lang_ast.specs.Evaluation.{Bindings, new_binding, eval, eval_named}
-use Rattle.lang_meaning.specs.Skipping.{has_get}
+use Rattle.recompose_laws.specs.Skipping.{has_get}
 use Rattle.compose_model.specs.Composing.{forest}
 use Rattle.recompose_laws.specs.Numbering.{without_numbers}
 

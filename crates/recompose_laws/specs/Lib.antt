@@ -7,3 +7,4 @@ pub mod Idle
 pub mod Skipped
 pub mod MadeCalls
 pub mod CalculatedCells
+pub mod Skipping

@@ -10,7 +10,7 @@ pub struct MapView {
     pub asked: Objects,
 }
 
-#[tactic(auto, using(lang_meaning::proofs::Grows::grew_none))]
+#[tactic(auto, using(lang_eval::proofs::Grows::grew_none))]
 impl View for MapView {
     ghost use Rattle.std.specs.Prelude.{◌≡◌};
     ghost use Rattle.rt_values.specs.Views.{Extends};

@@ -17,10 +17,9 @@ use Rattle.lang_ast.specs.Terms.{Func}
 use Rattle.lang_ast.specs.Evaluation.{new_binding, eval, eval_named}
 use Rattle.lang_ast.specs.SyntaxView.{expr_view, nameds_view, stmt_view, stmts_view, functions_view}
 use Rattle.compose_model.specs.Composing.{attribute, bind, meaning_at, meanings}
-use Rattle.lang_meaning.specs.ComposesForest.{statement_forest, body_forest, call_forest, loop_forest}
-use Rattle.lang_meaning.proofs.Sizes.{size_at, falls_at}
-use Rattle.lang_meaning.proofs.StatementCases.{all_at, all_end}
-use Rattle.lang_meaning.proofs.ForestSteps.{turns_at, turns_end}
+use Rattle.compose_model.specs.StatementForests.{statement_forest, body_forest, call_forest, loop_forest}
+use Rattle.compose_model.proofs.Sizes.{size_at, falls_at}
+use Rattle.compose_model.proofs.StatementForests.{all_at, all_end, turns_at, turns_end}
 use Rattle.recompose_laws.specs.Refreshing.{is_owed}
 use Rattle.composer.specs.declared.stop.ComposeStop.TheVariants.{NoMemory}
 use Rattle.composer.specs.Comparisons.{call_runs}

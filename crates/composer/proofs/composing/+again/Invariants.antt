@@ -3,8 +3,8 @@ use Rattle.rt_groups.specs.Frames.{most_groups}
 use Rattle.rt_groups.specs.GroupForest.{GroupForest}
 use Rattle.rt_values.specs.Maps.{Map}
 use Rattle.lang_ast.specs.SyntaxView.{stmt_view, stmts_view, functions_view}
-use Rattle.lang_meaning.specs.ComposesForest.{body_forest, loop_forest}
-use Rattle.lang_meaning.proofs.Sizes.{stmt_size, body_size, weight}
+use Rattle.compose_model.specs.StatementForests.{body_forest, loop_forest}
+use Rattle.compose_model.proofs.Sizes.{stmt_size, body_size, weight}
 use Rattle.recompose_laws.specs.CalculatedCells.{StmtsCalculate}
 use Rattle.composer.specs.BesideContracts.{LastComposition, IsSince, OldSiblings, IsOldPart}
 use Rattle.composer.specs.OldGroups.{Begins}

@@ -12,13 +12,15 @@ use Rattle.lang_ast.specs.declared.syntax.Function.{Function}
 use Rattle.lang_ast.specs.Evaluation.{new_binding, eval}
 use Rattle.lang_ast.specs.SyntaxView.{expr_view, stmt_view, stmts_view}
 use Rattle.compose_model.specs.Composing.{forest_after}
-use Rattle.lang_meaning.specs.ComposesForest.{ComposesForest, statement_forest, body_forest, call_forest, loop_forest}
+use Rattle.lang_meaning.specs.ComposesForest.{ComposesForest}
+use Rattle.compose_model.specs.StatementForests.{statement_forest, body_forest, call_forest, loop_forest}
 use Rattle.lang_meaning.specs.declared.composition.ScratchStop.{ScratchStop}
 use Rattle.lang_meaning.specs.declared.composition.ScratchStop.TheVariants.{NoMemory}
-use Rattle.lang_meaning.proofs.Grows.{grew_none}
-use Rattle.lang_meaning.proofs.Sizes.{size_at, falls_at}
-use Rattle.lang_meaning.proofs.StatementCases.{all_at, all_end, node_ran, call_ran, key_ran, choice_ran, loop_ran, binding_ran, remember_ran, body_as, bound_as, call_body, call_none}
-use Rattle.lang_meaning.proofs.ForestSteps.{stopped, on_ok, then_same, one_added, added_on, longer_by_one, longer_after, ran_stop, ran_stop_after, ran_after, ran_full_as, ran_added, ran_call, ran_call_stop, ran_first, ran_second, opened_stop, opened_inside, cell_stop, cell_rest, going_more, going_done, going_stop, turns_at, turns_end}
+use Rattle.lang_eval.proofs.Grows.{grew_none}
+use Rattle.compose_model.proofs.Sizes.{size_at, falls_at}
+use Rattle.lang_meaning.proofs.StatementCases.{node_ran, call_ran, key_ran, choice_ran, loop_ran, binding_ran, remember_ran, body_as, bound_as, call_body, call_none}
+use Rattle.compose_model.proofs.StatementForests.{all_at, all_end, turns_at, turns_end}
+use Rattle.lang_meaning.proofs.ForestSteps.{stopped, on_ok, then_same, one_added, added_on, longer_by_one, longer_after, ran_stop, ran_stop_after, ran_after, ran_full_as, ran_added, ran_call, ran_call_stop, ran_first, ran_second, opened_stop, opened_inside, cell_stop, cell_rest, going_more, going_done, going_stop}
 use Rattle.lang_meaning.proofs.composition.+run.Goals as goal
 
 -- Statements one after another.

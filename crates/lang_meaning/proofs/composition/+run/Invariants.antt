@@ -2,8 +2,9 @@ use Rattle.std.proofs.Common.{◌≡◌, ◌≤◌, ◌+◌, ◌*◌, drop, leng
 use Rattle.rt_groups.specs.Frames.{most_groups}
 use Rattle.rt_values.specs.Maps.{Map}
 use Rattle.lang_ast.specs.SyntaxView.{stmt_view, stmts_view}
-use Rattle.lang_meaning.specs.ComposesForest.{LoopProgress, body_forest, loop_forest}
-use Rattle.lang_meaning.proofs.Sizes.{stmt_size, body_size, weight}
+use Rattle.lang_meaning.specs.ComposesForest.{LoopProgress}
+use Rattle.compose_model.specs.StatementForests.{body_forest, loop_forest}
+use Rattle.compose_model.proofs.Sizes.{stmt_size, body_size, weight}
 use Rattle.lang_meaning.proofs.composition.+run.Given as goal
 
 abbrev pub invariant-run_all-loop-statement : goal.invariant-run_all-loop-statement

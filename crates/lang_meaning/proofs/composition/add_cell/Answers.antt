@@ -8,7 +8,7 @@ use Rattle.lang_ast.specs.ResultsWithReads.{Reading}
 use Rattle.lang_ast.specs.Evaluation.{eval, eval_named}
 use Rattle.lang_ast.specs.SyntaxView.{expr_view, nameds_view}
 use Rattle.lang_meaning.specs.declared.composition.ScratchStop.TheVariants.{NoMemory}
-use Rattle.lang_meaning.proofs.Grows.{grew_all}
+use Rattle.lang_eval.proofs.Grows.{grew_all}
 use Rattle.lang_meaning.proofs.ForestSteps.{stopped, stopped_value, ran_stop_after, ran_after, ran_full, ran_added}
 use Rattle.lang_meaning.proofs.composition.add_cell.Goals as goal
 

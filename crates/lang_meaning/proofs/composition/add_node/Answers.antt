@@ -3,7 +3,7 @@ use Rattle.rt_groups.specs.declared.groups.GroupKind.TheVariants as what
 use Rattle.rt_groups.specs.declared.groups.Attribute.{Attribute}
 use Rattle.rt_groups.specs.PreorderGroups.{flat_group}
 use Rattle.lang_meaning.specs.declared.composition.ScratchStop.TheVariants.{NoMemory}
-use Rattle.lang_meaning.proofs.Grows.{grew_none, grew_all}
+use Rattle.lang_eval.proofs.Grows.{grew_none, grew_all}
 use Rattle.lang_meaning.proofs.ForestSteps.{stopped, on_ok, added_on, one_added, longer_by_one, ran_stop, ran_stop_after, ran_after, ran_added}
 use Rattle.lang_meaning.proofs.composition.add_node.Goals as goal
 

@@ -1,0 +1,3 @@
+pub mod Flatness
+pub mod Operands
+pub mod EvaluatesReading
