@@ -2,7 +2,7 @@
 //!
 //! `specs/Composing.antt` says which reads and groups composing from scratch makes, in order. `specs/Frame.antt` says
 //! what one frame leaves and reports. Both are computed on small programs in `specs/SmallPrograms.antt`.
-//! Promise: the definitions give the groups, reads and reports that Compose gives on those programs.
+//! Promise: on those programs the definitions give the groups, reads and reports that `specs/SmallPrograms.antt` states.
 #![tactic(auto)]
 
 mod examples;

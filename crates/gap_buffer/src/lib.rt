@@ -43,7 +43,7 @@ fn exchange<T>(items: &mut [T], from: usize, middle: usize, to: usize)
 }
 
 impl<T> GapBuf<T> {
-    /// Returns the empty list, without spare capacity.
+    /// Returns the empty list.
     pub fn new(alloc: Global) -> Self
         ensures { result.items ≡ [] }
     {

@@ -217,7 +217,7 @@ fn play_input<V: Versions<P = BuiltIn>, S: Source, K: Sink>(
     }
 }
 
-// Reads the source, then runs each actor on a thread of its own.
+// Reads the source, then writes the lines of a history of all actors.
 fn play_threads<R: Threads + Wait + Sync, S: Source, K: Sink, G: Gate + Sync>(
     rt: &R,
     alloc: Global,
@@ -281,11 +281,10 @@ fn write_usage<K: Sink>(sink: &mut K) -> Status
 
 /// Runs the command that the arguments ask for, if it is not `threads`.
 ///
-/// Reads a program with its script from `source`, and writes to `sink` line by line, each line with its LF as one
-/// piece. `run` makes the script's steps on `world`, which must be new, and writes the line of each call and of each
-/// frame when it is made, as its flags say. `check` writes the canonical text of the program and the script. `gen`
-/// reads nothing: it makes the steps of a generated script on `world`, which must be new, and writes the summary as one
-/// piece. Never blocks.
+/// Reads a program with its script from `source`, and writes to `sink`. `run` writes the lines of the calls and frames
+/// that the script's steps make in a new world, one step after another, as its flags say. `check` writes the canonical
+/// text of the program and the script. `gen` reads nothing, and writes the counts of the run of a generated script.
+/// Never blocks.
 ///
 /// `specs/Promise.antt` says what each status means: what was written, and what was taken from the source. In Compose
 /// this is the work of `Recomposer` and a test driver; the program and its lines are rules of this project.
@@ -322,9 +321,9 @@ pub fn play_alone<V: Versions<P = BuiltIn>, S: Source, K: Sink>(
 
 /// Runs the command that the arguments ask for, as `play_alone` does, and `threads` too.
 ///
-/// `threads` makes the steps of each actor on a thread of its own, all on one new world, and then writes the lines of
-/// all calls in the order in which they were made. Each thread calls `gate` before each of its calls on the world, with
-/// the number of its actor and the number of the call. While it waits for the turn on the shared world a thread blocks.
+/// `threads` writes the lines of a history of calls on one new world that all actors share: each actor's calls are those
+/// that its own steps make, and the actors take turns in some order. `gate` may delay a call of an actor; the code calls
+/// it with the number of the actor and the number of the call. While it waits for its turn a thread blocks.
 pub fn play<R: Threads + Wait + Sync, V: Versions<P = BuiltIn>, S: Source, K: Sink, G: Gate + Sync>(
     rt: &R,
     alloc: Global,

@@ -151,8 +151,7 @@ fn count_program<V: Versions<P = BuiltIn>>(
     Ok(tally)
 }
 
-/// Makes the steps of the generated script on the generated program in a new world, draw by draw, and returns the
-/// counts of their history.
+/// Returns the counts of the history that the generated script makes with the generated program in a new world.
 ///
 /// A rule of this project. Nothing is printed. Fails only if the process is out of memory. The memory of the
 /// composition is left to the end of the process.

@@ -7,7 +7,7 @@
 //! share its slots. `ChangeListWriter` writes a new frame as changes of a table, as the `ComposerChangeListWriter` of
 //! Compose, and `Table::apply` applies the changes. `ReplacedGroups` has the nodes that applied changes replaced, until
 //! new nodes need their memory. `ShrunkReads` lends the reads of a table that shrinks before the changes are applied.
-//! `slot_edit` changes a table group by group; other crates read it.
+//! `slot_edit`, which is for users of the library, replaces all groups of a table at once.
 //! Promises: a reader visits exactly the table's groups, counts one step for each group that it opens, and lends their
 //! values without a copy. Applied changes give exactly the groups that were written.
 #![tactic(auto)]

@@ -13,8 +13,8 @@ use std::alloc::Global;
 ///
 /// A value represents plain worlds (`specs/World.antt`). Each call gives the reply of each of them, with refusals
 /// in the order of their tests, and leaves the value representing the worlds after the call. After `NoMemory` the
-/// value represents the same plain worlds as before. A value may have a log of all calls so far with their replies;
-/// it omits calls that ran out of memory.
+/// value represents each plain world that it represented before. A value may have a log of all calls so far with their
+/// replies; it omits calls that ran out of memory.
 pub trait Versions {
     /// The policies of the objects.
     type P: Policy;
