@@ -1,4 +1,4 @@
--- Trusted: what a numbered program without faults promises to composing.
+-- Law: what a numbered program without faults promises to composing.
 use Rattle.std.specs.Prelude.{ℕ, ◌<◌, ◌≡◌, List, [], length, All, Option, Some}
 use Rattle.rt_values.specs.declared.value.Value.{Value}
 use Rattle.rt_values.specs.Values.{no_value}

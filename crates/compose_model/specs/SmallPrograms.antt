@@ -1,4 +1,4 @@
--- Trusted: small programs with the forests and the reports of their frames.
+-- Law: small programs with the forests and the reports of their frames.
 use Rattle.std.specs.Prelude.{ℕ, ◌≡◌, ℤ, pos, List, [], ◌∷◌, codes}
 use Rattle.rt_values.specs.declared.value.Value.{Value}
 use Rattle.rt_values.specs.declared.value.Value.TheVariants as value

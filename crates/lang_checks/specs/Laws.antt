@@ -1,4 +1,4 @@
--- Trusted: laws of the fault that is reported.
+-- Law: laws of the fault that is reported.
 use Rattle.std.specs.Prelude.{◌≡◌, List, [], All, Contains, false, Some, None}
 use Rattle.lang_checks.specs.declared.faults.ProgramFault.{ProgramFault}
 use Rattle.lang_checks.specs.FaultOrder.{before, least_fault}

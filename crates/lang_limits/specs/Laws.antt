@@ -1,4 +1,4 @@
--- Trusted: what the least offset is, and which forests clamping leaves as they are.
+-- Law: what the least offset is, and which forests clamping leaves as they are.
 use Rattle.std.specs.Prelude.{◌≡◌, nat_lt, ℕ, List, [], All, Contains, false, Some, None}
 use Rattle.sexp_text.specs.Forest.{Forest}
 use Rattle.lang_limits.specs.LeastOffset.{least}

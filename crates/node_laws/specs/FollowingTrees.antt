@@ -1,4 +1,4 @@
--- Trusted: the node trees of a composition, from frame to frame.
+-- Law: the node trees of a composition, from frame to frame.
 use Rattle.std.specs.Prelude.{ℕ, ◌≡◌, ◌<◌, ◌≤◌, ◌⊎◌, List, []}
 use Rattle.rt_values.specs.Maps.{Map}
 use Rattle.rt_groups.specs.GroupForest.{GroupForest, End}

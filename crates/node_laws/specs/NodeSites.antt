@@ -1,4 +1,4 @@
--- Trusted: the sites of the nodes of a composition.
+-- Law: the sites of the nodes of a composition.
 use Rattle.std.specs.Prelude.{ℕ, ◌≡◌, List, [], Bool, true, false, Option, Some}
 use Rattle.rt_values.specs.Maps.{Map}
 use Rattle.lang_ast.specs.Terms.{Stmt, Node, Func}

@@ -1,4 +1,4 @@
--- Trusted: the own reads of a call, among the reads of a forest.
+-- Law: the own reads of a call, among the reads of a forest.
 use Rattle.std.specs.Prelude.{ℕ, ◌==◌, ◌&&◌, ◌≡◌, List, [], map, Bool, true, Some}
 use Rattle.std.specs.List.{filter}
 use Rattle.std.specs.Cmp.Lexicographic.{pointwise}

@@ -1,4 +1,4 @@
--- Trusted: an output of `threads` tells its history.
+-- Law: an output of `threads` tells its history.
 use Rattle.std.specs.Prelude.{◌≡◌, ℕ, List, true}
 use Rattle.lang_forms.specs.Sources.{Source}
 use Rattle.snap_api.specs.World.{History}

@@ -1,4 +1,4 @@
--- Trusted: one call that is skipped.
+-- Law: one call that is skipped.
 use Rattle.std.specs.Prelude.{ℕ, List, [], ◌≡◌, take, false}
 use Rattle.rt_values.specs.declared.value.Value.{Value}
 use Rattle.rt_values.specs.Maps.{Map}

@@ -1,4 +1,4 @@
--- Trusted: the laws that calls with equal reads need not run again, and that cells can keep their values.
+-- Law: the laws that calls with equal reads need not run again, and that cells can keep their values.
 use Rattle.std.specs.Prelude.{ℕ, ◌<◌, ◌≤◌, List, [], ◌∷◌, ◌≡◌, length, take, get_or, Bool, true, false, ◌||◌}
 use Rattle.rt_values.specs.declared.value.Value.{Value}
 use Rattle.rt_values.specs.Maps.{Map, value_at}

@@ -1,4 +1,4 @@
--- Trusted: the work of one walk over the old groups.
+-- Law: the work of one walk over the old groups.
 use Rattle.std.specs.Prelude.{ℕ, List, [], ◌≡◌, length, Bool, true, take, if◌then◌else◌}
 use Rattle.rt_values.specs.Maps.{Map}
 use Rattle.rt_groups.specs.GroupForest.{GroupForest, End, Read, Group, GroupKind, Call, asks}

@@ -1,4 +1,4 @@
--- Trusted: what a reader skips in a forest.
+-- Law: what a reader skips in a forest.
 use Rattle.std.specs.Prelude.{ℕ, ◌+◌, List, ◌++◌, ◌≡◌, false}
 use Rattle.rt_groups.specs.declared.groups.Group.{Group as TableGroup}
 use Rattle.rt_groups.specs.GroupForest.{GroupForest}

@@ -1,4 +1,4 @@
--- Trusted: reading the lines of a trace.
+-- Law: reading the lines of a trace.
 use Rattle.std.specs.Prelude.{◌≡◌, List}
 use Rattle.json.specs.Token.{Token}
 use Rattle.json.specs.Lex.{tokens}
