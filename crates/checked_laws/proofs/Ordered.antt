@@ -7,7 +7,7 @@ use Rattle.lang_ast.specs.Terms.{Stmt, Call, Func}
 use Rattle.lang_ast.specs.Programs.{statements_in}
 use Rattle.lang_ast.proofs.Statements.{each_of_both}
 use Rattle.lang_checks.specs.Scopes.{first_named, numbered_or, named_function}
-use Rattle.lang_checks.specs.Statements.{StatementContext, call_faults}
+use Rattle.lang_checks.specs.Statements.{StatementContext, callee_faults}
 use Rattle.lang_checks.specs.Numbers.{HasItsNumber, CallHasItsNumber, FunctionsCalls}
 use Rattle.lang_ast.proofs.Limits.{none_in}
 use Rattle.lang_checks.proofs.Fine.{held}
@@ -17,28 +17,28 @@ use Rattle.checked_laws.specs.CheckedPrograms.{ProgramIsOrdered}
 use Rattle.checked_laws.proofs.Parts.{parts, IsFine, all_are_fine, context, BodiesAreFine, bodies}
 
 -- The function that a call refers to is an earlier one.
-refers_below : (me at : ℕ) (ts : List Ty) (p : ℕ × Func) → call_faults me at ts (Some p) ≡ [] → p.0 < me
+refers_below : (me at : ℕ) (ts : List Ty) (p : ℕ × Func) → callee_faults me at ts (Some p) ≡ [] → p.0 < me
 refers_below me at ts p h = ltb-true _ _ (held _ _ _ (none_in _ _ h).0)
 
 first_below : (me at number : ℕ) (ts : List Ty) (functions : List Func) (name : List ℕ)
-    → HasItsNumber functions me name number → call_faults me at ts (first_named functions name 0) ≡ [] → number < me
+    → HasItsNumber functions me name number → callee_faults me at ts (first_named functions name 0) ≡ [] → number < me
 first_below me at number ts functions name has h = by (first_named functions name 0) refl h
   where
-    by : (o : Option (ℕ × Func)) → first_named functions name 0 ≡ o → call_faults me at ts o ≡ [] → number < me
+    by : (o : Option (ℕ × Func)) → first_named functions name 0 ≡ o → callee_faults me at ts o ≡ [] → number < me
     by None e g = absurd cc
     by (Some p) e g = let below = refers_below me at ts p g in let is = has p.0 p.1 e below in omega (arith, below, is)
 
 call_below : (me at number : ℕ) (ts : List Ty) (functions : List Func) (name : List ℕ)
-    → HasItsNumber functions me name number → call_faults me at ts (named_function functions name number) ≡ []
+    → HasItsNumber functions me name number → callee_faults me at ts (named_function functions name number) ≡ []
     → number < me
 call_below me at number ts functions name has h = by (slice_get functions number) h
   where
     named : (b : Bool) (f : Func)
-        → call_faults me at ts (if b then Some (number, f) else first_named functions name 0) ≡ [] → number < me
+        → callee_faults me at ts (if b then Some (number, f) else first_named functions name 0) ≡ [] → number < me
     named true f g = refers_below me at ts (number, f) g
     named false f g = first_below me at number ts functions name has g
 
-    by : (o : Option Func) → call_faults me at ts (numbered_or name number o (first_named functions name 0)) ≡ []
+    by : (o : Option Func) → callee_faults me at ts (numbered_or name number o (first_named functions name 0)) ≡ []
         → number < me
     by None g = first_below me at number ts functions name has g
     by (Some f) g = named (bytes_eq f.name.text name) f g

@@ -11,7 +11,7 @@ use Rattle.lang_checks.specs.FaultOrder.{fault_unless}
 use Rattle.lang_checks.specs.Scopes.{typed_name, named_function, duplicate_faults}
 use Rattle.lang_checks.specs.Chains.{chains_faults}
 use Rattle.lang_checks.specs.Expressions.{type, types_of, expr_faults, exprs_faults, values_faults}
-use Rattle.lang_checks.specs.Statements.{StatementContext, plain_scope, inside, call_faults, stmt_faults, stmts_faults}
+use Rattle.lang_checks.specs.Statements.{StatementContext, plain_scope, inside, callee_faults, stmt_faults, stmts_faults}
 use Rattle.lang_checks.specs.ProgramFaults.{bound_parameters, states_faults, functions_faults, program_faults}
 use Rattle.lang_ast.proofs.Limits.{none_in}
 
@@ -21,7 +21,7 @@ PartsAreFine p scope (Node at site name attributes body) =
     (values_faults (plain_scope p.states scope) attributes ≡ []) × (stmts_faults p scope body ≡ [])
 PartsAreFine p scope (Call at site name function arguments) =
     (exprs_faults (plain_scope p.states scope) arguments ≡ [])
-    × (call_faults p.me at (types_of (plain_scope p.states scope) arguments) (named_function p.functions name.text function)
+    × (callee_faults p.me at (types_of (plain_scope p.states scope) arguments) (named_function p.functions name.text function)
     ≡ [])
 PartsAreFine p scope (Key at site key body) =
     (expr_faults (plain_scope p.states scope) key ≡ []) × (stmts_faults p scope body ≡ [])

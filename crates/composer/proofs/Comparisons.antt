@@ -9,7 +9,7 @@ use Rattle.rt_groups.specs.Frames as frames
 use Rattle.composer.specs.OldSiblings.{KeyInfo, old_group}
 use Rattle.composer.specs.OldGroups.{Alike}
 use Rattle.composer.specs.Comparisons.{same_call, call_runs, has_keys, other_keys}
-use Rattle.composer.specs.WrittenGroups.{number_for, number_of}
+use Rattle.composer.specs.WrittenGroups.{number_for, written_number}
 
 same_call_kept : (a b : GroupKind) → same_call (flat_kind a) (flat_kind b) ≡ frames.same_call a b
 same_call_kept (Call f vs) (Call g ws) = refl
@@ -61,7 +61,7 @@ given_kept d (Some k) None next a = absurd a
 given_kept d (Some k) (Some f) next a = ap (λ n. (n, next)) a.number
 
 pub number_of_kept : (d : ℕ) (k : Option KeyInfo) (f : Option Found) (what : GroupKind) (next : ℕ) → Alike d k f
-    → number_of (flat_kind what) k next ≡ frames.number_of what f next
+    → written_number (flat_kind what) k next ≡ frames.number_of what f next
 number_of_kept d k f (Call g vs) next a = refl
 number_of_kept d k f (Node kind attributes) next a = given_kept d k f next a
 number_of_kept d k f (Key v) next a = refl

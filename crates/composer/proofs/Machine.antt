@@ -6,7 +6,7 @@ use Rattle.rt_values.specs.Maps.{Map}
 use Rattle.rt_groups.specs.GroupForest.{GroupForest, End, Read, Group, GroupKind, Call, Node, Key, Cell, joined_forest, reads_then, asks, own_part, inside_own}
 use Rattle.rt_groups.specs.Paths.{GroupKey, sibling, occurrence, Found, matching_sibling, inside_of}
 use Rattle.rt_groups.specs.PreorderGroups.{flat_kind, flat_reads, flat_group, preorder}
-use Rattle.rt_groups.specs.Frames.{other_keys, number_of}
+use Rattle.rt_groups.specs.Frames.{other_keys, given_number}
 use Rattle.lang_ast.specs.Terms.{Func}
 use Rattle.compose_model.specs.Composing.{meanings, meaning_at}
 use Rattle.recompose_laws.specs.Work.{Work, work, with_cell, work_at_group, runs_in, siblings}
@@ -78,9 +78,9 @@ own-beside old seen k (Group site n (Call f vs) inside rest) = own-beside old _ 
 own-beside old seen k (Group site n (Node kind attributes) inside rest) =
     let found = matching_sibling (sibling site (Node kind attributes))
     (occurrence (sibling site (Node kind attributes)) seen) old in
-    let within = numbered_by_siblings (inside_of found) [] (number_of (Node kind attributes) found k).1 inside in
+    let within = numbered_by_siblings (inside_of found) [] (given_number (Node kind attributes) found k).1 inside in
     ap (λ l. l ++ asks (own_part (numbered_by_siblings old (sibling site (Node kind attributes) ∷ seen) within.1
-    rest).0)) (own-beside (inside_of found) [] (number_of (Node kind attributes) found k).1 inside)
+    rest).0)) (own-beside (inside_of found) [] (given_number (Node kind attributes) found k).1 inside)
     ∙ ap (λ l. asks (own_part inside) ++ l) (own-beside old (sibling site (Node kind attributes) ∷ seen) within.1 rest)
 own-beside old seen k (Group site n (Key v) inside rest) =
     let found = matching_sibling (sibling site (Key v)) (occurrence (sibling site (Key v)) seen) old in
@@ -116,7 +116,7 @@ one_group : (d : ℕ) (runs : Bool) (found : Option Found) (site : ℕ) (what : 
     (within : GroupForest × ℕ) (w : Work) (s : ComposerState) → flat_reads what within.0 ≡ flat_reads what inside →
     closed_group what s (state_after_work (d + 1) within w (asks (own_part inside))
     (opened_group d runs found site what inside s))
-    ≡ state_after_work d (Group site (number_of what found s.next).0 what within.0 End, within.1)
+    ≡ state_after_work d (Group site (given_number what found s.next).0 what within.0 End, within.1)
     (work_at_group runs found what w) (asks (inside_own what (own_part inside))) s
 one_group d true found site (Call f vs) inside within w s e =
     same_state (groups_step s.groups (preorder (d + 1) within.0) _ _
@@ -141,7 +141,7 @@ one_group d runs found site (Cell ks v) inside within w s e = by (runs && other_
     by false = same_state (groups_step s.groups (preorder (d + 1) within.0) _ _ refl) refl refl (omega arith) refl refl
 
 opened_next : (d : ℕ) (runs : Bool) (found : Option Found) (site : ℕ) (what : GroupKind) (inside : GroupForest)
-    (s : ComposerState) → (opened_group d runs found site what inside s).next ≡ (number_of what found s.next).1
+    (s : ComposerState) → (opened_group d runs found site what inside s).next ≡ (given_number what found s.next).1
 opened_next d runs found site (Call f vs) inside s = refl
 opened_next d runs found site (Node kind attributes) inside s = refl
 opened_next d runs found site (Key v) inside s = refl
@@ -165,9 +165,9 @@ composed_is owed old d running seen (Group site n what inside rest) s =
     let found = matching_sibling (sibling site what) (occurrence (sibling site what) seen) old in
     let runs = runs_in owed running found what in
     let first = opened_group d runs found site what inside s in
-    let within = numbered_by_siblings (inside_of found) [] (number_of what found s.next).1 inside in
+    let within = numbered_by_siblings (inside_of found) [] (given_number what found s.next).1 inside in
     let w = work owed (inside_of found) [] runs inside in
-    let here = state_after_work d (Group site (number_of what found s.next).0 what within.0 End, within.1)
+    let here = state_after_work d (Group site (given_number what found s.next).0 what within.0 End, within.1)
     (work_at_group runs found what w) (asks (inside_own what (own_part inside))) s in
     let inner : composed_beside owed (inside_of found) (d + 1) runs [] inside first ≡ state_after_work (d + 1) within w (asks (own_part inside)) first =
     composed_is owed (inside_of found) (d + 1) runs [] inside first
@@ -176,7 +176,7 @@ composed_is owed old d running seen (Group site n what inside rest) s =
     let group : closed_group what s (composed_beside owed (inside_of found) (d + 1) runs [] inside first) ≡ here =
     ap (λ q. closed_group what s q) inner
     ∙ one_group d runs found site what inside within w s
-    (reads_beside (inside_of found) (number_of what found s.next).1 what inside) in
+    (reads_beside (inside_of found) (given_number what found s.next).1 what inside) in
     ap (λ q. composed_beside owed old d running (sibling site what ∷ seen) rest q) group
     ∙ composed_is owed old d running (sibling site what ∷ seen) rest here
     ∙ same_state (groups_more s.groups (preorder (d + 1) within.0) _ _) refl (omega arith) (omega arith)

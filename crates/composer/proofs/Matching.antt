@@ -19,7 +19,7 @@ use Rattle.composer.specs.OldGroups.{Alike, Fits}
 use Rattle.composer.specs.ComposerState.{one_if, opened_group}
 use Rattle.composer.specs.BesideContracts.{OldSiblings, IsOldPart, IsOldFound}
 use Rattle.composer.specs.Recomposes.{IsBeside, is_container}
-use Rattle.composer.specs.WrittenGroups.{WrittenGroups, state_of, number_of, enter_group, with_call, running_call, written_kept, kept_in, kept_of}
+use Rattle.composer.specs.WrittenGroups.{WrittenGroups, state_of, written_number, enter_group, with_call, running_call, written_kept, kept_in, kept_of}
 use Rattle.composer.proofs.OldMatches.{fits_found, fits_next}
 use Rattle.composer.proofs.OldParts.{part_found, part_matched}
 use Rattle.composer.proofs.Comparisons.{number_of_kept, other_keys_kept}
@@ -88,7 +88,7 @@ pub entered_longer : (d site : ℕ) (code : ListedKind) (k : Option KeyInfo) (wr
     → written' ≡ enter_group d site code k written → length written.groups ≤ length written'.groups
 entered_longer d site code k written written' e =
     let long = ap (λ (q : WrittenGroups). length q.groups) e in
-    omega (arith, long, length-append written.groups (flat_group d site (number_of code k written.next).0 code [] ∷ []))
+    omega (arith, long, length-append written.groups (flat_group d site (written_number code k written.next).0 code [] ∷ []))
 
 pub call_longer : (d site : ℕ) (code : ListedKind) (runs : Bool) (written written' : WrittenGroups)
     → written' ≡ with_call d site code runs written → length written.groups ≤ length written'.groups

@@ -5,7 +5,7 @@ use Rattle.rt_groups.specs.declared.groups.Group.{Group as FlatGroup}
 use Rattle.rt_groups.specs.GroupForest.{GroupForest, End, Read, Group, GroupKind, Call, Node, Key, Cell, asks, own_part}
 use Rattle.rt_groups.specs.Paths.{GroupKey, sibling, occurrence, Found, matching_sibling, inside_of}
 use Rattle.rt_groups.specs.PreorderGroups.{flat_kind, flat_reads, flat_group}
-use Rattle.rt_groups.specs.Frames.{other_keys, number_of}
+use Rattle.rt_groups.specs.Frames.{other_keys, given_number}
 use Rattle.lang_ast.specs.Terms.{Func}
 use Rattle.compose_model.specs.Composing.{meanings, meaning_at}
 use Rattle.recompose_laws.specs.Work.{runs_in}
@@ -45,8 +45,8 @@ counted_group runs old (Cell ks v) s = record s { calculated = s.calculated + on
 -- The state after a new group is opened, before the groups inside.
 abbrev pub opened_group : ℕ → Bool → Option Found → ℕ → GroupKind → GroupForest → ComposerState → ComposerState
 opened_group depth runs old site what inside s =
-    counted_group runs old what (put_group (flat_group depth site (number_of what old s.next).0 (flat_kind what)
-    (flat_reads what inside)) (number_of what old s.next).1 s)
+    counted_group runs old what (put_group (flat_group depth site (given_number what old s.next).0 (flat_kind what)
+    (flat_reads what inside)) (given_number what old s.next).1 s)
 
 -- The state `s` after a group is closed: after a call, the own reads are those from before the call.
 abbrev pub closed_group : GroupKind → ComposerState → ComposerState → ComposerState

@@ -64,11 +64,11 @@ abbrev pub number_for : Option KeyInfo → ℕ → ℕ × ℕ
 number_for None next = (next, next + 1)
 number_for (Some k) next = ((old_group k).number, next)
 
-abbrev pub number_of : GroupKind → Option KeyInfo → ℕ → ℕ × ℕ
-number_of (what.Call f vs) found next = (0, next)
-number_of (what.Node kind attributes) found next = number_for found next
-number_of (what.Key v) found next = (0, next)
-number_of (what.Cell ks v) found next = (0, next)
+abbrev pub written_number : GroupKind → Option KeyInfo → ℕ → ℕ × ℕ
+written_number (what.Call f vs) found next = (0, next)
+written_number (what.Node kind attributes) found next = number_for found next
+written_number (what.Key v) found next = (0, next)
+written_number (what.Cell ks v) found next = (0, next)
 
 -- 1 for a cell that is calculated.
 abbrev pub cells_in : Option KeyInfo → GroupKind → ℕ
@@ -81,8 +81,8 @@ cells_in found (what.Cell ks v) = one_if (other_keys found ks)
 abbrev pub enter_group : ℕ → ℕ → GroupKind → Option KeyInfo → WrittenGroups → WrittenGroups
 enter_group depth site w found d = record {
   olds = d.olds;
-  groups = d.groups ++ flat_group depth site (number_of w found d.next).0 w [] ∷ [];
-  next = (number_of w found d.next).1;
+  groups = d.groups ++ flat_group depth site (written_number w found d.next).0 w [] ∷ [];
+  next = (written_number w found d.next).1;
   ran = d.ran;
   calculated = d.calculated + cells_in found w;
   reads = d.reads;

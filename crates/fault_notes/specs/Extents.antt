@@ -18,17 +18,17 @@ next_depth depth Escaped b = depth
 next_depth depth Comment b = depth
 
 -- Whether a form has ended.
-abbrev pub is_closed : ℕ → Mode → Bool
-is_closed depth Plain = depth == 0
-is_closed depth Quoted = false
-is_closed depth Escaped = false
-is_closed depth Comment = false
+abbrev pub is_complete : ℕ → Mode → Bool
+is_complete depth Plain = depth == 0
+is_complete depth Quoted = false
+is_complete depth Escaped = false
+is_complete depth Comment = false
 
 -- The number of bytes to the end of a form, in which `depth` lists are open.
 abbrev pub rest_of_form : ℕ → Mode → List ℕ → ℕ
 rest_of_form depth mode [] = 0
 rest_of_form depth mode (b ∷ bs) =
-    if is_closed (next_depth depth mode b) (next_mode mode b) then 1
+    if is_complete (next_depth depth mode b) (next_mode mode b) then 1
     else suc (rest_of_form (next_depth depth mode b) (next_mode mode b) bs)
 
 -- The length of the form with which the bytes begin: a list to its parenthesis, a string to its quote, and one byte of an

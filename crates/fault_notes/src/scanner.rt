@@ -1,6 +1,6 @@
 // A scanner that follows the lists, strings and comments of a source text byte by byte.
 ghost use Rattle.std.specs.Prelude.{◌≡◌, ◌<◌, ◌+◌, ◌^◌};
-ghost use Rattle.fault_notes.specs.Extents.{next_mode, next_depth, is_closed, form_length};
+ghost use Rattle.fault_notes.specs.Extents.{next_mode, next_depth, is_complete, form_length};
 
 /// What the next byte of a source text belongs to.
 #[derive(Clone, Copy, Debug, PartialEq, Eq)]
@@ -57,7 +57,7 @@ fn next_depth(depth: usize, mode: Mode, byte: u8) -> usize
 
 // Whether a form has ended.
 fn is_closed(depth: usize, mode: Mode) -> bool
-    ensures { result ≡ is_closed depth mode }
+    ensures { result ≡ is_complete depth mode }
 {
     match mode {
         Mode::Plain => depth == 0,

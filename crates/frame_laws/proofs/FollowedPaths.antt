@@ -2,7 +2,7 @@
 use Rattle.std.proofs.Common.{ℕ, zero, suc, ◌+◌, ◌≤◌, List, [], ◌∷◌, ◌≡◌, refl, ap, ◌∙◌, sym, subst, Bool, true, false, if◌then◌else◌, Option, Some, None, arith}
 use Rattle.rt_groups.specs.GroupForest.{GroupForest, End, Read, Group, is_node}
 use Rattle.rt_groups.specs.Paths.{Path, PathStep, GroupKey, sibling, same_sibling, occurrence, Found, nth, matching_sibling, inside_of, at_path}
-use Rattle.rt_groups.specs.Frames.{number_for, number_of}
+use Rattle.rt_groups.specs.Frames.{number_for, given_number}
 use Rattle.recompose_laws.specs.Numbering.{numbered_by_siblings}
 use Rattle.recompose_laws.proofs.Numbers.{path_numbers_are_sibling_numbers}
 use Rattle.node_laws.proofs.KeptSites.{number_rises, next_rises}
@@ -14,7 +14,7 @@ use Rattle.frame_laws.specs.FollowedPaths.{NumbersFollowPaths}
 record IsNumbered (old : Option Found) (next : ℕ) (g : Found) : Type 0 where
   unused : ℕ
   after : next ≤ unused
-  number : g.number ≡ (number_of g.what old unused).0
+  number : g.number ≡ (given_number g.what old unused).0
   later : ℕ
   after_own : next ≤ later
   plain : GroupForest
@@ -46,7 +46,7 @@ matched beside seen next (Group site k what inside rest) s n g e =
     found = matching_sibling (sibling site what) (occurrence (sibling site what) seen) beside
 
     own : ℕ × ℕ
-    own = number_of what found next
+    own = given_number what found next
 
     within : GroupForest × ℕ
     within = numbered_by_siblings (inside_of found) [] own.1 inside

@@ -22,18 +22,18 @@ bound_type name [] = None
 bound_type name (b ∷ bs) = if bytes_eq b.name name then Some b.ty else bound_type name bs
 
 -- Whether no binding has the name.
-abbrev pub is_free : List ℕ → List TypedName → Bool
-is_free name bs = not (is_some (bound_type name bs))
+abbrev pub is_unbound : List ℕ → List TypedName → Bool
+is_unbound name bs = not (is_some (bound_type name bs))
 
 -- Whether one of the names is this one.
-abbrev pub is_among : List ℕ → List Ident → Bool
-is_among name ns = list_any (λ n. bytes_eq n.text name) ns
+abbrev pub is_listed : List ℕ → List Ident → Bool
+is_listed name ns = list_any (λ n. bytes_eq n.text name) ns
 
 -- The faults of duplicate names: each name that an earlier one equals, at its own offset.
 abbrev pub duplicate_faults : List Ident → List Ident → List ProgramFault
 duplicate_faults earlier [] = []
 duplicate_faults earlier (n ∷ ns) =
-    fault_unless (not (is_among n.text earlier)) kind.Double n.at ++ duplicate_faults (earlier ++ n ∷ []) ns
+    fault_unless (not (is_listed n.text earlier)) kind.Double n.at ++ duplicate_faults (earlier ++ n ∷ []) ns
 
 -- The type of a state, if it has the name.
 abbrev pub type_if_named : List ℕ → Option State → Option Ty

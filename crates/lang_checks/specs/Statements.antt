@@ -11,7 +11,7 @@ use Rattle.lang_checks.specs.declared.environment.TypedName.{TypedName}
 use Rattle.lang_checks.specs.declared.faults.CheckKind.TheVariants as kind
 use Rattle.lang_checks.specs.declared.faults.ProgramFault.{ProgramFault}
 use Rattle.lang_checks.specs.FaultOrder.{fault, fault_unless}
-use Rattle.lang_checks.specs.Scopes.{typed_name, is_free, duplicate_faults, named_function}
+use Rattle.lang_checks.specs.Scopes.{typed_name, is_unbound, duplicate_faults, named_function}
 use Rattle.lang_checks.specs.Operands.{same_types}
 use Rattle.lang_checks.specs.Expressions.{ExpressionScope, type, types_of, expr_faults, exprs_faults, values_faults, typed_names}
 
@@ -38,14 +38,14 @@ parameter_types ps = map (λ q. q.ty) ps
 
 -- The faults of a call. No such function is unknown, the function itself or a later one is out of order, and the
 -- arguments must have the types of the parameters.
-abbrev pub call_faults : ℕ → ℕ → List Ty → Option (ℕ × Func) → List ProgramFault
-call_faults me at ts None = fault kind.Unknown at ∷ []
-call_faults me at ts (Some f) = fault_unless (nat_lt f.0 me) kind.Order at
+abbrev pub callee_faults : ℕ → ℕ → List Ty → Option (ℕ × Func) → List ProgramFault
+callee_faults me at ts None = fault kind.Unknown at ∷ []
+callee_faults me at ts (Some f) = fault_unless (nat_lt f.0 me) kind.Order at
     ++ fault_unless (same_types (parameter_types f.1.parameters) ts) kind.Type at
 
 -- The faults of a binding: a variable in scope may not be bound again. Those of the body come after it.
 abbrev pub binding_faults : List TypedName → Ident → List ProgramFault → List ProgramFault
-binding_faults scope n behind = fault_unless (is_free n.text scope) kind.Double n.at ++ behind
+binding_faults scope n behind = fault_unless (is_unbound n.text scope) kind.Double n.at ++ behind
 
 abbrev mutual
   -- The faults of a statement with these variables in scope.
@@ -56,7 +56,7 @@ abbrev mutual
       ++ (values_faults (plain_scope p.states scope) attributes ++ stmts_faults p scope body)
   stmt_faults p scope (Call at site name function arguments) =
       exprs_faults (plain_scope p.states scope) arguments
-      ++ call_faults p.me at (types_of (plain_scope p.states scope) arguments)
+      ++ callee_faults p.me at (types_of (plain_scope p.states scope) arguments)
       (named_function p.functions name.text function)
   stmt_faults p scope (Key at site key body) = expr_faults (plain_scope p.states scope) key ++ stmts_faults p scope body
   -- An if: the condition is a Bool.

@@ -2,7 +2,7 @@
 ghost use Rattle.std.specs.Prelude.{◌≡◌, [], map};
 ghost use Rattle.lang_ast.specs.declared.syntax.Ident.{Ident as name_data};
 ghost use Rattle.lang_checks.specs.FaultOrder.{least_fault_from};
-ghost use Rattle.lang_checks.specs.Scopes.{is_among, duplicate_faults};
+ghost use Rattle.lang_checks.specs.Scopes.{is_listed, duplicate_faults};
 
 use crate::faults::{CheckKind, ProgramFault, fault_unless};
 use lang_ast::{Function, Ident, Named, Parameter, State};
@@ -51,7 +51,7 @@ impl HasName for Named {
 
 // Returns whether one of the parts has the name.
 fn is_among<T: HasName>(parts: &[T], name: &[u8]) -> bool
-    ensures { result ≡ is_among name.now (map T.title parts.now) }
+    ensures { result ≡ is_listed name.now (map T.title parts.now) }
 {
     let mut rest = parts;
     while let Some((part, more)) = rest.split_first() {

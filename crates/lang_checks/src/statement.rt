@@ -7,7 +7,7 @@ ghost use Rattle.lang_checks.specs.FaultOrder.{least_fault_from};
 ghost use Rattle.lang_checks.specs.Scopes.{typed_name, named_function};
 ghost use Rattle.lang_checks.specs.Expressions.{types_of};
 ghost use Rattle.lang_checks.specs.Operands.{same_types};
-ghost use Rattle.lang_checks.specs.Statements.{plain_scope, parameter_types, call_faults, binding_faults, stmt_faults, stmts_faults};
+ghost use Rattle.lang_checks.specs.Statements.{plain_scope, parameter_types, callee_faults, binding_faults, stmt_faults, stmts_faults};
 ghost use Rattle.lang_checks.specs.Views.{expression_scope_view, statement_context_view};
 
 use crate::duplicates::duplicate_faults;
@@ -75,7 +75,7 @@ fn check_callee(
     least: Option<ProgramFault>,
 ) -> Option<ProgramFault>
     ensures { result ≡ least_fault_from least
-        (call_faults around.now.me at types.now
+        (callee_faults around.now.me at types.now
         (named_function (statement_context_view around.now).functions name.now.text number)) }
 {
     match named_function(around.functions, name, number) {

@@ -11,7 +11,7 @@ use Rattle.lang_ast.specs.declared.syntax.Ident.{Ident}
 use Rattle.lang_ast.specs.declared.syntax.Operator.{Operator}
 use Rattle.lang_ast.specs.declared.syntax.Operator.TheVariants as operator
 use Rattle.lang_limits.specs.Tokens.{fits}
-use Rattle.lang_forms.specs.Names.{is_name, all_fit, is_string, is_list_long, number_of}
+use Rattle.lang_forms.specs.Names.{is_name, all_fit, is_string, is_list_long, number_of_name}
 use Rattle.lang_forms.specs.Words.{operator_word, takes}
 use Rattle.lang_forms.specs.Sketch.{Sketch, nothing, Fits}
 use Rattle.lang_forms.specs.Forms.{numbers, literal, expr_forms, exprs_forms, pairs_forms, stmt_forms, stmts_forms, literal_fits, KnownNames, Spelled, AllSpelled, SpelledPairs, site_after, site_after_all, SpelledStmt, SpelledStmts}
@@ -146,7 +146,7 @@ unfolding leaf_of
 truth_leaf at true = rw (truth_read true)
 truth_leaf at false = rw (truth_read false)
 
-get_read : (m : List (List ℕ)) (at a : ℕ) (n : Ident) → is_name n.text ≡ true → expr_form m at (seen_trees (atom a (codes "get") (atom n.at n.text empty))) ≡ Some (Get at n (number_of n.text m))
+get_read : (m : List (List ℕ)) (at a : ℕ) (n : Ident) → is_name n.text ≡ true → expr_form m at (seen_trees (atom a (codes "get") (atom n.at n.text empty))) ≡ Some (Get at n (number_of_name n.text m))
 unfolding expr_form get_form word_of
 get_read m at a n h = rw (name_there n empty h)
 
@@ -267,7 +267,7 @@ node_read m k at a p n ns b i f h read r = rw (name_there n (list p i f) h, read
 
 call_read : (m : KnownNames) (k at a : ℕ) (n : Ident) (es : Exprs) (f : Forest) → is_name n.text ≡ true
     → ReadsAll m.states f es →
-    stmt_form m k at (seen_trees (atom a (codes "call") (atom n.at n.text f))) ≡ Some (Call at k n (number_of n.text m.functions) es, k + 1)
+    stmt_form m k at (seen_trees (atom a (codes "call") (atom n.at n.text f))) ≡ Some (Call at k n (number_of_name n.text m.functions) es, k + 1)
 unfolding stmt_form call_form word_of
 call_read m k at a n es f h r = rw (name_there n f h, r.read, r.is)
 

@@ -7,7 +7,7 @@ use Rattle.rt_values.specs.declared.value.Value.{Value}
 use Rattle.rt_values.specs.declared.value.Value.TheVariants as value
 use Rattle.lang_ast.specs.Terms.{Expr, Literal, Variable, Get, Apply, Named, Stmt, If, exprs, stmts, operand_count}
 use Rattle.lang_ast.specs.declared.syntax.Ident.{Ident}
-use Rattle.lang_forms.specs.Names.{is_name, number_of}
+use Rattle.lang_forms.specs.Names.{is_name, number_of_name}
 use Rattle.lang_forms.specs.Words.{takes, operator_for_word}
 use Rattle.lang_forms.specs.Sketch.{Sketch, nothing, Fits}
 use Rattle.lang_forms.specs.Forms.{name, expr_forms, exprs_forms, pairs_forms, stmt_forms, stmts_forms, KnownNames, Spelled, AllSpelled, SpelledPairs, site_after, site_after_all, SpelledStmt, SpelledStmts, plain_fits}
@@ -122,7 +122,7 @@ get_found : (m : List (List ℕ)) (at : ℕ) (i : Forest) (e : Expr) (ss : List 
 unfolding get_form
 get_found m at i e ss w h =
     let n = bind_some (name_of ss) _ e h in
-    let c = cond_some (is_end n.0.1) (Get at n.0.0 (number_of n.0.0.text m)) e n.2 in
+    let c = cond_some (is_end n.0.1) (Get at n.0.0 (number_of_name n.0.0.text m)) e n.2 in
     let x = name_next w.rest ss n.0 w.behind n.1 in
     let over = end_next x.rest n.0.1 x.behind c.0 in
     subst (λ (d : Expr). ListExpr m at i d) c.1

@@ -18,7 +18,7 @@ use Rattle.lang_ast.specs.declared.script.StepForm.TheVariants as step
 use Rattle.lang_ast.specs.declared.script.ScriptForm.{ScriptForm}
 use Rattle.lang_ast.specs.declared.script.ScriptForm.TheVariants.{Once, Repeat}
 use Rattle.lang_limits.specs.Tokens.{fits}
-use Rattle.lang_forms.specs.Names.{is_name, number_of}
+use Rattle.lang_forms.specs.Names.{is_name, number_of_name}
 use Rattle.rt_values.specs.Keywords.{kind_word}
 use Rattle.lang_forms.specs.Sketch.{Sketch, nothing, Fits}
 use Rattle.lang_forms.specs.Forms.{name, snapshot_forms, call_forms, calls_forms, step_forms, steps_forms, actor_step_forms, actor_forms, is_snapshot, SpelledCall, SpelledCalls, SpelledStep, SpelledSteps, SpelledActorStep, SpelledActor}
@@ -119,19 +119,19 @@ unfolding plain_step_form word_of
 take_there m at a b n k p f h one = rw (take_inside at b n k p f h one)
 
 read_there : (m : List (List ℕ)) (at a : ℕ) (s : SnapshotRef) (n : Ident) (f : Forest) → StateFirst f s n nothing →
-    plain_step_form m at (seen_trees (atom a (codes "read") f)) ≡ Some (call.Read at s n (number_of n.text m))
+    plain_step_form m at (seen_trees (atom a (codes "read") f)) ≡ Some (call.Read at s n (number_of_name n.text m))
 unfolding plain_step_form read_form word_of
 read_there m at a s n f one = rw (one.read, one.behind)
 
 write_there : (m : List (List ℕ)) (at a : ℕ) (s : SnapshotRef) (n : Ident) (v : Value) (f : Forest) (g : Sketch)
     → (one : StateFirst f s n g) → First one.rest literal_at v nothing →
-    plain_step_form m at (seen_trees (atom a (codes "write") f)) ≡ Some (call.Write at s n (number_of n.text m) v)
+    plain_step_form m at (seen_trees (atom a (codes "write") f)) ≡ Some (call.Write at s n (number_of_name n.text m) v)
 unfolding plain_step_form write_form word_of
 write_there m at a s n v f g one x = rw (one.read, literal_there v one.rest nothing x, x.behind)
 
 add_there : (m : List (List ℕ)) (at a b : ℕ) (s : SnapshotRef) (n : Ident) (z : ℤ) (f : Forest) (g : Sketch)
     → fits z ≡ true → (one : StateFirst f s n g) → one.rest ≡ atom b (signed_decimal z) empty →
-    plain_step_form m at (seen_trees (atom a (codes "add") f)) ≡ Some (call.Add at s n (number_of n.text m) z)
+    plain_step_form m at (seen_trees (atom a (codes "add") f)) ≡ Some (call.Add at s n (number_of_name n.text m) z)
 unfolding plain_step_form add_form word_of
 add_there m at a b s n z f g fit one is =
     let there : number_of_first (seen_trees one.rest) ≡ Some (z, []) =

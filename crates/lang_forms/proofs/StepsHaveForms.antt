@@ -12,7 +12,7 @@ use Rattle.lang_ast.specs.declared.script.StepForm.{StepForm}
 use Rattle.lang_ast.specs.declared.script.StepForm.TheVariants as step
 use Rattle.lang_ast.specs.declared.script.ScriptForm.{ScriptForm}
 use Rattle.lang_ast.specs.declared.script.ScriptForm.TheVariants.{Once}
-use Rattle.lang_forms.specs.Names.{is_name, number_of}
+use Rattle.lang_forms.specs.Names.{is_name, number_of_name}
 use Rattle.lang_forms.specs.Sketch.{Sketch, nothing, Fits}
 use Rattle.lang_forms.specs.Forms.{name, snapshot_forms, call_forms, calls_forms, step_forms, steps_forms, actor_step_forms, actor_forms, is_snapshot, SpelledCall, SpelledCalls, SpelledStep, SpelledSteps, SpelledActorStep, SpelledActor}
 use Rattle.lang_forms.specs.Words.{kind_for_word}
@@ -111,7 +111,7 @@ unfolding read_form
 read_found m at i c ss w h =
     let x = bind_some (state_in_snapshot ss) _ c h in
     let y = in_snapshot w.rest ss x.0 w.behind x.1 in
-    let made : CallForm = call.Read at x.0.0.0 x.0.0.1 (number_of x.0.0.1.text m) in
+    let made : CallForm = call.Read at x.0.0.0 x.0.0.1 (number_of_name x.0.0.1.text m) in
     let d = cond_some (is_end x.0.1) made c x.2 in
     let over = end_next y.rest x.0.1 y.behind d.0 in
     subst (λ (q : CallForm). CallFits m at i q) d.1 (record {
@@ -126,7 +126,7 @@ write_found m at i c ss w h =
     let y = in_snapshot w.rest ss x.0 w.behind x.1 in
     let v = bind_some (literal_of x.0.1) _ c x.2 in
     let z = literal_next y.rest x.0.1 v.0 y.behind v.1 in
-    let made : CallForm = call.Write at x.0.0.0 x.0.0.1 (number_of x.0.0.1.text m) v.0.0 in
+    let made : CallForm = call.Write at x.0.0.0 x.0.0.1 (number_of_name x.0.0.1.text m) v.0.0 in
     let d = cond_some (is_end v.0.1) made c v.2 in
     let over = end_next (tail y.rest) v.0.1 z.behind d.0 in
     subst (λ (q : CallForm). CallFits m at i q) d.1 (record {
@@ -141,7 +141,7 @@ add_found m at i c ss w h =
     let y = in_snapshot w.rest ss x.0 w.behind x.1 in
     let v = bind_some (number_of_first x.0.1) _ c x.2 in
     let z = number_next y.rest x.0.1 v.0 y.behind v.1 in
-    let made : CallForm = call.Add at x.0.0.0 x.0.0.1 (number_of x.0.0.1.text m) v.0.0 in
+    let made : CallForm = call.Add at x.0.0.0 x.0.0.1 (number_of_name x.0.0.1.text m) v.0.0 in
     let d = cond_some (is_end v.0.1) made c v.2 in
     let over = end_next z.rest v.0.1 z.behind d.0 in
     subst (λ (q : CallForm). CallFits m at i q) d.1 (record {

@@ -19,7 +19,7 @@ use Rattle.lang_ast.specs.declared.script.ScriptForm.{ScriptForm}
 use Rattle.lang_ast.specs.declared.script.ScriptForm.TheVariants.{Once, Repeat}
 use Rattle.lang_ast.specs.declared.script.DoForm.{DoForm}
 use Rattle.lang_limits.specs.Tokens.{fits}
-use Rattle.lang_forms.specs.Names.{is_name, all_fit, is_string, is_list_long, number_of}
+use Rattle.lang_forms.specs.Names.{is_name, all_fit, is_string, is_list_long, number_of_name}
 use Rattle.rt_values.specs.Keywords.{kind_word, type_word}
 use Rattle.lang_forms.specs.Words.{policy_word, operator_word, takes}
 use Rattle.lang_forms.specs.Sketch.{Sketch, nothing, leaf, numeral, string, group, sequence, Fits, FitsUnlimited}
@@ -199,7 +199,7 @@ abbrev mutual
   pub Spelled : List (List ℕ) → Expr → Type 0
   Spelled m (Literal at v) = plain_fits v ≡ true
   Spelled m (Variable n) = is_name n.text ≡ true
-  Spelled m (Get at n number) = (is_name n.text ≡ true) × (number ≡ number_of n.text m)
+  Spelled m (Get at n number) = (is_name n.text ≡ true) × (number ≡ number_of_name n.text m)
   Spelled m (Apply at operator es) = (takes operator (operand_count es) ≡ true) × AllSpelled m es
 
   pub AllSpelled : List (List ℕ) → Exprs → Type 0
@@ -231,7 +231,7 @@ abbrev mutual
   SpelledStmt m k (Node at site n ns body) = (site ≡ k) × (is_name n.text ≡ true) × SpelledPairs m.states ns
       × SpelledStmts m (k + 1) body
   SpelledStmt m k (Call at site n function es) = (site ≡ k) × (is_name n.text ≡ true)
-      × (function ≡ number_of n.text m.functions) × AllSpelled m.states es
+      × (function ≡ number_of_name n.text m.functions) × AllSpelled m.states es
   SpelledStmt m k (Key at site e body) = (site ≡ k) × Spelled m.states e × SpelledStmts m (k + 1) body
   SpelledStmt m k (If at site e a b) = (site ≡ k) × Spelled m.states e × SpelledStmts m (k + 1) a
       × SpelledStmts m (site_after_all (k + 1) a) b
@@ -281,11 +281,11 @@ is_snapshot (NamedSnapshot n) = is_name n.text
 abbrev pub SpelledCall : List (List ℕ) → CallForm → Type 0
 SpelledCall m (call.Take at n kind parent) = (is_name n.text ≡ true) × (is_snapshot parent ≡ true)
 SpelledCall m (call.Read at snapshot n object) = (is_snapshot snapshot ≡ true) × (is_name n.text ≡ true)
-    × (object ≡ number_of n.text m)
+    × (object ≡ number_of_name n.text m)
 SpelledCall m (call.Write at snapshot n object v) = (is_snapshot snapshot ≡ true) × (is_name n.text ≡ true)
-    × (object ≡ number_of n.text m) × (literal_fits v ≡ true)
+    × (object ≡ number_of_name n.text m) × (literal_fits v ≡ true)
 SpelledCall m (call.Add at snapshot n object amount) = (is_snapshot snapshot ≡ true) × (is_name n.text ≡ true)
-    × (object ≡ number_of n.text m) × (fits amount ≡ true)
+    × (object ≡ number_of_name n.text m) × (fits amount ≡ true)
 SpelledCall m (call.Apply at snapshot) = is_snapshot snapshot ≡ true
 SpelledCall m (call.Dispose at snapshot) = is_snapshot snapshot ≡ true
 

@@ -39,5 +39,5 @@ number_in n [] = 0
 number_in n (m ∷ ms) = if bytes_eq m n then 0 else suc (number_in n ms)
 
 -- The number of a name, which is searched among the first 256: a program may have as many.
-abbrev pub number_of : List ℕ → List (List ℕ) → ℕ
-number_of n ms = number_in n (take most_forms ms)
+abbrev pub number_of_name : List ℕ → List (List ℕ) → ℕ
+number_of_name n ms = number_in n (take most_forms ms)

@@ -22,7 +22,7 @@ use Rattle.lang_ast.specs.declared.script.ScriptForm.{ScriptForm}
 use Rattle.lang_ast.specs.declared.script.ScriptForm.TheVariants.{Once, Repeat}
 use Rattle.lang_ast.specs.declared.script.DoForm.{DoForm}
 use Rattle.lang_limits.specs.Tokens.{fits}
-use Rattle.lang_forms.specs.Names.{is_name, is_string, is_list_long, number_of}
+use Rattle.lang_forms.specs.Names.{is_name, is_string, is_list_long, number_of_name}
 use Rattle.lang_forms.specs.Words.{type_for_word, policy_for_word, kind_for_word, operator_for_word, takes}
 use Rattle.lang_forms.specs.Forms.{KnownNames}
 
@@ -177,7 +177,7 @@ exprs_of m (s ∷ ss) = expr_at m s >>= λ e. option_map (λ es. e ∷ es) (expr
 unfoldable pub get_form : List (List ℕ) → ℕ → List Seen → Option Expr
 get_form m at ss = do
   n ← name_of ss
-  when (is_end n.1) (Get at n.0 (number_of n.0.text m))
+  when (is_end n.1) (Get at n.0 (number_of_name n.0.text m))
 
 -- `OPERATOR EXPR..`
 unfoldable pub apply_form : List (List ℕ) → ℕ → List Seen → Option Expr
@@ -258,7 +258,7 @@ unfoldable pub call_form : KnownNames → ℕ → ℕ → List Seen → Option (
 call_form m k at ss = do
   n ← name_of ss
   es ← exprs_of m.states n.1
-  Some (Call at k n.0 (number_of n.0.text m.functions) (exprs es), k + 1)
+  Some (Call at k n.0 (number_of_name n.0.text m.functions) (exprs es), k + 1)
 
 -- `EXPR STMT..` after the word `key`.
 unfoldable pub key_form : KnownNames → ℕ → ℕ → List Seen → Option (Stmt × ℕ)
@@ -333,21 +333,21 @@ take_form at ss = do
 unfoldable pub read_form : List (List ℕ) → ℕ → List Seen → Option CallForm
 read_form m at ss = do
   x ← state_in_snapshot ss
-  when (is_end x.1) (call.Read at x.0.0 x.0.1 (number_of x.0.1.text m))
+  when (is_end x.1) (call.Read at x.0.0 x.0.1 (number_of_name x.0.1.text m))
 
 -- `SNAP NAME LITERAL` after the word `write`.
 unfoldable pub write_form : List (List ℕ) → ℕ → List Seen → Option CallForm
 write_form m at ss = do
   x ← state_in_snapshot ss
   v ← literal_of x.1
-  when (is_end v.1) (call.Write at x.0.0 x.0.1 (number_of x.0.1.text m) v.0)
+  when (is_end v.1) (call.Write at x.0.0 x.0.1 (number_of_name x.0.1.text m) v.0)
 
 -- `SNAP NAME INT` after the word `add`.
 unfoldable pub add_form : List (List ℕ) → ℕ → List Seen → Option CallForm
 add_form m at ss = do
   x ← state_in_snapshot ss
   z ← number_of_first x.1
-  when (is_end z.1) (call.Add at x.0.0 x.0.1 (number_of x.0.1.text m) z.0)
+  when (is_end z.1) (call.Add at x.0.0 x.0.1 (number_of_name x.0.1.text m) z.0)
 
 -- `SNAP` after the word `apply`, or `dispose`.
 unfoldable pub only_snapshot : List Seen → Option SnapshotRef

@@ -1,7 +1,7 @@
 // The names that a form may use.
 ghost use Rattle.std.specs.Prelude.{◌≡◌, map};
 ghost use Rattle.lang_ast.specs.SyntaxView.{functions_view};
-ghost use Rattle.lang_forms.specs.Names.{number_in, number_of};
+ghost use Rattle.lang_forms.specs.Names.{number_in, number_of_name};
 ghost use Rattle.lang_forms.specs.Forms.{function_name};
 ghost use Rattle.lang_forms.specs.Views.{state_names};
 
@@ -30,7 +30,7 @@ fn state_among(states: &[State], name: &Word) -> usize
 
 // Returns the index of the first state with the name among as many as a program may have, or their number.
 pub fn state_number(states: &[State], name: &Word) -> usize
-    ensures { result ≡ number_of name.now (state_names states.now) }
+    ensures { result ≡ number_of_name name.now (state_names states.now) }
 {
     state_among(&states[..states.len().min(MOST_FORMS)], name)
 }
@@ -49,7 +49,7 @@ fn function_among(functions: &[Function], name: &Word) -> usize
 
 // Returns the index of the first function with the name among as many as a program may have, or their number.
 pub fn function_number(functions: &[Function], name: &Word) -> usize
-    ensures { result ≡ number_of name.now (map function_name (functions_view functions.now)) }
+    ensures { result ≡ number_of_name name.now (map function_name (functions_view functions.now)) }
 {
     function_among(&functions[..functions.len().min(MOST_FORMS)], name)
 }

@@ -7,8 +7,8 @@ use Rattle.rt_groups.specs.Nodes as tree
 use Rattle.recompose_laws.specs.Distinct.{how_often}
 use Rattle.recompose_laws.specs.Distinct.{has_number as has_group_number}
 use Rattle.node_tree.specs.NodeTrees.{node_list}
-use Rattle.node_tree.specs.Placing.{has_number}
-use Rattle.node_tree.specs.Premises.{AreDistinct as SiblingsAreDistinct}
+use Rattle.node_tree.specs.Placing.{lists_number}
+use Rattle.node_tree.specs.Premises.{AllDistinct as SiblingsAreDistinct}
 use Rattle.node_laws.specs.FollowingTrees.{KeptTreeIsDistinct}
 
 -- The count of nodes with the number.
@@ -36,12 +36,12 @@ often_same x (Group site n what inside rest) =
     omega (arith, here, later, apart)
 
 -- A number of a list occurs.
-has_occurs : (x : ℕ) (n : Nodes) → has_number x (node_list n) ≡ true → 1 ≤ nodes_often x n
+has_occurs : (x : ℕ) (n : Nodes) → lists_number x (node_list n) ≡ true → 1 ≤ nodes_often x n
 has_occurs x tree.None h = absurd (false≢true h)
 has_occurs x (Branch n kind attributes children rest) h = by (n == x) h (λ g. has_occurs x rest g)
   where
-    by : (b : Bool) → (b || has_number x (node_list rest)) ≡ true
-        → (has_number x (node_list rest) ≡ true → 1 ≤ nodes_often x rest)
+    by : (b : Bool) → (b || lists_number x (node_list rest)) ≡ true
+        → (lists_number x (node_list rest) ≡ true → 1 ≤ nodes_often x rest)
         → 1 ≤ (if b then 1 else 0) + (nodes_often x children + nodes_often x rest)
     by true h go = omega arith
     by false h go = let later = go h in omega (arith, later)
@@ -49,7 +49,7 @@ has_occurs x (Branch n kind attributes children rest) h = by (n == x) h (λ g. h
 siblings_distinct : (n : Nodes) → ((x : ℕ) → nodes_often x n ≤ 1) → SiblingsAreDistinct n
 siblings_distinct tree.None h = tt
 siblings_distinct (Branch n kind attributes children rest) h = (
-  elim (cases_Bool (has_number n (node_list rest))) [
+  elim (cases_Bool (lists_number n (node_list rest))) [
     | inl has ↦
         let one = has_occurs n rest has in
         let most = h n in

@@ -3,7 +3,7 @@ use Rattle.std.proofs.Common.{ℕ, zero, suc, ◌<◌, ◌≤◌, ◌==◌, ◌�
 use Rattle.std.proofs.lemmas.Bool.Decides.{eqb_tells}
 use Rattle.rt_groups.specs.GroupForest.{GroupForest, End, Read, Group, GroupKind, is_node}
 use Rattle.rt_groups.specs.Paths.{GroupKey, sibling, same_sibling, occurrence, Found, nth, matching_sibling, inside_of}
-use Rattle.rt_groups.specs.Frames.{number_for, number_of}
+use Rattle.rt_groups.specs.Frames.{number_for, given_number}
 use Rattle.compose_model.specs.Composing.{forest}
 use Rattle.recompose_laws.specs.Numbering.{numbered_by_siblings}
 use Rattle.recompose_laws.specs.Distinct.{has_number, how_often, NodesAt}
@@ -47,7 +47,7 @@ module _ (at_site : ℕ → Bool) (x : ℕ) where
   -- A group does not get the number.
   number_free : (site : ℕ) (what : GroupKind) (s : GroupKey) (u : GroupForest) (o : Option Found) (next : ℕ) → x < next
       → s.site ≡ site → is_node what ≡ at_site site → IsFound at_site s u o → IsFree x o
-      → has_number x (number_of what o next).0 what ≡ 0
+      → has_number x (given_number what o next).0 what ≡ 0
   number_free site what s u None next low same at f free = by (is_node what)
     where
       by : (b : Bool) → one_if (b && ((if b then number_for None next else (0, next)).0 == x)) ≡ 0
@@ -70,7 +70,7 @@ module _ (at_site : ℕ → Bool) (x : ℕ) where
       let found : Option Found = matching_sibling s (occurrence s seen) u in
       let f = found_in at_site s (occurrence s seen) u g in
       let free = found_free x s (occurrence s seen) u none in
-      let first = (number_of what found next).1 in
+      let first = (given_number what found next).1 in
       let within = (numbered_by_siblings (inside_of found) [] first inside).1 in
       let own = number_rises what found next in
       let deep = next_rises (inside_of found) [] first inside in

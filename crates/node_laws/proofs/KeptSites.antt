@@ -5,7 +5,7 @@ use Rattle.std.proofs.lemmas.Bool.{and_parts, eqb-true}
 use Rattle.rt_values.specs.Values.{same_value}
 use Rattle.rt_groups.specs.GroupForest.{GroupForest, End, Read, Group, GroupKind, is_node}
 use Rattle.rt_groups.specs.Paths.{GroupKey, sibling, same_sibling, occurrence, Found, nth, matching_sibling, inside_of}
-use Rattle.rt_groups.specs.Frames.{number_for, number_of, numbered_forest}
+use Rattle.rt_groups.specs.Frames.{number_for, given_number, numbered_forest}
 use Rattle.recompose_laws.specs.Numbering.{numbered_by_siblings}
 use Rattle.recompose_laws.specs.Distinct.{has_number, how_often, AreDistinct, NodesAt}
 use Rattle.recompose_laws.proofs.Numbers.{path_numbers_are_sibling_numbers}
@@ -151,7 +151,7 @@ found_sites at_site s u (Some g) f = f.sites
 
 -- Unused numbers rise.
 
-pub number_rises : (what : GroupKind) (o : Option Found) (next : ℕ) → next ≤ (number_of what o next).1
+pub number_rises : (what : GroupKind) (o : Option Found) (next : ℕ) → next ≤ (given_number what o next).1
 number_rises what o next = by (is_node what) o
   where
     by : (b : Bool) (o : Option Found) → next ≤ (if b then number_for o next else (0, next)).1
@@ -165,7 +165,7 @@ next_rises old seen next End = omega arith
 next_rises old seen next (Read y rest) = next_rises old seen next rest
 next_rises old seen next (Group site n what inside rest) =
     let found = matching_sibling (sibling site what) (occurrence (sibling site what) seen) old in
-    let first = (number_of what found next).1 in
+    let first = (given_number what found next).1 in
     let within = (numbered_by_siblings (inside_of found) [] first inside).1 in
     let own = number_rises what found next in
     let deep = next_rises (inside_of found) [] first inside in
@@ -183,16 +183,16 @@ module _ (at_site : ℕ → Bool) (w : GroupForest) (k : ℕ) (distinct : AreDis
   -- The number that a node gets is unused, or that of the old node at its site.
   number_kept : (site : ℕ) (what : GroupKind) (s : GroupKey) (u : GroupForest) (o : Option Found) (next : ℕ)
       → s.site ≡ site → k ≤ next → is_node what ≡ at_site site → IsPart u w → IsFound at_site s u o
-      → is_node what ≡ true → IsOnlyAt (number_of what o next).0 site w
+      → is_node what ≡ true → IsOnlyAt (given_number what o next).0 site w
   number_kept site what s u None next same low at part f node =
-      let is : (number_of what None next).0 ≡ next =
+      let is : (given_number what None next).0 ≡ next =
       ap {B = ℕ} (λ b. (if b then number_for None next else (0, next)).0) node in
       let none = (distinct next).1 low in
       let few = elsewhere_is_some next site w in
       subst (λ (x : ℕ). IsOnlyAt x site w) (sym is) (only_at next site w (omega (arith, none, few)))
   number_kept site what s u (Some g) next same low at part f node =
       let x : ℕ = g.number in
-      let is : (number_of what (Some g) next).0 ≡ x =
+      let is : (given_number what (Some g) next).0 ≡ x =
       ap {B = ℕ} (λ b. (if b then number_for (Some g) next else (0, next)).0) node in
       let old_node : is_node g.what ≡ true = f.is_node_at ∙ ap at_site same ∙ sym at ∙ node in
       let counts : has_number x g.number g.what ≡ 1 = ap {B = ℕ} (λ b. if b && (x == x) then 1 else 0) old_node
@@ -211,7 +211,7 @@ module _ (at_site : ℕ → Bool) (w : GroupForest) (k : ℕ) (distinct : AreDis
       let s : GroupKey = sibling site what in
       let found : Option Found = matching_sibling s (occurrence s seen) u in
       let f = found_in at_site s (occurrence s seen) u g in
-      let first = (number_of what found next).1 in
+      let first = (given_number what found next).1 in
       let within = (numbered_by_siblings (inside_of found) [] first inside).1 in
       let own = number_rises what found next in
       let deep = next_rises (inside_of found) [] first inside in (

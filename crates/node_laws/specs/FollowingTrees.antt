@@ -11,7 +11,7 @@ use Rattle.lang_checks.specs.ProgramFaults.{program_faults}
 use Rattle.compose_model.specs.Composing.{forest}
 use Rattle.recompose_laws.specs.Numbering.{without_numbers}
 use Rattle.recompose_laws.specs.Distinct.{how_often, AreDistinct}
-use Rattle.node_tree.specs.Premises.{CanFollow, AreDistinct as SiblingsAreDistinct}
+use Rattle.node_tree.specs.Premises.{CanFollow, AllDistinct as SiblingsAreDistinct}
 
 -- A forest that a composition keeps: none, or the one that composing in a map makes, except for node numbers.
 abbrev pub WasComposed : List Func → ℕ → GroupForest → Type 0

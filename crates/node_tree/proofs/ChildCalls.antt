@@ -10,7 +10,7 @@ use Rattle.gap_buffer.specs.Buffer.{list_after_move, exchanged_list}
 use Rattle.node_tree.specs.declared.ops.Op.TheVariants as op
 use Rattle.node_tree.specs.NodeTrees.{TreeNode, tree_node, OpenNode}
 use Rattle.node_tree.specs.Calls.{attribute_of, inserted_node}
-use Rattle.node_tree.specs.Placing.{has_number, numbered_node, index_of, nodes_without, removals, staying_nodes, move_to, new_node, arrangements, child_calls}
+use Rattle.node_tree.specs.Placing.{lists_number, numbered_node, node_index, nodes_without, removals, staying_nodes, move_to, new_node, arrangements, child_calls}
 use Rattle.node_tree.specs.Premises.{HaveDistinctNumbers}
 use Rattle.node_tree.proofs.Turning.{Turns, tree, none_turns, one_turns, then_turns, turns_from, turns_to, children_same}
 use Rattle.node_tree.proofs.Numbers.{has_is_some, split_at_number, other_numbered, still_has, distinct_without, gone_without, stays, staying_is_new, distinct_staying}
@@ -37,7 +37,7 @@ removals_turn (o ∷ old) new done os index e =
     then_turns _ _ _ _ _
     (turns_from _ _ _ _ (children_same _ _ os (sym (pushed done o old)))
     (removals_turn old new (done ++ o ∷ []) os (index + 1) (pushed_length done o index e)))
-    (turns_from _ _ _ _ (children_same _ _ os (pushed done o (staying_nodes new old))) (by (has_number o.number new)))
+    (turns_from _ _ _ _ (children_same _ _ os (pushed done o (staying_nodes new old))) (by (lists_number o.number new)))
   where
     by : (b : Bool) → Turns (tree (done ++ (o ∷ staying_nodes new old)) os) (if b then [] else op.Remove index 1 ∷ [])
         (tree (done ++ cond b (o ∷ staying_nodes new old) (staying_nodes new old)) os)
@@ -114,45 +114,45 @@ move_turns (y ∷ before) done after x os index e =
 
 -- The remaining old children when the rest of the new children is to be placed.
 pub record Left (old rest new : List TreeNode) : Type 0 where
-  pub same : (j : ℕ) → has_number j new ≡ true → numbered_node j rest ≡ numbered_node j old
-  pub all : (j : ℕ) → has_number j rest ≡ true → has_number j new ≡ true
+  pub same : (j : ℕ) → lists_number j new ≡ true → numbered_node j rest ≡ numbered_node j old
+  pub all : (j : ℕ) → lists_number j rest ≡ true → lists_number j new ≡ true
   pub distinct : HaveDistinctNumbers rest
 
-pub has_first : (n : TreeNode) (ns : List TreeNode) → has_number n.number (n ∷ ns) ≡ true
-has_first n ns = ap (λ (b : Bool). b || has_number n.number ns) (eq-eqb n.number n.number refl)
+pub has_first : (n : TreeNode) (ns : List TreeNode) → lists_number n.number (n ∷ ns) ≡ true
+has_first n ns = ap (λ (b : Bool). b || lists_number n.number ns) (eq-eqb n.number n.number refl)
 
-has_later : (j : ℕ) (n : TreeNode) (ns : List TreeNode) → has_number j ns ≡ true → has_number j (n ∷ ns) ≡ true
+has_later : (j : ℕ) (n : TreeNode) (ns : List TreeNode) → lists_number j ns ≡ true → lists_number j (n ∷ ns) ≡ true
 has_later j n ns h = by (n.number == j)
   where
-    by : (b : Bool) → (b || has_number j ns) ≡ true
+    by : (b : Bool) → (b || lists_number j ns) ≡ true
     by true = refl
     by false = h
 
-has_rest : (j : ℕ) (n : TreeNode) (ns : List TreeNode) → (n.number ≡ j → ⊥) → has_number j (n ∷ ns) ≡ true
-    → has_number j ns ≡ true
-has_rest j n ns ne h = sym (ap (λ (b : Bool). b || has_number j ns) (ne_eqb n.number j ne)) ∙ h
+has_rest : (j : ℕ) (n : TreeNode) (ns : List TreeNode) → (n.number ≡ j → ⊥) → lists_number j (n ∷ ns) ≡ true
+    → lists_number j ns ≡ true
+has_rest j n ns ne h = sym (ap (λ (b : Bool). b || lists_number j ns) (ne_eqb n.number j ne)) ∙ h
 
-not_here : (j : ℕ) (n : TreeNode) (ns : List TreeNode) → has_number n.number ns ≡ false → has_number j ns ≡ true
+not_here : (j : ℕ) (n : TreeNode) (ns : List TreeNode) → lists_number n.number ns ≡ false → lists_number j ns ≡ true
     → n.number ≡ j → ⊥
-not_here j n ns lacks h e = true≢false (sym h ∙ ap (λ (i : ℕ). has_number i ns) (sym e) ∙ lacks)
+not_here j n ns lacks h e = true≢false (sym h ∙ ap (λ (i : ℕ). lists_number i ns) (sym e) ∙ lacks)
 
-pub left_after_move : (old rest new : List TreeNode) (n : TreeNode) → has_number n.number new ≡ false
+pub left_after_move : (old rest new : List TreeNode) (n : TreeNode) → lists_number n.number new ≡ false
     → Left old rest (n ∷ new) → Left old (nodes_without n.number rest) new
 left_after_move old rest new n lacks left = record {
   same = λ j h. other_numbered n.number j rest (not_here j n new lacks h) ∙ left.same j (has_later j n new h);
   all = λ j h. has_rest j n new
-      (λ e. true≢false (sym h ∙ ap (λ (i : ℕ). has_number i (nodes_without n.number rest)) (sym e)
+      (λ e. true≢false (sym h ∙ ap (λ (i : ℕ). lists_number i (nodes_without n.number rest)) (sym e)
       ∙ gone_without n.number rest left.distinct))
       (left.all j (still_has n.number j rest h));
   distinct = distinct_without n.number rest left.distinct;
 }
 
-pub left_after_insert : (old rest new : List TreeNode) (n : TreeNode) → has_number n.number old ≡ false
+pub left_after_insert : (old rest new : List TreeNode) (n : TreeNode) → lists_number n.number old ≡ false
     → Left old rest (n ∷ new) → Left old rest new
 left_after_insert old rest new n lacks left = record {
   same = λ j h. left.same j (has_later j n new h);
   all = λ j h. has_rest j n new
-      (λ e. true≢false (sym h ∙ ap (λ (i : ℕ). has_number i rest) (sym e) ∙ has_is_some n.number rest
+      (λ e. true≢false (sym h ∙ ap (λ (i : ℕ). lists_number i rest) (sym e) ∙ has_is_some n.number rest
       ∙ ap (λ (o : Option TreeNode). is_some o) (left.same n.number (has_first n new))
       ∙ sym (has_is_some n.number old) ∙ lacks))
       (left.all j h);
@@ -173,31 +173,31 @@ arrangements_turn : (new old rest done : List TreeNode) (os : List OpenNode) (in
 arrangements_turn [] old rest done os index e d left =
     none_turns _ _ (children_same _ _ os (ap (λ l. done ++ l) (none_left old rest left)))
 arrangements_turn (n ∷ new) old rest done os index e d left =
-    by (has_number n.number old) refl
+    by (lists_number n.number old) refl
     (λ x rest left. turns_from _ _ _ _ (children_same _ _ os (sym (pushed done x rest)))
     (turns_to _ _ _ _ (children_same _ _ os (pushed done x (map (started old) new)))
     (arrangements_turn new old rest (done ++ x ∷ []) os (index + 1) (pushed_length done x index e) d.1 left)))
   where
     Goal : Bool → Type 0
     Goal b = Turns (tree (done ++ rest) os)
-        (if b then move_to index (index_of n.number rest) ++ arrangements (index + 1) old
+        (if b then move_to index (node_index n.number rest) ++ arrangements (index + 1) old
         (nodes_without n.number rest) new
         else op.InsertTopDown index (new_node n) ∷ arrangements (index + 1) old rest new)
         (tree (done ++ (started old n ∷ map (started old) new)) os)
 
-    by : (b : Bool) → has_number n.number old ≡ b
+    by : (b : Bool) → lists_number n.number old ≡ b
         → ((x : TreeNode) (rest : List TreeNode) → Left old rest new
         → Turns (tree (done ++ (x ∷ rest)) os) (arrangements (index + 1) old rest new)
         (tree (done ++ (x ∷ map (started old) new)) os))
         → Goal b
     by true is go =
         let found : numbered_node n.number rest ≡ numbered_node n.number old = left.same n.number (has_first n new) in
-        let there : has_number n.number rest ≡ true =
+        let there : lists_number n.number rest ≡ true =
         has_is_some n.number rest ∙ ap (λ (o : Option TreeNode). is_some o) found
         ∙ sym (has_is_some n.number old) ∙ is in
         let s = split_at_number n.number rest there in
         let start : started old n ≡ s.node = ap (λ (o : Option TreeNode). started_as o n) (sym found ∙ s.found) in
-        let first : Turns (tree (done ++ rest) os) (move_to index (index_of n.number rest))
+        let first : Turns (tree (done ++ rest) os) (move_to index (node_index n.number rest))
         (tree (done ++ (s.node ∷ nodes_without n.number rest)) os) =
         turns_from _ _ _ _ (children_same _ _ os (ap (λ l. done ++ l) s.whole))
         (turns_to _ _ _ _ (children_same _ _ os (ap (λ l. done ++ (s.node ∷ l)) (sym s.left)))

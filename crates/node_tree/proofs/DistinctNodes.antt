@@ -4,18 +4,18 @@ use Rattle.rt_groups.specs.Nodes.{Nodes, Branch}
 use Rattle.rt_groups.specs.Nodes as nodes
 use Rattle.node_tree.specs.NodeTrees.{TreeNode, node_list}
 use Rattle.node_tree.specs.Placing.{numbered_node, children_since}
-use Rattle.node_tree.specs.Premises.{HaveDistinctNumbers, AreDistinct, ChildrenAreDistinct}
+use Rattle.node_tree.specs.Premises.{HaveDistinctNumbers, AllDistinct, ChildrenAreDistinct}
 
-pub distinct_list : (n : Nodes) → AreDistinct n → HaveDistinctNumbers (node_list n)
+pub distinct_list : (n : Nodes) → AllDistinct n → HaveDistinctNumbers (node_list n)
 distinct_list nodes.None d = tt
 distinct_list (Branch number kind attributes children rest) d = (d.0, distinct_list rest d.2)
 
 -- The children of each node of a list have distinct numbers at every level.
 abbrev pub EachIsDistinct : List TreeNode → Type 0
 EachIsDistinct [] = Unit {0}
-EachIsDistinct (t ∷ ts) = AreDistinct t.children × EachIsDistinct ts
+EachIsDistinct (t ∷ ts) = AllDistinct t.children × EachIsDistinct ts
 
-pub each_distinct : (n : Nodes) → AreDistinct n → EachIsDistinct (node_list n)
+pub each_distinct : (n : Nodes) → AllDistinct n → EachIsDistinct (node_list n)
 each_distinct nodes.None d = tt
 each_distinct (Branch number kind attributes children rest) d = (d.1, each_distinct rest d.2)
 

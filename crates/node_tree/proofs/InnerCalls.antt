@@ -7,7 +7,7 @@ use Rattle.rt_groups.specs.Nodes.{Nodes, Branch}
 use Rattle.rt_groups.specs.Nodes as nodes
 use Rattle.node_tree.specs.NodeTrees.{TreeNode, tree_node, node_list, OpenNode}
 use Rattle.node_tree.specs.Placing.{numbered_node, child_calls, sets_since, children_since, calls_inside, inner_calls}
-use Rattle.node_tree.specs.Premises.{HaveDistinctNumbers, HaveDistinctNames, KeepsShape, AreDistinct, KeepShapes, OpsTurnTheOldTreeIntoTheNew}
+use Rattle.node_tree.specs.Premises.{HaveDistinctNumbers, HaveDistinctNames, KeepsShape, AllDistinct, KeepShapes, OpsTurnTheOldTreeIntoTheNew}
 use Rattle.node_tree.proofs.Turning.{Turns, tree, opened, none_turns, then_turns, turns_from, turns_to, children_same, inside_turns}
 use Rattle.node_tree.proofs.ChildCalls.{started, started_as, child_calls_turn}
 use Rattle.node_tree.proofs.SetCalls.{set_calls_turn}
@@ -55,7 +55,7 @@ completed (Some o) number kind attributes children done more os index e is shape
     (inner (opened done o.number o.kind attributes more os)))))
 
 inner_calls_turn : (new : Nodes) (old done : List TreeNode) (os : List OpenNode) (index : ℕ) → length done ≡ index
-    → EachIsDistinct old → AreDistinct new → KeepShapes old new
+    → EachIsDistinct old → AllDistinct new → KeepShapes old new
     → Turns (tree (done ++ map (started old) (node_list new)) os) (inner_calls index old new)
     (tree (done ++ node_list new) os)
 inner_calls_turn nodes.None old done os index e each distinct shapes = none_turns _ _ refl

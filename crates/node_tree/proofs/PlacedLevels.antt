@@ -8,7 +8,7 @@ use Rattle.node_tree.specs.declared.ops.Op.{Op}
 use Rattle.node_tree.specs.declared.ops.Op.TheVariants as op
 use Rattle.node_tree.specs.NodeTrees.{TreeNode, node_list}
 use Rattle.node_tree.specs.Placing.{numbered_node, sets_since, children_since, calls_inside, inner_calls, ops_between}
-use Rattle.node_tree.specs.Premises.{AreDistinct, ChildrenAreDistinct}
+use Rattle.node_tree.specs.Premises.{AllDistinct, ChildrenAreDistinct}
 use Rattle.node_tree.specs.FlatNodes.{FlatNode, flat_node, flat_nodes}
 use Rattle.node_tree.specs.SiblingLists.{sibling_list, siblings_of, index_in, sibling_calls, flat_before, nodes_from, part, part_of}
 use Rattle.node_tree.proofs.DistinctNodes.{distinct_list, each_distinct, found_distinct}
@@ -21,7 +21,7 @@ pub listed : (n : Nodes) (list : List FlatNode) (siblings items : List Sibling) 
 listed n list siblings items e f g = f ∙ g ∙ ap (λ l. sibling_list 0 0 l) e ∙ siblings_are n
 
 pub level_begins : (o n : Nodes) (so sn : List Sibling) (new : List FlatNode) (before now : List Op)
-    → so ≡ siblings_of 0 o → sn ≡ siblings_of 0 n → new ≡ flat_nodes n → AreDistinct o → AreDistinct n
+    → so ≡ siblings_of 0 o → sn ≡ siblings_of 0 n → new ≡ flat_nodes n → AllDistinct o → AllDistinct n
     → now ≡ before ++ sibling_calls so sn new
     → now ++ inner_calls 0 (node_list o) n ≡ before ++ ops_between (node_list o) n
 level_begins o n so sn new before now e f g d h is =
@@ -31,7 +31,7 @@ level_begins o n so sn new before now e f g d h is =
     ∙ ap (λ l. before ++ l) (sibling_calls_are o n (distinct_list o d) (distinct_list n h)))
     ∙ append_assoc before _ (inner_calls 0 (node_list o) n)
 
-distinct_from : (i : ℕ) (n : Nodes) → AreDistinct n → AreDistinct (nodes_from i n)
+distinct_from : (i : ℕ) (n : Nodes) → AllDistinct n → AllDistinct (nodes_from i n)
 distinct_from zero n d = d
 distinct_from (suc i) nodes.None d = d
 distinct_from (suc i) (Branch number kind attributes children rest) d = distinct_from i rest d.2
@@ -53,14 +53,14 @@ level_ends o n sn i now whole e past so =
 abbrev pub Inner : ℕ → List FlatNode → List FlatNode → List Op → List Op → Type 0
 Inner index old new was now =
     (before : Option TreeNode) (node : FlatNode) (children : Nodes) → old ≡ flat_before before
-    → new ≡ node ∷ flat_nodes children → ChildrenAreDistinct before → AreDistinct children
+    → new ≡ node ∷ flat_nodes children → ChildrenAreDistinct before → AllDistinct children
     → now ≡ was ++ calls_inside index
     (sets_since before node.attributes ++ ops_between (children_since before) children)
 
 pub level_goes_on : (o n : Nodes) (so sn : List Sibling) (d : Sibling) (find : Option ℕ)
     (old new before after : List FlatNode) (i : ℕ) (was now whole : List Op)
-    → so ≡ siblings_of 0 o → sn ≡ siblings_of 0 n → old ≡ flat_nodes o → new ≡ flat_nodes n → AreDistinct o
-    → AreDistinct n → i < length sn
+    → so ≡ siblings_of 0 o → sn ≡ siblings_of 0 n → old ≡ flat_nodes o → new ≡ flat_nodes n → AllDistinct o
+    → AllDistinct n → i < length sn
     → find ≡ index_in (get_or sn i d).number so → before ≡ part_of so old find
     → after ≡ part (get_or sn i d).start (get_or sn i d).end new
     → Inner i before after was now → was ++ inner_calls i (node_list o) (nodes_from i n) ≡ whole
@@ -79,8 +79,8 @@ level_goes_on o n so sn d find old new before after i was now whole e f g h dist
     ∷ flat_nodes s.children =
     is_after ∙ ap (λ (x : Sibling). part x.start x.end new) sibling
     ∙ ap (λ (l : List FlatNode). part s.start s.end l) h ∙ s.part in
-    let children : AreDistinct s.children =
-    (subst (λ (r : Nodes). AreDistinct r) s.here (distinct_from i n distinct_new)).1 in
+    let children : AllDistinct s.children =
+    (subst (λ (r : Nodes). AllDistinct r) s.here (distinct_from i n distinct_new)).1 in
     let one = inner t (flat_node (length (flat_nodes s.children)) s.number s.kind s.attributes) s.children first second
     (found_distinct s.number (node_list o) (each_distinct o distinct_old)) children in
     let rest : List Op = inner_calls (i + 1) (node_list o) (nodes_from (i + 1) n) in
@@ -99,7 +99,7 @@ pub inside_before : (before : Option TreeNode) (old after : List FlatNode) → o
 inside_before None old after e f = f ∙ ap (λ (l : List FlatNode). drop 1 l) e
 inside_before (Some t) old after e f = f ∙ ap (λ (l : List FlatNode). drop 1 l) e
 
-pub distinct_before : (before : Option TreeNode) → ChildrenAreDistinct before → AreDistinct (old_children before)
+pub distinct_before : (before : Option TreeNode) → ChildrenAreDistinct before → AllDistinct (old_children before)
 distinct_before None d = tt
 distinct_before (Some t) d = d
 

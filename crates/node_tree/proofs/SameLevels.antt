@@ -9,8 +9,8 @@ use Rattle.rt_groups.specs.Nodes as nodes
 use Rattle.node_tree.specs.declared.ops.Op.{Op}
 use Rattle.node_tree.specs.declared.ops.Op.TheVariants as op
 use Rattle.node_tree.specs.NodeTrees.{TreeNode, tree_node, node_list}
-use Rattle.node_tree.specs.Placing.{has_number, numbered_node, index_of, nodes_without, removals, staying_nodes, move_to, arrangements, child_calls, set_calls, sets_since, children_since, calls_inside, inner_calls, ops_between, ops, new_node}
-use Rattle.node_tree.specs.Premises.{AreDistinct, ChildrenAreDistinct, UnchangedTreeNeedsNoCalls}
+use Rattle.node_tree.specs.Placing.{lists_number, numbered_node, node_index, nodes_without, removals, staying_nodes, move_to, arrangements, child_calls, set_calls, sets_since, children_since, calls_inside, inner_calls, ops_between, ops, new_node}
+use Rattle.node_tree.specs.Premises.{AllDistinct, ChildrenAreDistinct, UnchangedTreeNeedsNoCalls}
 use Rattle.node_tree.specs.FlatNodes.{FlatNode, flat_node, flat_nodes}
 use Rattle.node_tree.specs.SiblingLists.{flat_before, nodes_from, first_node, BeginAlike, HaveSameNumbers}
 
@@ -19,7 +19,7 @@ use Rattle.node_tree.specs.SiblingLists.{flat_before, nodes_from, first_node, Be
 -- Each node of the second list has a number of the first.
 abbrev AllIn : List TreeNode → List TreeNode → Type 0
 AllIn whole [] = Unit {0}
-AllIn whole (n ∷ ns) = (has_number n.number whole ≡ true) × AllIn whole ns
+AllIn whole (n ∷ ns) = (lists_number n.number whole ≡ true) × AllIn whole ns
 
 right_true : (b c : Bool) → c ≡ true → (b || c) ≡ true
 right_true true c e = refl
@@ -31,14 +31,14 @@ left_true false c e = absurd (false≢true e)
 
 widened : (x : TreeNode) (whole ns : List TreeNode) → AllIn whole ns → AllIn (x ∷ whole) ns
 widened x whole [] h = tt
-widened x whole (n ∷ ns) h = (right_true (x.number == n.number) (has_number n.number whole) h.0, widened x whole ns h.1)
+widened x whole (n ∷ ns) h = (right_true (x.number == n.number) (lists_number n.number whole) h.0, widened x whole ns h.1)
 
 old_in_new : (o n : Nodes) → HaveSameNumbers o n → AllIn (node_list n) (node_list o)
 old_in_new nodes.None nodes.None h = tt
 old_in_new nodes.None (Branch m k a c rest) h = absurd h
 old_in_new (Branch m k a c rest) nodes.None h = absurd h
 old_in_new (Branch m k a c rest) (Branch m' k' a' c' rest') h = (
-  left_true (m' == m) (has_number m (node_list rest')) (eq-eqb m' m (sym h.0)),
+  left_true (m' == m) (lists_number m (node_list rest')) (eq-eqb m' m (sym h.0)),
   widened (tree_node m' k' a' c') (node_list rest') (node_list rest) (old_in_new rest rest' h.1),
 )
 
@@ -47,7 +47,7 @@ new_in_old nodes.None nodes.None h = tt
 new_in_old nodes.None (Branch m k a c rest) h = absurd h
 new_in_old (Branch m k a c rest) nodes.None h = absurd h
 new_in_old (Branch m k a c rest) (Branch m' k' a' c' rest') h = (
-  left_true (m == m') (has_number m' (node_list rest)) (eq-eqb m m' h.0),
+  left_true (m == m') (lists_number m' (node_list rest)) (eq-eqb m m' h.0),
   widened (tree_node m k a c) (node_list rest) (node_list rest') (new_in_old rest rest' h.1),
 )
 
@@ -71,11 +71,11 @@ no_arrangements index whole (Branch m k a c rest) nodes.None h f = absurd h
 no_arrangements index whole (Branch m k a c rest) (Branch m' k' a' c' rest') h f =
     let x : TreeNode = tree_node m k a c in
     let same : (m == m') ≡ true = eq-eqb m m' h.0 in
-    ap (λ (b : Bool). if b then move_to index (index_of m' (x ∷ node_list rest)) ++ arrangements (index + 1) whole
+    ap (λ (b : Bool). if b then move_to index (node_index m' (x ∷ node_list rest)) ++ arrangements (index + 1) whole
     (nodes_without m' (x ∷ node_list rest)) (node_list rest')
     else op.InsertTopDown index (new_node (tree_node m' k' a' c')) ∷ arrangements (index + 1) whole (x ∷ node_list rest)
     (node_list rest')) f.0
-    ∙ ap (λ (b : Bool). move_to index (if b then 0 else 1 + index_of m' (node_list rest)) ++ arrangements
+    ∙ ap (λ (b : Bool). move_to index (if b then 0 else 1 + node_index m' (node_list rest)) ++ arrangements
     (index + 1) whole (if b then node_list rest else x ∷ nodes_without m' (node_list rest)) (node_list rest')) same
     ∙ no_arrangements (index + 1) whole rest rest' h.1 f.1
 
@@ -98,18 +98,18 @@ parts_false : (b c : Bool) → (b || c) ≡ false → (b ≡ false) × (c ≡ fa
 parts_false true c e = absurd (true≢false e)
 parts_false false c e = (refl, e)
 
-found_later : (x : TreeNode) (whole : List TreeNode) (n : Nodes) → has_number x.number (node_list n) ≡ false
+found_later : (x : TreeNode) (whole : List TreeNode) (n : Nodes) → lists_number x.number (node_list n) ≡ false
     → FoundIn whole n → FoundIn (x ∷ whole) n
 found_later x whole nodes.None h f = tt
 found_later x whole (Branch m k a c rest) h f =
-    let apart = parts_false (m == x.number) (has_number x.number (node_list rest)) h in
+    let apart = parts_false (m == x.number) (lists_number x.number (node_list rest)) h in
     let other : (x.number == m) ≡ false =
     ne_eqb x.number m (λ e. true≢false (sym (eq-eqb m x.number (sym e)) ∙ apart.0)) in (
       ap (λ (b : Bool). if b then Some x else numbered_node m whole) other ∙ f.0,
       found_later x whole rest apart.1 f.1,
     )
 
-pub all_found : (n : Nodes) → AreDistinct n → FoundIn (node_list n) n
+pub all_found : (n : Nodes) → AllDistinct n → FoundIn (node_list n) n
 all_found nodes.None d = tt
 all_found (Branch m k a c rest) d = (
   ap (λ (b : Bool). if b then Some (tree_node m k a c) else numbered_node m (node_list rest)) (eq-eqb m m refl),
@@ -129,7 +129,7 @@ no_sets (a ∷ rest) =
     (told_equal a.value a.value (same_value a.value a.value) refl).1 refl in
     ap (λ (b : Bool). (if b then [] else op.Set a.name a.value ∷ []) ++ set_calls rest rest) same ∙ no_sets rest
 
-no_inner_calls : (index : ℕ) (whole : List TreeNode) (n : Nodes) → FoundIn whole n → AreDistinct n
+no_inner_calls : (index : ℕ) (whole : List TreeNode) (n : Nodes) → FoundIn whole n → AllDistinct n
     → inner_calls index whole n ≡ []
 no_inner_calls index whole nodes.None f d = refl
 no_inner_calls index whole (Branch m k a c rest) f d =
@@ -209,7 +209,7 @@ from_found zero whole n f = f
 from_found (suc i) whole nodes.None f = tt
 from_found (suc i) whole (Branch m k a c rest) f = from_found i whole rest f.1
 
-from_distinct : (i : ℕ) (n : Nodes) → AreDistinct n → AreDistinct (nodes_from i n)
+from_distinct : (i : ℕ) (n : Nodes) → AllDistinct n → AllDistinct (nodes_from i n)
 from_distinct zero n d = d
 from_distinct (suc i) nodes.None d = d
 from_distinct (suc i) (Branch m k a c rest) d = from_distinct i rest d.2
@@ -246,13 +246,13 @@ along_ends o n before after index now whole a e =
 abbrev Inner : ℕ → List FlatNode → List FlatNode → List Op → List Op → Type 0
 Inner index old new was now =
     (before : Option TreeNode) (node : FlatNode) (children : Nodes) → old ≡ flat_before before
-    → new ≡ node ∷ flat_nodes children → ChildrenAreDistinct before → AreDistinct children
+    → new ≡ node ∷ flat_nodes children → ChildrenAreDistinct before → AllDistinct children
     → now ≡ was ++ calls_inside index
     (sets_since before node.attributes ++ ops_between (children_since before) children)
 
 inside_first : (whole : List TreeNode) (old new : Nodes) (index : ℕ) (was now : List Op)
     (first second after : List FlatNode) → after ≡ flat_nodes new → 0 < length after → HaveSameNumbers old new
-    → FoundIn whole old → AreDistinct old → AreDistinct new
+    → FoundIn whole old → AllDistinct old → AllDistinct new
     → first ≡ flat_before (first_node old) → second ≡ flat_before (first_node new) → Inner index first second was now
     → now ++ inner_calls (index + 1) whole (nodes_from 1 new) ≡ was ++ inner_calls index whole new
 inside_first whole old nodes.None index was now first second after e some h f d g is_first is_second inner =
@@ -270,7 +270,7 @@ inside_first whole (Branch m k a c rest) (Branch m' k' a' c' rest') index was no
     ++ (calls_inside index (sets_since t a' ++ ops_between (children_since t) c') ++ more)) (sym found)
 
 pub along_goes_on : (o n : Nodes) (before after before' after' first second : List FlatNode) (index : ℕ)
-    (was now whole : List Op) → HaveSameNumbers o n → AreDistinct o → AreDistinct n → 0 < length after
+    (was now whole : List Op) → HaveSameNumbers o n → AllDistinct o → AllDistinct n → 0 < length after
     → ((t : Nodes) → before ≡ flat_nodes t → first ≡ flat_before (first_node t))
     → ((t : Nodes) → after ≡ flat_nodes t → second ≡ flat_before (first_node t))
     → ((t : Nodes) → before ≡ flat_nodes t → before' ≡ flat_nodes (nodes_from 1 t))

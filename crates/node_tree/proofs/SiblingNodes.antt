@@ -9,7 +9,7 @@ use Rattle.rt_groups.specs.Nodes.{Nodes, Branch}
 use Rattle.rt_groups.specs.Nodes as nodes
 use Rattle.node_tree.specs.declared.siblings.Sibling.{Sibling}
 use Rattle.node_tree.specs.NodeTrees.{TreeNode, tree_node, node_list}
-use Rattle.node_tree.specs.Placing.{has_number, numbered_node}
+use Rattle.node_tree.specs.Placing.{lists_number, numbered_node}
 use Rattle.node_tree.specs.Premises.{HaveDistinctNumbers}
 use Rattle.node_tree.specs.FlatNodes.{FlatNode, flat_node, flat_nodes}
 use Rattle.node_tree.specs.SiblingLists.{sibling_list, siblings_of, last_index, index_in, part, part_of, part_at, flat_before, nodes_from}
@@ -46,7 +46,7 @@ siblings_are n = ap (λ l. sibling_list 0 0 l) (sym (append-nil (flat_nodes n)))
 
 -- Whether there is a sibling with a number.
 some_index : (n : Nodes) (q i at : ℕ) (last : Option ℕ)
-    → is_some (last_index q i last (siblings_of at n)) ≡ (is_some last || has_number q (node_list n))
+    → is_some (last_index q i last (siblings_of at n)) ≡ (is_some last || lists_number q (node_list n))
 some_index nodes.None q i at last = by (is_some last)
   where
     by : (b : Bool) → b ≡ (b || false)
@@ -57,13 +57,13 @@ some_index (Branch number kind attributes children rest) q i at last =
     ∙ by (number == q) (is_some last) refl
   where
     by : (b l : Bool) → l ≡ is_some last
-        → (is_some (if b then Some i else last) || has_number q (node_list rest))
-        ≡ (l || (b || has_number q (node_list rest)))
+        → (is_some (if b then Some i else last) || lists_number q (node_list rest))
+        ≡ (l || (b || lists_number q (node_list rest)))
     by true true e = refl
     by true false e = refl
-    by false l e = ap (λ (x : Bool). x || has_number q (node_list rest)) (sym e)
+    by false l e = ap (λ (x : Bool). x || lists_number q (node_list rest)) (sym e)
 
-pub is_some_index : (n : Nodes) (q : ℕ) → is_some (index_in q (siblings_of 0 n)) ≡ has_number q (node_list n)
+pub is_some_index : (n : Nodes) (q : ℕ) → is_some (index_in q (siblings_of 0 n)) ≡ lists_number q (node_list n)
 is_some_index n q = some_index n q 0 0 None
 
 -- The part of a joined list after the items of `front`.
@@ -162,14 +162,14 @@ abbrev pub LooksUp : Nodes → ℕ → ℕ → ℕ → List FlatNode → Option 
 LooksUp n q i at front last found None = found ≡ last
 LooksUp n q i at front last found (Some t) = FoundAt n q i at front found t
 
-not_there : (n : Nodes) (q i at : ℕ) (last : Option ℕ) → has_number q (node_list n) ≡ false
+not_there : (n : Nodes) (q i at : ℕ) (last : Option ℕ) → lists_number q (node_list n) ≡ false
     → last_index q i last (siblings_of at n) ≡ last
 not_there nodes.None q i at last h = refl
 not_there (Branch number kind attributes children rest) q i at last h =
     by (number == q) h (not_there rest q (i + 1) (at + 1 + length (flat_nodes children)) last)
   where
-    by : (b : Bool) → (b || has_number q (node_list rest)) ≡ false
-        → (has_number q (node_list rest) ≡ false
+    by : (b : Bool) → (b || lists_number q (node_list rest)) ≡ false
+        → (lists_number q (node_list rest) ≡ false
         → last_index q (i + 1) last (siblings_of (at + 1 + length (flat_nodes children)) rest) ≡ last)
         → last_index q (i + 1) (if b then Some i else last) (siblings_of (at + 1 + length (flat_nodes children)) rest)
         ≡ last
@@ -211,7 +211,7 @@ looks_up (Branch number kind attributes children rest) q i at front last e d =
     by true is go = record {
       index = 0;
       is = not_there rest q (i + 1) later (Some i)
-          (ap (λ (j : ℕ). has_number j (node_list rest)) (sym (eqb-true number q is)) ∙ d.0)
+          (ap (λ (j : ℕ). lists_number j (node_list rest)) (sym (eqb-true number q is)) ∙ d.0)
           ∙ ap (λ k. Some k) (let same : i ≡ i + 0 = omega arith in same);
       numbered = eqb-true number q is;
       part = first_part number kind attributes children rest at front e;

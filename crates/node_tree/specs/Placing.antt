@@ -12,8 +12,8 @@ use Rattle.node_tree.specs.declared.ops.Op.TheVariants as op
 use Rattle.node_tree.specs.NodeTrees.{TreeNode, node_list}
 
 -- Whether a node of the list has this number.
-abbrev pub has_number : ℕ → List TreeNode → Bool
-has_number number nodes = list_any (λ n. n.number == number) nodes
+abbrev pub lists_number : ℕ → List TreeNode → Bool
+lists_number number nodes = list_any (λ n. n.number == number) nodes
 
 -- The first node of the list with this number.
 abbrev pub numbered_node : ℕ → List TreeNode → Option TreeNode
@@ -21,9 +21,9 @@ numbered_node number [] = None
 numbered_node number (n ∷ ns) = if n.number == number then Some n else numbered_node number ns
 
 -- The index of the first node of the list with this number.
-abbrev pub index_of : ℕ → List TreeNode → ℕ
-index_of number [] = 0
-index_of number (n ∷ ns) = if n.number == number then 0 else 1 + index_of number ns
+abbrev pub node_index : ℕ → List TreeNode → ℕ
+node_index number [] = 0
+node_index number (n ∷ ns) = if n.number == number then 0 else 1 + node_index number ns
 
 -- The list without its first node with this number.
 abbrev pub nodes_without : ℕ → List TreeNode → List TreeNode
@@ -35,11 +35,11 @@ nodes_without number (n ∷ ns) = if n.number == number then ns else n ∷ nodes
 abbrev pub removals : ℕ → List TreeNode → List TreeNode → List Op
 removals index new [] = []
 removals index new (o ∷ old) =
-    removals (index + 1) new old ++ (if has_number o.number new then [] else op.Remove index 1 ∷ [])
+    removals (index + 1) new old ++ (if lists_number o.number new then [] else op.Remove index 1 ∷ [])
 
 -- The old nodes that stay.
 abbrev pub staying_nodes : List TreeNode → List TreeNode → List TreeNode
-staying_nodes new old = filter (λ o. has_number o.number new) old
+staying_nodes new old = filter (λ o. lists_number o.number new) old
 
 -- The move of a node that is `distance` after the index, if it is not at the index yet.
 abbrev pub move_to : ℕ → ℕ → List Op
@@ -55,8 +55,8 @@ new_node n = record { number = n.number; kind = n.kind; attributes = map flat_at
 abbrev pub arrangements : ℕ → List TreeNode → List TreeNode → List TreeNode → List Op
 arrangements index old rest [] = []
 arrangements index old rest (n ∷ new) =
-    if has_number n.number old
-    then move_to index (index_of n.number rest) ++ arrangements (index + 1) old (nodes_without n.number rest) new
+    if lists_number n.number old
+    then move_to index (node_index n.number rest) ++ arrangements (index + 1) old (nodes_without n.number rest) new
     else op.InsertTopDown index (new_node n) ∷ arrangements (index + 1) old rest new
 
 -- The calls that give the current node the new children, each with the attributes and the children that it had.

@@ -5,12 +5,12 @@ use Rattle.rt_groups.specs.Nodes.{Nodes, Branch}
 use Rattle.rt_groups.specs.Nodes as nodes
 use Rattle.node_tree.specs.NodeTrees.{TreeNode, node_list, tree_at_root}
 use Rattle.node_tree.specs.Calls.{has_attribute, tree_after_calls, AllMayCome}
-use Rattle.node_tree.specs.Placing.{has_number, numbered_node, children_since, ops}
+use Rattle.node_tree.specs.Placing.{lists_number, numbered_node, children_since, ops}
 
 -- No two nodes of the list have one number.
 abbrev pub HaveDistinctNumbers : List TreeNode → Type 0
 HaveDistinctNumbers [] = Unit {0}
-HaveDistinctNumbers (n ∷ ns) = (has_number n.number ns ≡ false) × HaveDistinctNumbers ns
+HaveDistinctNumbers (n ∷ ns) = (lists_number n.number ns ≡ false) × HaveDistinctNumbers ns
 
 -- No two attributes of the list have one name.
 abbrev pub HaveDistinctNames : List Attribute → Type 0
@@ -26,15 +26,15 @@ KeepsShape None kind attributes = Unit {0}
 KeepsShape (Some old) kind attributes = (old.kind ≡ kind) × (names_of old.attributes ≡ names_of attributes)
 
 -- At every level of a tree siblings have distinct numbers.
-abbrev pub AreDistinct : Nodes → Type 0
-AreDistinct nodes.None = Unit {0}
-AreDistinct (Branch number kind attributes children rest) =
-    (has_number number (node_list rest) ≡ false) × AreDistinct children × AreDistinct rest
+abbrev pub AllDistinct : Nodes → Type 0
+AllDistinct nodes.None = Unit {0}
+AllDistinct (Branch number kind attributes children rest) =
+    (lists_number number (node_list rest) ≡ false) × AllDistinct children × AllDistinct rest
 
 -- The children of a node, if there is one, have distinct numbers at every level.
 abbrev pub ChildrenAreDistinct : Option TreeNode → Type 0
 ChildrenAreDistinct None = Unit {0}
-ChildrenAreDistinct (Some t) = AreDistinct t.children
+ChildrenAreDistinct (Some t) = AllDistinct t.children
 
 -- At every level the attributes of a new node have distinct names, and a kept node keeps its shape.
 abbrev pub KeepShapes : List TreeNode → Nodes → Type 0
@@ -47,8 +47,8 @@ KeepShapes old (Branch number kind attributes children rest) =
 
 -- The new tree can follow the old one.
 pub record CanFollow (old new : Nodes) : Type 0 where
-  pub old_numbers : AreDistinct old
-  pub new_numbers : AreDistinct new
+  pub old_numbers : AllDistinct old
+  pub new_numbers : AllDistinct new
   pub shapes : KeepShapes (node_list old) new
 
 -- If the new tree can follow the old one, the calls between them turn the old tree into the new one, and each call may
@@ -60,4 +60,4 @@ OpsTurnTheOldTreeIntoTheNew =
 
 -- There is no call between a tree and itself.
 abbrev pub UnchangedTreeNeedsNoCalls : Type 0
-UnchangedTreeNeedsNoCalls = (tree : Nodes) → AreDistinct tree → ops tree tree ≡ []
+UnchangedTreeNeedsNoCalls = (tree : Nodes) → AllDistinct tree → ops tree tree ≡ []

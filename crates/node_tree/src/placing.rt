@@ -5,7 +5,7 @@ ghost use Rattle.node_tree.specs.declared.ops.Op.{Op as op_data};
 ghost use Rattle.node_tree.specs.declared.ops.Op.TheVariants as op;
 ghost use Rattle.node_tree.specs.NodeTrees.{TreeNode, node_list};
 ghost use Rattle.node_tree.specs.Placing.{set_calls, sets_since, children_since, calls_inside, ops_between, ops};
-ghost use Rattle.node_tree.specs.Premises.{AreDistinct, ChildrenAreDistinct};
+ghost use Rattle.node_tree.specs.Premises.{AllDistinct, ChildrenAreDistinct};
 ghost use Rattle.node_tree.specs.FlatNodes.{FlatNode, flat_nodes};
 ghost use Rattle.node_tree.specs.SiblingLists.{sibling_calls, flat_before, first_node, nodes_from, BeginAlike, HaveSameNumbers};
 
@@ -98,7 +98,7 @@ fn push_inner<'o, 'n>(
 ) -> Result<(), NoMemory>
     ensures { (before : Option TreeNode) (node : FlatNode) (children : Nodes) →
         old.now ≡ flat_before before → new.now ≡ node ∷ flat_nodes children →
-        ChildrenAreDistinct before → AreDistinct children →
+        ChildrenAreDistinct before → AllDistinct children →
         OnOk result (ops.new ≡ ops.old ++ calls_inside index
         (sets_since before node.attributes ++ ops_between (children_since before) children)) }
 {
@@ -169,7 +169,7 @@ fn push_same_level<'o, 'n>(
     new: &[NodeRef<'n>],
     ops: &mut Ops,
 ) -> Result<(), NoMemory>
-    ensures { (o n : Nodes) → old.now ≡ flat_nodes o → new.now ≡ flat_nodes n → AreDistinct o → AreDistinct n →
+    ensures { (o n : Nodes) → old.now ≡ flat_nodes o → new.now ≡ flat_nodes n → AllDistinct o → AllDistinct n →
         HaveSameNumbers o n → OnOk result (ops.new ≡ ops.old ++ ops_between (node_list o) n) }
 {
     let mut before = old;
@@ -199,7 +199,7 @@ fn push_other_level<'o, 'n>(
     new: &[NodeRef<'n>],
     ops: &mut Ops,
 ) -> Result<(), NoMemory>
-    ensures { (o n : Nodes) → old.now ≡ flat_nodes o → new.now ≡ flat_nodes n → AreDistinct o → AreDistinct n →
+    ensures { (o n : Nodes) → old.now ≡ flat_nodes o → new.now ≡ flat_nodes n → AllDistinct o → AllDistinct n →
         OnOk result (ops.new ≡ ops.old ++ ops_between (node_list o) n) }
 {
     let old_siblings = list_siblings(alloc, old)?;
@@ -222,7 +222,7 @@ fn push_level<'o, 'n>(
     new: &[NodeRef<'n>],
     ops: &mut Ops,
 ) -> Result<(), NoMemory>
-    ensures { (o n : Nodes) → old.now ≡ flat_nodes o → new.now ≡ flat_nodes n → AreDistinct o → AreDistinct n →
+    ensures { (o n : Nodes) → old.now ≡ flat_nodes o → new.now ≡ flat_nodes n → AllDistinct o → AllDistinct n →
         OnOk result (ops.new ≡ ops.old ++ ops_between (node_list o) n) }
 {
     if have_same_numbers(old, new) {
@@ -241,7 +241,7 @@ pub fn place<'o, 'n>(
     old: &[NodeRef<'o>],
     new: &[NodeRef<'n>],
 ) -> Result<Ops, NoMemory>
-    ensures { (o n : Nodes) → old.now ≡ flat_nodes o → new.now ≡ flat_nodes n → AreDistinct o → AreDistinct n →
+    ensures { (o n : Nodes) → old.now ≡ flat_nodes o → new.now ≡ flat_nodes n → AllDistinct o → AllDistinct n →
         IfOk result (λ calls. calls ≡ ops o n) }
 {
     let mut calls = Ops::new(alloc);
@@ -251,7 +251,7 @@ pub fn place<'o, 'n>(
 
 /// Returns the calls that remove all nodes that an applier has, and then make the new tree (`Applier.clear`).
 pub fn place_anew<'n>(alloc: Global, new: &[NodeRef<'n>]) -> Result<Ops, NoMemory>
-    ensures { (n : Nodes) → new.now ≡ flat_nodes n → AreDistinct n →
+    ensures { (n : Nodes) → new.now ≡ flat_nodes n → AllDistinct n →
         IfOk result (λ calls. calls ≡ op.Clear ∷ ops no_nodes n) }
 {
     let mut calls = Ops::new(alloc);

@@ -11,7 +11,7 @@ use Rattle.lang_ast.specs.declared.script.Rest.{Rest}
 use Rattle.lang_limits.specs.Clamped.{clamped_trees}
 use Rattle.lang_limits.specs.Sizes.{program_limits}
 use Rattle.lang_ast.specs.Sizes.{most_forms}
-use Rattle.lang_forms.specs.Names.{number_in, number_of}
+use Rattle.lang_forms.specs.Names.{number_in, number_of_name}
 use Rattle.lang_forms.specs.Forms.{HasForms, KnownNames, state_name, function_name, site_after, site_after_all, SpelledStmt, SpelledStmts, SpelledFunctions}
 use Rattle.lang_forms.specs.Sources.{Source, parsed_source_view}
 use Rattle.lang_checks.specs.Scopes.{first_named}
@@ -100,19 +100,19 @@ found_before (c ∷ cs) rest name j i f h lt =
 
 named_before : (functions before rest : List Func) (m : KnownNames) (name : List ℕ) → functions ≡ before ++ rest
     → m.functions ≡ map function_name before → length before ≤ most_forms
-    → HasItsNumber functions (length before) name (number_of name m.functions)
+    → HasItsNumber functions (length before) name (number_of_name name m.functions)
 named_before functions before rest m name all names few i f h lt =
     let many : length (map function_name before) ≤ most_forms =
     subst (λ n. n ≤ most_forms) (sym (length-map before function_name)) few in
     let found = found_before before rest name 0 i f (subst (λ fs. first_named fs name 0 ≡ Some (i, f)) all h)
     (omega (arith, lt)) in
-    ap (λ l. number_of name l) names
+    ap (λ l. number_of_name name l) names
     ∙ ap (λ l. number_in name l) (take_all most_forms (map function_name before) many)
     ∙ omega (arith, found)
 
 mutual
   stmt_calls : (functions : List Func) (me : ℕ) (m : KnownNames) (k : ℕ) (s : Stmt)
-      → ((name : List ℕ) → HasItsNumber functions me name (number_of name m.functions)) → SpelledStmt m k s
+      → ((name : List ℕ) → HasItsNumber functions me name (number_of_name name m.functions)) → SpelledStmt m k s
       → Each (CallHasItsNumber functions me) (statement_with_inner s)
   stmt_calls functions me m k (Node at site n ns body) named h = (tt, stmts_calls functions me m (k + 1) body named h.3)
   stmt_calls functions me m k (Call at site n function es) named h = (λ i f e lt. h.2 ∙ named n.text i f e lt, tt)
@@ -129,7 +129,7 @@ mutual
       (tt, stmts_calls functions me m (k + 1) body named h.4)
 
   stmts_calls : (functions : List Func) (me : ℕ) (m : KnownNames) (k : ℕ) (ss : Stmts)
-      → ((name : List ℕ) → HasItsNumber functions me name (number_of name m.functions)) → SpelledStmts m k ss
+      → ((name : List ℕ) → HasItsNumber functions me name (number_of_name name m.functions)) → SpelledStmts m k ss
       → Each (CallHasItsNumber functions me) (statements_in ss)
   stmts_calls functions me m k done named h = tt
   stmts_calls functions me m k (next s ss) named h =
@@ -143,8 +143,8 @@ functions_calls functions before [] m me k all names here few h = tt
 functions_calls functions before (f ∷ fs) m me k all names here few h =
     let many : length before ≤ most_forms = let sum = ap length all ∙ length-append before (f ∷ fs) in
     omega (arith, sum, few) in
-    let named : (name : List ℕ) → HasItsNumber functions me name (number_of name m.functions) =
-    λ name. subst (λ n. HasItsNumber functions n name (number_of name m.functions)) (sym here)
+    let named : (name : List ℕ) → HasItsNumber functions me name (number_of_name name m.functions) =
+    λ name. subst (λ n. HasItsNumber functions n name (number_of_name name m.functions)) (sym here)
     (named_before functions before (f ∷ fs) m name all names many) in (
       stmts_calls functions me m k f.body named h.2,
       functions_calls functions (before ++ f ∷ []) fs

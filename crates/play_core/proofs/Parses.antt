@@ -2,7 +2,7 @@
 use Rattle.std.proofs.Common.{arith, subst, ◌≡◌, ◌≢◌, ◌⊎◌, inl, inr, ◌≤◌, ◌<◌, ◌+◌, ◌==◌, nat_le, ℕ, zero, suc, List, [], ◌∷◌, Option, Some, None, refl, ◌∙◌, length, get_or}
 use Rattle.std.specs.Prelude.{IfSome}
 use Rattle.std.proofs.lemmas.Bool.Decides.{eqb_tells}
-use Rattle.sexp_text.specs.Forest.{Forest, empty, atom, joined_trees, nesting}
+use Rattle.sexp_text.specs.Forest.{Forest, empty, atom, joined_trees, list_nesting}
 use Rattle.sexp_text.specs.Grammar.{is_blank, is_atom_byte}
 use Rattle.sexp_text.specs.Machine.{Mode, gap, in_comment, in_word, in_text, in_escape, OpenLists, State, close_list, start, step, next, forest_at_end, first_state, state_at, whole, IsShallow, Refuses}
 use Rattle.sexp_text.specs.declared.stop.TextStop.{TextStop}
@@ -55,7 +55,7 @@ next-opens s t at b e = subst (λ (o : Option State). IfSome o (Opens b s.1)) e 
 
 -- The bytes give a shallow forest, or the machine stops at them.
 abbrev pub Parsed : List ℕ → Type 0
-Parsed bytes = ((f : Forest) × (whole bytes ≡ Some f) × (nesting f ≤ 100))
+Parsed bytes = ((f : Forest) × (whole bytes ≡ Some f) × (list_nesting f ≤ 100))
     ⊎ ((e : TextStop) × (e ≢ stop.NoMemory) × Refuses bytes e)
 
 le_or_lt : (p q : ℕ) → (p ≤ q) ⊎ (q < p)

@@ -2,7 +2,7 @@
 use Rattle.std.proofs.Common.{◌≡◌, ◌≢◌, ◌⊎◌, ◌≤◌, ℕ, List, Bool, true, false, Option, Some, None, refl, ap, ◌∙◌, subst, length, Ok, Err, OnOk, inl, inr, sym}
 use Rattle.std.specs.Option.{option_map, option_or}
 use Rattle.std.specs.declared.result.Result.{Result}
-use Rattle.sexp_text.specs.Forest.{Forest, nesting}
+use Rattle.sexp_text.specs.Forest.{Forest, list_nesting}
 use Rattle.sexp_text.specs.Grammar.{Spells}
 use Rattle.sexp_text.proofs.Complete.{spells_one}
 use Rattle.sexp_text.specs.TextFaults.{Cause}
@@ -54,7 +54,7 @@ module _ (threads : Bool) where
 
   -- Bytes that the tree parser rejects are not a source text.
   pub stop-none : (bytes : List ℕ) (t : TextStop)
-      → (t ≢ stop.NoMemory → (f : Forest) → Spells bytes f → nesting f ≤ 100 → ⊥) → (fault : Fault)
+      → (t ≢ stop.NoMemory → (f : Forest) → Spells bytes f → list_nesting f ≤ 100 → ⊥) → (fault : Fault)
       → text_end t ≡ Bad fault → IsNoText threads bytes
   stop-none bytes t never fault e p text =
       never (λ (same : t ≡ stop.NoMemory). let memory : NoMemory ≡ Bad fault =
@@ -130,7 +130,7 @@ module _ (threads : Bool) where
       (sym (answer_one (length bytes) h.forest h.answer h.by_forms)) ∙ h.refused
 
   -- A rejected forest is rejected with a fault of the bytes.
-  pub refused-fault : (bytes : List ℕ) (f : Forest) (fault : Fault) → Spells bytes f → nesting f ≤ 100
+  pub refused-fault : (bytes : List ℕ) (f : Forest) (fault : Fault) → Spells bytes f → list_nesting f ≤ 100
       → refusal threads (length bytes) f ≡ Some (Bad fault) → IsFault threads bytes fault
   refused-fault bytes f fault spelled shallow e =
       later-at bytes fault.kind fault.at
@@ -153,11 +153,11 @@ module _ {T : Type 0} (threads : Bool) (bytes : List ℕ) (r : Result T TextStop
     | inr e ↦ let same : t ≡ stop.NoMemory = cc in inr (ap text_end same)
   ]
 
-  unread : (t : TextStop) (fault : Fault) → (t ≢ stop.NoMemory → (f : Forest) → Spells bytes f → nesting f ≤ 100 → ⊥)
+  unread : (t : TextStop) (fault : Fault) → (t ≢ stop.NoMemory → (f : Forest) → Spells bytes f → list_nesting f ≤ 100 → ⊥)
       → IsRefused threads bytes fault → (text_end t ≡ Bad fault) ⊎ (text_end t ≡ NoMemory)
   unread t fault never h = inr (ended t (λ other. never other h.forest h.spelled h.shallow))
 
-  stopped-at : (t : TextStop) → r ≡ Err t → (t ≢ stop.NoMemory → (f : Forest) → Spells bytes f → nesting f ≤ 100 → ⊥)
+  stopped-at : (t : TextStop) → r ≡ Err t → (t ≢ stop.NoMemory → (f : Forest) → Spells bytes f → list_nesting f ≤ 100 → ⊥)
       → (kind : FaultKind) (at : ℕ) → IsFaultAt threads bytes at kind →
       (text_end t ≡ Bad (record { kind = kind; at = at })) ⊎ (text_end t ≡ NoMemory)
   stopped-at t is never Utf8 at cause = told-as t (stop.NotUtf8 at) is (λ e. absurd cc) cause
@@ -173,7 +173,7 @@ module _ {T : Type 0} (threads : Bool) (bytes : List ℕ) (r : Result T TextStop
   stopped-at t is never Actor at h = unread t _ never h
 
   -- If the tree parser stopped, any fault is the one that it reports, unless it is out of memory.
-  pub stopped : (t : TextStop) → r ≡ Err t → (t ≢ stop.NoMemory → (f : Forest) → Spells bytes f → nesting f ≤ 100 → ⊥)
+  pub stopped : (t : TextStop) → r ≡ Err t → (t ≢ stop.NoMemory → (f : Forest) → Spells bytes f → list_nesting f ≤ 100 → ⊥)
       → (fault : Fault) → IsFault threads bytes fault →
       (text_end t ≡ Bad fault) ⊎ (text_end t ≡ NoMemory)
   stopped t is never fault h = stopped-at t is never fault.kind fault.at h

@@ -4,7 +4,7 @@ use Rattle.std.specs.declared.result.Result.{Result}
 use Rattle.std.specs.Option.{option_map, option_or}
 use Rattle.std.specs.Str.{is_utf8}
 use Rattle.std.proofs.lemmas.Str.{IsUtf8-from_is_utf8, is_utf8-from_IsUtf8}
-use Rattle.sexp_text.specs.Forest.{Forest, nesting}
+use Rattle.sexp_text.specs.Forest.{Forest, list_nesting}
 use Rattle.sexp_text.specs.Grammar.{Spells}
 use Rattle.sexp_text.specs.TextFaults.{Cause}
 use Rattle.sexp_text.specs.declared.stop.TextStop.{TextStop}
@@ -57,7 +57,7 @@ never f (Ok t) e = by _ e
     by None k = absurd cc
     by (Some at) k = absurd cc
 
-module _ (threads : Bool) (bytes : List ℕ) (f : Forest) (spelled : Spells bytes f) (shallow : nesting f ≤ 100) where
+module _ (threads : Bool) (bytes : List ℕ) (f : Forest) (spelled : Spells bytes f) (shallow : list_nesting f ≤ 100) where
   abbrev beyond : Option ℕ
   beyond = least (oversized_script_offsets f)
 

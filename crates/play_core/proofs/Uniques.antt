@@ -1,7 +1,7 @@
 -- Bytes are the source text of at most one program with its script, and a source text is not rejected.
 use Rattle.std.proofs.Common.{Bool, ◌≡◌, ◌≤◌, ℕ, List, [], Option, Some, None, Ok, refl, sym, ◌∙◌, subst, ap, length}
 use Rattle.std.specs.Option.{option_map, option_or}
-use Rattle.sexp_text.specs.Forest.{Forest, nesting}
+use Rattle.sexp_text.specs.Forest.{Forest, list_nesting}
 use Rattle.sexp_text.specs.Grammar.{Spells}
 use Rattle.sexp_text.proofs.Complete.{spells_one}
 use Rattle.lang_ast.specs.Programs.{Program}
@@ -80,7 +80,7 @@ module _ (threads : Bool) where
   none-beyond (Some at) states forms h = absurd cc
 
   -- A parsed text that keeps the limits and has no fault is the source text of the bytes.
-  pub is_text : (bytes : List ℕ) (f : Forest) (t : Source) (told : Option ℕ) → Spells bytes f → nesting f ≤ 100
+  pub is_text : (bytes : List ℕ) (f : Forest) (t : Source) (told : Option ℕ) → Spells bytes f → list_nesting f ≤ 100
       → HasForms (clamped_trees f) t → program_limits f t.program ≡ [] → told ≡ least (oversized_script_offsets f) →
       program_faults t.program ≡ [] → script_refusal threads t.program.states told t.script ≡ None
       → IsText threads bytes t

@@ -4,7 +4,7 @@ use Rattle.std.specs.Fmt.{decimal}
 use Rattle.std.specs.declared.option.Option.{Option}
 use Rattle.std.specs.Option.{option_map, option_or}
 use Rattle.rt_streams.specs.Streams.{AppendsPart}
-use Rattle.sexp_text.specs.Forest.{Forest, nesting}
+use Rattle.sexp_text.specs.Forest.{Forest, list_nesting}
 use Rattle.sexp_text.specs.Grammar.{Spells}
 use Rattle.sexp_text.specs.TextFaults.{Cause}
 use Rattle.sexp_text.specs.declared.stop.TextStop.TheVariants as stop
@@ -45,7 +45,7 @@ reading_refusal threads first_oversized (Err stop) = Some (form_end stop)
 pub record IsRefused (threads : Bool) (bytes : List ℕ) (fault : Fault) : Type 0 where
   pub forest : Forest
   pub spelled : Spells bytes forest
-  pub shallow : nesting forest ≤ 100
+  pub shallow : list_nesting forest ≤ 100
   pub answer : Result Source FormStop
   pub by_forms : IsAnswerFor (length bytes) forest answer
   pub refused : reading_refusal threads (least (oversized_script_offsets forest)) answer ≡ Some (end.Bad fault)
@@ -61,22 +61,22 @@ IsFaultAt threads bytes at kind = IsRefused threads bytes (record { kind = kind;
 abbrev pub IsFault : Bool → List ℕ → Fault → Type 0
 IsFault threads bytes fault = IsFaultAt threads bytes fault.at fault.kind
 
-abbrev pub kind_word : FaultKind → List ℕ
-kind_word Utf8 = codes "utf8"
-kind_word Text = codes "text"
-kind_word Deep = codes "deep"
-kind_word Form = codes "form"
-kind_word Limit = codes "limit"
-kind_word Double = codes "double"
-kind_word Unknown = codes "unknown"
-kind_word Order = codes "order"
-kind_word «Type» = codes "type"
-kind_word Remember = codes "remember"
-kind_word Actor = codes "actor"
+abbrev pub fault_word : FaultKind → List ℕ
+fault_word Utf8 = codes "utf8"
+fault_word Text = codes "text"
+fault_word Deep = codes "deep"
+fault_word Form = codes "form"
+fault_word Limit = codes "limit"
+fault_word Double = codes "double"
+fault_word Unknown = codes "unknown"
+fault_word Order = codes "order"
+fault_word «Type» = codes "type"
+fault_word Remember = codes "remember"
+fault_word Actor = codes "actor"
 
 -- The line of a fault.
 abbrev pub fault_line : Fault → List ℕ
-fault_line fault = line (codes "bad input: " ++ kind_word fault.kind ++ codes " at " ++ decimal fault.at)
+fault_line fault = line (codes "bad input: " ++ fault_word fault.kind ++ codes " at " ++ decimal fault.at)
 
 -- A first part of what is written for the bytes was written: of an output that `may` allows for them and their source
 -- text, or of the line of their fault.

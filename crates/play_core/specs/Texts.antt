@@ -1,6 +1,6 @@
 -- Trusted: the source texts of programs with scripts, and the output of each command on a source text.
 use Rattle.std.specs.Prelude.{◌≡◌, ◌≤◌, ℕ, List, [], Bool, true, false, Option, Some, None, codes}
-use Rattle.sexp_text.specs.Forest.{Forest, nesting}
+use Rattle.sexp_text.specs.Forest.{Forest, list_nesting}
 use Rattle.sexp_text.specs.Grammar.{Spells}
 use Rattle.sexp_text.specs.Layout.{lines}
 use Rattle.sexp_text.specs.View.{forest_view}
@@ -31,7 +31,7 @@ use Rattle.play_core.specs.declared.text.Input.{Input}
 pub record IsText (threads : Bool) (bytes : List ℕ) (t : Source) : Type 0 where
   pub forest : Forest
   pub spelled : Spells bytes forest
-  pub shallow : nesting forest ≤ 100
+  pub shallow : list_nesting forest ≤ 100
   pub forms : HasForms forest t
   pub small : program_limits forest t.program ≡ []
   pub brief : oversized_script_offsets forest ≡ []

@@ -1,6 +1,6 @@
 // Faults of an input, and the line of each.
 ghost use Rattle.std.specs.Prelude.{◌≡◌, ◌++◌, [], OnOk, OnErr};
-ghost use Rattle.play_core.specs.Faults.{kind_word, fault_line};
+ghost use Rattle.play_core.specs.Faults.{fault_word, fault_line};
 
 use itoa::Buffer;
 use rt_values::NoMemory;
@@ -44,7 +44,7 @@ pub struct Fault {
 impl FaultKind {
     // Returns the word for the kind.
     fn word(self) -> &'static [u8]
-        ensures { result.now ≡ kind_word self }
+        ensures { result.now ≡ fault_word self }
     {
         match self {
             FaultKind::Utf8 => b"utf8",

@@ -1,6 +1,6 @@
 // Parsing of a source text into a checked program and its script.
 ghost use Rattle.std.specs.Prelude.{◌≡◌, ◌⊎◌, ◌≤◌, [], ℕ, List, Some, None, Err, IfOk, OnOk, length};
-ghost use Rattle.sexp_text.specs.Forest.{nesting};
+ghost use Rattle.sexp_text.specs.Forest.{list_nesting};
 ghost use Rattle.sexp_text.specs.Grammar.{Spells};
 ghost use Rattle.sexp_text.specs.View.{forest_view};
 ghost use Rattle.play_core.specs.declared.fault.Fault.{Fault as fault_data};
@@ -141,7 +141,7 @@ fn parse_trees(alloc: Global, trees: &[Tree], end: usize) -> Result<(Program, Re
 
 // Parses the program and the script from the trees of an input of `end` bytes.
 fn parse_forms(alloc: Global, trees: Vec<Tree>, end: usize, threads: bool) -> Result<Input, TextEnd>
-    ensures ok { (bytes : List ℕ) → Spells bytes (forest_view trees.items) → nesting (forest_view trees.items) ≤ 100 →
+    ensures ok { (bytes : List ℕ) → Spells bytes (forest_view trees.items) → list_nesting (forest_view trees.items) ≤ 100 →
         IfOk result (λ input. IsInput threads bytes input) }
     ensures fine { OnOk result (refusal threads end (forest_view trees.items) ≡ None) }
     ensures bad { (fault : fault_data) → result ≡ Err (TextEnd.Bad fault) →

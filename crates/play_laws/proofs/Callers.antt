@@ -13,7 +13,7 @@ use Rattle.snap_shared.proofs.OwnCalls.{itself}
 use Rattle.snap_shared.proofs.Prefixes.{calls_by-append}
 use Rattle.lang_script.specs.Scripts.{index_of, written_out}
 use Rattle.lang_script.specs.StepCalls.{Notes, Part, ActorPart, of_actor, steps_parts, script_parts, request_of, notes_after, entry, sequential}
-use Rattle.play_laws.specs.Woven.{actor_of, parts_of, AreOf, actor_parts}
+use Rattle.play_laws.specs.Woven.{actor_of, parts_of_actor, AreOf, actor_parts}
 use Rattle.play_laws.specs.FirstParts.{state_given}
 use Rattle.play_laws.specs.Laws.{PartsAreOfScript}
 use Rattle.play_laws.proofs.Steps.{state_at_part, state_after_reply}
@@ -52,30 +52,30 @@ are_by_first (e ∷ es) others = elim (cases_lt e.caller 1) [
   | inr far ↦ let none : e ∷ own_calls e.caller es ≡ [] = sym (own_calls-first e es) ∙ others e.caller far in absurd cc
 ]
 
-pub parts_of-mine : (a : ℕ) (parts : List ActorPart) → AreOf a parts → parts_of a parts ≡ parts
+pub parts_of-mine : (a : ℕ) (parts : List ActorPart) → AreOf a parts → parts_of_actor a parts ≡ parts
 parts_of-mine a [] m = refl
-parts_of-mine a (p ∷ ps) m = ap (λ b. cond b (p ∷ parts_of a ps) (parts_of a ps))
+parts_of-mine a (p ∷ ps) m = ap (λ b. cond b (p ∷ parts_of_actor a ps) (parts_of_actor a ps))
     (ap (λ (x : ℕ). x == a) m.0 ∙ itself a) ∙ ap (λ l. p ∷ l) (parts_of-mine a ps m.1)
 
-pub parts_are_of : (a : ℕ) (parts : List ActorPart) → AreOf a (parts_of a parts)
+pub parts_are_of : (a : ℕ) (parts : List ActorPart) → AreOf a (parts_of_actor a parts)
 parts_are_of a [] = tt
 parts_are_of a (p ∷ ps) = by (p.actor == a) refl (parts_are_of a ps) where
-  by : (b : Bool) → (p.actor == a) ≡ b → AreOf a (parts_of a ps) → AreOf a (cond b (p ∷ parts_of a ps) (parts_of a ps))
+  by : (b : Bool) → (p.actor == a) ≡ b → AreOf a (parts_of_actor a ps) → AreOf a (cond b (p ∷ parts_of_actor a ps) (parts_of_actor a ps))
   by true e rest = (eqb-true p.actor a e, rest)
   by false e rest = rest
 
 -- The parts of one actor's steps are all its own, or none of another's.
-of_one : (a b : ℕ) (ps : List Part) → parts_of a (map (of_actor b) ps) ≡ cond (b == a) (map (of_actor a) ps) []
+of_one : (a b : ℕ) (ps : List Part) → parts_of_actor a (map (of_actor b) ps) ≡ cond (b == a) (map (of_actor a) ps) []
 of_one a b ps = by (b == a) refl ps where
   by : (same : Bool) → (b == a) ≡ same → (ps : List Part)
-      → parts_of a (map (of_actor b) ps) ≡ cond same (map (of_actor a) ps) []
+      → parts_of_actor a (map (of_actor b) ps) ≡ cond same (map (of_actor a) ps) []
   by true e [] = refl
   by true e (p ∷ ps) =
-      ap (λ c. cond c (of_actor b p ∷ parts_of a (map (of_actor b) ps)) (parts_of a (map (of_actor b) ps))) e
+      ap (λ c. cond c (of_actor b p ∷ parts_of_actor a (map (of_actor b) ps)) (parts_of_actor a (map (of_actor b) ps))) e
       ∙ (λ i. of_actor (eqb-true b a e i) p ∷ by true e ps i)
   by false e [] = refl
-  by false e (p ∷ ps) = ap (λ c. cond c (of_actor b p ∷ parts_of a (map (of_actor b) ps))
-      (parts_of a (map (of_actor b) ps))) e ∙ by false e ps
+  by false e (p ∷ ps) = ap (λ c. cond c (of_actor b p ∷ parts_of_actor a (map (of_actor b) ps))
+      (parts_of_actor a (map (of_actor b) ps))) e ∙ by false e ps
 
 pub parts_are_of_script : PartsAreOfScript
 parts_are_of_script a actors [] = refl

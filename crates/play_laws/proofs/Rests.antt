@@ -10,7 +10,7 @@ use Rattle.snap_shared.proofs.Prefixes.{calls_by-append}
 use Rattle.lang_script.specs.StepCalls.{ActorPart, no_notes, sequential}
 use Rattle.lang_script.proofs.Sequential.{spelled, only}
 use Rattle.play_laws.specs.PrintedHistory.{printed_history}
-use Rattle.play_laws.specs.Woven.{ActorState, initial_actor, parts_of, AreOf, SpellsAll}
+use Rattle.play_laws.specs.Woven.{ActorState, initial_actor, parts_of_actor, AreOf, SpellsAll}
 use Rattle.play_laws.specs.FirstParts.{replies_of, state_given, IsFirstPart}
 use Rattle.play_laws.specs.Laws.{PartIsCompleted, PrintedPartIsCompleted, SequentialIsWoven, WovenIsSequential}
 use Rattle.play_laws.proofs.Callers.{AreBy, are_by_first, own_calls-mine, own_calls-others, parts_of-mine, parts_are_of, left_is_of, sequential_is_by}
@@ -83,20 +83,20 @@ module _ (states : ℕ → ActorState) where
 
 -- An actor after these calls of its own.
 abbrev state_after : List ActorPart → History → ℕ → ActorState
-state_after parts h a = state_given no_notes (parts_of a parts) (replies_of (own_calls a h))
+state_after parts h a = state_given no_notes (parts_of_actor a parts) (replies_of (own_calls a h))
 
 pub part_is_completed : PartIsCompleted
 part_is_completed n parts w h legal firsts others =
     let states = state_after parts h in
     let own : (a : ℕ) → AreOf a (states a).left =
-    λ a. left_is_of a no_notes (parts_of a parts) (replies_of (own_calls a h)) (parts_are_of a parts) in
+    λ a. left_is_of a no_notes (parts_of_actor a parts) (replies_of (own_calls a h)) (parts_are_of a parts) in
     let after = world_after table w h in
     let more = rests states after 0 n in (
       more,
       legal_append w h more legal (rests_legal states n 0 after),
       record {
         each = λ a under. subst (λ (l : History). SpellsAll (initial_actor parts a) l) (sym (own_calls-append a h more))
-            (spelled_on no_notes (parts_of a parts) (own_calls a h) (own_calls a more) (firsts a under)
+            (spelled_on no_notes (parts_of_actor a parts) (own_calls a h) (own_calls a more) (firsts a under)
             (within states own a n 0 after (omega (arith)) (omega (arith, under))));
         others = λ a far. own_calls-append a h more ∙ ap (λ l. l ++ own_calls a more) (others a far)
             ∙ above states own a n 0 after (omega (arith, far));

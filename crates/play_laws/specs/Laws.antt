@@ -21,7 +21,7 @@ use Rattle.lang_script.specs.StepCalls.{Notes, ActorPart, no_notes, request_of, 
 use Rattle.script_lang.specs.Lines.{LineStyle, Standing, actor_name, lines, standing_after}
 use Rattle.script_lang.specs.PrintedCalls.{reads_frame, frames_after, printed_calls}
 use Rattle.play_laws.specs.PrintedHistory.{printed_history, frames_after_calls}
-use Rattle.play_laws.specs.Woven.{parts_of, AreOf, actor_parts, ActorState, actor_at, initial_actor, SpellsAll, IsWoven}
+use Rattle.play_laws.specs.Woven.{parts_of_actor, AreOf, actor_parts, ActorState, actor_at, initial_actor, SpellsAll, IsWoven}
 use Rattle.play_laws.specs.FirstParts.{IsFirstPart, SpellsTo}
 use Rattle.play_laws.specs.FramesInTurn.{AreInTurn}
 
@@ -143,7 +143,7 @@ FrameReadsAreLeftOut = (h more : History) (a name : ℕ) (xs : List ℕ) →
 -- The parts of one actor are those of the script's steps for this actor.
 abbrev pub PartsAreOfScript : Type 0
 PartsAreOfScript = (a : ℕ) (actors : List (List ℕ)) (forms : List DoForm) →
-    parts_of a (script_parts actors forms) ≡ actor_parts a actors forms
+    parts_of_actor a (script_parts actors forms) ≡ actor_parts a actors forms
 
 -- In a script without the faults of `threads` frames are in turn, in each legal and woven history: one actor at most
 -- has frames, and no other actor has a name for their snapshots.

@@ -13,8 +13,8 @@ abbrev pub actor_of : ActorPart → ℕ
 actor_of p = p.actor
 
 -- The parts of actor `a`, in order.
-abbrev pub parts_of : ℕ → List ActorPart → List ActorPart
-parts_of a parts = calls_by actor_of a parts
+abbrev pub parts_of_actor : ℕ → List ActorPart → List ActorPart
+parts_of_actor a parts = calls_by actor_of a parts
 
 -- `AreOf a parts`: each of the parts belongs to actor `a`.
 abbrev pub AreOf : ℕ → List ActorPart → Type 0
@@ -42,7 +42,7 @@ actor_at n parts = record { notes = n; left = parts }
 
 -- Each actor before its first step has no notes, and all its parts are left.
 abbrev pub initial_actor : List ActorPart → ℕ → ActorState
-initial_actor parts a = actor_at no_notes (parts_of a parts)
+initial_actor parts a = actor_at no_notes (parts_of_actor a parts)
 
 -- The calls are those that the parts which are left make one after the other, given the replies.
 abbrev pub SpellsAll : ActorState → History → Type 0

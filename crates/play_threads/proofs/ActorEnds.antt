@@ -8,7 +8,7 @@ use Rattle.std.specs.List.{All}
 use Rattle.snap_policy.specs.declared.policy.BuiltIn.{BuiltIn}
 use Rattle.snap_policy.specs.Table.{table}
 use Rattle.snap_api.specs.World.{World, History, IsLegal}
-use Rattle.snap_shared.specs.Seats.{opening_of, number_of, seen_by, mine_of, IsSeat}
+use Rattle.snap_shared.specs.Seats.{opening_of, seat_number, seen_by, mine_of, IsSeat}
 use Rattle.snap_shared.specs.SharedCalls.{own_calls, numbers_below, ContainsSeat}
 use Rattle.snap_shared.specs.declared.shared.Seat.{Seat}
 use Rattle.snap_shared.specs.declared.shared.Shared.{Shared}
@@ -17,7 +17,7 @@ use Rattle.lang_script.specs.StepCalls.{ActorPart, no_notes}
 use Rattle.play_laws.specs.Laws.{CanBeCompleted}
 use Rattle.play_laws.specs.FirstParts.{IsFirstPart, SpellsTo}
 use Rattle.play_laws.specs.PrintedHistory.{no_frames, with_frames, printed_from, printed_history, frames_after_calls}
-use Rattle.play_laws.specs.Woven.{actor_at, initial_actor, parts_of, IsWoven, SpellsAll}
+use Rattle.play_laws.specs.Woven.{actor_at, initial_actor, parts_of_actor, IsWoven, SpellsAll}
 use Rattle.play_laws.proofs.Steps.{nothing_is_spelled, all_is_spelled}
 use Rattle.play_threads.specs.ActorNotes.{IsNoted}
 use Rattle.play_threads.specs.ActorSteps.{CountsSnapshots, HasCome, HasActed, ActsThrough}
@@ -27,12 +27,12 @@ use Rattle.play_threads.specs.declared.worker.Worker.{Worker}
 first_none : {W : Type 0} (parts : List ActorPart) (a : ℕ) (seat : Seat W) → seen_by seat ≡ []
     → IsFirstPart (initial_actor parts a) (printed_calls [] (mine_of seat))
 first_none parts a seat none =
-    subst (λ l. IsFirstPart (initial_actor parts a) (printed_calls [] (own_calls (number_of seat) l))) (sym none)
+    subst (λ l. IsFirstPart (initial_actor parts a) (printed_calls [] (own_calls (seat_number seat) l))) (sym none)
     (nothing_is_spelled (initial_actor parts a)).0
 
 -- An actor before its first step.
 pub started : {W : Type 0} (o : World BuiltIn) (parts left : List ActorPart) (a : ℕ) (w : Worker W)
-    → left ≡ parts_of a parts → seen_by w.seat ≡ [] → IsNoted w.memory no_notes →
+    → left ≡ parts_of_actor a parts → seen_by w.seat ≡ [] → IsNoted w.memory no_notes →
     HasCome o (initial_actor parts a) w None left
 started o parts left a w same none noted = record {
   first = first_none parts a w.seat none;
@@ -40,11 +40,11 @@ started o parts left a w same none noted = record {
     notes = no_notes;
     noted = noted;
     at_frame = refl;
-    spells = subst (λ l. SpellsTo (initial_actor parts a) (printed_calls [] (own_calls (number_of w.seat) l))
+    spells = subst (λ l. SpellsTo (initial_actor parts a) (printed_calls [] (own_calls (seat_number w.seat) l))
         (actor_at no_notes left)) (sym none)
         (subst (λ l. SpellsTo (initial_actor parts a) [] (actor_at no_notes l)) (sym same)
         (nothing_is_spelled (initial_actor parts a)));
-    frames = ap (λ l. frames_after_calls [] (own_calls (number_of w.seat) l)) none;
+    frames = ap (λ l. frames_after_calls [] (own_calls (seat_number w.seat) l)) none;
     known = λ name n found. absurd cc;
     apart = tt;
   };
@@ -88,8 +88,8 @@ element (x ∷ xs) k within = x
 
 module _ {W : Type 0} (parts : List ActorPart) (h : History) where
   -- What an actor has done, in the history of all.
-  acted_in : (a : ℕ) (seat : Seat W) (short any : Bool) → number_of seat ≡ a
-      → own_calls (number_of seat) h ≡ own_calls (number_of seat) (seen_by seat) → (any ≡ false → short ≡ false) →
+  acted_in : (a : ℕ) (seat : Seat W) (short any : Bool) → seat_number seat ≡ a
+      → own_calls (seat_number seat) h ≡ own_calls (seat_number seat) (seen_by seat) → (any ≡ false → short ≡ false) →
       HasActed parts a (mine_of seat) short → HasActed parts a (own_calls a h) any
   acted_in a seat short any is same all acted =
       let calls : mine_of seat ≡ own_calls a h = sym same ∙ ap (λ n. own_calls n h) is in
@@ -110,8 +110,8 @@ module _ {A : Type 0} (number : A → ℕ) (actors : List A) where
 module _ {W A : Type 0} (seat : A → Seat W) (number : A → ℕ) (actors : List A) where
   -- Each actor has a new seat of its number.
   pub ready : (New : Seat W → Type 0) (seats : List (Seat W)) (n : ℕ) → map seat actors ≡ seats
-      → map number actors ≡ numbers_below (length seats) → map number_of seats ≡ numbers_below n → length seats ≡ n →
-      All New seats → All (λ x. New (seat x) × (number_of (seat x) ≡ number x)) actors
+      → map number actors ≡ numbers_below (length seats) → map seat_number seats ≡ numbers_below n → length seats ≡ n →
+      All New seats → All (λ x. New (seat x) × (seat_number (seat x) ≡ number x)) actors
   ready New seats n same numbers callers many new k d within =
       let x = slice_index_or actors k d in
       let long : length actors ≡ length seats = sym (length-map actors seat)
@@ -120,8 +120,8 @@ module _ {W A : Type 0} (seat : A → Seat W) (number : A → ℕ) (actors : Lis
       let is : slice_index_or seats k (seat d) ≡ seat x =
       ap (λ (l : List (Seat W)). slice_index_or l k (seat d)) (sym same)
       ∙ get_or-map seat actors k d (seat d) within in
-      let at : number_of (seat x) ≡ k =
-      ap number_of (sym is) ∙ sym (get_or-map number_of seats k (seat d) 0 here)
+      let at : seat_number (seat x) ≡ k =
+      ap seat_number (sym is) ∙ sym (get_or-map seat_number seats k (seat d) 0 here)
       ∙ ap (λ (l : List ℕ). slice_index_or l k 0) callers ∙ number_at n k 0 (omega (arith, here, many)) in (
         subst New is (new k (seat d) here),
         at ∙ sym (number_is number actors (length seats) k d numbers long here),
@@ -147,7 +147,7 @@ module _ {W A : Type 0} (seat : A → Seat W) (short : A → Bool) (number : A �
   pub all_acted : (o : World BuiltIn) → stands (opening_of shared) o → CountsSnapshots o
       → (h : History) (any : Bool) (seats : List (Seat W)) (n : ℕ) → length actors ≡ n
       → map number actors ≡ numbers_below n →
-      seats ≡ map seat ends → All (λ x. ContainsSeat h (number_of x) (seen_by x)) seats
+      seats ≡ map seat ends → All (λ x. ContainsSeat h (seat_number x) (seen_by x)) seats
       → (any ≡ false → All (λ x. short x ≡ false) ends) → (a : ℕ) → a < n → HasActed parts a (own_calls a h) any
   all_acted o stood counts h any seats n count numbers same holds none a under =
       let there : a < length actors = omega (arith, under, count) in
@@ -159,7 +159,7 @@ module _ {W A : Type 0} (seat : A → Seat W) (short : A → Bool) (number : A �
       let long : length seats ≡ length ends = ap (λ (l : List (Seat W)). length l) same ∙ length-map ends seat in
       let at : slice_index_or seats a (seat e) ≡ seat x = ap (λ (l : List (Seat W)). slice_index_or l a (seat e)) same
       ∙ get_or-map seat ends a e (seat e) here in
-      let holds_it = subst (λ s. ContainsSeat h (number_of s) (seen_by s)) at
+      let holds_it = subst (λ s. ContainsSeat h (seat_number s) (seen_by s)) at
       (holds a (seat e) (omega (arith, here, long))) in
       acted_in parts h a (seat x) (short x) any (act.seated.is_callers ∙ is) holds_it.1 (λ f. none f a e here)
       (subst (λ k. HasActed parts k (mine_of (seat x)) (short x)) is (act.acted o stood counts))

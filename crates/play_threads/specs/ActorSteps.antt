@@ -5,7 +5,7 @@ use Rattle.snap_policy.specs.Table.{table}
 use Rattle.snap_api.specs.Valid.{IsValid}
 use Rattle.snap_api.specs.World.{World, History, IsLegal, world_after}
 use Rattle.snap_api.specs.declared.data.Request.{Request}
-use Rattle.snap_shared.specs.Seats.{opening_of, number_of, seen_by, mine_of, IsSeat}
+use Rattle.snap_shared.specs.Seats.{opening_of, seat_number, seen_by, mine_of, IsSeat}
 use Rattle.snap_shared.specs.SharedCalls.{own_calls, HasOnlyCallersBelow}
 use Rattle.snap_shared.specs.declared.shared.Seat.{Seat}
 use Rattle.snap_shared.specs.declared.shared.Shared.{Shared}
@@ -27,7 +27,7 @@ by_actor a parts = map (of_actor a) parts
 -- The seat is at rest in the shared world, and its caller has this number.
 pub record IsSeated {W P : Type 0} (shared : Shared W P) (caller : ℕ) (seat : Seat W) : Type 0 where
   pub fits : IsSeat shared seat
-  pub is_callers : number_of seat ≡ caller
+  pub is_callers : seat_number seat ≡ caller
 
 -- A valid world with a global snapshot, whose clock counts the snapshots.
 pub record CountsSnapshots (w : World BuiltIn) : Type 0 where

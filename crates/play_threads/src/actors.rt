@@ -2,7 +2,7 @@
 ghost use Rattle.std.specs.Prelude.{◌≡◌, ◌++◌, ◌∷◌, ◌<◌, [], ℕ, ◌≤◌, All, IfOk, OnOk, length, map, false, slice_index_or, vec_capacity};
 ghost use Rattle.snap_policy.specs.Table.{table};
 ghost use Rattle.snap_api.specs.World.{IsLegal};
-ghost use Rattle.snap_shared.specs.Seats.{number_of, IsNewSeat};
+ghost use Rattle.snap_shared.specs.Seats.{seat_number, IsNewSeat};
 ghost use Rattle.snap_shared.specs.SharedCalls.{numbers_below};
 ghost use Rattle.lang_script.specs.StepCalls.{script_parts, opening_world};
 ghost use Rattle.play_laws.specs.Laws.{CanBeCompleted};
@@ -127,7 +127,7 @@ fn make_steps<V: Versions<P = BuiltIn> + Drop, R: Wait, G: Gate>(
     gate: &G,
     actor: Actor<V>,
 ) -> Actor<V>
-    requires ready { IsNewSeat shared.now actor.seat × (number_of actor.seat ≡ actor.number) }
+    requires ready { IsNewSeat shared.now actor.seat × (seat_number actor.seat ≡ actor.number) }
     ensures acts { let parts = script_parts job.now.script.actors.items job.now.script.forms.items in
         ActsThrough V.stands shared.now parts actor.number result.seat result.short }
 {
@@ -180,7 +180,7 @@ fn run_together<
     G: Gate + Sync,
 >(rt: &R, alloc: Global, job: &Job, shared: &Shared<V>, gate: &G, actors: &mut Vec<Actor<V>>)
     requires some { 0 < length actors.old.items }
-    requires ready { All (λ x. IsNewSeat shared.now x.seat × (number_of x.seat ≡ x.number)) actors.old.items }
+    requires ready { All (λ x. IsNewSeat shared.now x.seat × (seat_number x.seat ≡ x.number)) actors.old.items }
     ensures many { length actors.new.items ≡ length actors.old.items }
     ensures acts { let parts = script_parts job.now.script.actors.items job.now.script.forms.items in
         (k : ℕ) (d : _) → k < length actors.old.items → ActsThrough V.stands shared.now parts
@@ -194,7 +194,7 @@ fn run_together<
         actors.as_mut_slice(),
         threads,
         &|_, actor: &mut Actor<V>|
-            requires { IsNewSeat shared.now actor.now.seat × (number_of actor.now.seat ≡ actor.now.number) }
+            requires { IsNewSeat shared.now actor.now.seat × (seat_number actor.now.seat ≡ actor.now.number) }
             ensures { let parts = script_parts job.entry.now.script.actors.items job.entry.now.script.forms.items in
                 ActsThrough V.stands shared.entry.now parts
                 actor.entry.now.number actor.exit.now.seat actor.exit.now.short }

@@ -1,6 +1,6 @@
 // The steps of an actor, one after the other.
 ghost use Rattle.std.specs.Prelude.{◌≡◌, ◌∷◌, [], ℕ, None};
-ghost use Rattle.snap_shared.specs.Seats.{number_of, IsNewSeat};
+ghost use Rattle.snap_shared.specs.Seats.{seat_number, IsNewSeat};
 ghost use Rattle.lang_script.specs.Scripts.{written_out, repeated_steps};
 ghost use Rattle.lang_script.specs.StepCalls.{step_parts, steps_parts, script_parts};
 ghost use Rattle.play_laws.specs.Woven.{actor_parts};
@@ -198,7 +198,7 @@ pub(crate) fn run_actor<V: Versions<P = BuiltIn> + Drop, R: Wait, G: Gate>(
     job: &Job,
     seat: Seat<V>,
 ) -> EndedActor<V>
-    requires seat { IsNewSeat run.now.shared.now seat × (number_of seat ≡ run.now.number) }
+    requires seat { IsNewSeat run.now.shared.now seat × (seat_number seat ≡ run.now.number) }
     ensures acts { let parts = script_parts job.now.script.actors.items job.now.script.forms.items in
         ActsThrough V.stands run.now.shared.now parts run.now.number result.seat result.short }
 {

@@ -6,7 +6,7 @@ use Rattle.rt_values.specs.declared.value.Value.{Value}
 use Rattle.rt_values.specs.Values.{same_value}
 use Rattle.rt_groups.specs.GroupForest.{GroupForest, End, Read, Group, GroupKind, Call, Node, Key, Cell, is_node}
 use Rattle.rt_groups.specs.Paths.{GroupKey, sibling, same_sibling, occurrence, Found, nth, matching_sibling, inside_of}
-use Rattle.rt_groups.specs.Frames.{number_of}
+use Rattle.rt_groups.specs.Frames.{given_number}
 use Rattle.rt_values.proofs.Equal.{told_equal}
 use Rattle.recompose_laws.specs.Numbering.{numbered_by_siblings}
 use Rattle.recompose_laws.specs.Distinct.{has_number, how_often, AreDistinct, NodesAt, NumbersStayDistinct}
@@ -210,8 +210,8 @@ below_next x k = grind arith
 
 node_count : (x : ℕ) (at_site : ℕ → Bool) (site : ℕ) (what : GroupKind) (old : Option Found) (k : ℕ)
     → is_node what ≡ at_site site → FoundAt at_site site old →
-    has_number x (number_of what old k).0 what + how_often x (inside_of old) + below x k ≤ count_found x old + below x
-    (number_of what old k).1
+    has_number x (given_number what old k).0 what + how_often x (inside_of old) + below x k ≤ count_found x old + below x
+    (given_number what old k).1
 node_count x at_site site (Call f vs) None k e h = omega arith
 node_count x at_site site (Call f vs) (Some g) k e h = omega arith
 node_count x at_site site (Key v) None k e h = omega arith
@@ -232,7 +232,7 @@ spread x at_site old seen k (Group site n what inside rest) g h =
     let s = sibling site what in
     let found = matching_sibling s (occurrence s seen) old in
     let found_is = found_at at_site s (occurrence s seen) old g in
-    let first = (number_of what found k).1 in
+    let first = (given_number what found k).1 in
     let within = (numbered_by_siblings (inside_of found) [] first inside).1 in
     let here = node_count x at_site site what found k h.0 found_is in
     let inner = spread x at_site (inside_of found) [] first inside (inside_at_sites at_site site found found_is) h.1 in
@@ -248,7 +248,7 @@ nodes_beside at_site old seen k (Read y rest) h = nodes_beside at_site old seen 
 nodes_beside at_site old seen k (Group site n what inside rest) h =
     let s = sibling site what in
     let found = matching_sibling s (occurrence s seen) old in
-    let first = (number_of what found k).1 in (
+    let first = (given_number what found k).1 in (
       h.0,
       nodes_beside at_site (inside_of found) [] first inside h.1,
       nodes_beside at_site old (s ∷ seen) (numbered_by_siblings (inside_of found) [] first inside).1 rest h.2,

@@ -4,7 +4,7 @@ use Rattle.rt_groups.specs.declared.report.Report.{Report}
 use Rattle.rt_values.specs.Maps.{Map}
 use Rattle.rt_groups.specs.GroupForest.{GroupForest, End, Read, Group, GroupKind, Call, asks, own_part, how_many, how_many_nodes}
 use Rattle.rt_groups.specs.Paths.{Path, GroupKey, sibling, step, Found, at_path}
-use Rattle.rt_groups.specs.Frames.{meets, number_of, numbered_forest, ran, calculated_cells, reads}
+use Rattle.rt_groups.specs.Frames.{meets, given_number, numbered_forest, ran, calculated_cells, reads}
 use Rattle.lang_ast.specs.Terms.{Func}
 use Rattle.compose_model.specs.Composing.{meanings, meaning_at, forest}
 use Rattle.recompose_laws.specs.Work.{Work, no_work, work_sum, with_call, work}
@@ -18,7 +18,7 @@ use Rattle.recompose_laws.proofs.Renewals.{composing_again_is_the_frame}
 -- Only nodes get numbers.
 
 own_number : (what : GroupKind) (old : Option Found) (k : ℕ)
-    → (number_of what old k).0 ≡ kept_number what (number_of what old k).0
+    → (given_number what old k).0 ≡ kept_number what (given_number what old k).0
 own_number (Call f vs) old k = refl
 own_number _ old k = refl
 
@@ -28,7 +28,7 @@ numbered_is_numbered old here seen k End = tt
 numbered_is_numbered old here seen k (Read x rest) = numbered_is_numbered old here seen k rest
 numbered_is_numbered old here seen k (Group site n what inside rest) =
     let path = here ++ step site what seen ∷ [] in
-    let first = (number_of what (at_path path old) k).1 in (
+    let first = (given_number what (at_path path old) k).1 in (
       own_number what (at_path path old) k,
       numbered_is_numbered old path [] first inside,
       numbered_is_numbered old here (sibling site what ∷ seen) (numbered_forest old path [] first inside).1 rest,

@@ -2,7 +2,7 @@
 use Rattle.std.proofs.Common.{ℕ, List, [], ◌∷◌, ◌++◌, ◌≡◌, refl, ap, ◌∙◌, sym}
 use Rattle.rt_groups.specs.GroupForest.{GroupForest, End, Read, Group}
 use Rattle.rt_groups.specs.Paths.{Path, GroupKey, sibling, step, occurrence, matching_sibling, inside_of, at_path}
-use Rattle.rt_groups.specs.Frames.{number_of, numbered_forest}
+use Rattle.rt_groups.specs.Frames.{given_number, numbered_forest}
 use Rattle.recompose_laws.specs.Numbering.{numbered_by_siblings, PathNumbersAreSiblingNumbers}
 use Rattle.recompose_laws.proofs.Beside.{inside_at, at_path-append, inside_at-append}
 use Rattle.recompose_laws.proofs.Plain.{put, same_put}
@@ -21,18 +21,18 @@ along old here seen k beside (Group site n what inside rest) e =
     let deeper : inside_of (matching_sibling (sibling site what) (occurrence (sibling site what) seen) beside) ≡ inside_at (here ++ step site what seen ∷ []) old =
     ap (λ t. inside_of (matching_sibling (sibling site what) (occurrence (sibling site what) seen) t)) e
     ∙ sym (inside_at-append here (step site what seen) old) in
-    same_put site (number_of what (at_path path old) k).0 what
-    (numbered_forest old path [] (number_of what (at_path path old) k).1 inside)
-    (numbered_by_siblings (inside_of found) [] (number_of what (at_path path old) k).1 inside)
+    same_put site (given_number what (at_path path old) k).0 what
+    (numbered_forest old path [] (given_number what (at_path path old) k).1 inside)
+    (numbered_by_siblings (inside_of found) [] (given_number what (at_path path old) k).1 inside)
     (λ j. numbered_forest old here (sibling site what ∷ seen) j rest)
     (λ j. numbered_by_siblings beside (sibling site what ∷ seen) j rest)
     (along old (here ++ step site what seen ∷ []) []
-    (number_of what (at_path (here ++ step site what seen ∷ []) old)
+    (given_number what (at_path (here ++ step site what seen ∷ []) old)
     k).1 (inside_of (matching_sibling (sibling site what) (occurrence (sibling site what) seen) beside)) inside
     deeper)
     (λ j. along old here (sibling site what ∷ seen) j beside rest e)
-    ∙ ap (λ g. put site (number_of what g k).0 what
-    (numbered_by_siblings (inside_of found) [] (number_of what g k).1 inside)
+    ∙ ap (λ g. put site (given_number what g k).0 what
+    (numbered_by_siblings (inside_of found) [] (given_number what g k).1 inside)
     (λ j. numbered_by_siblings beside (sibling site what ∷ seen) j rest)) same
 
 pub path_numbers_are_sibling_numbers : PathNumbersAreSiblingNumbers

@@ -5,7 +5,7 @@ use Rattle.rt_values.specs.Maps.{Map}
 use Rattle.rt_groups.specs.GroupForest.{GroupForest, End, Read, Group, GroupKind, asks, own_part}
 use Rattle.rt_groups.specs.GroupForest as trail
 use Rattle.rt_groups.specs.Paths.{Path, GroupKey, sibling, step, occurrence, matching_sibling, inside_of, at_path}
-use Rattle.rt_groups.specs.Frames.{meets, number_of, numbered_forest}
+use Rattle.rt_groups.specs.Frames.{meets, given_number, numbered_forest}
 use Rattle.lang_ast.specs.Terms.{Stmt, Node, Call, Key, If, For, Let, Remember, Func}
 use Rattle.lang_ast.specs.Evaluation.{Bindings}
 use Rattle.compose_model.specs.Composing.{Meaning, group, meaning_at, meanings, forest}
@@ -61,13 +61,13 @@ without_numbers-numbered_forest old here seen k (Group site n what inside rest) 
     ap (λ u. Group site 0 what u
     (without_numbers (numbered_forest old here (sibling site what ∷ seen)
     (numbered_forest old (here ++ step site what seen ∷ []) []
-    (number_of what (at_path (here ++ step site what seen ∷ []) old) k).1 inside).1 rest).0))
+    (given_number what (at_path (here ++ step site what seen ∷ []) old) k).1 inside).1 rest).0))
     (without_numbers-numbered_forest old (here ++ step site what seen ∷ []) []
-    (number_of what (at_path (here ++ step site what seen ∷ []) old) k).1 inside)
+    (given_number what (at_path (here ++ step site what seen ∷ []) old) k).1 inside)
     ∙ ap (λ u. Group site 0 what (without_numbers inside) u)
     (without_numbers-numbered_forest old here (sibling site what ∷ seen)
     (numbered_forest old (here ++ step site what seen ∷ []) []
-    (number_of what (at_path (here ++ step site what seen ∷ []) old) k).1 inside).1 rest)
+    (given_number what (at_path (here ++ step site what seen ∷ []) old) k).1 inside).1 rest)
 
 pub kept_trail_is_the_forest : KeptTrailIsTheForest
 kept_trail_is_the_forest old k functions root m =
@@ -113,13 +113,13 @@ beside-without_numbers old seen k (Read x rest) =
     ap (λ (p : GroupForest × ℕ). (Read x p.0, p.1)) (beside-without_numbers old seen k rest)
 beside-without_numbers old seen k (Group site n what inside rest) =
     let found = matching_sibling (sibling site what) (occurrence (sibling site what) seen) old in
-    same_put site (number_of what found k).0 what
-    (numbered_by_siblings (inside_of found) [] (number_of what found k).1 (without_numbers inside))
-    (numbered_by_siblings (inside_of found) [] (number_of what found k).1 inside)
+    same_put site (given_number what found k).0 what
+    (numbered_by_siblings (inside_of found) [] (given_number what found k).1 (without_numbers inside))
+    (numbered_by_siblings (inside_of found) [] (given_number what found k).1 inside)
     (λ j. numbered_by_siblings old (sibling site what ∷ seen) j (without_numbers rest))
     (λ j. numbered_by_siblings old (sibling site what ∷ seen) j rest)
     (beside-without_numbers (inside_of (matching_sibling (sibling site what) (occurrence (sibling site what) seen)
-    old)) [] (number_of what (matching_sibling (sibling site what) (occurrence (sibling site what) seen) old)
+    old)) [] (given_number what (matching_sibling (sibling site what) (occurrence (sibling site what) seen) old)
     k).1 inside)
     (λ j. beside-without_numbers old (sibling site what ∷ seen) j rest)
 

@@ -4,7 +4,7 @@ use Rattle.rt_values.specs.declared.value.Value.{Value}
 use Rattle.rt_values.specs.Maps.{Map}
 use Rattle.rt_groups.specs.GroupForest.{GroupForest, End, Read, Group, GroupKind, Call, joined_forest, asks}
 use Rattle.rt_groups.specs.Paths.{GroupKey, sibling, occurrence, Found, matching_sibling, inside_of}
-use Rattle.rt_groups.specs.Frames.{number_of}
+use Rattle.rt_groups.specs.Frames.{given_number}
 use Rattle.lang_ast.specs.Terms.{Func}
 use Rattle.compose_model.specs.Composing.{meanings, meaning_at, forest}
 use Rattle.recompose_laws.specs.Work.{work, siblings}
@@ -40,7 +40,7 @@ inside_renewal m owed functions (Call f vs) inside k h =
 inside_renewal m owed functions _ inside k h = h functions
 
 keeps_number : (what : GroupKind) (n : ℕ) (inside : GroupForest) (k : ℕ)
-    → (kept_number what n, k) ≡ number_of what (Some (record { number = n; what = what; inside = inside })) k
+    → (kept_number what n, k) ≡ given_number what (Some (record { number = n; what = what; inside = inside })) k
 keeps_number (Call f vs) n inside k = refl
 keeps_number _ n inside k = refl
 
@@ -72,8 +72,8 @@ renewal m owed (Group site n what inside rest) before whole seen functions k e f
     ∙ ap (λ (p : ℕ × ℕ). put site p.0 what (numbered_by_siblings inside [] p.1 fresh)
     (λ j. numbered_by_siblings whole (sibling site what ∷ seen) j (refreshed_groups m owed rest functions)))
     (keeps_number what n inside k)
-    ∙ ap (λ (g : Option Found). put site (number_of what g k).0 what
-    (numbered_by_siblings (inside_of g) [] (number_of what g k).1 fresh)
+    ∙ ap (λ (g : Option Found). put site (given_number what g k).0 what
+    (numbered_by_siblings (inside_of g) [] (given_number what g k).1 fresh)
     (λ j. numbered_by_siblings whole (sibling site what ∷ seen) j (refreshed_groups m owed rest functions)))
     (sym found)
 

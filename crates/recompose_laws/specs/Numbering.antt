@@ -3,7 +3,7 @@ use Rattle.std.specs.Prelude.{ℕ, List, [], ◌∷◌, ◌≡◌, length, Bool,
 use Rattle.rt_values.specs.Maps.{Map}
 use Rattle.rt_groups.specs.GroupForest.{GroupForest, End, Read, Group, GroupKind, Call, is_node, asks}
 use Rattle.rt_groups.specs.Paths.{GroupKey, sibling, occurrence, matching_sibling, inside_of}
-use Rattle.rt_groups.specs.Frames.{number_of, numbered_forest, ran, calculated_cells, reads}
+use Rattle.rt_groups.specs.Frames.{given_number, numbered_forest, ran, calculated_cells, reads}
 use Rattle.lang_ast.specs.Terms.{Func}
 use Rattle.compose_model.specs.Composing.{meanings, meaning_at, forest}
 use Rattle.recompose_laws.specs.Refreshing.{is_owed, SameReads}
@@ -23,7 +23,7 @@ numbered_by_siblings old seen next (Read x rest) =
     let more = numbered_by_siblings old seen next rest in (Read x more.0, more.1)
 numbered_by_siblings old seen next (Group site n what inside rest) =
     let found = matching_sibling (sibling site what) (occurrence (sibling site what) seen) old in
-    let own_number = number_of what found next in
+    let own_number = given_number what found next in
     let within = numbered_by_siblings (inside_of found) [] own_number.1 inside in
     let more = numbered_by_siblings old (sibling site what ∷ seen) within.1 rest in
     (Group site own_number.0 what within.0 more.0, more.1)

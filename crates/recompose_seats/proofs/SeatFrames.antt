@@ -21,7 +21,7 @@ use Rattle.snap_api.specs.declared.data.Reply.{Reply}
 use Rattle.snap_api.specs.declared.data.Reply.TheVariants as reply
 use Rattle.snap_api.specs.declared.data.Request.TheVariants as request
 use Rattle.snap_shared.specs.SeatDesk.{SeesMap, SeesFurther, IsOnlyTaker, objects_read}
-use Rattle.snap_shared.specs.Seats.{opening_of, number_of, seen_by, mine_of, IsSeat}
+use Rattle.snap_shared.specs.Seats.{opening_of, seat_number, seen_by, mine_of, IsSeat}
 use Rattle.snap_shared.specs.SharedCalls.{own_calls}
 use Rattle.snap_shared.specs.declared.shared.Seat.{Seat}
 use Rattle.snap_shared.specs.declared.shared.Shared.{Shared}
@@ -37,11 +37,11 @@ some_same a b e = cc
 
 module _ {W P : Type 0} (rules : Rules P) (stands : W → World P → Type 0) (shared : Shared W P) (before after : Seat W)
     (watcher : ℕ) (types : List Ty)
-    (same : number_of after ≡ number_of before) (only : IsOnlyTaker (number_of after) watcher (seen_by after)) where
+    (same : seat_number after ≡ seat_number before) (only : IsOnlyTaker (seat_number after) watcher (seen_by after)) where
   taken_with : (name : ℕ) (changed : List ℕ) (ys : List Entry) (m : Map) →
       mine_of after ≡ mine_of before
       ++ record {
-        caller = number_of before;
+        caller = seat_number before;
         request = request.TakeFor watcher;
         reply = reply.TakenFor name changed;
       } ∷ ys →
@@ -49,7 +49,7 @@ module _ {W P : Type 0} (rules : Rules P) (stands : W → World P → Type 0) (s
       → HasTaken rules stands shared before after watcher types (Some m)
   taken_with name changed ys m grew none last = (
     last,
-    map_at_take rules (stands (opening_of shared)) (seen_by after) (mine_of before) (number_of before) watcher name
+    map_at_take rules (stands (opening_of shared)) (seen_by after) (mine_of before) (seat_number before) watcher name
         changed ys types m
         (ap (λ (n : ℕ). own_calls n (seen_by after)) (sym same) ∙ grew) none
         (subst (λ (n : ℕ). IsOnlyTaker n watcher (seen_by after)) same only) last,
@@ -58,7 +58,7 @@ module _ {W P : Type 0} (rules : Rules P) (stands : W → World P → Type 0) (s
   -- A frame that has begun took its map at one place of the history.
   pub begun_taken : {at_map : Option Map → Type 0} {shows : Map → Type 0} {l : Option Map} {name : ℕ}
       {changed : List ℕ} →
-      Logs (Some (mine_of before)) (Some (mine_of after)) (number_of before) (request.TakeFor watcher)
+      Logs (Some (mine_of before)) (Some (mine_of after)) (seat_number before) (request.TakeFor watcher)
       (reply.TakenFor name changed) →
       BeginsFrame at_map shows (λ k. HasLast rules stands shared after watcher types k) l name changed →
       BeginsFrame at_map shows (λ k. HasTaken rules stands shared before after watcher types k) l name changed
@@ -76,19 +76,19 @@ module _ {W P : Type 0} (rules : Rules P) (stands : W → World P → Type 0) (s
       {applies : Option FrameResult → Type 0} {told : Report} →
       MakesFrame p k at_frame (λ l. HasLast rules stands shared after watcher types l)
       (λ xs. (objects_read (mine_of after) ≡ objects_read (mine_of before) ++ xs)
-      × LogsFrame (Some (mine_of before)) (Some (mine_of after)) (number_of before) watcher xs) applies told →
+      × LogsFrame (Some (mine_of before)) (Some (mine_of after)) (seat_number before) watcher xs) applies told →
       MakesFrame p k at_frame (λ l. HasTaken rules stands shared before after watcher types l)
       (λ xs. (objects_read (mine_of after) ≡ objects_read (mine_of before) ++ xs)
-      × LogsFrame (Some (mine_of before)) (Some (mine_of after)) (number_of before) watcher xs) applies told
+      × LogsFrame (Some (mine_of before)) (Some (mine_of after)) (seat_number before) watcher xs) applies told
   frame_taken f =
       let whole = f.done.1 in
       let take : Entry = record {
-        caller = number_of before;
+        caller = seat_number before;
         request = request.TakeFor watcher;
         reply = reply.TakenFor whole.name whole.changed;
       } in
       let dispose : Entry = record {
-        caller = number_of before;
+        caller = seat_number before;
         request = request.Dispose whole.name;
         reply = reply.Disposed;
       } in
@@ -99,7 +99,7 @@ module _ {W P : Type 0} (rules : Rules P) (stands : W → World P → Type 0) (s
         map = f.map;
         is_at = f.is_at;
         is_last = taken_with whole.name whole.changed (whole.rest.more ++ dispose ∷ []) f.map grew
-            (reads_take_none watcher (number_of before) whole.name whole.rest.more _ dispose refl whole.rest.reads)
+            (reads_take_none watcher (seat_number before) whole.name whole.rest.more _ dispose refl whole.rest.reads)
             f.is_last;
         told_is = f.told_is;
         done = f.done;
@@ -111,8 +111,8 @@ module _ {W P : Type 0} (rules : Rules P) (stands : W → World P → Type 0) (s
 -- returns.
 module _ {W P : Type 0} (rules : Rules P) (stands : W → World P → Type 0) (shared other : Shared W P)
     (before after back : Seat W) (watcher : ℕ) (types : List Ty)
-    (same_world : other ≡ shared) (is_back : back ≡ after) (same : number_of after ≡ number_of before)
-    (only : IsOnlyTaker (number_of back) watcher (seen_by back)) where
+    (same_world : other ≡ shared) (is_back : back ≡ after) (same : seat_number after ≡ seat_number before)
+    (only : IsOnlyTaker (seat_number back) watcher (seen_by back)) where
   -- The watcher's last map.
   pub last_back : (l : Option Map) → HasLast rules stands other after watcher types l
       → HasLast rules stands shared back watcher types l
@@ -127,33 +127,33 @@ module _ {W P : Type 0} (rules : Rules P) (stands : W → World P → Type 0) (s
 
   begun_back : {at_map : Option Map → Type 0} {l : Option Map} (opened : Option ℕ) (name : ℕ) (changed : List ℕ)
       → opened ≡ Some name →
-      Logs (Some (mine_of before)) (Some (mine_of after)) (number_of before) (request.TakeFor watcher)
+      Logs (Some (mine_of before)) (Some (mine_of after)) (seat_number before) (request.TakeFor watcher)
       (reply.TakenFor name changed) →
-      BeginsFrame at_map (λ m. SeesMap rules (stands (opening_of other)) (seen_by after) (number_of after) opened m)
+      BeginsFrame at_map (λ m. SeesMap rules (stands (opening_of other)) (seen_by after) (seat_number after) opened m)
       (λ k. HasLast rules stands other after watcher types k) l name changed →
       BeginsFrame at_map (λ m. ShowsIn rules stands shared back name m)
       (λ k. HasTaken rules stands shared before back watcher types k) l name changed
   begun_back {at_map} {l} opened name changed is logged b =
       let here = subst (λ (v : Shared W P). BeginsFrame at_map
-      (λ m. SeesMap rules (stands (opening_of v)) (seen_by after) (number_of after) opened m)
+      (λ m. SeesMap rules (stands (opening_of v)) (seen_by after) (seat_number after) opened m)
       (λ k. HasLast rules stands v after watcher types k) l name changed) same_world b in
       let of_back = subst (λ (s : Seat W). BeginsFrame at_map
-      (λ m. SeesMap rules (stands (opening_of shared)) (seen_by s) (number_of s) opened m)
+      (λ m. SeesMap rules (stands (opening_of shared)) (seen_by s) (seat_number s) opened m)
       (λ k. HasLast rules stands shared s watcher types k) l name changed) (sym is_back) here in
       let named = subst (λ (o : Option ℕ). BeginsFrame at_map
-      (λ m. SeesMap rules (stands (opening_of shared)) (seen_by back) (number_of back) o m)
+      (λ m. SeesMap rules (stands (opening_of shared)) (seen_by back) (seat_number back) o m)
       (λ k. HasLast rules stands shared back watcher types k) l name changed) is of_back in
-      begun_taken rules stands shared before back watcher types (ap number_of is_back ∙ same) only
-      (subst (λ (s : Seat W). Logs (Some (mine_of before)) (Some (mine_of s)) (number_of before)
+      begun_taken rules stands shared before back watcher types (ap seat_number is_back ∙ same) only
+      (subst (λ (s : Seat W). Logs (Some (mine_of before)) (Some (mine_of s)) (seat_number before)
       (request.TakeFor watcher) (reply.TakenFor name changed)) (sym is_back) logged) named
 
   -- A good beginning of a frame.
   pub begun_ok : {calls : Reply → Type 0} {known : Type 0} (at_map : Option Map → Type 0) (l : Option Map)
       (opened : Option ℕ) (r : Result Begun FrameStop) → IfOk r (λ b. opened ≡ Some b.name) →
       RepliesToTake (λ y. calls y
-      × Logs (Some (mine_of before)) (Some (mine_of after)) (number_of before) (request.TakeFor watcher) y) known r →
+      × Logs (Some (mine_of before)) (Some (mine_of after)) (seat_number before) (request.TakeFor watcher) y) known r →
       IfOk r (λ b. BeginsFrame at_map
-      (λ m. SeesMap rules (stands (opening_of other)) (seen_by after) (number_of after) opened m)
+      (λ m. SeesMap rules (stands (opening_of other)) (seen_by after) (seat_number after) opened m)
       (λ k. HasLast rules stands other after watcher types k) l b.name b.changed) →
       IfOk r (λ b. BeginsFrame at_map (λ m. ShowsIn rules stands shared back b.name m)
       (λ k. HasTaken rules stands shared before back watcher types k) l b.name b.changed)
@@ -162,7 +162,7 @@ module _ {W P : Type 0} (rules : Rules P) (stands : W → World P → Type 0) (s
 
   abbrev Does : Seat W → List ℕ → Type 0
   Does s xs = (objects_read (mine_of s) ≡ objects_read (mine_of before) ++ xs)
-      × LogsFrame (Some (mine_of before)) (Some (mine_of s)) (number_of before) watcher xs
+      × LogsFrame (Some (mine_of before)) (Some (mine_of s)) (seat_number before) watcher xs
 
   frame_back : {p : Program} {k : LastFrame} {at_frame : LastFrame → Option Map → Type 0}
       {applies : Option FrameResult → Type 0} {told : Report} →
@@ -173,7 +173,7 @@ module _ {W P : Type 0} (rules : Rules P) (stands : W → World P → Type 0) (s
       (Does after) applies told) same_world f in
       let of_back = subst (λ (s : Seat W). MakesFrame p k at_frame (λ l. HasLast rules stands shared s watcher types l)
       (Does s) applies told) (sym is_back) here in
-      frame_taken rules stands shared before back watcher types (ap number_of is_back ∙ same) only of_back
+      frame_taken rules stands shared before back watcher types (ap seat_number is_back ∙ same) only of_back
 
   -- A good frame. `c` is the composition after it.
   pub frame_ok : (old c : Composition) → c.program ≡ old.program → c.watcher ≡ old.watcher → old.watcher ≡ watcher
@@ -192,33 +192,33 @@ module _ {W P : Type 0} (rules : Rules P) (stands : W → World P → Type 0) (s
           (Does back) applies told →
           MakesFrame c.program.now k (IsAt c) (λ l. HasTaken rules stands shared before back n types l)
           (λ xs. (objects_read (mine_of back) ≡ objects_read (mine_of before) ++ xs)
-          × LogsFrame (Some (mine_of before)) (Some (mine_of back)) (number_of before) n xs) applies told
+          × LogsFrame (Some (mine_of before)) (Some (mine_of back)) (seat_number before) n xs) applies told
       with_watcher n e made = subst (λ (w : ℕ). MakesFrame c.program.now k (IsAt c)
           (λ l. HasTaken rules stands shared before back w types l)
           (λ xs. (objects_read (mine_of back) ≡ objects_read (mine_of before) ++ xs)
-          × LogsFrame (Some (mine_of before)) (Some (mine_of back)) (number_of before) w xs) applies told) e made
+          × LogsFrame (Some (mine_of before)) (Some (mine_of back)) (seat_number before) w xs) applies told) e made
   frame_ok old c program same_watcher is k applies (Err e) f = tt
 
   -- A frame that was not made.
   pub frame_err : (p : Program) (k : LastFrame) (at_frame : LastFrame → Option Map → Type 0)
       (r : Result Report FrameStop) →
       IfErr r (MakesNoFrame p k at_frame (λ l. HasLast rules stands other after watcher types l)
-      (LogsNoFrame p k (Some (mine_of before)) (Some (mine_of after)) (number_of before) watcher)) →
+      (LogsNoFrame p k (Some (mine_of before)) (Some (mine_of after)) (seat_number before) watcher)) →
       IfErr r (MakesNoFrame p k at_frame (λ l. HasLast rules stands shared back watcher types l)
-      (LogsNoFrame p k (Some (mine_of before)) (Some (mine_of back)) (number_of before) watcher))
+      (LogsNoFrame p k (Some (mine_of before)) (Some (mine_of back)) (seat_number before) watcher))
   frame_err p k at_frame r f =
       subst (λ (s : Seat W). IfErr r
       (MakesNoFrame p k at_frame (λ l. HasLast rules stands shared s watcher types l)
-      (LogsNoFrame p k (Some (mine_of before)) (Some (mine_of s)) (number_of before) watcher))) (sym is_back)
+      (LogsNoFrame p k (Some (mine_of before)) (Some (mine_of s)) (seat_number before) watcher))) (sym is_back)
       (subst (λ (v : Shared W P). IfErr r
       (MakesNoFrame p k at_frame (λ l. HasLast rules stands v after watcher types l)
-      (LogsNoFrame p k (Some (mine_of before)) (Some (mine_of after)) (number_of before) watcher))) same_world
+      (LogsNoFrame p k (Some (mine_of before)) (Some (mine_of after)) (seat_number before) watcher))) same_world
       f)
 
 -- The seat of a desk returns. `shared` is the shared world of the desk before the calls, `other` the one after them.
 pub seat_returns : {W P : Type 0} (rules : Rules P) (stands : W → World P → Type 0) (shared other : Shared W P)
     (before after back : Seat W) → other ≡ shared → back ≡ after → IsSeat other after
-    → number_of after ≡ number_of before → SeesFurther rules (stands (opening_of shared)) (seen_by before) (seen_by after)
+    → seat_number after ≡ seat_number before → SeesFurther rules (stands (opening_of shared)) (seen_by before) (seen_by after)
     → ReturnsSeat rules stands shared before back
 seat_returns {W} rules stands shared other before after back same_world is_back fits number further =
     subst (λ (s : Seat W). ReturnsSeat rules stands shared before s) (sym is_back) (record {

@@ -15,7 +15,7 @@ use Rattle.snap_api.specs.declared.data.Entry.{Entry}
 use Rattle.snap_api.specs.declared.data.Reply.TheVariants.{TakenFor}
 use Rattle.snap_api.specs.declared.data.Request.TheVariants.{TakeFor}
 use Rattle.snap_shared.specs.SeatDesk.{IsPossibleWorld, SeesMap, SeesFurther, ClockIsAtLeast, IsOnlyTaker, objects_read}
-use Rattle.snap_shared.specs.Seats.{opening_of, number_of, seen_by, mine_of, IsSeat}
+use Rattle.snap_shared.specs.Seats.{opening_of, seat_number, seen_by, mine_of, IsSeat}
 use Rattle.snap_shared.specs.SharedCalls.{own_calls}
 use Rattle.snap_shared.specs.declared.shared.Seat.{Seat}
 use Rattle.snap_shared.specs.declared.shared.Shared.{Shared}
@@ -39,7 +39,7 @@ pub record IsMapAtTake {P : Type 0} (rules : Rules P) (opens : World P → Type 
 pub record ReturnsSeat {W P : Type 0} (rules : Rules P) (stands : W → World P → Type 0) (shared : Shared W P)
     (before after : Seat W) : Type 0 where
   pub fits : IsSeat shared after
-  pub number : number_of after ≡ number_of before
+  pub number : seat_number after ≡ seat_number before
   pub further : SeesFurther rules (stands (opening_of shared)) (seen_by before) (seen_by after)
 
 module _ {W P : Type 0} (rules : Rules P) (stands : W → World P → Type 0) (shared : Shared W P) where
@@ -54,20 +54,20 @@ module _ {W P : Type 0} (rules : Rules P) (stands : W → World P → Type 0) (s
 
   -- The seat's open snapshot `name` shows this map.
   abbrev pub ShowsIn : Seat W → ℕ → Map → Type 0
-  ShowsIn seat name m = SeesMap rules (stands (opening_of shared)) (seen_by seat) (number_of seat) (Some name) m
+  ShowsIn seat name m = SeesMap rules (stands (opening_of shared)) (seen_by seat) (seat_number seat) (Some name) m
 
   -- The seat has made a take for the watcher since it was `before`, and the map at that take is the watcher's last one.
   abbrev pub HasTaken : Seat W → Seat W → ℕ → List Ty → Option Map → Type 0
   HasTaken before seat watcher types None = ⊥
   HasTaken before seat watcher types (Some m) =
       HasLast seat watcher types (Some m)
-      × IsMapAtTake rules (stands (opening_of shared)) (seen_by seat) (mine_of before) (number_of before) watcher m
+      × IsMapAtTake rules (stands (opening_of shared)) (seen_by seat) (mine_of before) (seat_number before) watcher m
 
   -- The composition has kept the state `k` of its last good frame, its watcher's last map is `l` before the frame, and
   -- no other caller has taken for the watcher until after the frame.
   abbrev pub MayCompose : Composition → LastFrame → Seat W → Seat W → List Ty → Option Map → Type 0
   MayCompose c k before after types l =
-      IsAt c k l × HasLast before c.watcher types l × IsOnlyTaker (number_of after) c.watcher (seen_by after)
+      IsAt c k l × HasLast before c.watcher types l × IsOnlyTaker (seat_number after) c.watcher (seen_by after)
 
   -- The composition has begun the frame of the map `m`, which the seat's snapshot `name` shows.
   abbrev pub HasBegun : Composition → LastFrame → Seat W → ℕ → Map → Type 0
@@ -86,4 +86,4 @@ module _ {W P : Type 0} (rules : Rules P) (stands : W → World P → Type 0) (s
   MakesThrough c k before after types applies =
       MakesFrame c.program.now k (IsAt c) (HasTaken before after c.watcher types)
       (ReadsInFrame (objects_read (mine_of before)) (objects_read (mine_of after)) (Some (mine_of before))
-      (Some (mine_of after)) (number_of before) c.watcher) applies
+      (Some (mine_of after)) (seat_number before) c.watcher) applies

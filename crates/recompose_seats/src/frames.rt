@@ -7,7 +7,7 @@ ghost use Rattle.recomposer.specs.AppliedFrames.{MayCall, Applies};
 ghost use Rattle.recomposer.specs.Compositions.{IsAt, StopsAtEnd, MakesNoFrame, LogsNoFrame};
 ghost use Rattle.recomposer.specs.FrameContracts.{KeepsSettings, KeepsCalls, ComposesShown, LeavesApplier, DrivesApplier, AsksOwed, LogsEnd, StopsBefore};
 ghost use Rattle.snap_shared.specs.SeatDesk.{IsOnlyTaker, objects_read};
-ghost use Rattle.snap_shared.specs.Seats.{number_of, seen_by, mine_of};
+ghost use Rattle.snap_shared.specs.Seats.{seat_number, seen_by, mine_of};
 ghost use Rattle.recompose_seats.specs.SeatFrames.{ReturnsSeat, HasLast, HasClock, HasBegun, ShowsIn, MayCompose, BeginsThrough, MakesThrough};
 
 use node_tree::Applier;
@@ -73,10 +73,10 @@ pub fn finish_among<W: Versions + Drop, R: Wait, G: Gate, A: Applier, L: Ledger>
     ensures log { LogsEnd composition.old
         (ShowsIn W.P.rules W.stands view.entry.shared.now view.entry.seat begun.name)
         (objects_read (mine_of view.entry.seat)) (objects_read (mine_of result.0)) (Some (mine_of view.entry.seat))
-        (Some (mine_of result.0)) (number_of view.entry.seat, begun.name) result.2 }
+        (Some (mine_of result.0)) (seat_number view.entry.seat, begun.name) result.2 }
     ensures last { (n : ℕ) (types : List Ty) (l : Option Map) →
         HasLast W.P.rules W.stands view.entry.shared.now view.entry.seat n types l →
-        IsOnlyTaker (number_of result.0) n (seen_by result.0) →
+        IsOnlyTaker (seat_number result.0) n (seen_by result.0) →
         HasLast W.P.rules W.stands view.entry.shared.now result.0 n types l }
 {
     let outcome = composition.finish(alloc, begun, &mut view, applier, steps);
@@ -106,7 +106,7 @@ pub fn frame_among<W: Versions + Drop, R: Wait, G: Gate, A: Applier, L: Ledger>(
         IfErr result.2 (MakesNoFrame composition.old.program.now k (IsAt composition.new)
         (HasLast W.P.rules W.stands view.entry.shared.now result.0 composition.old.watcher types)
         (LogsNoFrame composition.old.program.now k (Some (mine_of view.entry.seat)) (Some (mine_of result.0))
-        (number_of view.entry.seat) composition.old.watcher)) }
+        (seat_number view.entry.seat) composition.old.watcher)) }
     ensures applier { LeavesApplier A.tree A.faults applier.old applier.new composition.old composition.new result.2 }
     ensures spent { (n : ℕ) → HasClock W.P.rules W.stands view.entry.shared.now view.entry.seat n →
         StopsAtEnd (HasClock W.P.rules W.stands view.entry.shared.now result.0) n result.2 }

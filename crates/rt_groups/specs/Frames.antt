@@ -16,8 +16,8 @@ abbrev pub number_for : Option Found → ℕ → ℕ × ℕ
 number_for (Some old) next = (old.number, next)
 number_for None next = (next, next + 1)
 
-abbrev pub number_of : GroupKind → Option Found → ℕ → ℕ × ℕ
-number_of what old next = if is_node what then number_for old next else (0, next)
+abbrev pub given_number : GroupKind → Option Found → ℕ → ℕ × ℕ
+given_number what old next = if is_node what then number_for old next else (0, next)
 
 -- The new forest with its nodes' numbers, and the next unused number.
 abbrev pub numbered_forest : GroupForest → Path → List GroupKey → ℕ → GroupForest → GroupForest × ℕ
@@ -26,7 +26,7 @@ numbered_forest old here seen next (Read x rest) =
     let more = numbered_forest old here seen next rest in (Read x more.0, more.1)
 numbered_forest old here seen next (Group site number what inside rest) =
     let path = here ++ step site what seen ∷ [] in
-    let own_number = number_of what (at_path path old) next in
+    let own_number = given_number what (at_path path old) next in
     let within = numbered_forest old path [] own_number.1 inside in
     let more = numbered_forest old here (sibling site what ∷ seen) within.1 rest in
     (Group site own_number.0 what within.0 more.0, more.1)

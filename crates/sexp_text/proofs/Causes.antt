@@ -11,7 +11,7 @@ use Rattle.std.specs.declared.option.Option.{Option}
 use Rattle.std.specs.Option.{IsSomeAnd}
 use Rattle.sexp_text.specs.declared.stop.TextStop.{TextStop}
 use Rattle.sexp_text.specs.declared.stop.TextStop.TheVariants as stops
-use Rattle.sexp_text.specs.Forest.{Forest, nesting}
+use Rattle.sexp_text.specs.Forest.{Forest, list_nesting}
 use Rattle.sexp_text.specs.Grammar.{Spells}
 use Rattle.sexp_text.specs.TextFaults.{IsTextFront, IsShallowTextFront, IsBadAt, IsTooDeepAt, Cause}
 use Rattle.sexp_text.specs.Machine.{State, next, run, first_state, state_at, depth_reached, IsShallow, Fails, GoesDeep, Refuses}
@@ -105,7 +105,7 @@ refuses_cause bytes (stops.Bad at) utf8 r = bad_cause bytes at utf8 r
 refuses_cause bytes (stops.TooDeep at) utf8 r = deep_cause bytes at utf8 r
 
 -- Each prefix of a shallow text is a prefix of a shallow text.
-front_begins : (bytes : List ℕ) (n : ℕ) (f : Forest) → Spells bytes f → nesting f ≤ 100
+front_begins : (bytes : List ℕ) (n : ℕ) (f : Forest) → Spells bytes f → list_nesting f ≤ 100
     → IsShallowTextFront (take n bytes)
 front_begins bytes n f s le = record {
   more = drop n bytes;
@@ -119,7 +119,7 @@ begins bytes b = record { more = b.more; forest = b.forest; spells = b.spells }
 
 -- A shallow text has no cause of a refusal.
 pub no_cause : (bytes : List ℕ) (stop : TextStop) (f : Forest) → Cause bytes stop → stop ≢ stops.NoMemory
-    → Spells bytes f → nesting f ≤ 100 → ⊥
+    → Spells bytes f → list_nesting f ≤ 100 → ⊥
 no_cause bytes stops.NoMemory f r n s le = n refl
 no_cause bytes (stops.NotUtf8 at) f r n s le = r.0 s.utf8
 no_cause bytes (stops.Bad at) f r n s le = elim (eq-or-lt_of_le r.within) [
@@ -192,7 +192,7 @@ caused bytes (Err stop) utf8 h = refuses_cause bytes stop utf8 h
 
 -- If bytes have a cause of a refusal, the result is that error or `NoMemory`.
 pub answered : {V : Type 0} (view : V → Forest) (bytes : List ℕ) (r : Result V TextStop)
-    → IfOk r (λ v. Spells bytes (view v) × (nesting (view v) ≤ 100)) → IfErr r (Cause bytes)
+    → IfOk r (λ v. Spells bytes (view v) × (list_nesting (view v) ≤ 100)) → IfErr r (Cause bytes)
     → (stop : TextStop) → stop ≢ stops.NoMemory → Cause bytes stop → (r ≡ Err stop) ⊎ (r ≡ Err stops.NoMemory)
 answered view bytes (Ok v) ok err stop n c = absurd (no_cause bytes stop (view v) c n ok.0 ok.1)
 answered view bytes (Err stops.NoMemory) ok err stop n c = inr refl

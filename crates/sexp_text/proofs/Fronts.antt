@@ -7,7 +7,7 @@ use Rattle.std.proofs.lemmas.Str.{IsUtf8-append, IsUtf8-from_ascii, IsUtf8-take,
 use Rattle.std.specs.Str.{IsUtf8, IsCharBoundary}
 use Rattle.std.specs.declared.option.Option.{Option}
 use Rattle.std.specs.Option.{option_and_then, IfSome}
-use Rattle.sexp_text.specs.Forest.{Forest, empty, atom, text, list, joined_trees, nesting}
+use Rattle.sexp_text.specs.Forest.{Forest, empty, atom, text, list, joined_trees, list_nesting}
 use Rattle.sexp_text.specs.Grammar.{is_blank, is_atom_byte, Spells}
 use Rattle.sexp_text.specs.Machine.{Mode, gap, in_comment, in_word, in_text, in_escape, OpenLists, State, close_list, start, step, next, run, first_state, forest_at_end, state_at, depth_reached}
 use Rattle.sexp_text.proofs.Walks.{tested, run_none, run_on, walk_on, depth_reached-joined_trees, reached_same, length_le-depth_reached}
@@ -27,7 +27,7 @@ closing_on : (os : OpenLists) (f : Forest) (at : ℕ) → run (gap, os, f) at (c
 closing_on [] f at = refl
 closing_on (o ∷ os) f at = closing_on os (joined_trees o.1 (list o.0 f empty)) (at + 1)
 
-nesting-closes : (os : OpenLists) (f : Forest) → nesting (closes os f) ≡ depth_reached os f
+nesting-closes : (os : OpenLists) (f : Forest) → list_nesting (closes os f) ≡ depth_reached os f
 nesting-closes [] f = refl
 nesting-closes (o ∷ os) f =
     omega (
@@ -102,7 +102,7 @@ pub record Completed (bytes : List ℕ) (depth : ℕ) : Type 0 where
   pub more : List ℕ
   pub forest : Forest
   pub spells : Spells (bytes ++ more) forest
-  pub deep : nesting forest ≡ depth
+  pub deep : list_nesting forest ≡ depth
 
 -- Bytes that lead to a state are a prefix of a text.
 pub completed : (bytes : List ℕ) (s : State) → IsUtf8 bytes → run first_state 0 bytes ≡ Some s

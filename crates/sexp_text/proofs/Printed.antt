@@ -4,7 +4,7 @@ use Rattle.std.proofs.lemmas.List.{append-nil}
 use Rattle.std.proofs.lemmas.Str.{IsUtf8-append, IsUtf8-nil}
 use Rattle.std.specs.List.{list_all}
 use Rattle.std.specs.Str.{IsUtf8}
-use Rattle.sexp_text.specs.Forest.{Forest, empty, atom, text, list, nesting, without_offsets}
+use Rattle.sexp_text.specs.Forest.{Forest, empty, atom, text, list, list_nesting, without_offsets}
 use Rattle.rt_values.specs.Values.{escape_all}
 use Rattle.sexp_text.specs.Grammar.{is_blank, is_atom_byte, is_char, is_name, is_comment, Spelling, nothing, blank, comment, word, quoted, parens, spelling_bytes, begins_with_word, is_well_spelled, forest_at, Spells}
 use Rattle.sexp_text.specs.Layout.{separator, inline_form, lines, CanBeSpelled, SpellsUnplaced}
@@ -161,7 +161,7 @@ lines_utf8 (list at i f) h = around_utf8 40 41 (inline_form false i) (10 ∷ lin
     (row_utf8 i false h.0) (line_end (lines f) (lines_utf8 f h.1))
 
 -- Nesting does not depend on offsets.
-nesting-without_offsets : (f : Forest) → nesting (without_offsets f) ≡ nesting f
+nesting-without_offsets : (f : Forest) → list_nesting (without_offsets f) ≡ list_nesting f
 nesting-without_offsets empty = refl
 nesting-without_offsets (atom at a f) = nesting-without_offsets f
 nesting-without_offsets (text at s f) = nesting-without_offsets f
@@ -184,7 +184,7 @@ printed_spells f h =
         forest_is = refl;
       };
       same = same;
-      deep = sym (nesting-without_offsets (forest_at 0 s)) ∙ ap nesting same ∙ nesting-without_offsets f;
+      deep = sym (nesting-without_offsets (forest_at 0 s)) ∙ ap list_nesting same ∙ nesting-without_offsets f;
     }
 
 after_name : (name ys : List ℕ) → list_all is_atom_byte name ≡ true → IsUtf8 (name ++ ys) → IsUtf8 ys

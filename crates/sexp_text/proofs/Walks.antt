@@ -7,7 +7,7 @@ use Rattle.std.specs.Option.{option_and_then, IfSome, IsSomeAnd}
 use Rattle.std.proofs.lemmas.Option.{same_Some}
 use Rattle.sexp_text.specs.declared.stop.TextStop.{TextStop}
 use Rattle.sexp_text.specs.declared.stop.TextStop.TheVariants as stops
-use Rattle.sexp_text.specs.Forest.{Forest, empty, atom, text, list, joined_trees, nesting}
+use Rattle.sexp_text.specs.Forest.{Forest, empty, atom, text, list, joined_trees, list_nesting}
 use Rattle.sexp_text.specs.Grammar.{is_blank, is_atom_byte}
 use Rattle.sexp_text.specs.Machine.{finish, forest_at_end, all_closed, IsShallow, Stops, Refuses, Fails, GoesDeep, Mode, gap, in_comment, in_word, in_text, in_escape, OpenLists, State, close_list, start, step, next, run, first_state, state_at, depth_reached, whole}
 
@@ -57,14 +57,14 @@ pub tested : (P : Option State → Type 0) (w : Bool) (x y : Option State) → (
 tested P true x y t f = t refl
 tested P false x y t f = f refl
 
-pub nesting-joined_trees : (f g : Forest) → nesting (joined_trees f g) ≡ max (nesting f) (nesting g)
+pub nesting-joined_trees : (f g : Forest) → list_nesting (joined_trees f g) ≡ max (list_nesting f) (list_nesting g)
 nesting-joined_trees empty g = omega arith
 nesting-joined_trees (atom at a f) g = nesting-joined_trees f g
 nesting-joined_trees (text at s f) g = nesting-joined_trees f g
 nesting-joined_trees (list at i f) g = omega (arith, nesting-joined_trees f g)
 
 pub depth_reached-joined_trees : (os : OpenLists) (f g : Forest)
-    → depth_reached os (joined_trees f g) ≡ max (depth_reached os f) (length os + nesting g)
+    → depth_reached os (joined_trees f g) ≡ max (depth_reached os f) (length os + list_nesting g)
 depth_reached-joined_trees [] f g = omega (arith, nesting-joined_trees f g)
 depth_reached-joined_trees (o ∷ os) f g = omega (arith, nesting-joined_trees f g)
 
@@ -79,7 +79,7 @@ Deepens os f t = depth_reached t.1 t.2 ≡ max (depth_reached os f) (length t.1)
 kept : (m : Mode) (os : OpenLists) (f : Forest) → Deepens os f (m, os, f)
 kept m os f = omega (arith, length_le-depth_reached os f)
 
-grown : (os : OpenLists) (f g : Forest) → nesting g ≡ 0 → Deepens os f (gap, os, joined_trees f g)
+grown : (os : OpenLists) (f g : Forest) → list_nesting g ≡ 0 → Deepens os f (gap, os, joined_trees f g)
 grown os f g e = omega (arith, depth_reached-joined_trees os f g, length_le-depth_reached os f)
 
 closed_deepens : (os : OpenLists) (f : Forest) → IfSome (close_list os f) (Deepens os f)
@@ -101,11 +101,11 @@ start_deepens at b os f =
     (λ _. tested P (is_atom_byte b) _ _ (λ _. kept (in_word at (b ∷ [])) os f) (λ _. tt))))))
 
 -- An appended atom or string does not change the depth.
-pub reached_same : (os : OpenLists) (f g : Forest) → nesting g ≡ 0
+pub reached_same : (os : OpenLists) (f g : Forest) → list_nesting g ≡ 0
     → depth_reached os (joined_trees f g) ≡ depth_reached os f
 reached_same os f g e = omega (arith, depth_reached-joined_trees os f g, length_le-depth_reached os f)
 
-start_deepens_joined : (at b : ℕ) (os : OpenLists) (f g : Forest) → nesting g ≡ 0
+start_deepens_joined : (at b : ℕ) (os : OpenLists) (f g : Forest) → list_nesting g ≡ 0
     → IfSome (start at b os (joined_trees f g)) (Deepens os f)
 start_deepens_joined at b os f g e =
     subst (λ (k : ℕ). IfSome (start at b os (joined_trees f g)) (λ t. depth_reached t.1 t.2 ≡ max k (length t.1)))
@@ -134,13 +134,13 @@ pub next_deepens : (s t : State) (at b : ℕ) → next s at b ≡ Some t
     → depth_reached t.1 t.2 ≡ max (depth_reached s.1 s.2) (length t.1)
 next_deepens s t at b e = subst (λ (o : Option State). IfSome o (Deepens s.1 s.2)) e (step_deepens s.0 s.1 s.2 at b)
 
-all_closed_reaches : (os : OpenLists) (f g : Forest) → all_closed os f ≡ Some g → depth_reached os f ≡ nesting g
-all_closed_reaches [] f g e = ap nesting (same_Some f g e)
+all_closed_reaches : (os : OpenLists) (f g : Forest) → all_closed os f ≡ Some g → depth_reached os f ≡ list_nesting g
+all_closed_reaches [] f g e = ap list_nesting (same_Some f g e)
 all_closed_reaches (o ∷ os) f g e = cc
 
 -- The depth at the end of the input is the nesting of the forest.
 pub finish_reaches : (m : Mode) (os : OpenLists) (f g : Forest) → finish m os f ≡ Some g
-    → depth_reached os f ≡ nesting g
+    → depth_reached os f ≡ list_nesting g
 finish_reaches gap os f g e = all_closed_reaches os f g e
 finish_reaches in_comment os f g e = all_closed_reaches os f g e
 finish_reaches (in_word from name) os f g e =

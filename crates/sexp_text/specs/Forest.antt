@@ -16,11 +16,11 @@ joined_trees (text at s f) g = text at s (joined_trees f g)
 joined_trees (list at i f) g = list at i (joined_trees f g)
 
 -- The depth of nesting: a list is one deeper than the deepest list in it.
-abbrev pub nesting : Forest → ℕ
-nesting empty = 0
-nesting (atom at a f) = nesting f
-nesting (text at s f) = nesting f
-nesting (list at i f) = max (suc (nesting i)) (nesting f)
+abbrev pub list_nesting : Forest → ℕ
+list_nesting empty = 0
+list_nesting (atom at a f) = list_nesting f
+list_nesting (text at s f) = list_nesting f
+list_nesting (list at i f) = max (suc (list_nesting i)) (list_nesting f)
 
 -- The forest with all offsets set to 0.
 abbrev pub without_offsets : Forest → Forest

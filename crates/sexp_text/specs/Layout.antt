@@ -2,7 +2,7 @@
 use Rattle.std.specs.Prelude.{◌≡◌, ℕ, Bool, true, false, List, [], ◌∷◌, ◌++◌}
 use Rattle.std.specs.List.{list_all}
 use Rattle.std.specs.Str.{IsUtf8}
-use Rattle.sexp_text.specs.Forest.{Forest, empty, atom, text, list, nesting, without_offsets}
+use Rattle.sexp_text.specs.Forest.{Forest, empty, atom, text, list, list_nesting, without_offsets}
 use Rattle.rt_values.specs.Values.{escape_all}
 use Rattle.sexp_text.specs.Grammar.{is_name, is_char, Spells}
 
@@ -38,4 +38,4 @@ pub record SpellsUnplaced (bytes : List ℕ) (f : Forest) : Type 0 where
   pub forest : Forest
   pub spells : Spells bytes forest
   pub same : without_offsets forest ≡ without_offsets f
-  pub deep : nesting forest ≡ nesting f
+  pub deep : list_nesting forest ≡ list_nesting f

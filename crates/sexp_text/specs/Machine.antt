@@ -2,7 +2,7 @@
 use Rattle.std.specs.Prelude.{slice_index, ◌≡◌, ◌<◌, ◌≤◌, take, ℕ, ◌+◌, ◌==◌, ◌&&◌, Bool, not, nat_le, max, suc, List, [], ◌∷◌, ◌++◌, map, reverse, length, Option, Some, None, if◌then◌else◌, Vec}
 use Rattle.std.specs.Option.{option_and_then, IsSomeAnd}
 use Rattle.std.specs.declared.alloc.Global.{Global}
-use Rattle.sexp_text.specs.Forest.{Forest, empty, atom, text, list, joined_trees, nesting}
+use Rattle.sexp_text.specs.Forest.{Forest, empty, atom, text, list, joined_trees, list_nesting}
 use Rattle.sexp_text.specs.Grammar.{is_blank, is_atom_byte}
 use Rattle.sexp_text.specs.View.{forest_view}
 use Rattle.sexp_text.specs.declared.tree.Tree.{Tree}
@@ -91,8 +91,8 @@ forest_at_end s = finish s.0 s.1 s.2
 
 -- The depth of nesting so far, with the open lists.
 abbrev pub depth_reached : OpenLists → Forest → ℕ
-depth_reached [] f = nesting f
-depth_reached (o ∷ os) f = max (depth_reached os o.1) (suc (length os) + nesting f)
+depth_reached [] f = list_nesting f
+depth_reached (o ∷ os) f = max (depth_reached os o.1) (suc (length os) + list_nesting f)
 
 -- The open lists in memory, where the innermost is the last.
 abbrev pub around_view : List (ℕ × Vec Tree Global) → OpenLists

@@ -6,7 +6,7 @@ use Rattle.std.specs.Str.{IsUtf8}
 use Rattle.std.specs.Str.Lossy.{utf8_valid_len}
 use Rattle.sexp_text.specs.declared.stop.TextStop.{TextStop}
 use Rattle.sexp_text.specs.declared.stop.TextStop.TheVariants as stops
-use Rattle.sexp_text.specs.Forest.{Forest, nesting}
+use Rattle.sexp_text.specs.Forest.{Forest, list_nesting}
 use Rattle.sexp_text.specs.Grammar.{Spells}
 
 -- The bytes are a prefix of a source text.
@@ -20,7 +20,7 @@ pub record IsShallowTextFront (bytes : List ℕ) : Type 0 where
   pub more : List ℕ
   pub forest : Forest
   pub spells : Spells (bytes ++ more) forest
-  pub shallow : nesting forest ≤ 100
+  pub shallow : list_nesting forest ≤ 100
 
 -- The bytes before the offset are a prefix of a text that nests at most 100 deep. With the byte at the offset they
 -- are a prefix of none; or the offset is their end, and they are no text.

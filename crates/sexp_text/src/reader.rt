@@ -1,7 +1,7 @@
 // Parsing of source text in one pass over its tokens.
 ghost use Rattle.std.specs.Prelude.{◌⊎◌, ◌≡◌, ◌≢◌, ◌∷◌, ◌≤◌, ◌<◌, [], Some, None, Err, length, true, slice_index, IfOk, IfErr, OnOk};
 ghost use Rattle.std.specs.Str.{IsUtf8};
-ghost use Rattle.sexp_text.specs.Forest.{Forest, empty, atom, joined_trees, nesting};
+ghost use Rattle.sexp_text.specs.Forest.{Forest, empty, atom, joined_trees, list_nesting};
 ghost use Rattle.sexp_text.specs.View.{tree_view, forest_view};
 ghost use Rattle.sexp_text.specs.Grammar.{is_atom_byte, Spells};
 ghost use Rattle.sexp_text.specs.TextFaults.{Cause};
@@ -188,7 +188,7 @@ impl Reader {
 // Parses bytes by the state machine of `specs/Machine.antt`.
 fn read_trees(alloc: Global, bytes: &[u8]) -> Result<Vec<Tree>, TextStop>
     ensures ok { IfOk result (λ trees. (whole bytes.now ≡ Some (forest_view trees.items))
-        × (nesting (forest_view trees.items) ≤ 100)) }
+        × (list_nesting (forest_view trees.items) ≤ 100)) }
     ensures err { IfErr result (Refuses bytes.now) }
 {
     let mut reader = Reader::new(alloc);
@@ -203,9 +203,9 @@ fn read_trees(alloc: Global, bytes: &[u8]) -> Result<Vec<Tree>, TextStop>
 fn read_utf8(alloc: Global, bytes: &[u8]) -> Result<Vec<Tree>, TextStop>
     requires { IsUtf8 bytes.now }
     ensures ok { IfOk result (λ trees. Spells bytes.now (forest_view trees.items)
-        × (nesting (forest_view trees.items) ≤ 100)) }
+        × (list_nesting (forest_view trees.items) ≤ 100)) }
     ensures refused { (stop : TextStop) → result ≡ Err stop → stop ≢ TextStop.NoMemory →
-        (f : Forest) → Spells bytes.now f → nesting f ≤ 100 → ⊥ }
+        (f : Forest) → Spells bytes.now f → list_nesting f ≤ 100 → ⊥ }
     ensures cause { IfErr result (Cause bytes.now) }
     ensures told { (stop : TextStop) → stop ≢ TextStop.NoMemory → Cause bytes.now stop →
         (result ≡ Err stop) ⊎ (result ≡ Err TextStop.NoMemory) }
@@ -219,9 +219,9 @@ fn read_utf8(alloc: Global, bytes: &[u8]) -> Result<Vec<Tree>, TextStop>
 /// text, and if memory runs out. Takes time in proportion to the bytes, and constant stack.
 pub fn read(alloc: Global, bytes: &[u8]) -> Result<Vec<Tree>, TextStop>
     ensures ok { IfOk result (λ trees. Spells bytes.now (forest_view trees.items)
-        × (nesting (forest_view trees.items) ≤ 100)) }
+        × (list_nesting (forest_view trees.items) ≤ 100)) }
     ensures refused { (stop : TextStop) → result ≡ Err stop → stop ≢ TextStop.NoMemory →
-        (f : Forest) → Spells bytes.now f → nesting f ≤ 100 → ⊥ }
+        (f : Forest) → Spells bytes.now f → list_nesting f ≤ 100 → ⊥ }
     ensures cause { IfErr result (Cause bytes.now) }
     ensures told { (stop : TextStop) → stop ≢ TextStop.NoMemory → Cause bytes.now stop →
         (result ≡ Err stop) ⊎ (result ≡ Err TextStop.NoMemory) }

@@ -7,7 +7,7 @@ use Rattle.rt_values.specs.declared.maps.StampedValue.{StampedValue}
 use Rattle.snap_ids.proofs.Booleans.{same_or_other, not_both, not_true, or_left, or_right}
 use Rattle.snap_records.specs.Records.{Rec, AreApart, Reads, Puts, Drops}
 use Rattle.snap_records.specs.Edits.{readable, record_with_ids}
-use Rattle.snap_records.specs.Chains.{record_at, chain_of, Replaces, Prepends, KeepsAll, Found, HasNone}
+use Rattle.snap_records.specs.Chains.{record_at, chain_of, Replaces, Prepends, KeepsAll, FoundRecord, HasNone}
 use Rattle.snap_records.specs.declared.chains.Chains.{Chains}
 use Rattle.snap_records.proofs.Edits.{overwritten, drops_unkept, not_false}
 use Rattle.snap_records.proofs.Putting.{rec_there, key_there, put_over, put_front}
@@ -49,7 +49,7 @@ module _ (old between new : Chains) (x : ℕ) (q : Rec) (kept : List ℕ) (apart
   }
 
   -- The new record replaces a record.
-  pub puts_over : (r : ℕ) → Found between x q.id r ⊎ (HasNone between x q.id × Found between x 0 r)
+  pub puts_over : (r : ℕ) → FoundRecord between x q.id r ⊎ (HasNone between x q.id × FoundRecord between x 0 r)
       → Replaces between new r q → length new.heads.items ≡ length between.heads.items
       → PutsKeeping (chain_of old x) (chain_of new x) q kept
   puts_over r (inl f) replaces many =

@@ -5,7 +5,7 @@ use Rattle.rt_values.specs.Maps.{contains}
 use Rattle.snap_ids.specs.IdLists.{is_valid}
 use Rattle.snap_records.specs.Records.{Rec, Has, Puts}
 use Rattle.snap_records.specs.Edits.{readable}
-use Rattle.snap_records.specs.Chains.{record_at, keys_at, chain_of, Found}
+use Rattle.snap_records.specs.Chains.{record_at, keys_at, chain_of, FoundRecord}
 use Rattle.snap_records.specs.declared.chains.Chains.{Chains}
 use Rattle.snap_records.specs.declared.slots.RecordNo.{RecordNo}
 use Rattle.snap_reuse.specs.declared.readers.RecordReader.{RecordReader}
@@ -53,7 +53,7 @@ AreUsed c x = (k q : ℕ) → slice_get (keys_at c x) k ≡ Some q → (record_a
 abbrev pub IsReusable : Chains → ℕ → List RecordReader → Option RecordNo → Type 0
 IsReusable c x readers None = AreUsed c x × IsLowestUnread c x readers (length (keys_at c x)) None
 IsReusable c x readers (Some b) =
-    Found c x 0 b.0 ⊎ (AreUsed c x × IsLowestUnread c x readers (length (keys_at c x)) (Some b))
+    FoundRecord c x 0 b.0 ⊎ (AreUsed c x × IsLowestUnread c x readers (length (keys_at c x)) (Some b))
 
 -- The readable record by these valid ids, if there is one, has an id of the list.
 abbrev pub IsReadWithin : (ℕ → Bool) → List Rec → List ℕ → Type 0

@@ -18,8 +18,8 @@ abbrev pub count_of : {W P : Type 0} → Shared W P → ℕ
 count_of s = s.table.shared.key.seats
 
 -- The number of the seat's caller.
-abbrev pub number_of : {W : Type 0} → Seat W → ℕ
-number_of s = s.number
+abbrev pub seat_number : {W : Type 0} → Seat W → ℕ
+seat_number s = s.number
 
 -- The history that the seat has seen (`seen`).
 abbrev pub seen_by : {W : Type 0} → Seat W → List Entry
@@ -27,7 +27,7 @@ seen_by s = s.seat.me.0.seen
 
 -- The seat's own calls (`mine`).
 abbrev pub mine_of : {W : Type 0} → Seat W → List Entry
-mine_of s = own_calls (number_of s) (seen_by s)
+mine_of s = own_calls (seat_number s) (seen_by s)
 
 -- The seat does not have the turn and does not hold the world. It belongs to this opening world and to this one caller,
 -- whose own calls are those that the seat has seen.

@@ -1,7 +1,7 @@
 // Two seats meet.
 ghost use Rattle.std.specs.Prelude.{◌≡◌};
 ghost use Rattle.snap_shared.specs.Histories.{IsWorldAfter};
-ghost use Rattle.snap_shared.specs.Seats.{opening_of, number_of, seen_by, IsSeat};
+ghost use Rattle.snap_shared.specs.Seats.{opening_of, seat_number, seen_by, IsSeat};
 ghost use Rattle.snap_shared.specs.SeatSteps.{SeesJoined, AdoptsJoined};
 ghost use Rattle.snap_shared.specs.SharedCalls.{SeeOneHistory};
 ghost use Rattle.snap_shared.specs.declared.rule.Phase.TheVariants.{Idle};
@@ -53,8 +53,8 @@ impl<W: Versions + Drop> Shared<W> {
         requires other { IsSeat self.now other.old }
         ensures one { IsSeat self.now one.new }
         ensures other { IsSeat self.now other.new }
-        ensures numbers { (number_of one.new ≡ number_of one.old) × (number_of other.new ≡ number_of other.old) }
-        ensures met { SeeOneHistory W.P.rules W.stands (opening_of self.now) (number_of one.old) (number_of other.old)
+        ensures numbers { (seat_number one.new ≡ seat_number one.old) × (seat_number other.new ≡ seat_number other.old) }
+        ensures met { SeeOneHistory W.P.rules W.stands (opening_of self.now) (seat_number one.old) (seat_number other.old)
             (seen_by one.old) (seen_by other.old) (seen_by one.new) (seen_by other.new) }
     {
         self.see_joined(&mut one.seat, &mut other.seat);

@@ -5,7 +5,7 @@ ghost use Rattle.snap_api.specs.TracksLive.{OnlyGlobalIsLive};
 ghost use Rattle.snap_api.specs.World.{World, IsLegal, world_after};
 ghost use Rattle.snap_api.specs.declared.data.Entry.{Entry as entry_data};
 ghost use Rattle.snap_shared.specs.Histories.{IsWorldAfter};
-ghost use Rattle.snap_shared.specs.Seats.{opening_of, count_of, number_of, seen_by, IsSeat, IsNewSeat};
+ghost use Rattle.snap_shared.specs.Seats.{opening_of, count_of, seat_number, seen_by, IsSeat, IsNewSeat};
 ghost use Rattle.snap_shared.specs.SeatSteps.{CoversSeat, IsJoinedSeat, state_with_callers};
 ghost use Rattle.snap_shared.specs.SharedCalls.{ContainsSeat, HasOnlyCallersBelow, numbers_below};
 
@@ -53,7 +53,7 @@ impl<W: Versions + Drop> Shared<W> {
         requires all { first.me ≡ (state_with_callers (opening_of self.now) 0 count, []) }
         requires empty { seats.old.items ≡ [] }
         ensures all { OnOk result (All (λ x. IsNewSeat self.now x) seats.new.items) }
-        ensures numbers { OnOk result (map number_of seats.new.items ≡ numbers_below count) }
+        ensures numbers { OnOk result (map seat_number seats.new.items ≡ numbers_below count) }
         ensures many { OnOk result (length seats.new.items ≡ count) }
     {
         for number in 0..count - 1 {
@@ -84,7 +84,7 @@ impl<W: Versions + Drop> Shared<W> {
         requires fits { first.table_id ≡ self.now.table.shared.table_id }
         requires all { first.me ≡ (state_with_callers (opening_of self.now) 0 count, []) }
         ensures all { IfOk result (λ s. All (λ x. IsNewSeat self.now x) s.items) }
-        ensures numbers { IfOk result (λ s. map number_of s.items ≡ numbers_below count) }
+        ensures numbers { IfOk result (λ s. map seat_number s.items ≡ numbers_below count) }
         ensures many { IfOk result (λ s. length s.items ≡ count) }
     {
         let mut seats = Vec::new(alloc);
@@ -100,7 +100,7 @@ impl<W: Versions + Drop> Shared<W> {
         requires empty { W.log world ≡ Some [] }
         ensures opening { IfOk result (λ r. (opening_of r.0 ≡ world) × (count_of r.0 ≡ count)) }
         ensures seats { IfOk result (λ r. All (λ x. IsNewSeat r.0 x) r.1.items) }
-        ensures numbers { IfOk result (λ r. map number_of r.1.items ≡ numbers_below count) }
+        ensures numbers { IfOk result (λ r. map seat_number r.1.items ≡ numbers_below count) }
         ensures many { IfOk result (λ r. length r.1.items ≡ count) }
     {
         let about = Opening {
@@ -126,7 +126,7 @@ impl<W: Versions + Drop> Shared<W> {
         requires all { All (λ x. IsSeat self.now x) seats.items }
         ensures fits { result.table_id ≡ self.now.table.shared.table_id }
         ensures joined { IsJoinedSeat (opening_of self.now) (length seats.items) result.me }
-        ensures all { All (λ x. CoversSeat result.me.0 (number_of x) (seen_by x)) seats.items }
+        ensures all { All (λ x. CoversSeat result.me.0 (seat_number x) (seen_by x)) seats.items }
     {
         let Some(last) = seats.pop() else {
             unreachable!()
@@ -148,7 +148,7 @@ impl<W: Versions + Drop> Shared<W> {
         requires all { All (λ x. IsSeat self x) seats.items }
         ensures ended { (log : List entry_data) × (W.log result ≡ Some log)
             × IsWorldAfter W.P.rules W.stands (opening_of self) log result
-            × All (λ x. ContainsSeat log (number_of x) (seen_by x)) seats.items
+            × All (λ x. ContainsSeat log (seat_number x) (seen_by x)) seats.items
             × HasOnlyCallersBelow (count_of self) log }
     {
         let all = self.join_seats(seats);
@@ -178,7 +178,7 @@ impl<V: Versions + Drop> Shared<LogWorld<V>> {
             → ⟦<LogWorld<V> as Versions>⟧.stands (opening_of r.0) o) }
         ensures count { IfOk result (λ r. count_of r.0 ≡ count) }
         ensures seats { IfOk result (λ r. All (λ x. IsNewSeat r.0 x) r.1.items) }
-        ensures numbers { IfOk result (λ r. map number_of r.1.items ≡ numbers_below count) }
+        ensures numbers { IfOk result (λ r. map seat_number r.1.items ≡ numbers_below count) }
         ensures many { IfOk result (λ r. length r.1.items ≡ count) }
     {
         Shared::open(alloc, LogWorld::new(alloc, world), count)
@@ -193,7 +193,7 @@ impl<V: Versions + Drop> Shared<LogWorld<V>> {
         requires all { All (λ x. IsSeat self x) seats.items }
         ensures legal { (o : World V.P) → ⟦<LogWorld<V> as Versions>⟧.stands (opening_of self) o
             → IsLegal V.P.rules o result.1.items × V.stands result.0 (world_after V.P.rules o result.1.items) }
-        ensures seats { All (λ x. ContainsSeat result.1.items (number_of x) (seen_by x)) seats.items }
+        ensures seats { All (λ x. ContainsSeat result.1.items (seat_number x) (seen_by x)) seats.items }
         ensures others { HasOnlyCallersBelow (count_of self) result.1.items }
     {
         self.close(seats).into_parts()

@@ -4,7 +4,7 @@ ghost use Rattle.std.proofs.Common.{refl, ap, ◌∙◌};
 ghost use Rattle.snap_api.specs.Desks.{Lasts};
 ghost use Rattle.snap_shared.specs.HistoryEffects.{keeps_itself, keeps_on, further_on, further_of, kept_lasts, kept_clock, only_taker_before, asked_of, grows_of, legal_of};
 ghost use Rattle.snap_shared.specs.SeatDesk.{IsPossibleWorld, SeesMap, ClockIsAtLeast, SeesFurther, SeatAfterReads, IsOnlyTaker, objects_read};
-ghost use Rattle.snap_shared.specs.Seats.{opening_of, number_of, seen_by, mine_of, IsSeat};
+ghost use Rattle.snap_shared.specs.Seats.{opening_of, seat_number, seen_by, mine_of, IsSeat};
 
 use crate::shared::{Seat, Shared};
 use rt_streams::Gate;
@@ -73,13 +73,13 @@ impl<'a, W: Versions + Drop, R: Wait, G: Gate> SeatView<'a, W, R, G> {
 
 impl<W: Versions + Drop, R: Wait, G: Gate> View for SeatView<'_, W, R, G> {
     ghost shows = { λ s m. SeesMap W.P.rules (W.stands (opening_of s.shared.now)) (seen_by s.seat)
-        (number_of s.seat) s.opened m };
+        (seat_number s.seat) s.opened m };
 
     ghost asked = { λ s. objects_read (mine_of s.seat) };
 
     ghost keeps = { λ s t. (t.shared.now ≡ s.shared.now) × SeatAfterReads W.P.rules
         (W.stands (opening_of s.shared.now)) (W.stands (opening_of t.shared.now)) (seen_by s.seat) (seen_by t.seat)
-        (number_of s.seat) (number_of t.seat) s.opened t.opened };
+        (seat_number s.seat) (seat_number t.seat) s.opened t.opened };
 
     ghost reads_free = { λ s. ⊥ };
 
@@ -114,11 +114,11 @@ impl<W: Versions + Drop, R: Wait, G: Gate> Desk for SeatView<'_, W, R, G> {
     // The caller's own calls.
     ghost log = { λ s. Some (mine_of s.seat) };
 
-    ghost caller = { λ s. number_of s.seat };
+    ghost caller = { λ s. seat_number s.seat };
 
     ghost opened = { λ s. s.opened };
 
-    ghost lends = { λ s t. (t.shared.now ≡ s.shared.now) × (number_of t.seat ≡ number_of s.seat)
+    ghost lends = { λ s t. (t.shared.now ≡ s.shared.now) × (seat_number t.seat ≡ seat_number s.seat)
         × SeesFurther W.P.rules (W.stands (opening_of s.shared.now)) (seen_by s.seat) (seen_by t.seat) };
 
     ghost clock = { λ s k. ClockIsAtLeast W.P.rules (W.stands (opening_of s.shared.now)) (seen_by s.seat) k };
@@ -126,7 +126,7 @@ impl<W: Versions + Drop, R: Wait, G: Gate> Desk for SeatView<'_, W, R, G> {
     ghost last = { λ s n types l. Lasts W.P.rules
         (IsPossibleWorld W.P.rules (W.stands (opening_of s.shared.now)) (seen_by s.seat)) n types l };
 
-    ghost alone = { λ s n. IsOnlyTaker (number_of s.seat) n (seen_by s.seat) };
+    ghost alone = { λ s n. IsOnlyTaker (seat_number s.seat) n (seen_by s.seat) };
 
     ghost lends_on = { λ r s t h k. (k.0 ∙ h.0, k.1 ∙ h.1, further_on W.stands (ap opening_of h.0) h.2 k.2) };
 

@@ -4,7 +4,7 @@ ghost use Rattle.snap_api.specs.Calls.{taken_for_reply, read_reply, dispose_repl
 ghost use Rattle.snap_api.specs.World.{World, world_after};
 ghost use Rattle.snap_api.specs.declared.data.Entry.{Entry as entry_data};
 ghost use Rattle.snap_shared.specs.Histories.{caller_of, IsWorldAfter};
-ghost use Rattle.snap_shared.specs.Seats.{opening_of, number_of, seen_by, IsSeat};
+ghost use Rattle.snap_shared.specs.Seats.{opening_of, seat_number, seen_by, IsSeat};
 ghost use Rattle.snap_shared.specs.SeatSteps.{HasTurn, CanReturn};
 ghost use Rattle.snap_shared.specs.SharedCalls.{SeesOwnCall, DisposesSeenOwn};
 ghost use Rattle.snap_shared.specs.StepResults.{TakesTurn};
@@ -85,10 +85,10 @@ impl<W: Versions + Drop> Shared<W> {
     ) -> Reply
         requires fits { IsSeat self.now seat.old }
         ensures fits { IsSeat self.now seat.new }
-        ensures number { number_of seat.new ≡ number_of seat.old }
-        ensures call { SeesOwnCall W.P.rules W.stands (opening_of self.now) (number_of seat.old) (seen_by seat.old)
+        ensures number { seat_number seat.new ≡ seat_number seat.old }
+        ensures call { SeesOwnCall W.P.rules W.stands (opening_of self.now) (seat_number seat.old) (seen_by seat.old)
             (seen_by seat.new) request result }
-        ensures own { DisposesSeenOwn W.P.rules W.stands (opening_of self.now) (number_of seat.old)
+        ensures own { DisposesSeenOwn W.P.rules W.stands (opening_of self.now) (seat_number seat.old)
             (seen_by seat.old) request result }
     {
         let mut world = self.take_turn(rt, &mut seat.seat);
@@ -108,8 +108,8 @@ impl<W: Versions + Drop> Shared<W> {
     ) -> Result<Value, Refusal>
         requires fits { IsSeat self.now seat.old }
         ensures fits { IsSeat self.now seat.new }
-        ensures number { number_of seat.new ≡ number_of seat.old }
-        ensures call { SeesOwnCall W.P.rules W.stands (opening_of self.now) (number_of seat.old) (seen_by seat.old)
+        ensures number { seat_number seat.new ≡ seat_number seat.old }
+        ensures call { SeesOwnCall W.P.rules W.stands (opening_of self.now) (seat_number seat.old) (seen_by seat.old)
             (seen_by seat.new) (Request.Read name object) (read_reply result) }
     {
         let mut world = self.take_turn(rt, &mut seat.seat);
@@ -128,8 +128,8 @@ impl<W: Versions + Drop> Shared<W> {
     ) -> Result<(Name, Objects), Refusal>
         requires fits { IsSeat self.now seat.old }
         ensures fits { IsSeat self.now seat.new }
-        ensures number { number_of seat.new ≡ number_of seat.old }
-        ensures call { SeesOwnCall W.P.rules W.stands (opening_of self.now) (number_of seat.old) (seen_by seat.old)
+        ensures number { seat_number seat.new ≡ seat_number seat.old }
+        ensures call { SeesOwnCall W.P.rules W.stands (opening_of self.now) (seat_number seat.old) (seen_by seat.old)
             (seen_by seat.new) (Request.TakeFor watcher) (taken_for_reply result) }
     {
         let mut world = self.take_turn(rt, &mut seat.seat);
@@ -147,11 +147,11 @@ impl<W: Versions + Drop> Shared<W> {
     ) -> Result<(), Refusal>
         requires fits { IsSeat self.now seat.old }
         ensures fits { IsSeat self.now seat.new }
-        ensures number { number_of seat.new ≡ number_of seat.old }
-        ensures call { SeesOwnCall W.P.rules W.stands (opening_of self.now) (number_of seat.old) (seen_by seat.old)
+        ensures number { seat_number seat.new ≡ seat_number seat.old }
+        ensures call { SeesOwnCall W.P.rules W.stands (opening_of self.now) (seat_number seat.old) (seen_by seat.old)
             (seen_by seat.new) (Request.Dispose name) (dispose_reply result) }
         ensures own { (o : World W.P) → W.stands (opening_of self.now) o
-            → IsOwn (world_after W.P.rules o (seen_by seat.old)) (number_of seat.old) name → IsOk result }
+            → IsOwn (world_after W.P.rules o (seen_by seat.old)) (seat_number seat.old) name → IsOk result }
     {
         let mut world = self.take_turn(rt, &mut seat.seat);
         let outcome = world.dispose(seat.number, name);

@@ -23,7 +23,7 @@ use Rattle.snap_laws.specs.Maps.{entry_of, read_entry}
 use Rattle.snap_laws.specs.Represents.{WorldParts, Represents}
 use Rattle.snap_laws.proofs.ReadMaps.{read_is}
 use Rattle.snap_laws.proofs.Showing.{reader, reader_began}
-use Rattle.snap_world.specs.Holding.{parts_of, AreRead}
+use Rattle.snap_world.specs.Holding.{world_parts, AreRead}
 use Rattle.snap_world.specs.declared.settling.ReadRecords.{ReadRecords}
 use Rattle.snap_world.specs.declared.world.RecordWorld.{RecordWorld}
 use Rattle.std.proofs.lemmas.Bool.Decides.{Decides-eqb}
@@ -50,9 +50,9 @@ pub choice_read : {P : Type 0} (rules : Rules P) (s : RecordWorld P) (name into 
     choice_of (verdict rules o.policy
     (record_at s.chains r.previous.0).entry (record_at s.chains r.current.0).entry (record_at s.chains
     r.applied.0).entry (s.clock + 1)) (record_at s.chains r.current.0).entry
-    ≡ choice_at rules (parts_of s) name into x
+    ≡ choice_at rules (world_parts s) name into x
 choice_read {P} rules s name into x r o a there =
-    let h = parts_of s in
+    let h = world_parts s in
     let c : StampedValue = read_entry (h.ids.sees into) (h.chains x) in
     ap (λ (e : StampedValue). choice_of (verdict rules o.policy e
     (record_at s.chains r.current.0).entry (record_at s.chains r.applied.0).entry (s.clock + 1))

@@ -18,8 +18,8 @@ use Rattle.snap_records.specs.Chains.{chain_of, record_at}
 use Rattle.snap_laws.specs.Represents.{WorldParts}
 use Rattle.snap_world.specs.declared.world.RecordWorld.{RecordWorld}
 
-abbrev pub parts_of : {P : Type 0} → RecordWorld P → WorldParts P
-parts_of s = record {
+abbrev pub world_parts : {P : Type 0} → RecordWorld P → WorldParts P
+world_parts s = record {
   clock = s.clock;
   objects = s.objects.items;
   names = length s.family.members.items;
@@ -50,9 +50,9 @@ pub record IsWithin (ids : List ℕ) (chain : List Rec) : Type 0 where
 -- The records carry the values of the snapshot's base, of its parent's view and of its own view.
 pub record AreRead {P : Type 0} (s : RecordWorld P) (name into x : ℕ) (r : ReadRecords) : Type 0 where
   pub previous : (record_at s.chains r.previous.0).entry
-      ≡ read_entry (valid_for_base (parts_of s).ids name) ((parts_of s).chains x)
-  pub current : (record_at s.chains r.current.0).entry ≡ read_entry ((parts_of s).ids.sees into) ((parts_of s).chains x)
-  pub applied : (record_at s.chains r.applied.0).entry ≡ read_entry ((parts_of s).ids.sees name) ((parts_of s).chains x)
+      ≡ read_entry (valid_for_base (world_parts s).ids name) ((world_parts s).chains x)
+  pub current : (record_at s.chains r.current.0).entry ≡ read_entry ((world_parts s).ids.sees into) ((world_parts s).chains x)
+  pub applied : (record_at s.chains r.applied.0).entry ≡ read_entry ((world_parts s).ids.sees name) ((world_parts s).chains x)
   pub previous_there : IsSome (get s.chains.slots r.previous.0)
   pub current_there : IsSome (get s.chains.slots r.current.0)
   pub applied_there : IsSome (get s.chains.slots r.applied.0)

@@ -6,11 +6,11 @@ use Rattle.std.proofs.lemmas.List.{length-map}
 use Rattle.snap_api.specs.World.{World}
 use Rattle.snap_api.specs.declared.data.Object.{Object}
 use Rattle.snap_laws.specs.Represents.{Represents, stamps_of}
-use Rattle.snap_world.specs.Holding.{parts_of}
+use Rattle.snap_world.specs.Holding.{world_parts}
 use Rattle.snap_world.specs.declared.world.RecordWorld.{RecordWorld}
 
 -- The counts are those of each plain world that the value represents.
-pub counts_of : {P : Type 0} (s : RecordWorld P) (w : World P) → Represents (parts_of s) w
+pub counts_of : {P : Type 0} (s : RecordWorld P) (w : World P) → Represents (world_parts s) w
     → (length s.objects.items ≡ length w.objects) × (length s.lasts.items ≡ length w.lasts)
 counts_of {P} s w h = (
   ap (λ (os : List (Object P)). length os) (sym h.objects_are),

@@ -19,7 +19,7 @@ impl<P: Policy> RecordWorld<P> {
     ghost use Rattle.snap_laws.specs.Represents.{Represents};
     ghost use Rattle.snap_api.specs.Choices.{is_clash};
     ghost use Rattle.snap_world.specs.Choices.{objects_of, IsLeast};
-    ghost use Rattle.snap_world.specs.Holding.{parts_of, AreRead, AreSettled};
+    ghost use Rattle.snap_world.specs.Holding.{world_parts, AreRead, AreSettled};
 
     // Returns the records of an object that a snapshot reads for its base, that its parent reads, and that the snapshot
     // reads. There are such records in every represented world.
@@ -28,7 +28,7 @@ impl<P: Policy> RecordWorld<P> {
         requires above { (member self.now.family.members.items into).is_live ≡ true }
         requires there { object < length self.now.objects.items }
         ensures is { IfSome result (AreRead self.now name into object) }
-        ensures none { IfNone result ((w : World P) → Represents (parts_of self.now) w → 0 < name → ⊥) }
+        ensures none { IfNone result ((w : World P) → Represents (world_parts self.now) w → 0 < name → ⊥) }
     {
         let id = self.family.id(name);
         let invalid = self.family.invalid(name);
@@ -62,8 +62,8 @@ impl<P: Policy> RecordWorld<P> {
         requires live { (member self.now.family.members.items name).is_live ≡ true }
         requires above { (member self.now.family.members.items into).is_live ≡ true }
         requires there { object < length self.now.objects.items }
-        ensures is { IfOk result (λ found. found ≡ is_clash (choice_at P.rules (parts_of self.now) name into object)) }
-        ensures free { (w : World P) → Represents (parts_of self.now) w → 0 < name
+        ensures is { IfOk result (λ found. found ≡ is_clash (choice_at P.rules (world_parts self.now) name into object)) }
+        ensures free { (w : World P) → Represents (world_parts self.now) w → 0 < name
             → IsMergeFree P.is_free_merge w name into object → IsOk result }
     {
         let Some(read) = self.find_read(name, into, object) else {
@@ -89,7 +89,7 @@ impl<P: Policy> RecordWorld<P> {
         requires live { (member self.now.family.members.items name).is_live ≡ true }
         requires above { (member self.now.family.members.items into).is_live ≡ true }
         requires there { object < length self.now.objects.items }
-        ensures { IfOk result (λ choice. choice ≡ choice_at P.rules (parts_of self.now) name into object) }
+        ensures { IfOk result (λ choice. choice ≡ choice_at P.rules (world_parts self.now) name into object) }
     {
         let Some(read) = self.find_read(name, into, object) else {
             return Err(NoMemory);
@@ -114,10 +114,10 @@ impl<P: Policy> RecordWorld<P> {
     ) -> Result<Option<ObjectNo>, NoMemory>
         requires live { (member self.now.family.members.items name).is_live ≡ true }
         requires above { (member self.now.family.members.items into).is_live ≡ true }
-        ensures is { IfOk result (IsLeast (λ x. is_clash (choice_at P.rules (parts_of self.now) name into x))
+        ensures is { IfOk result (IsLeast (λ x. is_clash (choice_at P.rules (world_parts self.now) name into x))
             (slice_index_or self.now.wrote.items name [])) }
-        ensures free { (w : World P) → Represents (parts_of self.now) w → 0 < name
-            → ((x : ℕ) → (parts_of self.now).noted name x ≡ true → IsMergeFree P.is_free_merge w name into x)
+        ensures free { (w : World P) → Represents (world_parts self.now) w → 0 < name
+            → ((x : ℕ) → (world_parts self.now).noted name x ≡ true → IsMergeFree P.is_free_merge w name into x)
             → IsOk result }
     {
         let mut least = None;
@@ -140,7 +140,7 @@ impl<P: Policy> RecordWorld<P> {
         requires above { (member self.now.family.members.items into).is_live ≡ true }
         ensures objects { IfSome result (λ settled. objects_of settled.items
             ≡ slice_index_or self.now.wrote.items name []) }
-        ensures each { IfSome result (λ settled. AreSettled P.rules (parts_of self.now) name into settled.items) }
+        ensures each { IfSome result (λ settled. AreSettled P.rules (world_parts self.now) name into settled.items) }
     {
         let mut settled = Vec::new(alloc);
         for x in noted(&self.wrote, name) {
@@ -174,10 +174,10 @@ impl<P: Policy> RecordWorld<P> {
         requires above { (member self.old.family.members.items into).is_live ≡ true }
         requires room { self.old.clock < 2 ^ 60 }
         requires objects { objects_of settled.now ≡ slice_index_or self.old.wrote.items name [] }
-        requires each { AreSettled P.rules (parts_of self.old) name into settled.now }
-        ensures ok { OnOk result (Merges (parts_of self.old) (parts_of self.new) name into
-            (choice_at P.rules (parts_of self.old) name into)) }
-        ensures err { OnErr result (Pads (parts_of self.old) (parts_of self.new)) }
+        requires each { AreSettled P.rules (world_parts self.old) name into settled.now }
+        ensures ok { OnOk result (Merges (world_parts self.old) (world_parts self.new) name into
+            (choice_at P.rules (world_parts self.old) name into)) }
+        ensures err { OnErr result (Pads (world_parts self.old) (world_parts self.new)) }
     {
         let Ok(more) = note_settled(alloc, &self.wrote, into, settled) else {
             return Err(NoMemory);

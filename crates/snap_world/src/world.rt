@@ -63,7 +63,7 @@ impl<P: Policy> RecordWorld<P> {
     ghost use Rattle.snap_laws.specs.Represents.{Represents};
     ghost use Rattle.snap_laws.specs.Steps.{IsUnchanged, IsTake, take_refusal, WritesTo};
     ghost use Rattle.snap_laws.specs.Writes.{write_refusal, object_refusal};
-    ghost use Rattle.snap_world.specs.Holding.{parts_of, IsComparison, IsWithin};
+    ghost use Rattle.snap_world.specs.Holding.{world_parts, IsComparison, IsWithin};
     ghost use Rattle.snap_records.specs.Records.{AreApart, Reads};
     ghost use Rattle.snap_records.specs.Chains.{chain_of};
     ghost use Rattle.rt_values.specs.declared.maps.StampedValue.{StampedValue};
@@ -71,7 +71,7 @@ impl<P: Policy> RecordWorld<P> {
 
     /// Makes a world with only the global snapshot, without objects and watchers, at clock 0.
     pub fn new(alloc: Global) -> Result<Self, NoMemory>
-        ensures { IfOk result (λ s. Represents (parts_of s) (start 0)) }
+        ensures { IfOk result (λ s. Represents (world_parts s) (start 0)) }
     {
         Self::starting_at(alloc, 0)
     }
@@ -79,7 +79,7 @@ impl<P: Policy> RecordWorld<P> {
     /// Makes such a world at a later clock. At `CLOCK_LIMIT` every take, write and apply is refused.
     pub fn starting_at(alloc: Global, clock: u64) -> Result<Self, NoMemory>
         requires { clock ≤ 2 ^ 60 }
-        ensures { IfOk result (λ s. Represents (parts_of s) (start clock)) }
+        ensures { IfOk result (λ s. Represents (world_parts s) (start clock)) }
     {
         Ok(RecordWorld {
             clock,
@@ -103,7 +103,7 @@ impl<P: Policy> RecordWorld<P> {
 
     // Returns the refusal of a take, if there is one.
     fn take_refusal(&self, parent: Name, kind: Kind) -> Option<Refusal>
-        ensures { result ≡ take_refusal (parts_of self.now) parent kind }
+        ensures { result ≡ take_refusal (world_parts self.now) parent kind }
     {
         if self.clock == CLOCK_LIMIT {
             return Some(Refusal::Spent);
@@ -127,8 +127,8 @@ impl<P: Policy> RecordWorld<P> {
     ) -> Result<Name, NoMemory>
         requires live { (member self.old.family.members.items parent).is_live ≡ true }
         requires room { self.old.clock < 2 ^ 60 }
-        ensures ok { IfOk result (λ n. IsTake (parts_of self.old) (parts_of self.new) caller parent kind n) }
-        ensures err { OnErr result (IsUnchanged (parts_of self.old) (parts_of self.new)) }
+        ensures ok { IfOk result (λ n. IsTake (world_parts self.old) (world_parts self.new) caller parent kind n) }
+        ensures err { OnErr result (IsUnchanged (world_parts self.old) (world_parts self.new)) }
     {
         let Ok(name) = self.family.take(alloc, parent, kind, caller) else {
             return Err(NoMemory);
@@ -145,7 +145,7 @@ impl<P: Policy> RecordWorld<P> {
         object: ObjectNo,
         value: &Value,
     ) -> Option<Refusal>
-        ensures { result ≡ write_refusal (parts_of self.now) caller name object value.now }
+        ensures { result ≡ write_refusal (world_parts self.now) caller name object value.now }
     {
         if self.clock == CLOCK_LIMIT {
             return Some(Refusal::Spent);
@@ -163,15 +163,15 @@ impl<P: Policy> RecordWorld<P> {
 
     // Returns whether the snapshot belongs to another caller. Global belongs to every caller.
     fn is_foreign(&self, caller: Caller, name: Name) -> bool
-        ensures { result ≡ (if name == 0 then false else not ((parts_of self.now).owner name == caller)) }
+        ensures { result ≡ (if name == 0 then false else not ((world_parts self.now).owner name == caller)) }
     {
         name != 0 && self.family.owner(name) != caller
     }
 
     // Returns the refusal of a write that depends on the object, if there is one.
     fn object_refusal(&self, name: Name, object: ObjectNo, value: &Value) -> Option<Refusal>
-        ensures { result ≡ object_refusal (parts_of self.now) name value.now (slice_get
-            (parts_of self.now).objects object) }
+        ensures { result ≡ object_refusal (world_parts self.now) name value.now (slice_get
+            (world_parts self.now).objects object) }
     {
         let Some(kept) = self.objects.get(object as usize) else {
             return Some(Refusal::UnknownObject);
@@ -189,9 +189,9 @@ impl<P: Policy> RecordWorld<P> {
     fn compare(&self, name: Name, object: ObjectNo, value: &Value) -> Option<bool>
         requires live { (member self.now.family.members.items name).is_live ≡ true }
         requires there { object < length self.now.objects.items }
-        ensures is { IfSome result (λ like. IsComparison P.rules (parts_of self.now) name object value.now like) }
+        ensures is { IfSome result (λ like. IsComparison P.rules (world_parts self.now) name object value.now like) }
         ensures none { IfNone result ((e : StampedValue)
-            → Reads ((parts_of self.now).ids.sees name) ((parts_of self.now).chains object) e → ⊥) }
+            → Reads ((world_parts self.now).ids.sees name) ((world_parts self.now).chains object) e → ⊥) }
     {
         match self
             .chains
@@ -218,13 +218,13 @@ impl<P: Policy> RecordWorld<P> {
         requires there { object < length self.old.objects.items }
         requires room { self.old.clock < 2 ^ 60 }
         requires own { contains (member self.old.family.members.items name).id kept.now ≡ true }
-        requires read { AreRecordsOwned (parts_of self.old).ids ((parts_of self.old).chains object)
-            → AreReadWithin (parts_of self.old).ids name ((parts_of self.old).chains object) kept.now }
-        ensures ok { OnOk result ((w : World P) → Represents (parts_of self.old) w
-            → WritesTo (parts_of self.old) (parts_of self.new) name object value) }
-        ensures swept { OnOk result ((w : World P) → Represents (parts_of self.old) w
-            → IsWithin kept.now ((parts_of self.new).chains object)) }
-        ensures err { OnErr result (IsUnchanged (parts_of self.old) (parts_of self.new)) }
+        requires read { AreRecordsOwned (world_parts self.old).ids ((world_parts self.old).chains object)
+            → AreReadWithin (world_parts self.old).ids name ((world_parts self.old).chains object) kept.now }
+        ensures ok { OnOk result ((w : World P) → Represents (world_parts self.old) w
+            → WritesTo (world_parts self.old) (world_parts self.new) name object value) }
+        ensures swept { OnOk result ((w : World P) → Represents (world_parts self.old) w
+            → IsWithin kept.now ((world_parts self.new).chains object)) }
+        ensures err { OnErr result (IsUnchanged (world_parts self.old) (world_parts self.new)) }
     {
         let Ok(()) = fill(alloc, &mut self.wrote, name) else {
             return Err(NoMemory);
@@ -254,12 +254,12 @@ impl<P: Policy> RecordWorld<P> {
         requires live { (member self.old.family.members.items name).is_live ≡ true }
         requires there { object < length self.old.objects.items }
         requires room { self.old.clock < 2 ^ 60 }
-        ensures ok { OnOk result ((w : World P) → Represents (parts_of self.old) w
-            → Represents (parts_of self.new) (world_after_write w name object value)) }
-        ensures swept { OnOk result ((w : World P) → Represents (parts_of self.old) w
-            → IsSwept (parts_of self.old).ids name self.old.family.held
-            ((parts_of self.old).chains object) ((parts_of self.new).chains object)) }
-        ensures err { OnErr result (IsUnchanged (parts_of self.old) (parts_of self.new)) }
+        ensures ok { OnOk result ((w : World P) → Represents (world_parts self.old) w
+            → Represents (world_parts self.new) (world_after_write w name object value)) }
+        ensures swept { OnOk result ((w : World P) → Represents (world_parts self.old) w
+            → IsSwept (world_parts self.old).ids name self.old.family.held
+            ((world_parts self.old).chains object) ((world_parts self.new).chains object)) }
+        ensures err { OnErr result (IsUnchanged (world_parts self.old) (world_parts self.new)) }
     {
         let mut kept = KeptIds::new(alloc);
         let Ok(()) = find_kept_ids(alloc, &self.family, &self.chains, object, name, &mut kept)
@@ -271,7 +271,7 @@ impl<P: Policy> RecordWorld<P> {
 
     // Returns the refusal of an apply before its objects are settled, if there is one.
     fn apply_refusal(&self, caller: Caller, name: Name) -> Option<Refusal>
-        ensures { result ≡ apply_refusal (parts_of self.now) caller name }
+        ensures { result ≡ apply_refusal (world_parts self.now) caller name }
     {
         if self.clock == CLOCK_LIMIT {
             return Some(Refusal::Spent);
@@ -298,7 +298,7 @@ impl<P: Policy> RecordWorld<P> {
 
     // Returns the refusal of a dispose, if there is one.
     fn dispose_refusal(&self, caller: Caller, name: Name) -> Option<Refusal>
-        ensures { result ≡ dispose_refusal (parts_of self.now) caller name }
+        ensures { result ≡ dispose_refusal (world_parts self.now) caller name }
     {
         if name as usize >= self.family.names() {
             return Some(Refusal::Closed { name });
@@ -318,7 +318,7 @@ impl<P: Policy> RecordWorld<P> {
     fn close(&mut self, name: Name)
         requires live { (member self.old.family.members.items name).is_live ≡ true }
         requires inner { 0 < name }
-        ensures { DisposesTo (parts_of self.old) (parts_of self.new) name }
+        ensures { DisposesTo (world_parts self.old) (world_parts self.new) name }
     {
         self.family.close_disposed(name);
     }
@@ -327,9 +327,9 @@ impl<P: Policy> RecordWorld<P> {
     fn forget(&mut self, name: Name)
         requires there { name < length self.old.family.members.items }
         requires free { is_free self.old.family.members.items (member self.old.family.members.items name) ≡ true }
-        ensures stays { (w : World P) → Represents (parts_of self.old) w → Represents (parts_of self.new) w }
+        ensures stays { (w : World P) → Represents (world_parts self.old) w → Represents (world_parts self.new) w }
         ensures held { self.new.family.held ≡ without_id name self.old.family.held }
-        ensures unnoted { (x : ℕ) → (parts_of self.new).noted name x ≡ false }
+        ensures unnoted { (x : ℕ) → (world_parts self.new).noted name x ≡ false }
     {
         let alloc = *self.wrote.allocator();
         clear_noted(
@@ -345,7 +345,7 @@ impl<P: Policy> RecordWorld<P> {
 
     // Forgets the closed snapshots without live descendants.
     fn forget_all(&mut self)
-        ensures stays { (w : World P) → Represents (parts_of self.old) w → Represents (parts_of self.new) w }
+        ensures stays { (w : World P) → Represents (world_parts self.old) w → Represents (world_parts self.new) w }
         ensures none { (n : ℕ) → is_free self.new.family.members.items
             (member self.new.family.members.items n) ≡ false }
     {
@@ -358,7 +358,7 @@ impl<P: Policy> RecordWorld<P> {
 
     // Returns own ids of snapshots that are neither 1 nor the first or current id of a snapshot nor the id of a record.
     fn find_unused(&self, alloc: Global) -> Result<IdSet, NoMemory>
-        ensures { IfOk result (λ unused. AreUnused (parts_of self.now).ids (parts_of self.now).chains
+        ensures { IfOk result (λ unused. AreUnused (world_parts self.now).ids (world_parts self.now).chains
             (λ i. contains i unused)) }
     {
         let mut used = IdSet::of(alloc, 1)?;
@@ -388,7 +388,7 @@ impl<P: Policy> RecordWorld<P> {
 
     // Drops the ids that no record and no open snapshot needs. Does nothing if the process is out of memory.
     fn drop_unused(&mut self, alloc: Global)
-        ensures { (w : World P) → Represents (parts_of self.old) w → Represents (parts_of self.new) w }
+        ensures { (w : World P) → Represents (world_parts self.old) w → Represents (world_parts self.new) w }
     {
         let Ok(unused) = self.find_unused(alloc) else {
             return;
@@ -398,7 +398,7 @@ impl<P: Policy> RecordWorld<P> {
 
     // Drops unused ids, if many ids were handed out since the last sweep and there are not too many records.
     fn sweep_ids(&mut self, alloc: Global)
-        ensures { (w : World P) → Represents (parts_of self.old) w → Represents (parts_of self.new) w }
+        ensures { (w : World P) → Represents (world_parts self.old) w → Represents (world_parts self.new) w }
     {
         if self.family.handed() < self.next_sweep {
             return;
@@ -416,7 +416,7 @@ impl<P: Policy> RecordWorld<P> {
 
     // Returns the refusal of a read, if there is one.
     fn read_refusal(&self, caller: Caller, name: Name, object: ObjectNo) -> Option<Refusal>
-        ensures { result ≡ read_refusal (parts_of self.now) caller name object }
+        ensures { result ≡ read_refusal (world_parts self.now) caller name object }
     {
         if !self.family.live(name) {
             return Some(Refusal::Closed { name });
@@ -436,11 +436,11 @@ impl<P: Policy> RecordWorld<P> {
     fn shown(&self, name: Name, object: ObjectNo) -> Option<RecordNo>
         requires live { (member self.now.family.members.items name).is_live ≡ true }
         requires there { object < length self.now.objects.items }
-        ensures is { IfSome result (λ r. Reads ((parts_of self.now).ids.sees name)
-            ((parts_of self.now).chains object) (record_at self.now.chains r.0).entry) }
+        ensures is { IfSome result (λ r. Reads ((world_parts self.now).ids.sees name)
+            ((world_parts self.now).chains object) (record_at self.now.chains r.0).entry) }
         ensures there { IfSome result (λ r. IsSome (get self.now.chains.slots r.0)) }
         ensures none { IfNone result ((e : StampedValue)
-            → Reads ((parts_of self.now).ids.sees name) ((parts_of self.now).chains object) e → ⊥) }
+            → Reads ((world_parts self.now).ids.sees name) ((world_parts self.now).chains object) e → ⊥) }
     {
         self.chains
             .readable(object, self.family.id(name), self.family.invalid(name))
@@ -467,9 +467,9 @@ impl<P: Policy> RecordWorld<P> {
         policy: P,
         value: Value,
     ) -> Result<ObjectNo, NoMemory>
-        ensures number { IfOk result (λ x. x ≡ length (parts_of self.old).objects) }
-        ensures ok { OnOk result (MakesTo (parts_of self.old) (parts_of self.new) ty policy value) }
-        ensures err { OnErr result (IsUnchanged (parts_of self.old) (parts_of self.new)) }
+        ensures number { IfOk result (λ x. x ≡ length (world_parts self.old).objects) }
+        ensures ok { OnOk result (MakesTo (world_parts self.old) (world_parts self.new) ty policy value) }
+        ensures err { OnErr result (IsUnchanged (world_parts self.old) (world_parts self.new)) }
     {
         let Ok(()) = self.objects.reserve(1) else {
             return Err(NoMemory);
@@ -491,7 +491,7 @@ impl<P: Policy> RecordWorld<P> {
 
     // Returns the refusal of a take for a watcher, if there is one.
     fn take_for_refusal(&self, watcher: WatcherNo) -> Option<Refusal>
-        ensures { result ≡ take_for_refusal (parts_of self.now) watcher }
+        ensures { result ≡ take_for_refusal (world_parts self.now) watcher }
     {
         if self.clock == CLOCK_LIMIT {
             return Some(Refusal::Spent);
@@ -511,8 +511,8 @@ impl<P: Policy> RecordWorld<P> {
     ) -> Result<(Name, Objects), NoMemory>
         requires known { watcher < length self.old.lasts.items }
         requires room { self.old.clock < 2 ^ 60 }
-        ensures ok { IfOk result (λ r. IsTakeFor (parts_of self.old) (parts_of self.new) caller watcher r.0 r.1) }
-        ensures err { OnErr result (IsUnchanged (parts_of self.old) (parts_of self.new)) }
+        ensures ok { IfOk result (λ r. IsTakeFor (world_parts self.old) (world_parts self.new) caller watcher r.0 r.1) }
+        ensures err { OnErr result (IsUnchanged (world_parts self.old) (world_parts self.new)) }
     {
         let spare = replace(&mut self.spare, Vec::new(alloc));
         let Ok(stamps) = StampList::copy_into(spare, &self.stamps) else {
@@ -541,12 +541,12 @@ impl<P: Policy> Versions for RecordWorld<P> {
     ghost use Rattle.snap_nested.specs.Members.{is_free};
     ghost use Rattle.snap_laws.specs.FreeRefusals.{IsFreelyRefused, IsApplyFreelyRefused};
     ghost use Rattle.snap_laws.specs.Represents.{Represents};
-    ghost use Rattle.snap_world.specs.Holding.{parts_of};
+    ghost use Rattle.snap_world.specs.Holding.{world_parts};
     ghost use Rattle.snap_world.specs.HoldingLaws.{counts_of};
 
     type P = P;
 
-    ghost stands = { λ s w. Represents (parts_of s) w };
+    ghost stands = { λ s w. Represents (world_parts s) w };
 
     ghost log = { λ s. None };
 
@@ -595,11 +595,11 @@ impl<P: Policy> Versions for RecordWorld<P> {
         parent: Name,
         kind: Kind,
     ) -> Result<Name, Refusal>
-        ensures call { Calls P.rules (Represents (parts_of self.old)) (Represents (parts_of self.new)) caller
+        ensures call { Calls P.rules (Represents (world_parts self.old)) (Represents (world_parts self.new)) caller
             (Request.Take parent kind)
             (taken_reply result) }
         ensures log { Logs None None caller (Request.Take parent kind) (taken_reply result) }
-        ensures refused { IsFreelyRefused P.rules (Represents (parts_of self.old)) caller (Request.Take parent kind)
+        ensures refused { IsFreelyRefused P.rules (Represents (world_parts self.old)) caller (Request.Take parent kind)
             (taken_reply result) }
     {
         if let Some(refusal) = self.take_refusal(parent, kind) {
@@ -618,11 +618,11 @@ impl<P: Policy> Versions for RecordWorld<P> {
         caller: Caller,
         watcher: WatcherNo,
     ) -> Result<(Name, Objects), Refusal>
-        ensures call { Calls P.rules (Represents (parts_of self.old)) (Represents (parts_of self.new)) caller
+        ensures call { Calls P.rules (Represents (world_parts self.old)) (Represents (world_parts self.new)) caller
             (Request.TakeFor watcher)
             (taken_for_reply result) }
         ensures log { Logs None None caller (Request.TakeFor watcher) (taken_for_reply result) }
-        ensures refused { IsFreelyRefused P.rules (Represents (parts_of self.old)) caller (Request.TakeFor watcher)
+        ensures refused { IsFreelyRefused P.rules (Represents (world_parts self.old)) caller (Request.TakeFor watcher)
             (taken_for_reply result) }
     {
         if let Some(refusal) = self.take_for_refusal(watcher) {
@@ -642,13 +642,13 @@ impl<P: Policy> Versions for RecordWorld<P> {
         name: Name,
         object: ObjectNo,
     ) -> Result<Value, Refusal>
-        ensures call { Calls P.rules (Represents (parts_of self.old)) (Represents (parts_of self.new)) caller
+        ensures call { Calls P.rules (Represents (world_parts self.old)) (Represents (world_parts self.new)) caller
             (Request.Read name object)
             (read_reply result) }
         ensures log { Logs None None caller (Request.Read name object) (read_reply result) }
-        ensures refused { IsFreelyRefused P.rules (Represents (parts_of self.old)) caller (Request.Read name object)
+        ensures refused { IsFreelyRefused P.rules (Represents (world_parts self.old)) caller (Request.Read name object)
             (read_reply result) }
-        ensures flat { (w : World P) → Represents (parts_of self.old) w
+        ensures flat { (w : World P) → Represents (world_parts self.old) w
             → is_flat (value_at (snapshot_of w name).view object) ≡ true → result ≢ Err Refusal.NoMemory }
     {
         if let Some(refusal) = self.read_refusal(caller, name, object) {
@@ -671,16 +671,16 @@ impl<P: Policy> Versions for RecordWorld<P> {
         object: ObjectNo,
         value: Value,
     ) -> Result<bool, Refusal>
-        ensures call { Calls P.rules (Represents (parts_of self.old)) (Represents (parts_of self.new)) caller
+        ensures call { Calls P.rules (Represents (world_parts self.old)) (Represents (world_parts self.new)) caller
             (Request.Write name object value)
             (write_reply result) }
         ensures log { Logs None None caller (Request.Write name object value) (write_reply result) }
-        ensures refused { IsFreelyRefused P.rules (Represents (parts_of self.old)) caller
+        ensures refused { IsFreelyRefused P.rules (Represents (world_parts self.old)) caller
             (Request.Write name object value)
             (write_reply result) }
-        ensures swept { result ≡ Ok true → (w : World P) → Represents (parts_of self.old) w
-            → IsSwept (parts_of self.old).ids name self.old.family.held
-            ((parts_of self.old).chains object) ((parts_of self.new).chains object) }
+        ensures swept { result ≡ Ok true → (w : World P) → Represents (world_parts self.old) w
+            → IsSwept (world_parts self.old).ids name self.old.family.held
+            ((world_parts self.old).chains object) ((world_parts self.new).chains object) }
     {
         if let Some(refusal) = self.write_refusal(caller, name, object, &value) {
             return Err(refusal);
@@ -696,13 +696,13 @@ impl<P: Policy> Versions for RecordWorld<P> {
     }
 
     fn apply(&mut self, alloc: Global, caller: Caller, name: Name) -> Result<(), Refusal>
-        ensures call { Calls P.rules (Represents (parts_of self.old)) (Represents (parts_of self.new)) caller
+        ensures call { Calls P.rules (Represents (world_parts self.old)) (Represents (world_parts self.new)) caller
             (Request.Apply name)
             (apply_reply result) }
         ensures log { Logs None None caller (Request.Apply name) (apply_reply result) }
-        ensures refused { IsApplyFreelyRefused P.rules P.is_free_merge (Represents (parts_of self.old)) caller name
+        ensures refused { IsApplyFreelyRefused P.rules P.is_free_merge (Represents (world_parts self.old)) caller name
             (apply_reply result) }
-        ensures unnoted { OnOk result ((x : ℕ) → (parts_of self.new).noted name x ≡ false) }
+        ensures unnoted { OnOk result ((x : ℕ) → (world_parts self.new).noted name x ≡ false) }
     {
         if let Some(refusal) = self.apply_refusal(caller, name) {
             return Err(refusal);
@@ -722,11 +722,11 @@ impl<P: Policy> Versions for RecordWorld<P> {
     }
 
     fn dispose(&mut self, caller: Caller, name: Name) -> Result<(), Refusal>
-        ensures call { Calls P.rules (Represents (parts_of self.old)) (Represents (parts_of self.new)) caller
+        ensures call { Calls P.rules (Represents (world_parts self.old)) (Represents (world_parts self.new)) caller
             (Request.Dispose name)
             (dispose_reply result) }
         ensures log { Logs None None caller (Request.Dispose name) (dispose_reply result) }
-        ensures own { (w : World P) → Represents (parts_of self.old) w → IsOwn w caller name → IsOk result }
+        ensures own { (w : World P) → Represents (world_parts self.old) w → IsOwn w caller name → IsOk result }
         ensures free { result ≢ Err Refusal.NoMemory }
         ensures forgot { (member self.old.family.members.items name).is_live ≡ true → OnOk result ((n : ℕ)
             → is_free self.new.family.members.items (member self.new.family.members.items n) ≡ false) }

@@ -1,6 +1,6 @@
 -- The canonical text of a text.
 use Rattle.std.proofs.Common.{◌≡◌, ℕ, Bool, List, [], sym, ap, ◌∙◌, subst, arith}
-use Rattle.sexp_text.specs.Forest.{Forest, nesting, without_offsets}
+use Rattle.sexp_text.specs.Forest.{Forest, list_nesting, without_offsets}
 use Rattle.sexp_text.specs.Layout.{lines, CanBeSpelled}
 use Rattle.sexp_text.proofs.Printed.{printed_spells, spells_can}
 use Rattle.lang_ast.specs.Programs.{Program}
@@ -55,8 +55,8 @@ reads_again threads bytes t h =
     let placed = place_spelled s.spelling 0 u.forest s.well_spelled (ap without_offsets (sym s.forest_is) ∙ same) in
     let g = placed.places in
     let moved : placed_forest g h.forest ≡ u.forest = ap (placed_forest g) s.forest_is ∙ placed.is in
-    let depth : nesting u.forest ≡ nesting h.forest =
-    u.deep ∙ ap nesting (sym unplaced) ∙ nesting-without h.forest in (
+    let depth : list_nesting u.forest ≡ list_nesting h.forest =
+    u.deep ∙ ap list_nesting (sym unplaced) ∙ nesting-without h.forest in (
       g,
       record {
         forest = u.forest;

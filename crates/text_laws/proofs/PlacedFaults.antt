@@ -17,10 +17,10 @@ use Rattle.lang_checks.specs.declared.environment.TypedName.{TypedName}
 use Rattle.lang_checks.specs.declared.faults.CheckKind.{CheckKind}
 use Rattle.lang_checks.specs.declared.faults.CheckKind.TheVariants as kind
 use Rattle.lang_checks.specs.FaultOrder.{fault_unless}
-use Rattle.lang_checks.specs.Scopes.{typed_name, bound_type, is_free, is_among, duplicate_faults, type_if_named, state_type, first_named, numbered_or, named_function}
+use Rattle.lang_checks.specs.Scopes.{typed_name, bound_type, is_unbound, is_listed, duplicate_faults, type_if_named, state_type, first_named, numbered_or, named_function}
 use Rattle.lang_checks.specs.Operands.{same_types, accepts_types, result_type}
 use Rattle.lang_checks.specs.Expressions.{ExpressionScope, or_int, type, types_of, expr_faults, exprs_faults, values_faults, typed_names}
-use Rattle.lang_checks.specs.Statements.{StatementContext, plain_scope, inside, names, parameter_types, call_faults, stmt_faults, stmts_faults}
+use Rattle.lang_checks.specs.Statements.{StatementContext, plain_scope, inside, names, parameter_types, callee_faults, stmt_faults, stmts_faults}
 use Rattle.lang_checks.specs.Chains.{most_chain, longest, longest_in, chain, chains_faults}
 use Rattle.lang_checks.specs.ProgramFaults.{is_well_typed, states_faults, bound_parameters, function_faults, functions_faults, program_faults}
 use Rattle.text_laws.specs.OtherOffsets.{placed_name, placed_expr, placed_exprs, placed_pair, placed_stmt, placed_stmts, placed_parameter, placed_function, placed_state, placed_program}
@@ -84,7 +84,7 @@ module _ (g : ℕ → ℕ) where
       (first_named-placed fs name 0)
       ∙ numbered_or-placed name number (slice_get fs number) (first_named fs name 0)
 
-  among-placed : (name : List ℕ) (ns : List Ident) → is_among name (map (placed_name g) ns) ≡ is_among name ns
+  among-placed : (name : List ℕ) (ns : List Ident) → is_listed name (map (placed_name g) ns) ≡ is_listed name ns
   among-placed name [] = refl
   among-placed name (n ∷ ns) = ap (λ b. bytes_eq n.text name || b) (among-placed name ns)
 
@@ -92,9 +92,9 @@ module _ (g : ℕ → ℕ) where
       → duplicate_faults (map (placed_name g) earlier) (map (placed_name g) ns) ≡ []
   duplicates-placed earlier [] h = refl
   duplicates-placed earlier (n ∷ ns) h =
-      let both = none_in (fault_unless (not (is_among n.text earlier)) kind.Double n.at)
+      let both = none_in (fault_unless (not (is_listed n.text earlier)) kind.Double n.at)
       (duplicate_faults (earlier ++ n ∷ []) ns) h in
-      join_none _ _ (no_fault (not (is_among n.text earlier)) (not (is_among n.text (map (placed_name g) earlier)))
+      join_none _ _ (no_fault (not (is_listed n.text earlier)) (not (is_listed n.text (map (placed_name g) earlier)))
       kind.Double n.at (g n.at) (ap not (among-placed n.text earlier)) both.0)
       (subst (λ l. duplicate_faults l (map (placed_name g) ns) ≡ []) (map-append (placed_name g) earlier (n ∷ []))
       (duplicates-placed (earlier ++ n ∷ []) ns both.1))
@@ -183,8 +183,8 @@ module _ (g : ℕ → ℕ) where
   parameter_types-placed [] = refl
   parameter_types-placed (p ∷ ps) = ap (λ ts. p.ty ∷ ts) (parameter_types-placed ps)
 
-  call-fine : (me at bt : ℕ) (ts : List Ty) (o : Option (ℕ × Func)) → call_faults me at ts o ≡ []
-      → call_faults me bt ts (option_map named_at o) ≡ []
+  call-fine : (me at bt : ℕ) (ts : List Ty) (o : Option (ℕ × Func)) → callee_faults me at ts o ≡ []
+      → callee_faults me bt ts (option_map named_at o) ≡ []
   call-fine me at bt ts None h = absurd cc
   call-fine me at bt ts (Some f) h =
       let both = none_in (fault_unless (nat_lt f.0 me) kind.Order at)
@@ -206,9 +206,9 @@ module _ (g : ℕ → ℕ) where
         let l = plain_scope p.states scope in
         let one = none_in (exprs_faults (plain_scope p.states scope) es) _ h in
         join_none _ _ (exprs-fine l es one.0)
-        (ap (λ ts. call_faults p.me (g at) ts (named_function (functions_at p.functions) n.text function))
+        (ap (λ ts. callee_faults p.me (g at) ts (named_function (functions_at p.functions) n.text function))
         (types-placed l es)
-        ∙ ap (call_faults p.me (g at) (types_of l es)) (named_function-placed p.functions n.text function)
+        ∙ ap (callee_faults p.me (g at) (types_of l es)) (named_function-placed p.functions n.text function)
         ∙ call-fine p.me at (g at) (types_of l es) (named_function p.functions n.text function) one.1)
     stmt-fine p scope (Key at site e body) h =
         let one = none_in (expr_faults (plain_scope p.states scope) e) _ h in
@@ -226,18 +226,18 @@ module _ (g : ℕ → ℕ) where
         let l = plain_scope p.states scope in
         let one = none_in (expr_faults (plain_scope p.states scope) e) _ h in
         let two = none_in (fault_unless (same_type (type (plain_scope p.states scope) e) ty.Ints) kind.Type at) _ one.1 in
-        let three = none_in (fault_unless (is_free n.text scope) kind.Double n.at) _ two.1 in
+        let three = none_in (fault_unless (is_unbound n.text scope) kind.Double n.at) _ two.1 in
         join_none _ _ (expr-fine l e one.0)
         (join_none _ _ (no_fault (same_type (type l e) ty.Ints) (same_type (type (scope_at l) (placed_expr g e)) ty.Ints)
         kind.Type at (g at) (ap (λ t. same_type t ty.Ints) (type-placed l e)) two.0)
-        (join_none _ _ (no_fault (is_free n.text scope) (is_free n.text scope) kind.Double n.at (g n.at) refl three.0)
+        (join_none _ _ (no_fault (is_unbound n.text scope) (is_unbound n.text scope) kind.Double n.at (g n.at) refl three.0)
         (stmts-fine p (scope ++ typed_name n ty.Int ∷ []) body three.1)))
     stmt-fine p scope (Let at site n e body) h =
         let l = plain_scope p.states scope in
         let one = none_in (expr_faults (plain_scope p.states scope) e) _ h in
-        let two = none_in (fault_unless (is_free n.text scope) kind.Double n.at) _ one.1 in
+        let two = none_in (fault_unless (is_unbound n.text scope) kind.Double n.at) _ one.1 in
         join_none _ _ (expr-fine l e one.0)
-        (join_none _ _ (no_fault (is_free n.text scope) (is_free n.text scope) kind.Double n.at (g n.at) refl two.0)
+        (join_none _ _ (no_fault (is_unbound n.text scope) (is_unbound n.text scope) kind.Double n.at (g n.at) refl two.0)
         (subst (λ t. stmts_faults (context_at p) (scope ++ typed_name n t ∷ []) (placed_stmts g body) ≡ [])
         (sym (type-placed l e)) (stmts-fine p (scope ++ typed_name n (type l e) ∷ []) body two.1)))
     stmt-fine p scope (Remember at site n ks e body) h =
@@ -246,12 +246,12 @@ module _ (g : ℕ → ℕ) where
         let one = none_in (duplicate_faults [] (names ks)) _ h in
         let two = none_in (values_faults (plain_scope p.states scope) ks) _ one.1 in
         let three = none_in (expr_faults (inside p.states scope ks) e) _ two.1 in
-        let four = none_in (fault_unless (is_free n.text scope) kind.Double n.at) _ three.1 in
+        let four = none_in (fault_unless (is_unbound n.text scope) kind.Double n.at) _ three.1 in
         let is = inside-placed p.states scope ks in
         join_none _ _ (pair_names-fine ks one.0)
         (join_none _ _ (values-fine l ks two.0)
         (join_none _ _ (ap (λ s. expr_faults s (placed_expr g e)) is ∙ expr-fine keyed e three.0)
-        (join_none _ _ (no_fault (is_free n.text scope) (is_free n.text scope) kind.Double n.at (g n.at) refl four.0)
+        (join_none _ _ (no_fault (is_unbound n.text scope) (is_unbound n.text scope) kind.Double n.at (g n.at) refl four.0)
         (subst (λ t. stmts_faults (context_at p) (scope ++ typed_name n t ∷ []) (placed_stmts g body) ≡ [])
         (sym (ap (λ s. type s (placed_expr g e)) is ∙ type-placed keyed e))
         (stmts-fine p (scope ++ typed_name n (type keyed e) ∷ []) body four.1)))))

@@ -5,7 +5,7 @@ use Rattle.std.proofs.lemmas.Bool.Decides.{eqb_tells}
 use Rattle.std.specs.Str.{bytes_eq}
 use Rattle.rt_values.specs.Limits.{most_items}
 use Rattle.rt_values.specs.Values.{escape_all}
-use Rattle.sexp_text.specs.Forest.{Forest, empty, atom, text, list, nesting, without_offsets}
+use Rattle.sexp_text.specs.Forest.{Forest, empty, atom, text, list, list_nesting, without_offsets}
 use Rattle.sexp_text.specs.Grammar.{Spelling, nothing, blank, comment, word, quoted, parens, spelling_bytes, is_blank, is_comment, is_name, is_well_spelled, forest_at}
 use Rattle.sexp_text.specs.Layout.{CanBeSpelled}
 use Rattle.lang_ast.specs.Sizes.{offset_if}
@@ -195,7 +195,7 @@ without_twice (text at s f) = ap (text 0 s) (without_twice f)
 without_twice (list at i f) = ap (λ j. list 0 j (without_offsets (without_offsets f))) (without_twice i)
     ∙ ap (list 0 (without_offsets i)) (without_twice f)
 
-pub nesting-without : (f : Forest) → nesting (without_offsets f) ≡ nesting f
+pub nesting-without : (f : Forest) → list_nesting (without_offsets f) ≡ list_nesting f
 nesting-without empty = refl
 nesting-without (atom at a f) = nesting-without f
 nesting-without (text at s f) = nesting-without f

@@ -15,7 +15,7 @@ use Rattle.lang_script.specs.StepCalls.{Notes, ActorPart, no_notes, request_of, 
 use Rattle.lang_script.specs.StepLaws.{BeginsWith, Spells}
 use Rattle.script_lang.specs.Lines.{lines, initial_standing}
 use Rattle.script_lang.specs.declared.flags.Flags.{Flags}
-use Rattle.play_laws.specs.Woven.{parts_of, initial_actor, IsWoven}
+use Rattle.play_laws.specs.Woven.{parts_of_actor, initial_actor, IsWoven}
 use Rattle.play_laws.specs.Laws.{text_of}
 use Rattle.play_threads.specs.WovenText.{IsWovenText}
 use Rattle.lang_forms.specs.Sources.{Source}
@@ -77,20 +77,20 @@ module _ (g : ℕ → ℕ) where
             (go (notes_after n p.part e.reply) es s.2),
       )
 
-  parts_of-placed : (a : ℕ) (ps : List ActorPart) → parts_of a (parts_at ps) ≡ parts_at (parts_of a ps)
+  parts_of-placed : (a : ℕ) (ps : List ActorPart) → parts_of_actor a (parts_at ps) ≡ parts_at (parts_of_actor a ps)
   parts_of-placed a [] = refl
   parts_of-placed a (p ∷ ps) = by (p.actor == a) (parts_of-placed a ps)
     where
-      by : (b : Bool) → parts_of a (parts_at ps) ≡ parts_at (parts_of a ps)
-          → cond b (placed_actor_part g p ∷ parts_of a (parts_at ps)) (parts_of a (parts_at ps))
-          ≡ parts_at (cond b (p ∷ parts_of a ps) (parts_of a ps))
+      by : (b : Bool) → parts_of_actor a (parts_at ps) ≡ parts_at (parts_of_actor a ps)
+          → cond b (placed_actor_part g p ∷ parts_of_actor a (parts_at ps)) (parts_of_actor a (parts_at ps))
+          ≡ parts_at (cond b (p ∷ parts_of_actor a ps) (parts_of_actor a ps))
       by true e = ap (λ l. placed_actor_part g p ∷ l) e
       by false e = e
 
   woven-to : (n : ℕ) (ps : List ActorPart) (h : History) → IsWoven n (initial_actor (parts_at ps)) h
       → IsWoven n (initial_actor ps) h
   woven-to n ps h w = record {
-    each = λ a below. spells-to no_notes (parts_of a ps) (own_calls a h)
+    each = λ a below. spells-to no_notes (parts_of_actor a ps) (own_calls a h)
         (subst (λ l. Spells no_notes l (own_calls a h)) (parts_of-placed a ps) (w.each a below));
     others = w.others;
   }
@@ -99,7 +99,7 @@ module _ (g : ℕ → ℕ) where
       → IsWoven n (initial_actor (parts_at ps)) h
   woven-from n ps h w = record {
     each = λ a below. subst (λ l. Spells no_notes l (own_calls a h)) (sym (parts_of-placed a ps))
-        (spells-from no_notes (parts_of a ps) (own_calls a h) (w.each a below));
+        (spells-from no_notes (parts_of_actor a ps) (own_calls a h) (w.each a below));
     others = w.others;
   }
 

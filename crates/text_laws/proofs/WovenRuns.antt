@@ -31,7 +31,7 @@ use Rattle.lang_script.specs.StepCalls.{Part, Take, Read, Write, WriteSum, Apply
 use Rattle.lang_script.specs.StepLaws.{Spells, BeginsWith}
 use Rattle.lang_script.proofs.Sequential.{spelled}
 use Rattle.script_lang.specs.Lines.{run_text}
-use Rattle.play_laws.specs.Woven.{parts_of, actor_parts}
+use Rattle.play_laws.specs.Woven.{parts_of_actor, actor_parts}
 use Rattle.play_laws.proofs.Callers.{differs, own_calls-first, own_calls-skip, parts_are_of_script}
 use Rattle.play_core.specs.Texts.{run_output}
 use Rattle.text_laws.specs.WovenRuns.{RunIsWoven, RunWritesAnOutputOfThreads}
@@ -222,7 +222,7 @@ module _ (owner : Owners) where
       (need : Needs v f p.actor p.part) (agree : Agree n own v f)
       (go : (w' : World BuiltIn) (n' : Notes) (own' : ℕ → Notes)
       → Agree n' own' (reader_after v p.actor p.part) (framer_after f p.actor p.part) → (a : ℕ)
-      → Spells (own' a) (parts_of a ps) (own_calls a (sequential w' n' ps))) where
+      → Spells (own' a) (parts_of_actor a ps) (own_calls a (sequential w' n' ps))) where
     abbrev c : ℕ
     c = p.actor
 
@@ -237,15 +237,15 @@ module _ (owner : Owners) where
     -- What its actor's history must begin with.
     abbrev Begins : Option Request → History → Type 0
     Begins o h = elim o [
-      | None ↦ Spells (own c) (parts_of c ps) h
-      | Some q ↦ BeginsWith p.actor q (λ r es. Spells (notes_after (own c) p.part r) (parts_of c ps) es) h
+      | None ↦ Spells (own c) (parts_of_actor c ps) h
+      | Some q ↦ BeginsWith p.actor q (λ r es. Spells (notes_after (own c) p.part r) (parts_of_actor c ps) es) h
     ]
 
-    parts_mine : parts_of c (p ∷ ps) ≡ p ∷ parts_of c ps
-    parts_mine = ap (λ b. cond b (p ∷ parts_of c ps) (parts_of c ps)) (itself c)
+    parts_mine : parts_of_actor c (p ∷ ps) ≡ p ∷ parts_of_actor c ps
+    parts_mine = ap (λ b. cond b (p ∷ parts_of_actor c ps) (parts_of_actor c ps)) (itself c)
 
-    parts_others : (a : ℕ) → c ≢ a → parts_of a (p ∷ ps) ≡ parts_of a ps
-    parts_others a ne = ap (λ b. cond b (p ∷ parts_of a ps) (parts_of a ps)) (differs c a ne)
+    parts_others : (a : ℕ) → c ≢ a → parts_of_actor a (p ∷ ps) ≡ parts_of_actor a ps
+    parts_others a ne = ap (λ b. cond b (p ∷ parts_of_actor a ps) (parts_of_actor a ps)) (differs c a ne)
 
     agree_passed : request_of n p.part ≡ None
         → Agree n own (reader_after v p.actor p.part) (framer_after f p.actor p.part)
@@ -260,12 +260,12 @@ module _ (owner : Owners) where
     abbrev own_next : Request → ℕ → Notes
     own_next q = with_notes own c (notes_after (own c) p.part (reply_to q))
 
-    rest_of : (q : Request) (a : ℕ) → Spells (own_next q a) (parts_of a ps)
+    rest_of : (q : Request) (a : ℕ) → Spells (own_next q a) (parts_of_actor a ps)
         (own_calls a (sequential (call table w p.actor q).0 (notes_after n p.part (reply_to q)) ps))
     rest_of q a = go (call table w p.actor q).0 (notes_after n p.part (reply_to q)) (own_next q)
         (agree_after n own v f c p.part (reply_to q) need agree) a
 
-    mine : (o : Option Request) → request_of n p.part ≡ o → Spells (own c) (parts_of c (p ∷ ps)) (own_calls c (then o))
+    mine : (o : Option Request) → request_of n p.part ≡ o → Spells (own c) (parts_of_actor c (p ∷ ps)) (own_calls c (then o))
     mine o e =
         subst (λ l. Spells (own c) l (own_calls c (then o))) (sym parts_mine)
         (subst (λ q. Begins q (own_calls c (then o))) (sym e ∙ same_request n own v f agree c p.part need) (by o e))
@@ -277,31 +277,31 @@ module _ (owner : Owners) where
             let own_is : own_next q c ≡ notes_after (own c) p.part (reply_to q) =
             ap (λ b. cond b (notes_after (own c) p.part (reply_to q)) (own c)) (itself c) in
             subst (λ h. Begins (Some q) h) (sym (own_calls-first (entry w p.actor q) es))
-            (refl, refl, subst (λ (k : Notes). Spells k (parts_of c ps) (own_calls c es)) own_is (rest_of q c))
+            (refl, refl, subst (λ (k : Notes). Spells k (parts_of_actor c ps) (own_calls c es)) own_is (rest_of q c))
 
     others : (a : ℕ) → c ≢ a → (o : Option Request) → request_of n p.part ≡ o
-        → Spells (own a) (parts_of a (p ∷ ps)) (own_calls a (then o))
+        → Spells (own a) (parts_of_actor a (p ∷ ps)) (own_calls a (then o))
     others a ne o e = subst (λ l. Spells (own a) l (own_calls a (then o))) (sym (parts_others a ne)) (by o e)
       where
-        by : (o : Option Request) → request_of n p.part ≡ o → Spells (own a) (parts_of a ps) (own_calls a (then o))
+        by : (o : Option Request) → request_of n p.part ≡ o → Spells (own a) (parts_of_actor a ps) (own_calls a (then o))
         by None e = go w n own (agree_passed e) a
         by (Some q) e =
             let es = sequential (call table w p.actor q).0 (notes_after n p.part (reply_to q)) ps in
             let own_is : own_next q a ≡ own a =
             ap (λ b. cond b (notes_after (own c) p.part (reply_to q)) (own a)) (differs c a ne) in
-            subst (λ h. Spells (own a) (parts_of a ps) h) (sym (own_calls-skip (entry w p.actor q) es a ne))
-            (subst (λ (k : Notes). Spells k (parts_of a ps) (own_calls a es)) own_is (rest_of q a))
+            subst (λ h. Spells (own a) (parts_of_actor a ps) h) (sym (own_calls-skip (entry w p.actor q) es a ne))
+            (subst (λ (k : Notes). Spells k (parts_of_actor a ps) (own_calls a es)) own_is (rest_of q a))
 
-    one_and_rest : (a : ℕ) → Spells (own a) (parts_of a (p ∷ ps)) (own_calls a (sequential w n (p ∷ ps)))
+    one_and_rest : (a : ℕ) → Spells (own a) (parts_of_actor a (p ∷ ps)) (own_calls a (sequential w n (p ∷ ps)))
     one_and_rest a = elim (eqb_tells c a) [
-      | inl e ↦ subst (λ (b : ℕ). Spells (own b) (parts_of b (p ∷ ps)) (own_calls b (sequential w n (p ∷ ps)))) e.1
+      | inl e ↦ subst (λ (b : ℕ). Spells (own b) (parts_of_actor b (p ∷ ps)) (own_calls b (sequential w n (p ∷ ps)))) e.1
           (mine (request_of n p.part) refl)
       | inr e ↦ others a e.1 (request_of n p.part) refl
     ]
 
   -- The calls of each actor in a run are those that its own parts make.
   woven : (ps : List ActorPart) (w : World BuiltIn) (n : Notes) (own : ℕ → Notes) (v f : Option ℕ) → Fit v f ps
-      → Agree n own v f → (a : ℕ) → Spells (own a) (parts_of a ps) (own_calls a (sequential w n ps))
+      → Agree n own v f → (a : ℕ) → Spells (own a) (parts_of_actor a ps) (own_calls a (sequential w n ps))
   woven [] w n own v f fit agree a = refl
   woven (p ∷ ps) w n own v f fit agree a = one_and_rest p ps w n own v f fit.0 agree
       (λ w' n' own' agree' a'. woven ps w' n' own' (reader_after v p.actor p.part) (framer_after f p.actor p.part)

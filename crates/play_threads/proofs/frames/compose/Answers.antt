@@ -1,5 +1,5 @@
 use Rattle.std.proofs.Common.{sym, subst, Some}
-use Rattle.snap_shared.specs.Seats.{number_of, seen_by, mine_of}
+use Rattle.snap_shared.specs.Seats.{seat_number, seen_by, mine_of}
 use Rattle.play_threads.specs.ActorSteps.{IsActorAt}
 use Rattle.play_threads.specs.declared.memory.ActorMemory.{ActorMemory}
 use Rattle.play_threads.proofs.PartsMade.{frame_read, came_on}
@@ -19,7 +19,7 @@ returns-clause-makes g c o stood counts before rest h =
     let name = c.args.name in
     let at = subst (λ x. IsActorAt o before (seen_by x) (mine_of x) m (Some name) rest) (sym c.new-view.ensures.seat)
     (h.on c.requires.going) in
-    let read = frame_read o _ _ before (seen_by s.seat) (seen_by t.seat) (number_of s.seat) (number_of t.seat) s.opened
+    let read = frame_read o _ _ before (seen_by s.seat) (seen_by t.seat) (seat_number s.seat) (seat_number t.seat) s.opened
     t.opened m m' name rest c.recompose-frame.ensures.keeps.1 c.new-view.ensures.rest.1
     (λ n k. record { has_names = k.has_names; has_value = k.has_value; has_frame = k.has_frame }) at in
     came_on o before _ (Some name) rest

@@ -1,7 +1,7 @@
 use Rattle.std.proofs.Common.{ℕ, subst, sym, IfOk}
 use Rattle.recomposer.specs.Compositions.{BeginsFrame, IsAt}
 use Rattle.snap_shared.specs.SeatDesk.{IsOnlyTaker}
-use Rattle.snap_shared.specs.Seats.{number_of, seen_by}
+use Rattle.snap_shared.specs.Seats.{seat_number, seen_by}
 use Rattle.snap_shared.specs.declared.shared.Seat.{Seat}
 use Rattle.recompose_seats.specs.SeatFrames.{ShowsIn, HasTaken}
 use Rattle.recompose_seats.proofs.SeatFrames.{begun_ok, last_stays, seat_returns}
@@ -12,7 +12,7 @@ returns-clause-good g c k types l may =
     let watcher = c.args.composition.now.watcher in
     let desk = c.begin-outcome.new.desk in
     let back = c.into_seat-seat.ensures.0 in
-    let there = subst (λ (s : Seat g.row.W.Denot). IsOnlyTaker (number_of s) watcher (seen_by s)) back may.2 in
+    let there = subst (λ (s : Seat g.row.W.Denot). IsOnlyTaker (seat_number s) watcher (seen_by s)) back may.2 in
     let begun = begun_ok g.W.P.Policy.rules g.W.Versions.stands c.args.view.shared.now desk.shared.now c.args.view.seat
     desk.seat c.into_seat-seat.result.0 watcher types c.begin-outcome.ensures.desk.lends.0 back
     c.begin-outcome.ensures.desk.caller may.2
@@ -42,7 +42,7 @@ returns-clause-last g c k types l may =
     let watcher = c.args.composition.now.watcher in
     let desk = c.begin-outcome.new.desk in
     let back = c.into_seat-seat.ensures.0 in
-    let there = subst (λ (s : Seat g.row.W.Denot). IsOnlyTaker (number_of s) watcher (seen_by s)) back may.2 in
+    let there = subst (λ (s : Seat g.row.W.Denot). IsOnlyTaker (seat_number s) watcher (seen_by s)) back may.2 in
     last_stays g.W.P.Policy.rules g.W.Versions.stands c.args.view.shared.now desk.shared.now c.args.view.seat desk.seat
     c.into_seat-seat.result.0 watcher types c.begin-outcome.ensures.desk.lends.0 back
     c.begin-outcome.ensures.desk.caller may.2 l c.begin-outcome.result

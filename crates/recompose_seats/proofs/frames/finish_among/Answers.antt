@@ -1,6 +1,6 @@
 use Rattle.std.proofs.Common.{ℕ, sym, subst, Option, Some}
 use Rattle.snap_shared.specs.SeatDesk.{SeesMap, IsOnlyTaker, objects_read}
-use Rattle.snap_shared.specs.Seats.{opening_of, number_of, seen_by, mine_of}
+use Rattle.snap_shared.specs.Seats.{opening_of, seat_number, seen_by, mine_of}
 use Rattle.snap_shared.specs.declared.shared.Seat.{Seat}
 use Rattle.recomposer.specs.FrameContracts.{ComposesShown, DrivesApplier, AsksOwed, LogsEnd}
 use Rattle.recomposer.proofs.Stops.{may_be_called}
@@ -14,7 +14,7 @@ finish-outcome-requires-clause-tree g c =
       at.0,
       at.1.0,
       subst (λ (o : Option ℕ). SeesMap g.W.P.Policy.rules (g.W.Versions.stands (opening_of c.args.view.shared.now))
-          (seen_by seat) (number_of seat) o at.0) (sym c.requires.opened) at.1.1,
+          (seen_by seat) (seat_number seat) o at.0) (sym c.requires.opened) at.1.1,
     ))
 
 pub returns-clause-returns : goal.returns-clause-returns
@@ -28,7 +28,7 @@ returns-clause-frame g c =
     let old = c.args.composition.now in
     subst (λ (o : Option ℕ). ComposesShown old c.finish-outcome.new.self
     (λ m. SeesMap g.W.P.Policy.rules (g.W.Versions.stands (opening_of c.args.view.shared.now)) (seen_by c.args.view.seat)
-    (number_of c.args.view.seat) o m) c.finish-outcome.result) c.requires.opened c.finish-outcome.ensures.frame
+    (seat_number c.args.view.seat) o m) c.finish-outcome.result) c.requires.opened c.finish-outcome.ensures.frame
 
 pub returns-clause-applier : goal.returns-clause-applier
 returns-clause-applier g c =
@@ -36,7 +36,7 @@ returns-clause-applier g c =
     subst (λ (o : Option ℕ). DrivesApplier g.A.Applier.tree g.A.Applier.faults c.args.applier.now
     c.finish-outcome.new.applier old c.finish-outcome.new.self
     (λ m. SeesMap g.W.P.Policy.rules (g.W.Versions.stands (opening_of c.args.view.shared.now)) (seen_by c.args.view.seat)
-    (number_of c.args.view.seat) o m) c.finish-outcome.result) c.requires.opened c.finish-outcome.ensures.applier
+    (seat_number c.args.view.seat) o m) c.finish-outcome.result) c.requires.opened c.finish-outcome.ensures.applier
 
 pub returns-clause-reads : goal.returns-clause-reads
 returns-clause-reads g c =
@@ -45,24 +45,24 @@ returns-clause-reads g c =
     let asked = objects_read (mine_of c.args.view.seat) in
     subst (λ (o : Option ℕ). AsksOwed old
     (λ m. SeesMap g.W.P.Policy.rules (g.W.Versions.stands (opening_of c.args.view.shared.now)) (seen_by c.args.view.seat)
-    (number_of c.args.view.seat) o m) asked (objects_read (mine_of c.into_seat-seat.result.0)) c.finish-outcome.result) c.requires.opened
+    (seat_number c.args.view.seat) o m) asked (objects_read (mine_of c.into_seat-seat.result.0)) c.finish-outcome.result) c.requires.opened
     (subst (λ (s : Seat g.row.W.Denot). AsksOwed old
     (λ m. SeesMap g.W.P.Policy.rules (g.W.Versions.stands (opening_of c.args.view.shared.now)) (seen_by c.args.view.seat)
-    (number_of c.args.view.seat) c.args.view.opened m) asked (objects_read (mine_of s)) c.finish-outcome.result) back c.finish-outcome.ensures.reads)
+    (seat_number c.args.view.seat) c.args.view.opened m) asked (objects_read (mine_of s)) c.finish-outcome.result) back c.finish-outcome.ensures.reads)
 
 pub returns-clause-log : goal.returns-clause-log
 returns-clause-log g c =
     let old = c.args.composition.now in
     let back = sym c.into_seat-seat.ensures.0 in
     let mine = mine_of c.args.view.seat in
-    let snapshot : ℕ × ℕ = (number_of c.args.view.seat, c.args.begun.name) in
+    let snapshot : ℕ × ℕ = (seat_number c.args.view.seat, c.args.begun.name) in
     subst (λ (o : Option ℕ). LogsEnd old
     (λ m. SeesMap g.W.P.Policy.rules (g.W.Versions.stands (opening_of c.args.view.shared.now)) (seen_by c.args.view.seat)
-    (number_of c.args.view.seat) o m) (objects_read mine) (objects_read (mine_of c.into_seat-seat.result.0)) (Some mine)
+    (seat_number c.args.view.seat) o m) (objects_read mine) (objects_read (mine_of c.into_seat-seat.result.0)) (Some mine)
     (Some (mine_of c.into_seat-seat.result.0)) snapshot c.finish-outcome.result) c.requires.opened
     (subst (λ (s : Seat g.row.W.Denot). LogsEnd old
     (λ m. SeesMap g.W.P.Policy.rules (g.W.Versions.stands (opening_of c.args.view.shared.now)) (seen_by c.args.view.seat)
-    (number_of c.args.view.seat) c.args.view.opened m) (objects_read mine) (objects_read (mine_of s)) (Some mine) (Some (mine_of s)) snapshot
+    (seat_number c.args.view.seat) c.args.view.opened m) (objects_read mine) (objects_read (mine_of s)) (Some mine) (Some (mine_of s)) snapshot
     c.finish-outcome.result) back c.finish-outcome.ensures.log)
 
 pub returns-clause-last : goal.returns-clause-last
@@ -73,4 +73,4 @@ returns-clause-last g c n types l last only =
     c.into_seat-seat.result.0 n types c.finish-outcome.ensures.desk.same.lends.0 back
     c.finish-outcome.ensures.desk.same.caller only l
     (c.finish-outcome.ensures.desk.last n types l last
-    (subst (λ (s : Seat g.row.W.Denot). IsOnlyTaker (number_of s) n (seen_by s)) back only))
+    (subst (λ (s : Seat g.row.W.Denot). IsOnlyTaker (seat_number s) n (seen_by s)) back only))

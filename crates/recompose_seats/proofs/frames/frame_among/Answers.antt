@@ -1,7 +1,7 @@
 use Rattle.std.proofs.Common.{refl, subst}
 use Rattle.recomposer.specs.Compositions.{IsAt}
 use Rattle.snap_shared.specs.SeatDesk.{IsOnlyTaker}
-use Rattle.snap_shared.specs.Seats.{number_of, seen_by}
+use Rattle.snap_shared.specs.Seats.{seat_number, seen_by}
 use Rattle.snap_shared.specs.declared.shared.Seat.{Seat}
 use Rattle.recompose_seats.proofs.SeatFrames.{frame_ok, frame_err, no_tree_may, seat_returns}
 use Rattle.recompose_seats.proofs.frames.frame_among.Goals as goal
@@ -14,7 +14,7 @@ returns-clause-good g c k types l may =
     let watcher = c.args.composition.now.watcher in
     let desk = c.frame-outcome.new.desk in
     let back = c.into_seat-seat.ensures.0 in
-    let there = subst (λ (s : Seat g.row.W.Denot). IsOnlyTaker (number_of s) watcher (seen_by s)) back may.2 in
+    let there = subst (λ (s : Seat g.row.W.Denot). IsOnlyTaker (seat_number s) watcher (seen_by s)) back may.2 in
     frame_ok g.W.P.Policy.rules g.W.Versions.stands c.args.view.shared.now desk.shared.now c.args.view.seat desk.seat
     c.into_seat-seat.result.0 watcher types c.frame-outcome.ensures.desk.lends.0 back c.frame-outcome.ensures.desk.caller
     may.2
@@ -26,7 +26,7 @@ returns-clause-err g c k types l may =
     let watcher = c.args.composition.now.watcher in
     let desk = c.frame-outcome.new.desk in
     let back = c.into_seat-seat.ensures.0 in
-    let there = subst (λ (s : Seat g.row.W.Denot). IsOnlyTaker (number_of s) watcher (seen_by s)) back may.2 in
+    let there = subst (λ (s : Seat g.row.W.Denot). IsOnlyTaker (seat_number s) watcher (seen_by s)) back may.2 in
     frame_err g.W.P.Policy.rules g.W.Versions.stands c.args.view.shared.now desk.shared.now c.args.view.seat desk.seat
     c.into_seat-seat.result.0 watcher types c.frame-outcome.ensures.desk.lends.0 back c.frame-outcome.ensures.desk.caller
     may.2

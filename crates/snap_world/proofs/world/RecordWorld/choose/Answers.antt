@@ -7,7 +7,7 @@ use Rattle.snap_api.specs.declared.data.Object.{Object}
 use Rattle.snap_api.specs.Choices.{choice_of}
 use Rattle.snap_laws.specs.Applies.{choice_at}
 use Rattle.snap_records.specs.Chains.{record_at}
-use Rattle.snap_world.specs.Holding.{parts_of}
+use Rattle.snap_world.specs.Holding.{world_parts}
 use Rattle.snap_api.specs.declared.choice.Choice.{Choice}
 use Rattle.snap_world.proofs.Reading.{ok_more, choice_read}
 use Rattle.snap_world.proofs.world.RecordWorld.choose.Goals as goal
@@ -22,7 +22,7 @@ returns g c =
     let k = s.clock + 1 in
     let p : StampedValue = (record_at s.chains c.in-Some.read.previous.0).entry in
     let d : StampedValue = (record_at s.chains c.in-Some.read.current.0).entry in
-    let is : choice_of (verdict rules o.policy c.entry.result.now c.entry-2.result.now c.entry-3.result.now k) c.entry-2.result.now ≡ choice_at rules (parts_of s) c.args.name c.args.into c.args.object =
+    let is : choice_of (verdict rules o.policy c.entry.result.now c.entry-2.result.now c.entry-3.result.now k) c.entry-2.result.now ≡ choice_at rules (world_parts s) c.args.name c.args.into c.args.object =
     ap (λ (e : StampedValue). choice_of (verdict rules o.policy e c.entry-2.result.now c.entry-3.result.now k)
     c.entry-2.result.now) c.entry.ensures
     ∙ ap (λ (e : StampedValue). choice_of (verdict rules o.policy p e c.entry-3.result.now k) e) c.entry-2.ensures
@@ -31,5 +31,5 @@ returns g c =
     ok_more (λ (one : Choice). one
     ≡ choice_of (verdict rules o.policy c.entry.result.now c.entry-2.result.now c.entry-3.result.now k)
     c.entry-2.result.now) (λ (one : Choice). one
-    ≡ choice_at rules (parts_of s) c.args.name c.args.into c.args.object)
+    ≡ choice_at rules (world_parts s) c.args.name c.args.into c.args.object)
     c.choose.result c.choose.ensures (λ one h. h ∙ is)

@@ -3,7 +3,7 @@ use Rattle.rt_values.specs.Maps.{contains}
 use Rattle.snap_nested.specs.declared.family.Member.{Member}
 use Rattle.snap_nested.proofs.Members.{dated}
 use Rattle.snap_laws.proofs.Unused.{losses_stand}
-use Rattle.snap_world.specs.Holding.{parts_of}
+use Rattle.snap_world.specs.Holding.{world_parts}
 use Rattle.snap_world.proofs.world.RecordWorld.drop_unused.Goals as goal
 
 pub invariant_of-self : goal.invariant_of-self
@@ -28,7 +28,7 @@ pub returns : goal.returns
 returns g c = λ w s.
     let old = c.args.self.now in
     let each = c.drop_unused.ensures.each in
-    losses_stand g.P.Policy.rules (parts_of old) _ w (λ i. contains i c.in-Ok.unused) s c.in-Ok.ensures (record {
+    losses_stand g.P.Policy.rules (world_parts old) _ w (λ i. contains i c.in-Ok.unused) s c.in-Ok.ensures (record {
       same = record {
         clock = refl;
         objects = refl;

@@ -6,7 +6,7 @@ use Rattle.snap_ids.proofs.IdLists.{contains-at}
 use Rattle.snap_api.specs.Choices.{is_clash}
 use Rattle.snap_laws.specs.Applies.{choice_at}
 use Rattle.snap_world.specs.Choices.{IsLeast}
-use Rattle.snap_world.specs.Holding.{parts_of}
+use Rattle.snap_world.specs.Holding.{world_parts}
 use Rattle.snap_world.proofs.Settled.{least_more}
 use Rattle.snap_world.proofs.world.RecordWorld.find_conflict.Goals as goal
 
@@ -39,7 +39,7 @@ returns-in_default-clause-free g c = λ w s inner free.
 pub loop-x-preserved : goal.loop-x-preserved
 loop-x-preserved g c =
     let items = c.noted-x-items.result.now in
-    let test : ℕ → Bool = λ x. is_clash (choice_at g.P.Policy.rules (parts_of c.args.self.now) c.args.name c.args.into
+    let test : ℕ → Bool = λ x. is_clash (choice_at g.P.Policy.rules (world_parts c.args.self.now) c.args.name c.args.into
     x) in
     subst (λ (o : Option ℕ). IsLeast test (take (c.loop-x.x-index + 1) items) o) (sym c.lesser-least.ensures)
     (least_more test items c.loop-x.x-index c.in-Ok.found c.loop-x.least c.loop-x-test.true (sym c.in-Ok.ensures.is)
@@ -48,7 +48,7 @@ loop-x-preserved g c =
 pub returns-clause-is : goal.returns-clause-is
 returns-clause-is g c =
     let items = c.noted-x-items.result.now in
-    let test : ℕ → Bool = λ x. is_clash (choice_at g.P.Policy.rules (parts_of c.args.self.now) c.args.name c.args.into
+    let test : ℕ → Bool = λ x. is_clash (choice_at g.P.Policy.rules (world_parts c.args.self.now) c.args.name c.args.into
     x) in
     let eq : items ≡ slice_index_or c.args.self.now.wrote.items c.args.name [] = c.noted-x-items.ensures
     ∙ ap (λ (l : List (List ℕ)). slice_index_or l c.args.name []) c.deref.ensures.value in

@@ -7,7 +7,7 @@ use Rattle.snap_nested.proofs.Free.{free_closed, free_unseen}
 use Rattle.snap_nested.proofs.Members.{dated, forgotten_stays}
 use Rattle.snap_records.specs.Chains.{chain_of}
 use Rattle.snap_laws.proofs.Others.{forgets_stand}
-use Rattle.snap_world.specs.Holding.{parts_of}
+use Rattle.snap_world.specs.Holding.{world_parts}
 use Rattle.snap_world.proofs.Forgetting.{drops_all, chain_past}
 use Rattle.snap_world.proofs.world.RecordWorld.forget.Goals as goal
 
@@ -49,7 +49,7 @@ returns-clause-stays g c = λ w s.
     let nt : slice_index_or c.deref.result.now name [] ≡ wrote =
     ap (λ (l : List (List ℕ)). slice_index_or l name []) c.deref.ensures.value in
     let closed = free_closed ms name c.requires.free in
-    forgets_stand g.P.Policy.rules (parts_of old) _ w name s closed (free_unseen ms name c.requires.free) (record {
+    forgets_stand g.P.Policy.rules (world_parts old) _ w name s closed (free_unseen ms name c.requires.free) (record {
       same = record {
         clock = refl;
         objects = refl;
@@ -62,7 +62,7 @@ returns-clause-stays g c = λ w s.
       handed = c.forget.ensures.handed;
       ids = c.forget.ensures.ids;
       dated = dated c.forget.new.self.members.items;
-      dropped = drops_all (parts_of old) (λ x. chain_of c.clear_noted.new.chains x) (member ms name).ids w name s closed
+      dropped = drops_all (world_parts old) (λ x. chain_of c.clear_noted.new.chains x) (member ms name).ids w name s closed
           (λ i. refl) (length old.objects.items) (λ x past. chain_past old.chains x (omega (arith, past, old.many)))
           (λ x past. chain_past c.clear_noted.new.chains x (omega (arith, past, old.many, c.clear_noted.ensures.many)))
           (λ x within noted. c.clear_noted.ensures.put x (omega (arith, within, count))

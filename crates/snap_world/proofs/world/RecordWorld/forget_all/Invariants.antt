@@ -3,12 +3,12 @@ use Rattle.std.specs.Prelude.{IfSome, IfNone}
 use Rattle.snap_api.specs.World.{World}
 use Rattle.snap_nested.specs.Members.{member, is_free}
 use Rattle.snap_laws.specs.Represents.{Represents}
-use Rattle.snap_world.specs.Holding.{parts_of}
+use Rattle.snap_world.specs.Holding.{world_parts}
 use Rattle.snap_world.proofs.world.RecordWorld.forget_all.Given as goal
 
 abbrev pub invariant-loop-next : goal.invariant-loop-next
 invariant-loop-next g l = record {
-  stays : (w : World _) → Represents (parts_of l.initial.self) w → Represents (parts_of l.self) w;
+  stays : (w : World _) → Represents (world_parts l.initial.self) w → Represents (world_parts l.self) w;
   within : IfSome l.next (λ n. n < length l.self.family.members.items);
   free : IfSome l.next (λ n. is_free l.self.family.members.items (member l.self.family.members.items n) ≡ true);
   none : IfNone l.next ((n : ℕ) → is_free l.self.family.members.items (member l.self.family.members.items n) ≡ false);

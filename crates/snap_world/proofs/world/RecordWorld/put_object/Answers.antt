@@ -4,7 +4,7 @@ use Rattle.snap_laws.specs.Represents.{WorldParts}
 use Rattle.snap_laws.specs.Steps.{IsUnchanged}
 use Rattle.snap_records.specs.Records.{Rec}
 use Rattle.snap_records.specs.Chains.{chain_of}
-use Rattle.snap_world.specs.Holding.{parts_of}
+use Rattle.snap_world.specs.Holding.{world_parts}
 use Rattle.snap_world.proofs.world.RecordWorld.put_object.Goals as goal
 
 -- A world with the same objects, chains and stamps is unchanged if its other parts stay.
@@ -41,15 +41,15 @@ unchanged h objects chains stamps same_objects same_chains same_stamps = record 
 
 pub returns-in_default-clause-err : goal.returns-in_default-clause-err
 returns-in_default-clause-err g c =
-    unchanged (parts_of c.args.self.now) _ _ _ c.reserve.ensures.items (λ x. refl) refl
+    unchanged (world_parts c.args.self.now) _ _ _ c.reserve.ensures.items (λ x. refl) refl
 
 pub returns-in_default-reserve-clause-err : goal.returns-in_default-reserve-clause-err
 returns-in_default-reserve-clause-err g c =
-    unchanged (parts_of c.args.self.now) _ _ _ c.reserve.ensures.items (λ x. refl) c.reserve-2.ensures.items
+    unchanged (world_parts c.args.self.now) _ _ _ c.reserve.ensures.items (λ x. refl) c.reserve-2.ensures.items
 
 pub returns-in_default-add_object_with-clause-err : goal.returns-in_default-add_object_with-clause-err
 returns-in_default-add_object_with-clause-err g c =
-    unchanged (parts_of c.args.self.now) _ _ _ c.reserve.ensures.items c.in_default-add_object_with.ensures.err
+    unchanged (world_parts c.args.self.now) _ _ _ c.reserve.ensures.items c.in_default-add_object_with.ensures.err
     c.reserve-2.ensures.items
 
 pub returns-clause-ok : goal.returns-clause-ok

@@ -15,7 +15,7 @@ use Rattle.snap_nested.proofs.Merging.{high_own, advances_between, applies_merge
 use Rattle.snap_records.specs.Chains.{chain_of}
 use Rattle.snap_laws.specs.Applies.{choice_at}
 use Rattle.snap_world.specs.Choices.{EntriesAre, objects_of, is_taken, with_taken}
-use Rattle.snap_world.specs.Holding.{parts_of}
+use Rattle.snap_world.specs.Holding.{world_parts}
 use Rattle.snap_world.specs.declared.settling.Settled.{Settled}
 use Rattle.snap_world.proofs.Settled.{entry_settled, changed_settled, find_settled, taken_is, contains-with_taken}
 use Rattle.snap_world.proofs.world.RecordWorld.put_settled.Goals as goal
@@ -114,7 +114,7 @@ raise_noted-requires-clause-within g c =
 pub raise_noted-requires-clause-some : goal.raise_noted-requires-clause-some
 raise_noted-requires-clause-some g c = λ x small noted.
     let old = c.args.self.now in
-    let choices : ℕ → Choice = λ y. choice_at g.P.Policy.rules (parts_of old) c.args.name c.args.into y in
+    let choices : ℕ → Choice = λ y. choice_at g.P.Policy.rules (world_parts old) c.args.name c.args.into y in
     let are : EntriesAre (λ y. entry_of_choice (choices y)) c.args.settled.now = λ i s there. entry_settled s
     ∙ ap entry_of_choice (c.requires.each i s there).0 in
     let listed : contains x (objects_of c.args.settled.now) ≡ true =
@@ -150,7 +150,7 @@ invariant_of-self-2 g c =
 pub returns-clause-ok : goal.returns-clause-ok
 returns-clause-ok g c =
     let old = c.args.self.now in
-    let h = parts_of old in
+    let h = world_parts old in
     let ms = old.family.members.items in
     let handed = old.family.handed in
     let name = c.args.name in

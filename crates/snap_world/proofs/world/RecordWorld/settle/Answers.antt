@@ -3,7 +3,7 @@ use Rattle.std.proofs.lemmas.List.{take_all, take_more, map-append}
 use Rattle.std.specs.Prelude.{slice_index_or, slice_get}
 use Rattle.snap_laws.specs.Applies.{choice_at}
 use Rattle.snap_world.specs.Choices.{objects_of, choice_of_settled}
-use Rattle.snap_world.specs.Holding.{parts_of}
+use Rattle.snap_world.specs.Holding.{world_parts}
 use Rattle.snap_world.specs.declared.settling.Settled.{Settled}
 use Rattle.snap_world.proofs.Settled.{get_last}
 use Rattle.snap_world.proofs.world.RecordWorld.settle.Goals as goal
@@ -12,7 +12,7 @@ pub loop-x-preserved : goal.loop-x-preserved
 loop-x-preserved g c =
     let items = c.noted-x-items.result.now in
     let at = c.loop-x.x-index in
-    let h = parts_of c.args.self.now in
+    let h = world_parts c.args.self.now in
     let before : List Settled = c.loop-x.settled.items in
     let one : Settled = c.in-Some.one in
     let e : c.push.new.self.items ≡ before ++ one ∷ [] = c.in-Ok-push.ensures.items in

@@ -7,24 +7,24 @@ use Rattle.snap_laws.proofs.FreeRefusals.{apply_not_refused, apply_conflicts}
 use Rattle.snap_laws.proofs.Merging.{pads_stand, applies_answer, apply_good}
 use Rattle.snap_laws.proofs.Takes.{like_itself, does_refused}
 use Rattle.snap_world.specs.Choices.{IsLeast}
-use Rattle.snap_world.specs.Holding.{parts_of, AreSettled}
+use Rattle.snap_world.specs.Holding.{world_parts, AreSettled}
 use Rattle.snap_world.specs.declared.settling.Settled.{Settled}
 use Rattle.snap_world.proofs.Settled.{none_clashes}
 use Rattle.snap_world.proofs.world.RecordWorldVersions.apply.Goals as goal
 
 pub returns-in-Some-clause-call : goal.returns-in-Some-clause-call
 returns-in-Some-clause-call g c = does_refused _ _ _ c.in-Some.refusal (λ w s. s)
-    (λ w s. (applies_answer g.P.Policy.rules (parts_of c.args.self.now) _ w c.args.caller c.args.name
+    (λ w s. (applies_answer g.P.Policy.rules (world_parts c.args.self.now) _ w c.args.caller c.args.name
     s).0 c.in-Some.refusal (sym c.apply_refusal.ensures ∙ c.in-Some.is) (like_itself _))
 
 pub returns-in-Some-clause-refused : goal.returns-in-Some-clause-refused
 returns-in-Some-clause-refused g c =
-    λ w s e is free. ((applies_answer g.P.Policy.rules (parts_of c.args.self.now) _ w c.args.caller c.args.name
+    λ w s e is free. ((applies_answer g.P.Policy.rules (world_parts c.args.self.now) _ w c.args.caller c.args.name
     s).0 c.in-Some.refusal (sym c.apply_refusal.ensures ∙ c.in-Some.is) (like_itself _)).0 ∙ is
 
 pub returns-in-Ok-Some-clause-call : goal.returns-in-Ok-Some-clause-call
 returns-in-Ok-Some-clause-call g c = λ w s.
-    let h = parts_of c.args.self.now in
+    let h = world_parts c.args.self.now in
     let rules = g.P.Policy.rules in
     let good : apply_refusal h c.args.caller c.args.name ≡ None = sym c.apply_refusal.ensures ∙ c.in_default.is in
     let into : c.parent-into.result ≡ h.ids.parent c.args.name = c.parent-into.ensures in
@@ -39,7 +39,7 @@ returns-in-Ok-Some-clause-call g c = λ w s.
 
 pub returns-in-Ok-Some-clause-refused : goal.returns-in-Ok-Some-clause-refused
 returns-in-Ok-Some-clause-refused g c = λ w s e is free.
-    let h = parts_of c.args.self.now in
+    let h = world_parts c.args.self.now in
     let rules = g.P.Policy.rules in
     let good : apply_refusal h c.args.caller c.args.name ≡ None = sym c.apply_refusal.ensures ∙ c.in_default.is in
     let into : c.parent-into.result ≡ h.ids.parent c.args.name = c.parent-into.ensures in
@@ -54,7 +54,7 @@ returns-in-Ok-Some-clause-refused g c = λ w s e is free.
 
 pub returns-in-Ok-None-clause-refused : goal.returns-in-Ok-None-clause-refused
 returns-in-Ok-None-clause-refused g c = λ w s e is free.
-    let h = parts_of c.args.self.now in
+    let h = world_parts c.args.self.now in
     let rules = g.P.Policy.rules in
     let good : apply_refusal h c.args.caller c.args.name ≡ None = sym c.apply_refusal.ensures ∙ c.in_default.is in
     let into : c.parent-into.result ≡ h.ids.parent c.args.name = c.parent-into.ensures in
@@ -67,12 +67,12 @@ returns-in-Ok-None-clause-refused g c = λ w s e is free.
 
 pub put_settled-requires-clause-each : goal.put_settled-requires-clause-each
 put_settled-requires-clause-each g c = subst (λ (l : List Settled). AreSettled g.P.Policy.rules
-    (parts_of c.args.self.now) c.args.name c.parent-into.result l) (sym c.deref.ensures.value)
+    (world_parts c.args.self.now) c.args.name c.parent-into.result l) (sym c.deref.ensures.value)
     c.in-Some-settle.ensures.each
 
 pub returns-in-Ok-clause-call : goal.returns-in-Ok-clause-call
 returns-in-Ok-clause-call g c = λ w s.
-    let h = parts_of c.args.self.now in
+    let h = world_parts c.args.self.now in
     let rules = g.P.Policy.rules in
     let good : apply_refusal h c.args.caller c.args.name ≡ None = sym c.apply_refusal.ensures ∙ c.in_default.is in
     let into : c.parent-into.result ≡ h.ids.parent c.args.name = c.parent-into.ensures in
@@ -80,14 +80,14 @@ returns-in-Ok-clause-call g c = λ w s.
     none_clashes rules h c.args.name c.parent-into.result c.in-Some-settle.settled.items
     (slice_index_or c.args.self.now.wrote.items c.args.name []) c.in-Some-settle.ensures.objects
     c.in-Some-settle.ensures.each in
-    let k = parts_of c.put_settled.new.self in
+    let k = world_parts c.put_settled.new.self in
     (applies_answer rules h k w c.args.caller c.args.name s).2 good
     (subst (λ (n : ℕ). HasNoClash rules h c.args.name n) into none)
     (subst (λ (n : ℕ). Merges h k c.args.name n (λ x. choice_at rules h c.args.name n x)) into c.in-Ok.ensures.ok)
 
 pub returns-in-Ok-clause-refused : goal.returns-in-Ok-clause-refused
 returns-in-Ok-clause-refused g c = λ w s e is free.
-    let h = parts_of c.args.self.now in
+    let h = world_parts c.args.self.now in
     let rules = g.P.Policy.rules in
     let good : apply_refusal h c.args.caller c.args.name ≡ None = sym c.apply_refusal.ensures ∙ c.in_default.is in
     let into : c.parent-into.result ≡ h.ids.parent c.args.name = c.parent-into.ensures in
@@ -103,7 +103,7 @@ returns-clause-call g c = λ w s. pads_stand g.P.Policy.rules _ _ w s c.in-Err-p
 
 pub returns-clause-refused : goal.returns-clause-refused
 returns-clause-refused g c = λ w s e is free.
-    let h = parts_of c.args.self.now in
+    let h = world_parts c.args.self.now in
     let rules = g.P.Policy.rules in
     let good : apply_refusal h c.args.caller c.args.name ≡ None = sym c.apply_refusal.ensures ∙ c.in_default.is in
     let into : c.parent-into.result ≡ h.ids.parent c.args.name = c.parent-into.ensures in
@@ -116,7 +116,7 @@ returns-clause-refused g c = λ w s e is free.
 
 pub returns-in-Err-clause-refused : goal.returns-in-Err-clause-refused
 returns-in-Err-clause-refused g c = λ w s e is free.
-    let h = parts_of c.args.self.now in
+    let h = world_parts c.args.self.now in
     let good : apply_refusal h c.args.caller c.args.name ≡ None = sym c.apply_refusal.ensures ∙ c.in_default.is in
     let into : c.parent-into.result ≡ h.ids.parent c.args.name = c.parent-into.ensures in
     let m = apply_good h c.args.caller c.args.name good in

@@ -1,7 +1,7 @@
 use Rattle.std.proofs.Common.{sym, ◌∙◌}
 use Rattle.snap_laws.proofs.Made.{makes_stand}
 use Rattle.snap_laws.proofs.Takes.{stands_like}
-use Rattle.snap_world.specs.Holding.{parts_of}
+use Rattle.snap_world.specs.Holding.{world_parts}
 use Rattle.snap_world.specs.HoldingLaws.{counts_of}
 use Rattle.snap_world.proofs.world.RecordWorldVersions.make.Goals as goal
 
@@ -13,7 +13,7 @@ returns-clause-made g c = (
   sym c.make_refusal.ensures ∙ c.in_default.is,
   λ w s. (
     c.in-Ok.ensures.number ∙ (counts_of c.args.self.now w s).0,
-    makes_stand g.P.Policy.rules (parts_of c.args.self.now) (parts_of c.put_object.new.self) w c.args.ty c.args.policy
+    makes_stand g.P.Policy.rules (world_parts c.args.self.now) (world_parts c.put_object.new.self) w c.args.ty c.args.policy
         c.args.value s c.in-Ok.ensures.ok,
   ),
 )

@@ -2,7 +2,7 @@ use Rattle.std.proofs.Common.{◌≡◌, sym, ◌∙◌, None}
 use Rattle.snap_laws.specs.Steps.{take_refusal}
 use Rattle.snap_laws.proofs.Takes.{stands_like, takes_answer, like_itself, does_refused, take_good, take_room}
 use Rattle.snap_laws.proofs.FreeRefusals.{take_not_refused}
-use Rattle.snap_world.specs.Holding.{parts_of}
+use Rattle.snap_world.specs.Holding.{world_parts}
 use Rattle.snap_world.proofs.world.RecordWorldVersions.take.Goals as goal
 
 pub returns-in-Some-clause-call : goal.returns-in-Some-clause-call
@@ -15,19 +15,19 @@ returns-in_default-push_child-clause-call g c = λ w s. stands_like (c.in_defaul
 
 pub push_child-requires : goal.push_child-requires
 push_child-requires g c =
-    let good : take_refusal (parts_of c.args.self.now) c.args.parent c.args.kind ≡ None = sym c.take_refusal.ensures
+    let good : take_refusal (world_parts c.args.self.now) c.args.parent c.args.kind ≡ None = sym c.take_refusal.ensures
     ∙ c.in_default.is in
     record {
-      live = take_good (parts_of c.args.self.now) c.args.parent c.args.kind good;
-      room = take_room (parts_of c.args.self.now) c.args.parent c.args.kind good c.args.self.now.in_time;
+      live = take_good (world_parts c.args.self.now) c.args.parent c.args.kind good;
+      room = take_room (world_parts c.args.self.now) c.args.parent c.args.kind good c.args.self.now.in_time;
     }
 
 pub returns-clause-call : goal.returns-clause-call
 returns-clause-call g c = λ w s.
-    let good : take_refusal (parts_of c.args.self.now) c.args.parent c.args.kind ≡ None = sym c.take_refusal.ensures
+    let good : take_refusal (world_parts c.args.self.now) c.args.parent c.args.kind ≡ None = sym c.take_refusal.ensures
     ∙ c.in_default.is in
-    let taken = (takes_answer g.P.Policy.rules _ (parts_of c.push_child.new.self) w c.args.caller c.args.parent
-    c.args.kind s).1 c.in-Ok.name good (take_good (parts_of c.args.self.now) c.args.parent c.args.kind good)
+    let taken = (takes_answer g.P.Policy.rules _ (world_parts c.push_child.new.self) w c.args.caller c.args.parent
+    c.args.kind s).1 c.in-Ok.name good (take_good (world_parts c.args.self.now) c.args.parent c.args.kind good)
     (c.in-Ok.ensures.ok) in
     (taken.0, c.sweep_ids.ensures _ taken.1)
 

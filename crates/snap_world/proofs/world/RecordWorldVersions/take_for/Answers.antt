@@ -3,7 +3,7 @@ use Rattle.snap_laws.specs.TakesFor.{take_for_refusal}
 use Rattle.snap_laws.proofs.Takes.{stands_like, like_itself, does_refused}
 use Rattle.snap_laws.proofs.TakesFor.{takes_for_answer}
 use Rattle.snap_laws.proofs.FreeRefusals.{take_for_not_refused}
-use Rattle.snap_world.specs.Holding.{parts_of}
+use Rattle.snap_world.specs.Holding.{world_parts}
 use Rattle.snap_world.proofs.world.RecordWorldVersions.take_for.Goals as goal
 
 pub returns-in-Some-clause-call : goal.returns-in-Some-clause-call
@@ -16,9 +16,9 @@ returns-in_default-push_child_for-clause-call g c = λ w s. stands_like c.in_def
 
 pub returns-clause-call : goal.returns-clause-call
 returns-clause-call g c = λ w s.
-    let good : take_for_refusal (parts_of c.args.self.now) c.args.watcher ≡ None = sym c.take_for_refusal.ensures
+    let good : take_for_refusal (world_parts c.args.self.now) c.args.watcher ≡ None = sym c.take_for_refusal.ensures
     ∙ c.in_default.is in
-    let taken = (takes_for_answer g.P.Policy.rules (parts_of c.args.self.now) (parts_of c.push_child_for.new.self) w
+    let taken = (takes_for_answer g.P.Policy.rules (world_parts c.args.self.now) (world_parts c.push_child_for.new.self) w
     c.args.caller c.args.watcher s).1 c.in-Ok.name c.in-Ok.changed good c.in-Ok.ensures.ok in
     (taken.0, c.sweep_ids.ensures _ taken.1)
 

@@ -3,7 +3,7 @@ use Rattle.snap_laws.specs.Writes.{write_refusal}
 use Rattle.snap_laws.proofs.Takes.{stands_like, like_itself, does_refused}
 use Rattle.snap_laws.proofs.Writes.{writes_answer, write_good}
 use Rattle.snap_laws.proofs.FreeRefusals.{write_not_refused}
-use Rattle.snap_world.specs.Holding.{parts_of}
+use Rattle.snap_world.specs.Holding.{world_parts}
 use Rattle.snap_world.proofs.world.RecordWorldVersions.write.Goals as goal
 
 pub returns-in-Some-clause-call : goal.returns-in-Some-clause-call
@@ -13,14 +13,14 @@ returns-in-Some-clause-call g c = does_refused _ _ _ c.in-Some.refusal (λ w s. 
 
 pub compare-requires : goal.compare-requires
 compare-requires g c =
-    let good : write_refusal (parts_of c.args.self.now) c.args.caller c.args.name c.args.object c.args.value ≡ None =
+    let good : write_refusal (world_parts c.args.self.now) c.args.caller c.args.name c.args.object c.args.value ≡ None =
     sym c.write_refusal.ensures ∙ c.in_default.is in
-    let k = write_good (parts_of c.args.self.now) c.args.caller c.args.name c.args.object c.args.value good in
+    let k = write_good (world_parts c.args.self.now) c.args.caller c.args.name c.args.object c.args.value good in
     record { live = k.live; there = k.there }
 
 pub returns-in-Some-true-clause-call : goal.returns-in-Some-true-clause-call
 returns-in-Some-true-clause-call g c = λ w s.
-    let good : write_refusal (parts_of c.args.self.now) c.args.caller c.args.name c.args.object c.args.value ≡ None =
+    let good : write_refusal (world_parts c.args.self.now) c.args.caller c.args.name c.args.object c.args.value ≡ None =
     sym c.write_refusal.ensures ∙ c.in_default.is in
     let k = c.in-Some-true.ensures.is in
     (writes_answer g.P.Policy.rules _ _ w c.args.caller c.args.name c.args.object c.args.value s).1 k.object k.entry
@@ -28,7 +28,7 @@ returns-in-Some-true-clause-call g c = λ w s.
 
 pub returns-in-Ok-clause-call : goal.returns-in-Ok-clause-call
 returns-in-Ok-clause-call g c = λ w s.
-    let good : write_refusal (parts_of c.args.self.now) c.args.caller c.args.name c.args.object c.args.value ≡ None =
+    let good : write_refusal (world_parts c.args.self.now) c.args.caller c.args.name c.args.object c.args.value ≡ None =
     sym c.write_refusal.ensures ∙ c.in_default.is in
     let k = c.in-Some-false.ensures.is in
     (writes_answer g.P.Policy.rules _ _ w c.args.caller c.args.name c.args.object c.args.value s).2 k.object k.entry
