@@ -1,12 +1,15 @@
 // Why a frame is not composed.
 use rt_values::NoMemory;
+use thiserror::Error;
 
 /// Why a frame is not composed.
-#[derive(Clone, Copy, Debug, PartialEq, Eq)]
+#[derive(Clone, Copy, Debug, PartialEq, Eq, Error)]
 pub enum ComposeStop {
     /// The composition would have more than 1,000,000 groups.
+    #[error("the composition has too many groups")]
     TooManyGroups,
     /// Out of memory.
+    #[error("out of memory")]
     NoMemory,
 }
 

@@ -13,13 +13,16 @@ use lang_ast::{Function, Program, State, root_number};
 use rt_values::NoMemory;
 use std::alloc::Global;
 use std::marker::Model;
+use thiserror::Error;
 
 /// Why a program is refused.
-#[derive(Clone, Copy, Debug, PartialEq, Eq)]
+#[derive(Clone, Copy, Debug, PartialEq, Eq, Error)]
 pub enum CheckStop {
     /// The fault with the least offset, of the first pass that finds any.
+    #[error("the program has a fault at offset {at}", at = .0.at)]
     ProgramFault(ProgramFault),
     /// Memory ran out.
+    #[error("out of memory")]
     NoMemory,
 }
 

@@ -1,15 +1,19 @@
 // The refusals of the parser.
 use rt_values::NoMemory;
 use std::alloc::{AllocError, AllocFailed};
+use thiserror::Error;
 
 /// Why trees are no program with a script. A rule of this project.
-#[derive(Clone, Copy, Debug, PartialEq, Eq)]
+#[derive(Clone, Copy, Debug, PartialEq, Eq, Error)]
 pub enum FormStop {
     /// The first top form that is wrong or out of order is at `at`, or the input ends at `at` without a header.
+    #[error("the form at offset {at} is wrong")]
     Form { at: usize },
     /// The forms are right, and `at` is the first offset of the program that exceeds a limit.
+    #[error("the program exceeds a limit at offset {at}")]
     Limit { at: usize },
     /// Memory ran out.
+    #[error("out of memory")]
     NoMemory,
 }
 

@@ -19,13 +19,16 @@ use rt_groups::{Group, GroupKind, Groups, Values};
 use rt_values::{NoMemory, Objects, Value, View};
 use std::alloc::Global;
 use std::mem;
+use thiserror::Error;
 
 /// Why a program was not composed.
-#[derive(Clone, Copy, Debug, PartialEq, Eq)]
+#[derive(Clone, Copy, Debug, PartialEq, Eq, Error)]
 pub enum ScratchStop {
     /// The composition has more than 1,000,000 groups.
+    #[error("the composition has too many groups")]
     TooManyGroups,
     /// Out of memory.
+    #[error("out of memory")]
     NoMemory,
 }
 

@@ -3,22 +3,28 @@ ghost use Rattle.std.specs.Prelude.{◌≡◌, ℕ, Bool, Option, Some, None};
 ghost use Rattle.lang_script.specs.ScriptFaults.{pass_of, offset_of, goes_before, first_fault, fault_if, first_of_faults};
 
 use rt_values::NoMemory;
+use thiserror::Error;
 
 /// Why a script is rejected, with the offset in the source text. The kinds are in the order in which they are checked.
 /// A rule of this project.
-#[derive(Clone, Copy, Debug, PartialEq, Eq)]
+#[derive(Clone, Copy, Debug, PartialEq, Eq, Error)]
 pub enum ScriptStop {
     /// A token exceeds its limit, a `do` form has a ninth actor or the 65,537th step, or the number of a repeat is less
     /// than 1 or more than 1,000. `at` is the offset of the token, the form or the repeat.
+    #[error("the script exceeds a limit at offset {at}")]
     Limit { at: usize },
     /// A step names an undeclared state, or a snapshot without an earlier take of that name.
+    #[error("the name in the step at offset {at} is unknown")]
     Unknown { at: usize },
     /// A step adds to a state that is not an Int.
+    #[error("the state in the step at offset {at} is not an Int")]
     Type { at: usize },
     /// With threads: a step names or takes a snapshot name that another actor takes first, or a frame is not of the
     /// actor of the first frame.
+    #[error("the step at offset {at} depends on another actor")]
     Actor { at: usize },
     /// Out of memory.
+    #[error("out of memory")]
     NoMemory,
 }
 

@@ -3,13 +3,16 @@ ghost use Rattle.std.specs.Prelude.{◌≡◌, ◌≢◌, ◌≤◌, List, ℕ, 
 ghost use Rattle.play_run.specs.RunPromise.{WritesBytes, FaultsAfter};
 
 use rt_streams::{Sink, write_all};
+use thiserror::Error;
 
 /// Why a run stopped before its end.
-#[derive(Clone, Copy, Debug, PartialEq, Eq)]
+#[derive(Clone, Copy, Debug, PartialEq, Eq, Error)]
 pub enum Stop {
     /// The sink failed.
+    #[error("the output could not be written")]
     WriteFault,
     /// The process is out of memory.
+    #[error("out of memory")]
     NoMemory,
 }
 

@@ -27,6 +27,7 @@ use slot_table::Table;
 use snap_api::{Desk, Refusal, Reply, Request};
 use std::alloc::Global;
 use std::sync::ledger::Ledger;
+use thiserror::Error;
 
 /// A frame that has begun: the number of its snapshot, and the objects that changed since the last frame of its
 /// watcher, in ascending order.
@@ -37,16 +38,20 @@ pub struct Begun {
 }
 
 /// Why a frame did not happen.
-#[derive(Clone, Copy, Debug, PartialEq, Eq)]
+#[derive(Clone, Copy, Debug, PartialEq, Eq, Error)]
 pub enum FrameStop {
     /// The composition would have more than 1,000,000 groups.
+    #[error("the composition has too many groups")]
     TooManyGroups,
     /// A call on the applier failed. The composition has kept nothing then: the next frame clears the applier's tree
     /// and makes all nodes again, with new numbers.
+    #[error("a call on the applier failed")]
     ApplierFault,
     /// The world's clock is at its limit.
+    #[error("the clock of the world is at its limit")]
     Spent,
     /// Out of memory.
+    #[error("out of memory")]
     NoMemory,
 }
 

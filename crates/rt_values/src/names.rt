@@ -3,6 +3,7 @@ ghost use Rattle.std.specs.Prelude.{◌≡◌};
 ghost use Rattle.rt_values.specs.Keywords.{kind_word};
 
 use std::alloc::{AllocError, AllocFailed};
+use thiserror::Error;
 
 /// The number of a snapshot. The global snapshot is 0, and the others get 1, 2, .. in the order in which they are
 /// taken. A name is a handle that never changes, unlike Compose's `SnapshotId`, which advances while a snapshot is
@@ -39,7 +40,8 @@ impl Kind {
 }
 
 /// The error that an allocation failed.
-#[derive(Clone, Copy, Debug, PartialEq, Eq)]
+#[derive(Clone, Copy, Debug, PartialEq, Eq, Error)]
+#[error("out of memory")]
 pub struct NoMemory;
 
 impl From<AllocError> for NoMemory {
