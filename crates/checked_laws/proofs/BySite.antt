@@ -1,5 +1,6 @@
 -- The calculations of a checked program follow from their sites.
 use Rattle.std.proofs.Common.{arith, ◌≡◌, true≢false, ◌||◌, List, [], Bool, true, false, Option, Some, refl, sym, ap, ◌∙◌, not}
+use Rattle.std.proofs.lemmas.Bool.{or_from as both_false}
 use Rattle.lang_ast.specs.Terms.{Expr, Literal, Variable, Get, Apply, Exprs, none, more, Stmt, Remember, Func}
 use Rattle.lang_ast.specs.Programs.{site_of, functions_statements, statement_at}
 use Rattle.lang_ast.specs.declared.program.State.{State}
@@ -15,10 +16,6 @@ use Rattle.recompose_laws.proofs.CalculatedCells.{Calculates, functions_calculat
 use Rattle.checked_laws.proofs.Parts.{parts, context, IsFineIn, functions_are_fine, bodies}
 
 -- A calculation without faults has no `get`.
-
-both_false : (a b : Bool) → a ≡ false → b ≡ false → (a || b) ≡ false
-both_false true b e f = absurd cc
-both_false false b e f = f
 
 mutual
   no_get : (l : ExpressionScope) (e : Expr) → l.calculating ≡ true → expr_faults l e ≡ [] → has_get e ≡ false

@@ -2,7 +2,7 @@
 use Rattle.std.proofs.Common.{ℕ, suc, List, [], ◌∷◌, ◌≡◌, refl, ap, ◌∙◌, Bool, true, false, ◌&&◌, ◌==◌, length}
 use Rattle.std.specs.Bool.{Decides}
 use Rattle.std.specs.Str.{bytes_eq}
-use Rattle.std.proofs.lemmas.Bool.{eqb-true}
+use Rattle.std.proofs.lemmas.Bool.{eqb-true, and_parts as both_true, and_from as true_both}
 use Rattle.std.proofs.lemmas.Slice.Eq.{slice_eq-Decides, bytes_eq-Decides}
 use Rattle.rt_values.specs.declared.value.Value.{Value}
 use Rattle.rt_values.specs.Values.{same_value, same_values}
@@ -11,14 +11,6 @@ use Rattle.rt_groups.specs.declared.groups.Attribute.{Attribute}
 use Rattle.rt_groups.specs.declared.groups.GroupKind.{GroupKind}
 use Rattle.rt_groups.specs.declared.groups.GroupKind.TheVariants as what
 use Rattle.composer.specs.Comparisons.{same_attribute, same_attributes}
-
-both_true : (a b : Bool) → (a && b) ≡ true → (a ≡ true) × (b ≡ true)
-both_true true b e = (refl, e)
-both_true false b e = absurd cc
-
-true_both : (a b : Bool) → a ≡ true → b ≡ true → (a && b) ≡ true
-true_both true b e f = f
-true_both false b e f = absurd cc
 
 same_attribute_decides : (a b : Attribute) → Decides (same_attribute a b) (a ≡ b)
 same_attribute_decides a b =

@@ -2,7 +2,7 @@
 -- has the same effect as composing the call next to it.
 use Rattle.std.proofs.Common.{ℕ, ◌+◌, ◌<◌, List, [], ◌≡◌, refl, ap, ◌∙◌, sym, subst, Bool, true, false, not, ◌&&◌, ◌==◌, Option, Some, None, take, length}
 use Rattle.std.proofs.Math.Seq.{take-append_seam}
-use Rattle.std.proofs.lemmas.Bool.{eqb-true}
+use Rattle.std.proofs.lemmas.Bool.{eqb-true, not-false as not_false, and_parts as both_true}
 use Rattle.std.proofs.lemmas.Slice.Eq.{slice_eq-Decides}
 use Rattle.rt_values.specs.declared.value.Value.{Value}
 use Rattle.rt_values.specs.Maps.{Map}
@@ -22,14 +22,6 @@ use Rattle.recompose_laws.proofs.Skipped.{skipped_call_is_renewed}
 use Rattle.composer.specs.ComposerState.{ComposerState, opened_group, closed_group, composed_beside, skipped_inside, skipped_groups}
 use Rattle.composer.specs.BesideContracts.{LastComposition, IsSince, IsOldFound}
 use Rattle.composer.proofs.Machine.{skip_is_new}
-
-not_false : (b : Bool) → not b ≡ false → b ≡ true
-not_false true e = refl
-not_false false e = absurd cc
-
-both_true : (a b : Bool) → (a && b) ≡ true → (a ≡ true) × (b ≡ true)
-both_true true b e = (refl, e)
-both_true false b e = absurd cc
 
 pub same_call_is : (a : GroupKind) (f : ℕ) (vs : List Value) → same_call a (Call f vs) ≡ true → a ≡ Call f vs
 same_call_is (Call g ws) f vs e =

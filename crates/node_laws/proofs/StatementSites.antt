@@ -2,7 +2,7 @@
 use Rattle.std.proofs.Common.{arith, ◌≡◌, ◌||◌, ℕ, List, [], ◌∷◌, ◌++◌, map, Bool, true, false, not, Option, Some, None, refl, sym, ap, ◌∙◌, subst, inl, inr, append_assoc}
 use Rattle.std.specs.List.{list_any}
 use Rattle.std.specs.Str.{bytes_eq}
-use Rattle.std.proofs.lemmas.Bool.{true≢false, cases_Bool}
+use Rattle.std.proofs.lemmas.Bool.{true≢false, cases_Bool, not-true as not_false}
 use Rattle.std.proofs.lemmas.Slice.Eq.{bytes_eq-Decides}
 use Rattle.lang_ast.specs.declared.syntax.Ident.{Ident}
 use Rattle.lang_ast.specs.declared.program.State.{State}
@@ -66,10 +66,6 @@ any_append f (x ∷ xs) ys e = by (f x) e (λ g. any_append f xs ys g)
         → ((b || list_any f xs) ≡ false) × (list_any f ys ≡ false)
     by true e go = absurd (true≢false e)
     by false e go = go e
-
-not_false : (b : Bool) → not b ≡ true → b ≡ false
-not_false true e = absurd (true≢false (sym e))
-not_false false e = refl
 
 head_false : (b c : Bool) → (b || c) ≡ false → b ≡ false
 head_false true c e = absurd (true≢false e)

@@ -1,6 +1,6 @@
 -- Levels whose siblings have the same numbers in order.
 use Rattle.std.proofs.Common.{◌≡◌, ℕ, zero, suc, ◌+◌, ◌<◌, ◌==◌, Bool, true, false, ◌||◌, List, [], ◌∷◌, ◌++◌, length, cond, Option, Some, if◌then◌else◌, refl, ap, sym, ◌∙◌, subst, arith, append_assoc, eq-eqb, append-nil}
-use Rattle.std.proofs.lemmas.Bool.{ne_eqb, true≢false, false≢true}
+use Rattle.std.proofs.lemmas.Bool.{ne_eqb, true≢false, false≢true, or_right as right_true, or_left as left_true, or_parts as parts_false}
 use Rattle.rt_values.specs.Values.{same_value}
 use Rattle.rt_values.proofs.Equal.{told_equal}
 use Rattle.rt_groups.specs.GroupForest.{Attribute}
@@ -20,14 +20,6 @@ use Rattle.node_tree.specs.SiblingLists.{flat_before, nodes_from, first_node, Be
 abbrev AllIn : List TreeNode → List TreeNode → Type 0
 AllIn whole [] = Unit {0}
 AllIn whole (n ∷ ns) = (lists_number n.number whole ≡ true) × AllIn whole ns
-
-right_true : (b c : Bool) → c ≡ true → (b || c) ≡ true
-right_true true c e = refl
-right_true false c e = e
-
-left_true : (b c : Bool) → b ≡ true → (b || c) ≡ true
-left_true true c e = refl
-left_true false c e = absurd (false≢true e)
 
 widened : (x : TreeNode) (whole ns : List TreeNode) → AllIn whole ns → AllIn (x ∷ whole) ns
 widened x whole [] h = tt
@@ -93,10 +85,6 @@ no_child_calls o n h =
 abbrev FoundIn : List TreeNode → Nodes → Type 0
 FoundIn whole nodes.None = Unit {0}
 FoundIn whole (Branch m k a c rest) = (numbered_node m whole ≡ Some (tree_node m k a c)) × FoundIn whole rest
-
-parts_false : (b c : Bool) → (b || c) ≡ false → (b ≡ false) × (c ≡ false)
-parts_false true c e = absurd (true≢false e)
-parts_false false c e = (refl, e)
 
 found_later : (x : TreeNode) (whole : List TreeNode) (n : Nodes) → lists_number x.number (node_list n) ≡ false
     → FoundIn whole n → FoundIn (x ∷ whole) n

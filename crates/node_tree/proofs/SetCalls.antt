@@ -1,7 +1,7 @@
 -- The `set` calls give the current node the new attributes.
 use Rattle.std.proofs.Common.{◌≡◌, ℕ, Bool, true, false, ◌||◌, List, [], ◌∷◌, ◌++◌, refl, ap, sym, ◌∙◌, append_assoc, if◌then◌else◌}
 use Rattle.std.specs.Str.{bytes_eq}
-use Rattle.std.proofs.lemmas.Bool.{true≢false}
+use Rattle.std.proofs.lemmas.Bool.{true≢false, or_parts, or_from as or_none}
 use Rattle.std.proofs.lemmas.Slice.Eq.{bytes_eq-Decides}
 use Rattle.rt_values.specs.declared.value.Value.{Value}
 use Rattle.rt_values.specs.Values.{same_value}
@@ -13,13 +13,6 @@ use Rattle.node_tree.specs.Calls.{attributes_after_set, has_attribute}
 use Rattle.node_tree.specs.Placing.{set_calls}
 use Rattle.node_tree.specs.Premises.{HaveDistinctNames, names_of}
 use Rattle.node_tree.proofs.Turning.{Turns, tree, opened, none_turns, one_turns, then_turns, turns_from, turns_to}
-
-or_parts : (b c : Bool) → (b || c) ≡ false → (b ≡ false) × (c ≡ false)
-or_parts true c e = absurd (true≢false e)
-or_parts false c e = (refl, e)
-
-or_none : (b c : Bool) → b ≡ false → c ≡ false → (b || c) ≡ false
-or_none b c e f = ap (λ (x : Bool). x || c) e ∙ f
 
 same_name : (xs : List ℕ) → bytes_eq xs xs ≡ true
 same_name xs = (bytes_eq-Decides xs xs).1 refl

@@ -1,6 +1,7 @@
 -- The actors of a source text have names without a colon, and so the lines of `threads` tell their history.
 use Rattle.std.proofs.Common.{◌≡◌, ◌≢◌, ℕ, zero, suc, ◌&&◌, not, Bool, true, false, List, [], ◌∷◌, ◌++◌, length, nat_lt, refl, sym, ap, ◌∙◌, cond, slice_index}
 use Rattle.std.specs.List.{list_all}
+use Rattle.std.proofs.lemmas.Bool.{and_parts as both}
 use Rattle.lang_ast.specs.declared.script.DoForm.{DoForm}
 use Rattle.lang_forms.specs.Names.{is_letter, is_name_byte, is_kept_word, is_name}
 use Rattle.lang_forms.specs.Forms.{SpelledScripts}
@@ -12,11 +13,6 @@ use Rattle.play_laws.proofs.ActorNames.{actor_names_are_distinct}
 use Rattle.play_threads.proofs.Texts.{text_tells}
 use Rattle.play_core.specs.Texts.{IsText, style}
 use Rattle.play_core.specs.ThreadsOutput.{OutputTellsItsHistory}
-
-both : (a b : Bool) → a && b ≡ true → (a ≡ true) × (b ≡ true)
-both true true h = (refl, refl)
-both true false h = absurd cc
-both false b h = absurd cc
 
 -- A byte of a name is no colon.
 no_byte : (c : ℕ) → is_name_byte c ≡ true → c ≢ 58

@@ -2,6 +2,7 @@
 use Rattle.std.proofs.Common.{◌≡◌, ℕ, List, [], ◌∷◌, ◌++◌, Bool, true, false, Option, None, ◌&&◌, arith, refl, sym, ap, ◌∙◌, subst, length, map, nat_lt, slice_index_or}
 use Rattle.rt_values.specs.Maps.{Map}
 use Rattle.std.proofs.lemmas.List.{length-map}
+use Rattle.std.proofs.lemmas.Bool.{and_parts as both}
 use Rattle.rt_groups.specs.Frames.{no_last_frame}
 use Rattle.rt_values.specs.Values.{type_of, same_type}
 use Rattle.rt_values.specs.declared.value.Ty.{Ty}
@@ -110,11 +111,6 @@ none_in (x ∷ xs) ys h = absurd cc
 held : (b : Bool) (k : CheckKind) (at : ℕ) → fault_unless b k at ≡ [] → b ≡ true
 held true k at h = refl
 held false k at h = absurd cc
-
-both : (a b : Bool) → a && b ≡ true → (a ≡ true) × (b ≡ true)
-both true true h = (refl, refl)
-both true false h = absurd cc
-both false b h = absurd cc
 
 same_types : (s t : Ty) → same_type s t ≡ true → s ≡ t
 same_types ty.Int ty.Int h = refl

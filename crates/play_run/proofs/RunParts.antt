@@ -5,6 +5,7 @@ use Rattle.std.specs.declared.result.Result.{Result}
 use Rattle.std.specs.Io.KnownBytes.{Appends}
 use Rattle.std.specs.Option.{unwrap_or}
 use Rattle.std.specs.Str.{bytes_eq}
+use Rattle.std.proofs.lemmas.Bool.{ne_eqb as other_number}
 use Rattle.rt_values.specs.declared.value.Value.{Value}
 use Rattle.rt_values.specs.declared.value.Value.TheVariants as value
 use Rattle.rt_values.specs.Operators.{sum_of}
@@ -121,9 +122,6 @@ ends_none (request.Read n x) = refl
 ends_none (request.Write n x v) = refl
 ends_none (request.Apply n) = refl
 ends_none (request.Dispose n) = refl
-
-other_number : (x y : ℕ) → x ≢ y → (x == y) ≡ false
-other_number x y apart = elim (eqb_tells x y) [ inl e ↦ absurd (apart e.1) | inr e ↦ e.0 ]
 
 ends_no_other : (name : ℕ) (q : Request) → Avoids name q → ends_frame (name ∷ []) q ≡ false
 ends_no_other name (request.Take parent kind) avoids = refl

@@ -4,6 +4,8 @@ use Rattle.std.proofs.lemmas.Bool.Decides.{eqb_tells}
 use Rattle.std.specs.Option.{unwrap_or}
 use Rattle.std.specs.Str.{bytes_eq}
 use Rattle.std.specs.List.{filter}
+use Rattle.std.proofs.lemmas.Bool.{ne_eqb as other_number}
+use Rattle.std.proofs.lemmas.Option.{same_Some as some_same}
 use Rattle.rt_values.specs.declared.value.Value.{Value}
 use Rattle.rt_values.specs.declared.value.Value.TheVariants as value
 use Rattle.rt_values.specs.Maps.{contains}
@@ -36,9 +38,6 @@ pub record PartDone (n : Notes) (p : Part) (e : Entry) (w : World BuiltIn) : Typ
   pub known : AreKnown w (notes_after n p e.reply).names
   pub apart : FrameIsApart w (notes_after n p e.reply).names (notes_after n p e.reply).frame
 
-other_number : (x y : ℕ) → x ≢ y → (x == y) ≡ false
-other_number x y differ = elim (eqb_tells x y) [ inl e ↦ absurd (differ e.1) | inr e ↦ e.0 ]
-
 -- No step names the snapshot of the open frame.
 unnamed : (w : World BuiltIn) (names : List NamedNumber) (frame : Option ℕ) (s : SnapshotRef)
     → FrameIsApart w names frame → contains (snapshot_number names s) (frame_list frame) ≡ false
@@ -54,9 +53,6 @@ record IsQuiet (fs : List ℕ) (q : Request) (r : Reply) : Type 0 where
   unread : reads_frame fs q ≡ false
   unended : ends_frame fs q ≡ false
   untaken : frame_taken q r ≡ []
-
-some_same : {A : Type 0} (a b : A) → Some a ≡ Some b → a ≡ b
-some_same a b e = cc
 
 sum_quiet : (fs : List ℕ) (k x : ℕ) (a : ℤ) (o : Option Value) (q : Request) (r : Reply) → sum_request k x a o ≡ Some q
     → IsQuiet fs q r

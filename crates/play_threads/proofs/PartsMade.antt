@@ -1,5 +1,6 @@
 -- How far an actor has come after a part, and after the reads of a frame.
 use Rattle.std.proofs.Common.{◌≡◌, ℕ, ◌==◌, List, [], ◌∷◌, ◌++◌, ◌||◌, true, false, cond, refl, sym, ap, ◌∙◌, subst, Option, Some, eq-eqb}
+use Rattle.std.proofs.lemmas.Option.{same_Some as some_same}
 use Rattle.rt_values.specs.Maps.{contains}
 use Rattle.snap_policy.specs.declared.policy.BuiltIn.{BuiltIn}
 use Rattle.snap_policy.specs.Table.{table}
@@ -112,9 +113,6 @@ module _ {W : Type 0} (stands : W → World BuiltIn → Type 0) (opening : W) (o
           apart = subst (λ w. FrameIsApart w (notes_after n p r).names (notes_after n p r).frame) (sym world_now)
               done.apart;
         }
-
-some_same : {A : Type 0} (a b : A) → Some a ≡ Some b → a ≡ b
-some_same a b e = cc
 
 -- The reads of a frame are not printed.
 pub frame_read : (o : World BuiltIn) (opens opens' : World BuiltIn → Type 0) (before : ActorState)

@@ -1,7 +1,7 @@
 -- Each old group is matched at most once, so node numbers stay unique.
 use Rattle.std.proofs.Common.{ℕ, zero, suc, ◌+◌, ◌<◌, ◌≤◌, ◌==◌, ◌≡◌, ◌⊎◌, inl, inr, List, [], ◌∷◌, refl, ap, ◌∙◌, sym, subst, Bool, true, false, ◌&&◌, nat_lt, if◌then◌else◌, Option, Some, None, arith}
 use Rattle.std.specs.Option.{option_eq}
-use Rattle.std.proofs.lemmas.Bool.{and_parts, eqb-true, le-ltb, lt-ltb}
+use Rattle.std.proofs.lemmas.Bool.{and_parts, eqb-true, le-ltb, lt-ltb, cases_Bool as true_or_false}
 use Rattle.rt_values.specs.declared.value.Value.{Value}
 use Rattle.rt_values.specs.Values.{same_value}
 use Rattle.rt_groups.specs.GroupForest.{GroupForest, End, Read, Group, GroupKind, Call, Node, Key, Cell, is_node}
@@ -28,10 +28,6 @@ same_is s t e =
     let site : s.site ≡ t.site = eqb-true s.site t.site both.0 in
     ap (λ n. record { site = n; key = s.key }) site
     ∙ ap (λ k. record { site = t.site; key = k }) (same_key s.key t.key both.1)
-
-true_or_false : (b : Bool) → (b ≡ true) ⊎ (b ≡ false)
-true_or_false true = inl refl
-true_or_false false = inr refl
 
 other_way : (s t : GroupKey) → same_sibling s t ≡ false → same_sibling t s ≡ false
 other_way s t e = elim (true_or_false (same_sibling t s)) [

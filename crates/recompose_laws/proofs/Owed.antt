@@ -1,6 +1,6 @@
 -- The objects whose stamps differ are all that changed.
 use Rattle.std.proofs.Common.{ℕ, zero, suc, ◌+◌, ◌<◌, ◌==◌, List, [], ◌∷◌, ◌≡◌, inl, inr, refl, ap, ◌∙◌, sym, length, eq-eqb, Bool, true, false, not, if◌then◌else◌, Option, Some, None, slice_get, arith}
-use Rattle.std.proofs.lemmas.Bool.{eqb-true}
+use Rattle.std.proofs.lemmas.Bool.{eqb-true, not-false as not_false}
 use Rattle.std.proofs.lemmas.List.{get_or_past}
 use Rattle.std.proofs.lemmas.Option.{get_or_from_slice_get, slice_get_within}
 use Rattle.rt_values.specs.declared.maps.StampedValue.{StampedValue}
@@ -32,10 +32,6 @@ not_listed m k (suc x) (e ∷ now) h c =
     ∙ not_listed m (k + 1) x now (omega arith)
     (rest_out (differs (slice_get m k) e) k ((k + 1) + x) (differ_from m (k + 1) now)
     (ap (λ j. contains j (differ_from m k (e ∷ now))) (sym z) ∙ c))
-
-not_false : (b : Bool) → not b ≡ false → b ≡ true
-not_false true e = refl
-not_false false e = absurd cc
 
 same_stamp : (o : Option StampedValue) (now : StampedValue) → differs o now ≡ false
     → (before : StampedValue) × (o ≡ Some before) × (before.stamp ≡ now.stamp)

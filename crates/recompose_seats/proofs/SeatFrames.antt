@@ -1,5 +1,6 @@
 -- The frames of a seat's desk.
 use Rattle.std.proofs.Common.{ℕ, List, ◌≡◌, ◌++◌, ◌∷◌, [], refl, sym, ap, ◌∙◌, subst, Option, Some, None, Result, Ok, Err, IfOk, IfErr, OnErr, append_assoc}
+use Rattle.std.proofs.lemmas.Option.{same_Some as some_same}
 use Rattle.rt_values.specs.Maps.{Map}
 use Rattle.rt_values.specs.declared.value.Ty.{Ty}
 use Rattle.rt_groups.specs.Frames.{LastFrame}
@@ -31,9 +32,6 @@ use Rattle.recompose_seats.proofs.TakePlaces.{TakesNone, reads_take_none, map_at
 -- An applier that knows no tree may always be called.
 pub no_tree_may : (t : Option CursorTree) (at : LastFrame → Type 0) → t ≡ None → MayCall t at
 no_tree_may t at e = subst (λ (o : Option CursorTree). MayCall o at) (sym e) tt
-
-some_same : {A : Type 0} (a b : A) → Some a ≡ Some b → a ≡ b
-some_same a b e = cc
 
 module _ {W P : Type 0} (rules : Rules P) (stands : W → World P → Type 0) (shared : Shared W P) (before after : Seat W)
     (watcher : ℕ) (types : List Ty)

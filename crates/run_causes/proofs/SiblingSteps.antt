@@ -1,6 +1,6 @@
 -- From one sibling of a table to the next, and the siblings inside a group.
 use Rattle.std.proofs.Common.{◌≡◌, ◌≤◌, ◌<◌, ℕ, zero, suc, ◌+◌, ◌==◌, nat_le, nat_lt, Bool, true, false, List, [], ◌∷◌, ◌++◌, length, length-append, length-drop, drop, if◌then◌else◌, refl, ap, sym, ◌∙◌, arith, append_assoc, append-nil}
-use Rattle.std.proofs.lemmas.Bool.{true≢false, le-leb, leb-true, eqb-true, eqb-false, ltb-true, ltb-false}
+use Rattle.std.proofs.lemmas.Bool.{true≢false, le-leb, leb-true, eqb-true, eqb-false, ltb-true, ltb-false, false_from_ne_true as is_false}
 use Rattle.std.proofs.lemmas.List.{drop-drop, drop_at}
 use Rattle.rt_groups.specs.declared.groups.Group.{Group as TableGroup}
 use Rattle.rt_groups.specs.GroupForest.{GroupForest, End, Read, Group, how_many}
@@ -34,10 +34,6 @@ past_forest e k (Group site number what inside rest) more le =
 past_none : (e : ℕ) (gs : List TableGroup) → begins_at e gs ≡ false → after_deep e gs ≡ gs
 past_none e [] h = refl
 past_none e (g ∷ gs) h = ap (λ b. if b then after_deep e gs else g ∷ gs) h
-
-is_false : (b : Bool) → (b ≡ true → ⊥) → b ≡ false
-is_false true f = absurd (f refl)
-is_false false f = refl
 
 -- A forest at a depth, and what follows if that is not deeper, begins with no deeper group.
 begins_level : (d : ℕ) (t : GroupForest) (more : List TableGroup) → begins_at (d + 1) more ≡ false

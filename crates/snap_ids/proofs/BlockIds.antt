@@ -7,6 +7,7 @@ use Rattle.std.specs.Prelude.{slice_index_or, slice_set, insert, min, filter, Op
 use Rattle.std.proofs.lemmas.Bool.Decides.{Decides-eqb, eqb_tells, leb_tells}
 use Rattle.std.proofs.lemmas.Nat.{le_or_r, one_shl}
 use Rattle.std.proofs.lemmas.Nat.Bits.{bit_at-zero, bit_at-lt, bit_at_or, bit_at_and, bit_at_not, bit_at-pow_same, bit_at-pow_other}
+use Rattle.std.proofs.lemmas.Bool.{and_from as and_two, and_parts as and_one}
 use Rattle.rt_values.specs.Maps.{contains}
 use Rattle.snap_ids.specs.IdLists.{IsRising, with_id, without_id, with_ids, without_ids}
 use Rattle.snap_ids.specs.IdWindows.{window, AllBelow, IsLeastFrom}
@@ -71,15 +72,6 @@ bits_found (b ∷ bs) (suc j) d r h =
     let c = slice_index_or bs j d in
     ap (λ t. cond t b.bits (bits_of bs c.number)) (other_number b.number c.number (r.0 c.number (has_number bs j d within)))
     ∙ bits_found bs j d r.1 within
-
--- ---- Ids by their bits.
-and_two : (a b : Bool) → a ≡ true → b ≡ true → (a && b) ≡ true
-and_two true b h k = k
-and_two false b h k = absurd cc
-
-and_one : (a b : Bool) → (a && b) ≡ true → (a ≡ true) × (b ≡ true)
-and_one true b h = (refl, h)
-and_one false b h = absurd cc
 
 in_block : (n bits i : ℕ) → contains i (window 64 (64 * n) bits) ≡ ((n == i / 64) && (bit_at bits (i % 64) == 1))
 in_block n bits i = same_truth (contains i (window 64 (64 * n) bits)) ((n == i / 64) && (bit_at bits (i % 64) == 1))

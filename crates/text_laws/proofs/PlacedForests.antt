@@ -1,6 +1,6 @@
 -- Forests at other offsets.
 use Rattle.std.proofs.Common.{◌≡◌, ℕ, suc, ◌+◌, ◌<◌, ◌≤◌, ◌==◌, nat_lt, Bool, true, false, ◌&&◌, List, [], ◌∷◌, ◌++◌, length, refl, ap, ◌∙◌, cond, if◌then◌else◌, arith, length-append, inl, inr, lt-ltb, codes}
-use Rattle.std.proofs.lemmas.Bool.{ltb-true}
+use Rattle.std.proofs.lemmas.Bool.{ltb-true, and_parts as both}
 use Rattle.std.proofs.lemmas.Bool.Decides.{eqb_tells}
 use Rattle.std.specs.Str.{bytes_eq}
 use Rattle.rt_values.specs.Limits.{most_items}
@@ -14,10 +14,6 @@ use Rattle.lang_ast.proofs.Limits.{none_in}
 use Rattle.text_laws.specs.OtherOffsets.{placed_forest}
 
 -- Offsets within the bytes of a spelling.
-
-both : (a b : Bool) → (a && b) ≡ true → (a ≡ true) × (b ≡ true)
-both true b e = (refl, e)
-both false b e = absurd cc
 
 some_byte : (name : List ℕ) → is_name name ≡ true → 0 < length name
 some_byte [] e = absurd cc

@@ -1,6 +1,6 @@
 -- What a snapshot for a watcher shows, and which objects its take lists.
 use Rattle.std.proofs.Common.{ℕ, ◌<◌, ◌==◌, nat_lt, List, [], ◌∷◌, length, ◌≡◌, ◌≢◌, inl, inr, refl, ap, ◌∙◌, sym, Bool, true, false, not, ◌&&◌, cond, Option, Some, None, arith, get_or-set_other}
-use Rattle.std.proofs.lemmas.Bool.{cases_lt, eqb-true}
+use Rattle.std.proofs.lemmas.Bool.{cases_lt, eqb-true, not-false as not_false}
 use Rattle.std.proofs.lemmas.Bool.Decides.{eqb_tells}
 use Rattle.std.specs.Option.{unwrap_or}
 use Rattle.std.specs.Prelude.{slice_get}
@@ -33,10 +33,6 @@ use Rattle.world_laws.specs.Watching.{FrameShowsItsTake, FrameReadsItsTake, Watc
 use Rattle.world_laws.proofs.MapDifferences.{differ_of, listed, unlisted, differs_by_stamp, differs_if_new, differs_from_itself}
 
 -- A readonly snapshot shows the same map after every call.
-
-not_false : (b : Bool) → not b ≡ false → b ≡ true
-not_false true e = refl
-not_false false e = absurd cc
 
 -- The snapshot has the same kind and shows the same map.
 record Stays {P : Type 0} (w : World P) (name : ℕ) (r : World P × Reply) : Type 0 where

@@ -1,14 +1,11 @@
 use Rattle.std.proofs.Common.{◌≡◌, ◌||◌, ◌∙◌, sym, ap, subst, arith, ℕ, List, [], ◌∷◌, length, Bool, true, false, refl}
 use Rattle.std.specs.Prelude.{slice_index_or}
+use Rattle.std.proofs.lemmas.Bool.{or_parts as neither}
 use Rattle.snap_ids.specs.IdLists.{IsRising, without_ids}
 use Rattle.snap_ids.specs.IdBlocks.{block_ids, numbers}
 use Rattle.snap_ids.specs.declared.blocks.Block.{Block}
 use Rattle.snap_ids.proofs.BlockIds.{length_numbers, without_first, without_none}
 use Rattle.snap_ids.proofs.blocks.clear_all.Goals as goal
-
-neither : (a b : Bool) → (a || b) ≡ false → (a ≡ false) × (b ≡ false)
-neither true b h = absurd cc
-neither false b h = (refl, h)
 
 pub loop-block-preserved : goal.loop-block-preserved
 loop-block-preserved c =

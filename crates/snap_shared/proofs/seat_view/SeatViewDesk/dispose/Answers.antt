@@ -1,13 +1,11 @@
 use Rattle.std.proofs.Common.{◌≡◌, refl, sym, subst, ◌∙◌, ℕ, Some}
+use Rattle.std.proofs.lemmas.Option.{same_Some as some_same}
 use Rattle.snap_api.specs.Calls.{Logs}
 use Rattle.snap_api.specs.declared.data.Reply.TheVariants as reply
 use Rattle.snap_api.specs.declared.data.Request.TheVariants.{Dispose}
 use Rattle.snap_shared.specs.SharedCalls.{own_calls}
 use Rattle.snap_shared.proofs.DeskAnswers.{asks_none, view_further, view_log, view_alone, view_last, view_last_bad, view_still, view_own}
 use Rattle.snap_shared.proofs.seat_view.SeatViewDesk.dispose.Goals as goal
-
-some_same : {A : Type 0} (a b : A) → Some a ≡ Some b → a ≡ b
-some_same a b e = cc
 
 pub returns-in-Ok-clause-log : goal.returns-in-Ok-clause-log
 returns-in-Ok-clause-log g c name is =
