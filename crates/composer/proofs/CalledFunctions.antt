@@ -15,13 +15,9 @@ use Rattle.recompose_laws.proofs.Meanings.{meaning_found, meaning_none}
 use Rattle.recompose_laws.specs.CalculatedCells.{Calculation, StmtCalculates, StmtsCalculate, FunctionsCalculate}
 use Rattle.composer.specs.BesideContracts.{LastComposition, IsSince}
 use Rattle.composer.proofs.OldParts.{since_front, since_calculates}
+use Rattle.lang_ast.proofs.Functions.{functions_front, functions_at}
 
 -- The functions of a program in memory and in their view.
-
-pub functions_front : (fs : List Function) (j : ℕ) → take j (functions_view fs) ≡ functions_view (take j fs)
-functions_front fs zero = refl
-functions_front [] (suc j) = refl
-functions_front (f ∷ fs) (suc j) = ap (λ (l : List Func). function_view f ∷ l) (functions_front fs j)
 
 pub slice_is : (fs slice : List Function) (n : ℕ) → slice ≡ take n fs
     → functions_view slice ≡ take n (functions_view fs)
@@ -30,12 +26,6 @@ slice_is fs slice n e = ap functions_view e ∙ sym (functions_front fs n)
 pub how_many_functions : (fs : List Function) → length (functions_view fs) ≡ length fs
 how_many_functions [] = refl
 how_many_functions (f ∷ fs) = ap suc (how_many_functions fs)
-
-functions_at : (fs : List Function) (j : ℕ) (f : Function) → j < length fs
-    → get_or (functions_view fs) j (function_view f) ≡ function_view (get_or fs j f)
-functions_at [] j f below = absurd (omega (arith, below))
-functions_at (g ∷ fs) zero f below = refl
-functions_at (g ∷ fs) (suc j) f below = functions_at fs j f (omega (arith, below))
 
 pub since_slice : {l : LastComposition} (fs slice : List Function) (n : ℕ) → slice ≡ take n fs
     → IsSince l (functions_view fs) → IsSince l (functions_view slice)

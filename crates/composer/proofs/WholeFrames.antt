@@ -36,6 +36,8 @@ use Rattle.composer.specs.Recomposes.{FitsIn}
 use Rattle.composer.proofs.OldParts.{since_all}
 use Rattle.composer.proofs.Machine.{same_state, composed_is, skipped_is, state_after_work, state_after_walk}
 use Rattle.composer.proofs.Reaching.{reached_at}
+use Rattle.recompose_laws.proofs.Idles.{how_many-without_numbers, nodes-without_numbers}
+use Rattle.slot_table.proofs.KeptRuns.{nodes_append as nodes_more}
 
 -- A frame that skips all old groups.
 pub skipped_frame : (functions : List Func) (root : ℕ) (seen m : Map) (old : GroupForest) (next : ℕ) (owed : List ℕ)
@@ -66,14 +68,6 @@ anew_frame functions root m old next owed s e none =
     ∙ ap (λ (t : GroupForest). frame_state functions root owed t next m s) (sym none)
 
 -- The number of groups.
-
-how_many-without_numbers : (t : GroupForest) → how_many (without_numbers t) ≡ how_many t
-how_many-without_numbers End = refl
-how_many-without_numbers (Read x rest) = how_many-without_numbers rest
-how_many-without_numbers (Group site n what inside rest) =
-    let e = how_many-without_numbers inside in
-    let f = how_many-without_numbers rest in
-    omega (arith, e, f)
 
 pub frame_groups : (functions : List Func) (root : ℕ) (owed : List ℕ) (old : GroupForest) (next : ℕ) (m : Map)
     (s : ComposerState) → s.groups ≡ [] →
@@ -144,10 +138,6 @@ skipped_reached functions p root t m owed s k r =
 
 -- The nodes among the groups of a forest.
 
-nodes_more : (gs hs : List FlatGroup) → nodes_in (gs ++ hs) ≡ nodes_in gs + nodes_in hs
-nodes_more [] hs = omega arith
-nodes_more (g ∷ gs) hs = let e = nodes_more gs hs in omega (arith, e)
-
 node_kept : (what : GroupKind) → is_node_kind (flat_kind what) ≡ is_node what
 node_kept (Call f vs) = refl
 node_kept (Node kind attributes) = refl
@@ -162,14 +152,6 @@ nodes_are d (Group site n what inside rest) =
     let f = nodes_are d rest in
     let one = ap {B = ℕ} (λ b. if b then 1 else 0) (node_kept what) in
     omega (arith, e, f, one, nodes_more (preorder (d + 1) inside) (preorder d rest))
-
-nodes-without_numbers : (t : GroupForest) → how_many_nodes (without_numbers t) ≡ how_many_nodes t
-nodes-without_numbers End = refl
-nodes-without_numbers (Read x rest) = nodes-without_numbers rest
-nodes-without_numbers (Group site n what inside rest) =
-    let e = nodes-without_numbers inside in
-    let f = nodes-without_numbers rest in
-    omega (arith, e, f)
 
 -- A number of reads within the limit of a report.
 few_reads : (n w : ℕ) → w ≡ n → w ≤ 2 ^ 64 - 1 → w ≡ min n (2 ^ 64 - 1)

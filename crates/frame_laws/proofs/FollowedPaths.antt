@@ -8,6 +8,7 @@ use Rattle.recompose_laws.proofs.Numbers.{path_numbers_are_sibling_numbers}
 use Rattle.node_laws.proofs.KeptSites.{number_rises, next_rises}
 use Rattle.path_laws.specs.SiblingEquality.{same_is}
 use Rattle.frame_laws.specs.FollowedPaths.{NumbersFollowPaths}
+use Rattle.path_laws.proofs.FoundPaths.{none_in_end}
 
 -- A new group that was matched with `old`: it has the number for `old` at some unused number from `next` on, and its
 -- contents were numbered next to those of `old`.
@@ -111,11 +112,6 @@ follows_of false old next unused g is after e = absurd cc
 follows_of true None next unused g is after e = (λ o found. absurd cc, λ none. omega (arith, e, after))
 follows_of true (Some f) next unused g is after e =
     (λ o found. let same : f ≡ o = cc in e ∙ ap (λ (h : Found). h.number) same, λ none. absurd cc)
-
-none_in_end : (p : Path) → at_path p End ≡ None
-none_in_end [] = refl
-none_in_end (s ∷ []) = refl
-none_in_end (s ∷ (r ∷ p)) = none_in_end (r ∷ p)
 
 at_step : (s : PathStep) (old : GroupForest) (next : ℕ) (new : GroupForest) (g : Found)
     → matching_sibling s.of s.occurrence (numbered_by_siblings old [] next new).0 ≡ Some g

@@ -150,7 +150,7 @@ get_read : (m : List (List ℕ)) (at a : ℕ) (n : Ident) → is_name n.text ≡
 unfolding expr_form get_form word_of
 get_read m at a n h = rw (name_there n empty h)
 
-count_is : (es : List Expr) → operand_count (exprs es) ≡ length es
+pub count_is : (es : List Expr) → operand_count (exprs es) ≡ length es
 count_is [] = refl
 count_is (e ∷ es) = ap suc (count_is es)
 

@@ -15,6 +15,7 @@ use Rattle.lang_forms.specs.Readings.{choose, Seen, seen_trees, is_end, word_of,
 use Rattle.lang_forms.proofs.Bindings.{node_is, for_is, let_is, remember_is}
 use Rattle.lang_forms.proofs.KeywordTables.{operator_table}
 use Rattle.lang_forms.proofs.Found.{inject, bind_some, map_some, choose_some, Worded, word_found, name_next, keyword_next, end_next, plain_found, string_found, tail}
+use Rattle.lang_forms.proofs.FormsAreRead.{count_is}
 
 -- The forms of statements that are parsed.
 pub record BodyFits (m : KnownNames) (k : ℕ) (f : Forest) (b : List Stmt × ℕ) : Type 0 where
@@ -89,10 +90,6 @@ record ExprFirst (m : List (List ℕ)) (f : Forest) (e : Expr × List Seen) : Ty
 record ListExpr (m : List (List ℕ)) (at : ℕ) (i : Forest) (e : Expr) : Type 0 where
   fit : (r : Forest) (g : Sketch) → Fits r g → Fits (list at i r) (expr_forms e g)
   spelled : Spelled m e
-
-count_is : (es : List Expr) → operand_count (exprs es) ≡ length es
-count_is [] = refl
-count_is (e ∷ es) = ap suc (count_is es)
 
 -- An atom that is an expression.
 record AtomExpr (m : List (List ℕ)) (at : ℕ) (a : List ℕ) (e : Expr) : Type 0 where

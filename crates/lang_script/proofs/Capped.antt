@@ -2,9 +2,7 @@
 use Rattle.std.proofs.Common.{◌≡◌, ◌≤◌, ◌<◌, ◌+◌, ◌-◌, ◌^◌, ℕ, min, sym, ap, ◌∙◌, arith, inl, inr}
 use Rattle.std.proofs.Common.{◌⊎◌}
 use Rattle.std.proofs.Math.Nat.{min-eq_left, min-eq_right}
-
-le_or_lt : (p q : ℕ) → (p ≤ q) ⊎ (q < p)
-le_or_lt p q = grind arith
+use Rattle.rt_values.proofs.TextPrefixes.{le_or_gt as le_or_lt}
 
 -- A capped number plus another one.
 pub capped_sum : (cap a b : ℕ) → min (min a cap + b) cap ≡ min (a + b) cap

@@ -13,6 +13,7 @@ use Rattle.rt_groups.specs.Paths.{Path, PathStep, GroupKey, sibling, same_siblin
 use Rattle.rt_groups.specs.Frames.{CallAtPath, nobody, innermost_call, trace}
 use Rattle.path_laws.specs.SiblingEquality.{same_is, itself}
 use Rattle.node_laws.specs.OwnReads.{same_step, same_path, reads_at, OwnReadsAreTraced}
+use Rattle.path_laws.proofs.FoundPaths.{none_in_end}
 
 -- Examples. In the first forest a call reads 1 and 4, and a call in its node reads 2 and 3. In the second, two calls
 -- have one site.
@@ -181,11 +182,6 @@ first_step : (s : PathStep) (p : Path) (t : GroupForest)
     → at_path (s ∷ p) t ≡ lookup p (matching_sibling s.of s.occurrence t)
 first_step s [] t = refl
 first_step s (r ∷ p) t = refl
-
-none_in_end : (p : Path) → at_path p End ≡ None
-none_in_end [] = refl
-none_in_end (s ∷ []) = refl
-none_in_end (s ∷ (r ∷ p)) = none_in_end (r ∷ p)
 
 none_in_none : (p : Path) → lookup p None ≡ None
 none_in_none [] = refl

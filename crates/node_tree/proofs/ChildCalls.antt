@@ -52,7 +52,7 @@ started_as (Some o) n = o
 abbrev pub started : List TreeNode → TreeNode → TreeNode
 started old n = started_as (numbered_node n.number old) n
 
-attributes_back : (as_ : List Attribute) → map attribute_of (map flat_attribute as_) ≡ as_
+pub attributes_back : (as_ : List Attribute) → map attribute_of (map flat_attribute as_) ≡ as_
 attributes_back [] = refl
 attributes_back (a ∷ as_) = ap (λ l. a ∷ l) (attributes_back as_)
 

@@ -31,7 +31,7 @@ level_begins o n so sn new before now e f g d h is =
     ∙ ap (λ l. before ++ l) (sibling_calls_are o n (distinct_list o d) (distinct_list n h)))
     ∙ append_assoc before _ (inner_calls 0 (node_list o) n)
 
-distinct_from : (i : ℕ) (n : Nodes) → AllDistinct n → AllDistinct (nodes_from i n)
+pub distinct_from : (i : ℕ) (n : Nodes) → AllDistinct n → AllDistinct (nodes_from i n)
 distinct_from zero n d = d
 distinct_from (suc i) nodes.None d = d
 distinct_from (suc i) (Branch number kind attributes children rest) d = distinct_from i rest d.2

@@ -13,6 +13,7 @@ use Rattle.node_tree.specs.Placing.{lists_number, numbered_node, node_index, nod
 use Rattle.node_tree.specs.Premises.{AllDistinct, ChildrenAreDistinct, UnchangedTreeNeedsNoCalls}
 use Rattle.node_tree.specs.FlatNodes.{FlatNode, flat_node, flat_nodes}
 use Rattle.node_tree.specs.SiblingLists.{flat_before, nodes_from, first_node, BeginAlike, HaveSameNumbers}
+use Rattle.node_tree.proofs.PlacedLevels.{distinct_from as from_distinct}
 
 -- No node is removed, inserted or moved.
 
@@ -196,11 +197,6 @@ from_found : (i : ℕ) (whole : List TreeNode) (n : Nodes) → FoundIn whole n �
 from_found zero whole n f = f
 from_found (suc i) whole nodes.None f = tt
 from_found (suc i) whole (Branch m k a c rest) f = from_found i whole rest f.1
-
-from_distinct : (i : ℕ) (n : Nodes) → AllDistinct n → AllDistinct (nodes_from i n)
-from_distinct zero n d = d
-from_distinct (suc i) nodes.None d = d
-from_distinct (suc i) (Branch m k a c rest) d = from_distinct i rest d.2
 
 one_further : (i : ℕ) (n : Nodes) → nodes_from 1 (nodes_from i n) ≡ nodes_from (i + 1) n
 one_further i n = one i n ∙ ap (λ (j : ℕ). nodes_from j n) (let e : suc i ≡ i + 1 = omega arith in e)

@@ -47,7 +47,7 @@ first_step : (s : PathStep) (p : Path) (t : GroupForest)
 first_step s [] t = refl
 first_step s (r ∷ p) t = refl
 
-none_in_end : (p : Path) → at_path p End ≡ None
+pub none_in_end : (p : Path) → at_path p End ≡ None
 none_in_end [] = refl
 none_in_end (s ∷ []) = refl
 none_in_end (s ∷ (r ∷ p)) = none_in_end (r ∷ p)

@@ -8,7 +8,7 @@ use Rattle.path_laws.specs.GroupPaths.{paths, indexed_forest, number_found, inde
 use Rattle.path_laws.specs.SiblingEquality.{itself}
 use Rattle.path_laws.proofs.Indexes.{same_item, no_item, numbers, map-append, get-map, index_is, indexed_paths}
 
-map-map : {X Y Z : Type 0} (g : Y → Z) (f : X → Y) (xs : List X) → map g (map f xs) ≡ map (λ x. g (f x)) xs
+pub map-map : {X Y Z : Type 0} (g : Y → Z) (f : X → Y) (xs : List X) → map g (map f xs) ≡ map (λ x. g (f x)) xs
 map-map g f [] = refl
 map-map g f (x ∷ xs) = ap (λ l. g (f x) ∷ l) (map-map g f xs)
 

@@ -8,6 +8,7 @@ use Rattle.sexp_text.specs.Machine.{Mode, gap, in_comment, in_word, in_text, in_
 use Rattle.sexp_text.specs.declared.stop.TextStop.{TextStop}
 use Rattle.sexp_text.specs.declared.stop.TextStop.TheVariants as stop
 use Rattle.sexp_text.proofs.Walks.{walk_on, tested, length_le-depth_reached, next_deepens, finish_reaches, whole_is, stops_refuses}
+use Rattle.rt_values.proofs.TextPrefixes.{le_or_gt as le_or_lt}
 
 -- Only a parenthesis opens a list.
 Opens : ℕ → OpenLists → State → Type 0
@@ -57,9 +58,6 @@ next-opens s t at b e = subst (λ (o : Option State). IfSome o (Opens b s.1)) e 
 abbrev pub Parsed : List ℕ → Type 0
 Parsed bytes = ((f : Forest) × (whole bytes ≡ Some f) × (list_nesting f ≤ 100))
     ⊎ ((e : TextStop) × (e ≢ stop.NoMemory) × Refuses bytes e)
-
-le_or_lt : (p q : ℕ) → (p ≤ q) ⊎ (q < p)
-le_or_lt p q = grind arith
 
 at-end : (bytes : List ℕ) (i : ℕ) (s : State) → i ≡ length bytes → state_at bytes i ≡ Some s → IsShallow s
     → (o : Option Forest) → forest_at_end s ≡ o → Parsed bytes

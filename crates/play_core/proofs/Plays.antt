@@ -38,6 +38,7 @@ use Rattle.play_run.proofs.Stops.{unlogged_stop}
 use Rattle.play_threads.proofs.Texts.{some_text}
 use Rattle.play_core.proofs.Uniques.{text_one}
 use Rattle.play_core.proofs.OneFault.{one_fault, faulty_is_no_text}
+use Rattle.rt_values.proofs.TextPrefixes.{le_or_gt as le_or_lt}
 
 abbrev line_style : List State → List (List ℕ) → Flags → LineStyle
 line_style states actors flags = record { titles = record { states = states; actors = actors }; flags = flags }
@@ -158,9 +159,6 @@ pub text-part : (threads : Bool) (may : List ℕ → Source → List ℕ → Typ
     → ((p : Source) → IsText threads bytes p → (out : List ℕ) × may bytes p out × AppendsPart a z out)
     → WritesPart threads may bytes a z
 text-part threads may bytes a z good part = record { lines = part; refusal = λ fault f. absurd (good fault f) }
-
-le_or_lt : (p q : ℕ) → (p ≤ q) ⊎ (q < p)
-le_or_lt p q = grind arith
 
 -- The arguments ask for at most one command.
 pub one-command : (o : Option Command) (a b : Command) → o ≡ Some a → o ≡ Some b → a ≡ b

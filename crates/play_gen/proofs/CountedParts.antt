@@ -28,6 +28,7 @@ use Rattle.play_gen.specs.declared.tally.Tally.{Tally}
 use Rattle.play_gen.specs.declared.counting.Counting.{Counting}
 use Rattle.play_gen.specs.Tallies.{no_counts, reply_counted, frame_counted, is_outside, entry_counted, history_counted, run_counted}
 use Rattle.play_gen.specs.Counting.{request_counted, parts_counted, CountsAt}
+use Rattle.snap_api.proofs.LawsViews.{equal as itself}
 
 -- How lines are written does not matter here.
 abbrev some_style : LineStyle
@@ -56,9 +57,6 @@ begin_counted functions t s e none is =
     let ends : ends_frame s.frames e.request ≡ false = ap (ends_frame s.frames) is in
     let out : is_outside s.frames e.request ≡ false = ap (λ fs. is_outside fs e.request) none ∙ ap (is_outside []) is in
     rw ends (rw out refl)
-
-itself : (n : ℕ) → (n == n) ≡ true
-itself n = elim (eqb_tells n n) [ inl e ↦ e.0 | inr e ↦ absurd (e.1 refl) ]
 
 end_counted : (functions : List Func) (t : Tally) (r : Run) (name : ℕ) → r.standing.frames ≡ name ∷ []
     → entry_counted functions t r.standing (entry r.standing.world 0 (request.Dispose name))

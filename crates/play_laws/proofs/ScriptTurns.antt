@@ -22,6 +22,7 @@ use Rattle.play_laws.specs.Woven.{actor_parts, initial_actor}
 use Rattle.play_laws.specs.Laws.{FramesAreInTurn}
 use Rattle.play_laws.proofs.Callers.{parts_are_of_script}
 use Rattle.play_laws.proofs.Turns.{Alternates, HaveNoFrame, turns}
+use Rattle.lang_ast.proofs.Limits.{none_in}
 
 -- Parts of steps begin and end frames in turn.
 module _ (a : ℕ) (rest : List ActorPart) where
@@ -147,11 +148,6 @@ module _ (f a : ℕ) (other : a ≢ f) where
             steps_none a (actor_parts a actors more) rest (written_out d.steps) (written_none d.steps mine)
         by false e rest = rest
 
--- The passes of a script without faults.
-none_in : {A : Type 0} (xs ys : List A) → xs ++ ys ≡ [] → (xs ≡ []) × (ys ≡ [])
-none_in [] ys h = (refl, h)
-none_in (x ∷ xs) ys h = absurd cc
-
 module _ (states : List State) where
   framer_after : (u : FirstUses) (actor : ℕ) (c : CallForm) → (uses_after_call u actor c).framer ≡ u.framer
   framer_after u actor (form.Take at name kind parent) = refl
@@ -220,7 +216,7 @@ module _ (states : List State) where
       first_framer (text_script (actors_of forms) forms) no_uses refl four
 
 -- Making states takes no snapshot.
-count-states : (w : World BuiltIn) (ss : List State) → length (with_states w ss).snapshots ≡ length w.snapshots
+pub count-states : (w : World BuiltIn) (ss : List State) → length (with_states w ss).snapshots ≡ length w.snapshots
 count-states w [] = refl
 count-states w (s ∷ more) = count-states (world_after_make w (type_of s.initial) s.policy s.initial) more
     ∙ length-map w.snapshots (with_object (record { value = s.initial; stamp = 0 }))

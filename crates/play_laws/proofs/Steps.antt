@@ -10,6 +10,7 @@ use Rattle.play_laws.specs.Woven.{ActorState, SpellsAll}
 use Rattle.play_laws.specs.FirstParts.{replies_of, calls_given, state_given}
 use Rattle.play_laws.specs.Laws.{NothingIsSpelled, CallIsSpelled, PartIsPassed, AllIsSpelled}
 use Rattle.play_laws.proofs.Lists.{head_or, tail_of}
+use Rattle.snap_shared.proofs.SplitSeats.{map-snoc}
 
 -- What the calls of parts must be, by the first part's request.
 abbrev BeginsPart : Notes → ActorPart → List ActorPart → Option Request → History → Type 0
@@ -167,10 +168,6 @@ calls-snoc n (p ∷ ps) (x ∷ rs) r =
       by None same rest = same
       by (Some q) same rest =
           ap (λ l. record { caller = p.actor; request = q; reply = x } ∷ l) (rest (notes_after n p.part x))
-
-map-snoc : {A B : Type 0} (f : A → B) (xs : List A) (x : A) → map f (xs ++ x ∷ []) ≡ map f xs ++ f x ∷ []
-map-snoc f [] x = refl
-map-snoc f (y ∷ ys) x = ap (λ l. f y ∷ l) (map-snoc f ys x)
 
 pub call_is_spelled : CallIsSpelled
 call_is_spelled before h n p rest q r s asks =

@@ -35,6 +35,7 @@ use Rattle.play_run.specs.declared.memory.RunMemory.{RunMemory}
 use Rattle.play_run.proofs.RunLogs.{logged_call, logged_end}
 use Rattle.play_run.proofs.Stops.{stops_at_call, stops_in_frame}
 use Rattle.play_run.proofs.OpenFrames.{same_last, few_after, grown, within}
+use Rattle.snap_api.proofs.LawsViews.{equal as itself}
 
 follows_of : (l : Option Map) (m : Map) → MovedOn (unwrap_or l []) m →
     ((x : ℕ) → x < length (unwrap_or l []) → x < length m → (entry_at (unwrap_or l []) x).stamp ≡ (entry_at m x).stamp
@@ -188,9 +189,6 @@ pub begin_line : (t : LineStyle) (functions : List Func) (r : Run) (actor : ℕ)
     → part_lines t functions r (of_actor actor BeginFrame)
     ≡ entry_line t.titles (entry r.standing.world actor (request.TakeFor watcher_number)) ∷ []
 begin_line t functions r actor = refl
-
-itself : (n : ℕ) → (n == n) ≡ true
-itself n = elim (eqb_tells n n) [ inl e ↦ e.0 | inr e ↦ absurd (e.1 refl) ]
 
 -- The map that the open frame shows.
 abbrev pub frame_map : Run → ℕ → Map

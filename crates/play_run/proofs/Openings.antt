@@ -21,7 +21,7 @@ use Rattle.snap_policy.specs.Table.{table, table_fits}
 use Rattle.snap_api.specs.Valid.{IsValid}
 use Rattle.snap_api.specs.declared.data.Entry.{Entry}
 use Rattle.snap_api.specs.World.{World, start, last_of, world_after_make, make_refusal, with_object}
-use Rattle.snap_api.proofs.ValidMade.{valid_start, valid_made, makeable}
+use Rattle.snap_api.proofs.ValidMade.{valid_start, valid_made, makeable, same_type_tells as same_types}
 use Rattle.snap_api.proofs.ValidMoves.{valid_watched}
 use Rattle.lang_script.specs.NamesInMemory.{Holds}
 use Rattle.lang_script.specs.StepCalls.{with_states, opening_world, watcher_number}
@@ -32,6 +32,9 @@ use Rattle.play_run.specs.RunState.{RunFacts, IsRun, IsLogged}
 use Rattle.play_run.proofs.RunLogs.{logged_first}
 use Rattle.recomposer.specs.declared.composition.Composition.{Composition}
 use Rattle.play_run.specs.declared.memory.RunMemory.{RunMemory}
+use Rattle.lang_ast.proofs.Limits.{none_in}
+use Rattle.lang_checks.proofs.Fine.{held}
+use Rattle.play_laws.proofs.ScriptTurns.{count-states}
 
 -- Making states makes no watcher.
 pub lasts-states : (w : World BuiltIn) (ss : List State) → (with_states w ss).lasts ≡ w.lasts
@@ -59,12 +62,6 @@ valid-states w (s ∷ more) fit h =
 -- The opening world is valid.
 pub valid_opening : (states : List State) → StatesFit states → IsValid table (opening_world states)
 valid_opening states fit = valid_watched (valid-states (start 0) states fit (valid_start table 0 (omega arith)))
-
--- Making states takes no snapshot.
-count-states : (w : World BuiltIn) (ss : List State) → length (with_states w ss).snapshots ≡ length w.snapshots
-count-states w [] = refl
-count-states w (s ∷ more) = count-states (world_after_make w (type_of s.initial) s.policy s.initial) more
-    ∙ length-map w.snapshots (with_object (record { value = s.initial; stamp = 0 }))
 
 clock-states : (w : World BuiltIn) (ss : List State) → (with_states w ss).clock ≡ w.clock
 clock-states w [] = refl
@@ -102,33 +99,6 @@ opened {functions = functions} actor states began fit untold stood at same holds
   logged = subst (λ l. IsLogged functions (first_run states began) began l) (sym untold)
       (logged_first functions states began);
 }
-
--- The states of a program without faults fit.
-none_in : {A : Type 0} (xs ys : List A) → xs ++ ys ≡ [] → (xs ≡ []) × (ys ≡ [])
-none_in [] ys h = (refl, h)
-none_in (x ∷ xs) ys h = absurd cc
-
-held : (b : Bool) (k : CheckKind) (at : ℕ) → fault_unless b k at ≡ [] → b ≡ true
-held true k at h = refl
-held false k at h = absurd cc
-
-same_types : (s t : Ty) → same_type s t ≡ true → s ≡ t
-same_types ty.Int ty.Int h = refl
-same_types ty.Bool ty.Bool h = refl
-same_types ty.Text ty.Text h = refl
-same_types ty.Ints ty.Ints h = refl
-same_types ty.Int ty.Bool h = absurd cc
-same_types ty.Int ty.Text h = absurd cc
-same_types ty.Int ty.Ints h = absurd cc
-same_types ty.Bool ty.Int h = absurd cc
-same_types ty.Bool ty.Text h = absurd cc
-same_types ty.Bool ty.Ints h = absurd cc
-same_types ty.Text ty.Int h = absurd cc
-same_types ty.Text ty.Bool h = absurd cc
-same_types ty.Text ty.Ints h = absurd cc
-same_types ty.Ints ty.Int h = absurd cc
-same_types ty.Ints ty.Bool h = absurd cc
-same_types ty.Ints ty.Text h = absurd cc
 
 states-fit : (ss : List State) → states_faults ss ≡ [] → StatesFit ss
 states-fit [] h = tt

@@ -40,6 +40,7 @@ use Rattle.play_run.proofs.OpenFrames.{IsPlainCall, Avoids, same_last, few_after
 use Rattle.play_run.proofs.RunLogs.{logged_call}
 use Rattle.play_run.proofs.Stops.{stops_at_call}
 use Rattle.play_run.proofs.Written.{says_same}
+use Rattle.play_run.proofs.PrintedCalls.{reads_none}
 
 -- A part that keeps the names neither begins nor ends a frame.
 pub is_plain : (p : Part) → KeepsNames p → IsPlain p
@@ -130,15 +131,6 @@ ends_no_other name (request.Read n x) avoids = refl
 ends_no_other name (request.Write n x v) avoids = refl
 ends_no_other name (request.Apply n) avoids = refl
 ends_no_other name (request.Dispose n) avoids = ap (λ b. b || false) (other_number name n (λ e. avoids (sym e)))
-
--- A plain call does not read the snapshot of the open frame.
-reads_none : (q : Request) → reads_frame [] q ≡ false
-reads_none (request.Take parent kind) = refl
-reads_none (request.TakeFor watcher) = refl
-reads_none (request.Read n x) = refl
-reads_none (request.Write n x v) = refl
-reads_none (request.Apply n) = refl
-reads_none (request.Dispose n) = refl
 
 sum_unread : (fs : List ℕ) (n x : ℕ) (a : ℤ) (o : Option Value) (q : Request) → sum_request n x a o ≡ Some q
     → reads_frame fs q ≡ false

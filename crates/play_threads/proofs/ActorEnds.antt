@@ -22,6 +22,7 @@ use Rattle.play_laws.proofs.Steps.{nothing_is_spelled, all_is_spelled}
 use Rattle.play_threads.specs.ActorNotes.{IsNoted}
 use Rattle.play_threads.specs.ActorSteps.{CountsSnapshots, HasCome, HasActed, ActsThrough}
 use Rattle.play_threads.specs.declared.worker.Worker.{Worker}
+use Rattle.snap_shared.proofs.SplitSeats.{length_numbers as below_length}
 
 -- A seat that has seen nothing has no own calls.
 first_none : {W : Type 0} (parts : List ActorPart) (a : ℕ) (seat : Seat W) → seen_by seat ≡ []
@@ -63,11 +64,6 @@ ended o parts a w h = record {
 pub unstarted : {W : Type 0} (parts : List ActorPart) (a : ℕ) (seat : Seat W) → seen_by seat ≡ []
     → HasActed parts a (mine_of seat) true
 unstarted parts a seat none = record { first = first_none parts a seat none; whole = λ e. absurd cc }
-
--- The number at an index.
-below_length : (n : ℕ) → length (numbers_below n) ≡ n
-below_length zero = refl
-below_length (suc n) = let one = below_length n in omega (arith, one, length-append (numbers_below n) (n ∷ []))
 
 pub number_at : (n k d : ℕ) → k < n → slice_index_or (numbers_below n) k d ≡ k
 number_at zero k d within = absurd (omega (arith, within))

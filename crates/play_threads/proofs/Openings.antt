@@ -16,6 +16,7 @@ use Rattle.lang_script.specs.StepCalls.{with_states, opening_world}
 use Rattle.play_run.proofs.Openings.{makes-state}
 use Rattle.play_run.specs.Opening.{StatesFit}
 use Rattle.play_threads.specs.ActorSteps.{CountsSnapshots}
+use Rattle.play_laws.proofs.ScriptTurns.{count-states as states_one}
 
 states_count : (w : World BuiltIn) (ss : List State) → StatesFit ss → CountsSnapshots w
     → CountsSnapshots (with_states w ss)
@@ -45,12 +46,6 @@ states_shaped w (s ∷ more) v = states_shaped (world_after_make w (type_of s.in
 
 pub opening_shaped : (ss : List State) → IsShaped (opening_world ss)
 opening_shaped ss = shaped_watched (with_states (start 0) ss) (states_shaped (start 0) ss (shaped_start 0))
-
-states_one : (w : World BuiltIn) (ss : List State) → length (with_states w ss).snapshots ≡ length w.snapshots
-states_one w [] = refl
-states_one w (s ∷ more) =
-    states_one (world_after_make w (type_of s.initial) s.policy s.initial) more
-    ∙ length-map w.snapshots (with_object (record { value = s.initial; stamp = 0 }))
 
 pub opening_global : (ss : List State) → OnlyGlobalIsLive (opening_world ss)
 opening_global ss n inner = by (is_closed (opening_world ss) n) refl where

@@ -8,7 +8,7 @@ use Rattle.std.proofs.lemmas.Str.{IsUtf8-nil, IsUtf8-take, IsUtf8-drop, IsUtf8-a
 use Rattle.std.proofs.lemmas.Bool.{false_from_ne_true}
 use Rattle.rt_values.specs.Operators.{front, joined_text}
 
-le_or_gt : (m n : ℕ) → (m ≤ n) ⊎ (n < m)
+pub le_or_gt : (m n : ℕ) → (m ≤ n) ⊎ (n < m)
 le_or_gt m n = grind arith
 
 by_le_or_gt : {P : Type 0} (m n : ℕ) → (m ≤ n → P) → (n < m → P) → P
@@ -71,7 +71,7 @@ front-is (suc n) r t utf8 before boundary last =
     earlier shorter lt = by_le_or_gt (suc n) (length t) (λ le. inside (shorter (omega (arith, lt))) le lt)
         (λ gt. past (omega (arith, gt)) lt)
 
-same_truths : (x y : Bool) → (x ≡ true → y ≡ true) → (y ≡ true → x ≡ true) → x ≡ y
+pub same_truths : (x y : Bool) → (x ≡ true → y ≡ true) → (y ≡ true → x ≡ true) → x ≡ y
 same_truths true y f g = sym (f refl)
 same_truths false true f g = g refl
 same_truths false false f g = refl

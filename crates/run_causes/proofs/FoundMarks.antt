@@ -19,6 +19,7 @@ use Rattle.run_causes.specs.TableCauses.{call_cause, found_cause, found_other_ke
 use Rattle.run_causes.proofs.SiblingSteps.{split_at}
 use Rattle.run_causes.proofs.CausesOfRuns.{causes_tell_the_running}
 use Rattle.run_causes.proofs.FoundGroups.{AreTableGroups, found_in_table}
+use Rattle.path_laws.proofs.SiblingMatches.{map-map as map_map}
 
 -- The cause by the kind and the reads of an old group of the table.
 old_cause : (owed : List ℕ) (old : GroupKind) (inside : GroupForest) (f : ℕ) (vs : List Value) (number : ℕ)
@@ -170,10 +171,6 @@ opened_long rs d run lt =
 opened_run : (rs : List Bool) (d : ℕ) (run : Bool) → d < length rs → run_at (take (d + 1) rs ++ run ∷ []) (d + 1) ≡ run
 opened_run rs d run lt =
     get_or_push (take (d + 1) rs) run true (d + 1) (length-take-le (d + 1) rs (omega (arith, lt)))
-
-map_map : {X Y Z : Type 0} (g : Y → Z) (f : X → Y) (xs : List X) → map g (map f xs) ≡ map (λ x. g (f x)) xs
-map_map g f [] = refl
-map_map g f (x ∷ xs) = ap (λ l. g (f x) ∷ l) (map_map g f xs)
 
 -- The paths of the groups inside a group, and of the later siblings.
 parted : (f : Path → Option ℕ) (s : PathStep) (inner later : List Path)

@@ -8,19 +8,12 @@ use Rattle.sexp_text.specs.Forest.{Forest, joined_trees}
 use Rattle.rt_values.specs.Values.{escape, escape_all}
 use Rattle.sexp_text.specs.Layout.{separator, inline_form}
 use Rattle.sexp_text.proofs.Trees.{OneTree, one_atom, one_text, one_list, one_tree}
+use Rattle.rt_values.proofs.PrintedForms.{escaped-more as escape_all-more}
 
 pub escape_all-append : (xs ys : List ℕ) → escape_all (xs ++ ys) ≡ escape_all xs ++ escape_all ys
 escape_all-append [] ys = refl
 escape_all-append (x ∷ xs) ys = ap (λ l. escape x ++ l) (escape_all-append xs ys)
     ∙ sym (append_assoc (escape x) (escape_all xs) (escape_all ys))
-
--- The spelling of a prefix of a string grows by the spelling of the next byte.
-pub escape_all-more : (xs : List ℕ) (i : ℕ) → i < length xs
-    → escape_all (take (i + 1) xs) ≡ escape_all (take i xs) ++ escape (get_or xs i 0)
-escape_all-more xs i lt =
-    ap (λ n. escape_all (take n xs)) (add-one i) ∙ ap escape_all (take-suc xs i 0 lt)
-    ∙ escape_all-append (take i xs) (get_or xs i 0 ∷ [])
-    ∙ ap (λ l. escape_all (take i xs) ++ l) (append-nil (escape (get_or xs i 0)))
 
 -- The rules for printing a string in quotes.
 pub ruleset quotes = (escape_all-more, append_assoc)
@@ -32,7 +25,7 @@ row_one f g due (one_atom at name) = ap (λ l. separator due ++ l ++ inline_form
 row_one f g due (one_text at chars) = simp append_assoc
 row_one f g due (one_list at inner) = simp append_assoc
 
-first_of_view : (ts : List Tree) (i : ℕ) (t : Tree) → i < length ts → t ≡ get_or ts i t
+pub first_of_view : (ts : List Tree) (i : ℕ) (t : Tree) → i < length ts → t ≡ get_or ts i t
     → forest_view (drop i ts) ≡ joined_trees (tree_view t) (forest_view (drop (i + 1) ts))
 first_of_view ts i t lt e =
     ap forest_view (drop-cons ts i t lt) ∙ ap (λ u. joined_trees (tree_view u) (forest_view (drop (suc i) ts))) (sym e)

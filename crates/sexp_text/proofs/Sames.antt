@@ -10,6 +10,7 @@ use Rattle.sexp_text.specs.View.{tree_view, forest_view}
 use Rattle.sexp_text.specs.declared.tree.Tree.{Tree}
 use Rattle.sexp_text.specs.Same.{same_forest}
 use Rattle.sexp_text.proofs.Trees.{OneTree, one_atom, one_text, one_list, one_tree, view-Atom, view-Text, view-List}
+use Rattle.sexp_text.proofs.Layouts.{first_of_view as view_at}
 
 pub and_true : (b : Bool) → (b && true) ≡ b
 and_true true = refl
@@ -44,14 +45,6 @@ none_one : (f g : Forest) → OneTree f → same_forest empty (joined_trees f g)
 none_one f g (one_atom at a) = refl
 none_one f g (one_text at a) = refl
 none_one f g (one_list at i) = refl
-
--- The trees from an index are the tree at that index and the trees after it.
-view_at : (ts : List Tree) (i : ℕ) (t : Tree) → i < length ts → t ≡ get_or ts i t →
-    forest_view (drop i ts) ≡ joined_trees (tree_view t) (forest_view (drop (i + 1) ts))
-view_at ts i t lt e =
-    ap forest_view (drop-cons ts i t lt)
-    ∙ ap (λ (u : Tree). joined_trees (tree_view u) (forest_view (drop (suc i) ts))) (sym e)
-    ∙ ap (λ (n : ℕ). joined_trees (tree_view t) (forest_view (drop n ts))) (sym (add-one i))
 
 pub step : (ts : List Tree) (i : ℕ) (t u : Tree) (us : List Tree) → i < length ts → t ≡ get_or ts i t →
     same_forest (forest_view (drop i ts)) (forest_view (u ∷ us))

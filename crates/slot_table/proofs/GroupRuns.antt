@@ -4,7 +4,7 @@ use Rattle.std.proofs.lemmas.List.{get_or-drop}
 use Rattle.rt_groups.specs.declared.groups.Group.{Group}
 use Rattle.slot_table.specs.TableGroups.{group_at}
 
-one_longer : (gs : List Group) (k : ℕ) (d : Group) → k < length gs → take (suc k) gs ≡ take k gs ++ get_or gs k d ∷ []
+pub one_longer : (gs : List Group) (k : ℕ) (d : Group) → k < length gs → take (suc k) gs ≡ take k gs ++ get_or gs k d ∷ []
 one_longer [] k d inside = absurd (omega (arith, inside))
 one_longer (g ∷ gs) zero d inside = refl
 one_longer (g ∷ gs) (suc k) d inside = ap (λ l. g ∷ l) (one_longer gs k d (omega (arith, inside)))

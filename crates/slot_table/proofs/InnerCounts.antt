@@ -91,7 +91,7 @@ first_of_rest (g ∷ gs) zero inside = record { first = g; is = refl }
 first_of_rest (g ∷ gs) (suc k) inside = let later = first_of_rest gs k (omega (arith, inside)) in
     record { first = later.first; is = later.is }
 
-set_first : (xs : List ℕ) (k v : ℕ) → k < length xs → drop k (set xs k v) ≡ v ∷ drop (suc k) xs
+pub set_first : (xs : List ℕ) (k v : ℕ) → k < length xs → drop k (set xs k v) ≡ v ∷ drop (suc k) xs
 set_first [] k v inside = absurd (omega (arith, inside))
 set_first (x ∷ xs) zero v inside = refl
 set_first (x ∷ xs) (suc k) v inside = set_first xs k v (omega (arith, inside))

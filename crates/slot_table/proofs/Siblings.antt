@@ -7,7 +7,7 @@ use Rattle.rt_groups.specs.PreorderGroups.{preorder, flat_group, flat_kind, flat
 use Rattle.slot_table.specs.ReaderStates.{after_deep, begins_at}
 use Rattle.slot_table.specs.Siblings.{SkippingLeavesTheSiblings}
 
-past_flat : (d k : ℕ) (t : GroupForest) (more : List Kept) → d ≤ k
+pub past_flat : (d k : ℕ) (t : GroupForest) (more : List Kept) → d ≤ k
     → after_deep d (preorder k t ++ more) ≡ after_deep d more
 past_flat d k End more le = refl
 past_flat d k (Read x rest) more le = past_flat d k rest more le
@@ -18,7 +18,7 @@ past_flat d k (Group site n what inside rest) more le =
     ∙ ap (λ l. after_deep d l) (append_assoc (preorder (k + 1) inside) (preorder k rest) more)
     ∙ past_flat d (k + 1) inside (preorder k rest ++ more) (omega (arith, le)) ∙ past_flat d k rest more le
 
-past_none : (d : ℕ) (gs : List Kept) → begins_at d gs ≡ false → after_deep d gs ≡ gs
+pub past_none : (d : ℕ) (gs : List Kept) → begins_at d gs ≡ false → after_deep d gs ≡ gs
 past_none d [] e = refl
 past_none d (g ∷ gs) e = ap (λ b. if b then after_deep d gs else g ∷ gs) e
 
@@ -26,7 +26,7 @@ not_true : (b : Bool) → (b ≡ true → false ≡ true) → b ≡ false
 not_true true f = sym (f refl)
 not_true false f = refl
 
-ends : (d : ℕ) (t : GroupForest) (more : List Kept) → begins_at (d + 1) more ≡ false
+pub ends : (d : ℕ) (t : GroupForest) (more : List Kept) → begins_at (d + 1) more ≡ false
     → begins_at (d + 1) (preorder d t ++ more) ≡ false
 ends d End more e = e
 ends d (Read x rest) more e = ends d rest more e

@@ -18,12 +18,7 @@ use Rattle.snap_ids.proofs.IdLists.{or_cases, contains-at, contains-one, found_a
 use Rattle.snap_ids.proofs.Members.{same_rising, append_has, append_has_left, append_has_right, append_cases, rising_append, has_head, has_tail, none_at}
 use Rattle.snap_ids.proofs.Windows.{window_has, window_of, rising_window, window_zero}
 use Rattle.snap_ids.proofs.LeastIds.{found_from, least_lower}
-
-same_truth : (a b : Bool) → (a ≡ true → b ≡ true) → (b ≡ true → a ≡ true) → a ≡ b
-same_truth true true to of = refl
-same_truth false false to of = refl
-same_truth true false to of = sym (to refl)
-same_truth false true to of = of refl
+use Rattle.rt_values.proofs.TextPrefixes.{same_truths as same_truth}
 
 -- ---- Numbers, and the bits of a number.
 pub length_numbers : (bs : List Block) → length (numbers bs) ≡ length bs

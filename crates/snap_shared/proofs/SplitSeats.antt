@@ -33,7 +33,7 @@ pub map-snoc : {A B : Type 0} (f : A → B) (xs : List A) (x : A) → map f (xs 
 map-snoc f [] x = refl
 map-snoc f (y ∷ ys) x = ap (λ l. f y ∷ l) (map-snoc f ys x)
 
-length_numbers : (n : ℕ) → length (numbers_below n) ≡ n
+pub length_numbers : (n : ℕ) → length (numbers_below n) ≡ n
 length_numbers zero = refl
 length_numbers (suc n) = omega (arith, length-append (numbers_below n) (n ∷ []), length_numbers n)
 

@@ -8,10 +8,7 @@ use Rattle.rt_values.specs.Maps.{contains}
 use Rattle.snap_ids.proofs.Booleans.{same_or_other, or_right, or_none}
 use Rattle.snap_records.specs.Records.{Rec}
 use Rattle.snap_records.specs.Edits.{record_without_ids, chain_without_ids, with_head_id}
-
-or_more : (a b c : Bool) → (a || (b || c)) ≡ ((a || b) || c)
-or_more true b c = refl
-or_more false b c = refl
+use Rattle.snap_ids.proofs.IdLists.{or_assoc as or_more}
 
 pub contains_last : (x y : ℕ) (xs : List ℕ) → contains x (xs ++ y ∷ []) ≡ (contains x xs || y == x)
 contains_last x y [] = or_none (y == x) false refl

@@ -15,6 +15,7 @@ use Rattle.lang_script.specs.Scripts.{actors_of}
 use Rattle.lang_script.specs.ScriptFaults.{TextStep, CallStep, FrameStep, text_script, FirstUses, no_uses, with_taker, uses_after_call, uses_after, fault_if, unknown_name, foreign_name, snapshot_faults, call_faults, step_faults, steps_faults, oversized_faults, long_forms, most_steps, further_actors, forms_wrong_repeats, script_faults}
 use Rattle.lang_script.specs.declared.faults.ScriptStop.{ScriptStop}
 use Rattle.lang_script.specs.declared.faults.ScriptStop.TheVariants as stop
+use Rattle.lang_forms.proofs.Ints.{same_bytes as same_name}
 
 -- The owner of each name, if it has one.
 abbrev pub Owners : Type 0
@@ -52,9 +53,6 @@ no_fault false s h = refl
 pub not_false : (b : Bool) → not b ≡ false → b ≡ true
 not_false true h = refl
 not_false false h = absurd cc
-
-pub same_name : (x : List ℕ) → bytes_eq x x ≡ true
-same_name x = (bytes_decides x x).1 refl
 
 -- The owners have the takers so far.
 abbrev Extend : FirstUses → Owners → Type 0
