@@ -1,9 +1,12 @@
 // A source and a sink over std's readers and writers. Both are trusted: no clause says which bytes they pass.
-ghost use Rattle.std.specs.Prelude.{◌≡◌, ◌≤◌, None};
+ghost use Rattle.std.specs.Prelude.{◌≡◌, ◌≤◌, None, IfSome, length};
 ghost use Rattle.rt_streams.specs.Streams.{HasCause, Rose};
 
 use crate::{Failed, Sink, Source};
-use std::io::{Read, Write};
+use std::io::{ErrorKind, Read, Write};
+
+// How often an interrupted read is tried before it counts as failed.
+const MOST_TRIES: u32 = 1_000_000;
 
 // Adds 1 to the count of faults.
 fn failed(faults: &mut u64) -> Failed
@@ -14,8 +17,22 @@ fn failed(faults: &mut u64) -> Failed
     Failed
 }
 
+// Reads once, and again after each interruption. Returns `None` if the reader failed.
+fn read_uninterrupted<R: Read>(inner: &mut R, buf: &mut [u8]) -> Option<usize>
+    ensures bound { IfSome result (λ n. n ≤ length buf.new) }
+{
+    for _ in 0..MOST_TRIES {
+        match inner.read(buf) {
+            Ok(count) => return Some(count),
+            Err(e) if e.kind() == ErrorKind::Interrupted => {}
+            Err(_) => return None,
+        }
+    }
+    None
+}
+
 /// A source over a reader, such as standard input. The bytes left are unknown. Each `Err` of the reader
-/// is a fault. This project's own rule.
+/// is a fault, except that an interrupted read is tried again. This project's own rule.
 #[derive(Drop)]
 pub struct Reading<R> {
     inner: R,
@@ -45,12 +62,12 @@ impl<R: Read> Source for Reading<R> {
     ghost faults = { λ s. s.faults };
 
     fn read(&mut self, buf: &mut [u8]) -> Result<usize, Failed> {
-        match self.inner.read(buf) {
-            Ok(count) => {
+        match read_uninterrupted(&mut self.inner, buf) {
+            Some(count) => {
                 self.taken = self.taken.wrapping_add(count as u64);
                 Ok(count)
             }
-            Err(_) => Err(failed(&mut self.faults)),
+            None => Err(failed(&mut self.faults)),
         }
     }
 }
