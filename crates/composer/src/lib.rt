@@ -4,9 +4,10 @@
 //! that are owed, skips what is not, and writes the groups of the frame (`SlotWriter`) into a draft. `Held` is what a
 //! composition keeps between frames, and `Owed` the objects that changed. `specs/FrameDrafts.antt` defines the draft of
 //! a frame.
-//! Promises: the draft has exactly the groups of the forest composed from scratch, with the numbers of kept nodes; the
-//! calls that run, the cells that are calculated and the reads are exactly those of the frame's report; a draft that
-//! fails leaves what is held unchanged.
+//! Promises:
+//! - The draft has exactly the groups of the forest composed from scratch, with the numbers of kept nodes.
+//! - The calls that run, the cells that are calculated and the reads are exactly those of the frame's report.
+//! - A draft that fails leaves what is held unchanged.
 #![tactic(auto)]
 
 mod compared;

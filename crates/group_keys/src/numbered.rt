@@ -71,7 +71,8 @@ impl NumberedSiblings {
         }
     }
 
-    // Returns the offset of the entry of `key`, or no offset if it is a key of another site, no number or too low.
+    // Returns the index of the entry of `key`, or `None` if the key has another site, is not a number, or is below the
+    // lowest number.
     #[inline(always)]
     fn offset_of(&self, key: &SiblingKey) -> Option<usize>
         ensures { result ≡ sibling_offset self.now.site self.now.lowest key.now }

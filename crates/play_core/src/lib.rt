@@ -6,10 +6,12 @@
 //!
 //! In Compose this is the work of `Recomposer` and its caller: take a frame's snapshot, compose the program in
 //! it, dispose it, and keep what the next frame owes. `compose_play` passes the world and the real streams.
-//! Promises: `run` writes exactly the lines that plain copied maps and composing from scratch give; `threads` writes
-//! such lines of a history in which the actors take turns in some order; `check` writes the trees of the forms of the
-//! program and the script, one a line; `gen` writes the counts of the history that its definition gives; each status
-//! has its cause; after a fault, or out of memory, what was written is a first part of this.
+//! Promises:
+//! - `run` writes exactly the lines that plain copied maps and composing from scratch give.
+//! - `threads` writes such lines of a history in which the actors take turns in some order.
+//! - `check` writes the trees of the forms of the program and the script, one a line.
+//! - `gen` writes the counts of the history that its definition gives.
+//! - Each status has its cause. After a fault, or out of memory, what was written is a first part of this.
 #![tactic(auto)]
 
 mod canonical;
