@@ -14,6 +14,6 @@ pub use lang_eval::{
     Env, bind, eval, eval_noting, evaluate_all, evaluate_attributes, evaluate_keys,
 };
 pub use recompose_laws::{
-    calls_reach_earlier_functions, cells_may_be_kept, evaluation_agrees,
-    own_parts_agree, skipping_is_right,
+    calls_reach_earlier_functions, cells_may_be_kept, evaluation_agrees, own_parts_agree,
+    skipping_is_right,
 };

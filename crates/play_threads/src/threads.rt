@@ -6,8 +6,8 @@ ghost use Rattle.play_run.specs.RunPromise.{FaultsAfter};
 ghost use Rattle.play_threads.specs.ActorsCalls.{AreActorsCalls};
 ghost use Rattle.play_threads.specs.WovenText.{HasNoFault, WritesWovenText};
 
-use lang_checks::Checked;
 use crate::actors::{ActorsEnd, run_actors};
+use lang_checks::Checked;
 use play_run::{Job, Stop, replay, set_up_world};
 use rt_streams::{Gate, Sink};
 use rt_values::NoMemory;

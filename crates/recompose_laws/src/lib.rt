@@ -29,6 +29,6 @@ pub use laws::{
     path_work_is_sibling_work, refreshing_is_scratch, walk_does_the_frame, work_goes_in_order,
 };
 pub use skipping::{
-    calls_reach_earlier_functions, cells_may_be_kept, evaluation_agrees,
-    own_parts_agree, skipping_is_right,
+    calls_reach_earlier_functions, cells_may_be_kept, evaluation_agrees, own_parts_agree,
+    skipping_is_right,
 };

@@ -7,8 +7,8 @@ use crate::moving::{pad_all, raise_noted, stamp_settled};
 use crate::noting::{clear_noted_objects, fill, note_settled, noted, set_noted};
 use crate::settling::{ReadRecords, Settled, lesser, settled_of};
 use rt_values::{Name, NoMemory, ObjectNo};
-use snap_policy::Policy;
 use snap_api::{Choice, choose, is_conflict};
+use snap_policy::Policy;
 use std::alloc::Global;
 
 impl<P: Policy> RecordWorld<P> {

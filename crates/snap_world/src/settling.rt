@@ -4,8 +4,8 @@ ghost use Rattle.snap_api.specs.Choices.{is_clash};
 ghost use Rattle.snap_world.specs.Choices.{choice_of_settled, lesser};
 
 use rt_values::{ObjectNo, StampedValue};
-use snap_records::RecordNo;
 use snap_api::Choice;
+use snap_records::RecordNo;
 
 /// The stamped value that an object has in the parent after an apply, and whether the parent takes it from the
 /// snapshot.

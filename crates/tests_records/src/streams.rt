@@ -30,7 +30,10 @@ impl Read for Interrupted<'_> {
 #[test]
 fn an_interrupted_read_is_tried_again(rt: HostRuntime) -> Result<(), Fail> {
     let bytes = TEXT;
-    let reader = Interrupted { bytes, is_next: false };
+    let reader = Interrupted {
+        bytes,
+        is_next: false,
+    };
     assert!(rt; reads(rt.alloc(), &mut Reading::new(reader)));
     Ok(())
 }
