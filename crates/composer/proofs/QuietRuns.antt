@@ -18,7 +18,6 @@ use Rattle.slot_table.specs.ReaderStates.{after_deep}
 use Rattle.composer.specs.ComposerState.{ComposerState, put_group, skipped_inside, skipped_groups}
 use Rattle.composer.specs.QuietRuns.{has_owed, group_run, with_run, IsLevelEnd}
 use Rattle.composer.proofs.Machine.{same_state}
-use Rattle.slot_table.proofs.GroupRuns.{one_longer}
 
 -- Neither list has an owed object among its reads.
 
@@ -142,6 +141,12 @@ runs_joined groups i j k low high =
     (drop-drop (j - i) i groups ∙ ap (λ n. drop n groups) whole)
 
 -- One more group of a run.
+
+one_longer : (gs : List TableGroup) (k : ℕ) (d : TableGroup) → k < length gs
+    → take (suc k) gs ≡ take k gs ++ get_or gs k d ∷ []
+one_longer [] k d inside = absurd (omega (arith, inside))
+one_longer (g ∷ gs) zero d inside = refl
+one_longer (g ∷ gs) (suc k) d inside = ap (λ l. g ∷ l) (one_longer gs k d (omega (arith, inside)))
 
 run_grows : (groups : List TableGroup) (from i : ℕ) → from ≤ i → i < length groups
     → group_run groups from (i + 1) ≡ group_run groups from i ++ group_at groups i ∷ []

@@ -37,7 +37,6 @@ use Rattle.composer.proofs.OldParts.{since_all}
 use Rattle.composer.proofs.Machine.{same_state, composed_is, skipped_is, state_after_work, state_after_walk}
 use Rattle.composer.proofs.Reaching.{reached_at}
 use Rattle.recompose_laws.proofs.Idles.{how_many-without_numbers, nodes-without_numbers}
-use Rattle.slot_table.proofs.KeptRuns.{nodes_append as nodes_more}
 
 -- A frame that skips all old groups.
 pub skipped_frame : (functions : List Func) (root : ℕ) (seen m : Map) (old : GroupForest) (next : ℕ) (owed : List ℕ)
@@ -137,6 +136,10 @@ skipped_reached functions p root t m owed s k r =
     reached_at (skipped_frame functions root k.seen m t s.next owed s refl k.kept k.part.same) r
 
 -- The nodes among the groups of a forest.
+
+nodes_more : (gs hs : List FlatGroup) → nodes_in (gs ++ hs) ≡ nodes_in gs + nodes_in hs
+nodes_more [] hs = omega arith
+nodes_more (g ∷ gs) hs = let e = nodes_more gs hs in omega (arith, e)
 
 node_kept : (what : GroupKind) → is_node_kind (flat_kind what) ≡ is_node what
 node_kept (Call f vs) = refl

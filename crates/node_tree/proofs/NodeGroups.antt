@@ -15,7 +15,6 @@ use Rattle.node_tree.specs.Calls.{attribute_of}
 use Rattle.node_tree.specs.FlatNodes.{FlatNode, flat_node, flat_nodes}
 use Rattle.node_tree.specs.NodeGroups.{node_count, later_counts, node_of_kind, inner_nodes, nodes_among}
 use Rattle.node_tree.proofs.ChildCalls.{attributes_back}
-use Rattle.slot_table.proofs.InnerCounts.{set_first}
 
 flat_joined : (s t : Nodes) → flat_nodes (joined_nodes s t) ≡ flat_nodes s ++ flat_nodes t
 flat_joined tree.None t = refl
@@ -138,6 +137,11 @@ count_is [] zero = refl
 count_is [] (suc i) = refl
 count_is (g ∷ gs) zero = refl
 count_is (g ∷ gs) (suc i) = count_is gs i
+
+set_first : (xs : List ℕ) (k v : ℕ) → k < length xs → drop k (set xs k v) ≡ v ∷ drop (suc k) xs
+set_first [] k v inside = absurd (omega (arith, inside))
+set_first (x ∷ xs) zero v inside = refl
+set_first (x ∷ xs) (suc k) v inside = set_first xs k v (omega (arith, inside))
 
 drop_past : {X : Type 0} (xs : List X) (i : ℕ) → length xs ≤ i → drop i xs ≡ []
 drop_past [] zero h = refl

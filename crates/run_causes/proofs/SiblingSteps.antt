@@ -10,7 +10,6 @@ use Rattle.slot_table.specs.TableGroups.{group_at}
 use Rattle.slot_table.specs.ReaderStates.{after_deep, begins_at}
 use Rattle.run_causes.specs.OldMatches.{table_key, key_indexes, inside_at, AreSiblings}
 use Rattle.run_causes.proofs.OldForests.{key_kept, preorder_count}
-use Rattle.slot_table.proofs.Siblings.{past_flat as past_forest, past_none, ends as begins_level}
 
 -- The group at an index, and those after it.
 pub next_of : (groups gs : List TableGroup) (g : TableGroup) (i : ℕ) → drop i groups ≡ g ∷ gs
@@ -19,6 +18,30 @@ next_of [] gs g zero e = absurd cc
 next_of [] gs g (suc i) e = absurd cc
 next_of (h ∷ hs) gs g zero e = (cc, cc)
 next_of (h ∷ hs) gs g (suc i) e = next_of hs gs g i e
+
+-- The groups of a forest at a depth are not less deep.
+past_forest : (e k : ℕ) (t : GroupForest) (more : List TableGroup) → e ≤ k
+    → after_deep e (preorder k t ++ more) ≡ after_deep e more
+past_forest e k End more le = refl
+past_forest e k (Read x rest) more le = past_forest e k rest more le
+past_forest e k (Group site number what inside rest) more le =
+    ap (λ b. if b then after_deep e ((preorder (k + 1) inside ++ preorder k rest) ++ more)
+    else flat_group k site number (flat_kind what) (flat_reads what inside)
+    ∷ ((preorder (k + 1) inside ++ preorder k rest) ++ more)) (le-leb e k le)
+    ∙ ap (λ l. after_deep e l) (append_assoc (preorder (k + 1) inside) (preorder k rest) more)
+    ∙ past_forest e (k + 1) inside (preorder k rest ++ more) (omega (arith, le)) ∙ past_forest e k rest more le
+
+past_none : (e : ℕ) (gs : List TableGroup) → begins_at e gs ≡ false → after_deep e gs ≡ gs
+past_none e [] h = refl
+past_none e (g ∷ gs) h = ap (λ b. if b then after_deep e gs else g ∷ gs) h
+
+-- A forest at a depth, and what follows if that is not deeper, begins with no deeper group.
+begins_level : (d : ℕ) (t : GroupForest) (more : List TableGroup) → begins_at (d + 1) more ≡ false
+    → begins_at (d + 1) (preorder d t ++ more) ≡ false
+begins_level d End more h = h
+begins_level d (Read x rest) more h = begins_level d rest more h
+begins_level d (Group site number what inside rest) more h =
+    is_false (nat_le (d + 1) d) (λ e. let le = leb-true (d + 1) d e in omega (arith, le))
 
 deep_count : (e : ℕ) (gs : List TableGroup) → length (after_deep e gs) ≤ length gs
 deep_count e [] = omega arith
