@@ -317,6 +317,17 @@ gathered_from ms n handed m xs zs a k low same is g = gathered ms n handed zs a 
     (subst (λ (l : Member). Gathers (λ i. (l.id < i) × (is_owned ms i ≡ true)) l.invalid zs) (sym same)
     (subst (λ (l : List ℕ). Gathers (λ i. (m.id < i) × (is_owned ms i ≡ true)) l zs) is g))
 
+-- No member has an id that was not handed out yet.
+pub none_new : (ms : List Member) (from handed : ℕ) (xs : List ℕ) → AreMembers ms handed → handed ≤ from → IsRising xs
+    → Gathers (λ i. (from < i) × (is_owned ms i ≡ true)) xs xs
+none_new ms from handed xs a past r = record {
+  rising = r;
+  more = λ i h. h;
+  only = λ i h. inl h;
+  each = λ i w. let p = any_member (λ (m : Member). contains i m.ids) ms w.1 in
+      absurd (omega (arith, w.0, past, (a.sound.owned p.0 i p.1).1));
+}
+
 -- An item at an index within the list is the same whatever stands for an index past the end.
 pub at_index : (ms : List Member) (n : ℕ) (m : Member) → n < length ms → m ≡ slice_index_or ms n m → member ms n ≡ m
 at_index ms n m there is = any ms n there ∙ sym is where

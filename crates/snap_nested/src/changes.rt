@@ -54,6 +54,26 @@ fn add_owned(members: &[Member], held: &IdList, from: u64, all: &mut IdSet) -> R
     Ok(())
 }
 
+// Adds the ids greater than `from` that members have to `all`. Looks at no member if `from` is the last id that was
+// handed out.
+fn add_new(
+    members: &[Member],
+    held: &IdList,
+    handed: u64,
+    from: u64,
+    all: &mut IdSet,
+) -> Result<(), NoMemory>
+    requires open_names { AreOpen held.now members.now }
+    requires sound { AreMembers members.now handed }
+    requires rising { IsRising all.old }
+    ensures { OnOk result (Gathers (λ i. (from < i) × (is_owned members.now i ≡ true)) all.old all.new) }
+{
+    if from >= handed {
+        return Ok(());
+    }
+    add_owned(members, held, from, all)
+}
+
 // Returns the invalid ids of a member that gets a new id. Looks only for ids that were handed out since the member's
 // last one: members have all of its invalid ids already.
 fn seal(
@@ -73,7 +93,7 @@ fn seal(
 {
     let member = &members[name as usize];
     let mut all = member.invalid.copy(alloc)?;
-    add_owned(members, held, member.id, &mut all)?;
+    add_new(members, held, handed, member.id, &mut all)?;
     Ok(all)
 }
 
