@@ -61,7 +61,7 @@ given_kept d (Some k) None next a = absurd a
 given_kept d (Some k) (Some f) next a = ap (λ n. (n, next)) a.number
 
 pub number_of_kept : (d : ℕ) (k : Option KeyInfo) (f : Option Found) (what : GroupKind) (next : ℕ) → Alike d k f
-    → written_number (flat_kind what) k next ≡ frames.number_of what f next
+    → written_number (flat_kind what) k next ≡ frames.given_number what f next
 number_of_kept d k f (Call g vs) next a = refl
 number_of_kept d k f (Node kind attributes) next a = given_kept d k f next a
 number_of_kept d k f (Key v) next a = refl
