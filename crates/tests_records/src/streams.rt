@@ -12,6 +12,7 @@ fn reads<S: Source>(alloc: Global, source: &mut S) -> bool {
 }
 
 // A reader that is interrupted before each read.
+#[derive(Drop)]
 struct Interrupted<'a> {
     bytes: &'a [u8],
     is_next: bool,
