@@ -10,6 +10,8 @@ use Rattle.rt_values.specs.Maps.{Map, value_at}
 use Rattle.lang_ast.specs.declared.binding.Binding.{Binding}
 use Rattle.lang_ast.specs.declared.syntax.Operator.{Operator}
 use Rattle.lang_ast.specs.declared.syntax.Operator.TheVariants as operator
+use Rattle.lang_ast.specs.declared.syntax.Source.{Source}
+use Rattle.lang_ast.specs.declared.syntax.Source.TheVariants as source
 use Rattle.lang_ast.specs.Terms.{Expr, Literal, Variable, Get, Apply, Exprs, none, more, Named}
 use Rattle.lang_ast.specs.ResultsWithReads.{Reading, pure_reading, mapped_reading, with}
 
@@ -70,13 +72,17 @@ is_pick _ = false
 abbrev pub operand_taken : Value → ℕ
 operand_taken condition = if is_true condition then 1 else 2
 
+-- The value of what a `Get` names, and the object that is read for it.
+abbrev pub source_reading : Map → Source → Reading Value
+source_reading m (source.State x) = record { value = value_at m x; reads = x ∷ [] }
+
 abbrev mutual
   -- A `Get` reads its object. A `Pick` evaluates its condition and then one other operand. The other operators
   -- evaluate all operands from left to right.
   pub eval : Map → Expr → Bindings → Reading Value
   eval m (Literal at v) env = pure_reading v
   eval m (Variable name) env = pure_reading (lookup env name.text)
-  eval m (Get at name x) env = record { value = value_at m x; reads = x ∷ [] }
+  eval m (Get at name source) env = source_reading m source
   eval m (Apply at op es) env =
       if is_pick op then with (eval_nth m es 0 env) (λ condition. eval_nth m es (operand_taken condition) env)
       else mapped_reading (apply op) (eval_all m es env)

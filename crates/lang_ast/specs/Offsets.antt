@@ -6,5 +6,5 @@ use Rattle.lang_ast.specs.Terms.{Expr, Literal, Variable, Get, Apply}
 abbrev pub expr_offset : Expr → ℕ
 expr_offset (Literal at v) = at
 expr_offset (Variable name) = name.at
-expr_offset (Get at name number) = at
+expr_offset (Get at name source) = at
 expr_offset (Apply at op es) = at

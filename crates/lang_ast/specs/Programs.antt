@@ -2,18 +2,25 @@
 use Rattle.std.specs.Prelude.{ℕ, ◌==◌, suc, List, [], ◌∷◌, ◌++◌, Bool, Option, Some, None, codes, if◌then◌else◌}
 use Rattle.std.specs.Str.{bytes_eq}
 use Rattle.lang_ast.specs.declared.program.State.{State}
+use Rattle.lang_ast.specs.declared.program.Version.{Version}
 use Rattle.lang_ast.specs.declared.program.Program as declared
-use Rattle.lang_ast.specs.Terms.{Stmt, Node, Call, Key, If, For, Let, Remember, Stmts, done, next, Func}
+use Rattle.lang_ast.specs.Terms.{Stmt, Call, If, Block, Stmts, done, next, Func}
 use Rattle.lang_ast.specs.SyntaxView.{functions_view}
 
--- The offset of the header, the states by number, and the functions by index.
+-- The offset of the header, the version, the states by number, and the functions by index.
 pub record Program : Type 0 where
   pub header : ℕ
+  pub version : Version
   pub states : List State
   pub functions : List Func
 
 abbrev pub program_view : declared.Program → Program
-program_view p = record { header = p.header; states = p.states.items; functions = functions_view p.functions.items }
+program_view p = record {
+  header = p.header;
+  version = p.version;
+  states = p.states.items;
+  functions = functions_view p.functions.items;
+}
 
 -- The functions of a program in memory.
 abbrev pub functions_of : declared.Program → List Func
@@ -29,26 +36,17 @@ root_number (f ∷ fs) = if is_root f then 0 else suc (root_number fs)
 
 -- The site of a statement.
 abbrev pub site_of : Stmt → ℕ
-site_of (Node at site kind attributes body) = site
 site_of (Call at site name function arguments) = site
-site_of (Key at site key body) = site
 site_of (If at site condition then_branch else_branch) = site
-site_of (For at site name list body) = site
-site_of (Let at site name value body) = site
-site_of (Remember at site name keys value body) = site
+site_of (Block at site head body) = site
 
 abbrev mutual
   -- A statement, and after it the statements inside it, in the order of the text.
   pub statement_with_inner : Stmt → List Stmt
-  statement_with_inner (Node at site kind attributes body) = Node at site kind attributes body ∷ statements_in body
   statement_with_inner (Call at site name function arguments) = Call at site name function arguments ∷ []
-  statement_with_inner (Key at site key body) = Key at site key body ∷ statements_in body
   statement_with_inner (If at site condition then_branch else_branch) =
       If at site condition then_branch else_branch ∷ (statements_in then_branch ++ statements_in else_branch)
-  statement_with_inner (For at site name list body) = For at site name list body ∷ statements_in body
-  statement_with_inner (Let at site name value body) = Let at site name value body ∷ statements_in body
-  statement_with_inner (Remember at site name keys value body) =
-      Remember at site name keys value body ∷ statements_in body
+  statement_with_inner (Block at site head body) = Block at site head body ∷ statements_in body
 
   -- Each statement of a body, followed by the statements inside it, in the order of the text.
   pub statements_in : Stmts → List Stmt

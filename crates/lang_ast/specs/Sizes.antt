@@ -1,6 +1,6 @@
 -- Trusted: the parts of a program that are too many, too long or nested too deep.
 use Rattle.std.specs.Prelude.{ℕ, ◌+◌, max, nat_lt, List, [], ◌∷◌, ◌++◌, length, map, slice_get, Bool, false, Option, Some, None, if◌then◌else◌}
-use Rattle.lang_ast.specs.Terms.{Expr, Literal, Variable, Get, Apply, Exprs, none, more, Named, Stmt, Node, Call, Key, If, For, Let, Remember, Stmts, done, next, Func, operand_count}
+use Rattle.lang_ast.specs.Terms.{Expr, Literal, Variable, Get, Apply, Exprs, none, more, Named, Head, Node, Key, For, Let, Remember, Stmt, Call, If, Block, Stmts, done, next, Func, operand_count}
 use Rattle.lang_ast.specs.Offsets.{expr_offset}
 use Rattle.lang_ast.specs.declared.program.State.{State}
 use Rattle.lang_ast.specs.declared.syntax.Ident.{Ident}
@@ -43,7 +43,7 @@ abbrev mutual
   pub expr_lengths : Expr → List ℕ
   expr_lengths (Literal at v) = []
   expr_lengths (Variable n) = name_sizes n
-  expr_lengths (Get at n number) = name_sizes n
+  expr_lengths (Get at n source) = name_sizes n
   expr_lengths (Apply at operator es) = offset_if (is_long_list operator (operand_count es)) at ++ exprs_lengths es
 
   pub exprs_lengths : Exprs → List ℕ
@@ -55,7 +55,7 @@ abbrev mutual
   pub nesting : Expr → ℕ
   nesting (Literal at v) = 1
   nesting (Variable n) = 1
-  nesting (Get at n number) = 1
+  nesting (Get at n source) = 1
   nesting (Apply at operator es) = deepest es + 1
 
   pub deepest : Exprs → ℕ
@@ -74,27 +74,25 @@ abbrev pub named_sizes : List Named → List ℕ
 named_sizes [] = []
 named_sizes (n ∷ ns) = name_sizes n.name ++ expr_sizes n.value ++ named_sizes ns
 
+-- The offsets of the oversized parts of the head of a statement at this offset: of a name that is too long, of a node
+-- with too many attributes and of a remember with too many keys, and of the expressions.
+abbrev pub head_sizes : ℕ → Head → List ℕ
+head_sizes at (Node n ns) = name_sizes n ++ offset_if (nat_lt most_parts (length ns)) at ++ named_sizes ns
+head_sizes at (Key e) = expr_sizes e
+head_sizes at (For n e) = name_sizes n ++ expr_sizes e
+head_sizes at (Let n e) = name_sizes n ++ expr_sizes e
+head_sizes at (Remember n ks e) =
+    name_sizes n ++ offset_if (nat_lt most_parts (length ks)) at ++ named_sizes ks ++ expr_sizes e
+
 -- The offsets of the oversized parts of statements in d blocks: of a name that is too long, of a statement that is
--- nested too deep, of a node with too many attributes and of a remember with too many keys, and of the expressions. The
--- body of a statement is in one block more.
+-- nested too deep, and of the heads and the expressions. The body of a statement is in one block more.
 abbrev mutual
   pub stmt_sizes : ℕ → Stmt → List ℕ
-  stmt_sizes d (Node at site n ns body) =
-      name_sizes n ++ offset_if (nat_lt most_parts d) at ++ offset_if (nat_lt most_parts (length ns)) at
-      ++ named_sizes ns
-      ++ stmts_sizes (d + 1) body
   stmt_sizes d (Call at site n function es) = name_sizes n ++ offset_if (nat_lt most_parts d) at ++ exprs_sizes es
-  stmt_sizes d (Key at site e body) = offset_if (nat_lt most_parts d) at ++ expr_sizes e ++ stmts_sizes (d + 1) body
   stmt_sizes d (If at site e a b) = offset_if (nat_lt most_parts d) at ++ expr_sizes e ++ stmts_sizes (d + 1) a
       ++ stmts_sizes (d + 1) b
-  stmt_sizes d (For at site n e body) =
-      name_sizes n ++ offset_if (nat_lt most_parts d) at ++ expr_sizes e ++ stmts_sizes (d + 1) body
-  stmt_sizes d (Let at site n e body) =
-      name_sizes n ++ offset_if (nat_lt most_parts d) at ++ expr_sizes e ++ stmts_sizes (d + 1) body
-  stmt_sizes d (Remember at site n ks e body) =
-      name_sizes n ++ offset_if (nat_lt most_parts d) at ++ offset_if (nat_lt most_parts (length ks)) at
-      ++ named_sizes ks ++ expr_sizes e
-      ++ stmts_sizes (d + 1) body
+  stmt_sizes d (Block at site h body) =
+      offset_if (nat_lt most_parts d) at ++ head_sizes at h ++ stmts_sizes (d + 1) body
 
   pub stmts_sizes : ℕ → Stmts → List ℕ
   stmts_sizes d done = []

@@ -1,9 +1,11 @@
 -- Trusted: the expressions and statements that values in memory represent, without their pointers.
 use Rattle.std.specs.Prelude.{List, map}
-use Rattle.lang_ast.specs.Terms.{Expr, Literal, Variable, Get, Apply, Exprs, Named, Stmt, Node, Call, Key, If, For, Let, Remember, Stmts, Func, exprs, stmts}
+use Rattle.lang_ast.specs.Terms.{Expr, Literal, Variable, Get, Apply, Exprs, Named, Head, Node, Key, For, Let, Remember, Stmt, Call, If, Block, Stmts, Func, exprs, stmts}
 use Rattle.lang_ast.specs.declared.syntax.Expression.{Expression, fold-Expression}
 use Rattle.lang_ast.specs.declared.syntax.Expression.TheOpen.{Expression-F}
 use Rattle.lang_ast.specs.declared.syntax.Named as named
+use Rattle.lang_ast.specs.declared.syntax.Head as declared
+use Rattle.lang_ast.specs.declared.syntax.Head.TheVariants as head
 use Rattle.lang_ast.specs.declared.syntax.Statement.{Statement, fold-Statement}
 use Rattle.lang_ast.specs.declared.syntax.Statement.TheOpen.{Statement-F}
 use Rattle.lang_ast.specs.declared.syntax.Function.{Function}
@@ -12,7 +14,7 @@ use Rattle.lang_ast.specs.declared.syntax.Function.{Function}
 abbrev pub expr_step : Expression-F Expr → Expr
 expr_step (Expression-F.Literal at value) = Literal at value
 expr_step (Expression-F.Variable name) = Variable name
-expr_step (Expression-F.Get at name number) = Get at name number
+expr_step (Expression-F.Get at name source) = Get at name source
 expr_step (Expression-F.Apply at operator operands) = Apply at operator (exprs operands.items)
 
 abbrev pub expr_view : Expression → Expr
@@ -27,18 +29,19 @@ named_view n = record { name = n.name; value = expr_view n.value }
 abbrev pub nameds_view : List named.Named → List Named
 nameds_view ns = map named_view ns
 
+abbrev pub head_view : declared.Head → Head
+head_view (head.Node kind attributes) = Node kind (nameds_view attributes.items)
+head_view (head.Key key) = Key (expr_view key)
+head_view (head.For name list) = For name (expr_view list)
+head_view (head.Let name value) = Let name (expr_view value)
+head_view (head.Remember name keys value) = Remember name (nameds_view keys.items) (expr_view value)
+
 -- One level of a statement.
 abbrev pub stmt_step : Statement-F Stmt → Stmt
-stmt_step (Statement-F.Node at site kind attributes body) =
-    Node at site kind (nameds_view attributes.items) (stmts body.items)
 stmt_step (Statement-F.Call at site name function arguments) = Call at site name function (exprs_view arguments.items)
-stmt_step (Statement-F.Key at site key body) = Key at site (expr_view key) (stmts body.items)
 stmt_step (Statement-F.If at site condition then_branch else_branch) =
     If at site (expr_view condition) (stmts then_branch.items) (stmts else_branch.items)
-stmt_step (Statement-F.For at site name list body) = For at site name (expr_view list) (stmts body.items)
-stmt_step (Statement-F.Let at site name value body) = Let at site name (expr_view value) (stmts body.items)
-stmt_step (Statement-F.Remember at site name keys value body) =
-    Remember at site name (nameds_view keys.items) (expr_view value) (stmts body.items)
+stmt_step (Statement-F.Block at site head body) = Block at site (head_view head) (stmts body.items)
 
 abbrev pub stmt_view : Statement → Stmt
 stmt_view = fold-Statement Stmt stmt_step

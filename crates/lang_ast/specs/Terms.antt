@@ -4,13 +4,14 @@ use Rattle.rt_values.specs.declared.value.Value.{Value}
 use Rattle.lang_ast.specs.declared.syntax.Ident.{Ident}
 use Rattle.lang_ast.specs.declared.syntax.Operator.{Operator}
 use Rattle.lang_ast.specs.declared.syntax.Parameter.{Parameter}
+use Rattle.lang_ast.specs.declared.syntax.Source.{Source}
 
 mutual
-  -- An expression. The number in a `Get` is that of the state object.
+  -- An expression.
   pub data Expr : Type 0 where
     Literal : (at : ℕ) → (value : Value) → Expr
     Variable : (name : Ident) → Expr
-    Get : (at : ℕ) → (name : Ident) → (number : ℕ) → Expr
+    Get : (at : ℕ) → (name : Ident) → (source : Source) → Expr
     Apply : (at : ℕ) → (operator : Operator) → (operands : Exprs) → Expr
 
   -- Expressions in sequence.
@@ -23,16 +24,20 @@ pub record Named : Type 0 where
   pub name : Ident
   pub value : Expr
 
+-- The head of a block: what a statement with a body evaluates before it, and which group or variable it makes.
+pub data Head : Type 0 where
+  Node : (kind : Ident) → (attributes : List Named) → Head
+  Key : (key : Expr) → Head
+  For : (name : Ident) → (list : Expr) → Head
+  Let : (name : Ident) → (value : Expr) → Head
+  Remember : (name : Ident) → (keys : List Named) → (value : Expr) → Head
+
 mutual
   -- A statement, with its offset in the source text and its site.
   pub data Stmt : Type 0 where
-    Node : (at site : ℕ) → (kind : Ident) → (attributes : List Named) → (body : Stmts) → Stmt
     Call : (at site : ℕ) → (name : Ident) → (function : ℕ) → (arguments : Exprs) → Stmt
-    Key : (at site : ℕ) → (key : Expr) → (body : Stmts) → Stmt
     If : (at site : ℕ) → (condition : Expr) → (then_branch else_branch : Stmts) → Stmt
-    For : (at site : ℕ) → (name : Ident) → (list : Expr) → (body : Stmts) → Stmt
-    Let : (at site : ℕ) → (name : Ident) → (value : Expr) → (body : Stmts) → Stmt
-    Remember : (at site : ℕ) → (name : Ident) → (keys : List Named) → (value : Expr) → (body : Stmts) → Stmt
+    Block : (at site : ℕ) → (head : Head) → (body : Stmts) → Stmt
 
   -- Statements in sequence.
   pub data Stmts : Type 0 where

@@ -16,9 +16,11 @@ mod script;
 mod syntax;
 
 pub use binding::Binding;
-pub use program::{Program, State};
+pub use program::{Program, State, Version};
 pub use root::root_number;
 pub use script::{
     CallForm, CallForms, DoForm, Rest, ScriptForm, ScriptForms, SnapshotRef, StepForm, StepForms,
 };
-pub use syntax::{Expression, Function, Ident, Named, Operator, Parameter, Statement};
+pub use syntax::{
+    Expression, Function, Head, Ident, Named, Operator, Parameter, Source, Statement,
+};

@@ -18,11 +18,19 @@ pub struct State {
     pub initial: Value,
 }
 
-/// A program within the limits of size: the offset of its header, its states, and its functions. The first function
-/// with the name `root` is the content of the composition (`setContent`). The type keeps that no part is oversized.
+/// The version of the notation that a program is written in.
+#[derive(Clone, Copy, Debug, PartialEq, Eq)]
+pub enum Version {
+    One,
+}
+
+/// A program within the limits of size: the offset of its header, its version, its states, and its functions. The first
+/// function with the name `root` is the content of the composition (`setContent`). The type keeps that no part is
+/// oversized.
 #[derive(Drop)]
 pub struct Program {
     pub header: usize,
+    pub version: Version,
     pub states: Vec<State>,
     pub functions: Vec<Function>,
     ghost small: { oversized_parts states.items (functions_view functions.items) ≡ [] },

@@ -54,6 +54,13 @@ pub enum Operator {
     At,
 }
 
+/// What the name in a `get` stands for.
+#[derive(Clone, Copy, Debug, PartialEq, Eq)]
+pub enum Source {
+    /// The first state with the name, by its number, or the number of states if no state has the name.
+    State(ObjectNo),
+}
+
 /// An expression.
 #[derive(Drop)]
 pub enum Expression {
@@ -66,12 +73,11 @@ pub enum Expression {
     Variable {
         name: Ident,
     },
-    /// The value of a state object, which counts as a read of it (`State.value`). `number` is the number of the first
-    /// state with this name, or the number of states if no state has it.
+    /// The value of a state object, which counts as a read of it (`State.value`).
     Get {
         at: usize,
         name: Ident,
-        number: ObjectNo,
+        source: Source,
     },
     /// The result of an operator. All operands are evaluated, from left to right, except for `Operator::Pick`.
     Apply {
@@ -88,18 +94,42 @@ pub struct Named {
     pub value: Expression,
 }
 
+/// The head of a block: what a statement with a body evaluates before it, and which group or variable it makes.
+#[derive(Drop)]
+pub enum Head {
+    /// A node of this kind with these attributes. The statements of the body make its children (`ComposeNode`).
+    Node {
+        kind: Ident,
+        attributes: Vec<Named>,
+    },
+    /// A group with a key around the statements of the body (`key`).
+    Key {
+        key: Expression,
+    },
+    /// The statements of the body once for each number of a list, in order, with a variable of this value. A `for`
+    /// makes no group.
+    For {
+        name: Ident,
+        list: Expression,
+    },
+    /// The statements of the body with a variable of this value. A `let` makes no group.
+    Let {
+        name: Ident,
+        value: Expression,
+    },
+    /// A cell that keeps a value as long as its keys are equal (`remember`), and after it the statements of the body
+    /// with a variable of this value. The calculation of the value can use only the names of the keys.
+    Remember {
+        name: Ident,
+        keys: Vec<Named>,
+        value: Expression,
+    },
+}
+
 /// A statement of a composable. Statements are numbered from 1 in source order over the whole program. This number is
 /// the site of the groups that the statement makes, as the positional key that the compiler plugin gives.
 #[derive(Drop)]
 pub enum Statement {
-    /// A node of this kind with these attributes. The statements of the body make its children (`ComposeNode`).
-    Node {
-        at: usize,
-        site: u32,
-        kind: Ident,
-        attributes: Vec<Named>,
-        body: Vec<Statement>,
-    },
     /// A call of a composable, whose body makes the children of its group (`startRestartGroup`). `function` is the
     /// index of an earlier function with this name, or the number of earlier functions if none of them has it.
     Call {
@@ -109,13 +139,6 @@ pub enum Statement {
         function: usize,
         arguments: Vec<Expression>,
     },
-    /// The statements of the body inside a group with a key (`key`).
-    Key {
-        at: usize,
-        site: u32,
-        key: Expression,
-        body: Vec<Statement>,
-    },
     /// One of two lists of statements. An `if` makes no group.
     If {
         at: usize,
@@ -124,31 +147,11 @@ pub enum Statement {
         then_branch: Vec<Statement>,
         else_branch: Vec<Statement>,
     },
-    /// The statements of the body once for each number of a list, in order, with a variable of this value. A `for`
-    /// makes no group.
-    For {
+    /// A head, and the statements that it governs.
+    Block {
         at: usize,
         site: u32,
-        name: Ident,
-        list: Expression,
-        body: Vec<Statement>,
-    },
-    /// The statements of the body with a variable of this value. A `let` makes no group.
-    Let {
-        at: usize,
-        site: u32,
-        name: Ident,
-        value: Expression,
-        body: Vec<Statement>,
-    },
-    /// A cell that keeps a value as long as its keys are equal (`remember`), and after it the statements of the body
-    /// with a variable of this value. The calculation of the value can use only the names of the keys.
-    Remember {
-        at: usize,
-        site: u32,
-        name: Ident,
-        keys: Vec<Named>,
-        value: Expression,
+        head: Head,
         body: Vec<Statement>,
     },
 }
