@@ -2,20 +2,16 @@
 use Rattle.std.proofs.Common.{ℕ, zero, suc, ◌+◌, ◌*◌, ◌<◌, ◌≤◌, ◌≡◌, List, [], ◌∷◌, length, get_or, take, ap, ◌∙◌, arith}
 use Rattle.std.specs.List.{sum_by}
 use Rattle.std.proofs.lemmas.List.Sums.{sum_by_more_le}
-use Rattle.lang_ast.specs.Terms.{Stmt, Node, Call, Key, If, For, Let, Remember, Stmts, done, next}
+use Rattle.lang_ast.specs.Terms.{Stmt, Call, If, Block, Stmts, done, next}
 use Rattle.lang_ast.specs.SyntaxView.{stmt_view, stmts_view}
 use Rattle.lang_ast.specs.declared.syntax.Statement.{Statement}
 use Rattle.lang_ast.specs.declared.syntax.Function.{Function}
 
 abbrev mutual
   pub stmt_size : Stmt → ℕ
-  stmt_size (Node at site kind attributes body) = suc (stmts_size body)
   stmt_size (Call at site name function arguments) = 1
-  stmt_size (Key at site key body) = suc (stmts_size body)
   stmt_size (If at site condition then_branch else_branch) = suc (stmts_size then_branch + stmts_size else_branch)
-  stmt_size (For at site name list body) = suc (stmts_size body)
-  stmt_size (Let at site name e body) = suc (stmts_size body)
-  stmt_size (Remember at site name keys e body) = suc (stmts_size body)
+  stmt_size (Block at site head body) = suc (stmts_size body)
 
   pub stmts_size : Stmts → ℕ
   stmts_size done = 0

@@ -9,7 +9,7 @@ use Rattle.rt_groups.specs.GroupForest as trail
 use Rattle.rt_groups.specs.Frames.{most_groups}
 use Rattle.lang_ast.specs.declared.binding.Binding.{Binding}
 use Rattle.lang_ast.specs.declared.syntax.Parameter.{Parameter}
-use Rattle.lang_ast.specs.Terms.{Stmt, Node, Call, Key, If, For, Let, Remember, Stmts, done, next, Func}
+use Rattle.lang_ast.specs.Terms.{Head, Node, Key, For, Let, Remember, Stmt, Call, If, Block, Stmts, done, next, Func}
 use Rattle.lang_ast.specs.ResultsWithReads.{Reading}
 use Rattle.lang_ast.specs.Evaluation.{Bindings, new_binding, eval, eval_all, eval_named}
 
@@ -39,36 +39,38 @@ meaning_at (f ∷ fs) (suc n) arguments = meaning_at fs n arguments
 abbrev pub attribute : Binding → Attribute
 attribute b = record { name = b.name; value = b.value }
 
+-- The forest of a block: its head is evaluated, and `go` gives the forest of its body for the variables in scope there.
+abbrev pub composed_block : Map → ℕ → Head → Bindings → (Bindings → GroupForest) → GroupForest
+-- A node: its attributes are evaluated, then its body makes its children.
+composed_block m site (Node kind attributes) env go =
+    forest_after (eval_named m attributes env)
+    (λ all. group site (trail.Node kind.text (map attribute all)) (go env))
+-- A key: its value is evaluated, then its body makes its children.
+composed_block m site (Key key) env go = forest_after (eval m key env) (λ v. group site (trail.Key v) (go env))
+-- The body once for each item, in order, with a variable of this value.
+composed_block m site (For name list) env go =
+    forest_after (eval m list env)
+    (λ v. turns (λ i. go (env ++ new_binding name.text (value.Int i) ∷ [])) (items_of v))
+-- The body with a variable of this value.
+composed_block m site (Let name e) env go =
+    forest_after (eval m e env) (λ v. go (env ++ new_binding name.text v ∷ []))
+-- A cell: its keys are evaluated, and its value is calculated with only the names of the keys. The groups of the body
+-- follow it as siblings.
+composed_block m site (Remember name keys e) env go =
+    forest_after (eval_named m keys env) (λ ks. forest_after (eval m e ks) (λ v.
+    Group site 0 (trail.Cell (map (λ k. k.value) ks) v) End (go (env ++ new_binding name.text v ∷ []))))
+
 abbrev mutual
   -- The forest that a statement makes, where `fs` contains the meanings of the earlier functions.
   pub run : Map → List Meaning → Stmt → Bindings → GroupForest
-  -- A node: its attributes are evaluated, then its body makes its children.
-  run m fs (Node at site kind attributes body) env =
-      forest_after (eval_named m attributes env)
-      (λ all. group site (trail.Node kind.text (map attribute all)) (run_all m fs body env))
   -- A call: the caller evaluates the arguments, then the body of the function makes its children.
   run m fs (Call at site name function arguments) env =
       forest_after (eval_all m arguments env) (λ vs. group site (trail.Call function vs) (meaning_at fs function vs))
-  -- A key: its value is evaluated, then its body makes its children.
-  run m fs (Key at site key body) env =
-      forest_after (eval m key env) (λ v. group site (trail.Key v) (run_all m fs body env))
   -- The first list of statements if the condition is true, else the second.
   run m fs (If at site condition then_branch else_branch) env =
       forest_after (eval m condition env)
       (λ v. if is_true v then run_all m fs then_branch env else run_all m fs else_branch env)
-  -- The body once for each item, in order, with a variable of this value.
-  run m fs (For at site name list body) env =
-      forest_after (eval m list env)
-      (λ v. turns (λ i. run_all m fs body (env ++ new_binding name.text (value.Int i) ∷ [])) (items_of v))
-  -- The body with a variable of this value.
-  run m fs (Let at site name e body) env =
-      forest_after (eval m e env) (λ v. run_all m fs body (env ++ new_binding name.text v ∷ []))
-  -- A cell: its keys are evaluated, and its value is calculated with only the names of the keys. The groups of the
-  -- body follow it as siblings.
-  run m fs (Remember at site name keys e body) env =
-      forest_after (eval_named m keys env) (λ ks. forest_after (eval m e ks) (λ v.
-      Group site 0 (trail.Cell (map (λ k. k.value) ks) v) End
-      (run_all m fs body (env ++ new_binding name.text v ∷ []))))
+  run m fs (Block at site head body) env = composed_block m site head env (λ inner. run_all m fs body inner)
 
   -- The forests of statements in sequence.
   pub run_all : Map → List Meaning → Stmts → Bindings → GroupForest

@@ -12,7 +12,8 @@ use Rattle.lang_ast.specs.declared.syntax.Ident.{Ident}
 use Rattle.lang_ast.specs.declared.syntax.Operator.{Operator}
 use Rattle.lang_ast.specs.declared.syntax.Operator.TheVariants as operator
 use Rattle.lang_ast.specs.declared.syntax.Parameter.{Parameter}
-use Rattle.lang_ast.specs.Terms.{Expr, Literal, Variable, Get, Apply, none, Named, Stmt, Node, Call, Key, For, Remember, done, Func, exprs, stmts}
+use Rattle.lang_ast.specs.declared.syntax.Source.TheVariants as source
+use Rattle.lang_ast.specs.Terms.{Expr, Literal, Variable, Get, Apply, none, Named, Head, Node, Key, For, Remember, Stmt, Call, Block, Stmts, done, Func, exprs, stmts}
 use Rattle.lang_ast.specs.ResultsWithReads.{Reading}
 use Rattle.lang_ast.specs.Evaluation.{eval}
 use Rattle.compose_model.specs.Composing.{forest}
@@ -29,13 +30,16 @@ abbrev number : ℕ → Expr
 number n = Literal 0 (value.Int (pos n))
 
 abbrev state : ℕ → Expr
-state x = Get 0 (name []) x
+state x = Get 0 (name []) (source.State x)
 
 abbrev applied : Operator → List Expr → Expr
 applied op es = Apply 0 op (exprs es)
 
 abbrev named : List ℕ → Expr → Named
 named text e = record { name = name text; value = e }
+
+abbrev block : ℕ → Head → Stmts → Stmt
+block site head body = Block 0 site head body
 
 abbrev func : List Parameter → List Stmt → Func
 func parameters body = record { at = 0; name = name []; parameters = parameters; body = stmts body }
@@ -59,10 +63,10 @@ told ran calculated reads groups nodes =
 
 abbrev rows : List Func
 rows = func []
-    (For 0 1 (name (codes "i")) (state 0)
-    (stmts (Key 0 2 (variable (codes "i"))
-    (stmts (Node 0 3 (name (codes "Row"))
-    (named (codes "item") (variable (codes "i")) ∷ []) done ∷ [])) ∷ [])) ∷ []) ∷ []
+    (block 1 (For (name (codes "i")) (state 0))
+    (stmts (block 2 (Key (variable (codes "i")))
+    (stmts (block 3 (Node (name (codes "Row")) (named (codes "item") (variable (codes "i")) ∷ [])) done ∷ [])) ∷ []))
+    ∷ []) ∷ []
 
 abbrev three : ℕ → ℕ → ℕ → GroupForest
 three i j k = forest rows 0 (values (value.Ints (pos i ∷ pos j ∷ pos k ∷ []) ∷ []))
@@ -87,9 +91,9 @@ RowsUnderKeys =
 -- Calls: a leaf that reads a state, called by a function with a parameter, called by the root.
 
 abbrev calls : List Func
-calls = func [] (Node 0 1 (name (codes "Leaf")) (named (codes "a") (state 0) ∷ []) done ∷ [])
+calls = func [] (block 1 (Node (name (codes "Leaf")) (named (codes "a") (state 0) ∷ [])) done ∷ [])
     ∷ func (integer (codes "n") ∷ [])
-    (Node 0 2 (name (codes "Mid")) (named (codes "n") (variable (codes "n")) ∷ [])
+    (block 2 (Node (name (codes "Mid")) (named (codes "n") (variable (codes "n")) ∷ []))
     (stmts (Call 0 3 (name (codes "leaf")) 0 none ∷ [])) ∷ [])
     ∷ func [] (Call 0 4 (name (codes "mid")) 1 (exprs (number 7 ∷ [])) ∷ []) ∷ []
 
@@ -114,10 +118,10 @@ CallsRunAlone =
 
 abbrev cells : List Func
 cells = func []
-    (Remember 0 1 (name (codes "v")) (named (codes "k") (state 0) ∷ [])
-    (applied operator.Multiply (variable (codes "k") ∷ variable (codes "k") ∷ []))
-    (stmts (Node 0 2 (name (codes "Text"))
-    (named (codes "v") (variable (codes "v")) ∷ named (codes "z") (state 1) ∷ []) done ∷ [])) ∷ []) ∷ []
+    (block 1 (Remember (name (codes "v")) (named (codes "k") (state 0) ∷ [])
+    (applied operator.Multiply (variable (codes "k") ∷ variable (codes "k") ∷ [])))
+    (stmts (block 2 (Node (name (codes "Text"))
+    (named (codes "v") (variable (codes "v")) ∷ named (codes "z") (state 1) ∷ [])) done ∷ [])) ∷ []) ∷ []
 
 abbrev remembered : ℕ → ℕ → GroupForest
 remembered k z = forest cells 0 (values (value.Int (pos k) ∷ value.Int (pos z) ∷ []))
@@ -145,11 +149,12 @@ abbrev below : Expr
 below = applied operator.Range (number 0 ∷ state 0 ∷ [])
 
 abbrev loops : List Func
-loops = func [] (Node 0 1 (name (codes "Head")) (named (codes "m") (state 1) ∷ []) done ∷ [])
+loops = func [] (block 1 (Node (name (codes "Head")) (named (codes "m") (state 1) ∷ [])) done ∷ [])
     ∷ func []
     (Call 0 2 (name (codes "head")) 0 none
-    ∷ For 0 3 (name (codes "i")) below
-    (stmts (For 0 4 (name (codes "j")) below (stmts (Node 0 5 (name (codes "Dot")) [] done ∷ [])) ∷ [])) ∷ []) ∷ []
+    ∷ block 3 (For (name (codes "i")) below)
+    (stmts (block 4 (For (name (codes "j")) below) (stmts (block 5 (Node (name (codes "Dot")) []) done ∷ [])) ∷ []))
+    ∷ []) ∷ []
 
 abbrev looped : ℕ → ℕ → GroupForest
 looped n m = forest loops 1 (values (value.Int (pos n) ∷ value.Int (pos m) ∷ []))
