@@ -2,6 +2,7 @@
 use Rattle.std.proofs.Common.{ℕ, zero, suc, List, [], ◌∷◌, ◌++◌, ◌≡◌, refl, ap, ◌∙◌, Bool, true, false, if◌then◌else◌}
 use Rattle.rt_values.specs.declared.value.Value.{Value}
 use Rattle.rt_values.specs.Maps.{Map}
+use Rattle.lang_ast.specs.declared.syntax.Source.TheVariants as source
 use Rattle.lang_ast.specs.Terms.{Expr, Literal, Variable, Get, Apply, Exprs, none, more, Named}
 use Rattle.lang_ast.specs.ResultsWithReads.{Reading, mapped_reading, with}
 use Rattle.lang_ast.specs.Evaluation.{Bindings, new_binding, apply, is_pick, operand_taken, eval, eval_all, eval_nth, eval_named}
@@ -34,7 +35,7 @@ mutual
       → eval m e env ≡ eval m' e env
   eval_agree m m' (Literal at v) env a = refl
   eval_agree m m' (Variable name) env a = refl
-  eval_agree m m' (Get at name x) env a = ap (λ (v : Value). record { value = v; reads = x ∷ [] }) a.0
+  eval_agree m m' (Get at name (source.State x)) env a = ap (λ (v : Value). record { value = v; reads = x ∷ [] }) a.0
   eval_agree m m' (Apply at op es) env a =
       choice_agree m m' (is_pick op)
       (with (eval_nth m es 0 env) (λ c. eval_nth m es (operand_taken c) env))

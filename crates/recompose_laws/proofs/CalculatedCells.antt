@@ -4,67 +4,36 @@ use Rattle.rt_values.specs.declared.value.Value.{Value}
 use Rattle.rt_values.specs.Maps.{Map}
 use Rattle.rt_groups.specs.GroupForest.{GroupForest, End, Read, Group, GroupKind}
 use Rattle.rt_groups.specs.Paths.{GroupKey, sibling, same_sibling, Found, nth, matching_sibling, inside_of}
-use Rattle.lang_ast.specs.Terms.{Named, Stmt, Node, Call, Key, If, For, Let, Remember, Stmts, done, next, Func}
-use Rattle.lang_ast.specs.Programs.{statement_with_inner, statements_in, functions_statements, Each}
-use Rattle.lang_ast.proofs.Statements.{each_apart}
+use Rattle.lang_ast.specs.Terms.{Named, Head, For, Let, Remember, Stmts, Stmt, Call, If, Block}
 use Rattle.lang_ast.specs.ResultsWithReads.{Reading}
 use Rattle.lang_ast.specs.Evaluation.{Bindings, new_binding, eval, eval_named}
 use Rattle.compose_model.specs.Composing.{Meaning}
 use Rattle.recompose_laws.specs.Numbering.{without_numbers}
-use Rattle.recompose_laws.specs.CalculatedCells.{Calculation, IsCalculatedFor, CellsAreCalculated, IsFoundCalculated, CalculatesAtSite, StmtCalculates, StmtsCalculate, FunctionsCalculate, KeptCellsAreCalculated, named_with, PureCalculationsAreBySite}
+use Rattle.recompose_laws.specs.CalculatedCells.{Calculation, IsCalculatedFor, CellsAreCalculated, IsFoundCalculated, Calculates, KeptCellsAreCalculated, named_with, PureCalculationsAreBySite}
 use Rattle.recompose_laws.proofs.Calculations.{cells_may_be_kept}
-use Rattle.recompose_laws.proofs.ForestProperties.{StatementFacts, AnyReads, IsForestProperty, AllHold, meanings_hold}
+use Rattle.recompose_laws.proofs.ForestProperties.{head_group, Allows, StatementFacts, AnyReads, IsForestProperty, AllHold, meanings_hold}
 
 -- The property that cells have calculated values, for statements whose calculations `calc` gives.
 calculated_cells : (calc : Calculation) (m : Map) (fs : List Meaning) → AllHold (CellsAreCalculated calc) fs
-    → IsForestProperty m fs AnyReads (CellsAreCalculated calc) (StmtCalculates calc) (StmtsCalculate calc)
+    → IsForestProperty m fs AnyReads (CellsAreCalculated calc) (Calculates calc)
 calculated_cells calc m fs calls = record {
   none = tt;
   read = λ x xs r. (tt, λ t h. h);
-  split = λ s ss h. h;
   facts = facts;
 }
   where
-    facts : (s : Stmt) (env : Bindings) → StmtCalculates calc s
-        → StatementFacts m fs AnyReads (CellsAreCalculated calc) (StmtsCalculate calc) s env
-    facts (Node at site kind attributes body) env h = (tt, h, λ t u f g. (tt, f, g))
+    made : (at site : ℕ) (head : Head) (body : Stmts) (env : Bindings) → Calculates calc (Block at site head body)
+        → Allows (CellsAreCalculated calc) site (head_group m head env)
+    made at site (For name list) body env h = tt
+    made at site (Let name e) body env h = tt
+    made at site (Remember name keys e) body env h = λ t u f g. ((h m env).0, f, g)
+    made at site _ body env h = λ t u f g. (tt, f, g)
+
+    facts : (s : Stmt) (env : Bindings) → Calculates calc s
+        → StatementFacts m fs AnyReads (CellsAreCalculated calc) s env
     facts (Call at site name function arguments) env h = (tt, λ u g. (tt, calls function _, g))
-    facts (Key at site key body) env h = (tt, h, λ t u f g. (tt, f, g))
-    facts (If at site condition then_branch else_branch) env h = (tt, h.0, h.1)
-    facts (For at site name list body) env h = (tt, h)
-    facts (Let at site name e body) env h = (tt, h)
-    facts (Remember at site name keys e body) env h = (tt, tt, h.1, λ u g. ((h.0 m env).0, tt, g))
-
--- If a statement is a `remember`, `calc` gives the values of its calculation.
-abbrev pub Calculates : Calculation → Stmt → Type 0
-Calculates calc (Remember at site name keys e body) = CalculatesAtSite calc site keys e
-Calculates calc _ = Unit {0}
-
-mutual
-  inner_calculate : (calc : Calculation) (s : Stmt) → Each (Calculates calc) (statement_with_inner s)
-      → StmtCalculates calc s
-  inner_calculate calc (Node at site kind attributes body) h = all_calculate calc body h.1
-  inner_calculate calc (Call at site name function arguments) h = tt
-  inner_calculate calc (Key at site key body) h = all_calculate calc body h.1
-  inner_calculate calc (If at site condition a b) h =
-      let both = each_apart (Calculates calc) (statements_in a) (statements_in b) h.1 in
-      (all_calculate calc a both.0, all_calculate calc b both.1)
-  inner_calculate calc (For at site name list body) h = all_calculate calc body h.1
-  inner_calculate calc (Let at site name e body) h = all_calculate calc body h.1
-  inner_calculate calc (Remember at site name keys e body) h = (h.0, all_calculate calc body h.1)
-
-  all_calculate : (calc : Calculation) (ss : Stmts) → Each (Calculates calc) (statements_in ss) → StmtsCalculate calc ss
-  all_calculate calc done h = tt
-  all_calculate calc (next s ss) h =
-      let both = each_apart (Calculates calc) (statement_with_inner s) (statements_in ss) h in
-      (inner_calculate calc s both.0, all_calculate calc ss both.1)
-
-pub functions_calculate : (calc : Calculation) (fs : List Func) → Each (Calculates calc) (functions_statements fs)
-    → FunctionsCalculate calc fs
-functions_calculate calc [] h = tt
-functions_calculate calc (f ∷ fs) h =
-    let both = each_apart (Calculates calc) (statements_in f.body) (functions_statements fs) h in
-    (all_calculate calc f.body both.0, functions_calculate calc fs both.1)
+    facts (If at site condition then_branch else_branch) env h = tt
+    facts (Block at site head body) env h = (tt, made at site head body env h)
 
 numbered_calculated : (calc : Calculation) (t : GroupForest) → CellsAreCalculated calc (without_numbers t)
     → CellsAreCalculated calc t
@@ -77,7 +46,7 @@ pub kept_cells_are_calculated : KeptCellsAreCalculated
 kept_cells_are_calculated calc m functions root old h e =
     numbered_calculated calc old
     (subst (λ (t : GroupForest). CellsAreCalculated calc t) (sym e)
-    (tt, meanings_hold (calculated_cells calc m) (FunctionsCalculate calc) (λ f fs g. g) functions tt h root [], tt))
+    (tt, meanings_hold (calculated_cells calc m) functions tt h root [], tt))
 
 -- Lookup in a forest with calculated cells.
 pub found_calculated : (calc : Calculation) (s : GroupKey) (n : ℕ) (t : GroupForest)

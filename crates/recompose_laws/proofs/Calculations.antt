@@ -1,5 +1,5 @@
 -- An expression without a `Get` reads nothing.
-use Rattle.std.proofs.Common.{ℕ, zero, suc, List, [], ◌∷◌, ◌++◌, ◌≡◌, refl, ap, ◌∙◌, sym, subst, Bool, true, false, ◌||◌, if◌then◌else◌}
+use Rattle.std.proofs.Common.{ℕ, zero, suc, List, [], ◌∷◌, ◌++◌, ◌≡◌, refl, ap, ◌∙◌, sym, subst, Bool, true, false, if◌then◌else◌}
 use Rattle.std.proofs.lemmas.Bool.{or_parts}
 use Rattle.rt_values.specs.Maps.{Map}
 use Rattle.lang_ast.specs.Terms.{Expr, Literal, Variable, Get, Apply, Exprs, none, more}
@@ -20,7 +20,7 @@ mutual
   reads_none : (m : Map) (e : Expr) (env : Bindings) → has_get e ≡ false → (eval m e env).reads ≡ []
   reads_none m (Literal at v) env h = refl
   reads_none m (Variable name) env h = refl
-  reads_none m (Get at name number) env h = absurd cc
+  reads_none m (Get at name source) env h = absurd cc
   reads_none m (Apply at op es) env h =
       choice_none (is_pick op) (with (eval_nth m es 0 env) (λ c. eval_nth m es (operand_taken c) env))
       (mapped_reading (apply op) (eval_all m es env))

@@ -5,17 +5,16 @@ use Rattle.rt_values.specs.Maps.{Map}
 use Rattle.rt_groups.specs.GroupForest.{GroupForest, End, Read, Group, GroupKind}
 use Rattle.rt_groups.specs.GroupForest as trail
 use Rattle.rt_groups.specs.Paths.{GroupKey, sibling, same_sibling, Found, nth, matching_sibling, inside_of}
-use Rattle.lang_ast.specs.Terms.{Stmt, Node, Call, Key, If, For, Let, Remember, Stmts, Func}
-use Rattle.lang_ast.specs.Programs.{statement_with_inner, statements_in, Each}
+use Rattle.lang_ast.specs.Terms.{Head, For, Let, Stmt, Call, If, Block, Stmts, Func}
+use Rattle.lang_ast.specs.Programs.{statements_in, Each}
 use Rattle.lang_ast.specs.Evaluation.{Bindings, eval_all}
-use Rattle.lang_ast.proofs.Statements.{each_apart}
 use Rattle.compose_model.specs.Composing.{Meaning, bind, meaning, meaning_at, meanings}
 use Rattle.recompose_laws.proofs.Meanings.{meaning_found, meaning_none}
 use Rattle.recompose_laws.specs.Numbering.{without_numbers}
 use Rattle.recompose_laws.specs.MadeCalls.{IsMadeInside, IsMade, IsFoundMade, CallsBelow, AreOrdered, KeptCallsAreMade}
 use Rattle.recompose_laws.proofs.Plain.{meaning_plain}
 use Rattle.recompose_laws.proofs.Refreshes.{split_at}
-use Rattle.recompose_laws.proofs.ForestProperties.{StatementFacts, AnyReads, IsForestProperty, body_holds}
+use Rattle.recompose_laws.proofs.ForestProperties.{head_group, Allows, StatementFacts, AnyReads, IsForestProperty, body_holds}
 
 -- Lookup in a forest with made calls.
 
@@ -97,27 +96,23 @@ AllBelow k ss = Each (CallsBelow k) (statements_in ss)
 
 -- The property that calls are made, for statements that call only the first `k` functions.
 front_calls : (m : Map) (all : List Func) (k : ℕ) (fs : List Meaning) → FrontMade m all k fs
-    → IsForestProperty m fs AnyReads (IsMade m all) (λ s. Each (CallsBelow k) (statement_with_inner s))
-    (AllBelow k)
+    → IsForestProperty m fs AnyReads (IsMade m all) (CallsBelow k)
 front_calls m all k fs front = record {
   none = tt;
   read = λ x xs r. (tt, λ t h. h);
-  split = λ s ss h. each_apart (CallsBelow k) (statement_with_inner s) (statements_in ss) h;
   facts = facts;
 }
   where
-    facts : (s : Stmt) (env : Bindings) → Each (CallsBelow k) (statement_with_inner s)
-        → StatementFacts m fs AnyReads (IsMade m all) (AllBelow k) s env
-    facts (Node at site kind attributes body) env h = (tt, h.1, λ t u f g. (tt, f, g))
+    made : (site : ℕ) (head : Head) (env : Bindings) → Allows (IsMade m all) site (head_group m head env)
+    made site (For name list) env = tt
+    made site (Let name e) env = tt
+    made site _ env = λ t u f g. (tt, f, g)
+
+    facts : (s : Stmt) (env : Bindings) → CallsBelow k s → StatementFacts m fs AnyReads (IsMade m all) s env
     facts (Call at site name function arguments) env h =
-        let f = front function (eval_all m arguments env).value h.0 in (tt, λ u g. (f.0, f.1, g))
-    facts (Key at site key body) env h = (tt, h.1, λ t u f g. (tt, f, g))
-    facts (If at site condition then_branch else_branch) env h =
-        let both = each_apart (CallsBelow k) (statements_in then_branch) (statements_in else_branch) h.1 in
-        (tt, both.0, both.1)
-    facts (For at site name list body) env h = (tt, h.1)
-    facts (Let at site name e body) env h = (tt, h.1)
-    facts (Remember at site name keys e body) env h = (tt, tt, h.1, λ u g. (tt, tt, g))
+        let f = front function (eval_all m arguments env).value h in (tt, λ u g. (f.0, f.1, g))
+    facts (If at site condition then_branch else_branch) env h = tt
+    facts (Block at site head body) env h = (tt, made site head env)
 
 ordered_at : (fs : List Func) (k f : ℕ) (d : Func) → f < length fs → AreOrdered k fs
     → AllBelow (k + f) (get_or fs f d).body

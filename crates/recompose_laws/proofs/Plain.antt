@@ -6,13 +6,14 @@ use Rattle.rt_groups.specs.GroupForest.{GroupForest, End, Read, Group, GroupKind
 use Rattle.rt_groups.specs.GroupForest as trail
 use Rattle.rt_groups.specs.Paths.{Path, GroupKey, sibling, step, occurrence, matching_sibling, inside_of, at_path}
 use Rattle.rt_groups.specs.Frames.{meets, given_number, numbered_forest}
-use Rattle.lang_ast.specs.Terms.{Stmt, Node, Call, Key, If, For, Let, Remember, Func}
+use Rattle.lang_ast.specs.Terms.{Stmt, Call, If, Block, Func}
+use Rattle.lang_ast.specs.Programs.{functions_statements}
 use Rattle.lang_ast.specs.Evaluation.{Bindings}
 use Rattle.compose_model.specs.Composing.{Meaning, group, meaning_at, meanings, forest}
 use Rattle.recompose_laws.specs.Work.{with_read, work_sum, runs_in, work_at_group, work}
 use Rattle.recompose_laws.specs.Refreshing.{is_owed, refreshed_inside, refreshed_groups}
 use Rattle.recompose_laws.specs.Numbering.{without_numbers, numbered_by_siblings, KeptTrailIsTheForest}
-use Rattle.recompose_laws.proofs.ForestProperties.{Encloses, StatementFacts, AnyReads, AnyStmt, AnyStmts, IsForestProperty, AllHold, meanings_hold}
+use Rattle.recompose_laws.proofs.ForestProperties.{Encloses, allows_all, StatementFacts, AnyReads, AnyStmt, each_any, IsForestProperty, AllHold, meanings_hold}
 
 -- A forest without node numbers.
 abbrev IsPlain : GroupForest → Type 0
@@ -24,27 +25,22 @@ group_plain site what t u f g =
 
 -- The property that no group has a number, for all statements.
 plain_forests : (m : Map) (fs : List Meaning) → AllHold IsPlain fs
-    → IsForestProperty m fs AnyReads IsPlain AnyStmt AnyStmts
+    → IsForestProperty m fs AnyReads IsPlain AnyStmt
 plain_forests m fs calls = record {
   none = refl;
   read = λ x xs r. (tt, λ t h. ap (λ u. Read x u) h);
-  split = λ s ss h. (tt, tt);
   facts = facts;
 }
   where
-    facts : (s : Stmt) (env : Bindings) → AnyStmt s → StatementFacts m fs AnyReads IsPlain AnyStmts s env
-    facts (Node at site kind attributes body) env h = (tt, tt, group_plain site _)
+    facts : (s : Stmt) (env : Bindings) → AnyStmt s → StatementFacts m fs AnyReads IsPlain s env
     facts (Call at site name function arguments) env h = (tt, λ u g. group_plain site _ _ u (calls function _) g)
-    facts (Key at site key body) env h = (tt, tt, group_plain site _)
-    facts (If at site condition then_branch else_branch) env h = (tt, tt, tt)
-    facts (For at site name list body) env h = (tt, tt)
-    facts (Let at site name e body) env h = (tt, tt)
-    facts (Remember at site name keys e body) env h = (tt, tt, tt, λ u g. group_plain site _ End u refl g)
+    facts (If at site condition then_branch else_branch) env h = tt
+    facts (Block at site head body) env h = (tt, allows_all IsPlain site _ (group_plain site))
 
 pub meaning_plain : (m : Map) (functions : List Func) (n : ℕ) (vs : List Value)
     → without_numbers (meaning_at (meanings m functions) n vs) ≡ meaning_at (meanings m functions) n vs
 meaning_plain m functions n vs =
-    meanings_hold (plain_forests m) (λ fs. Unit {0}) (λ f fs h. (tt, tt)) functions refl tt n vs
+    meanings_hold (plain_forests m) functions refl (each_any (functions_statements functions)) n vs
 
 forest_plain : (functions : List Func) (root : ℕ) (m : Map)
     → without_numbers (forest functions root m) ≡ forest functions root m

@@ -5,14 +5,15 @@ use Rattle.rt_values.specs.Maps.{Map, contains}
 use Rattle.rt_groups.specs.GroupForest.{GroupForest, End, Read, Group, GroupKind, asks, own_part}
 use Rattle.rt_groups.specs.GroupForest as trail
 use Rattle.rt_groups.specs.Frames.{meets}
-use Rattle.lang_ast.specs.Terms.{Stmt, Node, Call, Key, If, For, Let, Remember, Func}
+use Rattle.lang_ast.specs.Terms.{Head, For, Let, Stmt, Call, If, Block, Func}
+use Rattle.lang_ast.specs.Programs.{statements_in}
 use Rattle.lang_ast.specs.Evaluation.{Bindings}
 use Rattle.compose_model.specs.Composing.{Meaning, bind, run_all, meaning, meaning_at, meanings, forest}
 use Rattle.recompose_laws.specs.Skipping.{Agree, recomposed_forest}
 use Rattle.recompose_laws.proofs.Skips.{skipping_is_right}
 use Rattle.recompose_laws.proofs.Meanings.{meaning_found, meaning_none}
 use Rattle.recompose_laws.specs.Refreshing.{is_owed, refreshed_groups, SameBut, SameReads, RefreshingIsScratch}
-use Rattle.recompose_laws.proofs.ForestProperties.{StatementFacts, AnyReads, AnyStmt, AnyStmts, IsForestProperty, body_holds}
+use Rattle.recompose_laws.proofs.ForestProperties.{head_group, Allows, StatementFacts, AnyReads, AnyStmt, each_any, IsForestProperty, body_holds}
 
 abbrev pub MadeInside : Map → List Func → GroupKind → GroupForest → (List Func → Type 0) → Type 0
 MadeInside m functions (trail.Call f vs) inside made =
@@ -178,23 +179,24 @@ CallsMade m functions = (f : ℕ) (vs : List Value) → Made m (meaning_at (mean
 
 -- The property that the functions make the calls, for all statements.
 made_forests : (m : Map) (functions : List Func) → CallsMade m functions
-    → IsForestProperty m (meanings m functions) AnyReads (λ t. Made m t functions) AnyStmt AnyStmts
+    → IsForestProperty m (meanings m functions) AnyReads (λ t. Made m t functions) AnyStmt
 made_forests m functions calls = record {
   none = tt;
   read = λ x xs r. (tt, λ t h. h);
-  split = λ s ss h. (tt, tt);
   facts = facts;
 }
   where
+    made : (site : ℕ) (head : Head) (env : Bindings)
+        → Allows (λ t. Made m t functions) site (head_group m head env)
+    made site (For name list) env = tt
+    made site (Let name e) env = tt
+    made site _ env = λ t u f g. (f, g)
+
     facts : (s : Stmt) (env : Bindings) → AnyStmt s
-        → StatementFacts m (meanings m functions) AnyReads (λ t. Made m t functions) AnyStmts s env
-    facts (Node at site kind attributes body) env h = (tt, tt, λ t u f g. (f, g))
+        → StatementFacts m (meanings m functions) AnyReads (λ t. Made m t functions) s env
     facts (Call at site name function arguments) env h = (tt, λ u g. ((refl, calls function _), g))
-    facts (Key at site key body) env h = (tt, tt, λ t u f g. (f, g))
-    facts (If at site condition then_branch else_branch) env h = (tt, tt, tt)
-    facts (For at site name list body) env h = (tt, tt)
-    facts (Let at site name e body) env h = (tt, tt)
-    facts (Remember at site name keys e body) env h = (tt, tt, tt, λ u g. (tt, g))
+    facts (If at site condition then_branch else_branch) env h = tt
+    facts (Block at site head body) env h = (tt, made site head env)
 
 pub calls_made : (n : ℕ) (m : Map) (functions : List Func) → length functions ≤ n → CallsMade m functions
 calls_made zero m functions h f vs =
@@ -204,7 +206,8 @@ calls_made (suc n) m functions h f vs = elim (split_at f (length functions)) [
       let b = body_at functions f below in
       subst (λ (t : GroupForest). Made m t (take f functions)) (sym (b.1 m vs))
       (body_holds (made_forests m (take f functions) (calls_made n m (take f functions)
-      (omega (arith, length-take-le f functions, h, below)))) b.0.body (bind b.0.parameters vs) tt)
+      (omega (arith, length-take-le f functions, h, below)))) b.0.body (bind b.0.parameters vs)
+      (each_any (statements_in b.0.body)))
   | inr past ↦ subst (λ (t : GroupForest). Made m t (take f functions)) (sym (meaning_none m functions f vs past)) tt
 ]
 

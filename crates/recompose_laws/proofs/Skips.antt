@@ -6,10 +6,10 @@ use Rattle.rt_values.specs.Maps.{Map}
 use Rattle.rt_groups.specs.GroupForest.{GroupForest, End, Read, Group, joined_forest, reads_then, asks, own_part, inside_own}
 use Rattle.rt_groups.specs.GroupForest as trail
 use Rattle.rt_groups.proofs.GroupForests.{asks-joined_forest, asks-reads_then}
-use Rattle.lang_ast.specs.Terms.{Stmt, Node, Call, Key, If, For, Let, Remember, Stmts, done, next}
+use Rattle.lang_ast.specs.Terms.{Head, Node, Key, For, Let, Remember, Stmt, Call, If, Block, Stmts, done, next}
 use Rattle.lang_ast.specs.ResultsWithReads.{Reading}
 use Rattle.lang_ast.specs.Evaluation.{Bindings, new_binding, eval, eval_all, eval_named}
-use Rattle.compose_model.specs.Composing.{Meaning, forest_after, turns, group, attribute, run, run_all}
+use Rattle.compose_model.specs.Composing.{Meaning, forest_after, turns, group, attribute, composed_block, run, run_all}
 use Rattle.recompose_laws.specs.Skipping.{Agree, recomposed_forest, recomposed_inside, SkippingIsRight}
 use Rattle.recompose_laws.proofs.Agreeing.{agree_front, agree_back, eval_agree, all_agree, named_agree}
 
@@ -78,38 +78,49 @@ choice_agree : (m m' : Map) (c : Bool) (x y x' y' : GroupForest)
 choice_agree m m' true x y x' y' f g a = f a
 choice_agree m m' false x y x' y' f g a = g a
 
+-- The bodies of a block, composed in two maps, have the same own part if their own reads agree.
+abbrev BodiesAgree : Map → Map → (Bindings → GroupForest) → (Bindings → GroupForest) → Type 0
+BodiesAgree m m' go go' = (inner : Bindings) → Agree m m' (asks (own_part (go inner)))
+    → own_part (go inner) ≡ own_part (go' inner)
+
+block_agree : (m m' : Map) (site : ℕ) (head : Head) (env : Bindings) (go go' : Bindings → GroupForest)
+    → BodiesAgree m m' go go' → Agree m m' (asks (own_part (composed_block m site head env go)))
+    → own_part (composed_block m site head env go) ≡ own_part (composed_block m' site head env go')
+block_agree m m' site (Node kind attributes) env go go' body a =
+    after_agree m m' (eval_named m attributes env) (eval_named m' attributes env) _ _
+    (named_agree m m' attributes env)
+    (λ all b. ap (λ t. group site (trail.Node kind.text (map attribute all)) t) (body env (agree_front m m' _ [] b))) a
+block_agree m m' site (Key key) env go go' body a =
+    after_agree m m' (eval m key env) (eval m' key env) _ _ (eval_agree m m' key env)
+    (λ v b. ap (λ t. group site (trail.Key v) t) (body env (agree_front m m' _ [] b))) a
+block_agree m m' site (For name list) env go go' body a =
+    after_agree m m' (eval m list env) (eval m' list env) _ _ (eval_agree m m' list env)
+    (λ v b. turns_agree m m' (λ i. go (env ++ new_binding name.text (value.Int i) ∷ []))
+    (λ i. go' (env ++ new_binding name.text (value.Int i) ∷ [])) (items_of v)
+    (λ i c. body (env ++ new_binding name.text (value.Int i) ∷ []) c) b) a
+block_agree m m' site (Let name e) env go go' body a =
+    after_agree m m' (eval m e env) (eval m' e env) _ _ (eval_agree m m' e env)
+    (λ v b. body (env ++ new_binding name.text v ∷ []) b) a
+block_agree m m' site (Remember name keys e) env go go' body a =
+    after_agree m m' (eval_named m keys env) (eval_named m' keys env) _ _ (named_agree m m' keys env)
+    (λ ks b. after_agree m m' (eval m e ks) (eval m' e ks) _ _ (eval_agree m m' e ks)
+    (λ v c. ap (λ t. Group site 0 (trail.Cell (map (λ k. k.value) ks) v) End t)
+    (body (env ++ new_binding name.text v ∷ []) c)) b) a
+
 mutual
   run_agree : (m m' : Map) (fs fs' : List Meaning) (s : Stmt) (env : Bindings)
       → Agree m m' (asks (own_part (run m fs s env))) → own_part (run m fs s env) ≡ own_part (run m' fs' s env)
-  run_agree m m' fs fs' (Node at site kind attributes body) env a =
-      after_agree m m' (eval_named m attributes env) (eval_named m' attributes env) _ _
-      (named_agree m m' attributes env)
-      (λ all b. ap (λ t. group site (trail.Node kind.text (map attribute all)) t)
-      (body_agree m m' fs fs' body env (agree_front m m' _ [] b))) a
   run_agree m m' fs fs' (Call at site name function arguments) env a =
       after_agree m m' (eval_all m arguments env) (eval_all m' arguments env) _ _ (all_agree m m' arguments env)
       (λ vs b. refl) a
-  run_agree m m' fs fs' (Key at site key body) env a =
-      after_agree m m' (eval m key env) (eval m' key env) _ _ (eval_agree m m' key env)
-      (λ v b. ap (λ t. group site (trail.Key v) t) (body_agree m m' fs fs' body env (agree_front m m' _ [] b))) a
   run_agree m m' fs fs' (If at site condition then_branch else_branch) env a =
       after_agree m m' (eval m condition env) (eval m' condition env) _ _ (eval_agree m m' condition env)
       (λ v b. choice_agree m m' (is_true v) (run_all m fs then_branch env) (run_all m fs else_branch env)
       (run_all m' fs' then_branch env) (run_all m' fs' else_branch env)
       (body_agree m m' fs fs' then_branch env) (body_agree m m' fs fs' else_branch env) b) a
-  run_agree m m' fs fs' (For at site name list body) env a =
-      after_agree m m' (eval m list env) (eval m' list env) _ _ (eval_agree m m' list env)
-      (λ v b. turns_agree m m' (λ i. run_all m fs body (env ++ new_binding name.text (value.Int i) ∷ []))
-      (λ i. run_all m' fs' body (env ++ new_binding name.text (value.Int i) ∷ [])) (items_of v)
-      (λ i c. body_agree m m' fs fs' body (env ++ new_binding name.text (value.Int i) ∷ []) c) b) a
-  run_agree m m' fs fs' (Let at site name e body) env a =
-      after_agree m m' (eval m e env) (eval m' e env) _ _ (eval_agree m m' e env)
-      (λ v b. body_agree m m' fs fs' body (env ++ new_binding name.text v ∷ []) b) a
-  run_agree m m' fs fs' (Remember at site name keys e body) env a =
-      after_agree m m' (eval_named m keys env) (eval_named m' keys env) _ _ (named_agree m m' keys env)
-      (λ ks b. after_agree m m' (eval m e ks) (eval m' e ks) _ _ (eval_agree m m' e ks)
-      (λ v c. ap (λ t. Group site 0 (trail.Cell (map (λ k. k.value) ks) v) End t)
-      (body_agree m m' fs fs' body (env ++ new_binding name.text v ∷ []) c)) b) a
+  run_agree m m' fs fs' (Block at site head body) env a =
+      block_agree m m' site head env (λ inner. run_all m fs body inner) (λ inner. run_all m' fs' body inner)
+      (λ inner b. body_agree m m' fs fs' body inner b) a
 
   pub body_agree : (m m' : Map) (fs fs' : List Meaning) (body : Stmts) (env : Bindings)
       → Agree m m' (asks (own_part (run_all m fs body env)))
@@ -149,29 +160,35 @@ choice_filled : (fs : List Meaning) (c : Bool) (x y : GroupForest) → x ≡ rec
 choice_filled fs true x y f g = f
 choice_filled fs false x y f g = g
 
+block_filled : (m : Map) (fs : List Meaning) (site : ℕ) (head : Head) (env : Bindings) (go : Bindings → GroupForest)
+    → ((inner : Bindings) → go inner ≡ recomposed_forest fs (own_part (go inner)))
+    → composed_block m site head env go ≡ recomposed_forest fs (own_part (composed_block m site head env go))
+block_filled m fs site (Node kind attributes) env go body =
+    after_filled fs (eval_named m attributes env) _
+    (λ all. ap (λ t. group site (trail.Node kind.text (map attribute all)) t) (body env))
+block_filled m fs site (Key key) env go body =
+    after_filled fs (eval m key env) _ (λ v. ap (λ t. group site (trail.Key v) t) (body env))
+block_filled m fs site (For name list) env go body =
+    after_filled fs (eval m list env) _
+    (λ v. turns_filled fs (λ i. go (env ++ new_binding name.text (value.Int i) ∷ [])) (items_of v)
+    (λ i. body (env ++ new_binding name.text (value.Int i) ∷ [])))
+block_filled m fs site (Let name e) env go body =
+    after_filled fs (eval m e env) _ (λ v. body (env ++ new_binding name.text v ∷ []))
+block_filled m fs site (Remember name keys e) env go body =
+    after_filled fs (eval_named m keys env) _ (λ ks. after_filled fs (eval m e ks) _
+    (λ v. ap (λ t. Group site 0 (trail.Cell (map (λ k. k.value) ks) v) End t)
+    (body (env ++ new_binding name.text v ∷ []))))
+
 mutual
   run_filled : (m : Map) (fs : List Meaning) (s : Stmt) (env : Bindings)
       → run m fs s env ≡ recomposed_forest fs (own_part (run m fs s env))
-  run_filled m fs (Node at site kind attributes body) env =
-      after_filled fs (eval_named m attributes env) _
-      (λ all. ap (λ t. group site (trail.Node kind.text (map attribute all)) t) (body_filled m fs body env))
   run_filled m fs (Call at site name function arguments) env = after_filled fs (eval_all m arguments env) _ (λ vs. refl)
-  run_filled m fs (Key at site key body) env =
-      after_filled fs (eval m key env) _ (λ v. ap (λ t. group site (trail.Key v) t) (body_filled m fs body env))
   run_filled m fs (If at site condition then_branch else_branch) env =
       after_filled fs (eval m condition env) _
       (λ v. choice_filled fs (is_true v) (run_all m fs then_branch env) (run_all m fs else_branch env)
       (body_filled m fs then_branch env) (body_filled m fs else_branch env))
-  run_filled m fs (For at site name list body) env =
-      after_filled fs (eval m list env) _
-      (λ v. turns_filled fs (λ i. run_all m fs body (env ++ new_binding name.text (value.Int i) ∷ [])) (items_of v)
-      (λ i. body_filled m fs body (env ++ new_binding name.text (value.Int i) ∷ [])))
-  run_filled m fs (Let at site name e body) env =
-      after_filled fs (eval m e env) _ (λ v. body_filled m fs body (env ++ new_binding name.text v ∷ []))
-  run_filled m fs (Remember at site name keys e body) env =
-      after_filled fs (eval_named m keys env) _ (λ ks. after_filled fs (eval m e ks) _
-      (λ v. ap (λ t. Group site 0 (trail.Cell (map (λ k. k.value) ks) v) End t)
-      (body_filled m fs body (env ++ new_binding name.text v ∷ []))))
+  run_filled m fs (Block at site head body) env =
+      block_filled m fs site head env (λ inner. run_all m fs body inner) (λ inner. body_filled m fs body inner)
 
   body_filled : (m : Map) (fs : List Meaning) (body : Stmts) (env : Bindings)
       → run_all m fs body env ≡ recomposed_forest fs (own_part (run_all m fs body env))

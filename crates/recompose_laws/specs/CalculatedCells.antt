@@ -4,8 +4,9 @@ use Rattle.rt_values.specs.declared.value.Value.{Value}
 use Rattle.rt_values.specs.Maps.{Map}
 use Rattle.rt_groups.specs.GroupForest.{GroupForest, End, Read, Group, GroupKind, Call, Node, Key, Cell}
 use Rattle.rt_groups.specs.Paths.{Found}
-use Rattle.lang_ast.specs.Terms.{Func, Stmt, Stmts, done, next}
+use Rattle.lang_ast.specs.Terms.{Func, Stmt, Stmts, Block, Remember}
 use Rattle.lang_ast.specs.Terms as terms
+use Rattle.lang_ast.specs.Programs.{statement_with_inner, statements_in, functions_statements, Each}
 use Rattle.lang_ast.specs.Evaluation.{Bindings, new_binding, eval, eval_named}
 use Rattle.recompose_laws.specs.Skipping.{has_get}
 use Rattle.compose_model.specs.Composing.{forest}
@@ -41,27 +42,22 @@ CalculatesAtSite calc site keys e = (m : Map) (env : Bindings) →
     let ks = (eval_named m keys env).value in
     ((eval m e ks).value ≡ calc site (map (λ k. k.value) ks)) × ((eval m e ks).reads ≡ [])
 
-abbrev mutual
-  -- `calc` gives the values of all calculations in a statement.
-  pub StmtCalculates : Calculation → Stmt → Type 0
-  StmtCalculates calc (terms.Node at site kind attributes body) = StmtsCalculate calc body
-  StmtCalculates calc (terms.Call at site name function arguments) = Unit {0}
-  StmtCalculates calc (terms.Key at site key body) = StmtsCalculate calc body
-  StmtCalculates calc (terms.If at site condition then_branch else_branch) =
-      StmtsCalculate calc then_branch × StmtsCalculate calc else_branch
-  StmtCalculates calc (terms.For at site name list body) = StmtsCalculate calc body
-  StmtCalculates calc (terms.Let at site name e body) = StmtsCalculate calc body
-  StmtCalculates calc (terms.Remember at site name keys e body) =
-      CalculatesAtSite calc site keys e × StmtsCalculate calc body
+-- If a statement is a `remember`, `calc` gives the values of its calculation.
+abbrev pub Calculates : Calculation → Stmt → Type 0
+Calculates calc (Block at site (Remember name keys e) body) = CalculatesAtSite calc site keys e
+Calculates calc _ = Unit {0}
 
-  pub StmtsCalculate : Calculation → Stmts → Type 0
-  StmtsCalculate calc done = Unit {0}
-  StmtsCalculate calc (next s ss) = StmtCalculates calc s × StmtsCalculate calc ss
+-- `calc` gives the values of all calculations in a statement.
+abbrev pub StmtCalculates : Calculation → Stmt → Type 0
+StmtCalculates calc s = Each (Calculates calc) (statement_with_inner s)
+
+-- `calc` gives the values of all calculations in the statements of a body.
+abbrev pub StmtsCalculate : Calculation → Stmts → Type 0
+StmtsCalculate calc ss = Each (Calculates calc) (statements_in ss)
 
 -- `calc` gives the values of all calculations in the functions.
 abbrev pub FunctionsCalculate : Calculation → List Func → Type 0
-FunctionsCalculate calc [] = Unit {0}
-FunctionsCalculate calc (f ∷ fs) = StmtsCalculate calc f.body × FunctionsCalculate calc fs
+FunctionsCalculate calc functions = Each (Calculates calc) (functions_statements functions)
 
 -- Law: if `calc` gives the values of all calculations of a program, it gives the values of the cells in each forest
 -- that a frame keeps.

@@ -1,10 +1,10 @@
 -- Trusted: uniqueness of node numbers.
-use Rattle.std.specs.Prelude.{ℕ, ◌+◌, ◌≤◌, ◌==◌, ◌&&◌, ◌≡◌, List, [], ◌∷◌, Bool, true, false, if◌then◌else◌}
+use Rattle.std.specs.Prelude.{ℕ, ◌+◌, ◌≤◌, ◌==◌, ◌&&◌, ◌≡◌, List, [], Bool, true, false, if◌then◌else◌}
 use Rattle.rt_values.specs.Maps.{Map}
 use Rattle.rt_groups.specs.GroupForest.{GroupForest, End, Read, Group, GroupKind, is_node}
 use Rattle.rt_groups.specs.Frames.{numbered_forest}
-use Rattle.lang_ast.specs.Terms.{Stmt, Node, Call, Key, Remember, Func}
-use Rattle.lang_ast.specs.Programs.{statements_in, Each}
+use Rattle.lang_ast.specs.Terms.{Head, Node, For, Let, Stmt, Call, If, Block, Func}
+use Rattle.lang_ast.specs.Programs.{functions_statements, Each}
 use Rattle.compose_model.specs.Composing.{forest}
 
 -- 1 if a group is a node with number `x`, else 0.
@@ -28,19 +28,27 @@ NodesAt at_site (Read x rest) = NodesAt at_site rest
 NodesAt at_site (Group site n what inside rest) =
     (is_node what ≡ at_site site) × NodesAt at_site inside × NodesAt at_site rest
 
+-- Whether a block with this head makes a group.
+abbrev pub makes_group : Head → Bool
+makes_group (For name list) = false
+makes_group (Let name e) = false
+makes_group _ = true
+
+-- Whether a block with this head makes a node.
+abbrev pub makes_node : Head → Bool
+makes_node (Node kind attributes) = true
+makes_node _ = false
+
 -- `at_site` is true for the site of a statement that makes a node, and false for the site of any other statement that
 -- makes a group.
 abbrev pub SiteTells : (ℕ → Bool) → Stmt → Type 0
-SiteTells at_site (Node at site kind attributes body) = true ≡ at_site site
 SiteTells at_site (Call at site name function arguments) = false ≡ at_site site
-SiteTells at_site (Key at site key body) = false ≡ at_site site
-SiteTells at_site (Remember at site name keys e body) = false ≡ at_site site
-SiteTells at_site _ = Unit {0}
+SiteTells at_site (If at site condition then_branch else_branch) = Unit {0}
+SiteTells at_site (Block at site head body) = makes_group head ≡ true → makes_node head ≡ at_site site
 
 -- `at_site` fits the statements of all functions.
 abbrev pub FunctionsTell : (ℕ → Bool) → List Func → Type 0
-FunctionsTell at_site [] = Unit {0}
-FunctionsTell at_site (f ∷ fs) = Each (SiteTells at_site) (statements_in f.body) × FunctionsTell at_site fs
+FunctionsTell at_site functions = Each (SiteTells at_site) (functions_statements functions)
 
 -- Law: a program's nodes are at the sites of its node statements, and the call of the root is at site 0.
 abbrev pub NodesAreAtNodeSites : Type 0

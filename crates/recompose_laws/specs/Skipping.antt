@@ -2,7 +2,7 @@
 use Rattle.std.specs.Prelude.{ℕ, ◌<◌, ◌≤◌, List, [], ◌∷◌, ◌≡◌, length, take, get_or, Bool, true, false, ◌||◌}
 use Rattle.rt_values.specs.declared.value.Value.{Value}
 use Rattle.rt_values.specs.Maps.{Map, value_at}
-use Rattle.rt_groups.specs.GroupForest.{GroupForest, End, Read, Group, GroupKind, Call, Node, Key, Cell, asks, own_part}
+use Rattle.rt_groups.specs.GroupForest.{GroupForest, End, Read, Group, GroupKind, Call, asks, own_part}
 use Rattle.lang_ast.specs.Terms.{Expr, Literal, Variable, Get, Apply, Exprs, none, more, Stmts, Func}
 use Rattle.lang_ast.specs.Evaluation.{Bindings, eval}
 use Rattle.compose_model.specs.Composing.{Meaning, meaning, meaning_at, meanings, run_all}
@@ -55,7 +55,7 @@ abbrev mutual
   pub has_get : Expr → Bool
   has_get (Literal at v) = false
   has_get (Variable name) = false
-  has_get (Get at name number) = true
+  has_get (Get at name source) = true
   has_get (Apply at op es) = have_get es
 
   -- Whether any of these expressions contains a `Get`.
