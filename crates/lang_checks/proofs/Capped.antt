@@ -3,7 +3,7 @@ use Rattle.std.proofs.Common.{arith, ◌≡◌, ◌∙◌, ℕ, ◌+◌, min, ma
 use Rattle.std.proofs.Math.ListN.{get_or-map}
 use Rattle.std.proofs.lemmas.Bool.Decides.{nat_tests}
 use Rattle.std.proofs.lemmas.List.{map-append}
-use Rattle.lang_ast.specs.Terms.{Stmt, Node, Call, Key, If, For, Let, Remember, Stmts, done, next, Func}
+use Rattle.lang_ast.specs.Terms.{Stmt, Call, If, Block, Stmts, done, next, Func}
 use Rattle.lang_checks.specs.declared.faults.CheckKind.TheVariants as kind
 use Rattle.lang_checks.specs.declared.faults.ProgramFault.{ProgramFault}
 use Rattle.lang_checks.specs.FaultOrder.{fault_unless}
@@ -24,16 +24,12 @@ le_cap n = grind (arith, nat_tests)
 
 mutual
   longest_cap : (ds : List ℕ) (s : Stmt) → longest (map cap ds) s ≡ cap (longest ds s)
-  longest_cap ds (Node at site name attributes body) = longest_in_cap ds body
   longest_cap ds (Call at site name f arguments) = get_or-map cap ds f 0
-  longest_cap ds (Key at site key body) = longest_in_cap ds body
   longest_cap ds (If at site condition a b) =
       ap (λ (n : ℕ). max n (longest_in (map cap ds) b)) (longest_in_cap ds a)
       ∙ ap (max (cap (longest_in ds a))) (longest_in_cap ds b)
       ∙ max_cap (longest_in ds a) (longest_in ds b)
-  longest_cap ds (For at site name list body) = longest_in_cap ds body
-  longest_cap ds (Let at site name value body) = longest_in_cap ds body
-  longest_cap ds (Remember at site name keys value body) = longest_in_cap ds body
+  longest_cap ds (Block at site head body) = longest_in_cap ds body
 
   longest_in_cap : (ds : List ℕ) (ss : Stmts) → longest_in (map cap ds) ss ≡ cap (longest_in ds ss)
   longest_in_cap ds done = refl

@@ -1,5 +1,5 @@
 -- Functions in memory by their numbers, and the names of parts in memory.
-use Rattle.std.proofs.Common.{◌≡◌, ℕ, List, [], ◌∷◌, length, map, slice_get, option_map, refl, ap}
+use Rattle.std.proofs.Common.{◌≡◌, ℕ, List, [], ◌∷◌, map, slice_get, option_map, refl, ap}
 use Rattle.std.proofs.lemmas.Option.{slice_get-map}
 use Rattle.lang_ast.proofs.Functions.{how_many_functions}
 use Rattle.lang_ast.specs.Terms.{Named as named, Func}

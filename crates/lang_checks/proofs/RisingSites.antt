@@ -1,5 +1,5 @@
 -- Sites that are counted rise, so each statement is the first one at its site.
-use Rattle.std.proofs.Common.{arith, ◌≡◌, ◌<◌, ◌≤◌, ◌+◌, ◌==◌, ℕ, List, [], ◌∷◌, map, Bool, true, false, Option, Some, None, refl, ap, eqb-true, eq-eqb, if◌then◌else◌}
+use Rattle.std.proofs.Common.{arith, ◌≡◌, ◌<◌, ◌≤◌, ◌+◌, ◌==◌, ℕ, List, [], ◌∷◌, map, Bool, true, false, Some, None, refl, ap, eqb-true, eq-eqb, if◌then◌else◌}
 use Rattle.lang_ast.specs.Terms.{Stmt}
 use Rattle.lang_ast.specs.Programs.{site_of, statement_at, Each}
 use Rattle.lang_ast.proofs.Statements.{each_follows, each_of_both}

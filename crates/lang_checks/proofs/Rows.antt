@@ -1,5 +1,5 @@
 -- Expressions, statements and functions in memory, in order.
-use Rattle.std.proofs.Common.{◌≡◌, ℕ, suc, ◌+◌, ◌<◌, List, ◌∷◌, length, get_or, drop, sym, ap, ◌∙◌, drop-cons, add-one}
+use Rattle.std.proofs.Common.{◌≡◌, ℕ, ◌+◌, ◌<◌, List, [], ◌∷◌, ◌++◌, length, get_or, take, drop, refl, ap}
 use Rattle.lang_ast.proofs.Lists.{drop_item}
 use Rattle.lang_ast.specs.Terms.{more, next}
 use Rattle.lang_ast.specs.SyntaxView.{expr_view, exprs_view, named_view, nameds_view, stmt_view, stmts_view, function_view, functions_view}
@@ -23,3 +23,7 @@ nameds_drop ns i n h is = ap nameds_view (drop_item ns i n h is)
 pub functions_drop : (fs : List Function) (i : ℕ) (f : Function) → i < length fs → f ≡ get_or fs i f
     → functions_view (drop i fs) ≡ function_view f ∷ functions_view (drop (i + 1) fs)
 functions_drop fs i f h is = ap functions_view (drop_item fs i f h is)
+
+pub take_first : {A : Type 0} (xs ys : List A) → take (length xs) (xs ++ ys) ≡ xs
+take_first [] ys = refl
+take_first (x ∷ xs) ys = ap (λ l. x ∷ l) (take_first xs ys)

@@ -1,6 +1,6 @@
 -- Trusted: the lengths of chains of calls.
 use Rattle.std.specs.Prelude.{ℕ, ◌+◌, max, nat_le, List, [], ◌∷◌, ◌++◌, slice_index_or}
-use Rattle.lang_ast.specs.Terms.{Stmt, Node, Call, Key, If, For, Let, Remember, Stmts, done, next, Func}
+use Rattle.lang_ast.specs.Terms.{Stmt, Call, If, Block, Stmts, done, next, Func}
 use Rattle.lang_checks.specs.declared.faults.CheckKind.TheVariants as kind
 use Rattle.lang_checks.specs.declared.faults.ProgramFault.{ProgramFault}
 use Rattle.lang_checks.specs.FaultOrder.{fault_unless}
@@ -13,14 +13,10 @@ abbrev mutual
   -- The length of the longest chain that a statement calls, by the lengths for the functions before its own. A call
   -- of any other function counts 0.
   pub longest : List ℕ → Stmt → ℕ
-  longest chains (Node at site name attributes body) = longest_in chains body
   longest chains (Call at site name function arguments) = slice_index_or chains function 0
-  longest chains (Key at site key body) = longest_in chains body
   longest chains (If at site condition then_branch else_branch) = max (longest_in chains then_branch)
       (longest_in chains else_branch)
-  longest chains (For at site name list body) = longest_in chains body
-  longest chains (Let at site name value body) = longest_in chains body
-  longest chains (Remember at site name keys value body) = longest_in chains body
+  longest chains (Block at site head body) = longest_in chains body
 
   pub longest_in : List ℕ → Stmts → ℕ
   longest_in chains done = 0

@@ -5,12 +5,13 @@ use Rattle.rt_values.specs.declared.value.Ty.{Ty}
 use Rattle.rt_values.specs.declared.value.Ty.TheVariants as ty
 use Rattle.rt_values.specs.Values.{type_of}
 use Rattle.lang_ast.specs.declared.program.State.{State}
+use Rattle.lang_ast.specs.declared.syntax.Source.{Source}
 use Rattle.lang_ast.specs.Terms.{Expr, Literal, Variable, Get, Apply, Exprs, none, more, Named}
 use Rattle.lang_checks.specs.declared.environment.TypedName.{TypedName}
 use Rattle.lang_checks.specs.declared.faults.CheckKind.TheVariants as kind
 use Rattle.lang_checks.specs.declared.faults.ProgramFault.{ProgramFault}
 use Rattle.lang_checks.specs.FaultOrder.{fault_unless}
-use Rattle.lang_checks.specs.Scopes.{typed_name, bound_type, state_type}
+use Rattle.lang_checks.specs.Scopes.{typed_name, bound_type, source_type}
 use Rattle.lang_checks.specs.Operands.{accepts_types, result_type}
 
 -- What an expression may name: the states, the variables around it, and in the calculation of a remember its keys.
@@ -33,7 +34,7 @@ abbrev mutual
   pub type : ExpressionScope → Expr → Ty
   type l (Literal at v) = type_of v
   type l (Variable n) = variable_type l n.text
-  type l (Get at n number) = or_int (state_type l.states n.text number)
+  type l (Get at n source) = or_int (source_type l.states n.text source)
   type l (Apply at op es) = result_type op (types_of l es)
 
   pub types_of : ExpressionScope → Exprs → List Ty
@@ -48,9 +49,9 @@ variable_faults l name at =
     ++ fault_unless (not l.calculating || is_some (bound_type name l.keys)) kind.Remember at
 
 -- The faults of a `get`. A name of no state is unknown. A calculation may read no state.
-abbrev pub get_faults : ExpressionScope → List ℕ → ℕ → ℕ → List ProgramFault
-get_faults l name number at =
-    fault_unless (is_some (state_type l.states name number)) kind.Unknown at
+abbrev pub get_faults : ExpressionScope → List ℕ → Source → ℕ → List ProgramFault
+get_faults l name source at =
+    fault_unless (is_some (source_type l.states name source)) kind.Unknown at
     ++ fault_unless (not l.calculating) kind.Remember at
 
 abbrev mutual
@@ -58,7 +59,7 @@ abbrev mutual
   pub expr_faults : ExpressionScope → Expr → List ProgramFault
   expr_faults l (Literal at v) = []
   expr_faults l (Variable n) = variable_faults l n.text n.at
-  expr_faults l (Get at n number) = get_faults l n.text number at
+  expr_faults l (Get at n source) = get_faults l n.text source at
   expr_faults l (Apply at op es) = exprs_faults l es ++ fault_unless (accepts_types op (types_of l es)) kind.Type at
 
   pub exprs_faults : ExpressionScope → Exprs → List ProgramFault

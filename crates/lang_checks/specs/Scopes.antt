@@ -5,6 +5,8 @@ use Rattle.std.specs.List.{list_any}
 use Rattle.std.specs.Str.{bytes_eq}
 use Rattle.rt_values.specs.declared.value.Ty.{Ty}
 use Rattle.lang_ast.specs.declared.syntax.Ident.{Ident}
+use Rattle.lang_ast.specs.declared.syntax.Source.{Source}
+use Rattle.lang_ast.specs.declared.syntax.Source.TheVariants as source
 use Rattle.lang_ast.specs.declared.program.State.{State}
 use Rattle.lang_ast.specs.Terms.{Func}
 use Rattle.lang_checks.specs.declared.environment.TypedName.{TypedName}
@@ -43,6 +45,10 @@ type_if_named name (Some s) = if bytes_eq s.name.text name then Some s.ty else N
 -- The type of the state with this number, if it has the name.
 abbrev pub state_type : List State → List ℕ → ℕ → Option Ty
 state_type states name number = type_if_named name (slice_get states number)
+
+-- The type of what a name in a `get` stands for, if it has the name.
+abbrev pub source_type : List State → List ℕ → Source → Option Ty
+source_type states name (source.State number) = state_type states name number
 
 -- The first function with a name, and its number, counted from i.
 abbrev pub first_named : List Func → List ℕ → ℕ → Option (ℕ × Func)

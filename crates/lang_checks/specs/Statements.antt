@@ -6,7 +6,7 @@ use Rattle.rt_values.specs.Values.{same_type}
 use Rattle.lang_ast.specs.declared.syntax.Ident.{Ident}
 use Rattle.lang_ast.specs.declared.syntax.Parameter.{Parameter}
 use Rattle.lang_ast.specs.declared.program.State.{State}
-use Rattle.lang_ast.specs.Terms.{Named, Stmt, Node, Call, Key, If, For, Let, Remember, Stmts, done, next, Func}
+use Rattle.lang_ast.specs.Terms.{Named, Head, Node, Key, For, Let, Remember, Stmt, Call, If, Block, Stmts, done, next, Func}
 use Rattle.lang_checks.specs.declared.environment.TypedName.{TypedName}
 use Rattle.lang_checks.specs.declared.faults.CheckKind.TheVariants as kind
 use Rattle.lang_checks.specs.declared.faults.ProgramFault.{ProgramFault}
@@ -43,43 +43,51 @@ callee_faults me at ts None = fault kind.Unknown at ∷ []
 callee_faults me at ts (Some f) = fault_unless (nat_lt f.0 me) kind.Order at
     ++ fault_unless (same_types (parameter_types f.1.parameters) ts) kind.Type at
 
--- The faults of a binding: a variable in scope may not be bound again. Those of the body come after it.
-abbrev pub binding_faults : List TypedName → Ident → List ProgramFault → List ProgramFault
-binding_faults scope n behind = fault_unless (is_unbound n.text scope) kind.Double n.at ++ behind
+-- The faults of a binding: a variable in scope may not be bound again.
+abbrev pub binding_faults : List TypedName → Ident → List ProgramFault
+binding_faults scope n = fault_unless (is_unbound n.text scope) kind.Double n.at
+
+-- The variable that the body of a head may use besides those in scope, if there is one.
+abbrev pub bound_by : StatementContext → List TypedName → Head → List TypedName
+bound_by p scope (Node kind attributes) = []
+bound_by p scope (Key key) = []
+-- The name of a for is an Int.
+bound_by p scope (For name list) = typed_name name ty.Int ∷ []
+bound_by p scope (Let name value) = typed_name name (type (plain_scope p.states scope) value) ∷ []
+bound_by p scope (Remember name keys value) = typed_name name (type (inside p.states scope keys) value) ∷ []
+
+-- The faults of the head of a statement at this offset, with these variables in scope.
+abbrev pub head_faults : StatementContext → List TypedName → ℕ → Head → List ProgramFault
+-- A node: attributes have unique names.
+head_faults p scope at (Node kind attributes) =
+    duplicate_faults [] (names attributes) ++ values_faults (plain_scope p.states scope) attributes
+head_faults p scope at (Key key) = expr_faults (plain_scope p.states scope) key
+-- A for: the list is an Ints.
+head_faults p scope at (For name list) =
+    expr_faults (plain_scope p.states scope) list
+    ++ (fault_unless (same_type (type (plain_scope p.states scope) list) ty.Ints) kind.Type at
+    ++ binding_faults scope name)
+head_faults p scope at (Let name value) = expr_faults (plain_scope p.states scope) value ++ binding_faults scope name
+-- A remember: keys have unique names. Keys use what is around them, and the calculation uses the keys.
+head_faults p scope at (Remember name keys value) =
+    duplicate_faults [] (names keys) ++ (values_faults (plain_scope p.states scope) keys
+    ++ (expr_faults (inside p.states scope keys) value ++ binding_faults scope name))
 
 abbrev mutual
   -- The faults of a statement with these variables in scope.
   pub stmt_faults : StatementContext → List TypedName → Stmt → List ProgramFault
-  -- A node: attributes have unique names.
-  stmt_faults p scope (Node at site name attributes body) =
-      duplicate_faults [] (names attributes)
-      ++ (values_faults (plain_scope p.states scope) attributes ++ stmts_faults p scope body)
   stmt_faults p scope (Call at site name function arguments) =
       exprs_faults (plain_scope p.states scope) arguments
       ++ callee_faults p.me at (types_of (plain_scope p.states scope) arguments)
       (named_function p.functions name.text function)
-  stmt_faults p scope (Key at site key body) = expr_faults (plain_scope p.states scope) key ++ stmts_faults p scope body
   -- An if: the condition is a Bool.
   stmt_faults p scope (If at site condition then_branch else_branch) =
       expr_faults (plain_scope p.states scope) condition
       ++ (fault_unless (same_type (type (plain_scope p.states scope) condition) ty.Bool) kind.Type at
       ++ (stmts_faults p scope then_branch ++ stmts_faults p scope else_branch))
-  -- A for: the list is an Ints, and the name is an Int.
-  stmt_faults p scope (For at site name list body) =
-      expr_faults (plain_scope p.states scope) list
-      ++ (fault_unless (same_type (type (plain_scope p.states scope) list) ty.Ints) kind.Type at
-      ++ binding_faults scope name (stmts_faults p (scope ++ typed_name name ty.Int ∷ []) body))
-  stmt_faults p scope (Let at site name value body) =
-      expr_faults (plain_scope p.states scope) value
-      ++ binding_faults scope name
-      (stmts_faults p (scope ++ typed_name name (type (plain_scope p.states scope) value) ∷ []) body)
-  -- A remember: keys have unique names. Keys use what is around them, the calculation uses the keys, and the body
-  -- uses the name.
-  stmt_faults p scope (Remember at site name keys value body) =
-      duplicate_faults [] (names keys) ++ (values_faults (plain_scope p.states scope) keys
-      ++ (expr_faults (inside p.states scope keys) value
-      ++ binding_faults scope name (stmts_faults p (scope
-      ++ typed_name name (type (inside p.states scope keys) value) ∷ []) body)))
+  -- The faults of the body come after those of the head.
+  stmt_faults p scope (Block at site head body) =
+      head_faults p scope at head ++ stmts_faults p (scope ++ bound_by p scope head) body
 
   -- The faults of statements in order.
   pub stmts_faults : StatementContext → List TypedName → Stmts → List ProgramFault

@@ -21,20 +21,16 @@ fn longest(chains: &[usize], s: &Statement) -> usize
     ensures { result ≡ longest chains.now (stmt_view s.now) }
 {
     match s {
-        Statement::Node { body, .. } => longest_in(chains, body),
         Statement::Call { function, .. } => match chains.get(*function) {
             Some(chain) => *chain,
             None => 0,
         },
-        Statement::Key { body, .. } => longest_in(chains, body),
         Statement::If {
             then_branch,
             else_branch,
             ..
         } => longest_in(chains, then_branch).max(longest_in(chains, else_branch)),
-        Statement::For { body, .. } => longest_in(chains, body),
-        Statement::Let { body, .. } => longest_in(chains, body),
-        Statement::Remember { body, .. } => longest_in(chains, body),
+        Statement::Block { body, .. } => longest_in(chains, body),
     }
 }
 

@@ -1,7 +1,6 @@
 // The variables in scope, with their types.
-ghost use Rattle.std.specs.Prelude.{◌≡◌, [], ◌∷◌, ◌++◌, List, IfOk, OnOk, OnErr};
+ghost use Rattle.std.specs.Prelude.{◌≡◌, [], ◌∷◌, ◌++◌, length, take, IfOk, OnOk, OnErr};
 ghost use Rattle.lang_checks.specs.Scopes.{typed_name, bound_type};
-ghost use Rattle.lang_checks.specs.declared.environment.TypedName.{TypedName as bound_data};
 
 use lang_ast::Ident;
 use rt_values::{NoMemory, Ty, Word};
@@ -52,13 +51,18 @@ impl TypeEnv {
         Ok(())
     }
 
-    /// Removes the latest name, if there is one. An empty environment stays empty.
-    pub fn pop(&mut self)
-        ensures last { (b : bound_data) (before : List bound_data) → self.old ≡ before ++ b ∷ [] →
-            self.new ≡ before }
-        ensures none { self.old ≡ [] → self.new ≡ [] }
+    /// Returns the number of names.
+    pub fn len(&self) -> usize
+        ensures { result ≡ length self.now }
     {
-        let _ = self.items.pop();
+        self.items.len()
+    }
+
+    /// Keeps the first `len` names, or all if there are fewer.
+    pub fn truncate(&mut self, len: usize)
+        ensures { self.new ≡ take len self.old }
+    {
+        self.items.truncate(len);
     }
 
     /// Returns the type of a name.

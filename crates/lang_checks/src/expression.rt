@@ -3,15 +3,15 @@ ghost use Rattle.std.specs.Prelude.{◌≡◌, ℕ, [], ◌∷◌, ◌++◌, IfO
 ghost use Rattle.lang_ast.specs.SyntaxView.{expr_view, exprs_view, named_view, nameds_view};
 ghost use Rattle.lang_checks.specs.FaultOrder.{least_fault_from};
 ghost use Rattle.lang_checks.specs.Expressions.{or_int, variable_type, type, types_of, variable_faults, get_faults, expr_faults, exprs_faults, values_faults, typed_names};
-ghost use Rattle.lang_checks.specs.Scopes.{typed_name, state_type};
+ghost use Rattle.lang_checks.specs.Scopes.{typed_name, source_type};
 ghost use Rattle.lang_checks.specs.Views.{expression_scope_view};
 
 use crate::environment::TypeEnv;
 use crate::faults::{CheckKind, ProgramFault, fault_unless};
-use crate::named_parts::state_type;
+use crate::named_parts::source_type;
 use crate::operands::{accepts_types, result_type};
-use lang_ast::{Expression, Ident, Named, State};
-use rt_values::{NoMemory, ObjectNo, Ty};
+use lang_ast::{Expression, Ident, Named, Source, State};
+use rt_values::{NoMemory, Ty};
 use std::alloc::Global;
 
 /// What an expression may name: the states, the variables around it, and in the calculation of a remember its keys.
@@ -69,15 +69,15 @@ fn infer_variable(
 fn infer_get(
     look: &ExpressionScope,
     name: &Ident,
-    number: ObjectNo,
+    source: Source,
     at: usize,
     least: Option<ProgramFault>,
 ) -> (Ty, Option<ProgramFault>)
-    ensures ty { result.0 ≡ or_int (state_type look.now.states.now name.now.text number) }
+    ensures ty { result.0 ≡ or_int (source_type look.now.states.now name.now.text source) }
     ensures least { result.1 ≡ least_fault_from least
-        (get_faults (expression_scope_view look.now) name.now.text number at) }
+        (get_faults (expression_scope_view look.now) name.now.text source at) }
 {
-    let ty = state_type(look.states, name, number);
+    let ty = source_type(look.states, name, source);
     let least = fault_unless(ty.is_some(), CheckKind::Unknown, at, least);
     let least = fault_unless(!look.calculating, CheckKind::Remember, at, least);
     (or_int(ty), least)
@@ -99,7 +99,7 @@ pub fn infer_expression(
     match e {
         Expression::Literal { value, .. } => Ok((value.ty(), least)),
         Expression::Variable { name } => Ok(infer_variable(look, name, least)),
-        Expression::Get { at, name, number } => Ok(infer_get(look, name, *number, *at, least)),
+        Expression::Get { at, name, source } => Ok(infer_get(look, name, *source, *at, least)),
         Expression::Apply {
             at,
             operator,

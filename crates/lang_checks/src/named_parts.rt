@@ -2,13 +2,13 @@
 ghost use Rattle.std.specs.Prelude.{◌≡◌, ℕ, ◌<◌, length, option_map};
 ghost use Rattle.std.specs.Prelude.{slice_get};
 ghost use Rattle.lang_ast.specs.SyntaxView.{function_view, functions_view};
-ghost use Rattle.lang_checks.specs.Scopes.{state_type, first_named, named_function};
+ghost use Rattle.lang_checks.specs.Scopes.{state_type, source_type, first_named, named_function};
 
-use lang_ast::{Function, Ident, State};
+use lang_ast::{Function, Ident, Source, State};
 use rt_values::{ObjectNo, Ty};
 
-/// Returns the type of the state with this number if it has this name.
-pub fn state_type(states: &[State], name: &Ident, number: ObjectNo) -> Option<Ty>
+// Returns the type of the state with this number if it has this name.
+fn state_type(states: &[State], name: &Ident, number: ObjectNo) -> Option<Ty>
     ensures { result ≡ state_type states.now name.now.text number }
 {
     match states.get(number as usize) {
@@ -20,6 +20,15 @@ pub fn state_type(states: &[State], name: &Ident, number: ObjectNo) -> Option<Ty
                 None
             }
         }
+    }
+}
+
+/// Returns the type of what `name` stands for in a `get`, if it has this name.
+pub fn source_type(states: &[State], name: &Ident, source: Source) -> Option<Ty>
+    ensures { result ≡ source_type states.now name.now.text source }
+{
+    match source {
+        Source::State(number) => state_type(states, name, number),
     }
 }
 

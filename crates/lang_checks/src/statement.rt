@@ -1,13 +1,13 @@
 // The faults of statements.
 ghost use Rattle.std.specs.Prelude.{◌≡◌, ℕ, [], ◌∷◌, ◌++◌, IfOk, OnOk};
 ghost use Rattle.rt_values.specs.declared.value.Ty.TheVariants as ty;
-ghost use Rattle.lang_ast.specs.Terms.{Node, Call, Key, If, For, Let, Remember};
-ghost use Rattle.lang_ast.specs.SyntaxView.{expr_view, exprs_view, nameds_view, stmt_view, stmts_view};
+ghost use Rattle.lang_ast.specs.Terms.{Call, If, Block};
+ghost use Rattle.lang_ast.specs.SyntaxView.{expr_view, exprs_view, nameds_view, head_view, stmt_view, stmts_view};
 ghost use Rattle.lang_checks.specs.FaultOrder.{least_fault_from};
-ghost use Rattle.lang_checks.specs.Scopes.{typed_name, named_function};
-ghost use Rattle.lang_checks.specs.Expressions.{types_of};
+ghost use Rattle.lang_checks.specs.Scopes.{typed_name, duplicate_faults, named_function};
+ghost use Rattle.lang_checks.specs.Expressions.{typed_names, values_faults};
 ghost use Rattle.lang_checks.specs.Operands.{same_types};
-ghost use Rattle.lang_checks.specs.Statements.{plain_scope, parameter_types, callee_faults, binding_faults, stmt_faults, stmts_faults};
+ghost use Rattle.lang_checks.specs.Statements.{plain_scope, names, parameter_types, callee_faults, binding_faults, bound_by, head_faults, stmt_faults, stmts_faults};
 ghost use Rattle.lang_checks.specs.Views.{expression_scope_view, statement_context_view};
 
 use crate::duplicates::duplicate_faults;
@@ -16,7 +16,7 @@ use crate::expression::{ExpressionScope, infer_expression, infer_expressions, in
 use crate::faults::{CheckKind, ProgramFault, fault_unless};
 use crate::named_parts::named_function;
 use crate::operands::same_types;
-use lang_ast::{Expression, Function, Ident, Named, Parameter, State, Statement};
+use lang_ast::{Expression, Function, Head, Ident, Named, Parameter, State, Statement};
 use rt_values::{NoMemory, Ty};
 use std::alloc::Global;
 
@@ -114,6 +114,91 @@ fn check_call(
     Ok(check_callee(around, name, number, at, &types, least))
 }
 
+// Binds named expressions to their types, and updates `least` with the faults of those and of duplicate names.
+#[tactic(auto, using(crate::proofs::Least::answers, crate::proofs::Numbered::names_of))]
+fn check_values(
+    alloc: Global,
+    look: &ExpressionScope,
+    all: &[Named],
+    least: Option<ProgramFault>,
+) -> Result<(TypeEnv, Option<ProgramFault>), NoMemory>
+    ensures bounds { IfOk result (λ r. r.0 ≡ typed_names (expression_scope_view look.now) (nameds_view all.now)) }
+    ensures least { IfOk result (λ r. r.1
+        ≡ least_fault_from least (duplicate_faults [] (names (nameds_view all.now))
+        ++ values_faults (expression_scope_view look.now) (nameds_view all.now))) }
+{
+    infer_values(alloc, look, all, duplicate_faults(all, least))
+}
+
+// Binds `name` to a type, and updates `least` with the fault of a name that is in scope already.
+fn bind_name(
+    scope: &mut TypeEnv,
+    name: &Ident,
+    ty: Ty,
+    least: Option<ProgramFault>,
+) -> Result<Option<ProgramFault>, NoMemory>
+    ensures scope { OnOk result (scope.new ≡ scope.old ++ typed_name name.now ty ∷ []) }
+    ensures least { IfOk result (λ r. r ≡ least_fault_from least (binding_faults scope.old name.now)) }
+{
+    let least = fault_unless(
+        scope.find(name).is_none(),
+        CheckKind::Double,
+        name.at,
+        least,
+    );
+    scope.push(name, ty)?;
+    Ok(least)
+}
+
+// Updates `least` with the faults of the head of the statement at `at`, and binds the name that its body may use.
+#[tactic(auto, using(crate::proofs::Least::answers))]
+fn check_head(
+    alloc: Global,
+    around: &StatementContext,
+    scope: &mut TypeEnv,
+    at: usize,
+    head: &Head,
+    least: Option<ProgramFault>,
+) -> Result<Option<ProgramFault>, NoMemory>
+    ensures scope { OnOk result (scope.new
+        ≡ scope.old ++ bound_by (statement_context_view around.now) scope.old (head_view head.now)) }
+    ensures least { IfOk result (λ r. r
+        ≡ least_fault_from least (head_faults (statement_context_view around.now) scope.old at (head_view head.now))) }
+{
+    let none = TypeEnv::new(alloc);
+    let look = plain_scope(around.states, &*scope, &none);
+    match head {
+        Head::Node { attributes, .. } => {
+            let (_, least) = check_values(alloc, &look, attributes, least)?;
+            Ok(least)
+        }
+        Head::Key { key } => {
+            let (_, least) = infer_expression(alloc, &look, key, least)?;
+            Ok(least)
+        }
+        Head::For { name, list } => {
+            let (ty, least) = infer_expression(alloc, &look, list, least)?;
+            let least = fault_unless(ty.same(Ty::Ints), CheckKind::Type, at, least);
+            bind_name(scope, name, Ty::Int, least)
+        }
+        Head::Let { name, value } => {
+            let (ty, least) = infer_expression(alloc, &look, value, least)?;
+            bind_name(scope, name, ty, least)
+        }
+        Head::Remember { name, keys, value } => {
+            let (keys, least) = check_values(alloc, &look, keys, least)?;
+            let within = ExpressionScope {
+                states: around.states,
+                scope: &*scope,
+                keys: &keys,
+                calculating: true,
+            };
+            let (ty, least) = infer_expression(alloc, &within, value, least)?;
+            bind_name(scope, name, ty, least)
+        }
+    }
+}
+
 /// Updates `least` with the faults of a statement. `scope` has the variables in scope.
 #[tactic(auto, using(lang_ast::proofs::Views::statements, crate::proofs::Least::answers))]
 #[cycle(faults)]
@@ -129,11 +214,6 @@ pub fn check_statement(
         ≡ least_fault_from least (stmt_faults (statement_context_view around.now) scope.old (stmt_view s.now))) }
 {
     match s {
-        Statement::Node {
-            attributes,
-            body,
-            ..
-        } => check_node(alloc, around, scope, attributes, body, least),
         Statement::Call {
             at,
             name,
@@ -141,7 +221,6 @@ pub fn check_statement(
             arguments,
             ..
         } => check_call(alloc, around, scope, *at, name, *function, arguments, least),
-        Statement::Key { key, body, .. } => check_key(alloc, around, scope, key, body, least),
         Statement::If {
             at,
             condition,
@@ -158,73 +237,10 @@ pub fn check_statement(
             else_branch,
             least,
         ),
-        Statement::For {
-            at,
-            name,
-            list,
-            body,
-            ..
-        } => check_for(alloc, around, scope, *at, name, list, body, least),
-        Statement::Let {
-            name,
-            value,
-            body,
-            ..
-        } => check_let(alloc, around, scope, name, value, body, least),
-        Statement::Remember {
-            name,
-            keys,
-            value,
-            body,
-            ..
-        } => check_remember(alloc, around, scope, name, keys, value, body, least),
+        Statement::Block { at, head, body, .. } => {
+            check_block(alloc, around, scope, *at, head, body, least)
+        }
     }
-}
-
-// Updates `least` with the faults of a node, whose attributes have unique names.
-#[tactic(auto, using(crate::proofs::Least::answers, crate::proofs::Numbered::names_of))]
-#[cycle(faults)]
-fn check_node(
-    alloc: Global,
-    around: &StatementContext,
-    scope: &mut TypeEnv,
-    attributes: &[Named],
-    body: &[Statement],
-    least: Option<ProgramFault>,
-) -> Result<Option<ProgramFault>, NoMemory>
-    ensures scope { OnOk result (scope.new ≡ scope.old) }
-    ensures least { IfOk result (λ r. r
-        ≡ least_fault_from least (stmt_faults (statement_context_view around.now) scope.old
-        (Node 0 0 (record { at = 0; text = [] }) (nameds_view attributes.now)
-        (stmts_view body.now)))) }
-{
-    let none = TypeEnv::new(alloc);
-    let look = plain_scope(around.states, &*scope, &none);
-    let least = duplicate_faults(attributes, least);
-    let (_, least) = infer_values(alloc, &look, attributes, least)?;
-    check_statements(alloc, around, scope, body, least)
-}
-
-// Updates `least` with the faults of a key and its body.
-#[tactic(auto, using(crate::proofs::Least::answers))]
-#[cycle(faults)]
-fn check_key(
-    alloc: Global,
-    around: &StatementContext,
-    scope: &mut TypeEnv,
-    key: &Expression,
-    body: &[Statement],
-    least: Option<ProgramFault>,
-) -> Result<Option<ProgramFault>, NoMemory>
-    ensures scope { OnOk result (scope.new ≡ scope.old) }
-    ensures least { IfOk result (λ r. r
-        ≡ least_fault_from least (stmt_faults (statement_context_view around.now) scope.old
-        (Key 0 0 (expr_view key.now) (stmts_view body.now)))) }
-{
-    let none = TypeEnv::new(alloc);
-    let look = plain_scope(around.states, &*scope, &none);
-    let (_, least) = infer_expression(alloc, &look, key, least)?;
-    check_statements(alloc, around, scope, body, least)
 }
 
 // Updates `least` with the faults of an if, whose condition is a Bool.
@@ -254,115 +270,27 @@ fn check_if(
     check_statements(alloc, around, scope, else_branch, least)
 }
 
-// Updates `least` with the faults of a for, whose list is an Ints and whose name is an Int.
-#[tactic(auto, using(crate::proofs::Least::answers))]
+// Updates `least` with the faults of a head and of the body, which may use the name that the head binds.
+#[tactic(auto, using(crate::proofs::Least::answers, crate::proofs::Rows::take_first))]
 #[cycle(faults)]
-fn check_for(
+fn check_block(
     alloc: Global,
     around: &StatementContext,
     scope: &mut TypeEnv,
     at: usize,
-    name: &Ident,
-    list: &Expression,
+    head: &Head,
     body: &[Statement],
     least: Option<ProgramFault>,
 ) -> Result<Option<ProgramFault>, NoMemory>
     ensures scope { OnOk result (scope.new ≡ scope.old) }
     ensures least { IfOk result (λ r. r
         ≡ least_fault_from least (stmt_faults (statement_context_view around.now) scope.old
-        (For at 0 name.now (expr_view list.now) (stmts_view body.now)))) }
+        (Block at 0 (head_view head.now) (stmts_view body.now)))) }
 {
-    let none = TypeEnv::new(alloc);
-    let look = plain_scope(around.states, &*scope, &none);
-    let (ty, least) = infer_expression(alloc, &look, list, least)?;
-    let least = fault_unless(ty.same(Ty::Ints), CheckKind::Type, at, least);
-    check_body(alloc, around, scope, name, Ty::Int, body, least)
-}
-
-// Updates `least` with the faults of a let.
-#[tactic(auto, using(crate::proofs::Least::answers))]
-#[cycle(faults)]
-fn check_let(
-    alloc: Global,
-    around: &StatementContext,
-    scope: &mut TypeEnv,
-    name: &Ident,
-    value: &Expression,
-    body: &[Statement],
-    least: Option<ProgramFault>,
-) -> Result<Option<ProgramFault>, NoMemory>
-    ensures scope { OnOk result (scope.new ≡ scope.old) }
-    ensures least { IfOk result (λ r. r
-        ≡ least_fault_from least (stmt_faults (statement_context_view around.now) scope.old
-        (Let 0 0 name.now (expr_view value.now) (stmts_view body.now)))) }
-{
-    let none = TypeEnv::new(alloc);
-    let look = plain_scope(around.states, &*scope, &none);
-    let (ty, least) = infer_expression(alloc, &look, value, least)?;
-    check_body(alloc, around, scope, name, ty, body, least)
-}
-
-// Updates `least` with the faults of a remember, whose keys have unique names and whose calculation depends only on
-// them.
-#[tactic(auto, using(crate::proofs::Least::answers, crate::proofs::Numbered::names_of))]
-#[cycle(faults)]
-fn check_remember(
-    alloc: Global,
-    around: &StatementContext,
-    scope: &mut TypeEnv,
-    name: &Ident,
-    keys: &[Named],
-    value: &Expression,
-    body: &[Statement],
-    least: Option<ProgramFault>,
-) -> Result<Option<ProgramFault>, NoMemory>
-    ensures scope { OnOk result (scope.new ≡ scope.old) }
-    ensures least { IfOk result (λ r. r
-        ≡ least_fault_from least (stmt_faults (statement_context_view around.now) scope.old
-        (Remember 0 0 name.now (nameds_view keys.now) (expr_view value.now)
-        (stmts_view body.now)))) }
-{
-    let none = TypeEnv::new(alloc);
-    let look = plain_scope(around.states, &*scope, &none);
-    let least = duplicate_faults(keys, least);
-    let (typed_name, least) = infer_values(alloc, &look, keys, least)?;
-    let within = ExpressionScope {
-        states: around.states,
-        scope: &*scope,
-        keys: &typed_name,
-        calculating: true,
-    };
-    let (ty, least) = infer_expression(alloc, &within, value, least)?;
-    check_body(alloc, around, scope, name, ty, body, least)
-}
-
-// Updates `least` with the faults of a body in which `name` is bound. A variable in scope may not be bound again.
-#[tactic(auto, using(crate::proofs::Least::answers))]
-#[cycle(faults)]
-fn check_body(
-    alloc: Global,
-    around: &StatementContext,
-    scope: &mut TypeEnv,
-    name: &Ident,
-    ty: Ty,
-    body: &[Statement],
-    least: Option<ProgramFault>,
-) -> Result<Option<ProgramFault>, NoMemory>
-    ensures scope { OnOk result (scope.new ≡ scope.old) }
-    ensures least { IfOk result (λ r. r
-        ≡ least_fault_from least (binding_faults scope.old name.now
-        (stmts_faults (statement_context_view around.now) (scope.old
-        ++ typed_name name.now ty ∷ []) (stmts_view body.now)))) }
-{
-    let least = fault_unless(
-        scope.find(name).is_none(),
-        CheckKind::Double,
-        name.at,
-        least,
-    );
-    scope.push(name, ty)?;
+    let outer = scope.len();
+    let least = check_head(alloc, around, scope, at, head, least)?;
     let least = check_statements(alloc, around, scope, body, least)?;
-    scope.pop();
+    scope.truncate(outer);
     Ok(least)
 }
 

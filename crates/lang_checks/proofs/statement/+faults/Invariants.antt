@@ -17,28 +17,13 @@ invariant-check_statements-loop-s l = record {
 }
 
 abbrev pub decreases-check_statement : goal.decreases-check_statement
-decreases-check_statement l = 4 * the_size l.s.now
-
-abbrev pub decreases-check_node : goal.decreases-check_node
-decreases-check_node l = 4 * most the_size l.body.now + 3
-
-abbrev pub decreases-check_key : goal.decreases-check_key
-decreases-check_key l = 4 * most the_size l.body.now + 3
+decreases-check_statement l = 3 * the_size l.s.now
 
 abbrev pub decreases-check_if : goal.decreases-check_if
-decreases-check_if l = 4 * max (most the_size l.then_branch.now) (most the_size l.else_branch.now) + 3
+decreases-check_if l = 3 * max (most the_size l.then_branch.now) (most the_size l.else_branch.now) + 2
 
-abbrev pub decreases-check_for : goal.decreases-check_for
-decreases-check_for l = 4 * most the_size l.body.now + 3
-
-abbrev pub decreases-check_let : goal.decreases-check_let
-decreases-check_let l = 4 * most the_size l.body.now + 3
-
-abbrev pub decreases-check_remember : goal.decreases-check_remember
-decreases-check_remember l = 4 * most the_size l.body.now + 3
-
-abbrev pub decreases-check_body : goal.decreases-check_body
-decreases-check_body l = 4 * most the_size l.body.now + 2
+abbrev pub decreases-check_block : goal.decreases-check_block
+decreases-check_block l = 3 * most the_size l.body.now + 2
 
 abbrev pub decreases-check_statements : goal.decreases-check_statements
-decreases-check_statements l = 4 * most the_size l.body.now + 1
+decreases-check_statements l = 3 * most the_size l.body.now + 1
