@@ -1,61 +1,39 @@
 -- If a program has no fault, its parts have none.
 use Rattle.std.proofs.Common.{◌≡◌, ℕ, ◌+◌, List, [], ◌∷◌, ◌++◌, map, length, nat_lt}
-use Rattle.rt_values.specs.declared.value.Ty.TheVariants as ty
-use Rattle.lang_ast.specs.Terms.{Stmt, Node, Call, Key, If, For, Let, Remember, Stmts, done, next, Func}
+use Rattle.lang_ast.specs.Terms.{Stmt, Call, If, Block, Stmts, done, next, Func}
 use Rattle.lang_ast.specs.Programs.{Program, root_number, statement_with_inner, statements_in, functions_statements, Each}
 use Rattle.lang_ast.proofs.Statements.{each_joined, each_follows}
 use Rattle.lang_ast.specs.declared.program.State.{State}
 use Rattle.lang_checks.specs.declared.environment.TypedName.{TypedName}
 use Rattle.lang_checks.specs.declared.faults.CheckKind.TheVariants as kind
 use Rattle.lang_checks.specs.FaultOrder.{fault_unless}
-use Rattle.lang_checks.specs.Scopes.{typed_name, named_function, duplicate_faults}
+use Rattle.lang_checks.specs.Scopes.{named_function, duplicate_faults}
 use Rattle.lang_checks.specs.Chains.{chains_faults}
-use Rattle.lang_checks.specs.Expressions.{type, types_of, expr_faults, exprs_faults, values_faults}
-use Rattle.lang_checks.specs.Statements.{StatementContext, plain_scope, inside, callee_faults, stmt_faults, stmts_faults}
+use Rattle.lang_checks.specs.Expressions.{types_of, expr_faults, exprs_faults}
+use Rattle.lang_checks.specs.Statements.{StatementContext, plain_scope, callee_faults, head_faults, bound_by, stmt_faults, stmts_faults}
 use Rattle.lang_checks.specs.ProgramFaults.{bound_parameters, states_faults, functions_faults, program_faults}
 use Rattle.lang_ast.proofs.Limits.{none_in}
 
 -- The parts of a statement have no faults.
 abbrev pub PartsAreFine : StatementContext → List TypedName → Stmt → Type 0
-PartsAreFine p scope (Node at site name attributes body) =
-    (values_faults (plain_scope p.states scope) attributes ≡ []) × (stmts_faults p scope body ≡ [])
 PartsAreFine p scope (Call at site name function arguments) =
     (exprs_faults (plain_scope p.states scope) arguments ≡ [])
     × (callee_faults p.me at (types_of (plain_scope p.states scope) arguments) (named_function p.functions name.text function)
     ≡ [])
-PartsAreFine p scope (Key at site key body) =
-    (expr_faults (plain_scope p.states scope) key ≡ []) × (stmts_faults p scope body ≡ [])
 PartsAreFine p scope (If at site condition then_branch else_branch) =
     (expr_faults (plain_scope p.states scope) condition ≡ []) × (stmts_faults p scope then_branch ≡ [])
     × (stmts_faults p scope else_branch ≡ [])
-PartsAreFine p scope (For at site name list body) =
-    (expr_faults (plain_scope p.states scope) list ≡ []) × (stmts_faults p (scope ++ typed_name name ty.Int ∷ []) body ≡ [])
-PartsAreFine p scope (Let at site name value body) =
-    (expr_faults (plain_scope p.states scope) value ≡ [])
-    × (stmts_faults p (scope ++ typed_name name (type (plain_scope p.states scope) value) ∷ []) body ≡ [])
-PartsAreFine p scope (Remember at site name keys value body) =
-    (values_faults (plain_scope p.states scope) keys ≡ []) × (expr_faults (inside p.states scope keys) value ≡ [])
-    × (stmts_faults p (scope ++ typed_name name (type (inside p.states scope keys) value) ∷ []) body ≡ [])
+PartsAreFine p scope (Block at site head body) =
+    (head_faults p scope at head ≡ []) × (stmts_faults p (scope ++ bound_by p scope head) body ≡ [])
 
 pub parts : (p : StatementContext) (scope : List TypedName) (s : Stmt) → stmt_faults p scope s ≡ []
     → PartsAreFine p scope s
-parts p scope (Node at site name attributes body) h = none_in _ _ (none_in _ _ h).1
 parts p scope (Call at site name function arguments) h = none_in _ _ h
-parts p scope (Key at site key body) h = none_in _ _ h
 parts p scope (If at site condition then_branch else_branch) h =
     let rest = none_in _ _ h in
     let both = none_in _ _ (none_in _ _ rest.1).1 in
     (rest.0, both.0, both.1)
-parts p scope (For at site name list body) h =
-    let rest = none_in _ _ h in
-    (rest.0, (none_in _ _ (none_in _ _ rest.1).1).1)
-parts p scope (Let at site name value body) h =
-    let rest = none_in _ _ h in
-    (rest.0, (none_in _ _ rest.1).1)
-parts p scope (Remember at site name keys value body) h =
-    let rest = none_in _ _ (none_in _ _ h).1 in
-    let more = none_in _ _ rest.1 in
-    (rest.0, more.0, (none_in _ _ more.1).1)
+parts p scope (Block at site head body) h = none_in _ _ h
 
 -- A statement of a function has no faults, with some variables in scope.
 pub record IsFine (p : StatementContext) (s : Stmt) : Type 0 where
@@ -65,25 +43,15 @@ pub record IsFine (p : StatementContext) (s : Stmt) : Type 0 where
 mutual
   inner_are_fine : (p : StatementContext) (scope : List TypedName) (s : Stmt) → stmt_faults p scope s ≡ []
       → Each (IsFine p) (statement_with_inner s)
-  inner_are_fine p scope (Node at site name attributes body) h =
-      (record { scope = scope; none = h }, all_are_fine p scope body (parts p scope (Node at site name attributes body) h).1)
   inner_are_fine p scope (Call at site name function arguments) h = (record { scope = scope; none = h }, tt)
-  inner_are_fine p scope (Key at site key body) h =
-      (record { scope = scope; none = h }, all_are_fine p scope body (parts p scope (Key at site key body) h).1)
   inner_are_fine p scope (If at site condition a b) h =
       let fine = parts p scope (If at site condition a b) h in (
         record { scope = scope; none = h },
         each_joined (IsFine p) (statements_in a) (statements_in b) (all_are_fine p scope a fine.1)
             (all_are_fine p scope b fine.2),
       )
-  inner_are_fine p scope (For at site name list body) h =
-      (record { scope = scope; none = h }, all_are_fine p _ body (parts p scope (For at site name list body) h).1)
-  inner_are_fine p scope (Let at site name value body) h =
-      (record { scope = scope; none = h }, all_are_fine p _ body (parts p scope (Let at site name value body) h).1)
-  inner_are_fine p scope (Remember at site name keys value body) h = (
-    record { scope = scope; none = h },
-    all_are_fine p _ body (parts p scope (Remember at site name keys value body) h).2,
-  )
+  inner_are_fine p scope (Block at site head body) h =
+      (record { scope = scope; none = h }, all_are_fine p _ body (parts p scope (Block at site head body) h).1)
 
   -- Each statement in a body without faults has no faults.
   pub all_are_fine : (p : StatementContext) (scope : List TypedName) (ss : Stmts) → stmts_faults p scope ss ≡ []

@@ -1,24 +1,24 @@
 -- Composing a checked program reads only its states.
-use Rattle.std.proofs.Common.{◌≡◌, ◌<◌, ◌+◌, ℕ, zero, suc, List, [], ◌∷◌, ◌++◌, All, length, Bool, true, false, Option, Some, None, refl, inl, inr, is_some, slice_get, if◌then◌else◌}
+use Rattle.std.proofs.Common.{◌≡◌, ◌<◌, ℕ, zero, suc, List, [], ◌∷◌, ◌++◌, All, length, Bool, true, false, Option, Some, None, refl, inl, inr, is_some, slice_get, if◌then◌else◌}
 use Rattle.std.proofs.lemmas.Option.{slice_get_cases}
 use Rattle.std.proofs.lemmas.List.Elements.{All-nil, All-cons, All-append}
 use Rattle.rt_values.specs.Maps.{Map}
 use Rattle.rt_groups.specs.GroupForest.{GroupForest, End, Read, Group, asks}
-use Rattle.lang_ast.specs.Terms.{Expr, Literal, Variable, Get, Apply, Exprs, none, more, Named, Stmt, Node, Call, Key, If, For, Let, Remember, Stmts, Func}
+use Rattle.lang_ast.specs.declared.syntax.Source.TheVariants as source
+use Rattle.lang_ast.specs.Terms.{Expr, Literal, Variable, Get, Apply, Exprs, none, more, Named, Head, Node, Key, For, Let, Remember, Stmt, Call, If, Block, Func}
 use Rattle.lang_ast.specs.declared.program.State.{State}
 use Rattle.lang_ast.specs.ResultsWithReads.{Reading, mapped_reading, with}
 use Rattle.lang_ast.specs.Evaluation.{Bindings, new_binding, apply, is_pick, operand_taken, eval, eval_all, eval_nth, eval_named}
 use Rattle.lang_checks.specs.declared.environment.TypedName.{TypedName}
 use Rattle.lang_checks.specs.Scopes.{type_if_named, state_type}
 use Rattle.lang_checks.specs.Expressions.{ExpressionScope, expr_faults, exprs_faults, values_faults}
-use Rattle.lang_checks.specs.Statements.{plain_scope, inside, stmt_faults, stmts_faults}
-use Rattle.lang_checks.specs.ProgramFaults.{bound_parameters}
+use Rattle.lang_checks.specs.Statements.{StatementContext, plain_scope, inside, head_faults}
 use Rattle.lang_ast.proofs.Limits.{none_in}
 use Rattle.lang_checks.proofs.Fine.{held}
 use Rattle.compose_model.specs.Composing.{Meaning, forest}
-use Rattle.recompose_laws.proofs.ForestProperties.{StatementFacts, IsForestProperty, AllHold, meanings_hold}
+use Rattle.recompose_laws.proofs.ForestProperties.{head_reads, head_group, allows_all, StatementFacts, IsForestProperty, AllHold, meanings_hold}
 use Rattle.checked_laws.specs.CheckedPrograms.{ReadsAreOfStates}
-use Rattle.checked_laws.proofs.Parts.{PartsAreFine, parts, context, BodiesAreFine, bodies}
+use Rattle.checked_laws.proofs.Parts.{PartsAreFine, parts, context, IsFineIn, functions_are_fine, bodies}
 
 -- All numbers of a list are below n.
 abbrev Below : ℕ → List ℕ → Type 0
@@ -53,7 +53,8 @@ mutual
       → Below (length l.states) (eval m e env).reads
   expr_below l m (Literal at v) env h = tt
   expr_below l m (Variable name) env h = tt
-  expr_below l m (Get at name number) env h = (named_state l.states name.text number (held _ _ _ (none_in _ _ h).0), tt)
+  expr_below l m (Get at name (source.State number)) env h =
+      (named_state l.states name.text number (held _ _ _ (none_in _ _ h).0), tt)
   expr_below l m (Apply at op es) env h =
       let fine = (none_in _ _ h).0 in
       choice_below (length l.states) (is_pick op)
@@ -86,54 +87,46 @@ named_below l m (n ∷ ns) env h =
     (λ v. mapped_reading (λ bs. new_binding n.name.text v ∷ bs) (eval_named m ns env))
     (expr_below l m n.value env both.0) (λ v. named_below l m ns env both.1)
 
+head_below : (p : StatementContext) (scope : List TypedName) (m : Map) (at : ℕ) (head : Head) (env : Bindings)
+    → head_faults p scope at head ≡ [] → Below (length p.states) (head_reads m head env)
+head_below p scope m at (Node kind attributes) env h =
+    named_below (plain_scope p.states scope) m attributes env (none_in _ _ h).1
+head_below p scope m at (Key key) env h = expr_below (plain_scope p.states scope) m key env h
+head_below p scope m at (For name list) env h = expr_below (plain_scope p.states scope) m list env (none_in _ _ h).0
+head_below p scope m at (Let name e) env h = expr_below (plain_scope p.states scope) m e env (none_in _ _ h).0
+head_below p scope m at (Remember name keys e) env h =
+    let both = none_in _ _ (none_in _ _ h).1 in
+    let ks = eval_named m keys env in
+    below_on (length p.states) ks.reads (eval m e ks.value).reads
+    (named_below (plain_scope p.states scope) m keys env both.0)
+    (expr_below (inside p.states scope keys) m e ks.value (none_in _ _ both.1).0)
+
 -- A forest reads only numbers below n.
 abbrev ReadsBelow : ℕ → GroupForest → Type 0
 ReadsBelow n End = Unit {0}
 ReadsBelow n (Read x rest) = (x < n) × ReadsBelow n rest
 ReadsBelow n (Group site number what inside rest) = ReadsBelow n inside × ReadsBelow n rest
 
--- A statement has no faults in some function and scope.
-abbrev IsFine : List State → List Func → Stmt → Type 0
-IsFine states functions s =
-    (me : ℕ) × (scope : List TypedName) × (stmt_faults (context states functions me) scope s ≡ [])
-
--- Statements have no faults in some function and scope.
-abbrev AreFine : List State → List Func → Stmts → Type 0
-AreFine states functions ss =
-    (me : ℕ) × (scope : List TypedName) × (stmts_faults (context states functions me) scope ss ≡ [])
-
 -- The property that forests read only states, for statements without faults.
 reads_below : (states : List State) (functions : List Func) (m : Map) (fs : List Meaning)
     → AllHold (ReadsBelow (length states)) fs
-    → IsForestProperty m fs (Below (length states)) (ReadsBelow (length states)) (IsFine states functions)
-    (AreFine states functions)
+    → IsForestProperty m fs (Below (length states)) (ReadsBelow (length states)) (IsFineIn states functions)
 reads_below states functions m fs calls = record {
   none = tt;
   read = λ x xs r. (r.1, λ t h. (r.0, h));
-  split = λ s ss h. let both = none_in _ _ h.2 in ((h.0, h.1, both.0), (h.0, h.1, both.1));
-  facts = λ s env h. facts s env h.0 h.1 (parts (context states functions h.0) h.1 s h.2);
+  facts = λ s env h. facts s env h.0 h.1.scope (parts (context states functions h.0) h.1.scope s h.1.none);
 }
   where
     facts : (s : Stmt) (env : Bindings) (me : ℕ) (scope : List TypedName)
         → PartsAreFine (context states functions me) scope s
-        → StatementFacts m fs (Below (length states)) (ReadsBelow (length states)) (AreFine states functions) s env
-    facts (Node at site kind attributes body) env me scope h =
-        (named_below (plain_scope states scope) m attributes env h.0, (me, scope, h.1), λ t u f g. (f, g))
+        → StatementFacts m fs (Below (length states)) (ReadsBelow (length states)) s env
     facts (Call at site name function arguments) env me scope h =
         (exprs_below (plain_scope states scope) m arguments env h.0, λ u g. (calls function _, g))
-    facts (Key at site key body) env me scope h =
-        (expr_below (plain_scope states scope) m key env h.0, (me, scope, h.1), λ t u f g. (f, g))
     facts (If at site condition then_branch else_branch) env me scope h =
-        (expr_below (plain_scope states scope) m condition env h.0, (me, scope, h.1), (me, scope, h.2))
-    facts (For at site name list body) env me scope h =
-        (expr_below (plain_scope states scope) m list env h.0, (me, _, h.1))
-    facts (Let at site name e body) env me scope h =
-        (expr_below (plain_scope states scope) m e env h.0, (me, _, h.1))
-    facts (Remember at site name keys e body) env me scope h = (
-      named_below (plain_scope states scope) m keys env h.0,
-      expr_below (inside states scope keys) m e (eval_named m keys env).value h.1,
-      (me, _, h.2),
-      λ u g. (tt, g),
+        expr_below (plain_scope states scope) m condition env h.0
+    facts (Block at site head body) env me scope h = (
+      head_below (context states functions me) scope m at head env h.0,
+      allows_all (ReadsBelow (length states)) site (head_group m head env) (λ what t u f g. (f, g)),
     )
 
 all_asked : (n : ℕ) (t : GroupForest) → ReadsBelow n t → All (λ x. x < n) (asks t)
@@ -144,7 +137,6 @@ all_asked n (Group site number what inside rest) h =
 
 pub reads_are_of_states : ReadsAreOfStates
 reads_are_of_states p root m e =
-    let below = meanings_hold (reads_below p.states p.functions m)
-    (λ fs. (me : ℕ) × BodiesAreFine p.states p.functions me fs)
-    (λ f fs h. ((h.0, bound_parameters f.parameters, h.1.0), (h.0 + 1, h.1.1))) p.functions tt (0, bodies p e) in
+    let below = meanings_hold (reads_below p.states p.functions m) p.functions tt
+    (functions_are_fine p.states p.functions 0 p.functions (bodies p e)) in
     all_asked (length p.states) (forest p.functions root m) (below root [], tt)

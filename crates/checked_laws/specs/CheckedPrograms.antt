@@ -4,7 +4,7 @@ use Rattle.rt_values.specs.declared.value.Value.{Value}
 use Rattle.rt_values.specs.Values.{no_value}
 use Rattle.rt_values.specs.Maps.{Map}
 use Rattle.rt_groups.specs.GroupForest.{asks}
-use Rattle.lang_ast.specs.Terms.{Stmt, Remember, Func}
+use Rattle.lang_ast.specs.Terms.{Remember, Stmt, Block, Func}
 use Rattle.lang_ast.specs.Programs.{Program, functions_statements, statement_at}
 use Rattle.lang_checks.specs.ProgramFaults.{program_faults}
 use Rattle.lang_checks.specs.Numbers.{IsNumberedProgram}
@@ -18,7 +18,7 @@ ProgramIsOrdered = (p : Program) → IsNumberedProgram p → program_faults p �
 
 -- The calculation of a `remember`, as a function of the values of its keys. Everything else has the default value.
 abbrev pub calculation : Option Stmt → List Value → Value
-calculation (Some (Remember at site name keys value body)) vs = calculated_from keys value vs
+calculation (Some (Block at site (Remember name keys value) body)) vs = calculated_from keys value vs
 calculation _ vs = no_value
 
 -- The value that functions calculate at a site.
