@@ -1,7 +1,7 @@
 -- The sites at which a checked program has node statements are those of its nodes.
 use Rattle.std.proofs.Common.{◌≡◌, ℕ, Bool, Option, None, Some, refl, ◌∙◌}
 use Rattle.rt_groups.specs.GroupForest.{GroupForest, End, Read, Group}
-use Rattle.lang_ast.specs.Terms.{Stmt, Node}
+use Rattle.lang_ast.specs.Terms.{Node, Stmt, Block}
 use Rattle.lang_ast.specs.Programs.{functions_statements, statement_at}
 use Rattle.compose_model.specs.Composing.{forest}
 use Rattle.recompose_laws.specs.Distinct.{NodesAt}
@@ -11,7 +11,7 @@ use Rattle.node_laws.specs.NodeSites.{makes_node, is_node_site, NodesAreAtSitesO
 
 shape_of_node : (o : Option Stmt) → tells_node (statement_shape o) ≡ makes_node o
 shape_of_node None = refl
-shape_of_node (Some (Node at site kind attributes body)) = refl
+shape_of_node (Some (Block at site (Node kind attributes) body)) = refl
 shape_of_node (Some _) = refl
 
 at_same_sites : (f g : ℕ → Bool) (t : GroupForest) → ((x : ℕ) → f x ≡ g x) → NodesAt f t → NodesAt g t

@@ -1,15 +1,15 @@
 -- Each site of a checked program identifies a statement: whether the statement makes a node, and of which shape.
-use Rattle.std.proofs.Common.{arith, ◌≡◌, ◌||◌, ℕ, List, [], ◌∷◌, ◌++◌, map, Bool, true, false, not, Option, Some, None, refl, sym, ap, ◌∙◌, subst, inl, inr, append_assoc}
+use Rattle.std.proofs.Common.{arith, ◌≡◌, ◌||◌, ℕ, List, [], ◌∷◌, ◌++◌, map, Bool, true, false, Option, Some, None, refl, sym, ap, ◌∙◌, subst, inl, inr, append_assoc}
 use Rattle.std.specs.List.{list_any}
 use Rattle.std.specs.Str.{bytes_eq}
 use Rattle.std.proofs.lemmas.Bool.{true≢false, cases_Bool, not-true as not_false}
 use Rattle.std.proofs.lemmas.Slice.Eq.{bytes_eq-Decides}
 use Rattle.lang_ast.specs.declared.syntax.Ident.{Ident}
 use Rattle.lang_ast.specs.declared.program.State.{State}
-use Rattle.lang_ast.specs.Terms.{Named, Stmt, Node, Func}
-use Rattle.lang_ast.specs.Programs.{Program, site_of, statements_in, functions_statements, statement_at, Each}
+use Rattle.lang_ast.specs.Terms.{Named, Node, Stmt, Block, Func}
+use Rattle.lang_ast.specs.Programs.{Program, site_of, functions_statements, statement_at, Each}
 use Rattle.lang_ast.proofs.Limits.{none_in}
-use Rattle.lang_ast.proofs.Statements.{each_apart, each_of_both}
+use Rattle.lang_ast.proofs.Statements.{each_of_both}
 use Rattle.lang_checks.specs.Scopes.{duplicate_faults}
 use Rattle.lang_checks.specs.Statements.{names}
 use Rattle.lang_checks.specs.Numbers.{IsNumberedProgram}
@@ -36,7 +36,7 @@ node_shape kind attributes = Some (record { kind = kind.text; names = texts attr
 -- The shape of the nodes of the statement that a look-up finds, if it makes nodes.
 abbrev pub statement_shape : Option Stmt → Told
 statement_shape None = None
-statement_shape (Some (Node at site kind attributes body)) = Some (node_shape kind attributes)
+statement_shape (Some (Block at site (Node kind attributes) body)) = Some (node_shape kind attributes)
 statement_shape (Some _) = Some None
 
 -- No name equals a later one.
@@ -46,13 +46,12 @@ AreApart (n ∷ ns) = (list_any (λ m. bytes_eq m n) ns ≡ false) × AreApart n
 
 -- `look` returns the shape at the site of a statement, and the attributes of a node have distinct names.
 abbrev pub IsTold : (ℕ → Told) → Stmt → Type 0
-IsTold look (Node at site kind attributes body) =
+IsTold look (Block at site (Node kind attributes) body) =
     (look site ≡ Some (node_shape kind attributes)) × AreApart (texts attributes)
 IsTold look s = look (site_of s) ≡ Some None
 
 abbrev pub FunctionsAreTold : (ℕ → Told) → List Func → Type 0
-FunctionsAreTold look [] = Unit {0}
-FunctionsAreTold look (f ∷ fs) = Each (IsTold look) (statements_in f.body) × FunctionsAreTold look fs
+FunctionsAreTold look functions = Each (IsTold look) (functions_statements functions)
 
 -- The attribute names of a node without faults are apart.
 
@@ -111,16 +110,9 @@ names_apart ns e = subst (λ (l : List (List ℕ)). AreApart l) (same_texts ns) 
 
 is_told : (states : List State) (functions : List Func) (all : List Stmt) (s : Stmt) → IsFineIn states functions s
     → statement_at (site_of s) all ≡ Some s → IsTold (λ x. statement_shape (statement_at x all)) s
-is_told states functions all (Node at site kind attributes body) fine found =
-    (ap statement_shape found, names_apart attributes (none_in _ _ fine.1.none).0)
+is_told states functions all (Block at site (Node kind attributes) body) fine found =
+    (ap statement_shape found, names_apart attributes (none_in _ _ (none_in _ _ fine.1.none).0).0)
 is_told states functions all _ fine found = ap statement_shape found
-
-each_is_told : (look : ℕ → Told) (fs : List Func) → Each (IsTold look) (functions_statements fs)
-    → FunctionsAreTold look fs
-each_is_told look [] h = tt
-each_is_told look (f ∷ fs) h =
-    let both = each_apart (IsTold look) (statements_in f.body) (functions_statements fs) h in
-    (both.0, each_is_told look fs both.1)
 
 -- The statement of the program at a site. The site 0 of the root's call has no statement.
 abbrev pub look_up : List Func → ℕ → Told
@@ -133,10 +125,9 @@ pub functions_are_told : (p : Program) → IsNumberedProgram p → program_fault
     → FunctionsAreTold (look_up p.functions) p.functions
 functions_are_told p h e =
     let all = functions_statements p.functions in
-    each_is_told (look_up p.functions) p.functions
-    (each_of_both (IsFineIn p.states p.functions) (λ s. statement_at (site_of s) all ≡ Some s)
+    each_of_both (IsFineIn p.states p.functions) (λ s. statement_at (site_of s) all ≡ Some s)
     (IsTold (look_up p.functions)) all (is_told p.states p.functions all)
-    (functions_are_fine p.states p.functions 0 p.functions (bodies p e)) (each_is_found 0 all (rising p h)))
+    (functions_are_fine p.states p.functions 0 p.functions (bodies p e)) (each_is_found 0 all (rising p h))
 
 -- No statement is at site 0.
 pub none_at_root : (p : Program) → IsNumberedProgram p → look_up p.functions 0 ≡ None

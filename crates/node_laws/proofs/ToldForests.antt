@@ -5,16 +5,16 @@ use Rattle.std.specs.Str.{bytes_eq}
 use Rattle.rt_values.specs.Maps.{Map}
 use Rattle.rt_groups.specs.GroupForest.{GroupForest, End, Read, Group, GroupKind, Attribute}
 use Rattle.rt_groups.specs.GroupForest as trail
-use Rattle.lang_ast.specs.Terms.{Named, Stmt, Node, Call, Key, If, For, Let, Remember, Func}
-use Rattle.lang_ast.specs.Programs.{Program, statement_with_inner, statements_in, Each}
-use Rattle.lang_ast.proofs.Statements.{each_apart, each_follows}
+use Rattle.lang_ast.specs.Terms.{Named, Head, Node, For, Let, Stmt, Call, If, Block, Stmts, Func}
+use Rattle.lang_ast.specs.Programs.{Program, functions_statements}
+use Rattle.lang_ast.proofs.Statements.{each_follows}
 use Rattle.lang_ast.specs.Evaluation.{Bindings, eval_named}
 use Rattle.lang_checks.specs.Numbers.{IsNumberedProgram}
 use Rattle.lang_checks.specs.ProgramFaults.{program_faults}
 use Rattle.compose_model.specs.Composing.{Meaning, attribute, forest}
 use Rattle.recompose_laws.specs.Numbering.{without_numbers}
 use Rattle.recompose_laws.specs.Distinct.{NodesAt, SiteTells, FunctionsTell}
-use Rattle.recompose_laws.proofs.ForestProperties.{StatementFacts, AnyReads, IsForestProperty, AllHold, meanings_hold}
+use Rattle.recompose_laws.proofs.ForestProperties.{head_group, Allows, StatementFacts, AnyReads, IsForestProperty, AllHold, meanings_hold}
 use Rattle.recompose_laws.proofs.Sites.{nodes_are_at_node_sites}
 use Rattle.node_tree.specs.Calls.{has_attribute}
 use Rattle.node_tree.specs.Premises.{HaveDistinctNames, names_of}
@@ -31,18 +31,14 @@ abbrev pub at_node : (ℕ → Told) → ℕ → Bool
 at_node look site = tells_node (look site)
 
 site_tells : (look : ℕ → Told) (s : Stmt) → IsTold look s → SiteTells (at_node look) s
-site_tells look (Node at site kind attributes body) h = sym (ap tells_node h.0)
 site_tells look (Call at site name function arguments) h = sym (ap tells_node h)
-site_tells look (Key at site key body) h = sym (ap tells_node h)
-site_tells look (Remember at site name keys value body) h = sym (ap tells_node h)
-site_tells look _ h = tt
+site_tells look (If at site condition then_branch else_branch) h = tt
+site_tells look (Block at site (Node kind attributes) body) h = λ made. sym (ap tells_node h.0)
+site_tells look (Block at site _ body) h = λ made. sym (ap tells_node h)
 
 functions_tell : (look : ℕ → Told) (fs : List Func) → FunctionsAreTold look fs → FunctionsTell (at_node look) fs
-functions_tell look [] h = tt
-functions_tell look (f ∷ fs) h = (
-  each_follows (IsTold look) (SiteTells (at_node look)) (statements_in f.body) (site_tells look) h.0,
-  functions_tell look fs h.1,
-)
+functions_tell look fs h =
+    each_follows (IsTold look) (SiteTells (at_node look)) (functions_statements fs) (site_tells look) h
 
 -- The shape of a node.
 abbrev pub shape_of : List ℕ → List Attribute → Shape
@@ -87,40 +83,34 @@ made_shape look site kind ns attributes same told apart = (
 
 -- The property that nodes have shapes, for statements whose shapes `look` gives.
 shaped_forests : (look : ℕ → Told) (m : Map) (fs : List Meaning) → AllHold (HaveShapes look) fs
-    → IsForestProperty m fs AnyReads (HaveShapes look) (λ s. Each (IsTold look) (statement_with_inner s))
-    (λ ss. Each (IsTold look) (statements_in ss))
+    → IsForestProperty m fs AnyReads (HaveShapes look) (IsTold look)
 shaped_forests look m fs calls = record {
   none = tt;
   read = λ x xs r. (tt, λ t h. h);
-  split = λ s ss h. each_apart (IsTold look) (statement_with_inner s) (statements_in ss) h;
   facts = facts;
 }
   where
-    facts : (s : Stmt) (env : Bindings) → Each (IsTold look) (statement_with_inner s)
-        → StatementFacts m fs AnyReads (HaveShapes look) (λ ss. Each (IsTold look) (statements_in ss)) s env
-    facts (Node at site kind attributes body) env h = (
-      tt,
-      h.1,
-      λ t u f g. (
-        made_shape look site kind.text attributes (map attribute (eval_named m attributes env).value)
-            (names_made m attributes env) h.0.0 h.0.1,
-        f,
-        g,
-      ),
+    shaped : (at site : ℕ) (head : Head) (body : Stmts) (env : Bindings) → IsTold look (Block at site head body)
+        → Allows (HaveShapes look) site (head_group m head env)
+    shaped at site (Node kind attributes) body env h = λ t u f g. (
+      made_shape look site kind.text attributes (map attribute (eval_named m attributes env).value)
+          (names_made m attributes env) h.0 h.1,
+      f,
+      g,
     )
+    shaped at site (For name list) body env h = tt
+    shaped at site (Let name e) body env h = tt
+    shaped at site _ body env h = λ t u f g. (tt, f, g)
+
+    facts : (s : Stmt) (env : Bindings) → IsTold look s → StatementFacts m fs AnyReads (HaveShapes look) s env
     facts (Call at site name function arguments) env h = (tt, λ u g. (tt, calls function _, g))
-    facts (Key at site key body) env h = (tt, h.1, λ t u f g. (tt, f, g))
-    facts (If at site condition then_branch else_branch) env h =
-        let both = each_apart (IsTold look) (statements_in then_branch) (statements_in else_branch) h.1 in
-        (tt, both.0, both.1)
-    facts (For at site name list body) env h = (tt, h.1)
-    facts (Let at site name e body) env h = (tt, h.1)
-    facts (Remember at site name keys e body) env h = (tt, tt, h.1, λ u g. (tt, tt, g))
+    facts (If at site condition then_branch else_branch) env h = tt
+    facts (Block at site head body) env h = (tt, shaped at site head body env h)
 
 forest_shaped : (look : ℕ → Told) (functions : List Func) (root : ℕ) (m : Map) → FunctionsAreTold look functions
     → HaveShapes look (forest functions root m)
 forest_shaped look functions root m h =
-    (tt, meanings_hold (shaped_forests look m) (FunctionsAreTold look) (λ f fs g. g) functions tt h root [], tt)
+    (tt, meanings_hold (shaped_forests look m) functions tt h root [], tt)
 
 -- Node numbers change neither shapes nor sites.
 shaped_anyway : (look : ℕ → Told) (t : GroupForest) → HaveShapes look (without_numbers t) → HaveShapes look t

@@ -1,7 +1,7 @@
 -- Law: the sites of the nodes of a composition.
 use Rattle.std.specs.Prelude.{ℕ, ◌≡◌, List, [], Bool, true, false, Option, Some}
 use Rattle.rt_values.specs.Maps.{Map}
-use Rattle.lang_ast.specs.Terms.{Stmt, Node, Func}
+use Rattle.lang_ast.specs.Terms.{Node, Stmt, Block, Func}
 use Rattle.lang_ast.specs.Programs.{Program, functions_statements, statement_at}
 use Rattle.lang_checks.specs.Numbers.{IsNumberedProgram}
 use Rattle.lang_checks.specs.ProgramFaults.{program_faults}
@@ -10,7 +10,7 @@ use Rattle.recompose_laws.specs.Distinct.{NodesAt}
 
 -- Whether there is a node statement.
 abbrev pub makes_node : Option Stmt → Bool
-makes_node (Some (Node at site kind attributes body)) = true
+makes_node (Some (Block at site (Node kind attributes) body)) = true
 makes_node _ = false
 
 -- Whether functions have a node statement at a site.
