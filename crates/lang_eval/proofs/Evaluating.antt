@@ -10,13 +10,15 @@ use Rattle.rt_values.specs.Operators.{number_of}
 use Rattle.rt_values.specs.Maps.{Map, value_at}
 use Rattle.rt_values.specs.Views.{Grew}
 use Rattle.lang_ast.specs.ResultsWithReads.{Reading, pure_reading, mapped_reading, with}
-use Rattle.lang_ast.specs.Evaluation.{Bindings, lookup, eval, eval_all, eval_nth, first, second, apply, is_pick, operand_taken}
+use Rattle.lang_ast.specs.Evaluation.{Bindings, lookup, source_reading, eval, eval_all, eval_nth, first, second, apply, is_pick, operand_taken}
 use Rattle.lang_ast.specs.Terms.{Expr, Exprs, Apply}
 use Rattle.lang_ast.specs.SyntaxView.{expr_view, exprs_view}
 use Rattle.lang_ast.specs.declared.syntax.Ident.{Ident}
 use Rattle.lang_ast.specs.declared.syntax.Expression.{Expression, Literal as LiteralOf, Variable as VariableOf, Get as GetOf, Apply as ApplyOf}
 use Rattle.lang_ast.specs.declared.syntax.Operator.{Operator}
 use Rattle.lang_ast.specs.declared.syntax.Operator.TheVariants as operator
+use Rattle.lang_ast.specs.declared.syntax.Source.{Source}
+use Rattle.lang_ast.specs.declared.syntax.Source.TheVariants as source
 use Rattle.lang_ast.proofs.Views.{view-Literal, view-Variable, view-Get, view-Apply}
 use Rattle.lang_eval.specs.Flatness.{is_flat_expr, are_flat, is_flat_nth}
 use Rattle.lang_eval.specs.Operands.{is_list, pair, pair_from, list_with_all}
@@ -105,28 +107,29 @@ variable_evaluated m e name text env noting free asked reads result is named val
     ∙ ap (λ (n : List ℕ). pure_reading (lookup env n)) (sym named)) value
     (λ g. f (ap (λ (n : List ℕ). is_flat (lookup env n)) named ∙ ap (λ (x : Expr). is_flat_expr m x env) (sym view) ∙ g))
 
--- The reading of a `Get`.
-pub get_reading : (m : Map) (e : Expression) (at : ℕ) (name : Ident) (x : ℕ) (env : Bindings) → e ≡ GetOf at name x
-    → eval m (expr_view e) env ≡ record { value = value_at m x; reads = x ∷ [] }
-get_reading m e at name x env is = ap (λ (y : Expression). eval m (expr_view y) env) is
-    ∙ ap (λ (y : Expr). eval m y env) (view-Get at name x)
+-- The reading of a state object.
+pub state_evaluated : {E : Type 0} (m : Map) (s : Source) (x : ℕ) (noting : Bool) (free : Type 0)
+    (asked asked' reads reads' : List ℕ) (result : Result Value E) → s ≡ source.State x
+    → EvaluatesReading (source_reading m (source.State x)) noting free (is_flat (value_at m x)) asked asked' reads reads'
+    result
+    → EvaluatesReading (source_reading m s) noting free (is_flat (source_reading m s).value) asked asked' reads reads'
+    result
+state_evaluated m s x noting free asked asked' reads reads' result is h =
+    evaluated_as _ _ _ _ _ _ _ _ _ _ _ (ap (λ (y : Source). source_reading m y) is)
+    (λ g. ap (λ (y : Source). is_flat (source_reading m y).value) (sym is) ∙ g) h
 
-pub get_flat : (m : Map) (e : Expression) (at : ℕ) (name : Ident) (x : ℕ) (env : Bindings) → e ≡ GetOf at name x
-    → is_flat_expr m (expr_view e) env ≡ true → is_flat (value_at m x) ≡ true
-get_flat m e at name x env is f = sym (ap (λ (y : Expression). is_flat_expr m (expr_view y) env) is
-    ∙ ap (λ (y : Expr). is_flat_expr m y env) (view-Get at name x)) ∙ f
-
--- The view asked for a part of the read.
-pub get_stop : {E : Type 0} (m : Map) (e : Expression) (at : ℕ) (name : Ident) (x : ℕ) (env : Bindings) (noting : Bool)
-    (free : Type 0) (asked asked' reads reads' : List ℕ) (result : Result Value E) → e ≡ GetOf at name x
-    → IsErr result → Grew asked asked' (x ∷ [])
-    → (noting ≡ false → free → is_flat (value_at m x) ≡ true → ⊥)
+-- A `Get` is evaluated by reading what its name stands for.
+pub get_evaluated : {E : Type 0} (m : Map) (e : Expression) (at : ℕ) (name : Ident) (source : Source) (env : Bindings)
+    (noting : Bool) (free : Type 0) (asked asked' reads reads' : List ℕ) (result : Result Value E)
+    → e ≡ GetOf at name source
+    → EvaluatesReading (source_reading m source) noting free (is_flat (source_reading m source).value) asked asked' reads
+    reads' result
     → EvaluatesReading (eval m (expr_view e) env) noting free (is_flat_expr m (expr_view e) env) asked asked' reads
     reads' result
-get_stop m e at name x env noting free asked asked' reads reads' result is err part f =
-    evaluated_stop _ _ _ _ _ _ _ _ _ err
-    (subst (λ (r : Reading Value). Grew asked asked' r.reads) (sym (get_reading m e at name x env is)) part)
-    (λ n q g. f n q (get_flat m e at name x env is g))
+get_evaluated m e at name source env noting free asked asked' reads reads' result is h =
+    let view = ap expr_view is ∙ view-Get at name source in
+    evaluated_as _ _ _ _ _ _ _ _ _ _ _ (ap (λ (x : Expr). eval m x env) view)
+    (λ g. ap (λ (x : Expr). is_flat_expr m x env) (sym view) ∙ g) h
 
 -- Operators.
 

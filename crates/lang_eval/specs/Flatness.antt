@@ -1,16 +1,16 @@
 -- Trusted: expressions whose parts are all numbers or truth values, so that their evaluation needs no memory.
 use Rattle.std.specs.Prelude.{ℕ, zero, suc, Bool, true, ◌&&◌}
-use Rattle.rt_values.specs.Maps.{Map, value_at}
+use Rattle.rt_values.specs.Maps.{Map}
 use Rattle.rt_values.specs.Values.{is_flat}
 use Rattle.lang_ast.specs.Terms.{Expr, Literal, Variable, Get, Apply, Exprs, none, more}
-use Rattle.lang_ast.specs.Evaluation.{Bindings, lookup, eval}
+use Rattle.lang_ast.specs.Evaluation.{Bindings, lookup, source_reading, eval}
 
 abbrev mutual
   -- Whether an expression and each part of it have a number or a truth value.
   pub is_flat_expr : Map → Expr → Bindings → Bool
   is_flat_expr m (Literal at v) env = is_flat v
   is_flat_expr m (Variable name) env = is_flat (lookup env name.text)
-  is_flat_expr m (Get at name x) env = is_flat (value_at m x)
+  is_flat_expr m (Get at name source) env = is_flat (source_reading m source).value
   is_flat_expr m (Apply at op es) env = is_flat (eval m (Apply at op es) env).value && are_flat m es env
 
   -- Whether each of these expressions, and each part of them, has a number or a truth value.

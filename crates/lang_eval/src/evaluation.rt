@@ -2,9 +2,11 @@
 ghost use Rattle.std.specs.Prelude.{◌≡◌, ◌++◌, map, take, true, false, IfOk, OnOk, OnErr};
 ghost use Rattle.rt_values.specs.Limits.{most_items};
 ghost use Rattle.rt_values.specs.Operators.{number_of};
+ghost use Rattle.rt_values.specs.Values.{is_flat};
 ghost use Rattle.rt_values.specs.Maps.{Map};
 ghost use Rattle.rt_values.specs.Views.{Grew};
-ghost use Rattle.lang_ast.specs.Evaluation.{eval, eval_all, eval_nth, first, second};
+ghost use Rattle.lang_ast.specs.Evaluation.{source_reading, eval, eval_all, eval_nth, first, second};
+ghost use Rattle.lang_ast.specs.declared.syntax.Source.TheVariants as source_data;
 ghost use Rattle.lang_ast.specs.SyntaxView.{expr_view, exprs_view};
 ghost use Rattle.lang_ast.specs.ResultsWithReads.{mapped_reading};
 ghost use Rattle.lang_eval.specs.Flatness.{is_flat_expr, are_flat, is_flat_nth};
@@ -13,8 +15,8 @@ ghost use Rattle.lang_eval.specs.EvaluatesReading.{Evaluates};
 
 use crate::applying::{Pair, apply, choose_operand, is_list, is_pick};
 use crate::scope::Env;
-use lang_ast::Expression;
-use rt_values::{IntList, NoMemory, Objects, Value, View};
+use lang_ast::{Expression, Source};
+use rt_values::{IntList, NoMemory, ObjectNo, Objects, Value, View};
 use std::alloc::Global;
 
 /// Returns the value of an expression in the map that the view shows, with the variables in `scope`. The view is
@@ -72,6 +74,35 @@ pub fn eval_noting<V: View>(
     eval_inlined(alloc, expression, scope, view, reads, true)
 }
 
+// Returns the object that a name stands for.
+fn object_of(source: Source) -> ObjectNo
+    ensures { source ≡ source_data.State result }
+{
+    let Source::State(number) = source;
+    number
+}
+
+// Reads what a name stands for. Appends the read to `reads` if `is_noting` is true.
+fn read_source<V: View>(
+    alloc: Global,
+    source: Source,
+    view: &mut V,
+    reads: &mut Objects,
+    is_noting: bool,
+) -> Result<Value, NoMemory>
+    ensures { Evaluates V.shows V.asked V.keeps V.reads_free is_noting
+        (λ m. source_reading m source)
+        (λ m. is_flat (source_reading m source).value)
+        view.old view.new reads.old reads.new result }
+{
+    let number = object_of(source);
+    let value = view.read(alloc, number)?;
+    if is_noting {
+        reads.push(number)?;
+    }
+    Ok(value)
+}
+
 // Evaluates an expression. Appends its reads to `reads` if `is_noting` is true.
 #[cycle(evaluate)]
 fn eval_part<V: View>(
@@ -90,13 +121,7 @@ fn eval_part<V: View>(
     match expression {
         Expression::Literal { value, .. } => value.copy(alloc),
         Expression::Variable { name } => scope.value_of(alloc, &name.text),
-        Expression::Get { number, .. } => {
-            let value = view.read(alloc, *number)?;
-            if is_noting {
-                reads.push(*number)?;
-            }
-            Ok(value)
-        }
+        Expression::Get { source, .. } => read_source(alloc, *source, view, reads, is_noting),
         Expression::Apply {
             operator,
             operands,

@@ -8,7 +8,7 @@ use Rattle.lang_eval.specs.declared.applying.Pair.{Pair}
 use Rattle.lang_eval.proofs.Operands.{nth_found, nth_none}
 use Rattle.lang_eval.proofs.Flats.{flat_at, nth_flat}
 use Rattle.lang_eval.proofs.Grows.{grew_all, grew_none}
-use Rattle.lang_eval.proofs.Evaluating.{evaluated_pure, evaluated_as, evaluated_stop, literal_evaluated, variable_evaluated, get_stop, apply_view, pick_stop, pick_evaluated, list_stop, list_evaluated, two_stop, two_evaluated, progress_first, progress_more, progress_done, progress_stop, pairs_first, numbers_first}
+use Rattle.lang_eval.proofs.Evaluating.{evaluated_pure, evaluated_as, evaluated_stop, literal_evaluated, variable_evaluated, get_evaluated, apply_view, pick_stop, pick_evaluated, list_stop, list_evaluated, two_stop, two_evaluated, progress_first, progress_more, progress_done, progress_stop, pairs_first, numbers_first}
 use Rattle.lang_eval.proofs.evaluation.+evaluate.Goals as goal
 
 -- Literals, variables and reads of state objects.
@@ -28,32 +28,19 @@ eval_part-returns-in-Variable g t c = record {
       c.value_of.ensures.free;
 }
 
-pub eval_part-returns-in_err-value-in-Get : goal.eval_part-returns-in_err-value-in-Get
-eval_part-returns-in_err-value-in-Get g t c =
-    let err : IsErr c.from_residual.result = c.from_residual.ensures.0 in
-    record {
-      keeps = c.in_err-value-in-Get.ensures.keeps;
-      same = c.in_err-value-in-Get.ensures.same;
-      gives = λ m h. get_stop m _ _ _ _ _ _ _ _ _ _ _ _ c.in-Get.is err c.in_err-value-in-Get.ensures.part
-          (λ n q f. c.in_err-value-in-Get.ensures.free m h q f);
-    }
-
-pub eval_part-returns-in_err-push-in-Get : goal.eval_part-returns-in_err-push-in-Get
-eval_part-returns-in_err-push-in-Get g t c =
-    let err : IsErr c.from_residual-in_err-push-in-Get.result = c.from_residual-in_err-push-in-Get.ensures.0 in
-    record {
-      keeps = c.in_ok-value-in-Get.ensures.keeps;
-      same = c.in_ok-value-in-Get.ensures.same;
-      gives = λ m h. get_stop m _ _ _ _ _ _ _ _ _ _ _ _ c.in-Get.is err
-          (grew_all _ _ _ c.in_ok-value-in-Get.ensures.asks) (λ n q f. let e = c.if-is_noting.true in cc);
-    }
+pub eval_part-returns-in-Get : goal.eval_part-returns-in-Get
+eval_part-returns-in-Get g t c = record {
+  keeps = c.read_source.ensures.keeps;
+  same = c.read_source.ensures.same;
+  gives = λ m h. get_evaluated m _ _ _ _ _ _ _ _ _ _ _ _ c.in-Get.is (c.read_source.ensures.gives m h);
+}
 
 -- A pick evaluates its condition and one other operand.
 
 pub eval_part-returns-in_err-condition-in-Apply : goal.eval_part-returns-in_err-condition-in-Apply
 eval_part-returns-in_err-condition-in-Apply g t c =
     let view = apply_view c.args.expression.now _ _ _ _ c.in-Apply.is c.deref.ensures.value in
-    let err : IsErr c.from_residual-in_err-condition-in-Apply.result = c.from_residual-in_err-condition-in-Apply.ensures.0 in
+    let err : IsErr c.from_residual.result = c.from_residual.ensures.0 in
     record {
       keeps = c.in_err-condition-in-Apply.ensures.keeps;
       same = c.in_err-condition-in-Apply.ensures.same;
