@@ -5,16 +5,17 @@ use Rattle.std.proofs.lemmas.List.{append-nil, length-map}
 use Rattle.std.proofs.lemmas.Option.{slice_get-map}
 use Rattle.lang_ast.proofs.Lists.{drop_item}
 use Rattle.lang_ast.proofs.Views.{views}
-use Rattle.lang_ast.specs.Terms.{Stmt, Node, Call, Key, If, For, Let, Remember, Stmts, done, next, operand_count}
-use Rattle.lang_ast.specs.SyntaxView.{expr_view, exprs_view, nameds_view, stmt_view, stmts_view, function_view, functions_view}
+use Rattle.lang_ast.specs.Terms.{Remember, Stmt, Call, If, Block, Stmts, done, next, operand_count}
+use Rattle.lang_ast.specs.SyntaxView.{expr_view, exprs_view, named_view, nameds_view, stmt_view, stmts_view, function_view, functions_view}
 use Rattle.lang_ast.specs.declared.program.State.{State}
 use Rattle.lang_ast.specs.declared.syntax.Expression.{Expression}
 use Rattle.lang_ast.specs.declared.syntax.Statement.{Statement}
 use Rattle.lang_ast.specs.declared.syntax.Function.{Function}
+use Rattle.lang_ast.specs.declared.syntax.Ident.{Ident}
 use Rattle.lang_ast.specs.declared.syntax.Parameter.{Parameter}
 use Rattle.lang_ast.specs.declared.syntax.Named as named
 use Rattle.lang_limits.specs.LeastOffset.{least_offset_from}
-use Rattle.lang_ast.specs.Sizes.{most_parts, nesting, deepest, name_sizes, expr_lengths, exprs_lengths, expr_sizes, exprs_sizes, named_sizes, stmt_sizes, stmts_sizes, parameters_sizes, function_sizes, functions_sizes, states_sizes, state_offset, function_offset, offset_if}
+use Rattle.lang_ast.specs.Sizes.{most_parts, nesting, deepest, name_sizes, expr_lengths, exprs_lengths, expr_sizes, exprs_sizes, named_sizes, head_sizes, stmt_sizes, stmts_sizes, parameters_sizes, function_sizes, functions_sizes, states_sizes, state_offset, function_offset, offset_if}
 use Rattle.lang_limits.proofs.Lesser.{least_append}
 
 -- The view of each form in memory, and the least of one list after another.
@@ -69,6 +70,22 @@ named_step ns i n o h is =
     ∙ ap (λ (p : Option ℕ). least_offset_from p (named_sizes (nameds_view (drop (i + 1) ns))))
     (least_append o (name_sizes n.name) (expr_sizes (expr_view n.value)))
 
+-- The least of a name, of a list of named expressions that may be too long, and of an expression.
+pub keyed_sizes : (o : Option ℕ) (at : ℕ) (n : Ident) (ks : List named.Named) (e : Expression) →
+    least_offset_from o (head_sizes at (Remember n (nameds_view ks) (expr_view e)))
+    ≡ least_offset_from (least_offset_from (least_offset_from (least_offset_from o (name_sizes n))
+    (offset_if (nat_lt most_parts (length ks)) at)) (named_sizes (nameds_view ks))) (expr_sizes (expr_view e))
+keyed_sizes o at n ks e =
+    let part = offset_if (nat_lt most_parts (length ks)) at in
+    let keys = named_sizes (nameds_view ks) in
+    let value = expr_sizes (expr_view e) in
+    ap (λ (k : ℕ). least_offset_from o (name_sizes n ++ offset_if (nat_lt most_parts k) at ++ keys ++ value))
+    (length-map ks named_view)
+    ∙ least_append o (name_sizes n ++ part ++ keys) value
+    ∙ ap (λ (p : Option ℕ). least_offset_from p value)
+    (least_append o (name_sizes n ++ part) keys
+    ∙ ap (λ (p : Option ℕ). least_offset_from p keys) (least_append o (name_sizes n) part))
+
 pub stmts_step : (d : ℕ) (ss : List Statement) (i : ℕ) (s : Statement) (o : Option ℕ) → i < length ss
     → s ≡ get_or ss i s →
     least_offset_from o (stmts_sizes d (stmts_view (drop i ss)))
@@ -108,22 +125,14 @@ deeper d h = omega arith
 -- Statements that are nested too deep have the same oversized parts at each depth.
 mutual
   stmt_same : (s : Stmt) (d e : ℕ) → most_parts < d → most_parts < e → stmt_sizes d s ≡ stmt_sizes e s
-  stmt_same (Node at site n ns body) d e h k =
-      rw (over_same d e at h k, stmts_same body (d + 1) (e + 1) (deeper d h) (deeper e k)) refl
   stmt_same (Call at site n f es) d e h k = rw (over_same d e at h k) refl
-  stmt_same (Key at site x body) d e h k =
-      rw (over_same d e at h k, stmts_same body (d + 1) (e + 1) (deeper d h) (deeper e k)) refl
   stmt_same (If at site x a b) d e h k =
       rw (
         over_same d e at h k,
         stmts_same a (d + 1) (e + 1) (deeper d h) (deeper e k),
         stmts_same b (d + 1) (e + 1) (deeper d h) (deeper e k),
       ) refl
-  stmt_same (For at site n x body) d e h k =
-      rw (over_same d e at h k, stmts_same body (d + 1) (e + 1) (deeper d h) (deeper e k)) refl
-  stmt_same (Let at site n x body) d e h k =
-      rw (over_same d e at h k, stmts_same body (d + 1) (e + 1) (deeper d h) (deeper e k)) refl
-  stmt_same (Remember at site n ks x body) d e h k =
+  stmt_same (Block at site head body) d e h k =
       rw (over_same d e at h k, stmts_same body (d + 1) (e + 1) (deeper d h) (deeper e k)) refl
 
   stmts_same : (ss : Stmts) (d e : ℕ) → most_parts < d → most_parts < e → stmts_sizes d ss ≡ stmts_sizes e ss

@@ -1,13 +1,13 @@
 // The parts of a program that are too many, too long or nested too deep.
 ghost use Rattle.std.specs.Prelude.{◌≡◌, ◌+◌, ◌++◌, nat_lt, map, length};
-ghost use Rattle.lang_ast.specs.SyntaxView.{expr_view, exprs_view, nameds_view, stmt_view, stmts_view, function_view, functions_view};
+ghost use Rattle.lang_ast.specs.SyntaxView.{expr_view, exprs_view, nameds_view, head_view, stmt_view, stmts_view, function_view, functions_view};
 ghost use Rattle.lang_ast.specs.declared.syntax.Function.{Function as function_data};
 ghost use Rattle.lang_limits.specs.LeastOffset.{least_offset_from};
-ghost use Rattle.lang_ast.specs.Sizes.{most_parts, nesting, deepest, expr_sizes, exprs_sizes, named_sizes, stmt_sizes, stmts_sizes, function_sizes, functions_sizes, first_excess, state_offset, oversized_parts, offset_if};
+ghost use Rattle.lang_ast.specs.Sizes.{most_parts, nesting, deepest, expr_sizes, exprs_sizes, named_sizes, head_sizes, stmt_sizes, stmts_sizes, function_sizes, functions_sizes, first_excess, state_offset, oversized_parts, offset_if};
 
 use crate::least::note_excess;
 use crate::lengths::{measure_lengths, measure_name, measure_parameter_names, measure_state_names};
-use lang_ast::{Expression, Function, Named, State, Statement};
+use lang_ast::{Expression, Function, Head, Named, State, Statement};
 
 /// The most states of a program, and the most functions. A rule of this project.
 pub const MOST_FORMS: usize = 256;
@@ -82,6 +82,34 @@ fn measure_values(all: &[Named], least: Option<usize>) -> Option<usize>
     least
 }
 
+// Updates `least` with the offset of the statement at `at` if it has too many named expressions, and with the oversized
+// parts of those.
+#[tactic(auto, using(crate::proofs::Parts::parts))]
+fn measure_list(at: usize, all: &[Named], least: Option<usize>) -> Option<usize>
+    ensures { result ≡ least_offset_from
+        (least_offset_from least (offset_if (nat_lt most_parts (length all.now)) at))
+        (named_sizes (nameds_view all.now)) }
+{
+    measure_values(all, note_excess(all.len() > MOST_PARTS, at, least))
+}
+
+// Updates `least` with the oversized parts of the head of the statement at `at`.
+#[tactic(auto, using(crate::proofs::Parts::parts, crate::proofs::Parts::keyed_sizes))]
+fn measure_head(at: usize, head: &Head, least: Option<usize>) -> Option<usize>
+    ensures { result ≡ least_offset_from least (head_sizes at (head_view head.now)) }
+{
+    match head {
+        Head::Node { kind, attributes } => measure_list(at, attributes, measure_name(kind, least)),
+        Head::Key { key } => measure_expression(key, least),
+        Head::For { name, list } => measure_expression(list, measure_name(name, least)),
+        Head::Let { name, value } => measure_expression(value, measure_name(name, least)),
+        Head::Remember { name, keys, value } => {
+            let least = measure_list(at, keys, measure_name(name, least));
+            measure_expression(value, least)
+        }
+    }
+}
+
 // Updates `least` with the oversized parts of a statement in `depth` blocks.
 #[tactic(auto, using(crate::proofs::Parts::parts))]
 #[cycle(blocks)]
@@ -89,134 +117,31 @@ fn measure_statement(depth: usize, s: &Statement, least: Option<usize>) -> Optio
     ensures { result ≡ least_offset_from least (stmt_sizes depth (stmt_view s.now)) }
 {
     match s {
-        Statement::Node {
-            at,
-            kind,
-            attributes,
-            body,
-            ..
-        } => measure_node(depth, *at, attributes, body, measure_name(kind, least)),
         Statement::Call {
             at,
-            name: callee,
+            name,
             arguments,
             ..
-        } => measure_expressions(
-            arguments,
-            note_excess(depth > MOST_PARTS, *at, measure_name(callee, least)),
-        ),
-        Statement::Key { at, key, body, .. } => measure_block(depth, *at, key, body, least),
+        } => {
+            let least = note_excess(depth > MOST_PARTS, *at, measure_name(name, least));
+            measure_expressions(arguments, least)
+        }
         Statement::If {
             at,
             condition,
             then_branch,
             else_branch,
             ..
-        } => measure_if(depth, *at, condition, then_branch, else_branch, least),
-        Statement::For {
-            at,
-            name: variable,
-            list,
-            body,
-            ..
-        } => measure_block(depth, *at, list, body, measure_name(variable, least)),
-        Statement::Let {
-            at,
-            name: variable,
-            value,
-            body,
-            ..
-        } => measure_block(depth, *at, value, body, measure_name(variable, least)),
-        Statement::Remember {
-            at,
-            name: variable,
-            keys,
-            value,
-            body,
-            ..
-        } => measure_remember(depth, *at, keys, value, body, measure_name(variable, least)),
+        } => {
+            let least = note_excess(depth > MOST_PARTS, *at, least);
+            let least = measure_expression(condition, least);
+            measure_body(depth, else_branch, measure_body(depth, then_branch, least))
+        }
+        Statement::Block { at, head, body, .. } => {
+            let least = note_excess(depth > MOST_PARTS, *at, least);
+            measure_body(depth, body, measure_head(*at, head, least))
+        }
     }
-}
-
-// Updates `least` with the oversized parts of a statement with an expression and a body.
-#[tactic(auto, using(crate::proofs::Parts::parts))]
-#[cycle(blocks)]
-fn measure_block(
-    depth: usize,
-    at: usize,
-    e: &Expression,
-    body: &[Statement],
-    least: Option<usize>,
-) -> Option<usize>
-    ensures { result ≡ least_offset_from least (offset_if (nat_lt most_parts depth) at
-        ++ expr_sizes (expr_view e.now) ++ stmts_sizes (depth + 1) (stmts_view body.now)) }
-{
-    let least = note_excess(depth > MOST_PARTS, at, least);
-    let least = measure_expression(e, least);
-    measure_body(depth, body, least)
-}
-
-// Updates `least` with the oversized parts of a node.
-#[tactic(auto, using(crate::proofs::Parts::parts))]
-#[cycle(blocks)]
-fn measure_node(
-    depth: usize,
-    at: usize,
-    attributes: &[Named],
-    body: &[Statement],
-    least: Option<usize>,
-) -> Option<usize>
-    ensures { result ≡ least_offset_from least (offset_if (nat_lt most_parts depth) at
-        ++ offset_if (nat_lt most_parts (length attributes.now)) at
-        ++ named_sizes (nameds_view attributes.now)
-        ++ stmts_sizes (depth + 1) (stmts_view body.now)) }
-{
-    let least = note_excess(depth > MOST_PARTS, at, least);
-    let least = note_excess(attributes.len() > MOST_PARTS, at, least);
-    let least = measure_values(attributes, least);
-    measure_body(depth, body, least)
-}
-
-// Updates `least` with the oversized parts of an if.
-#[tactic(auto, using(crate::proofs::Parts::parts))]
-#[cycle(blocks)]
-fn measure_if(
-    depth: usize,
-    at: usize,
-    condition: &Expression,
-    then_branch: &[Statement],
-    else_branch: &[Statement],
-    least: Option<usize>,
-) -> Option<usize>
-    ensures { result ≡ least_offset_from least (offset_if (nat_lt most_parts depth) at
-        ++ expr_sizes (expr_view condition.now)
-        ++ stmts_sizes (depth + 1) (stmts_view then_branch.now)
-        ++ stmts_sizes (depth + 1) (stmts_view else_branch.now)) }
-{
-    let least = measure_block(depth, at, condition, then_branch, least);
-    measure_body(depth, else_branch, least)
-}
-
-// Updates `least` with the oversized parts of a remember.
-#[tactic(auto, using(crate::proofs::Parts::parts))]
-#[cycle(blocks)]
-fn measure_remember(
-    depth: usize,
-    at: usize,
-    keys: &[Named],
-    value: &Expression,
-    body: &[Statement],
-    least: Option<usize>,
-) -> Option<usize>
-    ensures { result ≡ least_offset_from least (offset_if (nat_lt most_parts depth) at
-        ++ offset_if (nat_lt most_parts (length keys.now)) at ++ named_sizes (nameds_view keys.now)
-        ++ expr_sizes (expr_view value.now) ++ stmts_sizes (depth + 1) (stmts_view body.now)) }
-{
-    let least = note_excess(depth > MOST_PARTS, at, least);
-    let least = note_excess(keys.len() > MOST_PARTS, at, least);
-    let least = measure_values(keys, least);
-    let least = measure_expression(value, least);
-    measure_body(depth, body, least)
 }
 
 // Updates `least` with the oversized parts of the body of a statement in `depth` blocks. All bodies that are nested too

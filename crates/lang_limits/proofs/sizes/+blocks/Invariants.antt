@@ -1,4 +1,4 @@
-use Rattle.std.proofs.Common.{◌≡◌, ◌+◌, ◌*◌, max, drop}
+use Rattle.std.proofs.Common.{◌≡◌, ◌+◌, ◌*◌, drop}
 use denote.Param.Weighed.{most}
 use Rattle.lang_ast.specs.SyntaxView.{stmts_view}
 use Rattle.lang_ast.proofs.syntax.Statement.TheLaws.{the_size}
@@ -11,22 +11,10 @@ invariant-measure_statements-loop-s l = least_offset_from l.least (stmts_sizes l
     ≡ least_offset_from l.initial.least (stmts_sizes l.depth (stmts_view l.body))
 
 abbrev pub decreases-measure_statement : goal.decreases-measure_statement
-decreases-measure_statement l = 5 * the_size l.s.now
-
-abbrev pub decreases-measure_node : goal.decreases-measure_node
-decreases-measure_node l = 5 * most the_size l.body.now + 4
-
-abbrev pub decreases-measure_if : goal.decreases-measure_if
-decreases-measure_if l = 5 * max (most the_size l.then_branch.now) (most the_size l.else_branch.now) + 4
-
-abbrev pub decreases-measure_remember : goal.decreases-measure_remember
-decreases-measure_remember l = 5 * most the_size l.body.now + 4
-
-abbrev pub decreases-measure_block : goal.decreases-measure_block
-decreases-measure_block l = 5 * most the_size l.body.now + 3
+decreases-measure_statement l = 3 * the_size l.s.now
 
 abbrev pub decreases-measure_body : goal.decreases-measure_body
-decreases-measure_body l = 5 * most the_size l.body.now + 2
+decreases-measure_body l = 3 * most the_size l.body.now + 2
 
 abbrev pub decreases-measure_statements : goal.decreases-measure_statements
-decreases-measure_statements l = 5 * most the_size l.body.now + 1
+decreases-measure_statements l = 3 * most the_size l.body.now + 1
