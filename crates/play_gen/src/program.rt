@@ -1,12 +1,13 @@
 // The program, part by part. The offset of each part is 0.
 ghost use Rattle.std.specs.Prelude.{◌≡◌, ◌≤◌, ◌++◌, ℕ, [], ◌∷◌, IfOk, OnOk, codes};
-ghost use Rattle.lang_ast.specs.SyntaxView.{expr_view, exprs_view, nameds_view, stmt_view, stmts_view, function_view, functions_view};
-ghost use Rattle.lang_ast.specs.Terms.{Node, Call, Remember, exprs};
+ghost use Rattle.lang_ast.specs.SyntaxView.{expr_view, exprs_view, nameds_view, head_view, stmt_view, stmts_view, function_view, functions_view};
+ghost use Rattle.lang_ast.specs.Terms.{Node, Remember, Call, Block, exprs};
 ghost use Rattle.lang_ast.specs.Programs.{program_view};
 ghost use Rattle.play_gen.specs.GeneratedProgram.{ident, state, variable, state_value, product, named_value, first_items, generated_states, row_node, row_cell, row_function, keyed_row, all_rows, total_node, page_node, function, generated_functions, generated_program};
 
 use lang_ast::{
-    Expression, Function, Ident, Named, Operator, Parameter, Program, State, Statement,
+    Expression, Function, Head, Ident, Named, Operator, Parameter, Program, Source, State,
+    Statement, Version,
 };
 use rt_values::{IntList, NoMemory, ObjectNo, Ty, Value, Word};
 use snap_policy::BuiltIn;
@@ -111,7 +112,7 @@ fn state_value(alloc: Global, name: &[u8], number: ObjectNo) -> Result<Expressio
     Ok(Expression::Get {
         at: 0,
         name,
-        number,
+        source: Source::State(number),
     })
 }
 
@@ -173,8 +174,20 @@ fn add_state_value(
     add_named(alloc, list, name, value)
 }
 
-// Returns the node of this kind.
+// Returns the block with this head.
 #[tactic(auto, using(lang_ast::proofs::Views::views))]
+fn block(site: u32, head: Head, body: Vec<Statement>) -> Statement
+    ensures { stmt_view result ≡ Block 0 site (head_view head) (stmts_view body.items) }
+{
+    Statement::Block {
+        at: 0,
+        site,
+        head,
+        body,
+    }
+}
+
+// Returns the node of this kind.
 fn node(
     alloc: Global,
     site: u32,
@@ -183,16 +196,10 @@ fn node(
     body: Vec<Statement>,
 ) -> Result<Statement, NoMemory>
     ensures { IfOk result (λ s. stmt_view s ≡
-        Node 0 site (ident kind.now) (nameds_view attributes.items) (stmts_view body.items)) }
+        Block 0 site (Node (ident kind.now) (nameds_view attributes.items)) (stmts_view body.items)) }
 {
     let kind = ident(alloc, kind)?;
-    Ok(Statement::Node {
-        at: 0,
-        site,
-        kind,
-        attributes,
-        body,
-    })
+    Ok(block(site, Head::Node { kind, attributes }, body))
 }
 
 // Returns the call of the function with this name and number.
@@ -275,7 +282,6 @@ fn row_node(alloc: Global) -> Result<Statement, NoMemory>
 }
 
 // Returns the `remember` with this name.
-#[tactic(auto, using(lang_ast::proofs::Views::views))]
 fn remember(
     alloc: Global,
     site: u32,
@@ -284,18 +290,11 @@ fn remember(
     value: Expression,
     body: Vec<Statement>,
 ) -> Result<Statement, NoMemory>
-    ensures { IfOk result (λ s. stmt_view s ≡ Remember 0 site (ident name.now) (nameds_view keys.items)
-        (expr_view value) (stmts_view body.items)) }
+    ensures { IfOk result (λ s. stmt_view s ≡
+        Block 0 site (Remember (ident name.now) (nameds_view keys.items) (expr_view value)) (stmts_view body.items)) }
 {
     let name = ident(alloc, name)?;
-    Ok(Statement::Remember {
-        at: 0,
-        site,
-        name,
-        keys,
-        value,
-        body,
-    })
+    Ok(block(site, Head::Remember { name, keys, value }, body))
 }
 
 // Returns the keys of the `remember` of a row.
@@ -362,35 +361,22 @@ fn row_call(alloc: Global) -> Result<Statement, NoMemory>
 }
 
 // Returns the call of `row` under its key.
-#[tactic(auto, using(lang_ast::proofs::Views::views))]
 fn keyed_row(alloc: Global) -> Result<Statement, NoMemory>
     ensures { IfOk result (λ s. stmt_view s ≡ keyed_row) }
 {
     let body = body_of(alloc, row_call(alloc)?)?;
     let key = variable(alloc, b"i")?;
-    Ok(Statement::Key {
-        at: 0,
-        site: 4,
-        key,
-        body,
-    })
+    Ok(block(4, Head::Key { key }, body))
 }
 
 // Returns the statement of the function `list`.
-#[tactic(auto, using(lang_ast::proofs::Views::views))]
 fn all_rows(alloc: Global) -> Result<Statement, NoMemory>
     ensures { IfOk result (λ s. stmt_view s ≡ all_rows) }
 {
     let body = body_of(alloc, keyed_row(alloc)?)?;
     let list = state_value(alloc, b"items", 0)?;
     let name = ident(alloc, b"i")?;
-    Ok(Statement::For {
-        at: 0,
-        site: 3,
-        name,
-        list,
-        body,
-    })
+    Ok(block(3, Head::For { name, list }, body))
 }
 
 // Returns the node `Total`.
@@ -446,6 +432,7 @@ pub fn generated_program(alloc: Global, size: u32) -> Result<Program, NoMemory>
     let functions = generated_functions(alloc)?;
     Ok(Program {
         header: 0,
+        version: Version::One,
         states,
         functions,
     })
