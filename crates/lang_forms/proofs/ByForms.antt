@@ -1,15 +1,16 @@
 -- The answer for a forest is that of its forms.
-use Rattle.std.proofs.Common.{◌≡◌, inl, inr, ℕ, List, [], ◌∷◌, ◌++◌, Option, Some, None, Result, Ok, Err, Bool, true, false, cond, refl, sym, ap, ◌∙◌}
+use Rattle.std.proofs.Common.{◌≡◌, inl, inr, ℕ, List, [], ◌∷◌, ◌++◌, Option, Some, None, Result, Ok, Err, refl, sym, ap, ◌∙◌}
 use Rattle.sexp_text.specs.Forest.{Forest, empty, atom, text, list, joined_trees}
 use Rattle.lang_limits.specs.LeastOffset.{least}
 use Rattle.lang_limits.specs.Sizes.{program_limits}
 use Rattle.lang_limits.specs.Clamped.{clamped_trees}
+use Rattle.lang_ast.specs.declared.program.Version.{Version}
 use Rattle.lang_forms.specs.declared.stop.FormStop.{FormStop}
 use Rattle.lang_forms.specs.declared.stop.FormStop.TheVariants.{Form, Limit, NoMemory}
 use Rattle.lang_forms.specs.TextAnswers.{parsed_answer, unless_beyond, text_answer}
 use Rattle.lang_forms.specs.Sources.{Source}
 use Rattle.lang_forms.specs.Forms.{HasForms}
-use Rattle.lang_forms.specs.Readings.{Seen, seen_trees, is_there, header_form, is_header, offset_of}
+use Rattle.lang_forms.specs.Readings.{Seen, seen_trees, header_form, header_at, offset_of}
 use Rattle.lang_forms.specs.FirstWrong.{only, first_offset, IsFirstWrong, IsAnswerFor}
 use Rattle.lang_forms.specs.TextReading.{PartialSource, source, source_with_tree, source_with_rest, tops_of, text_of, start, source_or_offset, source_of}
 use Rattle.lang_forms.proofs.FirstWrong.{listed}
@@ -42,13 +43,16 @@ text_on : (end : ℕ) (xs ys : List Seen) (q : PartialSource) → text_of end xs
     → text_of end (xs ++ ys) ≡ tops_of q ys
 unfolding text_of
 text_on end [] ys q h = absurd (cc)
-text_on end (s ∷ xs) ys q h = by (is_header s) refl h
+text_on end (s ∷ xs) ys q h = by (header_at s) refl h
   where
-    by : (b : Bool) → is_header s ≡ b → cond b (tops_of (start (offset_of s)) xs) (Err (offset_of s)) ≡ Ok q
-        → cond (is_header s) (tops_of (start (offset_of s)) (xs ++ ys)) (Err (offset_of s)) ≡ tops_of q ys
-    by true e k = ap (λ (b : Bool). cond b (tops_of (start (offset_of s)) (xs ++ ys)) (Err (offset_of s))) e
-        ∙ go_on xs ys (start (offset_of s)) q k
-    by false e k = absurd (cc)
+    by : (o : Option Version) → header_at s ≡ o
+        → source_with_rest (offset_of s) o (λ v. tops_of (start (offset_of s) v) xs) ≡ Ok q
+        → source_with_rest (offset_of s) (header_at s) (λ v. tops_of (start (offset_of s) v) (xs ++ ys)) ≡ tops_of q ys
+    by (Some v) e k =
+        ap (λ (o : Option Version). source_with_rest (offset_of s) o
+        (λ w. tops_of (start (offset_of s) w) (xs ++ ys))) e
+        ∙ go_on xs ys (start (offset_of s) v) q k
+    by None e k = absurd (cc)
 
 abbrev stop_at : ℕ → Result PartialSource ℕ
 stop_at at = Err at
@@ -75,12 +79,13 @@ unfolding text_of tops_of
 first_stop end empty never = refl
 first_stop end (atom x a f) never = refl
 first_stop end (text x s f) never = refl
-first_stop end (list x i f) never = by (is_there (header_form (seen_trees i))) refl
+first_stop end (list x i f) never = by (header_form (seen_trees i)) refl
   where
-    by : (b : Bool) → is_there (header_form (seen_trees i)) ≡ b
-        → cond (is_there (header_form (seen_trees i))) (tops_of (start x) (seen_trees f)) (Err x) ≡ stop_at x
-    by true e = absurd (never (start x) (ap (λ (b : Bool). cond b (tops_of (start x) []) (Err x)) e))
-    by false e = ap (λ (b : Bool). cond b (tops_of (start x) (seen_trees f)) (Err x)) e
+    by : (o : Option Version) → header_form (seen_trees i) ≡ o
+        → source_with_rest x (header_form (seen_trees i)) (λ v. tops_of (start x v) (seen_trees f)) ≡ stop_at x
+    by (Some v) e = absurd (never (start x v)
+        (ap (λ (o : Option Version). source_with_rest x o (λ w. tops_of (start x w) [])) e))
+    by None e = ap (λ (o : Option Version). source_with_rest x o (λ w. tops_of (start x w) (seen_trees f))) e
 
 abbrev read_as : Source → Result Source ℕ
 read_as t = Ok t

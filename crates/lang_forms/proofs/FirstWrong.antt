@@ -1,9 +1,10 @@
 -- A text's forms stop where the parser stops.
-use Rattle.std.proofs.Common.{◌≡◌, inl, inr, ℕ, ◌∷◌, Option, Some, None, Result, Ok, Err, Bool, true, false, cond, refl, sym, ap, ◌∙◌}
+use Rattle.std.proofs.Common.{◌≡◌, inl, inr, ℕ, ◌∷◌, Option, Some, None, Result, Ok, Err, refl, sym, ap, ◌∙◌}
 use Rattle.sexp_text.specs.Forest.{Forest, empty, atom, text, list, joined_trees}
+use Rattle.lang_ast.specs.declared.program.Version.{Version}
 use Rattle.lang_forms.specs.Sources.{Source}
 use Rattle.lang_forms.specs.Forms.{HasForms}
-use Rattle.lang_forms.specs.Readings.{Seen, seen_trees, form, roles, is_there, header_form}
+use Rattle.lang_forms.specs.Readings.{Seen, seen_trees, form, roles, header_form}
 use Rattle.lang_forms.specs.TextReading.{PartialSource, source, source_with_tree, source_with_rest, tops_of, text_of, start, source_or_offset}
 use Rattle.lang_forms.specs.FirstWrong.{only, first_offset, IsFirstWrong}
 use Rattle.lang_forms.proofs.TextIsRead.{text_read}
@@ -103,18 +104,20 @@ unfolding text_of
 first_wrong end at empty h = no_header end at empty h (err_is at end (sym h)) (end, refl)
 first_wrong end at (atom x a f) h = no_header end at (atom x a f) h (err_is at x (sym h)) (x, refl)
 first_wrong end at (text x s f) h = no_header end at (text x s f) h (err_is at x (sym h)) (x, refl)
-first_wrong end at (list x i f) h = by (is_there (header_form (seen_trees i))) refl h
+first_wrong end at (list x i f) h = by (header_form (seen_trees i)) refl h
   where
-    by : (b : Bool) → is_there (header_form (seen_trees i)) ≡ b
-        → cond b (tops_of (start x) (seen_trees f)) (Err x) ≡ Err at → IsFirstWrong end (list x i f) at
-    by false e k = no_header end at (list x i f) h (err_is at x (sym k))
-        (x, ap (λ (b : Bool). cond b (tops_of (start x) (seen_trees empty)) (Err x)) e)
-    by true e k =
-        let s = stopped end at f (start x) k in
+    by : (o : Option Version) → header_form (seen_trees i) ≡ o
+        → source_with_rest x o (λ v. tops_of (start x v) (seen_trees f)) ≡ Err at → IsFirstWrong end (list x i f) at
+    by None e k = no_header end at (list x i f) h (err_is at x (sym k))
+        (x, ap (λ (o : Option Version). source_with_rest x o (λ v. tops_of (start x v) (seen_trees empty))) e)
+    by (Some v) e k =
+        let s = stopped end at f (start x v) k in
         let front : text_of end (seen_trees (list x i s.front)) ≡ Ok s.last =
-        ap (λ (b : Bool). cond b (tops_of (start x) (seen_trees s.front)) (Err x)) e ∙ s.before in
+        ap (λ (o : Option Version). source_with_rest x o (λ w. tops_of (start x w) (seen_trees s.front))) e
+        ∙ s.before in
         let stuck : text_of end (seen_trees (list x i (joined_trees s.front (only s.wrong)))) ≡ Err at =
-        ap (λ (b : Bool). cond b (tops_of (start x) (seen_trees (joined_trees s.front (only s.wrong)))) (Err x)) e
+        ap (λ (o : Option Version). source_with_rest x o
+        (λ w. tops_of (start x w) (seen_trees (joined_trees s.front (only s.wrong))))) e
         ∙ s.stuck in
         record {
           front = list x i s.front;

@@ -6,17 +6,22 @@ use Rattle.sexp_text.specs.Forest.{Forest, empty, atom, text, list}
 use Rattle.rt_values.specs.declared.value.Value.{Value}
 use Rattle.rt_values.specs.declared.value.Value.TheVariants as value
 use Rattle.rt_values.specs.Values.{truth_text}
-use Rattle.lang_ast.specs.Terms.{Expr, Literal, Variable, Get, Apply, Exprs, none, more, Named, Stmt, Node, Call, Key, If, For, Let, Remember, Stmts, done, next, exprs, stmts, operand_count}
+use Rattle.lang_ast.specs.Terms.{Expr, Literal, Variable, Get, Apply, Exprs, none, more, Named, Head, Node, Key, For, Let, Remember, Stmt, Call, If, Block, Stmts, done, next, exprs, stmts, operand_count}
 use Rattle.lang_ast.specs.declared.syntax.Ident.{Ident}
 use Rattle.lang_ast.specs.declared.syntax.Operator.{Operator}
 use Rattle.lang_ast.specs.declared.syntax.Operator.TheVariants as operator
+use Rattle.lang_ast.specs.declared.syntax.Source.{Source}
+use Rattle.lang_ast.specs.declared.syntax.Source.TheVariants as sources
 use Rattle.lang_limits.specs.Tokens.{fits}
+use Rattle.lang_forms.specs.declared.statement_heads.BodyWord.{BodyWord}
+use Rattle.lang_forms.specs.declared.statement_heads.BodyWord.TheVariants as body
+use Rattle.lang_forms.specs.declared.statement_heads.StatementWord.TheVariants as statement
 use Rattle.lang_forms.specs.Names.{is_name, all_fit, is_string, is_list_long, number_of_name}
 use Rattle.lang_forms.specs.Words.{operator_word, takes}
 use Rattle.lang_forms.specs.Sketch.{Sketch, nothing, Fits}
-use Rattle.lang_forms.specs.Forms.{numbers, literal, expr_forms, exprs_forms, pairs_forms, stmt_forms, stmts_forms, literal_fits, KnownNames, Spelled, AllSpelled, SpelledPairs, site_after, site_after_all, SpelledStmt, SpelledStmts}
-use Rattle.lang_forms.specs.Readings.{Seen, seen_trees, form, roles, word_of, name_of, truth_of, plain_of, string_of, number_of_first, ints_of, literal_form, literal_at, literal_of, leaf_of, expr_at, expr_of, exprs_of, get_form, apply_form, expr_form, pair_form, pairs_form, stmt_at, stmts_of, block_of, binding_of, named_pairs_of, node_form, call_form, key_form, if_form, for_form, let_form, remember_form, stmt_form}
-use Rattle.lang_forms.proofs.KeywordTables.{operator_table, keyword_there}
+use Rattle.lang_forms.specs.Forms.{numbers, literal, expr_forms, exprs_forms, pairs_forms, head_forms, stmt_forms, stmts_forms, literal_fits, KnownNames, Spelled, AllSpelled, SpelledPairs, site_after, site_after_all, SpelledHead, SpelledStmt, SpelledStmts}
+use Rattle.lang_forms.specs.Readings.{Seen, seen_trees, form, roles, word_of, name_of, truth_of, plain_of, string_of, number_of_first, ints_of, literal_form, literal_at, literal_of, leaf_of, expr_at, expr_of, exprs_of, get_form, apply_form, expr_form, pair_form, pairs_form, stmt_at, stmts_of, block_of, binding_of, named_pairs_of, body_word, head_of, block_form, branches_of, call_form, if_form, stmt_form}
+use Rattle.lang_forms.proofs.KeywordTables.{operator_table, statement_table, keyword_there}
 use Rattle.lang_forms.proofs.Ints.{int-decimal, letters_no_int, decimal_no_name}
 
 -- A first tree that is parsed as a part, and the trees after it.
@@ -146,7 +151,7 @@ unfolding leaf_of
 truth_leaf at true = rw (truth_read true)
 truth_leaf at false = rw (truth_read false)
 
-get_read : (m : List (List ℕ)) (at a : ℕ) (n : Ident) → is_name n.text ≡ true → expr_form m at (seen_trees (atom a (codes "get") (atom n.at n.text empty))) ≡ Some (Get at n (number_of_name n.text m))
+get_read : (m : List (List ℕ)) (at a : ℕ) (n : Ident) → is_name n.text ≡ true → expr_form m at (seen_trees (atom a (codes "get") (atom n.at n.text empty))) ≡ Some (Get at n (sources.State (number_of_name n.text m)))
 unfolding expr_form get_form word_of
 get_read m at a n h = rw (name_there n empty h)
 
@@ -191,14 +196,14 @@ mutual
   expr_read m (Literal at (value.Ints zs)) f g s h = absurd (true≢false (sym s))
   expr_read m (Variable n) f g s h =
       one_atom (expr_at m) h.0 n.at f h.1 n.text (Variable n) g h.2 h.3 (variable_read n s) h.4
-  expr_read m (Get at n number) f g s h =
+  expr_read m (Get at n source) f g s h =
       let w = h.5 in
       let k = w.4 in
       let is : h.1 ≡ atom w.0 (codes "get") (atom n.at n.text empty) = list_with_word h.1 w.1 k.1 w.0 k.0 (codes "get") n w.2 k.2 k.3 ∙ ap (λ (x : Forest). atom w.0 (codes "get") (atom n.at n.text x)) k.4 in
-      let read : expr_form m at (seen_trees h.1) ≡ Some (Get at n number) =
+      let read : expr_form m at (seen_trees h.1) ≡ Some (Get at n source) =
       ap (λ (i : Forest). expr_form m at (seen_trees i)) is ∙ get_read m at w.0 n s.0
-      ∙ ap (λ (x : ℕ). Some (Get at n x)) (sym s.1) in
-      one_list (expr_at m) h.0 at f h.1 h.2 (Get at n number) g h.3 h.4 read h.6
+      ∙ ap (λ (x : Source). Some (Get at n x)) (sym s.1) in
+      one_list (expr_at m) h.0 at f h.1 h.2 (Get at n source) g h.3 h.4 read h.6
   expr_read m (Apply at o es) f g s h =
       let w = h.5 in
       let read : expr_form m at (seen_trees h.1) ≡ Some (Apply at o es) =
@@ -259,23 +264,120 @@ next_read m k f t ts one r = record {
   is = ap (next t) r.is;
 }
 
-node_read : (m : KnownNames) (k at a p : ℕ) (n : Ident) (ns : List Named) (b : Stmts) (i f : Forest)
-    → is_name n.text ≡ true → pairs_form m.states (seen_trees i) ≡ Some ns → ReadsBody m (k + 1) f b →
-    stmt_form m k at (seen_trees (atom a (codes "node") (atom n.at n.text (list p i f)))) ≡ Some (Node at k n ns b, site_after_all (k + 1) b)
-unfolding stmt_form node_form named_pairs_of word_of
-node_read m k at a p n ns b i f h read r = rw (name_there n (list p i f) h, read, r.read, r.is)
+-- Heads.
+
+-- The keyword of a head.
+head_word : Head → BodyWord
+head_word (Node n ns) = body.Node
+head_word (Key e) = body.Key
+head_word (For n e) = body.For
+head_word (Let n e) = body.Let
+head_word (Remember n ks e) = body.Remember
+
+-- A keyword and a head, and the trees after it.
+record ReadsHead (m : List (List ℕ)) (h : Head) (f : Forest) (g : Sketch) : Type 0 where
+  at : ℕ
+  after : Forest
+  rest : Forest
+  is : f ≡ atom at (body_word (head_word h)) after
+  as_read : head_of m (head_word h) (seen_trees after) ≡ Some (h, seen_trees rest)
+  behind : Fits rest g
+
+name_first : (i r : Forest) (b : ℕ) (n : Ident) → i ≡ atom b n.text r → b ≡ n.at → i ≡ atom n.at n.text r
+name_first i r b n is told = is ∙ ap (λ (p : ℕ). atom p n.text r) told
+
+-- NAME ((NAME EXPR)..)
+pairs_there : (m : List (List ℕ)) (n : Ident) (ks : List Named) (p : ℕ) (f i r : Forest)
+    → f ≡ atom n.at n.text (list p i r) → is_name n.text ≡ true → pairs_form m (seen_trees i) ≡ Some ks
+    → named_pairs_of m (seen_trees f) ≡ Some ((n, ks), seen_trees r)
+unfolding named_pairs_of
+pairs_there m n ks p f i r is h read = rw (is, name_there n (list p i r) h, read)
+
+-- NAME EXPR
+binding_there : (m : List (List ℕ)) (n : Ident) (e : Expr) (f i : Forest) (g : Sketch) → f ≡ atom n.at n.text i
+    → is_name n.text ≡ true → (one : First i (expr_at m) e g)
+    → binding_of m (seen_trees f) ≡ Some ((n, e), seen_trees one.rest)
+unfolding binding_of
+binding_there m n e f i g is h one = rw (is, name_there n i h, expr_there m i e g one)
+
+head_read : (m : List (List ℕ)) (h : Head) (f : Forest) (g : Sketch) → SpelledHead m h → Fits f (head_forms h g)
+    → ReadsHead m h f g
+unfolding head_word head_of
+head_read m (Node n ns) f g s w =
+    let v = w.4 in
+    let l = v.4 in
+    let first = name_first w.1 v.1 v.0 n v.2 v.3 ∙ ap (atom n.at n.text) l.3 in
+    record {
+      at = w.0;
+      after = w.1;
+      rest = l.2;
+      is = w.2;
+      as_read = rw (pairs_there m n ns l.0 w.1 l.1 l.2 first s.0 (pairs_read m ns l.1 s.1 l.5)) refl;
+      behind = l.6;
+    }
+head_read m (Key e) f g s w =
+    let one = expr_read m e w.1 g s w.4 in
+    record {
+      at = w.0;
+      after = w.1;
+      rest = one.rest;
+      is = w.2;
+      as_read = rw (expr_there m w.1 e g one) refl;
+      behind = one.behind;
+    }
+head_read m (For n e) f g s w =
+    let v = w.4 in
+    let one = expr_read m e v.1 g s.1 v.4 in
+    record {
+      at = w.0;
+      after = w.1;
+      rest = one.rest;
+      is = w.2;
+      as_read = rw (binding_there m n e w.1 v.1 g (name_first w.1 v.1 v.0 n v.2 v.3) s.0 one) refl;
+      behind = one.behind;
+    }
+head_read m (Let n e) f g s w =
+    let v = w.4 in
+    let one = expr_read m e v.1 g s.1 v.4 in
+    record {
+      at = w.0;
+      after = w.1;
+      rest = one.rest;
+      is = w.2;
+      as_read = rw (binding_there m n e w.1 v.1 g (name_first w.1 v.1 v.0 n v.2 v.3) s.0 one) refl;
+      behind = one.behind;
+    }
+head_read m (Remember n ks e) f g s w =
+    let v = w.4 in
+    let l = v.4 in
+    let first = name_first w.1 v.1 v.0 n v.2 v.3 ∙ ap (atom n.at n.text) l.3 in
+    let one = expr_read m e l.2 g s.2 l.6 in
+    record {
+      at = w.0;
+      after = w.1;
+      rest = one.rest;
+      is = w.2;
+      as_read = rw (
+        pairs_there m n ks l.0 w.1 l.1 l.2 first s.0 (pairs_read m ks l.1 s.1 l.5),
+        expr_there m l.2 e g one,
+      ) refl;
+      behind = one.behind;
+    }
+
+-- A head and a body.
+block_read : (m : KnownNames) (k at : ℕ) (h : Head) (b : Stmts) (f : Forest) (g : Sketch)
+    → (one : ReadsHead m.states h f g) → ReadsBody m (k + 1) one.rest b →
+    stmt_form m k at (seen_trees f) ≡ Some (Block at k h b, site_after_all (k + 1) b)
+unfolding stmt_form block_form
+block_read m k at h b f g one r =
+    rw (one.is, keyword_there statement_table (statement.WithBody (head_word h)) one.at one.after, one.as_read, r.read, r.is)
 
 call_read : (m : KnownNames) (k at a : ℕ) (n : Ident) (es : Exprs) (f : Forest) → is_name n.text ≡ true
     → ReadsAll m.states f es →
     stmt_form m k at (seen_trees (atom a (codes "call") (atom n.at n.text f))) ≡ Some (Call at k n (number_of_name n.text m.functions) es, k + 1)
-unfolding stmt_form call_form word_of
-call_read m k at a n es f h r = rw (name_there n f h, r.read, r.is)
-
-key_read : (m : KnownNames) (k at a : ℕ) (e : Expr) (b : Stmts) (f : Forest) (g : Sketch)
-    → (one : First f (expr_at m.states) e g) → ReadsBody m (k + 1) one.rest b →
-    stmt_form m k at (seen_trees (atom a (codes "key") f)) ≡ Some (Key at k e b, site_after_all (k + 1) b)
-unfolding stmt_form key_form word_of
-key_read m k at a e b f g one r = rw (expr_there m.states f e g one, r.read, r.is)
+unfolding stmt_form call_form
+call_read m k at a n es f h r =
+    rw (keyword_there statement_table statement.Call a (atom n.at n.text f), name_there n f h, r.read, r.is)
 
 -- The statements of a first tree that is a list.
 block_there : (m : KnownNames) (k p : ℕ) (f i r : Forest) (b : Stmts) → f ≡ list p i r → (all : ReadsBody m k i b)
@@ -286,35 +388,16 @@ if_read : (m : KnownNames) (k at w p q : ℕ) (e : Expr) (a b : Stmts) (f i j r 
     → (one : First f (expr_at m.states) e g) → one.rest ≡ list p i r → r ≡ list q j empty →
     ReadsBody m (k + 1) i a → ReadsBody m (site_after_all (k + 1) a) j b →
     stmt_form m k at (seen_trees (atom w (codes "if") f)) ≡ Some (If at k e a b, site_after_all (site_after_all (k + 1) a) b)
-unfolding stmt_form if_form word_of
+unfolding stmt_form if_form branches_of
 if_read m k at w p q e a b f i j r g one x y s t =
     rw (
+      keyword_there statement_table statement.If w f,
       expr_there m.states f e g one,
       block_there m (k + 1) p one.rest i r a x s,
       block_there m (site_after_all (k + 1) a) q r j empty b y t,
       s.is,
       t.is,
     )
-
-for_read : (m : KnownNames) (k at a : ℕ) (n : Ident) (e : Expr) (b : Stmts) (f : Forest) (g : Sketch)
-    → is_name n.text ≡ true → (one : First f (expr_at m.states) e g) → ReadsBody m (k + 1) one.rest b →
-    stmt_form m k at (seen_trees (atom a (codes "for") (atom n.at n.text f))) ≡ Some (For at k n e b, site_after_all (k + 1) b)
-unfolding stmt_form for_form binding_of word_of
-for_read m k at a n e b f g h one r = rw (name_there n f h, expr_there m.states f e g one, r.read, r.is)
-
-let_read : (m : KnownNames) (k at a : ℕ) (n : Ident) (e : Expr) (b : Stmts) (f : Forest) (g : Sketch)
-    → is_name n.text ≡ true → (one : First f (expr_at m.states) e g) → ReadsBody m (k + 1) one.rest b →
-    stmt_form m k at (seen_trees (atom a (codes "let") (atom n.at n.text f))) ≡ Some (Let at k n e b, site_after_all (k + 1) b)
-unfolding stmt_form let_form binding_of word_of
-let_read m k at a n e b f g h one r = rw (name_there n f h, expr_there m.states f e g one, r.read, r.is)
-
-remember_read : (m : KnownNames) (k at a p : ℕ) (n : Ident) (ks : List Named) (e : Expr) (b : Stmts) (i f : Forest)
-    (g : Sketch) → is_name n.text ≡ true → pairs_form m.states (seen_trees i) ≡ Some ks →
-    (one : First f (expr_at m.states) e g) → ReadsBody m (k + 1) one.rest b →
-    stmt_form m k at (seen_trees (atom a (codes "remember") (atom n.at n.text (list p i f)))) ≡ Some (Remember at k n ks e b, site_after_all (k + 1) b)
-unfolding stmt_form remember_form named_pairs_of word_of
-remember_read m k at a p n ks e b i f g h read one r =
-    rw (name_there n (list p i f) h, read, expr_there m.states f e g one, r.read, r.is)
 
 -- A list that is parsed as a statement, with its number.
 one_stmt : (m : KnownNames) (k site at p x : ℕ) (f i r : Forest) (t : ℕ → Stmt) (g : Sketch) → site ≡ k
@@ -326,15 +409,6 @@ one_stmt m k site at p x f i r t g same is told h rest =
 mutual
   stmt_read : (m : KnownNames) (k : ℕ) (t : Stmt) (f : Forest) (g : Sketch) → SpelledStmt m k t
       → Fits f (stmt_forms t g) → ReadsStmt m k f t g
-  stmt_read m k (Node at site n ns b) f g s h =
-      let w = h.5 in
-      let v = w.4 in
-      let l = v.4 in
-      let is = list_with_word h.1 w.1 v.1 w.0 v.0 (codes "node") n w.2 v.2 v.3 ∙ ap (λ (i : Forest). atom w.0 (codes "node") (atom n.at n.text i)) l.3 in
-      one_stmt m k site h.0 at _ f h.1 h.2 (λ j. Node at j n ns b) g s.0 h.3 h.4
-      (ap (λ (i : Forest). stmt_form m k at (seen_trees i)) is
-      ∙ node_read m k at w.0 l.0 n ns b l.1 l.2 s.1 (pairs_read m.states ns l.1 s.2 l.5)
-      (stmts_read m (k + 1) b l.2 s.3 l.6)) h.6
   stmt_read m k (Call at site n function es) f g s h =
       let w = h.5 in
       let v = w.4 in
@@ -343,12 +417,6 @@ mutual
       (ap (λ (i : Forest). stmt_form m k at (seen_trees i)) is
       ∙ call_read m k at w.0 n es v.1 s.1 (exprs_read m.states es v.1 s.3 v.4)
       ∙ ap (λ (c : ℕ). Some (Call at k n c es, k + 1)) (sym s.2)) h.6
-  stmt_read m k (Key at site e b) f g s h =
-      let w = h.5 in
-      let one = expr_read m.states e w.1 (stmts_forms b) s.1 w.4 in
-      one_stmt m k site h.0 at _ f h.1 h.2 (λ j. Key at j e b) g s.0 h.3 h.4
-      (ap (λ (i : Forest). stmt_form m k at (seen_trees i)) w.2
-      ∙ key_read m k at w.0 e b w.1 (stmts_forms b) one (stmts_read m (k + 1) b one.rest s.2 one.behind)) h.6
   stmt_read m k (If at site e a b) f g s h =
       let w = h.5 in
       let one = expr_read m.states e w.1 _ s.1 w.4 in
@@ -358,32 +426,10 @@ mutual
       (ap (λ (i : Forest). stmt_form m k at (seen_trees i)) w.2
       ∙ if_read m k at w.0 x.0 y.0 e a b w.1 x.1 y.1 x.2 _ one x.3 (y.3 ∙ ap (list y.0 y.1) y.6)
       (stmts_read m (k + 1) a x.1 s.2 x.5) (stmts_read m (site_after_all (k + 1) a) b y.1 s.3 y.5)) h.6
-  stmt_read m k (For at site n e b) f g s h =
-      let w = h.5 in
-      let v = w.4 in
-      let is = list_with_word h.1 w.1 v.1 w.0 v.0 (codes "for") n w.2 v.2 v.3 in
-      let one = expr_read m.states e v.1 (stmts_forms b) s.2 v.4 in
-      one_stmt m k site h.0 at _ f h.1 h.2 (λ j. For at j n e b) g s.0 h.3 h.4
-      (ap (λ (i : Forest). stmt_form m k at (seen_trees i)) is
-      ∙ for_read m k at w.0 n e b v.1 (stmts_forms b) s.1 one (stmts_read m (k + 1) b one.rest s.3 one.behind)) h.6
-  stmt_read m k (Let at site n e b) f g s h =
-      let w = h.5 in
-      let v = w.4 in
-      let is = list_with_word h.1 w.1 v.1 w.0 v.0 (codes "let") n w.2 v.2 v.3 in
-      let one = expr_read m.states e v.1 (stmts_forms b) s.2 v.4 in
-      one_stmt m k site h.0 at _ f h.1 h.2 (λ j. Let at j n e b) g s.0 h.3 h.4
-      (ap (λ (i : Forest). stmt_form m k at (seen_trees i)) is
-      ∙ let_read m k at w.0 n e b v.1 (stmts_forms b) s.1 one (stmts_read m (k + 1) b one.rest s.3 one.behind)) h.6
-  stmt_read m k (Remember at site n ks e b) f g s h =
-      let w = h.5 in
-      let v = w.4 in
-      let l = v.4 in
-      let is = list_with_word h.1 w.1 v.1 w.0 v.0 (codes "remember") n w.2 v.2 v.3 ∙ ap (λ (i : Forest). atom w.0 (codes "remember") (atom n.at n.text i)) l.3 in
-      let one = expr_read m.states e l.2 (stmts_forms b) s.3 l.6 in
-      one_stmt m k site h.0 at _ f h.1 h.2 (λ j. Remember at j n ks e b) g s.0 h.3 h.4
-      (ap (λ (i : Forest). stmt_form m k at (seen_trees i)) is
-      ∙ remember_read m k at w.0 l.0 n ks e b l.1 l.2 (stmts_forms b) s.1 (pairs_read m.states ks l.1 s.2 l.5) one
-      (stmts_read m (k + 1) b one.rest s.4 one.behind)) h.6
+  stmt_read m k (Block at site head b) f g s h =
+      let one = head_read m.states head h.1 (stmts_forms b) s.1 h.5 in
+      one_stmt m k site h.0 at _ f h.1 h.2 (λ j. Block at j head b) g s.0 h.3 h.4
+      (block_read m k at head b h.1 (stmts_forms b) one (stmts_read m (k + 1) b one.rest s.2 one.behind)) h.6
 
   pub stmts_read : (m : KnownNames) (k : ℕ) (b : Stmts) (f : Forest) → SpelledStmts m k b → Fits f (stmts_forms b)
       → ReadsBody m k f b

@@ -11,10 +11,15 @@ use Rattle.rt_values.specs.Keywords.{kind_word, type_word}
 use Rattle.snap_policy.specs.declared.policy.BuiltIn.{BuiltIn}
 use Rattle.snap_policy.specs.declared.policy.BuiltIn.TheVariants as policy
 use Rattle.sexp_text.specs.Forest.{Forest, atom}
+use Rattle.lang_ast.specs.declared.program.Version.{Version}
+use Rattle.lang_ast.specs.declared.program.Version.TheVariants as version
 use Rattle.lang_ast.specs.declared.syntax.Operator.{Operator}
 use Rattle.lang_ast.specs.declared.syntax.Operator.TheVariants as operator
-use Rattle.lang_forms.specs.Words.{policy_word, operator_word, value_with, all_types, all_policies, all_kinds, number_operators, truth_operators, list_operators, type_for_word, policy_for_word, kind_for_word, number_operator, truth_operator, list_operator, operator_for_word}
-use Rattle.lang_forms.specs.Readings.{seen_trees, keyword_of}
+use Rattle.lang_forms.specs.declared.statement_heads.BodyWord.TheVariants as body
+use Rattle.lang_forms.specs.declared.statement_heads.StatementWord.{StatementWord}
+use Rattle.lang_forms.specs.declared.statement_heads.StatementWord.TheVariants as statement
+use Rattle.lang_forms.specs.Words.{version_word, policy_word, operator_word, value_with, all_versions, all_types, all_policies, all_kinds, number_operators, truth_operators, list_operators, version_for_word, type_for_word, policy_for_word, kind_for_word, number_operator, truth_operator, list_operator, operator_for_word}
+use Rattle.lang_forms.specs.Readings.{seen_trees, keyword_of, statement_word, all_statements, statement_for_word}
 
 -- A table that has the value of each keyword and nothing else.
 pub record IsTable {A : Type 0} (word : A → List ℕ) (table : List ℕ → Option A) : Type 0 where
@@ -37,6 +42,14 @@ has_word : {A : Type 0} (word : A → List ℕ) (all : List A) (w : List ℕ) (v
     → w ≡ word v
 has_word word [] w v h = absurd (cc)
 has_word word (a ∷ more) w v h = named_some word a v w _ (has_word word more w v) h
+
+version_there : (v : Version) → version_for_word (version_word v) ≡ Some v
+unfolding version_for_word
+version_there version.One = refl
+
+pub version_table : IsTable version_word version_for_word
+unfolding version_for_word
+version_table = record { found = has_word version_word all_versions; there = version_there }
 
 type_there : (t : Ty) → type_for_word (type_word t) ≡ Some t
 unfolding type_for_word
@@ -64,6 +77,17 @@ kind_there _ = refl
 pub kind_table : IsTable kind_word kind_for_word
 unfolding kind_for_word
 kind_table = record { found = has_word kind_word all_kinds; there = kind_there }
+
+statement_there : (w : StatementWord) → statement_for_word (statement_word w) ≡ Some w
+unfolding statement_for_word
+statement_there statement.Call = refl
+statement_there statement.If = refl
+statement_there (statement.WithBody body.Node) = refl
+statement_there (statement.WithBody _) = refl
+
+pub statement_table : IsTable statement_word statement_for_word
+unfolding statement_for_word
+statement_table = record { found = has_word statement_word all_statements; there = statement_there }
 
 either : {A : Type 0} (o other : Option A) (a : A) → option_or o other ≡ Some a → (o ≡ Some a) ⊎ (other ≡ Some a)
 either None other a h = inr h

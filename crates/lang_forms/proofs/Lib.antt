@@ -14,6 +14,4 @@ pub mod Unlimited
 pub mod Limits
 pub mod Firsts
 pub mod ByForms
-pub mod Bindings
-pub mod StatementHeads
 pub mod StatementLists

@@ -1,19 +1,23 @@
 -- Trees that are parsed as expressions and statements have their forms.
-use Rattle.std.proofs.Common.{◌≡◌, inl, inr, ℕ, suc, ◌+◌, List, [], ◌∷◌, length, Option, Some, None, Bool, true, false, cond, refl, sym, ap, ◌∙◌, subst, codes}
+use Rattle.std.proofs.Common.{◌≡◌, inl, inr, ℕ, ◌+◌, List, [], ◌∷◌, length, Option, Some, None, Bool, true, false, cond, refl, sym, ap, ◌∙◌, subst, codes}
 use Rattle.std.specs.Option.{option_map}
 use Rattle.std.proofs.lemmas.Option.{cond_some}
 use Rattle.sexp_text.specs.Forest.{Forest, empty, atom, text, list}
 use Rattle.rt_values.specs.declared.value.Value.{Value}
 use Rattle.rt_values.specs.declared.value.Value.TheVariants as value
-use Rattle.lang_ast.specs.Terms.{Expr, Literal, Variable, Get, Apply, Named, Stmt, If, exprs, stmts, operand_count}
+use Rattle.lang_ast.specs.Terms.{Expr, Literal, Variable, Get, Apply, Named, Head, Stmt, If, exprs, stmts}
 use Rattle.lang_ast.specs.declared.syntax.Ident.{Ident}
+use Rattle.lang_ast.specs.declared.syntax.Source.TheVariants as sources
+use Rattle.lang_forms.specs.declared.statement_heads.BodyWord.{BodyWord}
+use Rattle.lang_forms.specs.declared.statement_heads.BodyWord.TheVariants as body
+use Rattle.lang_forms.specs.declared.statement_heads.StatementWord.{StatementWord}
+use Rattle.lang_forms.specs.declared.statement_heads.StatementWord.TheVariants as statement
 use Rattle.lang_forms.specs.Names.{is_name, number_of_name}
 use Rattle.lang_forms.specs.Words.{takes, operator_for_word}
-use Rattle.lang_forms.specs.Sketch.{Sketch, nothing, Fits}
-use Rattle.lang_forms.specs.Forms.{name, expr_forms, exprs_forms, pairs_forms, stmt_forms, stmts_forms, KnownNames, Spelled, AllSpelled, SpelledPairs, site_after, site_after_all, SpelledStmt, SpelledStmts, plain_fits}
-use Rattle.lang_forms.specs.Readings.{choose, Seen, seen_trees, is_end, word_of, name_of, plain_of, string_of, leaf_of, expr_at, expr_of, exprs_of, get_form, apply_form, expr_form, pair_form, pairs_form, pairs_of, stmts_of, block_of, node_form, call_form, key_form, if_form, for_form, let_form, remember_form, stmt_form, keyword_of}
-use Rattle.lang_forms.proofs.Bindings.{node_is, for_is, let_is, remember_is}
-use Rattle.lang_forms.proofs.KeywordTables.{operator_table}
+use Rattle.lang_forms.specs.Sketch.{Sketch, nothing, group, Fits}
+use Rattle.lang_forms.specs.Forms.{name, expr_forms, exprs_forms, pairs_forms, head_forms, stmt_forms, stmts_forms, KnownNames, Spelled, AllSpelled, SpelledPairs, site_after, site_after_all, SpelledHead, SpelledStmt, SpelledStmts, plain_fits}
+use Rattle.lang_forms.specs.Readings.{choose, Seen, seen_trees, is_end, word_of, name_of, plain_of, string_of, leaf_of, expr_at, expr_of, exprs_of, get_form, apply_form, expr_form, pair_form, pairs_form, pairs_of, binding_of, named_pairs_of, stmts_of, block_of, body_word, statement_word, statement_for_word, head_of, block_form, branches_of, call_form, if_form, form_after, stmt_form, keyword_of}
+use Rattle.lang_forms.proofs.KeywordTables.{operator_table, statement_table}
 use Rattle.lang_forms.proofs.Found.{inject, bind_some, map_some, choose_some, Worded, word_found, name_next, keyword_next, end_next, plain_found, string_found, tail}
 use Rattle.lang_forms.proofs.FormsAreRead.{count_is}
 
@@ -119,7 +123,7 @@ get_found : (m : List (List ℕ)) (at : ℕ) (i : Forest) (e : Expr) (ss : List 
 unfolding get_form
 get_found m at i e ss w h =
     let n = bind_some (name_of ss) _ e h in
-    let c = cond_some (is_end n.0.1) (Get at n.0.0 (number_of_name n.0.0.text m)) e n.2 in
+    let c = cond_some (is_end n.0.1) (Get at n.0.0 (sources.State (number_of_name n.0.0.text m))) e n.2 in
     let x = name_next w.rest ss n.0 w.behind n.1 in
     let over = end_next x.rest n.0.1 x.behind c.0 in
     subst (λ (d : Expr). ListExpr m at i d) c.1
@@ -281,6 +285,126 @@ pairs_next : (m : List (List ℕ)) (f : Forest) (rs : List Seen) (k : List Named
     → pairs_of m rs ≡ Some k → PairsFirst m f k
 pairs_next m f rs k good is h = pairs_found m f k good (ap (pairs_of m) (sym is) ∙ h)
 
+-- NAME EXPR, and the trees after it.
+record BindingFirst (m : List (List ℕ)) (f : Forest) (x : (Ident × Expr) × List Seen) : Type 0 where
+  rest : Forest
+  behind : x.1 ≡ seen_trees rest
+  fit : (g : Sketch) → Fits rest g → Fits f (name x.0.0 (expr_forms x.0.1 g))
+  good : is_name x.0.0.text ≡ true
+  spelled : Spelled m x.0.1
+  claims : Claims rest
+
+binding_next : (m : List (List ℕ)) (f : Forest) (rs : List Seen) (x : (Ident × Expr) × List Seen) → Good f
+    → rs ≡ seen_trees f → binding_of m rs ≡ Some x → BindingFirst m f x
+unfolding binding_of
+binding_next m f rs x good is h =
+    let n = bind_some (name_of rs) _ x h in
+    let e = bind_some (expr_of m n.0.1) _ x n.2 in
+    let w = name_next f rs n.0 is n.1 in
+    let inside = behind_good f _ _ w.rest w.is good in
+    let first = expr_next m w.rest n.0.1 e.0 inside w.behind e.1 in
+    subst (λ (y : (Ident × Expr) × List Seen). BindingFirst m f y) (inject e.2) (record {
+      rest = tail w.rest;
+      behind = first.behind;
+      fit = λ g r. (n.0.0.at, w.rest, w.is, refl, first.fit g r);
+      good = w.good;
+      spelled = first.spelled;
+      claims = tail_claims w.rest inside;
+    })
+
+-- NAME ((NAME EXPR)..), and the trees after it.
+record NamedPairsFirst (m : List (List ℕ)) (f : Forest) (x : (Ident × List Named) × List Seen) : Type 0 where
+  rest : Forest
+  behind : x.1 ≡ seen_trees rest
+  fit : (g : Sketch) → Fits rest g → Fits f (name x.0.0 (group None (pairs_forms x.0.1) g))
+  good : is_name x.0.0.text ≡ true
+  spelled : SpelledPairs m x.0.1
+  inner : Good rest
+  claims : Claims rest
+
+named_pairs_next : (m : List (List ℕ)) (f : Forest) (rs : List Seen) (x : (Ident × List Named) × List Seen) → Good f
+    → rs ≡ seen_trees f → named_pairs_of m rs ≡ Some x → NamedPairsFirst m f x
+unfolding named_pairs_of
+named_pairs_next m f rs x good is h =
+    let n = bind_some (name_of rs) _ x h in
+    let ns = bind_some (pairs_of m n.0.1) _ x n.2 in
+    let w = name_next f rs n.0 is n.1 in
+    let l = pairs_next m w.rest n.0.1 ns.0 (behind_good f _ _ w.rest w.is good) w.behind ns.1 in
+    subst (λ (y : (Ident × List Named) × List Seen). NamedPairsFirst m f y) (inject ns.2) (record {
+      rest = l.rest;
+      behind = l.behind;
+      fit = λ g r. (n.0.0.at, w.rest, w.is, refl, (l.at, l.inner, l.rest, l.is, tt, l.fits, r));
+      good = w.good;
+      spelled = l.spelled;
+      inner = l.good;
+      claims = l.claims;
+    })
+
+-- The head of a statement with a body after its keyword, and the trees after it.
+record HeadFirst (m : List (List ℕ)) (i : Forest) (h : Head × List Seen) : Type 0 where
+  rest : Forest
+  behind : h.1 ≡ seen_trees rest
+  fit : (g : Sketch) → Fits rest g → Fits i (head_forms h.0 g)
+  spelled : SpelledHead m h.0
+  claims : Claims rest
+
+head_found : (m : List (List ℕ)) (i : Forest) (w : BodyWord) (ss : List Seen) (h : Head × List Seen) → Good i
+    → Worded i (body_word w) ss → head_of m w ss ≡ Some h → HeadFirst m i h
+unfolding head_of
+head_found m i body.Node ss h good w e =
+    let x = bind_some (named_pairs_of m ss) _ h e in
+    let p = named_pairs_next m w.rest ss x.0 (behind_good i _ _ w.rest w.is good) w.behind x.1 in
+    subst (λ (y : Head × List Seen). HeadFirst m i y) (inject x.2) (record {
+      rest = p.rest;
+      behind = p.behind;
+      fit = λ g r. (w.at, w.rest, w.is, tt, p.fit g r);
+      spelled = (p.good, p.spelled);
+      claims = p.claims;
+    })
+head_found m i body.Key ss h good w e =
+    let inside = behind_good i _ _ w.rest w.is good in
+    let x = bind_some (expr_of m ss) _ h e in
+    let p = expr_next m w.rest ss x.0 inside w.behind x.1 in
+    subst (λ (y : Head × List Seen). HeadFirst m i y) (inject x.2) (record {
+      rest = tail w.rest;
+      behind = p.behind;
+      fit = λ g r. (w.at, w.rest, w.is, tt, p.fit g r);
+      spelled = p.spelled;
+      claims = tail_claims w.rest inside;
+    })
+head_found m i body.For ss h good w e =
+    let x = bind_some (binding_of m ss) _ h e in
+    let p = binding_next m w.rest ss x.0 (behind_good i _ _ w.rest w.is good) w.behind x.1 in
+    subst (λ (y : Head × List Seen). HeadFirst m i y) (inject x.2) (record {
+      rest = p.rest;
+      behind = p.behind;
+      fit = λ g r. (w.at, w.rest, w.is, tt, p.fit g r);
+      spelled = (p.good, p.spelled);
+      claims = p.claims;
+    })
+head_found m i body.Let ss h good w e =
+    let x = bind_some (binding_of m ss) _ h e in
+    let p = binding_next m w.rest ss x.0 (behind_good i _ _ w.rest w.is good) w.behind x.1 in
+    subst (λ (y : Head × List Seen). HeadFirst m i y) (inject x.2) (record {
+      rest = p.rest;
+      behind = p.behind;
+      fit = λ g r. (w.at, w.rest, w.is, tt, p.fit g r);
+      spelled = (p.good, p.spelled);
+      claims = p.claims;
+    })
+head_found m i body.Remember ss h good w e =
+    let x = bind_some (named_pairs_of m ss) _ h e in
+    let p = named_pairs_next m w.rest ss x.0 (behind_good i _ _ w.rest w.is good) w.behind x.1 in
+    let y = bind_some (expr_of m x.0.1) _ h x.2 in
+    let q = expr_next m p.rest x.0.1 y.0 p.inner p.behind y.1 in
+    subst (λ (y : Head × List Seen). HeadFirst m i y) (inject y.2) (record {
+      rest = tail p.rest;
+      behind = q.behind;
+      fit = λ g r. (w.at, w.rest, w.is, tt, p.fit _ (q.fit g r));
+      spelled = (p.good, p.spelled, q.spelled);
+      claims = tail_claims p.rest p.inner;
+    })
+
 -- Statements.
 
 -- Statements after the parsed trees.
@@ -294,39 +418,17 @@ record StmtFits (m : KnownNames) (k at : ℕ) (i : Forest) (t : Stmt × ℕ) : T
   spelled : SpelledStmt m k t.0
   next : t.1 ≡ site_after k t.0
 
-node_found : (m : KnownNames) (k at : ℕ) (i : Forest) (t : Stmt × ℕ) (ss : List Seen) → Good i → Worded i (codes "node") ss → node_form m k at ss ≡ Some t → StmtFits m k at i t
-node_found m k at i t ss good w h =
-    let long = node_is m k at ss ∙ h in
-    let n = bind_some (name_of ss) _ t long in
-    let x = name_next w.rest ss n.0 w.behind n.1 in
-    let ns = bind_some (pairs_of m.states n.0.1) _ t n.2 in
-    let l = pairs_next m.states x.rest n.0.1 ns.0
-    (behind_good w.rest _ _ x.rest x.is (behind_good i _ _ w.rest w.is good)) x.behind ns.1 in
-    let b = bind_some (stmts_of m (k + 1) ns.0.1) _ t ns.2 in
-    let body = body_next m (k + 1) l.rest ns.0.1 b.0 l.claims l.behind b.1 in
+block_found : (m : KnownNames) (k at : ℕ) (i : Forest) (t : Stmt × ℕ) (w : BodyWord) (ss : List Seen) → Good i
+    → Worded i (body_word w) ss → block_form m k at w ss ≡ Some t → StmtFits m k at i t
+unfolding block_form
+block_found m k at i t w ss good word h =
+    let x = bind_some (head_of m.states w ss) _ t h in
+    let head = head_found m.states i w ss x.0 good word x.1 in
+    let b = bind_some (stmts_of m (k + 1) x.0.1) _ t x.2 in
+    let body = body_next m (k + 1) head.rest x.0.1 b.0 head.claims head.behind b.1 in
     subst (λ (d : Stmt × ℕ). StmtFits m k at i d) (inject b.2) (record {
-      fit = λ r g y. (
-        at,
-        i,
-        r,
-        refl,
-        refl,
-        (
-          w.at,
-          w.rest,
-          w.is,
-          tt,
-          (
-            n.0.0.at,
-            x.rest,
-            x.is,
-            refl,
-            (l.at, l.inner, l.rest, l.is, tt, l.fits, body.fits),
-          ),
-        ),
-        y,
-      );
-      spelled = (refl, x.good, l.spelled, body.spelled);
+      fit = λ r g y. (at, i, r, refl, refl, head.fit (stmts_forms (stmts b.0.0)) body.fits, y);
+      spelled = (refl, head.spelled, body.spelled);
       next = body.next;
     })
 
@@ -344,23 +446,8 @@ call_found m k at i t ss good w h =
       next = refl;
     })
 
-key_found : (m : KnownNames) (k at : ℕ) (i : Forest) (t : Stmt × ℕ) (ss : List Seen) → Good i → Worded i (codes "key") ss → key_form m k at ss ≡ Some t → StmtFits m k at i t
-unfolding key_form
-key_found m k at i t ss good w h =
-    let inside = behind_good i _ _ w.rest w.is good in
-    let e = bind_some (expr_of m.states ss) _ t h in
-    let first = expr_next m.states w.rest ss e.0 inside w.behind e.1 in
-    let b = bind_some (stmts_of m (k + 1) e.0.1) _ t e.2 in
-    let body = body_next m (k + 1) (tail w.rest) e.0.1 b.0 (tail_claims w.rest inside) first.behind b.1 in
-    subst (λ (d : Stmt × ℕ). StmtFits m k at i d) (inject b.2) (record {
-      fit =
-          λ r g y. (at, i, r, refl, refl, (w.at, w.rest, w.is, tt, first.fit (stmts_forms (stmts b.0.0)) body.fits), y);
-      spelled = (refl, first.spelled, body.spelled);
-      next = body.next;
-    })
-
 -- A first tree that is a list of statements.
-record BlockFirst (m : KnownNames) (k : ℕ) (f : Forest) (b : (List Stmt × ℕ) × List Seen) : Type 0 where
+record ListFirst (m : KnownNames) (k : ℕ) (f : Forest) (b : (List Stmt × ℕ) × List Seen) : Type 0 where
   at : ℕ
   inner : Forest
   rest : Forest
@@ -369,14 +456,14 @@ record BlockFirst (m : KnownNames) (k : ℕ) (f : Forest) (b : (List Stmt × ℕ
   body : BodyFits m k inner b.0
   good : Good rest
 
-block_found : (m : KnownNames) (k : ℕ) (f : Forest) (b : (List Stmt × ℕ) × List Seen) → Good f
-    → block_of m k (seen_trees f) ≡ Some b → BlockFirst m k f b
-block_found m k empty b good h = absurd (cc)
-block_found m k (atom at a f) b good h = absurd (cc)
-block_found m k (text at a f) b good h = absurd (cc)
-block_found m k (list at i f) b good h =
+statements_found : (m : KnownNames) (k : ℕ) (f : Forest) (b : (List Stmt × ℕ) × List Seen) → Good f
+    → block_of m k (seen_trees f) ≡ Some b → ListFirst m k f b
+statements_found m k empty b good h = absurd (cc)
+statements_found m k (atom at a f) b good h = absurd (cc)
+statements_found m k (text at a f) b good h = absurd (cc)
+statements_found m k (list at i f) b good h =
     let x = map_some (stmts_of m k (seen_trees i)) (λ (c : List Stmt × ℕ). (c, seen_trees f)) b h in
-    subst (λ (p : (List Stmt × ℕ) × List Seen). BlockFirst m k (list at i f) p) x.2
+    subst (λ (p : (List Stmt × ℕ) × List Seen). ListFirst m k (list at i f) p) x.2
     (record {
       at = at;
       inner = i;
@@ -387,23 +474,29 @@ block_found m k (list at i f) b good h =
       good = good.3;
     })
 
-block_next : (m : KnownNames) (k : ℕ) (f : Forest) (rs : List Seen) (b : (List Stmt × ℕ) × List Seen) → Good f
-    → rs ≡ seen_trees f → block_of m k rs ≡ Some b → BlockFirst m k f b
-block_next m k f rs b good is h = block_found m k f b good (ap (block_of m k) (sym is) ∙ h)
+statements_next : (m : KnownNames) (k : ℕ) (f : Forest) (rs : List Seen) (b : (List Stmt × ℕ) × List Seen) → Good f
+    → rs ≡ seen_trees f → block_of m k rs ≡ Some b → ListFirst m k f b
+statements_next m k f rs b good is h = statements_found m k f b good (ap (block_of m k) (sym is) ∙ h)
+
+-- An if with these branches, and the number after it.
+abbrev if_with : ℕ → ℕ → Expr → (List Stmt × List Stmt) × ℕ → Stmt × ℕ
+if_with at k e b = (If at k e (stmts b.0.0) (stmts b.0.1), b.1)
 
 if_found : (m : KnownNames) (k at : ℕ) (i : Forest) (t : Stmt × ℕ) (ss : List Seen) → Good i → Worded i (codes "if") ss → if_form m k at ss ≡ Some t → StmtFits m k at i t
-unfolding if_form
+unfolding if_form branches_of
 if_found m k at i t ss good w h =
     let inside = behind_good i _ _ w.rest w.is good in
     let e = bind_some (expr_of m.states ss) _ t h in
     let first = expr_next m.states w.rest ss e.0 inside w.behind e.1 in
-    let a = bind_some (block_of m (k + 1) e.0.1) _ t e.2 in
-    let yes = block_next m (k + 1) (tail w.rest) e.0.1 a.0 (tail_good w.rest inside) first.behind a.1 in
-    let b = bind_some (block_of m a.0.0.1 a.0.1) _ t a.2 in
-    let other = block_next m a.0.0.1 yes.rest a.0.1 b.0 yes.good yes.behind b.1 in
-    let c = cond_some (is_end b.0.1) (If at k e.0.0 (stmts a.0.0.0) (stmts b.0.0.0), b.0.0.1) t b.2 in
+    let both = bind_some (branches_of m (k + 1) e.0.1) _ t e.2 in
+    let a = bind_some (block_of m (k + 1) e.0.1) _ both.0 both.1 in
+    let yes = statements_next m (k + 1) (tail w.rest) e.0.1 a.0 (tail_good w.rest inside) first.behind a.1 in
+    let b = bind_some (block_of m a.0.0.1 a.0.1) _ both.0 a.2 in
+    let other = statements_next m a.0.0.1 yes.rest a.0.1 b.0 yes.good yes.behind b.1 in
+    let c = cond_some (is_end b.0.1) ((a.0.0.0, b.0.0.0), b.0.0.1) both.0 b.2 in
     let over = end_next other.rest b.0.1 other.behind c.0 in
-    subst (λ (d : Stmt × ℕ). StmtFits m k at i d) c.1 (record {
+    subst (λ (d : Stmt × ℕ). StmtFits m k at i d) (inject both.2)
+    (subst (λ (x : (List Stmt × List Stmt) × ℕ). StmtFits m k at i (if_with at k e.0.0 x)) c.1 (record {
       fit = λ r g y. (
         at,
         i,
@@ -434,98 +527,7 @@ if_found m k at i t ss good w h =
         subst (λ (j : ℕ). SpelledStmts m j (stmts b.0.0.0)) yes.body.next other.body.spelled,
       );
       next = other.body.next ∙ ap (λ (j : ℕ). site_after_all j (stmts b.0.0.0)) yes.body.next;
-    })
-
--- NAME EXPR STMT..
-record BindingFits (m : KnownNames) (k : ℕ) (f : Forest) (n : Ident) (e : Expr) (b : List Stmt × ℕ) : Type 0 where
-  fits : Fits f (name n (expr_forms e (stmts_forms (stmts b.0))))
-  good : is_name n.text ≡ true
-  spelled : Spelled m.states e
-  body : SpelledStmts m (k + 1) (stmts b.0)
-  next : b.1 ≡ site_after_all (k + 1) (stmts b.0)
-
-binding_found : (m : KnownNames) (k : ℕ) (f : Forest) (ss : List Seen) (n : Ident × List Seen) (e : Expr × List Seen)
-    (b : List Stmt × ℕ) → Good f → ss ≡ seen_trees f
-    → name_of ss ≡ Some n → expr_of m.states n.1 ≡ Some e → stmts_of m (k + 1) e.1 ≡ Some b
-    → BindingFits m k f n.0 e.0 b
-binding_found m k f ss n e b good is hn he hb =
-    let x = name_next f ss n is hn in
-    let inside = behind_good f _ _ x.rest x.is good in
-    let first = expr_next m.states x.rest n.1 e inside x.behind he in
-    let body = body_next m (k + 1) (tail x.rest) e.1 b (tail_claims x.rest inside) first.behind hb in
-    record {
-      fits = (n.0.at, x.rest, x.is, refl, first.fit (stmts_forms (stmts b.0)) body.fits);
-      good = x.good;
-      spelled = first.spelled;
-      body = body.spelled;
-      next = body.next;
-    }
-
-for_found : (m : KnownNames) (k at : ℕ) (i : Forest) (t : Stmt × ℕ) (ss : List Seen) → Good i → Worded i (codes "for") ss → for_form m k at ss ≡ Some t → StmtFits m k at i t
-for_found m k at i t ss good w h =
-    let long = for_is m k at ss ∙ h in
-    let n = bind_some (name_of ss) _ t long in
-    let e = bind_some (expr_of m.states n.0.1) _ t n.2 in
-    let b = bind_some (stmts_of m (k + 1) e.0.1) _ t e.2 in
-    let all = binding_found m k w.rest ss n.0 e.0 b.0 (behind_good i _ _ w.rest w.is good) w.behind n.1 e.1 b.1 in
-    subst (λ (d : Stmt × ℕ). StmtFits m k at i d) (inject b.2)
-    (record {
-      fit = λ r g y. (at, i, r, refl, refl, (w.at, w.rest, w.is, tt, all.fits), y);
-      spelled = (refl, all.good, all.spelled, all.body);
-      next = all.next;
-    })
-
-let_found : (m : KnownNames) (k at : ℕ) (i : Forest) (t : Stmt × ℕ) (ss : List Seen) → Good i → Worded i (codes "let") ss → let_form m k at ss ≡ Some t → StmtFits m k at i t
-let_found m k at i t ss good w h =
-    let long = let_is m k at ss ∙ h in
-    let n = bind_some (name_of ss) _ t long in
-    let e = bind_some (expr_of m.states n.0.1) _ t n.2 in
-    let b = bind_some (stmts_of m (k + 1) e.0.1) _ t e.2 in
-    let all = binding_found m k w.rest ss n.0 e.0 b.0 (behind_good i _ _ w.rest w.is good) w.behind n.1 e.1 b.1 in
-    subst (λ (d : Stmt × ℕ). StmtFits m k at i d) (inject b.2)
-    (record {
-      fit = λ r g y. (at, i, r, refl, refl, (w.at, w.rest, w.is, tt, all.fits), y);
-      spelled = (refl, all.good, all.spelled, all.body);
-      next = all.next;
-    })
-
-remember_found : (m : KnownNames) (k at : ℕ) (i : Forest) (t : Stmt × ℕ) (ss : List Seen) → Good i → Worded i (codes "remember") ss → remember_form m k at ss ≡ Some t → StmtFits m k at i t
-remember_found m k at i t ss good w h =
-    let long = remember_is m k at ss ∙ h in
-    let n = bind_some (name_of ss) _ t long in
-    let x = name_next w.rest ss n.0 w.behind n.1 in
-    let ks = bind_some (pairs_of m.states n.0.1) _ t n.2 in
-    let l = pairs_next m.states x.rest n.0.1 ks.0
-    (behind_good w.rest _ _ x.rest x.is (behind_good i _ _ w.rest w.is good)) x.behind ks.1 in
-    let e = bind_some (expr_of m.states ks.0.1) _ t ks.2 in
-    let first = expr_next m.states l.rest ks.0.1 e.0 l.good l.behind e.1 in
-    let b = bind_some (stmts_of m (k + 1) e.0.1) _ t e.2 in
-    let body = body_next m (k + 1) (tail l.rest) e.0.1 b.0 (tail_claims l.rest l.good) first.behind b.1 in
-    subst (λ (d : Stmt × ℕ). StmtFits m k at i d) (inject b.2) (record {
-      fit = λ r g y. (
-        at,
-        i,
-        r,
-        refl,
-        refl,
-        (
-          w.at,
-          w.rest,
-          w.is,
-          tt,
-          (
-            n.0.0.at,
-            x.rest,
-            x.is,
-            refl,
-            (l.at, l.inner, l.rest, l.is, tt, l.fits, first.fit (stmts_forms (stmts b.0.0)) body.fits),
-          ),
-        ),
-        y,
-      );
-      spelled = (refl, x.good, l.spelled, first.spelled, body.spelled);
-      next = body.next;
-    })
+    }))
 
 -- One of two readings.
 pub either : {A B : Type 0} (C : Type 0) (o : Option A) (f : A → Option B) (other : Option B) (y : B)
@@ -533,19 +535,22 @@ pub either : {A B : Type 0} (C : Type 0) (o : Option A) (f : A → Option B) (ot
 either C None f other y h one two = two h
 either C (Some x) f other y h one two = one x refl h
 
+-- The trees after the keyword of a statement.
+form_found : (m : KnownNames) (k at : ℕ) (i : Forest) (t : Stmt × ℕ) (w : StatementWord) (ss : List Seen) → Good i
+    → Worded i (statement_word w) ss → form_after m k at w ss ≡ Some t → StmtFits m k at i t
+form_found m k at i t statement.Call ss good word h = call_found m k at i t ss good word h
+form_found m k at i t statement.If ss good word h = if_found m k at i t ss good word h
+form_found m k at i t (statement.WithBody w) ss good word h = block_found m k at i t w ss good word h
+
 stmt_found : (m : KnownNames) (k at : ℕ) (i : Forest) (t : Stmt × ℕ) → Good i → stmt_form m k at (seen_trees i) ≡ Some t
     → StmtFits m k at i t
 unfolding stmt_form
 stmt_found m k at i t good h =
-    let C = StmtFits m k at i t in
-    either C (word_of (codes "node") (seen_trees i)) (node_form m k at) _ t h (λ ss w x. node_found m k at i t ss good (word_found (codes "node") i ss w) x) (λ h1.
-    either C (word_of (codes "call") (seen_trees i)) (call_form m k at) _ t h1 (λ ss w x. call_found m k at i t ss good (word_found (codes "call") i ss w) x) (λ h2.
-    either C (word_of (codes "key") (seen_trees i)) (key_form m k at) _ t h2 (λ ss w x. key_found m k at i t ss good (word_found (codes "key") i ss w) x) (λ h3.
-    either C (word_of (codes "if") (seen_trees i)) (if_form m k at) _ t h3 (λ ss w x. if_found m k at i t ss good (word_found (codes "if") i ss w) x) (λ h4.
-    either C (word_of (codes "for") (seen_trees i)) (for_form m k at) _ t h4 (λ ss w x. for_found m k at i t ss good (word_found (codes "for") i ss w) x) (λ h5.
-    either C (word_of (codes "let") (seen_trees i)) (let_form m k at) _ t h5 (λ ss w x. let_found m k at i t ss good (word_found (codes "let") i ss w) x) (λ h6.
-    either C (word_of (codes "remember") (seen_trees i)) (remember_form m k at) None t h6 (λ ss w x. remember_found m k at i t ss good (word_found (codes "remember") i ss w) x) (λ h7.
-    absurd (cc (h7)))))))))
+    let w = bind_some (keyword_of statement_for_word (seen_trees i)) _ t h in
+    let x = keyword_next statement_table i (seen_trees i) w.0 refl w.1 in
+    let word : Worded i (statement_word w.0.0) w.0.1 =
+    record { at = x.at; rest = x.rest; is = x.is; behind = x.behind } in
+    form_found m k at i t w.0.0 w.0.1 good word w.2
 
 stmts_claim : (f : Forest) → Good f → (m : KnownNames) (k : ℕ) (b : List Stmt × ℕ)
     → stmts_of m k (seen_trees f) ≡ Some b → BodyFits m k f b

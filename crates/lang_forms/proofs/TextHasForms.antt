@@ -1,5 +1,5 @@
 -- Trees that are parsed as a text have its forms.
-use Rattle.std.proofs.Common.{◌≡◌, ℕ, List, [], ◌∷◌, ◌++◌, map, Option, Some, None, Result, Ok, Err, Bool, true, false, true≢false, cond, refl, sym, ap, ◌∙◌, subst, codes, ◌&&◌}
+use Rattle.std.proofs.Common.{◌≡◌, ℕ, List, [], ◌∷◌, ◌++◌, map, Option, Some, None, Result, Ok, Err, Bool, true, false, true≢false, refl, sym, ap, ◌∙◌, subst, codes, ◌&&◌}
 use Rattle.std.specs.Option.{option_map}
 use Rattle.std.proofs.lemmas.Bool.{and_parts}
 use Rattle.std.proofs.lemmas.List.{append-nil, append_assoc, map-append}
@@ -8,16 +8,17 @@ use Rattle.sexp_text.specs.Forest.{Forest, empty, atom, text, list}
 use Rattle.lang_ast.specs.Terms.{Func}
 use Rattle.lang_ast.specs.declared.syntax.Parameter.{Parameter}
 use Rattle.lang_ast.specs.declared.program.State.{State}
+use Rattle.lang_ast.specs.declared.program.Version.{Version}
 use Rattle.lang_ast.specs.declared.script.DoForm.{DoForm}
 use Rattle.lang_forms.specs.Names.{is_name}
 use Rattle.lang_forms.specs.Sketch.{Sketch, nothing, Fits}
 use Rattle.lang_forms.specs.Sources.{Source}
 use Rattle.lang_forms.specs.Forms.{parameters_forms, state_forms, function_forms, do_forms, top_forms, KnownNames, site_after_all, state_name, function_name, literal_fits, SpelledStmts, SpelledParameters, SpelledStates, SpelledFunctions, SpelledActor, SpelledScripts, HasForms}
-use Rattle.lang_forms.specs.Words.{type_for_word, policy_for_word}
-use Rattle.lang_forms.specs.Readings.{Top, StateTop, FunctionTop, DoTop, Seen, seen_trees, is_end, word_of, name_of, keyword_of, literal_of, actor_steps_of, parameter_form, parameters_form, parameters_of, stmts_of, state_form, function_form, do_form, top_form, header_form, is_there}
+use Rattle.lang_forms.specs.Words.{version_word, version_for_word, type_for_word, policy_for_word}
+use Rattle.lang_forms.specs.Readings.{Top, StateTop, FunctionTop, DoTop, Seen, seen_trees, is_end, word_of, name_of, keyword_of, literal_of, actor_steps_of, parameter_form, parameters_form, parameters_of, stmts_of, state_form, function_form, do_form, top_form, header_form}
 use Rattle.lang_forms.specs.TextReading.{PartialSource, known_names, source, is_none, source_with_form, source_with_rest, tops_of, text_of, start, source_of, source_or_offset}
-use Rattle.lang_forms.proofs.KeywordTables.{type_table, policy_table}
-use Rattle.lang_forms.proofs.Found.{inject, bind_some, map_some, Worded, word_found, word_next, name_next, keyword_next, literal_next, end_next, tail}
+use Rattle.lang_forms.proofs.KeywordTables.{version_table, type_table, policy_table}
+use Rattle.lang_forms.proofs.Found.{inject, bind_some, map_some, Worded, word_found, name_next, keyword_next, literal_next, end_next, tail}
 use Rattle.lang_forms.proofs.ReadHasForms.{either, body_found}
 use Rattle.lang_forms.proofs.StepsHaveForms.{actor_found}
 
@@ -204,6 +205,7 @@ record Leads (f : Forest) (p q : PartialSource) : Type 0 where
   functions : List Func
   script : List DoForm
   header : q.header ≡ p.header
+  version : q.version ≡ p.version
   all_states : p.states ++ states ≡ q.states
   all_functions : p.functions ++ functions ≡ q.functions
   all_script : p.script ++ script ≡ q.script
@@ -223,6 +225,7 @@ nothing_more p q is = subst (λ (x : PartialSource). Leads empty p x) is (record
   functions = [];
   script = [];
   header = refl;
+  version = refl;
   all_states = append-nil p.states;
   all_functions = append-nil p.functions;
   all_script = append-nil p.script;
@@ -252,6 +255,7 @@ state_leads : (at : ℕ) (i f : Forest) (p q r : PartialSource) (s : State) (k :
 state_leads at i f p q r s k top put more =
     let made : PartialSource = record {
       header = p.header;
+      version = p.version;
       states = p.states ++ s ∷ [];
       functions = p.functions;
       script = p.script;
@@ -265,6 +269,7 @@ state_leads at i f p q r s k top put more =
       functions = rest.functions;
       script = rest.script;
       header = rest.header;
+      version = rest.version;
       all_states = sym (append_assoc p.states (s ∷ []) rest.states) ∙ rest.all_states;
       all_functions = rest.all_functions;
       all_script = rest.all_script;
@@ -288,6 +293,7 @@ function_leads : (at : ℕ) (i f : Forest) (p q r : PartialSource) (c : Func) (k
 function_leads at i f p q r c k top put more =
     let made : PartialSource = record {
       header = p.header;
+      version = p.version;
       states = p.states;
       functions = p.functions ++ c ∷ [];
       script = p.script;
@@ -317,6 +323,7 @@ function_leads at i f p q r c k top put more =
       functions = c ∷ rest.functions;
       script = rest.script;
       header = rest.header;
+      version = rest.version;
       all_states = append-nil p.states ∙ same_states;
       all_functions = sym (append_assoc p.functions (c ∷ []) rest.functions) ∙ rest.all_functions;
       all_script = rest.all_script;
@@ -336,6 +343,7 @@ do_leads : (at : ℕ) (i f : Forest) (p q r : PartialSource) (d : DoForm) (k : �
 do_leads at i f p q r d k top put more =
     let made : PartialSource = record {
       header = p.header;
+      version = p.version;
       states = p.states;
       functions = p.functions;
       script = p.script ++ d ∷ [];
@@ -357,6 +365,7 @@ do_leads at i f p q r d k top put more =
       functions = [];
       script = d ∷ rest.script;
       header = rest.header;
+      version = rest.version;
       all_states = append-nil p.states ∙ same_states;
       all_functions = append-nil p.functions ∙ same_functions;
       all_script = sym (append_assoc p.script (d ∷ []) rest.script) ∙ rest.all_script;
@@ -403,39 +412,49 @@ tops_found (list at i f) p q h =
     let t = bind_some (top_form (known_names p) p.site at (seen_trees i)) (λ x. source_with_form p x.0 x.1) r.0 r.1 in
     top_leads at i f p q r.0 t.0.0 t.0.1 (top_found (known_names p) p.site at i t.0 t.1) t.2 (tops_found f r.0 q r.2)
 
--- The header `compose 1`.
-record Headed (i : Forest) : Type 0 where
+-- The header `compose VERSION`.
+record Headed (i : Forest) (v : Version) : Type 0 where
   at : ℕ
   rest : Forest
   is : i ≡ atom at (codes "compose") rest
-  one : ℕ
-  one_is : rest ≡ atom one (codes "1") empty
+  number : ℕ
+  number_is : rest ≡ atom number (version_word v) empty
 
-header_found : (i : Forest) → is_there (header_form (seen_trees i)) ≡ true → Headed i
+header_found : (i : Forest) (v : Version) → header_form (seen_trees i) ≡ Some v → Headed i v
 unfolding header_form
-header_found i h = by (header_form (seen_trees i)) refl h
-  where
-    by : (o : Option (List Seen)) → header_form (seen_trees i) ≡ o → is_there o ≡ true → Headed i
-    by None e false_there = absurd (true≢false (sym false_there))
-    by (Some ss) e there =
-        let c = bind_some (word_of (codes "compose") (seen_trees i)) _ ss e in
-        let w = word_found (codes "compose") i c.0 c.1 in
-        let o = bind_some (word_of (codes "1") c.0) _ ss c.2 in
-        let v = word_next (codes "1") w.rest c.0 o.0 w.behind o.1 in
-        let d = cond_some (is_end o.0) o.0 ss o.2 in
-        record { at = w.at; rest = w.rest; is = w.is; one = v.at; one_is = v.is ∙ ap (atom v.at (codes "1")) (end_next v.rest o.0 v.behind d.0) }
+header_found i v h =
+    let c = bind_some (word_of (codes "compose") (seen_trees i)) _ v h in
+    let w = word_found (codes "compose") i c.0 c.1 in
+    let o = bind_some (keyword_of version_for_word c.0) _ v c.2 in
+    let x = keyword_next version_table w.rest c.0 o.0 w.behind o.1 in
+    let d = cond_some (is_end o.0.1) o.0.0 v o.2 in
+    record {
+      at = w.at;
+      rest = w.rest;
+      is = w.is;
+      number = x.at;
+      number_is = x.is ∙ ap (atom x.at (version_word o.0.0)) (end_next x.rest o.0.1 x.behind d.0)
+          ∙ ap (λ (y : Version). atom x.at (version_word y) empty) d.1;
+    }
 
-whole : (at : ℕ) (i f : Forest) (q : PartialSource) → Headed i → Leads f (start at) q
+whole : (at : ℕ) (i f : Forest) (v : Version) (q : PartialSource) → Headed i v → Leads f (start at v) q
     → HasForms (list at i f) (source q)
-whole at i f q head all =
+whole at i f v q head all =
     let t : Source = record {
-      program = record { header = at; states = all.states; functions = all.functions };
+      program = record { header = at; version = v; states = all.states; functions = all.functions };
       script = all.script;
     } in
-    let is : source q ≡ t = rw (all.header, ← all.all_states, ← all.all_functions, ← all.all_script) in
+    let is : source q ≡ t = rw (all.header, all.version, ← all.all_states, ← all.all_functions, ← all.all_script) in
     subst (λ (s : Source). HasForms (list at i f) s) (sym is) (record {
-      fits =
-          (at, i, f, refl, refl, (head.at, head.rest, head.is, tt, (head.one, empty, head.one_is, tt, refl)), all.fits);
+      fits = (
+        at,
+        i,
+        f,
+        refl,
+        refl,
+        (head.at, head.rest, head.is, tt, (head.number, empty, head.number_is, tt, refl)),
+        all.fits,
+      );
       spelled = record {
         states = all.good_states;
         functions = subst (λ (l : List State). SpelledFunctions (record { states = map state_name l; functions = [] }) 1
@@ -450,12 +469,12 @@ unfolding text_of
 text_found end empty q h = absurd (cc)
 text_found end (atom at a f) q h = absurd (cc)
 text_found end (text at s f) q h = absurd (cc)
-text_found end (list at i f) q h = by (is_there (header_form (seen_trees i))) refl h
+text_found end (list at i f) q h = by (header_form (seen_trees i)) refl h
   where
-    by : (b : Bool) → is_there (header_form (seen_trees i)) ≡ b
-        → cond b (tops_of (start at) (seen_trees f)) (Err at) ≡ Ok q → HasForms (list at i f) (source q)
-    by true e k = whole at i f q (header_found i e) (tops_found f (start at) q k)
-    by false e k = absurd (cc)
+    by : (o : Option Version) → header_form (seen_trees i) ≡ o
+        → source_with_rest at o (λ v. tops_of (start at v) (seen_trees f)) ≡ Ok q → HasForms (list at i f) (source q)
+    by (Some v) e k = whole at i f v q (header_found i v e) (tops_found f (start at v) q k)
+    by None e k = absurd (cc)
 
 -- Trees that are parsed as a text have its forms.
 pub source_found : (end : ℕ) (f : Forest) (t : Source) → source_of end (seen_trees f) ≡ Ok t → HasForms f t

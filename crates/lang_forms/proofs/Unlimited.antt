@@ -13,11 +13,13 @@ use Rattle.rt_values.specs.declared.value.Value.{Value}
 use Rattle.rt_values.specs.declared.value.Value.TheVariants as value
 use Rattle.sexp_text.specs.Forest.{Forest, empty, atom, text, list}
 use Rattle.sexp_text.proofs.Complete.{negated}
-use Rattle.lang_ast.specs.Terms.{Expr, Literal, Variable, Get, Apply, Exprs, none, more, Named, Stmt, Node, Call, Key, If, For, Let, Remember, Stmts, done, next, Func}
+use Rattle.lang_ast.specs.Terms.{Expr, Literal, Variable, Get, Apply, Exprs, none, more, Named, Head, Node, Key, For, Let, Remember, Stmt, Call, If, Block, Stmts, done, next, Func}
 use Rattle.lang_ast.specs.declared.syntax.Operator.{Operator}
 use Rattle.lang_ast.specs.declared.syntax.Operator.TheVariants as operator
 use Rattle.lang_ast.specs.declared.syntax.Parameter.{Parameter}
 use Rattle.lang_ast.specs.declared.program.State.{State}
+use Rattle.lang_ast.specs.declared.program.Version.{Version}
+use Rattle.lang_ast.specs.declared.program.Version.TheVariants as version
 use Rattle.lang_limits.specs.Tokens.{is_counting, is_int, is_oversized_int, tree_count}
 use Rattle.lang_limits.specs.Clamped.{nearest_int, clamped_atom, clamped_string, are_ints, is_oversized_ints, first_trees, clamped_list, clamped_trees}
 use Rattle.lang_ast.specs.declared.script.SnapshotRef.{SnapshotRef}
@@ -35,10 +37,10 @@ use Rattle.snap_policy.specs.declared.policy.BuiltIn.{BuiltIn}
 use Rattle.snap_policy.specs.declared.policy.BuiltIn.TheVariants as policy
 use Rattle.lang_forms.specs.Names.{is_letter, is_name}
 use Rattle.rt_values.specs.Keywords.{kind_word, type_word}
-use Rattle.lang_forms.specs.Words.{policy_word, operator_word}
+use Rattle.lang_forms.specs.Words.{version_word, policy_word, operator_word}
 use Rattle.lang_forms.specs.Sketch.{Sketch, nothing, leaf, numeral, string, group, sequence, Fits, FitsUnlimited}
 use Rattle.lang_forms.specs.Sources.{Source}
-use Rattle.lang_forms.specs.Forms.{numbers, literal, expr_forms, exprs_forms, pairs_forms, stmt_forms, stmts_forms, parameters_forms, snapshot_forms, call_forms, calls_forms, step_forms, steps_forms, actor_step_forms, actor_forms, states_forms, functions_forms, scripts_forms, text_forms, KnownNames, Spelled, AllSpelled, SpelledPairs, SpelledStmt, SpelledStmts, SpelledParameters, SpelledStates, SpelledFunctions, is_snapshot, SpelledCall, SpelledCalls, SpelledStep, SpelledSteps, SpelledActorStep, SpelledActor, SpelledScripts, SpelledSource, site_after_all, function_name, HasForms, HasUnlimitedForms}
+use Rattle.lang_forms.specs.Forms.{numbers, literal, expr_forms, exprs_forms, pairs_forms, head_forms, stmt_forms, stmts_forms, parameters_forms, snapshot_forms, call_forms, calls_forms, step_forms, steps_forms, actor_step_forms, actor_forms, states_forms, functions_forms, scripts_forms, text_forms, KnownNames, Spelled, AllSpelled, SpelledPairs, SpelledHead, SpelledStmt, SpelledStmts, SpelledParameters, SpelledStates, SpelledFunctions, is_snapshot, SpelledCall, SpelledCalls, SpelledStep, SpelledSteps, SpelledActorStep, SpelledActor, SpelledScripts, SpelledSource, site_after_all, function_name, HasForms, HasUnlimitedForms}
 use Rattle.lang_forms.proofs.Ints.{digit_no_letter}
 
 -- Clamped forests, tree by tree.
@@ -399,6 +401,9 @@ operator_token : (o : Operator) → is_token (operator_word o) ≡ true
 operator_token operator.Add = refl
 operator_token _ = refl
 
+version_token : (v : Version) → is_token (version_word v) ≡ true
+version_token version.One = refl
+
 type_token : (t : Ty) → is_token (type_word t) ≡ true
 type_token ty.Int = refl
 type_token _ = refl
@@ -426,7 +431,7 @@ mutual
   clean_expr : (m : List (List ℕ)) (e : Expr) (g : Sketch) → Spelled m e → Clean g → Clean (expr_forms e g)
   clean_expr m (Literal at v) g s c = clean_literal _ v g c
   clean_expr m (Variable n) g s c = (name_token n.text s, c)
-  clean_expr m (Get at n number) g s c = (refl, (refl, (name_token n.text s.0, tt)), c)
+  clean_expr m (Get at n source) g s c = (refl, (refl, (name_token n.text s.0, tt)), c)
   clean_expr m (Apply at o es) g s c = ((operator_token o, clean_exprs m es s.1), c)
 
   clean_exprs : (m : List (List ℕ)) (es : Exprs) → AllSpelled m es → Clean (exprs_forms es)
@@ -439,7 +444,7 @@ one_expr (Literal at (value.Bool b)) = refl
 one_expr (Literal at (value.Text cs)) = refl
 one_expr (Literal at (value.Ints zs)) = refl
 one_expr (Variable n) = refl
-one_expr (Get at n number) = refl
+one_expr (Get at n source) = refl
 one_expr (Apply at o es) = refl
 
 and_false : (b : Bool) → (b && false) ≡ false
@@ -464,23 +469,25 @@ pairs_whole (k ∷ ks) = refl
 
 stmts_whole : (ss : Stmts) → shows_ints (stmts_forms ss) ≡ false
 stmts_whole done = refl
-stmts_whole (next (Node at site n ns body) ss) = refl
 stmts_whole (next (Call at site n f es) ss) = refl
-stmts_whole (next (Key at site e body) ss) = refl
 stmts_whole (next (If at site e a b) ss) = refl
-stmts_whole (next (For at site n e body) ss) = refl
-stmts_whole (next (Let at site n e body) ss) = refl
-stmts_whole (next (Remember at site n ks e body) ss) = refl
+stmts_whole (next (Block at site h body) ss) = refl
+
+head_whole : (h : Head) (g : Sketch) → shows_ints (head_forms h g) ≡ false
+head_whole (Node n ns) g = refl
+head_whole _ g = refl
+
+clean_head : (m : List (List ℕ)) (h : Head) (g : Sketch) → SpelledHead m h → Clean g → Clean (head_forms h g)
+clean_head m (Node n ns) g s c = (refl, (name_token n.text s.0, (pairs_whole ns, clean_pairs m ns s.1, c)))
+clean_head m (Key e) g s c = (refl, clean_expr m e g s c)
+clean_head m (For n e) g s c = (refl, (name_token n.text s.0, clean_expr m e g s.1 c))
+clean_head m (Let n e) g s c = (refl, (name_token n.text s.0, clean_expr m e g s.1 c))
+clean_head m (Remember n ks e) g s c =
+    (refl, (name_token n.text s.0, (pairs_whole ks, clean_pairs m ks s.1, clean_expr m e g s.2 c)))
 
 mutual
   clean_stmt : (m : KnownNames) (k : ℕ) (t : Stmt) (g : Sketch) → SpelledStmt m k t → Clean g → Clean (stmt_forms t g)
-  clean_stmt m k (Node at site n ns body) g s c = (
-    refl,
-    (refl, (name_token n.text s.1, (pairs_whole ns, clean_pairs m.states ns s.2, clean_stmts m _ body s.3))),
-    c,
-  )
   clean_stmt m k (Call at site n f es) g s c = (refl, (refl, (name_token n.text s.1, clean_exprs m.states es s.3)), c)
-  clean_stmt m k (Key at site e body) g s c = (refl, (refl, clean_expr m.states e _ s.1 (clean_stmts m _ body s.2)), c)
   clean_stmt m k (If at site e a b) g s c = (
     refl,
     (
@@ -490,21 +497,8 @@ mutual
     ),
     c,
   )
-  clean_stmt m k (For at site n e body) g s c =
-      (refl, (refl, (name_token n.text s.1, clean_expr m.states e _ s.2 (clean_stmts m _ body s.3))), c)
-  clean_stmt m k (Let at site n e body) g s c =
-      (refl, (refl, (name_token n.text s.1, clean_expr m.states e _ s.2 (clean_stmts m _ body s.3))), c)
-  clean_stmt m k (Remember at site n ks e body) g s c = (
-    refl,
-    (
-      refl,
-      (
-        name_token n.text s.1,
-        (pairs_whole ks, clean_pairs m.states ks s.2, clean_expr m.states e _ s.3 (clean_stmts m _ body s.4)),
-      ),
-    ),
-    c,
-  )
+  clean_stmt m k (Block at site h body) g s c =
+      (head_whole h _, clean_head m.states h _ s.1 (clean_stmts m _ body s.2), c)
 
   clean_stmts : (m : KnownNames) (k : ℕ) (ss : Stmts) → SpelledStmts m k ss → Clean (stmts_forms ss)
   clean_stmts m k done s = tt
@@ -594,7 +588,7 @@ clean_scripts m (d ∷ ds) s =
 clean_text : (t : Source) → SpelledSource t → Clean (text_forms t)
 clean_text t s = (
   refl,
-  (refl, (refl, tt)),
+  (refl, (version_token t.program.version, tt)),
   clean_states t.program.states _ s.states
       (clean_functions _ 1 t.program.functions _ s.functions (clean_scripts _ t.script s.script)),
 )

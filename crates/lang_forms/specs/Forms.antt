@@ -5,9 +5,10 @@ use Rattle.sexp_text.specs.Forest.{Forest}
 use Rattle.rt_values.specs.Values.{truth_text}
 use Rattle.rt_values.specs.declared.value.Value.{Value}
 use Rattle.rt_values.specs.declared.value.Value.TheVariants as value
-use Rattle.lang_ast.specs.Terms.{Expr, Literal, Variable, Get, Apply, Exprs, none, more, Named, Stmt, Node, Call, Key, If, For, Let, Remember, Stmts, done, next, Func, operand_count}
+use Rattle.lang_ast.specs.Terms.{Expr, Literal, Variable, Get, Apply, Exprs, none, more, Named, Head, Node, Key, For, Let, Remember, Stmt, Call, If, Block, Stmts, done, next, Func, operand_count}
 use Rattle.lang_ast.specs.declared.syntax.Ident.{Ident}
 use Rattle.lang_ast.specs.declared.syntax.Parameter.{Parameter}
+use Rattle.lang_ast.specs.declared.syntax.Source.TheVariants as sources
 use Rattle.lang_ast.specs.declared.program.State.{State}
 use Rattle.lang_ast.specs.declared.script.SnapshotRef.{SnapshotRef}
 use Rattle.lang_ast.specs.declared.script.SnapshotRef.TheVariants.{Global, Named as NamedSnapshot}
@@ -21,7 +22,7 @@ use Rattle.lang_ast.specs.declared.script.DoForm.{DoForm}
 use Rattle.lang_limits.specs.Tokens.{fits}
 use Rattle.lang_forms.specs.Names.{is_name, all_fit, is_string, is_list_long, number_of_name}
 use Rattle.rt_values.specs.Keywords.{kind_word, type_word}
-use Rattle.lang_forms.specs.Words.{policy_word, operator_word, takes}
+use Rattle.lang_forms.specs.Words.{version_word, policy_word, operator_word, takes}
 use Rattle.lang_forms.specs.Sketch.{Sketch, nothing, leaf, numeral, string, group, sequence, Fits, FitsUnlimited}
 use Rattle.lang_forms.specs.Sources.{Source}
 
@@ -52,7 +53,7 @@ abbrev mutual
   pub expr_forms : Expr → Sketch → Sketch
   expr_forms (Literal at v) f = literal (Some at) v f
   expr_forms (Variable n) f = name n f
-  expr_forms (Get at n number) f = group (Some at) (word (codes "get") (name n nothing)) f
+  expr_forms (Get at n source) f = group (Some at) (word (codes "get") (name n nothing)) f
   expr_forms (Apply at operator es) f = sequence (Some at) (word (operator_word operator) (exprs_forms es)) f
 
   pub exprs_forms : Exprs → Sketch
@@ -64,23 +65,22 @@ abbrev pub pairs_forms : List Named → Sketch
 pairs_forms [] = nothing
 pairs_forms (k ∷ ks) = group None (name k.name (expr_forms k.value nothing)) (pairs_forms ks)
 
--- A statement: `(node NAME ((NAME EXPR)..) STMT..)`, `(call NAME EXPR..)`, `(key EXPR STMT..)`, `(if EXPR (STMT..)
--- (STMT..))`, `(for NAME EXPR STMT..)`, `(let NAME EXPR STMT..)`, or `(remember NAME ((NAME EXPR)..) EXPR STMT..)`.
+-- The keyword of a statement with a body, and the head after it: `node NAME ((NAME EXPR)..)`, `key EXPR`, `for NAME
+-- EXPR`, `let NAME EXPR`, or `remember NAME ((NAME EXPR)..) EXPR`.
+abbrev pub head_forms : Head → Sketch → Sketch
+head_forms (Node n ns) f = word (codes "node") (name n (group None (pairs_forms ns) f))
+head_forms (Key e) f = word (codes "key") (expr_forms e f)
+head_forms (For n e) f = word (codes "for") (name n (expr_forms e f))
+head_forms (Let n e) f = word (codes "let") (name n (expr_forms e f))
+head_forms (Remember n ks e) f = word (codes "remember") (name n (group None (pairs_forms ks) (expr_forms e f)))
+
+-- A statement: `(call NAME EXPR..)`, `(if EXPR (STMT..) (STMT..))`, or `(HEAD STMT..)`.
 abbrev mutual
   pub stmt_forms : Stmt → Sketch → Sketch
-  stmt_forms (Node at site n ns body) f = group (Some at)
-      (word (codes "node") (name n (group None (pairs_forms ns) (stmts_forms body)))) f
   stmt_forms (Call at site n function es) f = group (Some at) (word (codes "call") (name n (exprs_forms es))) f
-  stmt_forms (Key at site e body) f = group (Some at) (word (codes "key") (expr_forms e (stmts_forms body))) f
   stmt_forms (If at site e a b) f = group (Some at)
       (word (codes "if") (expr_forms e (group None (stmts_forms a) (group None (stmts_forms b) nothing)))) f
-  stmt_forms (For at site n e body) f = group (Some at)
-      (word (codes "for") (name n (expr_forms e (stmts_forms body)))) f
-  stmt_forms (Let at site n e body) f = group (Some at)
-      (word (codes "let") (name n (expr_forms e (stmts_forms body)))) f
-  stmt_forms (Remember at site n ks e body) f =
-      group (Some at) (word (codes "remember")
-      (name n (group None (pairs_forms ks) (expr_forms e (stmts_forms body))))) f
+  stmt_forms (Block at site h body) f = group (Some at) (head_forms h (stmts_forms body)) f
 
   pub stmts_forms : Stmts → Sketch
   stmts_forms done = nothing
@@ -166,9 +166,9 @@ scripts_forms (d ∷ ds) = do_forms d (scripts_forms ds)
 abbrev pub top_forms : List State → List Func → List DoForm → Sketch
 top_forms ss cs ds = states_forms ss (functions_forms cs (scripts_forms ds))
 
--- `(compose 1)` at its offset, and then the states, the functions and the scripts.
+-- `(compose VERSION)` at its offset, and then the states, the functions and the scripts.
 abbrev pub text_forms : Source → Sketch
-text_forms t = group (Some t.program.header) (word (codes "compose") (word (codes "1") nothing))
+text_forms t = group (Some t.program.header) (word (codes "compose") (word (version_word t.program.version) nothing))
     (top_forms t.program.states t.program.functions t.script)
 
 -- What the parts may be: names are names, numbers and strings are within their limits, operators have their operands,
@@ -199,7 +199,7 @@ abbrev mutual
   pub Spelled : List (List ℕ) → Expr → Type 0
   Spelled m (Literal at v) = plain_fits v ≡ true
   Spelled m (Variable n) = is_name n.text ≡ true
-  Spelled m (Get at n number) = (is_name n.text ≡ true) × (number ≡ number_of_name n.text m)
+  Spelled m (Get at n source) = (is_name n.text ≡ true) × (source ≡ sources.State (number_of_name n.text m))
   Spelled m (Apply at operator es) = (takes operator (operand_count es) ≡ true) × AllSpelled m es
 
   pub AllSpelled : List (List ℕ) → Exprs → Type 0
@@ -213,35 +213,30 @@ SpelledPairs m (k ∷ ks) = (is_name k.name.text ≡ true) × Spelled m k.value 
 -- The number of the statement after one with the number k, and after statements that begin with k.
 abbrev mutual
   pub site_after : ℕ → Stmt → ℕ
-  site_after k (Node at site n ns body) = site_after_all (k + 1) body
   site_after k (Call at site n function es) = k + 1
-  site_after k (Key at site e body) = site_after_all (k + 1) body
   site_after k (If at site e a b) = site_after_all (site_after_all (k + 1) a) b
-  site_after k (For at site n e body) = site_after_all (k + 1) body
-  site_after k (Let at site n e body) = site_after_all (k + 1) body
-  site_after k (Remember at site n ks e body) = site_after_all (k + 1) body
+  site_after k (Block at site h body) = site_after_all (k + 1) body
 
   pub site_after_all : ℕ → Stmts → ℕ
   site_after_all k done = k
   site_after_all k (next s ss) = site_after_all (site_after k s) ss
 
+-- The head of a statement, by the names of the states.
+abbrev pub SpelledHead : List (List ℕ) → Head → Type 0
+SpelledHead m (Node n ns) = (is_name n.text ≡ true) × SpelledPairs m ns
+SpelledHead m (Key e) = Spelled m e
+SpelledHead m (For n e) = (is_name n.text ≡ true) × Spelled m e
+SpelledHead m (Let n e) = (is_name n.text ≡ true) × Spelled m e
+SpelledHead m (Remember n ks e) = (is_name n.text ≡ true) × SpelledPairs m ks × Spelled m e
+
 -- A statement with the number k, and statements that begin with k.
 abbrev mutual
   pub SpelledStmt : KnownNames → ℕ → Stmt → Type 0
-  SpelledStmt m k (Node at site n ns body) = (site ≡ k) × (is_name n.text ≡ true) × SpelledPairs m.states ns
-      × SpelledStmts m (k + 1) body
   SpelledStmt m k (Call at site n function es) = (site ≡ k) × (is_name n.text ≡ true)
       × (function ≡ number_of_name n.text m.functions) × AllSpelled m.states es
-  SpelledStmt m k (Key at site e body) = (site ≡ k) × Spelled m.states e × SpelledStmts m (k + 1) body
   SpelledStmt m k (If at site e a b) = (site ≡ k) × Spelled m.states e × SpelledStmts m (k + 1) a
       × SpelledStmts m (site_after_all (k + 1) a) b
-  SpelledStmt m k (For at site n e body) = (site ≡ k) × (is_name n.text ≡ true) × Spelled m.states e
-      × SpelledStmts m (k + 1) body
-  SpelledStmt m k (Let at site n e body) = (site ≡ k) × (is_name n.text ≡ true) × Spelled m.states e
-      × SpelledStmts m (k + 1) body
-  SpelledStmt m k (Remember at site n ks e body) =
-      (site ≡ k) × (is_name n.text ≡ true) × SpelledPairs m.states ks × Spelled m.states e
-      × SpelledStmts m (k + 1) body
+  SpelledStmt m k (Block at site h body) = (site ≡ k) × SpelledHead m.states h × SpelledStmts m (k + 1) body
 
   pub SpelledStmts : KnownNames → ℕ → Stmts → Type 0
   SpelledStmts m k done = Unit {0}

@@ -4,7 +4,6 @@ pub mod Sketch
 pub mod Sources
 pub mod Forms
 pub mod Readings
-pub mod StatementHeads
 pub mod TextReading
 pub mod Views
 pub mod FirstWrong

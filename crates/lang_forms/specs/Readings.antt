@@ -8,9 +8,11 @@ use Rattle.std.specs.Str.Parse.{signed_digits_value}
 use Rattle.sexp_text.specs.Forest.{Forest, empty, atom, text, list}
 use Rattle.rt_values.specs.declared.value.Value.{Value}
 use Rattle.rt_values.specs.declared.value.Value.TheVariants as value
-use Rattle.lang_ast.specs.Terms.{Expr, Literal, Variable, Get, Apply, Named, Stmt, Node, Call, Key, If, For, Let, Remember, Func, exprs, stmts}
+use Rattle.lang_ast.specs.Terms.{Expr, Literal, Variable, Get, Apply, Named, Head, Node, Key, For, Let, Remember, Stmt, Call, If, Block, Func, exprs, stmts}
 use Rattle.lang_ast.specs.declared.syntax.Ident.{Ident}
 use Rattle.lang_ast.specs.declared.syntax.Parameter.{Parameter}
+use Rattle.lang_ast.specs.declared.syntax.Source.TheVariants as sources
+use Rattle.lang_ast.specs.declared.program.Version.{Version}
 use Rattle.lang_ast.specs.declared.program.State.{State}
 use Rattle.lang_ast.specs.declared.script.SnapshotRef.{SnapshotRef}
 use Rattle.lang_ast.specs.declared.script.SnapshotRef.TheVariants.{Global, Named as NamedSnapshot}
@@ -23,8 +25,12 @@ use Rattle.lang_ast.specs.declared.script.ScriptForm.TheVariants.{Once, Repeat}
 use Rattle.lang_ast.specs.declared.script.DoForm.{DoForm}
 use Rattle.lang_limits.specs.Tokens.{fits}
 use Rattle.lang_forms.specs.Names.{is_name, is_string, is_list_long, number_of_name}
-use Rattle.lang_forms.specs.Words.{type_for_word, policy_for_word, kind_for_word, operator_for_word, takes}
+use Rattle.lang_forms.specs.Words.{value_with, version_for_word, type_for_word, policy_for_word, kind_for_word, operator_for_word, takes}
 use Rattle.lang_forms.specs.Forms.{KnownNames}
+use Rattle.lang_forms.specs.declared.statement_heads.BodyWord.{BodyWord}
+use Rattle.lang_forms.specs.declared.statement_heads.BodyWord.TheVariants as body
+use Rattle.lang_forms.specs.declared.statement_heads.StatementWord.{StatementWord}
+use Rattle.lang_forms.specs.declared.statement_heads.StatementWord.TheVariants as statement
 
 -- Runs a parser on the result of another. None if either fails.
 infixl 10 ◌>>=◌
@@ -62,7 +68,7 @@ pub record TreeReadings : Type 0 where
   pub step : List (List ℕ) → Option StepForm
   pub actor_step : List (List ℕ) → Option ScriptForm
   pub top : KnownNames → ℕ → Option (Top × ℕ)
-  pub header : Bool
+  pub header : Option Version
 
 pub data Seen : Type 0 where
   word : (at : ℕ) → (name : List ℕ) → Seen
@@ -177,7 +183,7 @@ exprs_of m (s ∷ ss) = expr_at m s >>= λ e. option_map (λ es. e ∷ es) (expr
 unfoldable pub get_form : List (List ℕ) → ℕ → List Seen → Option Expr
 get_form m at ss = do
   n ← name_of ss
-  when (is_end n.1) (Get at n.0 (number_of_name n.0.text m))
+  when (is_end n.1) (Get at n.0 (sources.State (number_of_name n.0.text m)))
 
 -- `OPERATOR EXPR..`
 unfoldable pub apply_form : List (List ℕ) → ℕ → List Seen → Option Expr
@@ -246,12 +252,42 @@ block_of m k (word at a ∷ ss) = None
 block_of m k (chars at s ∷ ss) = None
 block_of m k (form at r ∷ ss) = option_map (λ b. (b, ss)) (r.block m k)
 
--- `NAME ((NAME EXPR)..) STMT..` after the word `node`.
-unfoldable pub node_form : KnownNames → ℕ → ℕ → List Seen → Option (Stmt × ℕ)
-node_form m k at ss = do
-  x ← named_pairs_of m.states ss
-  b ← stmts_of m (k + 1) x.1
-  Some (Node at k x.0.0 x.0.1 (stmts b.0), b.1)
+-- The keyword of a statement with a body.
+abbrev pub body_word : BodyWord → List ℕ
+body_word body.Node = codes "node"
+body_word body.Key = codes "key"
+body_word body.For = codes "for"
+body_word body.Let = codes "let"
+body_word body.Remember = codes "remember"
+
+-- The keyword of a statement.
+abbrev pub statement_word : StatementWord → List ℕ
+statement_word statement.Call = codes "call"
+statement_word statement.If = codes "if"
+statement_word (statement.WithBody w) = body_word w
+
+abbrev pub all_statements : List StatementWord
+all_statements = statement.WithBody body.Node ∷ statement.Call ∷ statement.WithBody body.Key ∷ statement.If
+    ∷ statement.WithBody body.For ∷ statement.WithBody body.Let ∷ statement.WithBody body.Remember ∷ []
+
+-- The statement of a keyword.
+unfoldable pub statement_for_word : List ℕ → Option StatementWord
+statement_for_word = value_with statement_word all_statements
+
+-- The trees after the keyword of a statement with a body as its head, and the trees after that.
+unfoldable pub head_of : List (List ℕ) → BodyWord → List Seen → Option (Head × List Seen)
+head_of m body.Node ss = named_pairs_of m ss >>= λ x. Some (Node x.0.0 x.0.1, x.1)
+head_of m body.Key ss = expr_of m ss >>= λ e. Some (Key e.0, e.1)
+head_of m body.For ss = binding_of m ss >>= λ x. Some (For x.0.0 x.0.1, x.1)
+head_of m body.Let ss = binding_of m ss >>= λ x. Some (Let x.0.0 x.0.1, x.1)
+head_of m body.Remember ss = named_pairs_of m ss >>= λ x. expr_of m x.1 >>= λ e. Some (Remember x.0.0 x.0.1 e.0, e.1)
+
+-- `HEAD STMT..` after the keyword of a statement with a body.
+unfoldable pub block_form : KnownNames → ℕ → ℕ → BodyWord → List Seen → Option (Stmt × ℕ)
+block_form m k at w ss = do
+  h ← head_of m.states w ss
+  b ← stmts_of m (k + 1) h.1
+  Some (Block at k h.0 (stmts b.0), b.1)
 
 -- `NAME EXPR..` after the word `call`.
 unfoldable pub call_form : KnownNames → ℕ → ℕ → List Seen → Option (Stmt × ℕ)
@@ -260,52 +296,30 @@ call_form m k at ss = do
   es ← exprs_of m.states n.1
   Some (Call at k n.0 (number_of_name n.0.text m.functions) (exprs es), k + 1)
 
--- `EXPR STMT..` after the word `key`.
-unfoldable pub key_form : KnownNames → ℕ → ℕ → List Seen → Option (Stmt × ℕ)
-key_form m k at ss = do
-  e ← expr_of m.states ss
-  b ← stmts_of m (k + 1) e.1
-  Some (Key at k e.0 (stmts b.0), b.1)
+-- `(STMT..) (STMT..)`
+unfoldable pub branches_of : KnownNames → ℕ → List Seen → Option ((List Stmt × List Stmt) × ℕ)
+branches_of m k ss = do
+  a ← block_of m k ss
+  b ← block_of m a.0.1 a.1
+  when (is_end b.1) ((a.0.0, b.0.0), b.0.1)
 
 -- `EXPR (STMT..) (STMT..)` after the word `if`.
 unfoldable pub if_form : KnownNames → ℕ → ℕ → List Seen → Option (Stmt × ℕ)
 if_form m k at ss = do
   e ← expr_of m.states ss
-  a ← block_of m (k + 1) e.1
-  b ← block_of m a.0.1 a.1
-  when (is_end b.1) (If at k e.0 (stmts a.0.0) (stmts b.0.0), b.0.1)
+  b ← branches_of m (k + 1) e.1
+  Some (If at k e.0 (stmts b.0.0) (stmts b.0.1), b.1)
 
--- `NAME EXPR STMT..` after the word `for`.
-unfoldable pub for_form : KnownNames → ℕ → ℕ → List Seen → Option (Stmt × ℕ)
-for_form m k at ss = do
-  x ← binding_of m.states ss
-  b ← stmts_of m (k + 1) x.1
-  Some (For at k x.0.0 x.0.1 (stmts b.0), b.1)
-
--- `NAME EXPR STMT..` after the word `let`.
-unfoldable pub let_form : KnownNames → ℕ → ℕ → List Seen → Option (Stmt × ℕ)
-let_form m k at ss = do
-  x ← binding_of m.states ss
-  b ← stmts_of m (k + 1) x.1
-  Some (Let at k x.0.0 x.0.1 (stmts b.0), b.1)
-
--- `NAME ((NAME EXPR)..) EXPR STMT..` after the word `remember`.
-unfoldable pub remember_form : KnownNames → ℕ → ℕ → List Seen → Option (Stmt × ℕ)
-remember_form m k at ss = do
-  x ← named_pairs_of m.states ss
-  e ← expr_of m.states x.1
-  b ← stmts_of m (k + 1) e.1
-  Some (Remember at k x.0.0 x.0.1 e.0 (stmts b.0), b.1)
+-- The trees after the keyword of a statement.
+abbrev pub form_after : KnownNames → ℕ → ℕ → StatementWord → List Seen → Option (Stmt × ℕ)
+form_after m k at statement.Call ss = call_form m k at ss
+form_after m k at statement.If ss = if_form m k at ss
+form_after m k at (statement.WithBody w) ss = block_form m k at w ss
 
 unfoldable pub stmt_form : KnownNames → ℕ → ℕ → List Seen → Option (Stmt × ℕ)
-stmt_form m k at ss =
-    choose (word_of (codes "node") ss) (node_form m k at) (
-    choose (word_of (codes "call") ss) (call_form m k at) (
-    choose (word_of (codes "key") ss) (key_form m k at) (
-    choose (word_of (codes "if") ss) (if_form m k at) (
-    choose (word_of (codes "for") ss) (for_form m k at) (
-    choose (word_of (codes "let") ss) (let_form m k at) (
-    choose (word_of (codes "remember") ss) (remember_form m k at) None))))))
+stmt_form m k at ss = do
+  w ← keyword_of statement_for_word ss
+  form_after m k at w.0 w.1
 
 -- Steps of a script, by the names of the states.
 
@@ -486,16 +500,12 @@ top_form m k at ss =
     choose (word_of (codes "fun") ss) (λ r. option_map (λ c. (FunctionTop c.0, c.1)) (function_form m k at r)) (
     choose (word_of (codes "do") ss) (λ r. option_map (λ d. (DoTop d, k)) (do_form m.states at r)) None))
 
--- `compose 1`
-unfoldable pub header_form : List Seen → Option (List Seen)
+-- `compose VERSION`
+unfoldable pub header_form : List Seen → Option Version
 header_form ss = do
   c ← word_of (codes "compose") ss
-  o ← word_of (codes "1") c
-  when (is_end o) o
-
-abbrev pub is_there : {A : Type 0} → Option A → Bool
-is_there None = false
-is_there (Some a) = true
+  v ← keyword_of version_for_word c
+  when (is_end v.1) v.0
 
 abbrev pub roles : ℕ → List Seen → TreeReadings
 roles at ss = record {
@@ -512,7 +522,7 @@ roles at ss = record {
   step = λ m. step_form m at ss;
   actor_step = λ m. actor_step_form m at ss;
   top = λ m k. top_form m k at ss;
-  header = is_there (header_form ss);
+  header = header_form ss;
 }
 
 -- The trees of a forest, each with what it can be parsed as.
@@ -532,7 +542,8 @@ top_at m k (word at a) = None
 top_at m k (chars at s) = None
 top_at m k (form at r) = r.top m k
 
-abbrev pub is_header : Seen → Bool
-is_header (word at a) = false
-is_header (chars at s) = false
-is_header (form at r) = r.header
+-- The version of a header.
+abbrev pub header_at : Seen → Option Version
+header_at (word at a) = None
+header_at (chars at s) = None
+header_at (form at r) = r.header

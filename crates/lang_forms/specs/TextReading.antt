@@ -1,15 +1,17 @@
 -- Internal: the parser of whole source texts, and the offset where it fails.
-use Rattle.std.specs.Prelude.{ℕ, ◌&&◌, List, [], ◌∷◌, ◌++◌, map, Bool, true, false, Option, Some, None, Result, Ok, Err, if◌then◌else◌}
+use Rattle.std.specs.Prelude.{ℕ, ◌&&◌, List, [], ◌∷◌, ◌++◌, map, Bool, true, false, Option, Some, None, Result, Ok, Err}
 use Rattle.lang_ast.specs.Terms.{Func}
 use Rattle.lang_ast.specs.declared.program.State.{State}
+use Rattle.lang_ast.specs.declared.program.Version.{Version}
 use Rattle.lang_ast.specs.declared.script.DoForm.{DoForm}
 use Rattle.lang_forms.specs.Sources.{Source}
 use Rattle.lang_forms.specs.Forms.{KnownNames, state_name, function_name}
-use Rattle.lang_forms.specs.Readings.{◌>>=◌, when, Top, StateTop, FunctionTop, DoTop, Seen, offset_of, top_at, is_header}
+use Rattle.lang_forms.specs.Readings.{◌>>=◌, when, Top, StateTop, FunctionTop, DoTop, Seen, offset_of, top_at, header_at}
 
 -- The part of a source text that is parsed already, and the number of the next statement.
 pub record PartialSource : Type 0 where
   pub header : ℕ
+  pub version : Version
   pub states : List State
   pub functions : List Func
   pub script : List DoForm
@@ -20,9 +22,8 @@ known_names p = record { states = map state_name p.states; functions = map funct
 
 abbrev pub source : PartialSource → Source
 source p = record {
-  program = record { header = p.header; states = p.states; functions = p.functions };
-  script =
-      p.script;
+  program = record { header = p.header; version = p.version; states = p.states; functions = p.functions };
+  script = p.script;
 }
 
 abbrev pub is_none : {A : Type 0} → List A → Bool
@@ -34,20 +35,40 @@ is_none (a ∷ more) = false
 abbrev pub source_with_form : PartialSource → Top → ℕ → Option PartialSource
 source_with_form p (StateTop s) k =
     when (is_none p.functions && is_none p.script)
-    (record { header = p.header; states = p.states ++ s ∷ []; functions = p.functions; script = p.script; site = k })
+    (record {
+      header = p.header;
+      version = p.version;
+      states = p.states ++ s ∷ [];
+      functions = p.functions;
+      script = p.script;
+      site = k;
+    })
 source_with_form p (FunctionTop c) k =
     when (is_none p.script)
-    (record { header = p.header; states = p.states; functions = p.functions ++ c ∷ []; script = p.script; site = k })
+    (record {
+      header = p.header;
+      version = p.version;
+      states = p.states;
+      functions = p.functions ++ c ∷ [];
+      script = p.script;
+      site = k;
+    })
 source_with_form p (DoTop d) k = Some
-    (record { header = p.header; states = p.states; functions = p.functions; script = p.script ++ d ∷ []; site = k })
+    (record {
+      header = p.header;
+      version = p.version;
+      states = p.states;
+      functions = p.functions;
+      script = p.script ++ d ∷ [];
+      site = k;
+    })
 
 -- The part with a further tree. None if that is no top form, or out of order.
 abbrev pub source_with_tree : PartialSource → Seen → Option PartialSource
 source_with_tree p s = top_at (known_names p) p.site s >>= λ t. source_with_form p t.0 t.1
 
--- The part with a tree and those after it, or the offset x of the tree.
-abbrev pub source_with_rest : ℕ → Option PartialSource → (PartialSource → Result PartialSource ℕ)
-    → Result PartialSource ℕ
+-- The part with what a tree is parsed as and with the trees after it, or the offset of the tree.
+abbrev pub source_with_rest : {A : Type 0} → ℕ → Option A → (A → Result PartialSource ℕ) → Result PartialSource ℕ
 source_with_rest at None go = Err at
 source_with_rest at (Some q) go = go q
 
@@ -57,13 +78,13 @@ tops_of p [] = Ok p
 tops_of p (s ∷ ss) = source_with_rest (offset_of s) (source_with_tree p s) (λ q. tops_of q ss)
 
 -- The part that has only a header.
-abbrev pub start : ℕ → PartialSource
-start at = record { header = at; states = []; functions = []; script = []; site = 1 }
+abbrev pub start : ℕ → Version → PartialSource
+start at v = record { header = at; version = v; states = []; functions = []; script = []; site = 1 }
 
 -- The parsed trees of a text: the header, and the top forms after it. Without trees the header is missing at `end`.
 unfoldable pub text_of : ℕ → List Seen → Result PartialSource ℕ
 text_of end [] = Err end
-text_of end (s ∷ ss) = if is_header s then tops_of (start (offset_of s)) ss else Err (offset_of s)
+text_of end (s ∷ ss) = source_with_rest (offset_of s) (header_at s) (λ v. tops_of (start (offset_of s) v) ss)
 
 -- The program and the script that are parsed.
 abbrev pub source_or_offset : Result PartialSource ℕ → Result Source ℕ

@@ -51,6 +51,7 @@ top_view (forms.Do d) = DoTop d
 abbrev pub partial_source_view : front.PartialSource → PartialSource
 partial_source_view p = record {
   header = p.header;
+  version = p.version;
   states = p.states.items;
   functions = functions_view p.functions.items;
   script = p.script.items;

@@ -1,4 +1,5 @@
--- Trusted: the keywords of types, policies, kinds of snapshots and operators, and how many operands an operator has.
+-- Trusted: the keywords of versions, types, policies, kinds of snapshots and operators, and how many operands an
+-- operator has.
 use Rattle.std.specs.Prelude.{ℕ, ◌==◌, List, [], ◌∷◌, Bool, true, Option, Some, None, codes, if◌then◌else◌}
 use Rattle.std.specs.Option.{option_or}
 use Rattle.std.specs.Str.{bytes_eq}
@@ -9,8 +10,14 @@ use Rattle.rt_values.specs.declared.names.Kind.TheVariants as kind
 use Rattle.rt_values.specs.Keywords.{type_word, kind_word}
 use Rattle.snap_policy.specs.declared.policy.BuiltIn.{BuiltIn}
 use Rattle.snap_policy.specs.declared.policy.BuiltIn.TheVariants as policy
+use Rattle.lang_ast.specs.declared.program.Version.{Version}
+use Rattle.lang_ast.specs.declared.program.Version.TheVariants as version
 use Rattle.lang_ast.specs.declared.syntax.Operator.{Operator}
 use Rattle.lang_ast.specs.declared.syntax.Operator.TheVariants as operator
+
+-- The word of a version in the header.
+abbrev pub version_word : Version → List ℕ
+version_word version.One = codes "1"
 
 -- The keyword of a policy.
 abbrev pub policy_word : BuiltIn → List ℕ
@@ -69,6 +76,9 @@ abbrev pub value_with : {A : Type 0} → (A → List ℕ) → List A → List �
 value_with word [] w = None
 value_with word (a ∷ more) w = if bytes_eq w (word a) then Some a else value_with word more w
 
+abbrev pub all_versions : List Version
+all_versions = version.One ∷ []
+
 abbrev pub all_types : List Ty
 all_types = ty.Int ∷ ty.Bool ∷ ty.Text ∷ ty.Ints ∷ []
 
@@ -90,6 +100,10 @@ truth_operators = operator.Equal ∷ operator.Less ∷ operator.Not ∷ operator
 abbrev pub list_operators : List Operator
 list_operators = operator.Join ∷ operator.Text ∷ operator.Ints ∷ operator.Range ∷ operator.Push ∷ operator.Concat
     ∷ operator.Length ∷ operator.At ∷ []
+
+-- The version of a word.
+unfoldable pub version_for_word : List ℕ → Option Version
+version_for_word = value_with version_word all_versions
 
 -- The type of a keyword.
 unfoldable pub type_for_word : List ℕ → Option Ty

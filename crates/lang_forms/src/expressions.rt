@@ -11,7 +11,7 @@ use crate::keywords::{has_operands, parse_keyword};
 use crate::known_names::state_number;
 use crate::literals::{parse_plain_literal, parse_string};
 use crate::stop::ParseStop;
-use lang_ast::{Expression, Ident, Named, State};
+use lang_ast::{Expression, Ident, Named, Source, State};
 use rt_values::Word;
 use sexp_text::Tree;
 use std::alloc::Global;
@@ -52,8 +52,8 @@ fn parse_get(
 {
     let (name, rest) = parse_name(alloc, trees)?;
     if is_at_end(rest) {
-        let number = state_number(states, &name.text) as u64;
-        Ok(Expression::Get { at, name, number })
+        let source = Source::State(state_number(states, &name.text) as u64);
+        Ok(Expression::Get { at, name, source })
     } else {
         Err(ParseStop::NoForm)
     }

@@ -1,12 +1,12 @@
-// The keywords of types, policies, kinds of snapshots and operators.
+// The keywords of versions, types, policies, kinds of snapshots and operators.
 ghost use Rattle.std.specs.Prelude.{◌≡◌, ◌≤◌, ℕ, List, Bool, Option};
 ghost use Rattle.std.specs.Option.{option_map, IfSome};
-ghost use Rattle.lang_forms.specs.Words.{takes, type_for_word, policy_for_word, kind_for_word, number_operator, truth_operator, list_operator, operator_for_word};
+ghost use Rattle.lang_forms.specs.Words.{takes, version_for_word, type_for_word, policy_for_word, kind_for_word, number_operator, truth_operator, list_operator, operator_for_word};
 ghost use Rattle.lang_forms.specs.Readings.{keyword_of};
 ghost use Rattle.lang_forms.specs.Views.{widest, seen_all};
 
 use crate::cursor::{same_bytes, split_first_atom};
-use lang_ast::Operator;
+use lang_ast::{Operator, Version};
 use rt_values::{Kind, Ty};
 use sexp_text::Tree;
 use snap_policy::BuiltIn;
@@ -31,6 +31,19 @@ pub fn parse_keyword<K: Keyword>(trees: &[Tree]) -> Option<(K, &[Tree])>
     let (_, word, rest) = split_first_atom(trees)?;
     let value = K::from_word(word)?;
     Some((value, rest))
+}
+
+#[tactic(auto, unfolding(crate::specs::Words::version_for_word))]
+impl Keyword for Version {
+    ghost table = { version_for_word };
+
+    fn from_word(word: &[u8]) -> Option<Version> {
+        if same_bytes(word, b"1") {
+            Some(Version::One)
+        } else {
+            None
+        }
+    }
 }
 
 #[tactic(auto, unfolding(crate::specs::Words::type_for_word))]

@@ -18,7 +18,7 @@ ghost use Rattle.lang_forms.specs.Views.{seen_all, partial_source_view, Gives};
 use crate::FormStop;
 use crate::partial_source::PartialSource;
 use crate::stop::ParseStop;
-use crate::top_forms::{is_header, offset_of};
+use crate::top_forms::{offset_of, parse_header};
 use lang_ast::{Program, Rest};
 use lang_limits::{TokenLimits, clamped_trees, size_limit, token_limits};
 use sexp_text::Tree;
@@ -60,12 +60,13 @@ fn parse_text(alloc: Global, trees: &[Tree], end: usize) -> Result<PartialSource
     let Some((header, rest)) = trees.split_first() else {
         return Err(FormStop::Form { at: end });
     };
-    if !is_header(header) {
+    let Some(version) = parse_header(header) else {
         return Err(FormStop::Form {
             at: offset_of(header),
         });
-    }
-    parse_top_forms(alloc, PartialSource::new(alloc, offset_of(header)), rest)
+    };
+    let front = PartialSource::new(alloc, offset_of(header), version);
+    parse_top_forms(alloc, front, rest)
 }
 
 // Parses the trees clamped to the limits. Copies them only if a token is oversized.
@@ -100,6 +101,7 @@ fn unless_beyond(front: PartialSource, limits: TokenLimits) -> Result<(Program, 
         None => Ok((
             Program {
                 header: front.header,
+                version: front.version,
                 states: front.states,
                 functions: front.functions,
             },

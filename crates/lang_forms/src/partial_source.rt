@@ -8,14 +8,15 @@ ghost use Rattle.lang_forms.specs.Views.{seen_tree, known_names_view, partial_so
 use crate::known_names::KnownNames;
 use crate::stop::ParseStop;
 use crate::top_forms::{TopForm, parse_top_form};
-use lang_ast::{DoForm, Function, State};
+use lang_ast::{DoForm, Function, State, Version};
 use sexp_text::Tree;
 use std::alloc::Global;
 
-// The offset of the header, the top forms after it, and the number of the next statement.
+// The offset of the header, its version, the top forms after it, and the number of the next statement.
 #[derive(Drop)]
 pub struct PartialSource {
     pub header: usize,
+    pub version: Version,
     pub states: Vec<State>,
     pub functions: Vec<Function>,
     pub script: Vec<DoForm>,
@@ -24,11 +25,12 @@ pub struct PartialSource {
 
 impl PartialSource {
     // Creates the part that has only a header.
-    pub fn new(alloc: Global, header: usize) -> Self
-        ensures { partial_source_view result ≡ start header }
+    pub fn new(alloc: Global, header: usize, version: Version) -> Self
+        ensures { partial_source_view result ≡ start header version }
     {
         PartialSource {
             header,
+            version,
             states: Vec::new(alloc),
             functions: Vec::new(alloc),
             script: Vec::new(alloc),
@@ -57,6 +59,7 @@ impl PartialSource {
         states.push(state)?;
         Ok(PartialSource {
             header: self.header,
+            version: self.version,
             states,
             functions: self.functions,
             script: self.script,
@@ -76,6 +79,7 @@ impl PartialSource {
         functions.push(function)?;
         Ok(PartialSource {
             header: self.header,
+            version: self.version,
             states: self.states,
             functions,
             script: self.script,
@@ -91,6 +95,7 @@ impl PartialSource {
         script.push(form)?;
         Ok(PartialSource {
             header: self.header,
+            version: self.version,
             states: self.states,
             functions: self.functions,
             script,

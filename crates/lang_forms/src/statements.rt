@@ -1,16 +1,14 @@
 // The parser of statements.
 ghost use Rattle.std.specs.Prelude.{◌≡◌, ◌≢◌, ◌+◌, ◌≤◌, Err, IfOk, map};
 ghost use Rattle.lang_ast.specs.SyntaxView.{stmt_view};
-ghost use Rattle.lang_forms.specs.Readings.{stmt_at, stmts_of, block_of, call_form, stmt_form};
-ghost use Rattle.lang_forms.specs.StatementHeads.{body_form, branches_of, branch_form};
+ghost use Rattle.lang_forms.specs.Readings.{stmt_at, stmts_of, block_of, block_form, branches_of, call_form, if_form, stmt_form};
 ghost use Rattle.lang_forms.specs.Views.{widest, seen_tree, seen_all, known_names_view, Reads};
 
 use crate::cursor::{is_at_end, parse_name};
 use crate::expressions::{parse_expressions, parse_first_expression};
+use crate::keywords::parse_keyword;
 use crate::known_names::{KnownNames, function_number};
-use crate::statement_heads::{
-    BodyWord, StatementWord, finish_statement, parse_head, parse_statement_word,
-};
+use crate::statement_heads::{BodyWord, StatementWord, parse_head};
 use crate::stop::ParseStop;
 use lang_ast::Statement;
 use sexp_text::Tree;
@@ -75,7 +73,7 @@ fn parse_statement(
 }
 
 // Parses a list as a statement, and returns the number of the next statement.
-#[tactic(auto, using(crate::proofs::StatementHeads::stmt_form_none))]
+#[tactic(auto, unfolding(crate::specs::Readings::stmt_form))]
 #[cycle(statements)]
 fn parse_statement_list(
     alloc: Global,
@@ -87,7 +85,7 @@ fn parse_statement_list(
     ensures { Reads (λ p. (stmt_view p.0, p.1)) result
         (stmt_form (known_names_view known.now) site at (seen_all trees.now)) }
 {
-    match parse_statement_word(trees) {
+    match parse_keyword(trees) {
         Some((StatementWord::Call, rest)) => parse_call(alloc, known, site, at, rest),
         Some((StatementWord::If, rest)) => parse_if(alloc, known, site, at, rest),
         Some((StatementWord::WithBody(word), rest)) => {
@@ -98,7 +96,7 @@ fn parse_statement_list(
 }
 
 // Parses the parts of a statement with a body after its keyword.
-#[tactic(auto, unfolding(crate::specs::StatementHeads::body_form))]
+#[tactic(auto, unfolding(crate::specs::Readings::block_form), using(lang_ast::proofs::Views::views))]
 #[cycle(statements)]
 fn parse_with_body(
     alloc: Global,
@@ -109,14 +107,23 @@ fn parse_with_body(
     trees: &[Tree],
 ) -> Result<(Statement, u32), ParseStop>
     ensures { Reads (λ p. (stmt_view p.0, p.1)) result
-        (body_form (known_names_view known.now) site at word (seen_all trees.now)) }
+        (block_form (known_names_view known.now) site at word (seen_all trees.now)) }
 {
     let (head, rest) = parse_head(alloc, known.states, word, trees)?;
-    finish_statement(head, at, site, parse_body(alloc, known, site, rest))
+    let (body, next) = parse_body(alloc, known, site, rest)?;
+    Ok((
+        Statement::Block {
+            at,
+            site,
+            head,
+            body,
+        },
+        next,
+    ))
 }
 
 // Parses `EXPR (STMT..) (STMT..)` after the word `if`.
-#[tactic(auto, unfolding(crate::specs::StatementHeads::branch_form), using(lang_ast::proofs::Views::views))]
+#[tactic(auto, unfolding(crate::specs::Readings::if_form), using(lang_ast::proofs::Views::views))]
 #[cycle(statements)]
 fn parse_if(
     alloc: Global,
@@ -126,7 +133,7 @@ fn parse_if(
     trees: &[Tree],
 ) -> Result<(Statement, u32), ParseStop>
     ensures { Reads (λ p. (stmt_view p.0, p.1)) result
-        (branch_form (known_names_view known.now) site at (seen_all trees.now)) }
+        (if_form (known_names_view known.now) site at (seen_all trees.now)) }
 {
     let (condition, rest) = parse_first_expression(alloc, known.states, trees)?;
     let (then_branch, else_branch, next) = parse_branches(alloc, known, site, rest)?;
@@ -143,7 +150,7 @@ fn parse_if(
 }
 
 // Parses `(STMT..) (STMT..)` inside the statement with the number `site`, and returns the number of the next statement.
-#[tactic(auto, unfolding(crate::specs::StatementHeads::branches_of))]
+#[tactic(auto, unfolding(crate::specs::Readings::branches_of))]
 #[cycle(statements)]
 fn parse_branches(
     alloc: Global,

@@ -1,7 +1,7 @@
 // The parser of top forms: states, functions and scripts.
 ghost use Rattle.std.specs.Prelude.{◌≡◌, Bool, List, codes};
 ghost use Rattle.lang_ast.specs.SyntaxView.{function_view};
-ghost use Rattle.lang_forms.specs.Readings.{parameter_form, parameter_at, parameters_form, parameters_of, state_form, function_form, top_form, header_form, top_at, is_header, is_there, offset_of};
+ghost use Rattle.lang_forms.specs.Readings.{parameter_form, parameter_at, parameters_form, parameters_of, state_form, function_form, top_form, header_form, top_at, header_at, offset_of};
 ghost use Rattle.lang_forms.specs.Views.{seen_tree, seen_all, known_names_view, top_view, Reads};
 
 use crate::cursor::{is_at_end, parse_name, skip_keyword};
@@ -11,7 +11,7 @@ use crate::literals::parse_literal;
 use crate::script::parse_do_form;
 use crate::statements::parse_statements;
 use crate::stop::ParseStop;
-use lang_ast::{DoForm, Function, Parameter, State};
+use lang_ast::{DoForm, Function, Parameter, State, Version};
 use sexp_text::Tree;
 use std::alloc::Global;
 
@@ -174,29 +174,25 @@ pub fn parse_top_form(
     }
 }
 
-// Returns whether the trees are `compose 1`.
+// Parses `compose VERSION`.
 #[tactic(auto, unfolding(crate::specs::Readings::header_form))]
-fn is_header_list(trees: &[Tree]) -> bool
-    ensures { result ≡ is_there (header_form (seen_all trees.now)) }
+fn parse_header_list(trees: &[Tree]) -> Option<Version>
+    ensures { result ≡ header_form (seen_all trees.now) }
 {
-    let Some(rest) = skip_keyword(b"compose", trees) else {
-        return false;
-    };
-    match skip_keyword(b"1", rest) {
-        None => false,
-        Some(rest) => is_at_end(rest),
-    }
+    let rest = skip_keyword(b"compose", trees)?;
+    let (version, rest) = parse_keyword(rest)?;
+    if is_at_end(rest) { Some(version) } else { None }
 }
 
-// Returns whether a tree is the header.
+// Parses a tree as the header, and returns the version of the notation.
 #[tactic(auto, using(crate::proofs::Trees::trees))]
-pub fn is_header(tree: &Tree) -> bool
-    ensures { result ≡ is_header (seen_tree tree.now) }
+pub fn parse_header(tree: &Tree) -> Option<Version>
+    ensures { result ≡ header_at (seen_tree tree.now) }
 {
     match tree {
-        Tree::List(_, inner) => is_header_list(inner),
-        Tree::Atom(..) => false,
-        Tree::Text(..) => false,
+        Tree::List(_, inner) => parse_header_list(inner),
+        Tree::Atom(..) => None,
+        Tree::Text(..) => None,
     }
 }
 
