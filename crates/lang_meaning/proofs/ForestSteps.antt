@@ -1,6 +1,5 @@
 -- The effect of composing, one lemma for each way to build a forest.
-use Rattle.std.proofs.Common.{ℕ, ℤ, pos, suc, ◌+◌, ◌++◌, ◌<◌, ◌≤◌, List, [], ◌∷◌, ◌≡◌, refl, ap, ◌∙◌, sym, append_assoc, append-nil, length, length-append, drop, get_or, drop-cons, arith, Result, Ok, Err, IsErr, subst, Bool, true, false, if◌then◌else◌}
-use Rattle.std.proofs.lemmas.List.{drop_all}
+use Rattle.std.proofs.Common.{ℕ, ◌+◌, ◌++◌, ◌≤◌, List, [], ◌∷◌, ◌≡◌, refl, ap, ◌∙◌, sym, append_assoc, append-nil, length, length-append, arith, Result, Ok, Err, IsErr, subst, Bool, true, false, if◌then◌else◌}
 use Rattle.std.specs.Prelude.{IfOk, OnOk}
 use Rattle.rt_values.specs.declared.value.Value.{Value}
 use Rattle.rt_values.specs.Views.{Grew}
@@ -11,7 +10,7 @@ use Rattle.rt_groups.specs.Frames.{most_groups}
 use Rattle.rt_groups.specs.declared.groups.Group.{Group as Listed}
 use Rattle.rt_groups.proofs.GroupForests.{asks-joined_forest, asks-reads_then}
 use Rattle.lang_ast.specs.ResultsWithReads.{Reading}
-use Rattle.compose_model.specs.Composing.{forest_after, turns}
+use Rattle.compose_model.specs.Composing.{forest_after}
 use Rattle.lang_meaning.specs.ComposesForest.{ComposesForest, LoopProgress}
 use Rattle.lang_meaning.specs.declared.composition.ScratchStop.{ScratchStop}
 use Rattle.lang_meaning.specs.declared.composition.ScratchStop.TheVariants.{TooManyGroups, NoMemory}

@@ -1,2 +1,3 @@
 pub mod StatementCases
 pub mod ForestSteps
+pub mod Blocks

@@ -1,43 +1,27 @@
 -- The forest of a statement in memory, by its parts, and the forest of a list of statements.
-use Rattle.std.proofs.Common.{ℕ, zero, suc, ◌+◌, ◌<◌, ◌≤◌, ◌≡◌, List, [], ◌∷◌, ◌++◌, length, drop, take, get_or, drop-cons, Vec, Global, Result, refl, ap, ◌∙◌, sym, subst, arith}
-use Rattle.std.proofs.lemmas.List.{drop_all}
+use Rattle.std.proofs.Common.{ℕ, ℤ, ◌<◌, ◌≤◌, ◌≡◌, List, [], ◌∷◌, ◌++◌, length, take, get_or, Vec, Global, Result, ap, ◌∙◌, sym, subst, arith}
 use Rattle.rt_values.specs.declared.value.Value.{Value}
 use Rattle.rt_groups.specs.declared.groups.Group.{Group as Listed}
 use Rattle.rt_values.specs.Maps.{Map}
-use Rattle.rt_groups.specs.GroupForest.{GroupForest, End, joined_forest, how_many}
+use Rattle.rt_groups.specs.GroupForest.{GroupForest, End, how_many}
 use Rattle.rt_groups.specs.PreorderGroups.{preorder}
-use Rattle.lang_ast.specs.Terms.{Stmt, Stmts, Node, Key, If, For, Let, Remember, Func}
-use Rattle.lang_ast.specs.SyntaxView.{expr_view, exprs_view, nameds_view, stmt_view, stmts_view, functions_view, function_view}
+use Rattle.lang_ast.specs.Terms.{Stmt, Stmts, If, Func}
+use Rattle.lang_ast.specs.SyntaxView.{expr_view, exprs_view, head_view, stmt_view, stmts_view, functions_view, function_view}
 use Rattle.lang_ast.specs.Evaluation.{Bindings, new_binding, eval_all}
-use Rattle.compose_model.specs.Composing.{forest_after, bind, forest, meaning_at, meanings, run_all}
+use Rattle.compose_model.specs.Composing.{forest_after, composed_block, bind, forest, meaning_at, meanings, run_all}
 use Rattle.lang_ast.specs.declared.syntax.Ident.{Ident}
-use Rattle.lang_ast.specs.declared.syntax.Named.{Named}
 use Rattle.lang_ast.specs.declared.syntax.Parameter.{Parameter}
 use Rattle.lang_ast.specs.declared.syntax.Function.{Function}
 use Rattle.lang_ast.specs.declared.syntax.Expression.{Expression}
-use Rattle.lang_ast.specs.declared.syntax.Statement.{Statement, Node as NodeOf, Call as CallOf, Key as KeyOf, If as IfOf, For as ForOf, Let as LetOf, Remember as RememberOf}
+use Rattle.lang_ast.specs.declared.syntax.Statement.{Statement, Call as CallOf, If as IfOf, Block as BlockOf}
+use Rattle.lang_ast.specs.declared.syntax.Head.{Head}
 use Rattle.lang_ast.proofs.Functions.{how_many_functions, functions_at, functions_front}
-use Rattle.lang_ast.proofs.Views.{view-Node, view-Call, view-Key, view-If, view-For, view-Let, view-Remember}
+use Rattle.lang_ast.proofs.Views.{view-Call, view-If, view-Block}
 use Rattle.lang_meaning.specs.ComposesForest.{ComposesForest}
-use Rattle.compose_model.specs.StatementForests.{statement_forest, body_forest, call_forest}
+use Rattle.compose_model.specs.StatementForests.{statement_forest, body_forest, call_forest, loop_forest}
 use Rattle.lang_meaning.specs.declared.composition.ScratchStop.{ScratchStop}
 use Rattle.rt_groups.proofs.GroupForests.{how_many-preorder}
 use Rattle.recompose_laws.proofs.Meanings.{meaning_found, meaning_none}
-
-pub node_ran : {U : Type 0} (m : Map) (fs : List Function) (s : Statement) (env : Bindings) (at site : ℕ) (kind : Ident)
-    (attributes : Vec Named Global) (body : Vec Statement Global) (names : List Named) (slice : List Statement)
-    (d : ℕ) (out out' : List Listed) (asked asked' mine mine' : List ℕ) (result : Result U ScratchStop)
-    → s ≡ NodeOf at site kind attributes body → names ≡ attributes.items → slice ≡ body.items →
-    ComposesForest d (statement_forest m fs (Node 0 site kind (nameds_view names) (stmts_view slice)) env) out out'
-    asked asked' mine mine' result
-    → ComposesForest d (statement_forest m fs (stmt_view s) env) out out' asked asked' mine mine' result
-node_ran m fs s env at site kind attributes body names slice d out out' asked asked' mine mine' result is e1 e2 h =
-    subst (λ (t : GroupForest). ComposesForest d t out out' asked asked' mine mine' result)
-    (sym (ap (λ (x : Statement). statement_forest m fs (stmt_view x) env) is
-    ∙ ap (λ (t : Stmt). statement_forest m fs t env) (view-Node at site kind attributes body)
-    ∙ ap (λ (l : List Named). statement_forest m fs (Node 0 site kind (nameds_view l) (stmts_view body.items)) env)
-    (sym e1) ∙ ap (λ (l : List Statement). statement_forest m fs
-    (Node 0 site kind (nameds_view names) (stmts_view l)) env) (sym e2))) h
 
 pub call_ran : {U : Type 0} (m : Map) (fs : List Function) (s : Statement) (env : Bindings) (at site : ℕ) (name : Ident)
     (function : ℕ) (arguments : Vec Expression Global) (slice : List Expression)
@@ -52,19 +36,6 @@ call_ran m fs s env at site name function arguments slice d out out' asked asked
     ∙ ap (λ (t : Stmt). statement_forest m fs t env) (view-Call at site name function arguments)
     ∙ ap (λ (l : List Expression). forest_after (eval_all m (exprs_view l) env)
     (λ vs. call_forest m fs site function vs)) (sym e1))) h
-
-pub key_ran : {U : Type 0} (m : Map) (fs : List Function) (s : Statement) (env : Bindings) (at site : ℕ)
-    (key : Expression) (body : Vec Statement Global) (slice : List Statement)
-    (d : ℕ) (out out' : List Listed) (asked asked' mine mine' : List ℕ) (result : Result U ScratchStop)
-    → s ≡ KeyOf at site key body → slice ≡ body.items →
-    ComposesForest d (statement_forest m fs (Key 0 site (expr_view key) (stmts_view slice)) env) out out' asked asked'
-    mine mine' result → ComposesForest d (statement_forest m fs (stmt_view s) env) out out' asked asked' mine mine'
-    result
-key_ran m fs s env at site key body slice d out out' asked asked' mine mine' result is e1 h =
-    subst (λ (t : GroupForest). ComposesForest d t out out' asked asked' mine mine' result)
-    (sym (ap (λ (x : Statement). statement_forest m fs (stmt_view x) env) is
-    ∙ ap (λ (t : Stmt). statement_forest m fs t env) (view-Key at site key body)
-    ∙ ap (λ (l : List Statement). statement_forest m fs (Key 0 site (expr_view key) (stmts_view l)) env) (sym e1))) h
 
 pub choice_ran : {U : Type 0} (m : Map) (fs : List Function) (s : Statement) (env : Bindings) (at site : ℕ)
     (condition : Expression) (one two : Vec Statement Global) (front back : List Statement)
@@ -82,50 +53,19 @@ choice_ran m fs s env at site condition one two front back d out out' asked aske
     ∙ ap (λ (l : List Statement). statement_forest m fs
     (If 0 0 (expr_view condition) (stmts_view front) (stmts_view l)) env) (sym e2))) h
 
-pub loop_ran : {U : Type 0} (m : Map) (fs : List Function) (s : Statement) (env : Bindings) (at site : ℕ) (name : Ident)
-    (list : Expression) (body : Vec Statement Global) (slice : List Statement)
+pub block_ran : {U : Type 0} (m : Map) (fs : List Function) (s : Statement) (env : Bindings) (at site : ℕ)
+    (head : Head) (body : Vec Statement Global) (slice : List Statement)
     (d : ℕ) (out out' : List Listed) (asked asked' mine mine' : List ℕ) (result : Result U ScratchStop)
-    → s ≡ ForOf at site name list body → slice ≡ body.items →
-    ComposesForest d (statement_forest m fs (For 0 0 name (expr_view list) (stmts_view slice)) env) out out' asked
-    asked' mine mine' result → ComposesForest d (statement_forest m fs (stmt_view s) env) out out' asked asked' mine
-    mine' result
-loop_ran m fs s env at site name list body slice d out out' asked asked' mine mine' result is e1 h =
+    → s ≡ BlockOf at site head body → slice ≡ body.items →
+    ComposesForest d (composed_block m site (head_view head) env (λ inner. body_forest m fs (stmts_view slice) inner)) out
+    out' asked asked' mine mine' result
+    → ComposesForest d (statement_forest m fs (stmt_view s) env) out out' asked asked' mine mine' result
+block_ran m fs s env at site head body slice d out out' asked asked' mine mine' result is e1 h =
     subst (λ (t : GroupForest). ComposesForest d t out out' asked asked' mine mine' result)
     (sym (ap (λ (x : Statement). statement_forest m fs (stmt_view x) env) is
-    ∙ ap (λ (t : Stmt). statement_forest m fs t env) (view-For at site name list body)
-    ∙ ap (λ (l : List Statement). statement_forest m fs (For 0 0 name (expr_view list) (stmts_view l)) env) (sym e1))) h
-
-pub binding_ran : {U : Type 0} (m : Map) (fs : List Function) (s : Statement) (env : Bindings) (at site : ℕ)
-    (name : Ident) (value : Expression) (body : Vec Statement Global) (slice : List Statement)
-    (d : ℕ) (out out' : List Listed) (asked asked' mine mine' : List ℕ) (result : Result U ScratchStop)
-    → s ≡ LetOf at site name value body → slice ≡ body.items →
-    ComposesForest d (statement_forest m fs (Let 0 0 name (expr_view value) (stmts_view slice)) env) out out' asked
-    asked' mine mine' result → ComposesForest d (statement_forest m fs (stmt_view s) env) out out' asked asked' mine
-    mine' result
-binding_ran m fs s env at site name value body slice d out out' asked asked' mine mine' result is e1 h =
-    subst (λ (t : GroupForest). ComposesForest d t out out' asked asked' mine mine' result)
-    (sym (ap (λ (x : Statement). statement_forest m fs (stmt_view x) env) is
-    ∙ ap (λ (t : Stmt). statement_forest m fs t env) (view-Let at site name value body)
-    ∙ ap (λ (l : List Statement). statement_forest m fs (Let 0 0 name (expr_view value) (stmts_view l)) env) (sym e1)))
-    h
-
-pub remember_ran : {U : Type 0} (m : Map) (fs : List Function) (s : Statement) (env : Bindings) (at site : ℕ)
-    (name : Ident) (keys : Vec Named Global) (value : Expression) (body : Vec Statement Global) (names : List Named)
-    (slice : List Statement)
-    (d : ℕ) (out out' : List Listed) (asked asked' mine mine' : List ℕ) (result : Result U ScratchStop)
-    → s ≡ RememberOf at site name keys value body → names ≡ keys.items → slice ≡ body.items →
-    ComposesForest d (statement_forest m fs
-    (Remember 0 site name (nameds_view names) (expr_view value) (stmts_view slice)) env) out out' asked asked' mine
-    mine' result → ComposesForest d (statement_forest m fs (stmt_view s) env) out out' asked asked' mine mine'
-    result
-remember_ran m fs s env at site name keys value body names slice d out out' asked asked' mine mine' result is e1 e2 h =
-    subst (λ (t : GroupForest). ComposesForest d t out out' asked asked' mine mine' result)
-    (sym (ap (λ (x : Statement). statement_forest m fs (stmt_view x) env) is
-    ∙ ap (λ (t : Stmt). statement_forest m fs t env) (view-Remember at site name keys value body)
-    ∙ ap (λ (l : List Named). statement_forest m fs
-    (Remember 0 site name (nameds_view l) (expr_view value) (stmts_view body.items)) env) (sym e1)
-    ∙ ap (λ (l : List Statement). statement_forest m fs
-    (Remember 0 site name (nameds_view names) (expr_view value) (stmts_view l)) env) (sym e2))) h
+    ∙ ap (λ (t : Stmt). statement_forest m fs t env) (view-Block at site head body)
+    ∙ ap (λ (l : List Statement). composed_block m site (head_view head) env
+    (λ inner. body_forest m fs (stmts_view l) inner)) (sym e1))) h
 
 -- Statements with equal variables in scope.
 
@@ -145,6 +85,16 @@ pub bound_as : {U : Type 0} (m : Map) (fs : List Function) (body : Stmts) (name 
 bound_as m fs body name env env' v v' d out out' asked asked' mine mine' result e f h =
     body_as m fs body _ _ d out out' asked asked' mine mine' result
     (ap (λ (s : Bindings). s ++ new_binding name v ∷ []) e ∙ ap (λ (w : Value). env' ++ new_binding name w ∷ []) f) h
+
+pub loop_as : {U : Type 0} (m : Map) (fs : List Function) (body : Stmts) (name : List ℕ) (env env' : Bindings)
+    (is is' : List ℤ) (d : ℕ) (out out' : List Listed) (asked asked' mine mine' : List ℕ) (result : Result U ScratchStop)
+    → env ≡ env' → is ≡ is' →
+    ComposesForest d (loop_forest m fs name body env is) out out' asked asked' mine mine' result
+    → ComposesForest d (loop_forest m fs name body env' is') out out' asked asked' mine mine' result
+loop_as m fs body name env env' is is' d out out' asked asked' mine mine' result e f h =
+    subst (λ (l : List ℤ). ComposesForest d (loop_forest m fs name body env' l) out out' asked asked' mine mine' result) f
+    (subst (λ (s : Bindings). ComposesForest d (loop_forest m fs name body s is) out out' asked asked' mine mine' result)
+    e h)
 
 -- A call makes the forest of the body of its function, which sees only the earlier functions.
 

@@ -1,19 +1,16 @@
 -- Internal: the contract of the functions that compose a part of a program.
-use Rattle.std.specs.Prelude.{ℕ, ℤ, ◌++◌, ◌≡◌, ◌<◌, ◌≤◌, List, [], ◌∷◌, length, map, Result, Err, OnOk, OnErr}
+use Rattle.std.specs.Prelude.{ℕ, ℤ, ◌++◌, ◌≡◌, ◌<◌, ◌≤◌, List, length, map, Result, Err, OnOk, OnErr}
 use Rattle.rt_values.specs.declared.value.Value.{Value}
-use Rattle.rt_values.specs.declared.value.Value.TheVariants as value
 use Rattle.rt_values.specs.Maps.{Map}
 use Rattle.rt_values.specs.Views.{Grew}
-use Rattle.rt_groups.specs.GroupForest.{GroupForest, asks, own_part}
+use Rattle.rt_groups.specs.GroupForest.{GroupForest, End, asks, own_part}
 use Rattle.rt_groups.specs.GroupForest as trail
 use Rattle.rt_groups.specs.PreorderGroups.{preorder}
 use Rattle.rt_groups.specs.Frames.{most_groups}
 use Rattle.rt_groups.specs.declared.groups.Group.{Group}
-use Rattle.lang_ast.specs.declared.syntax.Function.{Function}
-use Rattle.lang_ast.specs.Terms.{Expr, Named, Stmt, Stmts}
-use Rattle.lang_ast.specs.SyntaxView.{functions_view}
-use Rattle.lang_ast.specs.Evaluation.{Bindings, new_binding, eval, eval_named}
-use Rattle.compose_model.specs.Composing.{forest_after, group, meaning_at, meanings, run, run_all, turns}
+use Rattle.lang_ast.specs.Terms.{Expr, Named, Head, Stmt, Stmts}
+use Rattle.lang_ast.specs.Evaluation.{Bindings, eval, eval_named}
+use Rattle.compose_model.specs.Composing.{forest_after, group, composed_block}
 use Rattle.lang_meaning.specs.declared.composition.Level.{Level}
 use Rattle.lang_meaning.specs.declared.composition.Progress.{Progress}
 use Rattle.lang_meaning.specs.declared.composition.ScratchStop.{ScratchStop}
@@ -46,11 +43,18 @@ statement_at level s env m = statement_forest m level.functions.now s env
 abbrev pub body_at : Level → Stmts → Bindings → Map → GroupForest
 body_at level body env m = body_forest m level.functions.now body env
 
+abbrev pub block_at : Level → ℕ → Head → Stmts → Bindings → Map → GroupForest
+block_at level site head body env m = composed_block m site head env (λ inner. body_at level body inner m)
+
 abbrev pub call_at : Level → ℕ → ℕ → List Value → Map → GroupForest
 call_at level site function arguments m = call_forest m level.functions.now site function arguments
 
 abbrev pub loop_at : Level → List ℕ → Stmts → Bindings → List ℤ → Map → GroupForest
 loop_at level name body env items m = loop_forest m level.functions.now name body env items
+
+-- The forest of a head: the reads that it makes and its group, if it makes one, with no statements governed by it.
+abbrev pub head_at : ℕ → Head → Bindings → Map → GroupForest
+head_at site head env m = composed_block m site head env (λ inner. End)
 
 -- The forest of a cell: the reads of its keys and of its value, and its group.
 abbrev pub cell_at : ℕ → List Named → Expr → Bindings → Map → GroupForest

@@ -1,1 +1,2 @@
 pub mod ComposesForest
+pub mod EntersBlock

@@ -7,13 +7,14 @@ ghost use Rattle.rt_groups.specs.declared.groups.GroupKind.TheVariants.{Call};
 ghost use Rattle.rt_groups.specs.GroupForest.{asks, how_many};
 ghost use Rattle.rt_groups.specs.PreorderGroups.{flat_group, preorder};
 ghost use Rattle.rt_groups.specs.Frames.{most_groups};
-ghost use Rattle.lang_ast.specs.Terms.{Node, Key, If, For, Let, Remember, done};
-ghost use Rattle.lang_ast.specs.SyntaxView.{expr_view, exprs_view, nameds_view, stmt_view, stmts_view, functions_view};
+ghost use Rattle.lang_ast.specs.Terms.{Node, Key, If};
+ghost use Rattle.lang_ast.specs.SyntaxView.{expr_view, exprs_view, nameds_view, head_view, stmt_view, stmts_view, functions_view};
 ghost use Rattle.lang_ast.specs.Evaluation.{new_binding, eval, eval_all, eval_named};
 ghost use Rattle.compose_model.specs.Composing.{bind, forest_after, forest};
-ghost use Rattle.lang_meaning.specs.ComposesForest.{Composes, HasRoom, statement_at, body_at, call_at, loop_at, cell_at};
+ghost use Rattle.lang_meaning.specs.ComposesForest.{Composes, HasRoom, statement_at, block_at, body_at, call_at, loop_at, head_at, cell_at};
+ghost use Rattle.lang_meaning.specs.EntersBlock.{EntersBlock};
 
-use lang_ast::{Expression, Function, Ident, Named, Statement};
+use lang_ast::{Expression, Function, Head, Ident, Named, Statement};
 use lang_eval::{Env, bind, eval_noting, evaluate_all, evaluate_attributes, evaluate_keys};
 use rt_groups::{Group, GroupKind, Groups, Values};
 use rt_values::{NoMemory, Objects, Value, View};
@@ -103,7 +104,7 @@ fn add_node<V: View>(
     requires { HasRoom level.now made.old }
     ensures more { OnOk result (length made.new.groups ≡ length made.old.groups + 1) }
     ensures composed { Composes V.shows V.asked V.keeps level.now.depth
-        (statement_at level.now (Node 0 site kind.now (nameds_view attributes.now) done) made.old.scope)
+        (head_at site (Node kind.now (nameds_view attributes.now)) made.old.scope)
         view.old view.new made.old made.new result }
 {
     let room = made
@@ -133,7 +134,7 @@ fn add_key<V: View>(
     requires { HasRoom level.now made.old }
     ensures more { OnOk result (length made.new.groups ≡ length made.old.groups + 1) }
     ensures composed { Composes V.shows V.asked V.keeps level.now.depth
-        (statement_at level.now (Key 0 site (expr_view key.now) done) made.old.scope)
+        (head_at site (Key (expr_view key.now)) made.old.scope)
         view.old view.new made.old made.new result }
 {
     let key = eval_noting(level.alloc, key, &made.scope, view, &mut made.reads)?;
@@ -164,6 +165,53 @@ fn add_cell<V: View>(
     let cell = GroupKind::Cell { keys, value: copy };
     add_group(&mut made.groups, level.group(site, cell))?;
     Ok(value)
+}
+
+/// How the body of a block is composed after its head.
+#[derive(Drop)]
+pub enum Entered<'a> {
+    /// Inside the group of the block.
+    Inside,
+    /// With a variable of this value.
+    Bound(&'a Ident, Value),
+    /// Once for each number of this list, with a variable of its value.
+    Turns(&'a Ident, Value),
+}
+
+// Evaluates the head of a block, and appends the group that it makes.
+fn enter_block<'a, V: View>(
+    level: &Level,
+    site: u32,
+    head: &'a Head,
+    made: &mut Progress,
+    view: &mut V,
+) -> Result<Entered<'a>, ScratchStop>
+    requires { HasRoom level.now made.old }
+    ensures { EntersBlock V.shows V.asked V.keeps level.now.depth site (head_view head.now)
+        view.old view.new made.old made.new result }
+{
+    match head {
+        Head::Node { kind, attributes } => {
+            add_node(level, site, kind, attributes, made, view)?;
+            Ok(Entered::Inside)
+        }
+        Head::Key { key } => {
+            add_key(level, site, key, made, view)?;
+            Ok(Entered::Inside)
+        }
+        Head::For { name, list } => {
+            let list = eval_noting(level.alloc, list, &made.scope, view, &mut made.reads)?;
+            Ok(Entered::Turns(name, list))
+        }
+        Head::Let { name, value } => {
+            let value = eval_noting(level.alloc, value, &made.scope, view, &mut made.reads)?;
+            Ok(Entered::Bound(name, value))
+        }
+        Head::Remember { name, keys, value } => {
+            let value = add_cell(level, site, keys, value, made, view)?;
+            Ok(Entered::Bound(name, value))
+        }
+    }
 }
 
 // Starts a call after `groups`: binds the parameters of its function, and appends the group of the call. `groups` has
@@ -246,102 +294,54 @@ fn run_one<V: View>(
         view.old view.new made.old made.new result }
 {
     match statement {
-        Statement::Node {
-            site,
-            kind,
-            attributes,
-            body,
-            ..
-        } => run_node(level, *site, kind, attributes, body, made, view),
         Statement::Call {
             site,
             function,
             arguments,
             ..
         } => run_arguments(level, *site, *function, arguments, made, view),
-        Statement::Key {
-            site,
-            key,
-            body,
-            ..
-        } => run_key(level, *site, key, body, made, view),
         Statement::If {
             condition,
             then_branch,
             else_branch,
             ..
         } => run_if(level, condition, then_branch, else_branch, made, view),
-        Statement::For {
-            name,
-            list,
-            body,
-            ..
-        } => run_for(level, name, list, body, made, view),
-        Statement::Let {
-            name,
-            value,
-            body,
-            ..
-        } => run_let(level, name, value, body, made, view),
-        Statement::Remember {
+        Statement::Block {
             site,
-            name,
-            keys,
-            value,
+            head,
             body,
             ..
-        } => run_remember(level, *site, name, keys, value, body, made, view),
+        } => run_block(level, *site, head, body, made, view),
     }
 }
 
-// Composes a node: evaluates its attributes, appends its group, and composes its children.
+// Composes a block: enters it, and composes its body inside its group, with a variable, or once for each number.
 #[cycle(run)]
-fn run_node<V: View>(
+fn run_block<V: View>(
     level: &Level,
     site: u32,
-    kind: &Ident,
-    attributes: &[Named],
+    head: &Head,
     body: &[Statement],
     made: &mut Progress,
     view: &mut V,
 ) -> Result<(), ScratchStop>
     requires { HasRoom level.now made.old }
     ensures { Composes V.shows V.asked V.keeps level.now.depth
-        (statement_at level.now
-        (Node 0 site kind.now (nameds_view attributes.now) (stmts_view body.now)) made.old.scope)
+        (block_at level.now site (head_view head.now) (stmts_view body.now) made.old.scope)
         view.old view.new made.old made.new result }
 {
-    add_node(level, site, kind, attributes, made, view)?;
-    let inside = Level {
-        alloc: level.alloc,
-        functions: level.functions,
-        depth: level.depth + 1,
-    };
-    run_all(&inside, body, made, view)
-}
-
-// Composes a key: evaluates it, appends its group, and composes the body inside the group.
-#[cycle(run)]
-fn run_key<V: View>(
-    level: &Level,
-    site: u32,
-    key: &Expression,
-    body: &[Statement],
-    made: &mut Progress,
-    view: &mut V,
-) -> Result<(), ScratchStop>
-    requires { HasRoom level.now made.old }
-    ensures { Composes V.shows V.asked V.keeps level.now.depth
-        (statement_at level.now (Key 0 site (expr_view key.now) (stmts_view body.now)) made.old.scope)
-        view.old view.new made.old made.new result }
-{
-    add_key(level, site, key, made, view)?;
-    let inside = Level {
-        alloc: level.alloc,
-        functions: level.functions,
-        depth: level.depth + 1,
-    };
-    run_all(&inside, body, made, view)
+    match enter_block(level, site, head, made, view)? {
+        Entered::Inside => {
+            let inside = Level {
+                alloc: level.alloc,
+                functions: level.functions,
+                depth: level.depth + 1,
+            };
+            run_all(&inside, body, made, view)
+        }
+        Entered::Bound(name, value) => run_bound(level, name, value, body, made, view),
+        Entered::Turns(name, list) => run_turns(level, name, list.items(), body, made, view),
+    }
 }
 
 // Evaluates the condition and composes one of two lists of statements.
@@ -389,44 +389,6 @@ fn run_bound<V: View>(
     Ok(())
 }
 
-// Evaluates an expression and composes statements with a variable of this value.
-#[cycle(run)]
-fn run_let<V: View>(
-    level: &Level,
-    name: &Ident,
-    value: &Expression,
-    body: &[Statement],
-    made: &mut Progress,
-    view: &mut V,
-) -> Result<(), ScratchStop>
-    requires { HasRoom level.now made.old }
-    ensures { Composes V.shows V.asked V.keeps level.now.depth
-        (statement_at level.now (Let 0 0 name.now (expr_view value.now) (stmts_view body.now)) made.old.scope)
-        view.old view.new made.old made.new result }
-{
-    let value = eval_noting(level.alloc, value, &made.scope, view, &mut made.reads)?;
-    run_bound(level, name, value, body, made, view)
-}
-
-// Evaluates a list and composes statements for each of its numbers.
-#[cycle(run)]
-fn run_for<V: View>(
-    level: &Level,
-    name: &Ident,
-    list: &Expression,
-    body: &[Statement],
-    made: &mut Progress,
-    view: &mut V,
-) -> Result<(), ScratchStop>
-    requires { HasRoom level.now made.old }
-    ensures { Composes V.shows V.asked V.keeps level.now.depth
-        (statement_at level.now (For 0 0 name.now (expr_view list.now) (stmts_view body.now)) made.old.scope)
-        view.old view.new made.old made.new result }
-{
-    let list = eval_noting(level.alloc, list, &made.scope, view, &mut made.reads)?;
-    run_turns(level, name, list.items(), body, made, view)
-}
-
 // Composes statements once for each number, in order, with a variable of this value.
 #[cycle(run)]
 fn run_turns<V: View>(
@@ -446,28 +408,6 @@ fn run_turns<V: View>(
         run_bound(level, name, Value::Int(*item), body, made, view)?;
     }
     Ok(())
-}
-
-// Composes a cell: evaluates its keys and its value, appends its group, and composes the statements after it.
-#[cycle(run)]
-fn run_remember<V: View>(
-    level: &Level,
-    site: u32,
-    name: &Ident,
-    keys: &[Named],
-    value: &Expression,
-    body: &[Statement],
-    made: &mut Progress,
-    view: &mut V,
-) -> Result<(), ScratchStop>
-    requires { HasRoom level.now made.old }
-    ensures { Composes V.shows V.asked V.keeps level.now.depth
-        (statement_at level.now
-        (Remember 0 site name.now (nameds_view keys.now) (expr_view value.now) (stmts_view body.now)) made.old.scope)
-        view.old view.new made.old made.new result }
-{
-    let value = add_cell(level, site, keys, value, made, view)?;
-    run_bound(level, name, value, body, made, view)
 }
 
 // Composes a call: evaluates its arguments, which its caller reads, and composes the function with them.

@@ -1,26 +1,25 @@
-use Rattle.std.proofs.Common.{rules, ◌≤◌, ◌+◌, ◌≡◌, ◌++◌, ◌∷◌, [], arith, sym, ap, ◌∙◌, subst, List, ℤ, pos, Err, Ok, refl, length, length-append, get_or, true, false, to_z, of_z, w64}
+use Rattle.std.proofs.Common.{rules, ◌≡◌, ◌++◌, ◌∷◌, [], arith, sym, ap, ◌∙◌, subst, List, ℤ, pos, Err, Ok, refl, length, length-append, get_or, true, false, to_z, of_z, w64}
 use Rattle.rt_values.specs.declared.value.Value.{Value}
 use Rattle.rt_values.specs.declared.value.Value.TheVariants as value
 use Rattle.rt_groups.specs.declared.groups.GroupKind.TheVariants as what
-use Rattle.rt_groups.specs.Frames.{most_groups}
 use Rattle.rt_groups.specs.PreorderGroups.{flat_group}
 use Rattle.rt_values.specs.Maps.{Map}
-use Rattle.rt_values.specs.Operators.{is_true, items_of}
+use Rattle.rt_values.specs.Operators.{is_true}
 use Rattle.rt_groups.specs.GroupForest.{GroupForest, End, Group, Call}
 use Rattle.lang_ast.specs.declared.binding.Binding.{Binding}
 use Rattle.lang_ast.specs.declared.syntax.Function.{Function}
 use Rattle.lang_ast.specs.Evaluation.{new_binding, eval}
 use Rattle.lang_ast.specs.SyntaxView.{expr_view, stmt_view, stmts_view}
-use Rattle.compose_model.specs.Composing.{forest_after}
 use Rattle.lang_meaning.specs.ComposesForest.{ComposesForest}
-use Rattle.compose_model.specs.StatementForests.{statement_forest, body_forest, call_forest, loop_forest}
+use Rattle.compose_model.specs.StatementForests.{statement_forest, body_forest, call_forest}
 use Rattle.lang_meaning.specs.declared.composition.ScratchStop.{ScratchStop}
 use Rattle.lang_meaning.specs.declared.composition.ScratchStop.TheVariants.{NoMemory}
 use Rattle.lang_eval.proofs.Grows.{grew_none}
 use Rattle.compose_model.proofs.Sizes.{size_at, falls_at}
-use Rattle.lang_meaning.proofs.StatementCases.{node_ran, call_ran, key_ran, choice_ran, loop_ran, binding_ran, remember_ran, body_as, bound_as, call_body, call_none}
+use Rattle.lang_meaning.proofs.StatementCases.{call_ran, choice_ran, block_ran, body_as, bound_as, loop_as, call_body, call_none}
 use Rattle.compose_model.proofs.StatementForests.{all_at, all_end, turns_at, turns_end}
-use Rattle.lang_meaning.proofs.ForestSteps.{stopped, on_ok, then_same, one_added, added_on, longer_by_one, longer_after, ran_stop, ran_stop_after, ran_after, ran_full_as, ran_added, ran_call, ran_call_stop, ran_first, ran_second, opened_stop, opened_inside, cell_stop, cell_rest, going_more, going_done, going_stop}
+use Rattle.lang_meaning.proofs.ForestSteps.{stopped, on_ok, then_same, one_added, added_on, longer_by_one, longer_after, ran_stop, ran_stop_after, ran_after, ran_full_as, ran_added, ran_call, ran_call_stop, ran_first, ran_second, going_more, going_done, going_stop}
+use Rattle.lang_meaning.proofs.Blocks.{remains_as, ran_failed}
 use Rattle.lang_meaning.proofs.composition.+run.Goals as goal
 
 -- Statements one after another.
@@ -90,18 +89,6 @@ run_all-run_one-requires g t c κs w =
 
 -- One statement.
 
-pub run_one-returns-in-Node : goal.run_one-returns-in-Node
-run_one-returns-in-Node g t c = record {
-  keeps = c.run_node.ensures.keeps;
-  same = c.run_node.ensures.same;
-  same_scope = c.run_node.ensures.same_scope;
-  longer = c.run_node.ensures.longer;
-  fits = c.run_node.ensures.fits;
-  ran = λ m h.
-      node_ran m c.args.level.now.functions.now _ c.args.made.now.scope _ _ _ _ _ _ _ _ _ _ _ _ _ _ _ c.in-Node.is (search rules) (search rules)
-      (c.run_node.ensures.ran m h);
-}
-
 pub run_one-returns-in-Call : goal.run_one-returns-in-Call
 run_one-returns-in-Call g t c = record {
   keeps = c.run_arguments.ensures.keeps;
@@ -112,18 +99,6 @@ run_one-returns-in-Call g t c = record {
   ran = λ m h.
       call_ran m c.args.level.now.functions.now _ c.args.made.now.scope _ _ _ _ _ _ _ _ _ _ _ _ _ _ c.in-Call.is (search rules)
       (c.run_arguments.ensures.ran m h);
-}
-
-pub run_one-returns-in-Key : goal.run_one-returns-in-Key
-run_one-returns-in-Key g t c = record {
-  keeps = c.run_key.ensures.keeps;
-  same = c.run_key.ensures.same;
-  same_scope = c.run_key.ensures.same_scope;
-  longer = c.run_key.ensures.longer;
-  fits = c.run_key.ensures.fits;
-  ran = λ m h.
-      key_ran m c.args.level.now.functions.now _ c.args.made.now.scope _ _ _ _ _ _ _ _ _ _ _ _ _ c.in-Key.is (search rules)
-      (c.run_key.ensures.ran m h);
 }
 
 pub run_one-returns-in-If : goal.run_one-returns-in-If
@@ -137,114 +112,77 @@ run_one-returns-in-If g t c = record {
       let r = c.run_if.ensures.ran m h in search (rules, choice_ran);
 }
 
-pub run_one-returns-in-For : goal.run_one-returns-in-For
-run_one-returns-in-For g t c = record {
-  keeps = c.run_for.ensures.keeps;
-  same = c.run_for.ensures.same;
-  same_scope = c.run_for.ensures.same_scope;
-  longer = c.run_for.ensures.longer;
-  fits = c.run_for.ensures.fits;
+pub run_one-returns-in-Block : goal.run_one-returns-in-Block
+run_one-returns-in-Block g t c = record {
+  keeps = c.run_block.ensures.keeps;
+  same = c.run_block.ensures.same;
+  same_scope = c.run_block.ensures.same_scope;
+  longer = c.run_block.ensures.longer;
+  fits = c.run_block.ensures.fits;
   ran = λ m h.
-      loop_ran m c.args.level.now.functions.now _ c.args.made.now.scope _ _ _ _ _ _ _ _ _ _ _ _ _ _ c.in-For.is (search rules)
-      (c.run_for.ensures.ran m h);
+      block_ran m c.args.level.now.functions.now _ c.args.made.now.scope _ _ _ _ _ _ _ _ _ _ _ _ _ c.in-Block.is (search rules)
+      (c.run_block.ensures.ran m h);
 }
 
-pub run_one-returns-in-Let : goal.run_one-returns-in-Let
-run_one-returns-in-Let g t c = record {
-  keeps = c.run_let.ensures.keeps;
-  same = c.run_let.ensures.same;
-  same_scope = c.run_let.ensures.same_scope;
-  longer = c.run_let.ensures.longer;
-  fits = c.run_let.ensures.fits;
-  ran = λ m h.
-      binding_ran m c.args.level.now.functions.now _ c.args.made.now.scope _ _ _ _ _ _ _ _ _ _ _ _ _ _ c.in-Let.is (search rules)
-      (c.run_let.ensures.ran m h);
-}
+-- A block.
 
-pub run_one-returns-in-Remember : goal.run_one-returns-in-Remember
-run_one-returns-in-Remember g t c = record {
-  keeps = c.run_remember.ensures.keeps;
-  same = c.run_remember.ensures.same;
-  same_scope = c.run_remember.ensures.same_scope;
-  longer = c.run_remember.ensures.longer;
-  fits = c.run_remember.ensures.fits;
-  ran = λ m h.
-      remember_ran m c.args.level.now.functions.now _ c.args.made.now.scope _ _ _ _ _ _ _ _ _ _ _ _ _ _ _ _ c.in-Remember.is (search rules) (search rules)
-      (c.run_remember.ensures.ran m h);
-}
-
--- A key.
-
-pub run_key-run_all-requires : goal.run_key-run_all-requires
-run_key-run_all-requires g t c κs w =
-    let fits : length c.add_key.new.made.groups ≤ most_groups = c.in_ok-add_key.ensures.composed.fits in
-    let deep : c.args.level.now.depth ≤ length c.args.made.now.groups = c.requires.0 in
-    let more : c.args.level.now.depth + 1 ≤ length c.add_key.new.made.groups = omega (arith, deep, c.in_ok-add_key.ensures.more) in
-    search rules
-
-pub run_key-returns-in_err-add_key : goal.run_key-returns-in_err-add_key
-unfolding forest_after
-run_key-returns-in_err-add_key g t c =
-    let e : c.from_residual.result ≡ Err c.in_err-add_key.field-0.0 = search rules in
+pub run_block-returns-in_err-enter_block : goal.run_block-returns-in_err-enter_block
+run_block-returns-in_err-enter_block g t c =
+    let e : c.from_residual.result ≡ Err c.in_err-enter_block.field-0.0 = search rules in
+    let go : Map → List Binding → GroupForest =
+    λ m env. body_forest m c.args.level.now.functions.now (stmts_view c.args.body.now) env in
     record {
-      keeps = c.in_err-add_key.ensures.composed.keeps;
-      same = c.in_err-add_key.ensures.composed.same;
+      keeps = c.in_err-enter_block.ensures.keeps;
+      same = c.in_err-enter_block.ensures.same;
       same_scope = stopped _ _ _ e;
       longer = stopped _ _ _ e;
       fits = stopped _ _ _ e;
-      ran = λ m h.
-          opened_stop _ _ _ _ _ _ _ _ _ _ _ _ _ _ _ _ (c.in_err-add_key.ensures.composed.ran m h) e;
+      ran = λ m h. ran_failed _ _ _ _ _ _ _ _ _ _ e (c.in_err-enter_block.ensures.failed m (go m) h);
     }
 
-pub run_key-returns : goal.run_key-returns
-unfolding forest_after
-run_key-returns g t c = record {
-  keeps = g.met.V.View.keeps_on _ _ _ c.in_ok-add_key.ensures.composed.keeps c.run_all.ensures.keeps;
-  same = λ m h. c.run_all.ensures.same m (c.in_ok-add_key.ensures.composed.same m h);
-  same_scope = then_same _ _ _ _ c.run_all.ensures.same_scope c.in_ok-add_key.ensures.composed.same_scope;
-  longer = longer_after _ _ _ _ c.in_ok-add_key.ensures.composed.longer c.run_all.ensures.longer;
+pub run_block-returns-in-Inside : goal.run_block-returns-in-Inside
+run_block-returns-in-Inside g t c = record {
+  keeps = g.met.V.View.keeps_on _ _ _ c.in_ok-enter_block.ensures.keeps c.run_all.ensures.keeps;
+  same = λ m h. c.run_all.ensures.same m (c.in_ok-enter_block.ensures.same m h);
+  same_scope = then_same _ _ _ _ c.run_all.ensures.same_scope c.in_ok-enter_block.ensures.same_scope;
+  longer = longer_after _ _ _ _ c.in_ok-enter_block.ensures.longer c.run_all.ensures.longer;
   fits = c.run_all.ensures.fits;
   ran = λ m h.
-      opened_inside _ _ _ _ _ _ _ _ _ _ _ _ _ _ _ _ refl refl refl refl (c.in_ok-add_key.ensures.composed.ran m h)
+      let go : List Binding → GroupForest =
+      λ env. body_forest m c.args.level.now.functions.now (stmts_view c.args.body.now) env in
+      (remains_as _ _ c.in-Inside.is (c.in_ok-enter_block.ensures.remains m go h)).whole _ _ _ _
       (body_as m c.args.level.now.functions.now (stmts_view c.args.body.now) _ _ _ _ _ _ _ _ _ _
-      c.in_ok-add_key.ensures.composed.same_scope (c.run_all.ensures.ran m (c.in_ok-add_key.ensures.composed.same m h)));
+      c.in_ok-enter_block.ensures.same_scope (c.run_all.ensures.ran m (c.in_ok-enter_block.ensures.same m h)));
 }
 
--- A node.
-
-pub run_node-run_all-requires : goal.run_node-run_all-requires
-run_node-run_all-requires g t c κs w =
-    let fits : length c.add_node.new.made.groups ≤ most_groups = c.in_ok-add_node.ensures.composed.fits in
-    let deep : c.args.level.now.depth ≤ length c.args.made.now.groups = c.requires.0 in
-    let more : c.args.level.now.depth + 1 ≤ length c.add_node.new.made.groups = omega (arith, deep, c.in_ok-add_node.ensures.more) in
-    search rules
-
-pub run_node-returns-in_err-add_node : goal.run_node-returns-in_err-add_node
-unfolding forest_after
-run_node-returns-in_err-add_node g t c =
-    let e : c.from_residual.result ≡ Err c.in_err-add_node.field-0.0 = search rules in
-    record {
-      keeps = c.in_err-add_node.ensures.composed.keeps;
-      same = c.in_err-add_node.ensures.composed.same;
-      same_scope = stopped _ _ _ e;
-      longer = stopped _ _ _ e;
-      fits = stopped _ _ _ e;
-      ran = λ m h.
-          opened_stop _ _ _ _ _ _ _ _ _ _ _ _ _ _ _ _ (c.in_err-add_node.ensures.composed.ran m h) e;
-    }
-
-pub run_node-returns : goal.run_node-returns
-unfolding forest_after
-run_node-returns g t c = record {
-  keeps = g.met.V.View.keeps_on _ _ _ c.in_ok-add_node.ensures.composed.keeps c.run_all.ensures.keeps;
-  same = λ m h. c.run_all.ensures.same m (c.in_ok-add_node.ensures.composed.same m h);
-  same_scope = then_same _ _ _ _ c.run_all.ensures.same_scope c.in_ok-add_node.ensures.composed.same_scope;
-  longer = longer_after _ _ _ _ c.in_ok-add_node.ensures.composed.longer c.run_all.ensures.longer;
-  fits = c.run_all.ensures.fits;
+pub run_block-returns-in-Bound : goal.run_block-returns-in-Bound
+run_block-returns-in-Bound g t c = record {
+  keeps = g.met.V.View.keeps_on _ _ _ c.in_ok-enter_block.ensures.keeps c.run_bound.ensures.keeps;
+  same = λ m h. c.run_bound.ensures.same m (c.in_ok-enter_block.ensures.same m h);
+  same_scope = then_same _ _ _ _ c.run_bound.ensures.same_scope c.in_ok-enter_block.ensures.same_scope;
+  longer = longer_after _ _ _ _ c.in_ok-enter_block.ensures.longer c.run_bound.ensures.longer;
+  fits = c.run_bound.ensures.fits;
   ran = λ m h.
-      opened_inside _ _ _ _ _ _ _ _ _ _ _ _ _ _ _ _ refl refl refl refl (c.in_ok-add_node.ensures.composed.ran m h)
-      (body_as m c.args.level.now.functions.now (stmts_view c.args.body.now) _ _ _ _ _ _ _ _ _ _
-      c.in_ok-add_node.ensures.composed.same_scope (c.run_all.ensures.ran m (c.in_ok-add_node.ensures.composed.same m h)));
+      let go : List Binding → GroupForest =
+      λ env. body_forest m c.args.level.now.functions.now (stmts_view c.args.body.now) env in
+      (remains_as _ _ c.in-Bound.is (c.in_ok-enter_block.ensures.remains m go h)).whole _ _ _ _
+      (bound_as m c.args.level.now.functions.now (stmts_view c.args.body.now) c.in-Bound.name.now.text _ _ _ _ _ _ _ _ _ _ _ _
+      c.in_ok-enter_block.ensures.same_scope refl (c.run_bound.ensures.ran m (c.in_ok-enter_block.ensures.same m h)));
+}
+
+pub run_block-returns-in-Turns : goal.run_block-returns-in-Turns
+run_block-returns-in-Turns g t c = record {
+  keeps = g.met.V.View.keeps_on _ _ _ c.in_ok-enter_block.ensures.keeps c.run_turns.ensures.keeps;
+  same = λ m h. c.run_turns.ensures.same m (c.in_ok-enter_block.ensures.same m h);
+  same_scope = then_same _ _ _ _ c.run_turns.ensures.same_scope c.in_ok-enter_block.ensures.same_scope;
+  longer = longer_after _ _ _ _ c.in_ok-enter_block.ensures.longer c.run_turns.ensures.longer;
+  fits = c.run_turns.ensures.fits;
+  ran = λ m h.
+      let go : List Binding → GroupForest =
+      λ env. body_forest m c.args.level.now.functions.now (stmts_view c.args.body.now) env in
+      (remains_as _ _ c.in-Turns.is (c.in_ok-enter_block.ensures.remains m go h)).whole _ _ _ _
+      (loop_as m c.args.level.now.functions.now (stmts_view c.args.body.now) c.in-Turns.name.now.text _ _ _ _ _ _ _ _ _ _ _ _
+      c.in_ok-enter_block.ensures.same_scope c.items.ensures (c.run_turns.ensures.ran m (c.in_ok-enter_block.ensures.same m h)));
 }
 
 -- One of two lists of statements.
@@ -320,70 +258,7 @@ run_bound-returns-in_err-push g t c =
           ran_stop _ _ _ _ _ _ _ _ _ e (grew_none _ _);
     }
 
-pub run_let-returns-in_err-value : goal.run_let-returns-in_err-value
-run_let-returns-in_err-value g t c =
-    let e : c.from_residual.result ≡ Err NoMemory = search rules in
-    record {
-      keeps = c.in_err-value.ensures.keeps;
-      same = c.in_err-value.ensures.same;
-      same_scope = stopped _ _ _ e;
-      longer = stopped _ _ _ e;
-      fits = stopped _ _ _ e;
-      ran = λ m h.
-          ran_stop_after _ _ _ _ _ _ _ _ _ _ e (c.in_err-value.ensures.part m h);
-    }
-
-pub run_let-returns : goal.run_let-returns
-run_let-returns g t c = record {
-  keeps = g.met.V.View.keeps_on _ _ _ c.in_ok-value.ensures.keeps c.run_bound.ensures.keeps;
-  same = λ m h. c.run_bound.ensures.same m (c.in_ok-value.ensures.same m h);
-  same_scope = c.run_bound.ensures.same_scope;
-  longer = c.run_bound.ensures.longer;
-  fits = c.run_bound.ensures.fits;
-  ran = λ m h.
-      let P : Value → Type 0 = λ v. ComposesForest c.args.level.now.depth
-      (body_forest m c.args.level.now.functions.now (stmts_view c.args.body.now)
-      (c.args.made.now.scope ++ new_binding c.args.name.now.text v ∷ [])) c.args.made.now.groups
-      c.run_bound.new.made.groups
-      (g.V.View.asked c.eval_noting.new.view) (g.V.View.asked c.run_bound.new.view) c.eval_noting.new.reads
-      c.run_bound.new.made.reads c.run_bound.result in
-      let inner = subst P (c.in_ok-value.ensures.value m h)
-      (c.run_bound.ensures.ran m (c.eval_noting.ensures.same m h)) in
-      ran_after _ _ _ _ _ _ _ _ _ _ _ _ (c.in_ok-value.ensures.asks m h) (c.in_ok-value.ensures.reads m h) (inner);
-}
-
 -- A loop.
-
-pub run_for-returns-in_err-list : goal.run_for-returns-in_err-list
-run_for-returns-in_err-list g t c =
-    let e : c.from_residual.result ≡ Err NoMemory = search rules in
-    record {
-      keeps = c.in_err-list.ensures.keeps;
-      same = c.in_err-list.ensures.same;
-      same_scope = stopped _ _ _ e;
-      longer = stopped _ _ _ e;
-      fits = stopped _ _ _ e;
-      ran = λ m h.
-          ran_stop_after _ _ _ _ _ _ _ _ _ _ e (c.in_err-list.ensures.part m h);
-    }
-
-pub run_for-returns : goal.run_for-returns
-run_for-returns g t c = record {
-  keeps = g.met.V.View.keeps_on _ _ _ c.in_ok-list.ensures.keeps c.run_turns.ensures.keeps;
-  same = λ m h. c.run_turns.ensures.same m (c.in_ok-list.ensures.same m h);
-  same_scope = c.run_turns.ensures.same_scope;
-  longer = c.run_turns.ensures.longer;
-  fits = c.run_turns.ensures.fits;
-  ran = λ m h.
-      let P : List ℤ → Type 0 = λ is. ComposesForest c.args.level.now.depth
-      (loop_forest m c.args.level.now.functions.now c.args.name.now.text (stmts_view c.args.body.now)
-      c.args.made.now.scope is) c.args.made.now.groups c.run_turns.new.made.groups
-      (g.V.View.asked c.eval_noting.new.view) (g.V.View.asked c.run_turns.new.view) c.eval_noting.new.reads
-      c.run_turns.new.made.reads c.run_turns.result in
-      let is = c.items.ensures ∙ ap items_of (c.in_ok-list.ensures.value m h) in
-      let inner = subst P is (c.run_turns.ensures.ran m (c.eval_noting.ensures.same m h)) in
-      ran_after _ _ _ _ _ _ _ _ _ _ _ _ (c.in_ok-list.ensures.asks m h) (c.in_ok-list.ensures.reads m h) (inner);
-}
 
 pub run_turns-returns : goal.run_turns-returns
 run_turns-returns g t c = record {
@@ -450,44 +325,6 @@ run_turns-loop-item-preserved g t c =
           (c.args.made.now.scope ++ new_binding c.args.name.now.text (value.Int i) ∷ [])) c.args.items.now
           c.loop-item.item-index (omega arith)) (c.loop-item.invariant.going m h) (ran m h);
     }
-
--- A cell.
-
-pub run_remember-run_bound-requires : goal.run_remember-run_bound-requires
-run_remember-run_bound-requires g t c κs w =
-    let fits : length c.add_cell.new.made.groups ≤ most_groups = c.in_ok-value.ensures.composed.fits in
-    let deep : c.args.level.now.depth ≤ length c.args.made.now.groups = c.requires.0 in
-    let more : c.args.level.now.depth ≤ length c.add_cell.new.made.groups = omega (arith, deep, c.in_ok-value.ensures.composed.longer) in
-    search rules
-
-pub run_remember-returns-in_err-value : goal.run_remember-returns-in_err-value
-unfolding forest_after
-run_remember-returns-in_err-value g t c =
-    let e : c.from_residual.result ≡ Err c.in_err-value.field-0.0 = search rules in
-    record {
-      keeps = c.in_err-value.ensures.composed.keeps;
-      same = c.in_err-value.ensures.composed.same;
-      same_scope = stopped _ _ _ e;
-      longer = stopped _ _ _ e;
-      fits = stopped _ _ _ e;
-      ran = λ m h.
-          cell_stop _ _ _ _ _ _ _ _ _ _ _ _ _ _ _ _ (c.in_err-value.ensures.composed.ran m h) e;
-    }
-
-pub run_remember-returns : goal.run_remember-returns
-unfolding forest_after
-run_remember-returns g t c = record {
-  keeps = g.met.V.View.keeps_on _ _ _ c.in_ok-value.ensures.composed.keeps c.run_bound.ensures.keeps;
-  same = λ m h. c.run_bound.ensures.same m (c.in_ok-value.ensures.composed.same m h);
-  same_scope = then_same _ _ _ _ c.run_bound.ensures.same_scope c.in_ok-value.ensures.composed.same_scope;
-  longer = longer_after _ _ _ _ c.in_ok-value.ensures.composed.longer c.run_bound.ensures.longer;
-  fits = c.run_bound.ensures.fits;
-  ran = λ m h.
-      cell_rest _ _ _ _ _ _ _ _ _ _ _ _ _ _ _ _ _ refl refl (c.in_ok-value.ensures.composed.ran m h)
-      (bound_as m c.args.level.now.functions.now (stmts_view c.args.body.now) c.args.name.now.text _ _ _ _ _ _ _ _ _ _
-      _ _ c.in_ok-value.ensures.composed.same_scope (c.in_ok-value.ensures.value m h)
-      (c.run_bound.ensures.ran m (c.in_ok-value.ensures.composed.same m h)));
-}
 
 -- A call.
 

@@ -44,11 +44,8 @@ decreases-run_all g l = 8 * weight l.level.now.functions.now + 8 * body_size l.b
 abbrev pub decreases-run_one : goal.decreases-run_one
 decreases-run_one g l = 8 * weight l.level.now.functions.now + 8 * stmt_size (stmt_view l.statement.now) + 3
 
-abbrev pub decreases-run_node : goal.decreases-run_node
-decreases-run_node g l = 8 * weight l.level.now.functions.now + 8 * body_size l.body.now + 5
-
-abbrev pub decreases-run_key : goal.decreases-run_key
-decreases-run_key g l = 8 * weight l.level.now.functions.now + 8 * body_size l.body.now + 5
+abbrev pub decreases-run_block : goal.decreases-run_block
+decreases-run_block g l = 8 * weight l.level.now.functions.now + 8 * body_size l.body.now + 7
 
 abbrev pub decreases-run_if : goal.decreases-run_if
 decreases-run_if g l =
@@ -57,17 +54,8 @@ decreases-run_if g l =
 abbrev pub decreases-run_bound : goal.decreases-run_bound
 decreases-run_bound g l = 8 * weight l.level.now.functions.now + 8 * body_size l.body.now + 5
 
-abbrev pub decreases-run_let : goal.decreases-run_let
-decreases-run_let g l = 8 * weight l.level.now.functions.now + 8 * body_size l.body.now + 6
-
 abbrev pub decreases-run_turns : goal.decreases-run_turns
 decreases-run_turns g l = 8 * weight l.level.now.functions.now + 8 * body_size l.body.now + 6
-
-abbrev pub decreases-run_for : goal.decreases-run_for
-decreases-run_for g l = 8 * weight l.level.now.functions.now + 8 * body_size l.body.now + 7
-
-abbrev pub decreases-run_remember : goal.decreases-run_remember
-decreases-run_remember g l = 8 * weight l.level.now.functions.now + 8 * body_size l.body.now + 6
 
 abbrev pub decreases-run_arguments : goal.decreases-run_arguments
 decreases-run_arguments g l = 8 * weight l.level.now.functions.now + 3
