@@ -3,38 +3,26 @@ use Rattle.std.proofs.Common.{ℕ, List, ◌≡◌, Vec, Global, Result, ap, ◌
 use Rattle.rt_values.specs.Maps.{Map}
 use Rattle.rt_groups.specs.GroupForest.{GroupForest}
 use Rattle.rt_groups.specs.Paths.{GroupKey}
-use Rattle.lang_ast.specs.Terms.{Stmt, Node, Key, If, For, Let, Remember}
-use Rattle.lang_ast.specs.SyntaxView.{expr_view, exprs_view, nameds_view, stmt_view, stmts_view}
+use Rattle.lang_ast.specs.Terms.{Head, Node, Key, For, Let, Remember, Stmt, Stmts, If, Block}
+use Rattle.lang_ast.specs.SyntaxView.{expr_view, exprs_view, nameds_view, head_view, stmt_view, stmts_view}
+use Rattle.lang_ast.specs.Programs.{statements_in}
 use Rattle.lang_ast.specs.Evaluation.{Bindings, eval_all}
 use Rattle.compose_model.specs.Composing.{forest_after}
 use Rattle.lang_ast.specs.declared.syntax.Ident.{Ident}
 use Rattle.lang_ast.specs.declared.syntax.Named.{Named}
 use Rattle.lang_ast.specs.declared.syntax.Function.{Function}
 use Rattle.lang_ast.specs.declared.syntax.Expression.{Expression}
-use Rattle.lang_ast.specs.declared.syntax.Statement.{Statement, Node as NodeOf, Call as CallOf, Key as KeyOf, If as IfOf, For as ForOf, Let as LetOf, Remember as RememberOf}
-use Rattle.lang_ast.proofs.Views.{view-Node, view-Call, view-Key, view-If, view-For, view-Let, view-Remember}
+use Rattle.lang_ast.specs.declared.syntax.Head as declared
+use Rattle.lang_ast.specs.declared.syntax.Head.TheVariants as head
+use Rattle.lang_ast.specs.declared.syntax.Statement.{Statement, Call as CallOf, If as IfOf, Block as BlockOf}
+use Rattle.lang_ast.proofs.Views.{view-Call, view-If, view-Block}
+use Rattle.lang_ast.proofs.Statements.{each_apart}
 use Rattle.compose_model.specs.StatementForests.{statement_forest, call_forest}
 use Rattle.composer.specs.declared.stop.ComposeStop.{ComposeStop}
 use Rattle.composer.specs.declared.pending.Pending.{Pending}
-use Rattle.recompose_laws.specs.CalculatedCells.{Calculation, StmtCalculates, StmtsCalculate, CalculatesAtSite}
+use Rattle.recompose_laws.specs.CalculatedCells.{Calculation, Calculates, StmtCalculates, StmtsCalculate, CalculatesAtSite}
 use Rattle.composer.specs.ComposerState.{ComposerState}
 use Rattle.composer.specs.Recomposes.{ComposesBeside}
-
-pub node_beside : {U : Type 0} (m : Map) (fs : List Function) (s : Statement) (env : Bindings) (at site : ℕ)
-    (kind : Ident) (attributes : Vec Named Global) (body : Vec Statement Global) (names : List Named)
-    (slice : List Statement)
-    (owed : List ℕ) (old : GroupForest) (d : ℕ) (seen : List GroupKey) (q q' : ComposerState) (left : Pending)
-    (result : Result U ComposeStop) → s ≡ NodeOf at site kind attributes body → names ≡ attributes.items
-    → slice ≡ body.items →
-    ComposesBeside owed old d seen (statement_forest m fs (Node 0 site kind (nameds_view names) (stmts_view slice)) env)
-    q q' left result → ComposesBeside owed old d seen (statement_forest m fs (stmt_view s) env) q q' left result
-node_beside m fs s env at site kind attributes body names slice owed old d seen q q' left result is e1 e2 h =
-    subst (λ (t : GroupForest). ComposesBeside owed old d seen t q q' left result)
-    (sym (ap (λ (x : Statement). statement_forest m fs (stmt_view x) env) is
-    ∙ ap (λ (t : Stmt). statement_forest m fs t env) (view-Node at site kind attributes body)
-    ∙ ap (λ (l : List Named). statement_forest m fs (Node 0 site kind (nameds_view l) (stmts_view body.items)) env)
-    (sym e1) ∙ ap (λ (l : List Statement). statement_forest m fs
-    (Node 0 site kind (nameds_view names) (stmts_view l)) env) (sym e2))) h
 
 pub call_beside : {U : Type 0} (m : Map) (fs : List Function) (s : Statement) (env : Bindings) (at site : ℕ)
     (name : Ident) (function : ℕ) (arguments : Vec Expression Global) (slice : List Expression)
@@ -49,36 +37,6 @@ call_beside m fs s env at site name function arguments slice owed old d seen q q
     ∙ ap (λ (t : Stmt). statement_forest m fs t env) (view-Call at site name function arguments)
     ∙ ap (λ (l : List Expression). forest_after (eval_all m (exprs_view l) env)
     (λ vs. call_forest m fs site function vs)) (sym e1))) h
-
-pub key_beside : {U : Type 0} (m : Map) (fs : List Function) (s : Statement) (env : Bindings) (at site : ℕ)
-    (key : Expression) (body : Vec Statement Global) (slice : List Statement)
-    (owed : List ℕ) (old : GroupForest) (d : ℕ) (seen : List GroupKey) (q q' : ComposerState) (left : Pending)
-    (result : Result U ComposeStop) → s ≡ KeyOf at site key body → slice ≡ body.items →
-    ComposesBeside owed old d seen (statement_forest m fs (Key 0 site (expr_view key) (stmts_view slice)) env) q q' left
-    result → ComposesBeside owed old d seen (statement_forest m fs (stmt_view s) env) q q' left result
-key_beside m fs s env at site key body slice owed old d seen q q' left result is e1 h =
-    subst (λ (t : GroupForest). ComposesBeside owed old d seen t q q' left result)
-    (sym (ap (λ (x : Statement). statement_forest m fs (stmt_view x) env) is
-    ∙ ap (λ (t : Stmt). statement_forest m fs t env) (view-Key at site key body)
-    ∙ ap (λ (l : List Statement). statement_forest m fs (Key 0 site (expr_view key) (stmts_view l)) env) (sym e1))) h
-
-pub remember_beside : {U : Type 0} (m : Map) (fs : List Function) (s : Statement) (env : Bindings) (at site : ℕ)
-    (name : Ident) (keys : Vec Named Global) (value : Expression) (body : Vec Statement Global) (names : List Named)
-    (slice : List Statement)
-    (owed : List ℕ) (old : GroupForest) (d : ℕ) (seen : List GroupKey) (q q' : ComposerState) (left : Pending)
-    (result : Result U ComposeStop) → s ≡ RememberOf at site name keys value body → names ≡ keys.items
-    → slice ≡ body.items →
-    ComposesBeside owed old d seen
-    (statement_forest m fs (Remember 0 site name (nameds_view names) (expr_view value) (stmts_view slice)) env) q q'
-    left result → ComposesBeside owed old d seen (statement_forest m fs (stmt_view s) env) q q' left result
-remember_beside m fs s env at site name keys value body names slice owed old d seen q q' left result is e1 e2 h =
-    subst (λ (t : GroupForest). ComposesBeside owed old d seen t q q' left result)
-    (sym (ap (λ (x : Statement). statement_forest m fs (stmt_view x) env) is
-    ∙ ap (λ (t : Stmt). statement_forest m fs t env) (view-Remember at site name keys value body)
-    ∙ ap (λ (l : List Named). statement_forest m fs
-    (Remember 0 site name (nameds_view l) (expr_view value) (stmts_view body.items)) env) (sym e1)
-    ∙ ap (λ (l : List Statement). statement_forest m fs
-    (Remember 0 site name (nameds_view names) (expr_view value) (stmts_view l)) env) (sym e2))) h
 
 pub choice_beside : {U : Type 0} (m : Map) (fs : List Function) (s : Statement) (env : Bindings) (at site : ℕ)
     (condition : Expression) (one two : Vec Statement Global) (front back : List Statement)
@@ -96,88 +54,95 @@ choice_beside m fs s env at site condition one two front back owed old d seen q 
     ∙ ap (λ (l : List Statement). statement_forest m fs
     (If 0 0 (expr_view condition) (stmts_view front) (stmts_view l)) env) (sym e2))) h
 
-pub loop_beside : {U : Type 0} (m : Map) (fs : List Function) (s : Statement) (env : Bindings) (at site : ℕ)
-    (name : Ident) (list : Expression) (body : Vec Statement Global) (slice : List Statement)
+pub block_beside : {U : Type 0} (m : Map) (fs : List Function) (s : Statement) (env : Bindings) (at site : ℕ)
+    (h : declared.Head) (body : Vec Statement Global) (slice : List Statement)
     (owed : List ℕ) (old : GroupForest) (d : ℕ) (seen : List GroupKey) (q q' : ComposerState) (left : Pending)
-    (result : Result U ComposeStop) → s ≡ ForOf at site name list body → slice ≡ body.items →
-    ComposesBeside owed old d seen (statement_forest m fs (For 0 0 name (expr_view list) (stmts_view slice)) env) q q'
-    left result → ComposesBeside owed old d seen (statement_forest m fs (stmt_view s) env) q q' left result
-loop_beside m fs s env at site name list body slice owed old d seen q q' left result is e1 h =
+    (result : Result U ComposeStop) → s ≡ BlockOf at site h body → slice ≡ body.items →
+    ComposesBeside owed old d seen (statement_forest m fs (Block 0 site (head_view h) (stmts_view slice)) env) q q' left
+    result → ComposesBeside owed old d seen (statement_forest m fs (stmt_view s) env) q q' left result
+block_beside m fs s env at site h body slice owed old d seen q q' left result is e1 r =
     subst (λ (t : GroupForest). ComposesBeside owed old d seen t q q' left result)
     (sym (ap (λ (x : Statement). statement_forest m fs (stmt_view x) env) is
-    ∙ ap (λ (t : Stmt). statement_forest m fs t env) (view-For at site name list body)
-    ∙ ap (λ (l : List Statement). statement_forest m fs (For 0 0 name (expr_view list) (stmts_view l)) env) (sym e1))) h
+    ∙ ap (λ (t : Stmt). statement_forest m fs t env) (view-Block at site h body)
+    ∙ ap (λ (l : List Statement). statement_forest m fs (Block 0 site (head_view h) (stmts_view l)) env) (sym e1))) r
 
-pub binding_beside : {U : Type 0} (m : Map) (fs : List Function) (s : Statement) (env : Bindings) (at site : ℕ)
-    (name : Ident) (value : Expression) (body : Vec Statement Global) (slice : List Statement)
+-- A block, by its head.
+module _ {U : Type 0} (m : Map) (fs : List Function) (env : Bindings) (site : ℕ) (body : Stmts) (h : declared.Head)
     (owed : List ℕ) (old : GroupForest) (d : ℕ) (seen : List GroupKey) (q q' : ComposerState) (left : Pending)
-    (result : Result U ComposeStop) → s ≡ LetOf at site name value body → slice ≡ body.items →
-    ComposesBeside owed old d seen (statement_forest m fs (Let 0 0 name (expr_view value) (stmts_view slice)) env) q q'
-    left result → ComposesBeside owed old d seen (statement_forest m fs (stmt_view s) env) q q' left result
-binding_beside m fs s env at site name value body slice owed old d seen q q' left result is e1 h =
-    subst (λ (t : GroupForest). ComposesBeside owed old d seen t q q' left result)
-    (sym (ap (λ (x : Statement). statement_forest m fs (stmt_view x) env) is
-    ∙ ap (λ (t : Stmt). statement_forest m fs t env) (view-Let at site name value body)
-    ∙ ap (λ (l : List Statement). statement_forest m fs (Let 0 0 name (expr_view value) (stmts_view l)) env) (sym e1)))
-    h
+    (result : Result U ComposeStop) where
+  abbrev Beside : Head → Type 0
+  Beside view = ComposesBeside owed old d seen (statement_forest m fs (Block 0 site view body) env) q q' left result
+
+  head_beside : (view : Head) → head_view h ≡ view → Beside view → Beside (head_view h)
+  head_beside view is r = subst Beside (sym is) r
+
+  pub node_beside : (kind : Ident) (attributes : Vec Named Global) (names : List Named) → h ≡ head.Node kind attributes
+      → names ≡ attributes.items → Beside (Node kind (nameds_view names)) → Beside (head_view h)
+  node_beside kind attributes names is e r =
+      head_beside _ (ap head_view is ∙ ap (λ (l : List Named). Node kind (nameds_view l)) (sym e)) r
+
+  pub key_beside : (key : Expression) → h ≡ head.Key key → Beside (Key (expr_view key)) → Beside (head_view h)
+  key_beside key is r = head_beside _ (ap head_view is) r
+
+  pub loop_beside : (name : Ident) (list : Expression) → h ≡ head.For name list → Beside (For name (expr_view list))
+      → Beside (head_view h)
+  loop_beside name list is r = head_beside _ (ap head_view is) r
+
+  pub binding_beside : (name : Ident) (value : Expression) → h ≡ head.Let name value
+      → Beside (Let name (expr_view value)) → Beside (head_view h)
+  binding_beside name value is r = head_beside _ (ap head_view is) r
+
+  pub remember_beside : (name : Ident) (keys : Vec Named Global) (value : Expression) (names : List Named)
+      → h ≡ head.Remember name keys value → names ≡ keys.items
+      → Beside (Remember name (nameds_view names) (expr_view value)) → Beside (head_view h)
+  remember_beside name keys value names is e r =
+      head_beside _ (ap head_view is ∙ ap (λ (l : List Named). Remember name (nameds_view l) (expr_view value)) (sym e)) r
 
 -- The calculations in a statement, by its parts.
 
-pub node_calculates : (calc : Calculation) (s : Statement) (at site : ℕ) (kind : Ident) (attributes : Vec Named Global)
-    (body : Vec Statement Global) (slice : List Statement) → s ≡ NodeOf at site kind attributes body
-    → slice ≡ body.items →
-    StmtCalculates calc (stmt_view s) → StmtsCalculate calc (stmts_view slice)
-node_calculates calc s at site kind attributes body slice is e h =
-    subst (λ (l : List Statement). StmtsCalculate calc (stmts_view l)) (sym e)
-    (subst (λ (t : Stmt). StmtCalculates calc t) (ap stmt_view is ∙ view-Node at site kind attributes body) h)
-
-pub key_calculates : (calc : Calculation) (s : Statement) (at site : ℕ) (key : Expression) (body : Vec Statement Global)
-    (slice : List Statement) → s ≡ KeyOf at site key body → slice ≡ body.items →
-    StmtCalculates calc (stmt_view s) → StmtsCalculate calc (stmts_view slice)
-key_calculates calc s at site key body slice is e h =
-    subst (λ (l : List Statement). StmtsCalculate calc (stmts_view l)) (sym e)
-    (subst (λ (t : Stmt). StmtCalculates calc t) (ap stmt_view is ∙ view-Key at site key body) h)
+then_and_else : (calc : Calculation) (at site : ℕ) (condition : Expression) (one two : List Statement)
+    → StmtCalculates calc (If at site (expr_view condition) (stmts_view one) (stmts_view two))
+    → StmtsCalculate calc (stmts_view one) × StmtsCalculate calc (stmts_view two)
+then_and_else calc at site condition one two h =
+    each_apart (Calculates calc) (statements_in (stmts_view one)) (statements_in (stmts_view two)) h.1
 
 pub then_calculates : (calc : Calculation) (s : Statement) (at site : ℕ) (condition : Expression)
     (one two : Vec Statement Global) (slice : List Statement) → s ≡ IfOf at site condition one two → slice ≡ one.items →
     StmtCalculates calc (stmt_view s) → StmtsCalculate calc (stmts_view slice)
 then_calculates calc s at site condition one two slice is e h =
     subst (λ (l : List Statement). StmtsCalculate calc (stmts_view l)) (sym e)
-    (subst (λ (t : Stmt). StmtCalculates calc t) (ap stmt_view is ∙ view-If at site condition one two) h).0
+    (then_and_else calc at site condition one.items two.items
+    (subst (λ (t : Stmt). StmtCalculates calc t) (ap stmt_view is ∙ view-If at site condition one two) h)).0
 
 pub else_calculates : (calc : Calculation) (s : Statement) (at site : ℕ) (condition : Expression)
     (one two : Vec Statement Global) (slice : List Statement) → s ≡ IfOf at site condition one two → slice ≡ two.items →
     StmtCalculates calc (stmt_view s) → StmtsCalculate calc (stmts_view slice)
 else_calculates calc s at site condition one two slice is e h =
     subst (λ (l : List Statement). StmtsCalculate calc (stmts_view l)) (sym e)
-    (subst (λ (t : Stmt). StmtCalculates calc t) (ap stmt_view is ∙ view-If at site condition one two) h).1
+    (then_and_else calc at site condition one.items two.items
+    (subst (λ (t : Stmt). StmtCalculates calc t) (ap stmt_view is ∙ view-If at site condition one two) h)).1
 
-pub loop_calculates : (calc : Calculation) (s : Statement) (at site : ℕ) (name : Ident) (list : Expression)
-    (body : Vec Statement Global) (slice : List Statement) → s ≡ ForOf at site name list body → slice ≡ body.items →
-    StmtCalculates calc (stmt_view s) → StmtsCalculate calc (stmts_view slice)
-loop_calculates calc s at site name list body slice is e h =
-    subst (λ (l : List Statement). StmtsCalculate calc (stmts_view l)) (sym e)
-    (subst (λ (t : Stmt). StmtCalculates calc t) (ap stmt_view is ∙ view-For at site name list body) h)
+-- Where a statement stands in the text plays no part.
+head_calculates : (calc : Calculation) (at site : ℕ) (h : Head) (body : Stmts) → Calculates calc (Block at site h body)
+    → Calculates calc (Block 0 site h body)
+head_calculates calc at site (Node kind attributes) body c = c
+head_calculates calc at site (Key key) body c = c
+head_calculates calc at site (For name list) body c = c
+head_calculates calc at site (Let name value) body c = c
+head_calculates calc at site (Remember name keys value) body c = c
 
-pub binding_calculates : (calc : Calculation) (s : Statement) (at site : ℕ) (name : Ident) (value : Expression)
-    (body : Vec Statement Global) (slice : List Statement) → s ≡ LetOf at site name value body → slice ≡ body.items →
-    StmtCalculates calc (stmt_view s) → StmtsCalculate calc (stmts_view slice)
-binding_calculates calc s at site name value body slice is e h =
-    subst (λ (l : List Statement). StmtsCalculate calc (stmts_view l)) (sym e)
-    (subst (λ (t : Stmt). StmtCalculates calc t) (ap stmt_view is ∙ view-Let at site name value body) h)
+pub block_calculates : (calc : Calculation) (s : Statement) (at site : ℕ) (h : declared.Head)
+    (body : Vec Statement Global) (slice : List Statement) → s ≡ BlockOf at site h body → slice ≡ body.items →
+    StmtCalculates calc (stmt_view s) → StmtCalculates calc (Block 0 site (head_view h) (stmts_view slice))
+block_calculates calc s at site h body slice is e c =
+    let whole = subst (λ (t : Stmt). StmtCalculates calc t) (ap stmt_view is ∙ view-Block at site h body) c in
+    subst (λ (l : List Statement). StmtCalculates calc (Block 0 site (head_view h) (stmts_view l))) (sym e)
+    (head_calculates calc at site (head_view h) (stmts_view body.items) whole.0, whole.1)
 
-pub cell_calculates : (calc : Calculation) (s : Statement) (at site : ℕ) (name : Ident) (keys : Vec Named Global)
-    (value : Expression) (body : Vec Statement Global) (names : List Named)
-    → s ≡ RememberOf at site name keys value body → names ≡ keys.items →
-    StmtCalculates calc (stmt_view s) → CalculatesAtSite calc site (nameds_view names) (expr_view value)
-cell_calculates calc s at site name keys value body names is e h =
+pub cell_calculates : (calc : Calculation) (site : ℕ) (h : declared.Head) (body : Stmts) (name : Ident)
+    (keys : Vec Named Global) (value : Expression) (names : List Named) → h ≡ head.Remember name keys value
+    → names ≡ keys.items → StmtCalculates calc (Block 0 site (head_view h) body)
+    → CalculatesAtSite calc site (nameds_view names) (expr_view value)
+cell_calculates calc site h body name keys value names is e c =
     subst (λ (l : List Named). CalculatesAtSite calc site (nameds_view l) (expr_view value)) (sym e)
-    (subst (λ (t : Stmt). StmtCalculates calc t) (ap stmt_view is ∙ view-Remember at site name keys value body) h).0
-
-pub remember_calculates : (calc : Calculation) (s : Statement) (at site : ℕ) (name : Ident) (keys : Vec Named Global)
-    (value : Expression) (body : Vec Statement Global) (slice : List Statement)
-    → s ≡ RememberOf at site name keys value body → slice ≡ body.items →
-    StmtCalculates calc (stmt_view s) → StmtsCalculate calc (stmts_view slice)
-remember_calculates calc s at site name keys value body slice is e h =
-    subst (λ (l : List Statement). StmtsCalculate calc (stmts_view l)) (sym e)
-    (subst (λ (t : Stmt). StmtCalculates calc t) (ap stmt_view is ∙ view-Remember at site name keys value body) h).1
+    (subst (λ (x : Head). StmtCalculates calc (Block 0 site x body)) (ap head_view is) c).0

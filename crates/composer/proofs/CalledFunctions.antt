@@ -5,14 +5,16 @@ use Rattle.rt_values.specs.Maps.{Map}
 use Rattle.rt_groups.specs.GroupForest.{End}
 use Rattle.lang_ast.specs.Terms.{Func}
 use Rattle.lang_ast.specs.SyntaxView.{function_view, functions_view, stmt_view, stmts_view}
+use Rattle.lang_ast.specs.Programs.{statement_with_inner, statements_in, functions_statements}
 use Rattle.lang_ast.specs.Evaluation.{Bindings}
+use Rattle.lang_ast.proofs.Statements.{each_apart}
 use Rattle.lang_ast.specs.declared.syntax.Parameter.{Parameter}
 use Rattle.lang_ast.specs.declared.syntax.Function.{Function}
 use Rattle.lang_ast.specs.declared.syntax.Statement.{Statement}
 use Rattle.compose_model.specs.Composing.{bind, run_all, meaning_at, meanings}
 use Rattle.compose_model.specs.StatementForests.{body_forest}
 use Rattle.recompose_laws.proofs.Meanings.{meaning_found, meaning_none}
-use Rattle.recompose_laws.specs.CalculatedCells.{Calculation, StmtCalculates, StmtsCalculate, FunctionsCalculate}
+use Rattle.recompose_laws.specs.CalculatedCells.{Calculation, Calculates, StmtCalculates, StmtsCalculate, FunctionsCalculate}
 use Rattle.composer.specs.BesideContracts.{LastComposition, IsSince}
 use Rattle.composer.proofs.OldParts.{since_front, since_calculates}
 use Rattle.lang_ast.proofs.Functions.{functions_front, functions_at}
@@ -38,15 +40,19 @@ pub statement_calculates : (calc : Calculation) (body : List Statement) (i : ℕ
     → s ≡ get_or body i s → StmtsCalculate calc (stmts_view body) → StmtCalculates calc (stmt_view s)
 statement_calculates calc [] i s below is h = absurd (omega (arith, below))
 statement_calculates calc (x ∷ body) zero s below is h =
-    subst (λ (y : Statement). StmtCalculates calc (stmt_view y)) (sym is) h.0
+    subst (λ (y : Statement). StmtCalculates calc (stmt_view y)) (sym is)
+    (each_apart (Calculates calc) (statement_with_inner (stmt_view x)) (statements_in (stmts_view body)) h).0
 statement_calculates calc (x ∷ body) (suc i) s below is h =
-    statement_calculates calc body i s (omega (arith, below)) is h.1
+    statement_calculates calc body i s (omega (arith, below)) is
+    (each_apart (Calculates calc) (statement_with_inner (stmt_view x)) (statements_in (stmts_view body)) h).1
 
 function_calculates : (calc : Calculation) (fs : List Function) (j : ℕ) (f : Function) → j < length fs
     → FunctionsCalculate calc (functions_view fs) → StmtsCalculate calc (stmts_view (get_or fs j f).body.items)
 function_calculates calc [] j f below h = absurd (omega (arith, below))
-function_calculates calc (g ∷ fs) zero f below h = h.0
-function_calculates calc (g ∷ fs) (suc j) f below h = function_calculates calc fs j f (omega (arith, below)) h.1
+function_calculates calc (g ∷ fs) zero f below h =
+    (each_apart (Calculates calc) (statements_in (stmts_view g.body.items)) (functions_statements (functions_view fs)) h).0
+function_calculates calc (g ∷ fs) (suc j) f below h = function_calculates calc fs j f (omega (arith, below))
+    (each_apart (Calculates calc) (statements_in (stmts_view g.body.items)) (functions_statements (functions_view fs)) h).1
 
 -- The calculations of the body of a function at hand.
 pub body_calculates : {l : LastComposition} (fs : List Function) (j : ℕ) (f : Function) (slice : List Statement)

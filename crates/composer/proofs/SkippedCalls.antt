@@ -1,6 +1,6 @@
 -- A call whose old group has equal arguments, and whose own reads do not include an owed object: skipping the old group
 -- has the same effect as composing the call next to it.
-use Rattle.std.proofs.Common.{ℕ, ◌+◌, ◌<◌, List, [], ◌≡◌, refl, ap, ◌∙◌, sym, subst, Bool, true, false, not, ◌&&◌, ◌==◌, Option, Some, None, take, length}
+use Rattle.std.proofs.Common.{ℕ, ◌+◌, ◌<◌, List, [], ◌≡◌, refl, ap, ◌∙◌, sym, subst, true, false, not, ◌==◌, Option, Some, None, take, length}
 use Rattle.std.proofs.Math.Seq.{take-append_seam}
 use Rattle.std.proofs.lemmas.Bool.{eqb-true, not-false as not_false, and_parts as both_true}
 use Rattle.std.proofs.lemmas.Slice.Eq.{slice_eq-Decides}

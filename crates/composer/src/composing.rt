@@ -5,8 +5,8 @@ ghost use Rattle.rt_values.specs.Maps.{Map};
 ghost use Rattle.rt_values.specs.Views.{Grew};
 ghost use Rattle.rt_groups.specs.PreorderGroups.{preorder};
 ghost use Rattle.rt_groups.specs.Frames.{LastFrame, most_groups};
-ghost use Rattle.lang_ast.specs.Terms.{Node, Key, If, For, Let, Remember};
-ghost use Rattle.lang_ast.specs.SyntaxView.{expr_view, exprs_view, nameds_view, stmt_view, stmts_view};
+ghost use Rattle.lang_ast.specs.Terms.{Node, Key, For, Let, Remember, If, Block};
+ghost use Rattle.lang_ast.specs.SyntaxView.{expr_view, exprs_view, nameds_view, head_view, stmt_view, stmts_view};
 ghost use Rattle.lang_ast.specs.Evaluation.{new_binding, eval, eval_all};
 ghost use Rattle.compose_model.specs.Composing.{forest_after};
 ghost use Rattle.recompose_laws.specs.CalculatedCells.{Calculation, CalculatesAtSite, StmtCalculates, StmtsCalculate};
@@ -28,7 +28,7 @@ use crate::runs::{is_end, next_call, quiet_call_end};
 use crate::stop::ComposeStop;
 use crate::writer::{CallArguments, CellValue, NewKind, Writer};
 use group_keys::SiblingKey;
-use lang_ast::{Expression, Function, Ident, Named, Statement};
+use lang_ast::{Expression, Function, Head, Ident, Named, Statement};
 use lang_checks::Checked;
 use lang_eval::{Env, bind, eval_noting, evaluate_all, evaluate_attributes, evaluate_keys};
 use rt_groups::{Deps, GroupKind, Values};
@@ -81,25 +81,12 @@ fn run_one<'a, V: View, L: Ledger>(
         view.old view.new made.old made.new result }
 {
     match statement {
-        Statement::Node {
-            site,
-            kind,
-            attributes,
-            body,
-            ..
-        } => run_node(level, *site, kind, attributes, body, made, view, steps),
         Statement::Call {
             site,
             function,
             arguments,
             ..
         } => run_arguments(level, *site, *function, arguments, made, view, steps),
-        Statement::Key {
-            site,
-            key,
-            body,
-            ..
-        } => run_key(level, *site, key, body, made, view, steps),
         Statement::If {
             condition,
             then_branch,
@@ -114,31 +101,42 @@ fn run_one<'a, V: View, L: Ledger>(
             view,
             steps,
         ),
-        Statement::For {
-            name,
-            list,
-            body,
-            ..
-        } => run_for(level, name, list, body, made, view, steps),
-        Statement::Let {
-            name,
-            value,
-            body,
-            ..
-        } => run_let(level, name, value, body, made, view, steps),
-        Statement::Remember {
+        Statement::Block {
             site,
-            name,
-            keys,
-            value,
+            head,
             body,
             ..
-        } => {
-            let cell = Remembered {
-                site: *site,
-                keys,
-                value,
-            };
+        } => run_block(level, *site, head, body, made, view, steps),
+    }
+}
+
+// Composes a block.
+#[cycle(again)]
+#[inline(always)]
+fn run_block<'a, V: View, L: Ledger>(
+    level: &Level<'a>,
+    site: u32,
+    head: &Head,
+    body: &[Statement],
+    made: &mut Progress<'a>,
+    view: &mut V,
+    steps: &mut Steps<L>,
+) -> Result<(), ComposeStop>
+    requires { HasRoom level.now made.old }
+    ensures { Recomposes V.shows V.asked V.keeps level.now
+        (statement_at level.now (Block 0 site (head_view head.now) (stmts_view body.now)) made.old.scope)
+        (λ calc. StmtCalculates calc (Block 0 site (head_view head.now) (stmts_view body.now)))
+        view.old view.new made.old made.new result }
+{
+    match head {
+        Head::Node { kind, attributes } => {
+            run_node(level, site, kind, attributes, body, made, view, steps)
+        }
+        Head::Key { key } => run_key(level, site, key, body, made, view, steps),
+        Head::For { name, list } => run_for(level, name, list, body, made, view, steps),
+        Head::Let { name, value } => run_let(level, name, value, body, made, view, steps),
+        Head::Remember { name, keys, value } => {
+            let cell = Remembered { site, keys, value };
             run_remember(level, cell, name, body, made, view, steps)
         }
     }
@@ -195,8 +193,8 @@ fn run_node<'a, V: View, L: Ledger>(
 ) -> Result<(), ComposeStop>
     requires { HasRoom level.now made.old }
     ensures { Recomposes V.shows V.asked V.keeps level.now
-        (statement_at level.now (Node 0 site kind.now (nameds_view attributes.now) (stmts_view body.now))
-        made.old.scope)
+        (statement_at level.now
+        (Block 0 site (Node kind.now (nameds_view attributes.now)) (stmts_view body.now)) made.old.scope)
         (λ calc. StmtsCalculate calc (stmts_view body.now))
         view.old view.new made.old made.new result }
 {
@@ -238,7 +236,7 @@ fn run_key<'a, V: View, L: Ledger>(
 ) -> Result<(), ComposeStop>
     requires { HasRoom level.now made.old }
     ensures { Recomposes V.shows V.asked V.keeps level.now
-        (statement_at level.now (Key 0 site (expr_view key.now) (stmts_view body.now)) made.old.scope)
+        (statement_at level.now (Block 0 site (Key (expr_view key.now)) (stmts_view body.now)) made.old.scope)
         (λ calc. StmtsCalculate calc (stmts_view body.now))
         view.old view.new made.old made.new result }
 {
@@ -316,7 +314,7 @@ fn run_let<'a, V: View, L: Ledger>(
 ) -> Result<(), ComposeStop>
     requires { HasRoom level.now made.old }
     ensures { Recomposes V.shows V.asked V.keeps level.now
-        (statement_at level.now (Let 0 0 name.now (expr_view value.now) (stmts_view body.now)) made.old.scope)
+        (statement_at level.now (Block 0 0 (Let name.now (expr_view value.now)) (stmts_view body.now)) made.old.scope)
         (λ calc. StmtsCalculate calc (stmts_view body.now))
         view.old view.new made.old made.new result }
 {
@@ -337,7 +335,7 @@ fn run_for<'a, V: View, L: Ledger>(
 ) -> Result<(), ComposeStop>
     requires { HasRoom level.now made.old }
     ensures { Recomposes V.shows V.asked V.keeps level.now
-        (statement_at level.now (For 0 0 name.now (expr_view list.now) (stmts_view body.now)) made.old.scope)
+        (statement_at level.now (Block 0 0 (For name.now (expr_view list.now)) (stmts_view body.now)) made.old.scope)
         (λ calc. StmtsCalculate calc (stmts_view body.now))
         view.old view.new made.old made.new result }
 {
@@ -418,8 +416,8 @@ fn run_remember<'a, V: View, L: Ledger>(
 ) -> Result<(), ComposeStop>
     requires { HasRoom level.now made.old }
     ensures { Recomposes V.shows V.asked V.keeps level.now
-        (statement_at level.now (Remember 0 cell.entry.site name.now (nameds_view cell.entry.keys.now)
-        (expr_view cell.entry.value.now) (stmts_view body.now)) made.old.scope)
+        (statement_at level.now (Block 0 cell.entry.site (Remember name.now (nameds_view cell.entry.keys.now)
+        (expr_view cell.entry.value.now)) (stmts_view body.now)) made.old.scope)
         (λ calc. CalculatesAtSite calc cell.entry.site (nameds_view cell.entry.keys.now)
         (expr_view cell.entry.value.now) × StmtsCalculate calc (stmts_view body.now))
         view.old view.new made.old made.new result }

@@ -32,7 +32,7 @@ use Rattle.composer.specs.QuietRuns.{group_run}
 use Rattle.composer.specs.BesideContracts.{IsOldPart}
 use Rattle.composer.specs.WrittenGroups.{WrittenGroups, state_of, kept_of, arguments_of, first_reads}
 use Rattle.composer.specs.Recomposes.{ComposesBeside}
-use Rattle.composer.proofs.BesideCases.{node_beside, call_beside, key_beside, choice_beside, loop_beside, binding_beside, remember_beside, node_calculates, key_calculates, then_calculates, else_calculates, loop_calculates, binding_calculates, cell_calculates, remember_calculates}
+use Rattle.composer.proofs.BesideCases.{call_beside, choice_beside, block_beside, node_beside, key_beside, loop_beside, binding_beside, remember_beside, then_calculates, else_calculates, block_calculates, cell_calculates}
 use Rattle.composer.proofs.Machine.{same_state}
 use Rattle.composer.proofs.Reaching.{reached_stop, reached_full, reached_at, reached_as}
 use Rattle.composer.proofs.BesideSteps.{beside_stop_here, beside_stop_after, beside_after, beside_full, reached_none, beside_cell, beside_run, going_first, going_more, going_done, going_stop, beside_first, beside_second}
@@ -135,20 +135,6 @@ run_all-loop-statement-init g t c = record {
 
 -- One statement.
 
-pub run_one-returns-in-Node : goal.run_one-returns-in-Node
-run_one-returns-in-Node g t c = record {
-  keeps = c.run_node.ensures.keeps;
-  same = c.run_node.ensures.same;
-  same_scope = c.run_node.ensures.same_scope;
-  longer = c.run_node.ensures.longer;
-  fits = c.run_node.ensures.fits;
-  counted = λ m h. c.run_node.ensures.counted m h;
-  ran = λ m o h b calc.
-      let r = c.run_node.ensures.ran m o h b (node_calculates _ _ _ _ _ _ _ _ c.in-Node.is (search rules) calc) in
-      node_beside m c.args.level.now.functions.now _ c.args.made.now.scope _ _ _ _ _ _ _ _ _ _ _ _ _ _ _
-      c.in-Node.is (search rules) (search rules) r;
-}
-
 pub run_one-returns-in-Call : goal.run_one-returns-in-Call
 run_one-returns-in-Call g t c = record {
   keeps = c.run_arguments.ensures.keeps;
@@ -163,19 +149,6 @@ run_one-returns-in-Call g t c = record {
       (search rules) r;
 }
 
-pub run_one-returns-in-Key : goal.run_one-returns-in-Key
-run_one-returns-in-Key g t c = record {
-  keeps = c.run_key.ensures.keeps;
-  same = c.run_key.ensures.same;
-  same_scope = c.run_key.ensures.same_scope;
-  longer = c.run_key.ensures.longer;
-  fits = c.run_key.ensures.fits;
-  counted = λ m h. c.run_key.ensures.counted m h;
-  ran = λ m o h b calc.
-      let r = c.run_key.ensures.ran m o h b (key_calculates _ _ _ _ _ _ _ c.in-Key.is (search rules) calc) in key_beside m c.args.level.now.functions.now _ c.args.made.now.scope
-      _ _ _ _ _ _ _ _ _ _ _ _ _ c.in-Key.is (search rules) r;
-}
-
 pub run_one-returns-in-If : goal.run_one-returns-in-If
 run_one-returns-in-If g t c = record {
   keeps = c.run_if.ensures.keeps;
@@ -185,13 +158,61 @@ run_one-returns-in-If g t c = record {
   fits = c.run_if.ensures.fits;
   counted = λ m h. c.run_if.ensures.counted m h;
   ran = λ m o h b calc.
-      let r = c.run_if.ensures.ran m o h b (then_calculates _ _ _ _ _ _ _ _ c.in-If.is (search rules) calc, else_calculates _ _ _ _ _ _ _ _ c.in-If.is (search rules) calc) in
+      let r = c.run_if.ensures.ran m o h b (
+        then_calculates o.last.calculation _ _ _ _ _ _ _ c.in-If.is (search rules) calc,
+        else_calculates o.last.calculation _ _ _ _ _ _ _ c.in-If.is (search rules) calc,
+      ) in
       choice_beside m c.args.level.now.functions.now _ c.args.made.now.scope
       _ _ _ _ _ _ _ _ _ _ _ _ _ _ _ c.in-If.is (search rules) (search rules) r;
 }
 
-pub run_one-returns-in-For : goal.run_one-returns-in-For
-run_one-returns-in-For g t c = record {
+pub run_one-returns-in-Block : goal.run_one-returns-in-Block
+run_one-returns-in-Block g t c = record {
+  keeps = c.run_block.ensures.keeps;
+  same = c.run_block.ensures.same;
+  same_scope = c.run_block.ensures.same_scope;
+  longer = c.run_block.ensures.longer;
+  fits = c.run_block.ensures.fits;
+  counted = λ m h. c.run_block.ensures.counted m h;
+  ran = λ m o h b calc.
+      let r = c.run_block.ensures.ran m o h b
+      (block_calculates o.last.calculation _ _ _ _ _ _ c.in-Block.is (search rules) calc) in
+      block_beside m c.args.level.now.functions.now _ c.args.made.now.scope _ _ _ _ _ _ _ _ _ _ _ _ _ c.in-Block.is
+      (search rules) r;
+}
+
+-- One block.
+
+pub run_block-returns-in-Node : goal.run_block-returns-in-Node
+run_block-returns-in-Node g t c = record {
+  keeps = c.run_node.ensures.keeps;
+  same = c.run_node.ensures.same;
+  same_scope = c.run_node.ensures.same_scope;
+  longer = c.run_node.ensures.longer;
+  fits = c.run_node.ensures.fits;
+  counted = λ m h. c.run_node.ensures.counted m h;
+  ran = λ m o h b calc.
+      let r = c.run_node.ensures.ran m o h b calc.1 in
+      node_beside m c.args.level.now.functions.now c.args.made.now.scope c.args.site (stmts_view c.args.body.now) c.args.head.now
+      _ _ _ _ _ _ _ _ _ _ _ c.in-Node.is (search rules) r;
+}
+
+pub run_block-returns-in-Key : goal.run_block-returns-in-Key
+run_block-returns-in-Key g t c = record {
+  keeps = c.run_key.ensures.keeps;
+  same = c.run_key.ensures.same;
+  same_scope = c.run_key.ensures.same_scope;
+  longer = c.run_key.ensures.longer;
+  fits = c.run_key.ensures.fits;
+  counted = λ m h. c.run_key.ensures.counted m h;
+  ran = λ m o h b calc.
+      let r = c.run_key.ensures.ran m o h b calc.1 in
+      key_beside m c.args.level.now.functions.now c.args.made.now.scope c.args.site (stmts_view c.args.body.now) c.args.head.now
+      _ _ _ _ _ _ _ _ _ c.in-Key.is r;
+}
+
+pub run_block-returns-in-For : goal.run_block-returns-in-For
+run_block-returns-in-For g t c = record {
   keeps = c.run_for.ensures.keeps;
   same = c.run_for.ensures.same;
   same_scope = c.run_for.ensures.same_scope;
@@ -199,12 +220,13 @@ run_one-returns-in-For g t c = record {
   fits = c.run_for.ensures.fits;
   counted = λ m h. c.run_for.ensures.counted m h;
   ran = λ m o h b calc.
-      let r = c.run_for.ensures.ran m o h b (loop_calculates _ _ _ _ _ _ _ _ c.in-For.is (search rules) calc) in loop_beside m c.args.level.now.functions.now _ c.args.made.now.scope
-      _ _ _ _ _ _ _ _ _ _ _ _ _ _ c.in-For.is (search rules) r;
+      let r = c.run_for.ensures.ran m o h b calc.1 in
+      loop_beside m c.args.level.now.functions.now c.args.made.now.scope c.args.site (stmts_view c.args.body.now) c.args.head.now
+      _ _ _ _ _ _ _ _ _ _ c.in-For.is r;
 }
 
-pub run_one-returns-in-Let : goal.run_one-returns-in-Let
-run_one-returns-in-Let g t c = record {
+pub run_block-returns-in-Let : goal.run_block-returns-in-Let
+run_block-returns-in-Let g t c = record {
   keeps = c.run_let.ensures.keeps;
   same = c.run_let.ensures.same;
   same_scope = c.run_let.ensures.same_scope;
@@ -212,12 +234,13 @@ run_one-returns-in-Let g t c = record {
   fits = c.run_let.ensures.fits;
   counted = λ m h. c.run_let.ensures.counted m h;
   ran = λ m o h b calc.
-      let r = c.run_let.ensures.ran m o h b (binding_calculates _ _ _ _ _ _ _ _ c.in-Let.is (search rules) calc) in binding_beside m c.args.level.now.functions.now _ c.args.made.now.scope
-      _ _ _ _ _ _ _ _ _ _ _ _ _ _ c.in-Let.is (search rules) r;
+      let r = c.run_let.ensures.ran m o h b calc.1 in
+      binding_beside m c.args.level.now.functions.now c.args.made.now.scope c.args.site (stmts_view c.args.body.now) c.args.head.now
+      _ _ _ _ _ _ _ _ _ _ c.in-Let.is r;
 }
 
-pub run_one-returns-in-Remember : goal.run_one-returns-in-Remember
-run_one-returns-in-Remember g t c = record {
+pub run_block-returns-in-Remember : goal.run_block-returns-in-Remember
+run_block-returns-in-Remember g t c = record {
   keeps = c.run_remember.ensures.keeps;
   same = c.run_remember.ensures.same;
   same_scope = c.run_remember.ensures.same_scope;
@@ -226,9 +249,9 @@ run_one-returns-in-Remember g t c = record {
   counted = λ m h. c.run_remember.ensures.counted m h;
   ran = λ m o h b calc.
       let r = c.run_remember.ensures.ran m o h b
-      (cell_calculates _ _ _ _ _ _ _ _ _ c.in-Remember.is (search rules) calc, remember_calculates _ _ _ _ _ _ _ _ _ c.in-Remember.is (search rules) calc) in
-      remember_beside m c.args.level.now.functions.now _ c.args.made.now.scope _ _ _ _ _ _ _ _ _ _ _ _ _ _ _ _
-      c.in-Remember.is (search rules) (search rules) r;
+      (cell_calculates o.last.calculation c.args.site _ _ _ _ _ _ c.in-Remember.is (search rules) calc, calc.1) in
+      remember_beside m c.args.level.now.functions.now c.args.made.now.scope c.args.site (stmts_view c.args.body.now) c.args.head.now
+      _ _ _ _ _ _ _ _ _ _ _ _ c.in-Remember.is (search rules) r;
 }
 
 -- The statements inside a node or a key.

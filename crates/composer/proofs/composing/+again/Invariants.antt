@@ -82,6 +82,10 @@ decreases-run_all g l =
 abbrev pub decreases-run_one : goal.decreases-run_one
 decreases-run_one g l = 8 * weight l.level.now.functions.now + 8 * stmt_size (stmt_view l.statement.now) + 3 + 3 * (most_groups - l.level.now.depth)
 
+abbrev pub decreases-run_block : goal.decreases-run_block
+decreases-run_block g l =
+    8 * weight l.level.now.functions.now + 8 * body_size l.body.now + 8 + 3 * (most_groups - l.level.now.depth)
+
 abbrev pub decreases-run_inside : goal.decreases-run_inside
 decreases-run_inside g l =
     8 * weight l.level.now.functions.now + 8 * body_size l.body.now + 5 + 3 * (most_groups - l.level.now.depth)

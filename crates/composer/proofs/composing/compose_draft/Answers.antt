@@ -1,4 +1,4 @@
-use Rattle.std.proofs.Common.{◌≡◌, ◌∙◌, ℕ, List, [], ap, subst}
+use Rattle.std.proofs.Common.{◌∙◌, ℕ, List, [], ap, subst}
 use Rattle.composer.specs.FrameDrafts.{root_of}
 use Rattle.lang_ast.specs.Programs.{functions_of}
 use Rattle.rt_groups.specs.declared.groups.Group.{Group}
