@@ -3,7 +3,7 @@ use Rattle.std.proofs.Common.{arith, ◌≡◌, ◌<◌, ◌≤◌, ◌+◌, ℕ
 use Rattle.std.specs.Str.{bytes_eq}
 use Rattle.std.proofs.lemmas.List.{map-append, length-map, length-append}
 use Rattle.sexp_text.specs.Forest.{Forest}
-use Rattle.lang_ast.specs.Terms.{Stmt, Node, Call, Key, If, For, Let, Remember, Stmts, done, next, Func}
+use Rattle.lang_ast.specs.Terms.{Stmt, Call, If, Block, Stmts, done, next, Func}
 use Rattle.lang_ast.specs.Programs.{program_view, site_of, statement_with_inner, statements_in, functions_statements, Each}
 use Rattle.lang_ast.proofs.Statements.{each_joined}
 use Rattle.lang_ast.specs.declared.program.Program as memory
@@ -37,22 +37,14 @@ joined_sites xs ys k n p h g =
 mutual
   stmt_has_sites : (m : KnownNames) (k : ℕ) (s : Stmt) → SpelledStmt m k s
       → HaveSites (statement_with_inner s) k (site_after k s)
-  stmt_has_sites m k (Node at site n ns body) h =
-      first_site (Node at site n ns body) k _ _ h.0 (stmts_have_sites m (k + 1) body h.3)
   stmt_has_sites m k (Call at site n function es) h =
       first_site (Call at site n function es) k _ [] h.0 (tt, omega arith)
-  stmt_has_sites m k (Key at site e body) h =
-      first_site (Key at site e body) k _ _ h.0 (stmts_have_sites m (k + 1) body h.2)
   stmt_has_sites m k (If at site e a b) h =
       first_site (If at site e a b) k _ _ h.0
       (joined_sites (statements_in a) (statements_in b) (k + 1) (site_after_all (k + 1) a) _
       (stmts_have_sites m (k + 1) a h.2) (stmts_have_sites m (site_after_all (k + 1) a) b h.3))
-  stmt_has_sites m k (For at site n e body) h =
-      first_site (For at site n e body) k _ _ h.0 (stmts_have_sites m (k + 1) body h.3)
-  stmt_has_sites m k (Let at site n e body) h =
-      first_site (Let at site n e body) k _ _ h.0 (stmts_have_sites m (k + 1) body h.3)
-  stmt_has_sites m k (Remember at site n ks e body) h =
-      first_site (Remember at site n ks e body) k _ _ h.0 (stmts_have_sites m (k + 1) body h.4)
+  stmt_has_sites m k (Block at site head body) h =
+      first_site (Block at site head body) k _ _ h.0 (stmts_have_sites m (k + 1) body h.2)
 
   stmts_have_sites : (m : KnownNames) (k : ℕ) (ss : Stmts) → SpelledStmts m k ss
       → HaveSites (statements_in ss) k (site_after_all k ss)
@@ -114,19 +106,15 @@ mutual
   stmt_calls : (functions : List Func) (me : ℕ) (m : KnownNames) (k : ℕ) (s : Stmt)
       → ((name : List ℕ) → HasItsNumber functions me name (number_of_name name m.functions)) → SpelledStmt m k s
       → Each (CallHasItsNumber functions me) (statement_with_inner s)
-  stmt_calls functions me m k (Node at site n ns body) named h = (tt, stmts_calls functions me m (k + 1) body named h.3)
   stmt_calls functions me m k (Call at site n function es) named h = (λ i f e lt. h.2 ∙ named n.text i f e lt, tt)
-  stmt_calls functions me m k (Key at site e body) named h = (tt, stmts_calls functions me m (k + 1) body named h.2)
   stmt_calls functions me m k (If at site e a b) named h = (
     tt,
     each_joined (CallHasItsNumber functions me) (statements_in a) (statements_in b)
         (stmts_calls functions me m (k + 1) a named h.2)
         (stmts_calls functions me m (site_after_all (k + 1) a) b named h.3),
   )
-  stmt_calls functions me m k (For at site n e body) named h = (tt, stmts_calls functions me m (k + 1) body named h.3)
-  stmt_calls functions me m k (Let at site n e body) named h = (tt, stmts_calls functions me m (k + 1) body named h.3)
-  stmt_calls functions me m k (Remember at site n ks e body) named h =
-      (tt, stmts_calls functions me m (k + 1) body named h.4)
+  stmt_calls functions me m k (Block at site head body) named h =
+      (tt, stmts_calls functions me m (k + 1) body named h.2)
 
   stmts_calls : (functions : List Func) (me : ℕ) (m : KnownNames) (k : ℕ) (ss : Stmts)
       → ((name : List ℕ) → HasItsNumber functions me name (number_of_name name m.functions)) → SpelledStmts m k ss
