@@ -17,7 +17,7 @@ use Rattle.lang_forms.specs.Forms.{word, name, literal, expr_forms, exprs_forms,
 use Rattle.lang_forms.specs.Sources.{Source}
 use Rattle.lang_write.specs.Appends.{AppendsForms, StartsForm}
 use Rattle.rt_values.specs.Keywords.{type_word}
-use Rattle.lang_forms.specs.Words.{policy_word}
+use Rattle.lang_forms.specs.Words.{version_word, policy_word}
 
 -- What a walk that adds trees needs.
 pub ruleset written = (forest_view-push, joined_trees_assoc, joined_trees-empty, view-Atom, view-Text, view-List)
@@ -119,4 +119,4 @@ pub script_follows : (t : Source)
     → unplaced_sketch (text_forms t)
     ≡ joined_trees (unplaced_sketch (text_forms (record { program = t.program; script = [] })))
     (unplaced_sketch (scripts_forms t.script))
-script_follows t = ap (list 0 (atom 0 (codes "compose") (atom 0 (codes "1") empty))) (tops_then t.program.states t.program.functions t.script)
+script_follows t = ap (list 0 (atom 0 (codes "compose") (atom 0 (version_word t.program.version) empty))) (tops_then t.program.states t.program.functions t.script)

@@ -3,7 +3,7 @@ use Rattle.std.specs.Prelude.{◌≡◌, ℕ, ℤ, List, codes, None}
 use Rattle.sexp_text.specs.Forest.{joined_trees}
 use Rattle.sexp_text.specs.View.{forest_view}
 use Rattle.sexp_text.specs.declared.tree.Tree.{Tree}
-use Rattle.lang_ast.specs.Terms.{Expr, Exprs, Named, Stmts}
+use Rattle.lang_ast.specs.Terms.{Expr, Exprs, Head, Stmts}
 use Rattle.lang_ast.specs.declared.syntax.Ident.{Ident}
 use Rattle.lang_ast.specs.declared.script.SnapshotRef.{SnapshotRef}
 use Rattle.lang_ast.specs.declared.script.CallForm.{CallForm}
@@ -12,7 +12,7 @@ use Rattle.rt_values.specs.declared.names.Kind.{Kind}
 use Rattle.rt_values.specs.declared.value.Value.{Value}
 use Rattle.lang_forms.specs.Sketch.{Sketch, nothing, numeral, group, unplaced_sketch}
 use Rattle.rt_values.specs.Keywords.{kind_word}
-use Rattle.lang_forms.specs.Forms.{word, name, literal, expr_forms, exprs_forms, pairs_forms, stmts_forms, snapshot_forms, calls_forms, steps_forms}
+use Rattle.lang_forms.specs.Forms.{word, name, literal, expr_forms, exprs_forms, head_forms, stmts_forms, snapshot_forms, calls_forms, steps_forms}
 
 -- The trees grew by those of a form, whatever comes after it.
 abbrev pub AppendsForms : List Tree → List Tree → (Sketch → Sketch) → Type 0
@@ -24,32 +24,14 @@ abbrev pub StartsForm : List Tree → (Sketch → Sketch) → Type 0
 StartsForm trees start = (g : Sketch) →
     joined_trees (forest_view trees) (unplaced_sketch g) ≡ unplaced_sketch (start g)
 
-abbrev pub node_start : Ident → List Named → Sketch → Sketch
-node_start n ns g = word (codes "node") (name n (group None (pairs_forms ns) g))
-
-abbrev pub node_sketch : Ident → List Named → Stmts → Sketch → Sketch
-node_sketch n ns body g = group None (node_start n ns (stmts_forms body)) g
-
-abbrev pub call_sketch : Ident → Exprs → Sketch → Sketch
-call_sketch n es g = group None (word (codes "call") (name n (exprs_forms es))) g
-
-abbrev pub key_start : Expr → Sketch → Sketch
-key_start e g = word (codes "key") (expr_forms e g)
-
-abbrev pub key_sketch : Expr → Stmts → Sketch → Sketch
-key_sketch e body g = group None (key_start e (stmts_forms body)) g
-
 abbrev pub bound_start : List ℕ → Ident → Expr → Sketch → Sketch
 bound_start w n e g = word w (name n (expr_forms e g))
 
-abbrev pub bound_sketch : List ℕ → Ident → Expr → Stmts → Sketch → Sketch
-bound_sketch w n e body g = group None (bound_start w n e (stmts_forms body)) g
+abbrev pub block_sketch : Head → Stmts → Sketch → Sketch
+block_sketch h body g = group None (head_forms h (stmts_forms body)) g
 
-abbrev pub remember_start : Ident → List Named → Expr → Sketch → Sketch
-remember_start n ks e g = word (codes "remember") (name n (group None (pairs_forms ks) (expr_forms e g)))
-
-abbrev pub remember_sketch : Ident → List Named → Expr → Stmts → Sketch → Sketch
-remember_sketch n ks e body g = group None (remember_start n ks e (stmts_forms body)) g
+abbrev pub call_sketch : Ident → Exprs → Sketch → Sketch
+call_sketch n es g = group None (word (codes "call") (name n (exprs_forms es))) g
 
 abbrev pub state_sketch : SnapshotRef → Ident → Sketch → Sketch
 state_sketch s n g = snapshot_forms s (name n g)

@@ -2,17 +2,18 @@
 ghost use Rattle.std.specs.Prelude.{◌≡◌, [], codes, IfOk, OnOk, None};
 ghost use Rattle.sexp_text.specs.Forest.{Forest, atom, list, empty, joined_trees};
 ghost use Rattle.sexp_text.specs.View.{forest_view};
-ghost use Rattle.lang_ast.specs.SyntaxView.{expr_view, exprs_view, nameds_view, stmt_view, stmts_view, function_view, functions_view};
+ghost use Rattle.lang_ast.specs.SyntaxView.{expr_view, exprs_view, nameds_view, head_view, stmt_view, stmts_view, function_view, functions_view};
 ghost use Rattle.lang_ast.specs.Programs.{program_view};
 ghost use Rattle.lang_forms.specs.Sketch.{Sketch, nothing, group, unplaced_sketch};
-ghost use Rattle.lang_write.specs.Appends.{AppendsForms, StartsForm, node_start, key_start, bound_start, remember_start, node_sketch, call_sketch, key_sketch, bound_sketch, remember_sketch};
-ghost use Rattle.lang_forms.specs.Forms.{expr_forms, stmt_forms, stmts_forms, parameters_forms, state_forms, states_forms, function_forms, functions_forms, text_forms};
+ghost use Rattle.lang_write.specs.Appends.{AppendsForms, StartsForm, bound_start, block_sketch, call_sketch};
+ghost use Rattle.lang_forms.specs.Words.{version_word};
+ghost use Rattle.lang_forms.specs.Forms.{expr_forms, head_forms, stmt_forms, stmts_forms, parameters_forms, state_forms, states_forms, function_forms, functions_forms, text_forms};
 
 use crate::write_expressions::{
     list_with_word, put_binding, put_expr, put_exprs, put_list, put_literal, put_named, put_word,
     word_of_policy,
 };
-use lang_ast::{Expression, Function, Ident, Named, Parameter, Program, State, Statement};
+use lang_ast::{Expression, Function, Head, Ident, Parameter, Program, State, Statement, Version};
 use rt_values::NoMemory;
 use sexp_text::Tree;
 use std::alloc::Global;
@@ -25,64 +26,19 @@ fn put_stmt(alloc: Global, statement: &Statement, out: &mut Vec<Tree>) -> Result
         (λ g. stmt_forms (stmt_view statement.now) g)) }
 {
     match statement {
-        Statement::Node {
-            kind,
-            attributes,
-            body,
-            ..
-        } => Ok(put_node(alloc, kind, attributes, body, out)?),
         Statement::Call {
             name,
             arguments,
             ..
         } => Ok(put_call(alloc, name, arguments, out)?),
-        Statement::Key { key, body, .. } => Ok(put_key(alloc, key, body, out)?),
         Statement::If {
             condition,
             then_branch,
             else_branch,
             ..
         } => Ok(put_if(alloc, condition, then_branch, else_branch, out)?),
-        Statement::For {
-            name,
-            list,
-            body,
-            ..
-        } => Ok(put_bound(alloc, b"for", name, list, body, out)?),
-        Statement::Let {
-            name,
-            value,
-            body,
-            ..
-        } => Ok(put_bound(alloc, b"let", name, value, body, out)?),
-        Statement::Remember {
-            name,
-            keys,
-            value,
-            body,
-            ..
-        } => Ok(put_remember(alloc, name, keys, value, body, out)?),
+        Statement::Block { head, body, .. } => Ok(put_block(alloc, head, body, out)?),
     }
-}
-
-// Returns the form of a node before its body.
-#[tactic(auto, using(crate::proofs::Written::written))]
-fn start_node(alloc: Global, kind: &Ident, attributes: &[Named]) -> Result<Vec<Tree>, NoMemory>
-    ensures { IfOk result (λ trees. StartsForm trees.items (node_start kind.now (nameds_view attributes.now))) }
-{
-    let mut inner = list_with_word(alloc, b"node")?;
-    put_named(alloc, kind, attributes, &mut inner)?;
-    Ok(inner)
-}
-
-// Returns the form of a key before its body.
-#[tactic(auto, using(crate::proofs::Written::written))]
-fn start_key(alloc: Global, key: &Expression) -> Result<Vec<Tree>, NoMemory>
-    ensures { IfOk result (λ trees. StartsForm trees.items (key_start (expr_view key.now))) }
-{
-    let mut inner = list_with_word(alloc, b"key")?;
-    put_expr(alloc, key, &mut inner)?;
-    Ok(inner)
 }
 
 // Returns the form of a `for` or a `let` before its body: `word`, a name and an expression.
@@ -100,21 +56,31 @@ fn start_bound(
     Ok(inner)
 }
 
-// Returns the form of a remember before its body.
+// Returns the form of a statement with a body before its body.
 #[tactic(auto, using(crate::proofs::Written::written))]
-fn start_remember(
-    alloc: Global,
-    name: &Ident,
-    keys: &[Named],
-    value: &Expression,
-) -> Result<Vec<Tree>, NoMemory>
-    ensures { IfOk result (λ trees. StartsForm trees.items
-        (remember_start name.now (nameds_view keys.now) (expr_view value.now))) }
+fn start_head(alloc: Global, head: &Head) -> Result<Vec<Tree>, NoMemory>
+    ensures { IfOk result (λ trees. StartsForm trees.items (head_forms (head_view head.now))) }
 {
-    let mut inner = list_with_word(alloc, b"remember")?;
-    put_named(alloc, name, keys, &mut inner)?;
-    put_expr(alloc, value, &mut inner)?;
-    Ok(inner)
+    match head {
+        Head::Node { kind, attributes } => {
+            let mut inner = list_with_word(alloc, b"node")?;
+            put_named(alloc, kind, attributes, &mut inner)?;
+            Ok(inner)
+        }
+        Head::Key { key } => {
+            let mut inner = list_with_word(alloc, b"key")?;
+            put_expr(alloc, key, &mut inner)?;
+            Ok(inner)
+        }
+        Head::For { name, list } => Ok(start_bound(alloc, b"for", name, list)?),
+        Head::Let { name, value } => Ok(start_bound(alloc, b"let", name, value)?),
+        Head::Remember { name, keys, value } => {
+            let mut inner = list_with_word(alloc, b"remember")?;
+            put_named(alloc, name, keys, &mut inner)?;
+            put_expr(alloc, value, &mut inner)?;
+            Ok(inner)
+        }
+    }
 }
 
 // Appends the form that starts with the trees `start` and ends with statements.
@@ -135,19 +101,18 @@ fn put_body(
     put_list(inner, out)
 }
 
-// Appends the form of a node.
+// Appends the form of a statement with a head and a body.
 #[cycle(statements)]
-fn put_node(
+fn put_block(
     alloc: Global,
-    kind: &Ident,
-    attributes: &[Named],
+    head: &Head,
     body: &[Statement],
     out: &mut Vec<Tree>,
 ) -> Result<(), NoMemory>
     ensures { OnOk result (AppendsForms out.old.items out.new.items
-        (node_sketch kind.now (nameds_view attributes.now) (stmts_view body.now))) }
+        (block_sketch (head_view head.now) (stmts_view body.now))) }
 {
-    let start = start_node(alloc, kind, attributes)?;
+    let start = start_head(alloc, head)?;
     Ok(put_body(alloc, start, body, out)?)
 }
 
@@ -166,56 +131,6 @@ fn put_call(
     put_word(alloc, name.text.bytes(), &mut inner)?;
     put_exprs(alloc, arguments, &mut inner)?;
     Ok(put_list(inner, out)?)
-}
-
-// Appends the form of a key.
-#[cycle(statements)]
-fn put_key(
-    alloc: Global,
-    key: &Expression,
-    body: &[Statement],
-    out: &mut Vec<Tree>,
-) -> Result<(), NoMemory>
-    ensures { OnOk result (AppendsForms out.old.items out.new.items
-        (key_sketch (expr_view key.now) (stmts_view body.now))) }
-{
-    let start = start_key(alloc, key)?;
-    Ok(put_body(alloc, start, body, out)?)
-}
-
-// Appends the form of a `for` or a `let`: `word`, a name, an expression and statements.
-#[cycle(statements)]
-fn put_bound(
-    alloc: Global,
-    word: &[u8],
-    name: &Ident,
-    value: &Expression,
-    body: &[Statement],
-    out: &mut Vec<Tree>,
-) -> Result<(), NoMemory>
-    ensures { OnOk result (AppendsForms out.old.items out.new.items
-        (bound_sketch word.now name.now (expr_view value.now) (stmts_view body.now))) }
-{
-    let start = start_bound(alloc, word, name, value)?;
-    Ok(put_body(alloc, start, body, out)?)
-}
-
-// Appends the form of a remember.
-#[cycle(statements)]
-fn put_remember(
-    alloc: Global,
-    name: &Ident,
-    keys: &[Named],
-    value: &Expression,
-    body: &[Statement],
-    out: &mut Vec<Tree>,
-) -> Result<(), NoMemory>
-    ensures { OnOk result (AppendsForms out.old.items out.new.items
-        (remember_sketch name.now (nameds_view keys.now) (expr_view value.now)
-        (stmts_view body.now))) }
-{
-    let start = start_remember(alloc, name, keys, value)?;
-    Ok(put_body(alloc, start, body, out)?)
 }
 
 // Appends the form of an if.
@@ -355,6 +270,15 @@ fn put_functions(alloc: Global, functions: &[Function], out: &mut Vec<Tree>) -> 
     Ok(())
 }
 
+// Returns the word of a version in the header.
+fn word_of_version(version: Version) -> &'static [u8]
+    ensures { result.now ≡ version_word version }
+{
+    match version {
+        Version::One => b"1",
+    }
+}
+
 /// Returns the trees of a program, all at offset 0: the header, the states and the functions.
 ///
 /// They are the trees that the program was parsed from, except for offsets and for the script. A rule of this project.
@@ -366,7 +290,7 @@ pub fn forms_of(alloc: Global, program: &Program) -> Result<Vec<Tree>, NoMemory>
         (record { program = program_view program.now; script = [] }))) }
 {
     let mut header = list_with_word(alloc, b"compose")?;
-    put_word(alloc, b"1", &mut header)?;
+    put_word(alloc, word_of_version(program.version), &mut header)?;
     let mut forms = Vec::new(alloc);
     put_list(header, &mut forms)?;
     put_states(alloc, &program.states, &mut forms)?;

@@ -28,14 +28,5 @@ decreases-put_branches l = 5 * max (most size-Statement l.first.now) (most size-
 abbrev pub decreases-put_if : goal.decreases-put_if
 decreases-put_if l = 5 * max (most size-Statement l.first.now) (most size-Statement l.second.now) + 4
 
-abbrev pub decreases-put_node : goal.decreases-put_node
-decreases-put_node l = 5 * most size-Statement l.body.now + 3
-
-abbrev pub decreases-put_key : goal.decreases-put_key
-decreases-put_key l = 5 * most size-Statement l.body.now + 3
-
-abbrev pub decreases-put_bound : goal.decreases-put_bound
-decreases-put_bound l = 5 * most size-Statement l.body.now + 3
-
-abbrev pub decreases-put_remember : goal.decreases-put_remember
-decreases-put_remember l = 5 * most size-Statement l.body.now + 3
+abbrev pub decreases-put_block : goal.decreases-put_block
+decreases-put_block l = 5 * most size-Statement l.body.now + 3
