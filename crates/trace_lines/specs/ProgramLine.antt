@@ -6,7 +6,7 @@ use Rattle.json.specs.Token.{Token, string, number}
 use Rattle.rt_values.specs.Keywords.{type_word}
 use Rattle.lang_ast.specs.declared.program.State.{State}
 use Rattle.lang_ast.specs.declared.syntax.Parameter.{Parameter}
-use Rattle.lang_ast.specs.Terms.{Stmt, Node, Call, Key, If, For, Let, Remember, Stmts, done, next, Func}
+use Rattle.lang_ast.specs.Terms.{Head, For, Let, Stmt, Call, If, Block, Stmts, done, next, Func}
 use Rattle.lang_forms.specs.Words.{policy_word}
 use Rattle.trace_lines.specs.TraceLines.{line, array, object, member, count, text, value_tokens}
 
@@ -23,16 +23,18 @@ state_tokens s = object (state_members s)
 abbrev pub site_tokens : ℕ → ℕ → List Token
 site_tokens site at = array (number (decimal site) ∷ number (decimal at) ∷ [])
 
+-- The site and the offset of a statement with this head, if it makes a group.
+abbrev pub head_tokens : ℕ → ℕ → Head → List Token
+head_tokens site at (For name list) = []
+head_tokens site at (Let name value) = []
+head_tokens site at _ = site_tokens site at
+
 abbrev mutual
   -- The statements that make groups: this statement, if it does, and those inside it, in the order of the text.
   pub stmt_tokens : Stmt → List Token
-  stmt_tokens (Node at site kind attributes body) = site_tokens site at ++ stmts_tokens body
   stmt_tokens (Call at site name function arguments) = site_tokens site at
-  stmt_tokens (Key at site key body) = site_tokens site at ++ stmts_tokens body
   stmt_tokens (If at site condition then_branch else_branch) = stmts_tokens then_branch ++ stmts_tokens else_branch
-  stmt_tokens (For at site name list body) = stmts_tokens body
-  stmt_tokens (Let at site name value body) = stmts_tokens body
-  stmt_tokens (Remember at site name keys value body) = site_tokens site at ++ stmts_tokens body
+  stmt_tokens (Block at site head body) = head_tokens site at head ++ stmts_tokens body
 
   pub stmts_tokens : Stmts → List Token
   stmts_tokens done = []

@@ -2,15 +2,15 @@
 ghost use Rattle.std.specs.Prelude.{◌≡◌, ◌++◌, map, codes, OnOk};
 ghost use Rattle.std.specs.List.{flat_map};
 ghost use Rattle.json.specs.Token.{string};
-ghost use Rattle.lang_ast.specs.SyntaxView.{stmt_view, stmts_view, function_view, functions_view};
+ghost use Rattle.lang_ast.specs.SyntaxView.{head_view, stmt_view, stmts_view, function_view, functions_view};
 ghost use Rattle.lang_ast.specs.Programs.{functions_of};
 ghost use Rattle.lang_forms.specs.Words.{policy_word};
 ghost use Rattle.trace_lines.specs.TraceLines.{member, array};
-ghost use Rattle.trace_lines.specs.ProgramLine.{state_members, state_tokens, site_tokens, stmt_tokens, stmts_tokens, parameters_tokens, function_members, function_tokens, program_tokens};
+ghost use Rattle.trace_lines.specs.ProgramLine.{state_members, state_tokens, site_tokens, head_tokens, stmt_tokens, stmts_tokens, parameters_tokens, function_members, function_tokens, program_tokens};
 
 use crate::tokens::{begin_array, put_bytes, put_count, put_member, put_text, put_word};
 use json::Writer;
-use lang_ast::{Function, Parameter, State, Statement};
+use lang_ast::{Function, Head, Parameter, State, Statement};
 use lang_checks::Checked;
 use rt_values::{NoMemory, Word};
 use snap_policy::BuiltIn;
@@ -79,6 +79,18 @@ fn put_site(line: &mut Writer, site: u32, at: usize) -> Result<(), NoMemory>
     Ok(())
 }
 
+// Appends the site and the offset of a statement with this head if it makes a group.
+fn put_head(line: &mut Writer, site: u32, at: usize, head: &Head) -> Result<(), NoMemory>
+    ensures tokens { OnOk result (line.new.tokens ≡ line.old.tokens ++ head_tokens site at (head_view head.now)) }
+    ensures before { OnOk result (line.new.before ≡ line.old.before) }
+{
+    match head {
+        Head::For { .. } => Ok(()),
+        Head::Let { .. } => Ok(()),
+        _ => put_site(line, site, at),
+    }
+}
+
 // Appends the site and the offset of a statement and of the statements inside it.
 #[cycle(sites)]
 fn put_stmt(line: &mut Writer, statement: &Statement) -> Result<(), NoMemory>
@@ -86,28 +98,35 @@ fn put_stmt(line: &mut Writer, statement: &Statement) -> Result<(), NoMemory>
     ensures before { OnOk result (line.new.before ≡ line.old.before) }
 {
     match statement {
-        Statement::Node { at, site, body, .. } => Ok(put_outer(line, *site, *at, body)?),
         Statement::Call { at, site, .. } => Ok(put_site(line, *site, *at)?),
-        Statement::Key { at, site, body, .. } => Ok(put_outer(line, *site, *at, body)?),
         Statement::If {
             then_branch,
             else_branch,
             ..
         } => Ok(put_branches(line, then_branch, else_branch)?),
-        Statement::For { body, .. } => Ok(put_stmts(line, body)?),
-        Statement::Let { body, .. } => Ok(put_stmts(line, body)?),
-        Statement::Remember { at, site, body, .. } => Ok(put_outer(line, *site, *at, body)?),
+        Statement::Block {
+            at,
+            site,
+            head,
+            body,
+        } => Ok(put_block(line, *site, *at, head, body)?),
     }
 }
 
-// Appends the site and the offset of a statement with this body, and those of the statements of the body.
+// Appends the site and the offset of a statement with this head, and those of the statements of its body.
 #[cycle(sites)]
-fn put_outer(line: &mut Writer, site: u32, at: usize, body: &[Statement]) -> Result<(), NoMemory>
-    ensures tokens { OnOk result (line.new.tokens
-        ≡ line.old.tokens ++ (site_tokens site at ++ stmts_tokens (stmts_view body.now))) }
+fn put_block(
+    line: &mut Writer,
+    site: u32,
+    at: usize,
+    head: &Head,
+    body: &[Statement],
+) -> Result<(), NoMemory>
+    ensures tokens { OnOk result (line.new.tokens ≡ line.old.tokens
+        ++ (head_tokens site at (head_view head.now) ++ stmts_tokens (stmts_view body.now))) }
     ensures before { OnOk result (line.new.before ≡ line.old.before) }
 {
-    put_site(line, site, at)?;
+    put_head(line, site, at, head)?;
     put_stmts(line, body)
 }
 

@@ -19,8 +19,8 @@ decreases-put_stmt l = 3 * size-Statement l.statement.now
 abbrev pub decreases-put_stmts : goal.decreases-put_stmts
 decreases-put_stmts l = 3 * most size-Statement l.statements.now + 1
 
-abbrev pub decreases-put_outer : goal.decreases-put_outer
-decreases-put_outer l = 3 * most size-Statement l.body.now + 2
+abbrev pub decreases-put_block : goal.decreases-put_block
+decreases-put_block l = 3 * most size-Statement l.body.now + 2
 
 abbrev pub decreases-put_branches : goal.decreases-put_branches
 decreases-put_branches l = 3 * max (most size-Statement l.first.now) (most size-Statement l.second.now) + 2
