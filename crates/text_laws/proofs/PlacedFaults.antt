@@ -7,23 +7,25 @@ use Rattle.std.specs.Str.{bytes_eq}
 use Rattle.rt_values.specs.declared.value.Ty.{Ty}
 use Rattle.rt_values.specs.declared.value.Ty.TheVariants as ty
 use Rattle.rt_values.specs.Values.{same_type}
-use Rattle.lang_ast.specs.Terms.{Expr, Literal, Variable, Get, Apply, Exprs, none, more, Named, Stmt, Node, Call, Key, If, For, Let, Remember, Stmts, done, next, Func}
+use Rattle.lang_ast.specs.Terms.{Expr, Literal, Variable, Get, Apply, Exprs, none, more, Named, Head, Node, Key, For, Let, Remember, Stmt, Call, If, Block, Stmts, done, next, Func}
 use Rattle.lang_ast.specs.Programs.{Program, is_root, root_number}
 use Rattle.lang_ast.specs.declared.syntax.Ident.{Ident}
 use Rattle.lang_ast.specs.declared.syntax.Parameter.{Parameter}
+use Rattle.lang_ast.specs.declared.syntax.Source.{Source}
+use Rattle.lang_ast.specs.declared.syntax.Source.TheVariants as sources
 use Rattle.lang_ast.specs.declared.program.State.{State}
 use Rattle.lang_ast.proofs.Limits.{none_in}
 use Rattle.lang_checks.specs.declared.environment.TypedName.{TypedName}
 use Rattle.lang_checks.specs.declared.faults.CheckKind.{CheckKind}
 use Rattle.lang_checks.specs.declared.faults.CheckKind.TheVariants as kind
 use Rattle.lang_checks.specs.FaultOrder.{fault_unless}
-use Rattle.lang_checks.specs.Scopes.{typed_name, bound_type, is_unbound, is_listed, duplicate_faults, type_if_named, state_type, first_named, numbered_or, named_function}
+use Rattle.lang_checks.specs.Scopes.{typed_name, bound_type, is_unbound, is_listed, duplicate_faults, type_if_named, state_type, source_type, first_named, numbered_or, named_function}
 use Rattle.lang_checks.specs.Operands.{same_types, accepts_types, result_type}
 use Rattle.lang_checks.specs.Expressions.{ExpressionScope, or_int, type, types_of, expr_faults, exprs_faults, values_faults, typed_names}
-use Rattle.lang_checks.specs.Statements.{StatementContext, plain_scope, inside, names, parameter_types, callee_faults, stmt_faults, stmts_faults}
+use Rattle.lang_checks.specs.Statements.{StatementContext, plain_scope, inside, names, parameter_types, callee_faults, binding_faults, bound_by, head_faults, stmt_faults, stmts_faults}
 use Rattle.lang_checks.specs.Chains.{most_chain, longest, longest_in, chain, chains_faults}
 use Rattle.lang_checks.specs.ProgramFaults.{is_well_typed, states_faults, bound_parameters, function_faults, functions_faults, program_faults}
-use Rattle.text_laws.specs.OtherOffsets.{placed_name, placed_expr, placed_exprs, placed_pair, placed_stmt, placed_stmts, placed_parameter, placed_function, placed_state, placed_program}
+use Rattle.text_laws.specs.OtherOffsets.{placed_name, placed_expr, placed_exprs, placed_pair, placed_head, placed_stmt, placed_stmts, placed_parameter, placed_function, placed_state, placed_program}
 use Rattle.text_laws.proofs.PlacedForests.{join_none}
 
 no_fault : (b c : Bool) (k : CheckKind) (at bt : ℕ) → c ≡ b → fault_unless b k at ≡ [] → fault_unless c k bt ≡ []
@@ -47,6 +49,10 @@ module _ (g : ℕ → ℕ) where
       by : (o : Option State) → type_if_named name (option_map (placed_state g) o) ≡ type_if_named name o
       by None = refl
       by (Some s) = refl
+
+  source_type-placed : (ss : List State) (name : List ℕ) (source : Source)
+      → source_type (states_at ss) name source ≡ source_type ss name source
+  source_type-placed ss name (sources.State number) = state_type-placed ss name number
 
   -- A function with its number, at other offsets.
   abbrev named_at : ℕ × Func → ℕ × Func
@@ -108,7 +114,7 @@ module _ (g : ℕ → ℕ) where
     type-placed : (l : ExpressionScope) (e : Expr) → type (scope_at l) (placed_expr g e) ≡ type l e
     type-placed l (Literal at v) = refl
     type-placed l (Variable n) = refl
-    type-placed l (Get at n number) = ap or_int (state_type-placed l.states n.text number)
+    type-placed l (Get at n source) = ap or_int (source_type-placed l.states n.text source)
     type-placed l (Apply at op es) = ap (result_type op) (types-placed l es)
 
     types-placed : (l : ExpressionScope) (es : Exprs) → types_of (scope_at l) (placed_exprs g es) ≡ types_of l es
@@ -126,11 +132,11 @@ module _ (g : ℕ → ℕ) where
         let both = none_in (fault_unless known kind.Unknown n.at) (fault_unless key kind.Remember n.at) h in
         join_none _ _ (no_fault known known kind.Unknown n.at (g n.at) refl both.0)
         (no_fault key key kind.Remember n.at (g n.at) refl both.1)
-    expr-fine l (Get at n number) h =
-        let known = is_some (state_type l.states n.text number) in
+    expr-fine l (Get at n source) h =
+        let known = is_some (source_type l.states n.text source) in
         let both = none_in (fault_unless known kind.Unknown at) (fault_unless (not l.calculating) kind.Remember at) h in
-        join_none _ _ (no_fault known (is_some (state_type (states_at l.states) n.text number)) kind.Unknown at (g at)
-        (ap is_some (state_type-placed l.states n.text number)) both.0)
+        join_none _ _ (no_fault known (is_some (source_type (states_at l.states) n.text source)) kind.Unknown at (g at)
+        (ap is_some (source_type-placed l.states n.text source)) both.0)
         (no_fault (not l.calculating) (not l.calculating) kind.Remember at (g at) refl both.1)
     expr-fine l (Apply at op es) h =
         let both = none_in (exprs_faults l es) (fault_unless (accepts_types op (types_of l es)) kind.Type at) h in
@@ -194,14 +200,48 @@ module _ (g : ℕ → ℕ) where
       (same_types (parameter_types (map (placed_parameter g) f.1.parameters)) ts) kind.Type at bt
       (ap (λ us. same_types us ts) (parameter_types-placed f.1.parameters)) both.1)
 
+  binding-fine : (scope : List TypedName) (n : Ident) → binding_faults scope n ≡ []
+      → binding_faults scope (placed_name g n) ≡ []
+  binding-fine scope n h = no_fault (is_unbound n.text scope) (is_unbound n.text scope) kind.Double n.at (g n.at) refl h
+
+  bound_by-placed : (p : StatementContext) (scope : List TypedName) (h : Head)
+      → bound_by (context_at p) scope (placed_head g h) ≡ bound_by p scope h
+  bound_by-placed p scope (Node n ns) = refl
+  bound_by-placed p scope (Key e) = refl
+  bound_by-placed p scope (For n e) = refl
+  bound_by-placed p scope (Let n e) = ap (λ t. typed_name n t ∷ []) (type-placed (plain_scope p.states scope) e)
+  bound_by-placed p scope (Remember n ks e) =
+      ap (λ t. typed_name n t ∷ []) (ap (λ s. type s (placed_expr g e)) (inside-placed p.states scope ks)
+      ∙ type-placed (inside p.states scope ks) e)
+
+  head-fine : (p : StatementContext) (scope : List TypedName) (at bt : ℕ) (h : Head) → head_faults p scope at h ≡ []
+      → head_faults (context_at p) scope bt (placed_head g h) ≡ []
+  head-fine p scope at bt (Node n ns) h =
+      let both = none_in (duplicate_faults [] (names ns)) _ h in
+      join_none _ _ (pair_names-fine ns both.0) (values-fine (plain_scope p.states scope) ns both.1)
+  head-fine p scope at bt (Key e) h = expr-fine (plain_scope p.states scope) e h
+  head-fine p scope at bt (For n e) h =
+      let l = plain_scope p.states scope in
+      let one = none_in (expr_faults (plain_scope p.states scope) e) _ h in
+      let two = none_in (fault_unless (same_type (type (plain_scope p.states scope) e) ty.Ints) kind.Type at) _ one.1 in
+      join_none _ _ (expr-fine l e one.0)
+      (join_none _ _ (no_fault (same_type (type l e) ty.Ints) (same_type (type (scope_at l) (placed_expr g e)) ty.Ints)
+      kind.Type at bt (ap (λ t. same_type t ty.Ints) (type-placed l e)) two.0) (binding-fine scope n two.1))
+  head-fine p scope at bt (Let n e) h =
+      let both = none_in (expr_faults (plain_scope p.states scope) e) _ h in
+      join_none _ _ (expr-fine (plain_scope p.states scope) e both.0) (binding-fine scope n both.1)
+  head-fine p scope at bt (Remember n ks e) h =
+      let one = none_in (duplicate_faults [] (names ks)) _ h in
+      let two = none_in (values_faults (plain_scope p.states scope) ks) _ one.1 in
+      let three = none_in (expr_faults (inside p.states scope ks) e) _ two.1 in
+      join_none _ _ (pair_names-fine ks one.0)
+      (join_none _ _ (values-fine (plain_scope p.states scope) ks two.0)
+      (join_none _ _ (ap (λ s. expr_faults s (placed_expr g e)) (inside-placed p.states scope ks)
+      ∙ expr-fine (inside p.states scope ks) e three.0) (binding-fine scope n three.1)))
+
   mutual
     stmt-fine : (p : StatementContext) (scope : List TypedName) (s : Stmt) → stmt_faults p scope s ≡ []
         → stmt_faults (context_at p) scope (placed_stmt g s) ≡ []
-    stmt-fine p scope (Node at site n ns body) h =
-        let one = none_in (duplicate_faults [] (names ns)) _ h in
-        let two = none_in (values_faults (plain_scope p.states scope) ns) _ one.1 in
-        join_none _ _ (pair_names-fine ns one.0)
-        (join_none _ _ (values-fine (plain_scope p.states scope) ns two.0) (stmts-fine p scope body two.1))
     stmt-fine p scope (Call at site n function es) h =
         let l = plain_scope p.states scope in
         let one = none_in (exprs_faults (plain_scope p.states scope) es) _ h in
@@ -210,9 +250,6 @@ module _ (g : ℕ → ℕ) where
         (types-placed l es)
         ∙ ap (callee_faults p.me (g at) (types_of l es)) (named_function-placed p.functions n.text function)
         ∙ call-fine p.me at (g at) (types_of l es) (named_function p.functions n.text function) one.1)
-    stmt-fine p scope (Key at site e body) h =
-        let one = none_in (expr_faults (plain_scope p.states scope) e) _ h in
-        join_none _ _ (expr-fine (plain_scope p.states scope) e one.0) (stmts-fine p scope body one.1)
     stmt-fine p scope (If at site e a b) h =
         let l = plain_scope p.states scope in
         let one = none_in (expr_faults (plain_scope p.states scope) e) _ h in
@@ -222,39 +259,11 @@ module _ (g : ℕ → ℕ) where
         (join_none _ _ (no_fault (same_type (type l e) ty.Bool) (same_type (type (scope_at l) (placed_expr g e)) ty.Bool)
         kind.Type at (g at) (ap (λ t. same_type t ty.Bool) (type-placed l e)) two.0)
         (join_none _ _ (stmts-fine p scope a three.0) (stmts-fine p scope b three.1)))
-    stmt-fine p scope (For at site n e body) h =
-        let l = plain_scope p.states scope in
-        let one = none_in (expr_faults (plain_scope p.states scope) e) _ h in
-        let two = none_in (fault_unless (same_type (type (plain_scope p.states scope) e) ty.Ints) kind.Type at) _ one.1 in
-        let three = none_in (fault_unless (is_unbound n.text scope) kind.Double n.at) _ two.1 in
-        join_none _ _ (expr-fine l e one.0)
-        (join_none _ _ (no_fault (same_type (type l e) ty.Ints) (same_type (type (scope_at l) (placed_expr g e)) ty.Ints)
-        kind.Type at (g at) (ap (λ t. same_type t ty.Ints) (type-placed l e)) two.0)
-        (join_none _ _ (no_fault (is_unbound n.text scope) (is_unbound n.text scope) kind.Double n.at (g n.at) refl three.0)
-        (stmts-fine p (scope ++ typed_name n ty.Int ∷ []) body three.1)))
-    stmt-fine p scope (Let at site n e body) h =
-        let l = plain_scope p.states scope in
-        let one = none_in (expr_faults (plain_scope p.states scope) e) _ h in
-        let two = none_in (fault_unless (is_unbound n.text scope) kind.Double n.at) _ one.1 in
-        join_none _ _ (expr-fine l e one.0)
-        (join_none _ _ (no_fault (is_unbound n.text scope) (is_unbound n.text scope) kind.Double n.at (g n.at) refl two.0)
-        (subst (λ t. stmts_faults (context_at p) (scope ++ typed_name n t ∷ []) (placed_stmts g body) ≡ [])
-        (sym (type-placed l e)) (stmts-fine p (scope ++ typed_name n (type l e) ∷ []) body two.1)))
-    stmt-fine p scope (Remember at site n ks e body) h =
-        let l = plain_scope p.states scope in
-        let keyed = inside p.states scope ks in
-        let one = none_in (duplicate_faults [] (names ks)) _ h in
-        let two = none_in (values_faults (plain_scope p.states scope) ks) _ one.1 in
-        let three = none_in (expr_faults (inside p.states scope ks) e) _ two.1 in
-        let four = none_in (fault_unless (is_unbound n.text scope) kind.Double n.at) _ three.1 in
-        let is = inside-placed p.states scope ks in
-        join_none _ _ (pair_names-fine ks one.0)
-        (join_none _ _ (values-fine l ks two.0)
-        (join_none _ _ (ap (λ s. expr_faults s (placed_expr g e)) is ∙ expr-fine keyed e three.0)
-        (join_none _ _ (no_fault (is_unbound n.text scope) (is_unbound n.text scope) kind.Double n.at (g n.at) refl four.0)
-        (subst (λ t. stmts_faults (context_at p) (scope ++ typed_name n t ∷ []) (placed_stmts g body) ≡ [])
-        (sym (ap (λ s. type s (placed_expr g e)) is ∙ type-placed keyed e))
-        (stmts-fine p (scope ++ typed_name n (type keyed e) ∷ []) body four.1)))))
+    stmt-fine p scope (Block at site head body) h =
+        let both = none_in (head_faults p scope at head) _ h in
+        join_none _ _ (head-fine p scope at (g at) head both.0)
+        (subst (λ t. stmts_faults (context_at p) (scope ++ t) (placed_stmts g body) ≡ [])
+        (sym (bound_by-placed p scope head)) (stmts-fine p (scope ++ bound_by p scope head) body both.1))
 
     stmts-fine : (p : StatementContext) (scope : List TypedName) (ss : Stmts) → stmts_faults p scope ss ≡ []
         → stmts_faults (context_at p) scope (placed_stmts g ss) ≡ []
@@ -299,15 +308,11 @@ module _ (g : ℕ → ℕ) where
 
   mutual
     longest-placed : (chains : List ℕ) (s : Stmt) → longest chains (placed_stmt g s) ≡ longest chains s
-    longest-placed chains (Node at site n ns body) = longest_in-placed chains body
     longest-placed chains (Call at site n function es) = refl
-    longest-placed chains (Key at site e body) = longest_in-placed chains body
     longest-placed chains (If at site e a b) =
         ap (λ k. max k (longest_in chains (placed_stmts g b))) (longest_in-placed chains a)
         ∙ ap (max (longest_in chains a)) (longest_in-placed chains b)
-    longest-placed chains (For at site n e body) = longest_in-placed chains body
-    longest-placed chains (Let at site n e body) = longest_in-placed chains body
-    longest-placed chains (Remember at site n ks e body) = longest_in-placed chains body
+    longest-placed chains (Block at site head body) = longest_in-placed chains body
 
     longest_in-placed : (chains : List ℕ) (ss : Stmts) → longest_in chains (placed_stmts g ss) ≡ longest_in chains ss
     longest_in-placed chains done = refl

@@ -6,7 +6,7 @@ use Rattle.sexp_text.specs.Forest.{Forest, atom, text, list}
 use Rattle.rt_values.specs.Keywords.{kind_word, type_word}
 use Rattle.rt_values.specs.declared.value.Value.{Value}
 use Rattle.rt_values.specs.declared.value.Value.TheVariants as value
-use Rattle.lang_ast.specs.Terms.{Expr, Literal, Variable, Get, Apply, Exprs, none, more, Named, Stmt, Node, Call, Key, If, For, Let, Remember, Stmts, done, next, Func, operand_count}
+use Rattle.lang_ast.specs.Terms.{Expr, Literal, Variable, Get, Apply, Exprs, none, more, Named, Head, Node, Key, For, Let, Remember, Stmt, Call, If, Block, Stmts, done, next, Func, operand_count}
 use Rattle.lang_ast.specs.declared.syntax.Parameter.{Parameter}
 use Rattle.lang_ast.specs.declared.program.State.{State}
 use Rattle.lang_ast.specs.declared.script.SnapshotRef.{SnapshotRef}
@@ -19,10 +19,10 @@ use Rattle.lang_ast.specs.declared.script.ScriptForm.{ScriptForm}
 use Rattle.lang_ast.specs.declared.script.ScriptForm.TheVariants.{Once, Repeat}
 use Rattle.lang_ast.specs.declared.script.DoForm.{DoForm}
 use Rattle.lang_forms.specs.Sources.{Source}
-use Rattle.lang_forms.specs.Words.{policy_word, operator_word, takes}
+use Rattle.lang_forms.specs.Words.{version_word, policy_word, operator_word, takes}
 use Rattle.lang_forms.specs.Sketch.{Sketch, nothing, leaf, numeral, string, group, sequence, IsAtOffset, Fits, unplaced_sketch}
-use Rattle.lang_forms.specs.Forms.{word, name, numbers, literal, expr_forms, exprs_forms, pairs_forms, stmt_forms, stmts_forms, parameters_forms, state_forms, function_forms, snapshot_forms, call_forms, calls_forms, step_forms, steps_forms, actor_step_forms, actor_forms, states_forms, functions_forms, scripts_forms, text_forms, KnownNames, Spelled, AllSpelled, SpelledPairs, site_after, site_after_all, SpelledStmt, SpelledStmts, SpelledParameters, SpelledStates, state_name, function_name, SpelledFunctions, is_snapshot, SpelledCall, SpelledCalls, SpelledStep, SpelledSteps, SpelledActorStep, SpelledActor, SpelledScripts, SpelledSource, HasForms}
-use Rattle.text_laws.specs.OtherOffsets.{placed_forest, placed_name, placed_expr, placed_exprs, placed_pair, placed_stmt, placed_stmts, placed_parameter, placed_function, placed_state, placed_snapshot, placed_call, placed_step, placed_script_form, placed_do, placed_source}
+use Rattle.lang_forms.specs.Forms.{word, name, numbers, literal, expr_forms, exprs_forms, pairs_forms, head_forms, stmt_forms, stmts_forms, parameters_forms, state_forms, function_forms, snapshot_forms, call_forms, calls_forms, step_forms, steps_forms, actor_step_forms, actor_forms, states_forms, functions_forms, scripts_forms, text_forms, KnownNames, Spelled, AllSpelled, SpelledPairs, site_after, site_after_all, SpelledHead, SpelledStmt, SpelledStmts, SpelledParameters, SpelledStates, state_name, function_name, SpelledFunctions, is_snapshot, SpelledCall, SpelledCalls, SpelledStep, SpelledSteps, SpelledActorStep, SpelledActor, SpelledScripts, SpelledSource, HasForms}
+use Rattle.text_laws.specs.OtherOffsets.{placed_forest, placed_name, placed_expr, placed_exprs, placed_pair, placed_head, placed_stmt, placed_stmts, placed_parameter, placed_function, placed_state, placed_snapshot, placed_call, placed_step, placed_script_form, placed_do, placed_source}
 
 module _ (g : ℕ → ℕ) where
   -- The trees of a sketch at other offsets.
@@ -93,7 +93,7 @@ module _ (g : ℕ → ℕ) where
     expr-placed : (e : Expr) (f : Sketch) → expr_forms (placed_expr g e) (placed_sketch f) ≡ placed_sketch (expr_forms e f)
     expr-placed (Literal at v) f = literal-placed (Some at) v f
     expr-placed (Variable n) f = refl
-    expr-placed (Get at n number) f = refl
+    expr-placed (Get at n source) f = refl
     expr-placed (Apply at op es) f =
         ap (λ s. sequence (Some (g at)) (word (operator_word op) s) (placed_sketch f)) (exprs-placed es)
 
@@ -109,18 +109,22 @@ module _ (g : ℕ → ℕ) where
       (expr-placed k.value nothing)
       ∙ ap (λ s. group None (name (placed_name g k.name) (placed_sketch (expr_forms k.value nothing))) s) (pairs-placed ks)
 
+  head-placed : (h : Head) (f : Sketch) → head_forms (placed_head g h) (placed_sketch f) ≡ placed_sketch (head_forms h f)
+  head-placed (Node n ns) f =
+      ap (λ s. word (codes "node") (name (placed_name g n) (group None s (placed_sketch f)))) (pairs-placed ns)
+  head-placed (Key e) f = ap (word (codes "key")) (expr-placed e f)
+  head-placed (For n e) f = ap (λ s. word (codes "for") (name (placed_name g n) s)) (expr-placed e f)
+  head-placed (Let n e) f = ap (λ s. word (codes "let") (name (placed_name g n) s)) (expr-placed e f)
+  head-placed (Remember n ks e) f =
+      ap (λ s. word (codes "remember") (name (placed_name g n) (group None s (expr_forms (placed_expr g e) (placed_sketch f)))))
+      (pairs-placed ks)
+      ∙ ap (λ s. word (codes "remember") (name (placed_name g n) (group None (placed_sketch (pairs_forms ks)) s)))
+      (expr-placed e f)
+
   mutual
     stmt-placed : (s : Stmt) (f : Sketch) → stmt_forms (placed_stmt g s) (placed_sketch f) ≡ placed_sketch (stmt_forms s f)
-    stmt-placed (Node at site n ns body) f =
-        ap (λ s. group (Some (g at)) (word (codes "node") (name (placed_name g n)
-        (group None s (stmts_forms (placed_stmts g body))))) (placed_sketch f)) (pairs-placed ns)
-        ∙ ap (λ s. group (Some (g at)) (word (codes "node") (name (placed_name g n)
-        (group None (placed_sketch (pairs_forms ns)) s))) (placed_sketch f)) (stmts-placed body)
     stmt-placed (Call at site n function es) f =
         ap (λ s. group (Some (g at)) (word (codes "call") (name (placed_name g n) s)) (placed_sketch f)) (exprs-placed es)
-    stmt-placed (Key at site e body) f =
-        ap (λ s. group (Some (g at)) (word (codes "key") s) (placed_sketch f))
-        (ap (expr_forms (placed_expr g e)) (stmts-placed body) ∙ expr-placed e (stmts_forms body))
     stmt-placed (If at site e a b) f =
         ap (λ s. group (Some (g at)) (word (codes "if") s) (placed_sketch f))
         (ap (λ s. expr_forms (placed_expr g e) (group None s (group None (stmts_forms (placed_stmts g b)) nothing)))
@@ -128,19 +132,9 @@ module _ (g : ℕ → ℕ) where
         ∙ ap (λ s. expr_forms (placed_expr g e) (group None (placed_sketch (stmts_forms a)) (group None s nothing)))
         (stmts-placed b)
         ∙ expr-placed e (group None (stmts_forms a) (group None (stmts_forms b) nothing)))
-    stmt-placed (For at site n e body) f =
-        ap (λ s. group (Some (g at)) (word (codes "for") (name (placed_name g n) s)) (placed_sketch f))
-        (ap (expr_forms (placed_expr g e)) (stmts-placed body) ∙ expr-placed e (stmts_forms body))
-    stmt-placed (Let at site n e body) f =
-        ap (λ s. group (Some (g at)) (word (codes "let") (name (placed_name g n) s)) (placed_sketch f))
-        (ap (expr_forms (placed_expr g e)) (stmts-placed body) ∙ expr-placed e (stmts_forms body))
-    stmt-placed (Remember at site n ks e body) f =
-        ap (λ s. group (Some (g at)) (word (codes "remember") (name (placed_name g n)
-        (group None s (expr_forms (placed_expr g e) (stmts_forms (placed_stmts g body)))))) (placed_sketch f))
-        (pairs-placed ks)
-        ∙ ap (λ s. group (Some (g at)) (word (codes "remember") (name (placed_name g n)
-        (group None (placed_sketch (pairs_forms ks)) s))) (placed_sketch f))
-        (ap (expr_forms (placed_expr g e)) (stmts-placed body) ∙ expr-placed e (stmts_forms body))
+    stmt-placed (Block at site h body) f =
+        ap (λ s. group (Some (g at)) s (placed_sketch f))
+        (ap (head_forms (placed_head g h)) (stmts-placed body) ∙ head-placed h (stmts_forms body))
 
     stmts-placed : (ss : Stmts) → stmts_forms (placed_stmts g ss) ≡ placed_sketch (stmts_forms ss)
     stmts-placed done = refl
@@ -235,7 +229,7 @@ module _ (g : ℕ → ℕ) where
 
   pub text-placed : (t : Source) → text_forms (placed_source g t) ≡ placed_sketch (text_forms t)
   text-placed t =
-      ap (group (Some (g t.program.header)) (word (codes "compose") (word (codes "1") nothing)))
+      ap (group (Some (g t.program.header)) (word (codes "compose") (word (version_word t.program.version) nothing)))
       (ap (λ s. states_forms (map (placed_state g) t.program.states)
       (functions_forms (map (placed_function g) t.program.functions) s)) (scripts-placed t.script)
       ∙ ap (states_forms (map (placed_state g) t.program.states))
@@ -252,7 +246,7 @@ module _ (g : ℕ → ℕ) where
     spelled-placed : (m : List (List ℕ)) (e : Expr) → Spelled m e → Spelled m (placed_expr g e)
     spelled-placed m (Literal at v) h = h
     spelled-placed m (Variable n) h = h
-    spelled-placed m (Get at n number) h = h
+    spelled-placed m (Get at n source) h = h
     spelled-placed m (Apply at op es) h =
         (ap (takes op) (operand_count-placed es) ∙ h.0, all_spelled-placed m es h.1)
 
@@ -266,28 +260,27 @@ module _ (g : ℕ → ℕ) where
 
   mutual
     site_after-placed : (k : ℕ) (s : Stmt) → site_after k (placed_stmt g s) ≡ site_after k s
-    site_after-placed k (Node at site n ns body) = site_after_all-placed (k + 1) body
     site_after-placed k (Call at site n function es) = refl
-    site_after-placed k (Key at site e body) = site_after_all-placed (k + 1) body
     site_after-placed k (If at site e a b) =
         ap (λ j. site_after_all j (placed_stmts g b)) (site_after_all-placed (k + 1) a)
         ∙ site_after_all-placed (site_after_all (k + 1) a) b
-    site_after-placed k (For at site n e body) = site_after_all-placed (k + 1) body
-    site_after-placed k (Let at site n e body) = site_after_all-placed (k + 1) body
-    site_after-placed k (Remember at site n ks e body) = site_after_all-placed (k + 1) body
+    site_after-placed k (Block at site h body) = site_after_all-placed (k + 1) body
 
     site_after_all-placed : (k : ℕ) (ss : Stmts) → site_after_all k (placed_stmts g ss) ≡ site_after_all k ss
     site_after_all-placed k done = refl
     site_after_all-placed k (next s ss) =
         ap (λ j. site_after_all j (placed_stmts g ss)) (site_after-placed k s) ∙ site_after_all-placed (site_after k s) ss
 
+  spelled_head-placed : (m : List (List ℕ)) (h : Head) → SpelledHead m h → SpelledHead m (placed_head g h)
+  spelled_head-placed m (Node n ns) h = (h.0, spelled_pairs-placed m ns h.1)
+  spelled_head-placed m (Key e) h = spelled-placed m e h
+  spelled_head-placed m (For n e) h = (h.0, spelled-placed m e h.1)
+  spelled_head-placed m (Let n e) h = (h.0, spelled-placed m e h.1)
+  spelled_head-placed m (Remember n ks e) h = (h.0, spelled_pairs-placed m ks h.1, spelled-placed m e h.2)
+
   mutual
     spelled_stmt-placed : (m : KnownNames) (k : ℕ) (s : Stmt) → SpelledStmt m k s → SpelledStmt m k (placed_stmt g s)
-    spelled_stmt-placed m k (Node at site n ns body) h =
-        (h.0, h.1, spelled_pairs-placed m.states ns h.2, spelled_stmts-placed m (k + 1) body h.3)
     spelled_stmt-placed m k (Call at site n function es) h = (h.0, h.1, h.2, all_spelled-placed m.states es h.3)
-    spelled_stmt-placed m k (Key at site e body) h =
-        (h.0, spelled-placed m.states e h.1, spelled_stmts-placed m (k + 1) body h.2)
     spelled_stmt-placed m k (If at site e a b) h = (
       h.0,
       spelled-placed m.states e h.1,
@@ -295,17 +288,8 @@ module _ (g : ℕ → ℕ) where
       subst (λ j. SpelledStmts m j (placed_stmts g b)) (sym (site_after_all-placed (k + 1) a))
           (spelled_stmts-placed m (site_after_all (k + 1) a) b h.3),
     )
-    spelled_stmt-placed m k (For at site n e body) h =
-        (h.0, h.1, spelled-placed m.states e h.2, spelled_stmts-placed m (k + 1) body h.3)
-    spelled_stmt-placed m k (Let at site n e body) h =
-        (h.0, h.1, spelled-placed m.states e h.2, spelled_stmts-placed m (k + 1) body h.3)
-    spelled_stmt-placed m k (Remember at site n ks e body) h = (
-      h.0,
-      h.1,
-      spelled_pairs-placed m.states ks h.2,
-      spelled-placed m.states e h.3,
-      spelled_stmts-placed m (k + 1) body h.4,
-    )
+    spelled_stmt-placed m k (Block at site head body) h =
+        (h.0, spelled_head-placed m.states head h.1, spelled_stmts-placed m (k + 1) body h.2)
 
     spelled_stmts-placed : (m : KnownNames) (k : ℕ) (ss : Stmts) → SpelledStmts m k ss → SpelledStmts m k (placed_stmts g ss)
     spelled_stmts-placed m k done h = tt

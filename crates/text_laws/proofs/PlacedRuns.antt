@@ -14,7 +14,7 @@ use Rattle.rt_groups.specs.GroupForest as trail
 use Rattle.rt_groups.specs.Frames.{LastFrame, no_last_frame, most_groups}
 use Rattle.lang_ast.specs.declared.syntax.Parameter.{Parameter}
 use Rattle.lang_ast.specs.declared.program.State.{State}
-use Rattle.lang_ast.specs.Terms.{Expr, Literal, Variable, Get, Apply, Exprs, none, more, Named, Stmt, Node, Call, Key, If, For, Let, Remember, Stmts, done, next, Func}
+use Rattle.lang_ast.specs.Terms.{Expr, Literal, Variable, Get, Apply, Exprs, none, more, Named, Head, Node, Key, For, Let, Remember, Stmt, Call, If, Block, Stmts, done, next, Func}
 use Rattle.lang_ast.specs.Programs.{root_number}
 use Rattle.lang_ast.specs.ResultsWithReads.{with, mapped_reading}
 use Rattle.lang_ast.specs.Evaluation.{Bindings, new_binding, apply, is_pick, operand_taken, eval, eval_all, eval_nth, eval_named}
@@ -27,7 +27,7 @@ use Rattle.lang_ast.specs.declared.script.StepForm.TheVariants as step
 use Rattle.lang_ast.specs.declared.script.ScriptForm.{ScriptForm}
 use Rattle.lang_ast.specs.declared.script.ScriptForm.TheVariants.{Once, Repeat}
 use Rattle.lang_ast.specs.declared.script.DoForm.{DoForm}
-use Rattle.compose_model.specs.Composing.{forest_after, turns, group, Meaning, meaning_at, attribute, run, run_all, bind, meaning, meanings_from, scratch}
+use Rattle.compose_model.specs.Composing.{forest_after, turns, group, Meaning, meaning_at, attribute, composed_block, run, run_all, bind, meaning, meanings_from, scratch}
 use Rattle.compose_model.specs.Frame.{good_frame, frame, kept_after}
 use Rattle.snap_policy.specs.declared.policy.BuiltIn.{BuiltIn}
 use Rattle.snap_policy.specs.Table.{table}
@@ -46,7 +46,7 @@ use Rattle.lang_script.specs.StepCalls.{Part, Take, Read, Write, WriteSum, Apply
 use Rattle.script_lang.specs.Lines.{snapshot, frame_taken, Titles, LineStyle, state_name, state_names, request_text, refusal_text, reply_text, entry_line, line, actor_name, frame_lines, Standing, ends_frame, name_in, frame_at, lines_at, next as next_standing, lines, initial_standing, run_text}
 use Rattle.lang_forms.specs.Sources.{Source}
 use Rattle.play_core.specs.Texts.{run_output}
-use Rattle.text_laws.specs.OtherOffsets.{placed_expr, placed_exprs, placed_pair, placed_stmt, placed_stmts, placed_parameter, placed_function, placed_state, placed_snapshot, placed_call, placed_step, placed_script_form, placed_do, placed_source}
+use Rattle.text_laws.specs.OtherOffsets.{placed_expr, placed_exprs, placed_pair, placed_head, placed_stmt, placed_stmts, placed_parameter, placed_function, placed_state, placed_snapshot, placed_call, placed_step, placed_script_form, placed_do, placed_source}
 use Rattle.text_laws.proofs.PlacedFaults.{root-placed}
 use Rattle.text_laws.proofs.PlacedScripts.{actors_from-placed}
 
@@ -57,7 +57,7 @@ module _ (g : ℕ → ℕ) where
     eval-placed : (m : Map) (e : Expr) (env : Bindings) → eval m (placed_expr g e) env ≡ eval m e env
     eval-placed m (Literal at v) env = refl
     eval-placed m (Variable n) env = refl
-    eval-placed m (Get at n x) env = refl
+    eval-placed m (Get at n source) env = refl
     eval-placed m (Apply at op es) env = λ i.
         if is_pick op
         then with (eval_nth-placed m es 0 env i) (λ condition. eval_nth-placed m es (operand_taken condition) env i)
@@ -83,28 +83,33 @@ module _ (g : ℕ → ℕ) where
 
   -- Statements make the same forests.
 
+  block-placed : (m : Map) (site : ℕ) (h : Head) (env : Bindings) (go ho : Bindings → GroupForest) → go ≡ ho
+      → composed_block m site (placed_head g h) env go ≡ composed_block m site h env ho
+  block-placed m site (Node n ns) env go ho same = λ i.
+      forest_after (eval_named-placed m ns env i)
+      (λ all. group site (trail.Node n.text (map attribute all)) (same i env))
+  block-placed m site (Key e) env go ho same = λ i.
+      forest_after (eval-placed m e env i) (λ v. group site (trail.Key v) (same i env))
+  block-placed m site (For n e) env go ho same = λ i.
+      forest_after (eval-placed m e env i)
+      (λ v. turns (λ k. same i (env ++ new_binding n.text (value.Int k) ∷ [])) (items_of v))
+  block-placed m site (Let n e) env go ho same = λ i.
+      forest_after (eval-placed m e env i) (λ v. same i (env ++ new_binding n.text v ∷ []))
+  block-placed m site (Remember n ks e) env go ho same = λ i.
+      forest_after (eval_named-placed m ks env i) (λ bs. forest_after (eval-placed m e bs i) (λ v.
+      Group site 0 (trail.Cell (map (λ k. k.value) bs) v) End (same i (env ++ new_binding n.text v ∷ []))))
+
   mutual
     run-placed : (m : Map) (fs : List Meaning) (s : Stmt) (env : Bindings) → run m fs (placed_stmt g s) env ≡ run m fs s env
-    run-placed m fs (Node at site n ns body) env = λ i.
-        forest_after (eval_named-placed m ns env i)
-        (λ all. group site (trail.Node n.text (map attribute all)) (run_all-placed m fs body env i))
     run-placed m fs (Call at site n function es) env = λ i.
         forest_after (eval_all-placed m es env i)
         (λ vs. group site (trail.Call function vs) (meaning_at fs function vs))
-    run-placed m fs (Key at site e body) env = λ i.
-        forest_after (eval-placed m e env i) (λ v. group site (trail.Key v) (run_all-placed m fs body env i))
     run-placed m fs (If at site e a b) env = λ i.
         forest_after (eval-placed m e env i)
         (λ v. if is_true v then run_all-placed m fs a env i else run_all-placed m fs b env i)
-    run-placed m fs (For at site n e body) env = λ i.
-        forest_after (eval-placed m e env i)
-        (λ v. turns (λ k. run_all-placed m fs body (env ++ new_binding n.text (value.Int k) ∷ []) i) (items_of v))
-    run-placed m fs (Let at site n e body) env = λ i.
-        forest_after (eval-placed m e env i) (λ v. run_all-placed m fs body (env ++ new_binding n.text v ∷ []) i)
-    run-placed m fs (Remember at site n ks e body) env = λ i.
-        forest_after (eval_named-placed m ks env i) (λ bs. forest_after (eval-placed m e bs i) (λ v.
-        Group site 0 (trail.Cell (map (λ k. k.value) bs) v) End
-        (run_all-placed m fs body (env ++ new_binding n.text v ∷ []) i)))
+    run-placed m fs (Block at site h body) env =
+        block-placed m site h env (λ inner. run_all m fs (placed_stmts g body) inner) (λ inner. run_all m fs body inner)
+        (λ i inner. run_all-placed m fs body inner i)
 
     run_all-placed : (m : Map) (fs : List Meaning) (ss : Stmts) (env : Bindings)
         → run_all m fs (placed_stmts g ss) env ≡ run_all m fs ss env

@@ -3,16 +3,16 @@ use Rattle.std.proofs.Common.{◌≡◌, ℕ, suc, ◌+◌, max, nat_lt, Bool, L
 use Rattle.std.proofs.lemmas.List.{length-map}
 use Rattle.std.proofs.lemmas.Option.{slice_get-map}
 use Rattle.std.specs.Option.{option_map}
-use Rattle.lang_ast.specs.Terms.{Expr, Literal, Variable, Get, Apply, Exprs, none, more, Named, Stmt, Node, Call, Key, If, For, Let, Remember, Stmts, done, next, Func, operand_count}
+use Rattle.lang_ast.specs.Terms.{Expr, Literal, Variable, Get, Apply, Exprs, none, more, Named, Head, Node, Key, For, Let, Remember, Stmt, Call, If, Block, Stmts, done, next, Func, operand_count}
 use Rattle.lang_ast.specs.Programs.{Program}
 use Rattle.lang_ast.specs.Offsets.{expr_offset}
-use Rattle.lang_ast.specs.Sizes.{offset_if, most_forms, most_parts, most_nesting, most_name_bytes, name_sizes, is_long_list, expr_lengths, exprs_lengths, nesting, deepest, expr_sizes, exprs_sizes, named_sizes, stmt_sizes, stmts_sizes, parameters_sizes, function_sizes, functions_sizes, states_sizes, first_excess, state_offset, function_offset}
+use Rattle.lang_ast.specs.Sizes.{offset_if, most_forms, most_parts, most_nesting, most_name_bytes, name_sizes, is_long_list, expr_lengths, exprs_lengths, nesting, deepest, expr_sizes, exprs_sizes, named_sizes, head_sizes, stmt_sizes, stmts_sizes, parameters_sizes, function_sizes, functions_sizes, states_sizes, first_excess, state_offset, function_offset}
 use Rattle.lang_ast.specs.declared.syntax.Ident.{Ident}
 use Rattle.lang_ast.specs.declared.syntax.Parameter.{Parameter}
 use Rattle.lang_ast.specs.declared.program.State.{State}
 use Rattle.lang_ast.proofs.Limits.{none_in}
 use Rattle.lang_limits.specs.Sizes.{program_sizes}
-use Rattle.text_laws.specs.OtherOffsets.{placed_name, placed_expr, placed_exprs, placed_pair, placed_stmt, placed_stmts, placed_parameter, placed_function, placed_state, placed_program}
+use Rattle.text_laws.specs.OtherOffsets.{placed_name, placed_expr, placed_exprs, placed_pair, placed_head, placed_stmt, placed_stmts, placed_parameter, placed_function, placed_state, placed_program}
 use Rattle.text_laws.proofs.PlacedForests.{join_none, no_offset}
 
 -- No item is in several lists, one after the other.
@@ -72,7 +72,7 @@ module _ (g : ℕ → ℕ) where
     expr-lengths : (e : Expr) → expr_lengths e ≡ [] → expr_lengths (placed_expr g e) ≡ []
     expr-lengths (Literal at v) h = refl
     expr-lengths (Variable n) h = name-sized n h
-    expr-lengths (Get at n number) h = name-sized n h
+    expr-lengths (Get at n source) h = name-sized n h
     expr-lengths (Apply at op es) h =
         let both = none_in (offset_if (is_long_list op (operand_count es)) at) (exprs_lengths es) h in
         join_none _ _ (no_offset (is_long_list op (operand_count es)) (is_long_list op (operand_count (placed_exprs g es)))
@@ -88,7 +88,7 @@ module _ (g : ℕ → ℕ) where
     nesting-placed : (e : Expr) → nesting (placed_expr g e) ≡ nesting e
     nesting-placed (Literal at v) = refl
     nesting-placed (Variable n) = refl
-    nesting-placed (Get at n number) = refl
+    nesting-placed (Get at n source) = refl
     nesting-placed (Apply at op es) = ap (λ k. k + 1) (deepest-placed es)
 
     deepest-placed : (es : Exprs) → deepest (placed_exprs g es) ≡ deepest es
@@ -121,46 +121,37 @@ module _ (g : ℕ → ℕ) where
       no_offset (nat_lt most_parts (length xs)) (nat_lt most_parts (length (map move xs))) at bt
       (ap (nat_lt most_parts) (length-map xs move)) h
 
+  head-sized : (at bt : ℕ) (h : Head) → head_sizes at h ≡ [] → head_sizes bt (placed_head g h) ≡ []
+  head-sized at bt (Node n ns) h =
+      let parts = none_in_3 (name_sizes n) (offset_if (nat_lt most_parts (length ns)) at) (named_sizes ns) h in
+      join_3 _ _ _ (name-sized n parts.0) (count-sized (placed_pair g) ns at bt parts.1) (pairs-sized ns parts.2)
+  head-sized at bt (Key e) h = expr-sized e h
+  head-sized at bt (For n e) h =
+      let both = none_in (name_sizes n) (expr_sizes e) h in
+      join_none _ _ (name-sized n both.0) (expr-sized e both.1)
+  head-sized at bt (Let n e) h =
+      let both = none_in (name_sizes n) (expr_sizes e) h in
+      join_none _ _ (name-sized n both.0) (expr-sized e both.1)
+  head-sized at bt (Remember n ks e) h =
+      let parts = none_in_4 (name_sizes n) (offset_if (nat_lt most_parts (length ks)) at) (named_sizes ks)
+      (expr_sizes e) h in
+      join_4 _ _ _ _ (name-sized n parts.0) (count-sized (placed_pair g) ks at bt parts.1) (pairs-sized ks parts.2)
+      (expr-sized e parts.3)
+
   mutual
     stmt-sized : (d : ℕ) (s : Stmt) → stmt_sizes d s ≡ [] → stmt_sizes d (placed_stmt g s) ≡ []
-    stmt-sized d (Node at site n ns body) h =
-        let last = none_in (((name_sizes n ++ offset_if (nat_lt most_parts d) at)
-        ++ offset_if (nat_lt most_parts (length ns)) at) ++ named_sizes ns) (stmts_sizes (d + 1) body) h in
-        let parts = none_in_4 (name_sizes n) (offset_if (nat_lt most_parts d) at)
-        (offset_if (nat_lt most_parts (length ns)) at) (named_sizes ns) last.0 in
-        join_none _ _ (join_4 _ _ _ _ (name-sized n parts.0) (same_offset (nat_lt most_parts d) at (g at) parts.1)
-        (count-sized (placed_pair g) ns at (g at) parts.2) (pairs-sized ns parts.3)) (stmts-sized (d + 1) body last.1)
     stmt-sized d (Call at site n function es) h =
         let parts = none_in_3 (name_sizes n) (offset_if (nat_lt most_parts d) at) (exprs_sizes es) h in
         join_3 _ _ _ (name-sized n parts.0) (same_offset (nat_lt most_parts d) at (g at) parts.1) (exprs-sized es parts.2)
-    stmt-sized d (Key at site e body) h =
-        let parts = none_in_3 (offset_if (nat_lt most_parts d) at) (expr_sizes e) (stmts_sizes (d + 1) body) h in
-        join_3 _ _ _ (same_offset (nat_lt most_parts d) at (g at) parts.0) (expr-sized e parts.1)
-        (stmts-sized (d + 1) body parts.2)
     stmt-sized d (If at site e a b) h =
         let parts = none_in_4 (offset_if (nat_lt most_parts d) at) (expr_sizes e) (stmts_sizes (d + 1) a)
         (stmts_sizes (d + 1) b) h in
         join_4 _ _ _ _ (same_offset (nat_lt most_parts d) at (g at) parts.0) (expr-sized e parts.1)
         (stmts-sized (d + 1) a parts.2) (stmts-sized (d + 1) b parts.3)
-    stmt-sized d (For at site n e body) h =
-        let parts = none_in_4 (name_sizes n) (offset_if (nat_lt most_parts d) at) (expr_sizes e)
-        (stmts_sizes (d + 1) body) h in
-        join_4 _ _ _ _ (name-sized n parts.0) (same_offset (nat_lt most_parts d) at (g at) parts.1)
-        (expr-sized e parts.2) (stmts-sized (d + 1) body parts.3)
-    stmt-sized d (Let at site n e body) h =
-        let parts = none_in_4 (name_sizes n) (offset_if (nat_lt most_parts d) at) (expr_sizes e)
-        (stmts_sizes (d + 1) body) h in
-        join_4 _ _ _ _ (name-sized n parts.0) (same_offset (nat_lt most_parts d) at (g at) parts.1)
-        (expr-sized e parts.2) (stmts-sized (d + 1) body parts.3)
-    stmt-sized d (Remember at site n ks e body) h =
-        let front = ((name_sizes n ++ offset_if (nat_lt most_parts d) at)
-        ++ offset_if (nat_lt most_parts (length ks)) at) ++ named_sizes ks in
-        let last = none_in_3 front (expr_sizes e) (stmts_sizes (d + 1) body) h in
-        let parts = none_in_4 (name_sizes n) (offset_if (nat_lt most_parts d) at)
-        (offset_if (nat_lt most_parts (length ks)) at) (named_sizes ks) last.0 in
-        join_3 _ _ _ (join_4 _ _ _ _ (name-sized n parts.0) (same_offset (nat_lt most_parts d) at (g at) parts.1)
-        (count-sized (placed_pair g) ks at (g at) parts.2) (pairs-sized ks parts.3)) (expr-sized e last.1)
-        (stmts-sized (d + 1) body last.2)
+    stmt-sized d (Block at site head body) h =
+        let parts = none_in_3 (offset_if (nat_lt most_parts d) at) (head_sizes at head) (stmts_sizes (d + 1) body) h in
+        join_3 _ _ _ (same_offset (nat_lt most_parts d) at (g at) parts.0) (head-sized at (g at) head parts.1)
+        (stmts-sized (d + 1) body parts.2)
 
     stmts-sized : (d : ℕ) (ss : Stmts) → stmts_sizes d ss ≡ [] → stmts_sizes d (placed_stmts g ss) ≡ []
     stmts-sized d done h = refl
