@@ -1,7 +1,7 @@
 // A whole program composed from scratch, and an expression evaluated.
 use crate::map_view::view_of;
 use crate::programs::parse_program;
-use lang_ast::{Expression, Program, Statement};
+use lang_ast::{Expression, Head, Program, Statement};
 use lang_meaning::{Env, eval, scratch};
 use rt_groups::{GroupKind, Groups};
 use rt_values::Value;
@@ -74,7 +74,10 @@ const BOTH: &str = "(compose 1)
 // Returns the key that is the first statement of the first function.
 fn first_key(program: &Program) -> Option<&Expression> {
     match program.functions.first()?.body.first()? {
-        Statement::Key { key, .. } => Some(key),
+        Statement::Block {
+            head: Head::Key { key },
+            ..
+        } => Some(key),
         _ => None,
     }
 }

@@ -5,7 +5,8 @@ use Rattle.rt_values.specs.declared.value.Value.TheVariants as value
 use Rattle.snap_policy.specs.declared.policy.BuiltIn.TheVariants as policy
 use Rattle.lang_ast.specs.declared.program.State.{State}
 use Rattle.lang_ast.specs.declared.syntax.Ident.{Ident}
-use Rattle.lang_ast.specs.Terms.{Get, Stmt, Key, done, next, Func}
+use Rattle.lang_ast.specs.declared.syntax.Source.TheVariants as source
+use Rattle.lang_ast.specs.Terms.{Get, Key, Stmt, Block, done, next, Func}
 
 abbrev pub ident : List ℕ → Ident
 ident name = record { at = 0; text = name }
@@ -25,7 +26,7 @@ counter_states = total ∷ []
 
 -- `(key (get total))`
 abbrev pub key_statement : Stmt
-key_statement = Key 0 1 (Get 0 (ident (codes "total")) 0) done
+key_statement = Block 0 1 (Key (Get 0 (ident (codes "total")) (source.State 0))) done
 
 -- `(fun root () (key (get total)))`
 abbrev pub counter_functions : List Func

@@ -7,7 +7,7 @@ ghost use Rattle.snap_shared.specs.Seats.{IsSeat};
 ghost use Rattle.tests_shared.specs.CounterProgram.{ident, counter_states, key_statement, counter_functions};
 
 use crate::fixture::{World, counter_world, history_of, two_seats, write};
-use lang_ast::{Expression, Function, Ident, Program, State, Statement};
+use lang_ast::{Expression, Function, Head, Ident, Program, Source, State, Statement, Version};
 use lang_checks::{Checked, check};
 use node_tree::UnitApplier;
 use recompose_seats::frame_among;
@@ -44,14 +44,15 @@ fn key_statement(alloc: Global) -> Result<Statement, Fail>
     ensures { IfOk result (λ s. stmt_view s ≡ key_statement) }
 {
     let name = ident(alloc, b"total")?;
-    Ok(Statement::Key {
+    let key = Expression::Get {
+        at: 0,
+        name,
+        source: Source::State(0),
+    };
+    Ok(Statement::Block {
         at: 0,
         site: 1,
-        key: Expression::Get {
-            at: 0,
-            name,
-            number: 0,
-        },
+        head: Head::Key { key },
         body: Vec::new(alloc),
     })
 }
@@ -91,6 +92,7 @@ fn counter_program(alloc: Global) -> Result<Program, Fail>
     let functions = counter_functions(alloc)?;
     Ok(Program {
         header: 0,
+        version: Version::One,
         states,
         functions,
     })
