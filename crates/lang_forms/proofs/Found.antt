@@ -54,11 +54,6 @@ word_found w (atom b v r) ss h =
 word_found w (text b v r) ss h = absurd (cc)
 word_found w (list b j r) ss h = absurd (cc)
 
--- The keyword of trees that are seen already.
-pub word_next : (w : List ℕ) (i : Forest) (rs ss : List Seen) → rs ≡ seen_trees i → word_of w rs ≡ Some ss
-    → Worded i w ss
-word_next w i rs ss is h = word_found w i ss (ap (word_of w) (sym is) ∙ h)
-
 -- A first tree that is a name, and the trees after it.
 pub record NamedBy (i : Forest) (n : Ident × List Seen) : Type 0 where
   pub rest : Forest
