@@ -13,6 +13,7 @@ use Rattle.node_tree.specs.Calls.{attribute_of, inserted_node}
 use Rattle.node_tree.specs.Placing.{lists_number, numbered_node, node_index, nodes_without, removals, staying_nodes, move_to, new_node, arrangements, child_calls}
 use Rattle.node_tree.specs.Premises.{HaveDistinctNumbers}
 use Rattle.node_tree.proofs.Turning.{Turns, tree, none_turns, one_turns, then_turns, turns_from, turns_to, children_same}
+use Rattle.node_tree.proofs.JoinedCalls.{go_left-append, removals_go_left, arrangements_go_left, joined_turn}
 use Rattle.node_tree.proofs.Numbers.{has_is_some, split_at_number, other_numbered, still_has, distinct_without, gone_without, stays, staying_is_new, distinct_staying}
 
 pushed : {X : Type 0} (done : List X) (x : X) (more : List X) → (done ++ x ∷ []) ++ more ≡ done ++ (x ∷ more)
@@ -218,9 +219,12 @@ pub child_calls_turn : (old new : List TreeNode) (os : List OpenNode) → HaveDi
     → HaveDistinctNumbers new
     → Turns (tree old os) (child_calls old new) (tree (map (started old) new) os)
 child_calls_turn old new os d e =
-    then_turns _ _ _ _ _ (removals_turn old new [] os 0 refl)
+    joined_turn _ _ _
+    (go_left-append (removals 0 new old) (arrangements 0 old (staying_nodes new old) new)
+    (removals_go_left old new 0) (arrangements_go_left new old (staying_nodes new old) 0))
+    (then_turns _ _ _ _ _ (removals_turn old new [] os 0 refl)
     (arrangements_turn new old (staying_nodes new old) [] os 0 refl e (record {
       same = λ j h. stays j new old h;
       all = λ j h. staying_is_new j new old h;
       distinct = distinct_staying new old d;
-    }))
+    })))

@@ -10,6 +10,7 @@ use Rattle.node_tree.specs.Placing.{numbered_node, child_calls, sets_since, chil
 use Rattle.node_tree.specs.Premises.{HaveDistinctNumbers, HaveDistinctNames, KeepsShape, AllDistinct, KeepShapes, OpsTurnTheOldTreeIntoTheNew}
 use Rattle.node_tree.proofs.Turning.{Turns, tree, opened, none_turns, then_turns, turns_from, turns_to, children_same, inside_turns}
 use Rattle.node_tree.proofs.ChildCalls.{started, started_as, child_calls_turn}
+use Rattle.node_tree.proofs.Completions.{completion_turns}
 use Rattle.node_tree.proofs.SetCalls.{set_calls_turn}
 use Rattle.node_tree.proofs.DistinctNodes.{distinct_list, EachIsDistinct, each_distinct, since_distinct}
 
@@ -69,9 +70,11 @@ inner_calls_turn (Branch number kind attributes children rest) old done os index
     (distinct_list children distinct.1)
     (λ os. inner_calls_turn children (children_since (numbered_node number old)) [] os 0 refl since.1
     distinct.1 shapes.2))
+    (then_turns _ _ _ _ _
+    (completion_turns (numbered_node number old) index n done (map (started old) (node_list rest)) os e)
     (turns_from _ _ _ _ (children_same _ _ os (sym (append_assoc done (n ∷ []) (map (started old) (node_list rest)))))
     (turns_to _ _ _ _ (children_same _ _ os (append_assoc done (n ∷ []) (node_list rest)))
-    (inner_calls_turn rest old (done ++ n ∷ []) os (index + 1) longer each distinct.2 shapes.3)))
+    (inner_calls_turn rest old (done ++ n ∷ []) os (index + 1) longer each distinct.2 shapes.3))))
 
 pub ops_turn : OpsTurnTheOldTreeIntoTheNew
 ops_turn old new follows =

@@ -1,6 +1,10 @@
 pub mod Turning
 pub mod Numbers
+pub mod JoinedLists
+pub mod JoinedCalls
+pub mod JoinedPushes
 pub mod ChildCalls
+pub mod Completions
 pub mod SetCalls
 pub mod InnerCalls
 pub mod Exchanges

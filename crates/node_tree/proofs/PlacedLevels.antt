@@ -6,8 +6,8 @@ use Rattle.rt_groups.specs.Nodes as nodes
 use Rattle.node_tree.specs.declared.siblings.Sibling.{Sibling}
 use Rattle.node_tree.specs.declared.ops.Op.{Op}
 use Rattle.node_tree.specs.declared.ops.Op.TheVariants as op
-use Rattle.node_tree.specs.NodeTrees.{TreeNode, node_list}
-use Rattle.node_tree.specs.Placing.{numbered_node, sets_since, children_since, calls_inside, inner_calls, ops_between}
+use Rattle.node_tree.specs.NodeTrees.{TreeNode, tree_node, node_list}
+use Rattle.node_tree.specs.Placing.{numbered_node, sets_since, children_since, calls_inside, completion, inner_calls, ops_between}
 use Rattle.node_tree.specs.Premises.{AllDistinct, ChildrenAreDistinct}
 use Rattle.node_tree.specs.FlatNodes.{FlatNode, flat_node, flat_nodes}
 use Rattle.node_tree.specs.SiblingLists.{sibling_list, siblings_of, index_in, sibling_calls, flat_before, nodes_from, part, part_of}
@@ -54,8 +54,9 @@ abbrev pub Inner : ℕ → List FlatNode → List FlatNode → List Op → List 
 Inner index old new was now =
     (before : Option TreeNode) (node : FlatNode) (children : Nodes) → old ≡ flat_before before
     → new ≡ node ∷ flat_nodes children → ChildrenAreDistinct before → AllDistinct children
-    → now ≡ was ++ calls_inside index
+    → now ≡ was ++ (calls_inside index
     (sets_since before node.attributes ++ ops_between (children_since before) children)
+    ++ completion before index (tree_node node.number node.kind node.attributes children))
 
 pub level_goes_on : (o n : Nodes) (so sn : List Sibling) (d : Sibling) (find : Option ℕ)
     (old new before after : List FlatNode) (i : ℕ) (was now whole : List Op)
@@ -84,8 +85,12 @@ level_goes_on o n so sn d find old new before after i was now whole e f g h dist
     let one = inner t (flat_node (length (flat_nodes s.children)) s.number s.kind s.attributes) s.children first second
     (found_distinct s.number (node_list o) (each_distinct o distinct_old)) children in
     let rest : List Op = inner_calls (i + 1) (node_list o) (nodes_from (i + 1) n) in
+    let inside : List Op =
+    calls_inside i (sets_since t s.attributes ++ ops_between (children_since t) s.children) in
+    let report : List Op = completion t i (tree_node s.number s.kind s.attributes s.children) in
     ap (λ l. l ++ rest) one
-    ∙ append_assoc was (calls_inside i (sets_since t s.attributes ++ ops_between (children_since t) s.children)) rest
+    ∙ append_assoc was (inside ++ report) rest
+    ∙ ap (λ l. was ++ l) (append_assoc inside report rest)
     ∙ ap (λ (r : Nodes). was ++ inner_calls i (node_list o) r) (sym s.here)
     ∙ so_far
 
@@ -125,3 +130,13 @@ inside_all before node first children index was pushed set now e p s l =
     ∙ ap (λ x. x ++ sets) p)
     ∙ append_assoc (was ++ op.Down index ∷ []) sets level
     ∙ append_assoc was (op.Down index ∷ []) (sets ++ level)
+
+-- The calls inside a node and the report of an inserted one.
+pub completed_inside : (before : Option TreeNode) (node first : FlatNode) (children : Nodes) (index : ℕ)
+    (was inside now calls : List Op) → first ≡ node → inside ≡ was ++ calls
+    → now ≡ inside ++ completion before index (tree_node first.number first.kind first.attributes children)
+    → now ≡ was ++ (calls ++ completion before index (tree_node node.number node.kind node.attributes children))
+completed_inside before node first children index was inside now calls e f g =
+    g ∙ ap (λ (x : FlatNode). inside ++ completion before index (tree_node x.number x.kind x.attributes children)) e
+    ∙ ap (λ (l : List Op). l ++ completion before index (tree_node node.number node.kind node.attributes children)) f
+    ∙ append_assoc was calls _

@@ -1,6 +1,6 @@
 -- Levels whose siblings have the same numbers in order.
-use Rattle.std.proofs.Common.{◌≡◌, ℕ, zero, suc, ◌+◌, ◌<◌, ◌==◌, Bool, true, false, ◌||◌, List, [], ◌∷◌, ◌++◌, length, cond, Option, Some, if◌then◌else◌, refl, ap, sym, ◌∙◌, subst, arith, append_assoc, eq-eqb, append-nil}
-use Rattle.std.proofs.lemmas.Bool.{ne_eqb, true≢false, false≢true, or_right as right_true, or_left as left_true, or_parts as parts_false}
+use Rattle.std.proofs.Common.{◌≡◌, ℕ, zero, suc, ◌+◌, ◌<◌, ◌==◌, Bool, true, false, List, [], ◌∷◌, ◌++◌, length, cond, Option, Some, if◌then◌else◌, refl, ap, sym, ◌∙◌, subst, arith, append_assoc, eq-eqb, append-nil}
+use Rattle.std.proofs.lemmas.Bool.{ne_eqb, true≢false, or_right as right_true, or_left as left_true, or_parts as parts_false}
 use Rattle.rt_values.specs.Values.{same_value}
 use Rattle.rt_values.proofs.Equal.{told_equal}
 use Rattle.rt_groups.specs.GroupForest.{Attribute}
@@ -9,7 +9,7 @@ use Rattle.rt_groups.specs.Nodes as nodes
 use Rattle.node_tree.specs.declared.ops.Op.{Op}
 use Rattle.node_tree.specs.declared.ops.Op.TheVariants as op
 use Rattle.node_tree.specs.NodeTrees.{TreeNode, tree_node, node_list}
-use Rattle.node_tree.specs.Placing.{lists_number, numbered_node, node_index, nodes_without, removals, staying_nodes, move_to, arrangements, child_calls, set_calls, sets_since, children_since, calls_inside, inner_calls, ops_between, ops, new_node}
+use Rattle.node_tree.specs.Placing.{joined_calls, lists_number, numbered_node, node_index, nodes_without, removals, staying_nodes, move_to, arrangements, child_calls, set_calls, sets_since, children_since, calls_inside, completion, inner_calls, ops_between, ops, new_node}
 use Rattle.node_tree.specs.Premises.{AllDistinct, ChildrenAreDistinct, UnchangedTreeNeedsNoCalls}
 use Rattle.node_tree.specs.FlatNodes.{FlatNode, flat_node, flat_nodes}
 use Rattle.node_tree.specs.SiblingLists.{flat_before, nodes_from, first_node, BeginAlike, HaveSameNumbers}
@@ -74,11 +74,12 @@ no_arrangements index whole (Branch m k a c rest) (Branch m' k' a' c' rest') h f
 
 pub no_child_calls : (o n : Nodes) → HaveSameNumbers o n → child_calls (node_list o) (node_list n) ≡ []
 no_child_calls o n h =
+    ap (λ (l : List Op). joined_calls l) (
     ap (λ (l : List Op). l ++ arrangements 0 (node_list o) (staying_nodes (node_list n) (node_list o)) (node_list n))
     (no_removals 0 (node_list n) (node_list o) (old_in_new o n h))
     ∙ ap (λ (l : List TreeNode). arrangements 0 (node_list o) l (node_list n))
     (all_stay (node_list n) (node_list o) (old_in_new o n h))
-    ∙ no_arrangements 0 (node_list o) o n h (new_in_old o n h)
+    ∙ no_arrangements 0 (node_list o) o n h (new_in_old o n h))
 
 -- The nodes of a level are found by their numbers.
 
@@ -128,7 +129,7 @@ no_inner_calls index whole (Branch m k a c rest) f d =
     ∙ no_inner_calls 0 (node_list c) c (all_found c d.1) d.1 in
     ap (λ (t : Option TreeNode). calls_inside index
     (sets_since t a ++ (child_calls (children_since t) (node_list c) ++ inner_calls 0 (children_since t) c))
-    ++ inner_calls (index + 1) whole rest) f.0
+    ++ (completion t index (tree_node m k a c) ++ inner_calls (index + 1) whole rest)) f.0
     ∙ ap (λ (l : List Op). calls_inside index l ++ inner_calls (index + 1) whole rest) inside
     ∙ no_inner_calls (index + 1) whole rest f.1 d.2
 
@@ -231,8 +232,9 @@ abbrev Inner : ℕ → List FlatNode → List FlatNode → List Op → List Op �
 Inner index old new was now =
     (before : Option TreeNode) (node : FlatNode) (children : Nodes) → old ≡ flat_before before
     → new ≡ node ∷ flat_nodes children → ChildrenAreDistinct before → AllDistinct children
-    → now ≡ was ++ calls_inside index
+    → now ≡ was ++ (calls_inside index
     (sets_since before node.attributes ++ ops_between (children_since before) children)
+    ++ completion before index (tree_node node.number node.kind node.attributes children))
 
 inside_first : (whole : List TreeNode) (old new : Nodes) (index : ℕ) (was now : List Op)
     (first second after : List FlatNode) → after ≡ flat_nodes new → 0 < length after → HaveSameNumbers old new
@@ -249,9 +251,12 @@ inside_first whole (Branch m k a c rest) (Branch m' k' a' c' rest') index was no
     is_second d.1 g.1 in
     let more : List Op = inner_calls (index + 1) whole rest' in
     ap (λ (l : List Op). l ++ more) one
+    ∙ ap (λ (l : List Op). (was ++ l) ++ more)
+    (append-nil (calls_inside index (set_calls a a' ++ ops_between (node_list c) c')))
     ∙ append_assoc was (calls_inside index (set_calls a a' ++ ops_between (node_list c) c')) more
     ∙ ap (λ (t : Option TreeNode). was
-    ++ (calls_inside index (sets_since t a' ++ ops_between (children_since t) c') ++ more)) (sym found)
+    ++ (calls_inside index (sets_since t a' ++ ops_between (children_since t) c')
+    ++ (completion t index (tree_node m' k' a' c') ++ more))) (sym found)
 
 pub along_goes_on : (o n : Nodes) (before after before' after' first second : List FlatNode) (index : ℕ)
     (was now whole : List Op) → HaveSameNumbers o n → AllDistinct o → AllDistinct n → 0 < length after

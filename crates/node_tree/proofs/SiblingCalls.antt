@@ -6,10 +6,11 @@ use Rattle.std.proofs.lemmas.Bool.{eq-eqb, ne_eqb, true≢false, false≢true}
 use Rattle.std.proofs.lemmas.List.{get_or_at, length-append}
 use Rattle.rt_groups.specs.Nodes.{Nodes, Branch}
 use Rattle.rt_groups.specs.Nodes as nodes
+use Rattle.node_tree.specs.declared.ops.Op.{Op}
 use Rattle.node_tree.specs.declared.ops.Op.TheVariants as op
 use Rattle.node_tree.specs.NodeTrees.{TreeNode, tree_node, node_list}
 use Rattle.node_tree.specs.Counting.{total}
-use Rattle.node_tree.specs.Placing.{lists_number, numbered_node, node_index, nodes_without, removals, staying_nodes, move_to, new_node, arrangements, child_calls}
+use Rattle.node_tree.specs.Placing.{joined_calls, lists_number, numbered_node, node_index, nodes_without, removals, staying_nodes, move_to, new_node, arrangements, child_calls}
 use Rattle.node_tree.specs.Premises.{HaveDistinctNumbers}
 use Rattle.node_tree.specs.FlatNodes.{FlatNode, flat_node, flat_nodes}
 use Rattle.node_tree.specs.SiblingLists.{siblings_of, index_in, kept_counts, removals_at, counted_nodes, distance_of, counts_after, insert_of, arrangement, arrange_at, sibling_calls}
@@ -267,11 +268,12 @@ sibling_calls_are o n d e =
       all = λ j h. staying_is_new j new old h;
       distinct = distinct_staying new old d;
     }) in
+    ap (λ (l : List Op). joined_calls l) (
     ap (λ cs. removals_at 0 cs ++ arrange_at 0 find cs (flat_nodes n) (siblings_of 0 n)) (counts_are o n 0)
     ∙ ap (λ l. l ++ arrange_at 0 find (stay_counts new old) (flat_nodes n) (siblings_of 0 n)) (removals_are new old 0)
     ∙ ap (λ l. removals 0 new old ++ l)
     (arranged n o n (stay_counts new old) [] 0 0 refl d e (small_counts new old) left)
-    ∙ ap (λ l. removals 0 new old ++ arrangements 0 old l new) (counted_are new old)
+    ∙ ap (λ l. removals 0 new old ++ arrangements 0 old l new) (counted_are new old))
 
 small_total : (cs : List ℕ) → AreSmall cs → total cs ≤ length cs
 unfolding AreSmall

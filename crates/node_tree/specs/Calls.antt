@@ -1,5 +1,5 @@
 -- Trusted: the calls on an applier, when each may come, and the tree after each.
-use Rattle.std.specs.Prelude.{ℕ, ◌+◌, ◌≤◌, ◌<◌, List, [], ◌∷◌, ◌++◌, map, length, take, drop, Bool, false, Option, Some, None, if◌then◌else◌, IsTrue, ◌≡◌}
+use Rattle.std.specs.Prelude.{ℕ, ◌+◌, ◌≤◌, ◌<◌, List, [], ◌∷◌, ◌++◌, map, length, take, drop, slice_get, Bool, false, Option, Some, None, if◌then◌else◌, IsTrue, ◌≡◌}
 use Rattle.std.specs.List.{insert, list_any}
 use Rattle.std.specs.Str.{bytes_eq}
 use Rattle.std.specs.Option.{option_map}
@@ -85,13 +85,19 @@ abbrev pub has_open_attribute : List ℕ → List OpenNode → Bool
 has_open_attribute name [] = false
 has_open_attribute name (o ∷ open_nodes) = has_attribute name o.attributes
 
+-- A node that was found is the inserted one.
+abbrev pub IsInserted : NewNode → Option TreeNode → Type 0
+IsInserted node None = ⊥
+IsInserted node (Some n) =
+    (n.number ≡ node.number) × (n.kind ≡ node.kind) × (n.attributes ≡ map attribute_of node.attributes)
+
 -- A call may come: its indexes are those of children of the current node, or the end for an insert and for the target
 -- of a move. `up` needs a current node that is not the unseen root, and `set` needs an attribute of that node.
 abbrev pub MayCome : Op → CursorTree → Type 0
 MayCome (op.Down index) t = index < length t.children
 MayCome op.Up t = 0 < length t.open_nodes
 MayCome (op.InsertTopDown index node) t = index ≤ length t.children
-MayCome (op.InsertBottomUp index node) t = index < length t.children
+MayCome (op.InsertBottomUp index node) t = IsInserted node (slice_get t.children index)
 MayCome (op.Remove index count) t = index + count ≤ length t.children
 MayCome (op.Move from to count) t = (from + count ≤ length t.children) × (to ≤ length t.children)
 MayCome (op.Set name value) t = IsTrue (has_open_attribute name t.open_nodes)

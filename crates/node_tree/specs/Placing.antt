@@ -1,5 +1,5 @@
 -- Trusted: the calls on an applier that turn the old tree of nodes into the new one.
-use Rattle.std.specs.Prelude.{ℕ, zero, suc, ◌+◌, ◌==◌, List, [], ◌∷◌, ◌++◌, map, Bool, Option, Some, None, if◌then◌else◌}
+use Rattle.std.specs.Prelude.{ℕ, zero, suc, ◌+◌, ◌==◌, ◌&&◌, List, [], ◌∷◌, ◌++◌, map, Bool, Option, Some, None, if◌then◌else◌}
 use Rattle.std.specs.List.{filter, list_any}
 use Rattle.rt_values.specs.Values.{same_value}
 use Rattle.rt_groups.specs.GroupForest.{Attribute}
@@ -9,7 +9,7 @@ use Rattle.rt_groups.specs.Nodes as nodes
 use Rattle.node_tree.specs.declared.ops.NewNode.{NewNode}
 use Rattle.node_tree.specs.declared.ops.Op.{Op}
 use Rattle.node_tree.specs.declared.ops.Op.TheVariants as op
-use Rattle.node_tree.specs.NodeTrees.{TreeNode, node_list}
+use Rattle.node_tree.specs.NodeTrees.{TreeNode, tree_node, node_list}
 
 -- Whether a node of the list has this number.
 abbrev pub lists_number : ℕ → List TreeNode → Bool
@@ -59,9 +59,43 @@ arrangements index old rest (n ∷ new) =
     then move_to index (node_index n.number rest) ++ arrangements (index + 1) old (nodes_without n.number rest) new
     else op.InsertTopDown index (new_node n) ∷ arrangements (index + 1) old rest new
 
+-- The call that stands for a removal and the next call: the removal of the node right before, or nothing.
+abbrev pub joined_removal : ℕ → ℕ → Op → Option Op
+joined_removal index count (op.Remove next more) =
+    if (next + 1 == index) && (more == 1) then Some (op.Remove next (count + 1)) else None
+joined_removal index count _ = None
+
+-- The call that stands for a move and the next call: the move of the node that followed the moved ones to the place
+-- after them, or nothing.
+abbrev pub joined_move : ℕ → ℕ → ℕ → Op → Option Op
+joined_move from to count (op.Move next target more) =
+    if ((next == from + count) && (target == to + count)) && (more == 1)
+    then Some (op.Move from to (count + 1)) else None
+joined_move from to count _ = None
+
+-- The call that stands for two neighbouring calls, if there is one.
+abbrev pub joined_call : Op → Op → Option Op
+joined_call (op.Remove index count) next = joined_removal index count next
+joined_call (op.Move from to count) next = joined_move from to count next
+joined_call _ next = None
+
+-- The joined call with what follows it, or the two calls as they are.
+abbrev pub joined_or : Op → Op → (Op → List Op) → Option Op → List Op
+joined_or call next more None = call ∷ more next
+joined_or call next more (Some both) = more both
+
+-- A call and those that follow, where neighbours are joined from the left as long as possible.
+abbrev pub joined_from : List Op → Op → List Op
+joined_from [] call = call ∷ []
+joined_from (next ∷ calls) call = joined_or call next (joined_from calls) (joined_call call next)
+
+abbrev pub joined_calls : List Op → List Op
+joined_calls [] = []
+joined_calls (call ∷ calls) = joined_from calls call
+
 -- The calls that give the current node the new children, each with the attributes and the children that it had.
 abbrev pub child_calls : List TreeNode → List TreeNode → List Op
-child_calls old new = removals 0 new old ++ arrangements 0 old (staying_nodes new old) new
+child_calls old new = joined_calls (removals 0 new old ++ arrangements 0 old (staying_nodes new old) new)
 
 -- A `set` for each attribute whose value differs.
 abbrev pub set_calls : List Attribute → List Attribute → List Op
@@ -83,7 +117,13 @@ abbrev pub calls_inside : ℕ → List Op → List Op
 calls_inside index [] = []
 calls_inside index (call ∷ calls) = op.Down index ∷ (call ∷ calls ++ op.Up ∷ [])
 
--- The calls inside the new nodes, which begin at the index: for each node its attributes, then its children.
+-- The report that an inserted node at the index has all its children, and nothing of a kept node.
+abbrev pub completion : Option TreeNode → ℕ → TreeNode → List Op
+completion None index n = op.InsertBottomUp index (new_node n) ∷ []
+completion (Some old) index n = []
+
+-- The calls inside the new nodes, which begin at the index: for each node its attributes, then its children, then the
+-- report of an inserted node.
 abbrev pub inner_calls : ℕ → List TreeNode → Nodes → List Op
 inner_calls index old nodes.None = []
 inner_calls index old (Branch number kind attributes children rest) =
@@ -91,7 +131,8 @@ inner_calls index old (Branch number kind attributes children rest) =
     calls_inside index
     (sets_since (numbered_node number old) attributes
     ++ (child_calls before (node_list children) ++ inner_calls 0 before children))
-    ++ inner_calls (index + 1) old rest
+    ++ (completion (numbered_node number old) index (tree_node number kind attributes children)
+    ++ inner_calls (index + 1) old rest)
 
 -- The calls that turn the old children of the current node into the new ones.
 abbrev pub ops_between : List TreeNode → Nodes → List Op

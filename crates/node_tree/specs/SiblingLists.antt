@@ -12,7 +12,7 @@ use Rattle.node_tree.specs.declared.ops.Op.TheVariants as op
 use Rattle.node_tree.specs.NodeTrees.{TreeNode, tree_node}
 use Rattle.node_tree.specs.FlatNodes.{FlatNode, flat_node, flat_nodes}
 use Rattle.node_tree.specs.Counting.{total}
-use Rattle.node_tree.specs.Placing.{move_to}
+use Rattle.node_tree.specs.Placing.{move_to, joined_call, joined_or, joined_calls}
 
 -- The siblings of a list of nodes that begins at the index `at`, after nodes that are skipped.
 abbrev pub sibling_list : ℕ → ℕ → List FlatNode → List Sibling
@@ -49,6 +49,12 @@ Ascend siblings = AllAdjacentBelow (λ a b. a.number < b.number) siblings (lengt
 -- For each old sibling 1 if a new one has its number, else 0.
 abbrev pub kept_counts : List Sibling → List Sibling → List ℕ
 kept_counts new old = map (λ s. if is_some (index_in s.number new) then 1 else 0) old
+
+-- Joined calls with one more call, which is joined to the last one if it can be.
+abbrev pub joined_push : List Op → Op → List Op
+joined_push [] call = call ∷ []
+joined_push (last ∷ []) call = joined_or last call (λ both. both ∷ []) (joined_call last call)
+joined_push (first ∷ (next ∷ calls)) call = first ∷ joined_push (next ∷ calls) call
 
 -- The removals of the old siblings whose count is 0, from the last to the first.
 abbrev pub removals_at : ℕ → List ℕ → List Op
@@ -106,7 +112,8 @@ arrange_at index find counts new (s ∷ ss) =
 -- The removals, inserts and moves that turn old siblings into new ones.
 abbrev pub sibling_calls : List Sibling → List Sibling → List FlatNode → List Op
 sibling_calls old new nodes =
-    removals_at 0 (kept_counts new old) ++ arrange_at 0 (λ number. index_in number old) (kept_counts new old) nodes new
+    joined_calls
+    (removals_at 0 (kept_counts new old) ++ arrange_at 0 (λ number. index_in number old) (kept_counts new old) nodes new)
 
 -- An old node with the nodes inside it, in preorder.
 abbrev pub flat_before : Option TreeNode → List FlatNode

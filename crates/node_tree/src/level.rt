@@ -1,8 +1,11 @@
 // The calls that turn the old children of one node into the new ones.
-ghost use Rattle.std.specs.Prelude.{◌≡◌, ◌++◌, ◌∷◌, [], map, slice_get, OnOk, IfOk};
+ghost use Rattle.std.specs.Prelude.{◌≡◌, ◌++◌, ◌∷◌, [], List, Option, ℕ, map, length, slice_get, OnOk, IfOk};
 ghost use Rattle.node_tree.specs.Calls.{attribute_of};
-ghost use Rattle.node_tree.specs.Placing.{move_to, set_calls};
-ghost use Rattle.node_tree.specs.SiblingLists.{index_in, removals_at, arrange_at, insert_of, flat_new, part, part_of, distance_of, counts_after};
+ghost use Rattle.node_tree.specs.declared.ops.Op.{Op as op_data};
+ghost use Rattle.node_tree.specs.NodeTrees.{TreeNode, tree_node};
+ghost use Rattle.node_tree.specs.Placing.{move_to, set_calls, joined_calls, completion};
+ghost use Rattle.node_tree.specs.SiblingLists.{index_in, removals_at, arrange_at, arrangement, insert_of, flat_before, flat_new, part, part_of, distance_of, counts_after};
+ghost use Rattle.rt_groups.specs.Nodes.{Nodes};
 
 use crate::counts::Counts;
 use crate::flat::NodeRef;
@@ -13,15 +16,17 @@ use rt_groups::Attribute;
 use rt_values::NoMemory;
 use std::alloc::Global;
 
-// Appends a removal of each old sibling whose count is 0, from the last to the first.
-pub(crate) fn push_removals(counts: &[usize], ops: &mut Ops) -> Result<(), NoMemory>
-    ensures { OnOk result (ops.new ≡ ops.old ++ removals_at 0 counts.now) }
+// Appends a removal of each old sibling whose count is 0, from the last to the first. Neighbours are removed by one call.
+// `ops` has `start` calls before.
+pub(crate) fn push_removals(counts: &[usize], start: usize, ops: &mut Ops) -> Result<(), NoMemory>
+    requires { length ops.old ≡ start }
+    ensures { OnOk result (ops.new ≡ ops.old ++ joined_calls (removals_at 0 counts.now)) }
 {
     let mut index = counts.len();
     while index > 0 {
         index -= 1;
         if counts[index] == 0 {
-            ops.push(Op::Remove { index, count: 1 })?;
+            ops.push_joined(start, Op::Remove { index, count: 1 })?;
         }
     }
     Ok(())
@@ -64,22 +69,43 @@ fn copy_node<'n>(alloc: Global, node: &NodeRef<'n>) -> Result<NewNode, NoMemory>
     })
 }
 
-// Appends an insert of the node at `start`.
+// Appends an insert of the node at `place`. The calls after the first `start` are joined.
 fn push_insert<'n>(
     alloc: Global,
     index: usize,
-    start: usize,
+    place: usize,
     new: &[NodeRef<'n>],
+    start: usize,
     ops: &mut Ops,
 ) -> Result<(), NoMemory>
-    ensures { OnOk result (ops.new ≡ ops.old ++ insert_of index (slice_get new.now start)) }
+    ensures { (before calls : List op_data) → ops.old ≡ before ++ joined_calls calls → length before ≡ start →
+        OnOk result (ops.new ≡ before ++ joined_calls (calls ++ insert_of index (slice_get new.now place))) }
 {
-    let Some(inserted) = new.get(start) else {
+    let Some(inserted) = new.get(place) else {
         return Ok(());
     };
     let node = copy_node(alloc, inserted)?;
-    ops.push(Op::InsertTopDown { index, node })?;
-    Ok(())
+    ops.push_joined(start, Op::InsertTopDown { index, node })
+}
+
+// Appends the report that a new node has all its children, if it was inserted: if `old`, which has what the node was and
+// the nodes inside it, has nothing.
+pub(crate) fn push_completion<'o, 'n>(
+    alloc: Global,
+    index: usize,
+    old: &[NodeRef<'o>],
+    new: &NodeRef<'n>,
+    ops: &mut Ops,
+) -> Result<(), NoMemory>
+    ensures { (before : Option TreeNode) (children : Nodes) → old.now ≡ flat_before before →
+        OnOk result (ops.new ≡ ops.old ++ completion before index
+        (tree_node new.now.number new.now.kind new.now.attributes children)) }
+{
+    if !old.is_empty() {
+        return Ok(());
+    }
+    let node = copy_node(alloc, new)?;
+    ops.push(Op::InsertBottomUp { index, node })
 }
 
 // Takes the old sibling with the number out of those that are left, and returns the number of those before it. Returns
@@ -94,41 +120,66 @@ fn take_left<'s>(counts: &mut Counts, old: &SiblingIndex<'s>, number: u64) -> Op
     }
 }
 
+// Appends a move of the child that is `distance` after the index, or an insert of the node at `place`.
+fn push_arrangement<'n>(
+    alloc: Global,
+    index: usize,
+    distance: Option<usize>,
+    place: usize,
+    new: &[NodeRef<'n>],
+    start: usize,
+    ops: &mut Ops,
+) -> Result<(), NoMemory>
+    ensures { (before calls : List op_data) → ops.old ≡ before ++ joined_calls calls → length before ≡ start →
+        OnOk result (ops.new
+        ≡ before ++ joined_calls (calls ++ arrangement index distance (slice_get new.now place))) }
+{
+    match distance {
+        Some(distance) => push_move(index, distance, start, ops),
+        None => push_insert(alloc, index, place, new, start, ops),
+    }
+}
+
 // Appends a move of each new sibling that is left of the old ones and not at its index yet, and an insert of each other
-// one, in order.
+// one, in order. The calls after the first `start` are joined.
 pub(crate) fn push_arrangements<'s, 'n>(
     alloc: Global,
     mut counts: Counts,
     old: &SiblingIndex<'s>,
     siblings: &[Sibling],
     new: &[NodeRef<'n>],
+    start: usize,
     ops: &mut Ops,
 ) -> Result<(), NoMemory>
-    ensures { OnOk result (ops.new ≡
-        ops.old ++ arrange_at 0 (λ number. index_in number old.now) counts new.now siblings.now) }
+    ensures { (before calls : List op_data) → ops.old ≡ before ++ joined_calls calls → length before ≡ start →
+        OnOk result (ops.new ≡ before ++ joined_calls
+        (calls ++ arrange_at 0 (λ number. index_in number old.now) counts new.now siblings.now)) }
 {
     for (index, sibling) in siblings.iter().enumerate() {
-        match take_left(&mut counts, old, sibling.number) {
-            Some(distance) => push_move(index, distance, ops)?,
-            None => push_insert(alloc, index, sibling.start, new, ops)?,
-        }
+        let distance = take_left(&mut counts, old, sibling.number);
+        push_arrangement(alloc, index, distance, sibling.start, new, start, ops)?;
     }
     Ok(())
 }
 
-// Appends a move of the child that is `distance` after the index, if it is not at the index.
-fn push_move(index: usize, distance: usize, ops: &mut Ops) -> Result<(), NoMemory>
-    ensures { OnOk result (ops.new ≡ ops.old ++ move_to index distance) }
+// Appends a move of the child that is `distance` after the index, if it is not at the index. The calls after the first
+// `start` are joined.
+fn push_move(index: usize, distance: usize, start: usize, ops: &mut Ops) -> Result<(), NoMemory>
+    ensures { (before calls : List op_data) → ops.old ≡ before ++ joined_calls calls → length before ≡ start →
+        OnOk result (ops.new ≡ before ++ joined_calls (calls ++ move_to index distance)) }
 {
     if distance > 0 {
         let Some(from) = index.checked_add(distance) else {
             return Err(NoMemory);
         };
-        ops.push(Op::Move {
-            from,
-            to: index,
-            count: 1,
-        })?;
+        return ops.push_joined(
+            start,
+            Op::Move {
+                from,
+                to: index,
+                count: 1,
+            },
+        );
     }
     Ok(())
 }

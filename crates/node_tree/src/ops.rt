@@ -1,11 +1,12 @@
 // The calls on an applier as data.
-ghost use Rattle.std.specs.Prelude.{◌≡◌, ◌<◌, ◌++◌, ◌∷◌, [], List, length, slice_set, slice_index_or, OnOk, OnErr, IfSome, IsNone};
+ghost use Rattle.std.specs.Prelude.{◌≡◌, ◌≤◌, ◌<◌, ◌++◌, ◌∷◌, [], List, None, length, slice_set, slice_index_or, IfOk, OnOk, OnErr, IfSome, IsNone};
 ghost use Rattle.std.specs.Str.{bytes_eq};
 ghost use Rattle.rt_values.specs.declared.value.Value.{Value as value_data};
 ghost use Rattle.rt_groups.specs.declared.groups.Attribute.{Attribute as attribute_data};
 ghost use Rattle.node_tree.specs.StoredTree.{data_after_set};
 ghost use Rattle.node_tree.specs.Calls.{insert_count};
 ghost use Rattle.node_tree.specs.declared.ops.Op.{Op as op_data};
+ghost use Rattle.node_tree.specs.Placing.{joined_call, joined_removal, joined_move, joined_calls};
 
 use rt_groups::Attribute;
 use rt_values::{NoMemory, Value, Word};
@@ -195,6 +196,37 @@ impl Ops {
         let _ = self.items.pop();
     }
 
+    // Returns the call that stands for the last call and `op`, if there is one and the last call is not among the first
+    // `start`.
+    fn joined_last(&self, start: usize, op: &Op) -> Result<Option<Op>, NoMemory>
+        ensures none { (before : List op_data) → self.now ≡ before → length before ≡ start →
+            IfOk result (λ o. o ≡ None) }
+        ensures some { (calls : List op_data) (last : op_data) → self.now ≡ calls ++ last ∷ [] →
+            start ≤ length calls → IfOk result (λ o. o ≡ joined_call last op.now) }
+    {
+        if self.items.len() <= start {
+            return Ok(None);
+        }
+        match self.items.last() {
+            Some(last) => join(last, op),
+            None => Ok(None),
+        }
+    }
+
+    // Appends `op`, or joins it to the last call unless this is among the first `start`.
+    pub(crate) fn push_joined(&mut self, start: usize, op: Op) -> Result<(), NoMemory>
+        ensures { (before calls : List op_data) → self.old ≡ before ++ joined_calls calls → length before ≡ start →
+            OnOk result (self.new ≡ before ++ joined_calls (calls ++ op ∷ [])) }
+    {
+        match self.joined_last(start, &op)? {
+            Some(both) => {
+                self.pop();
+                self.push(both)
+            }
+            None => self.push(op),
+        }
+    }
+
     /// Returns the calls as a vector.
     pub fn into_vec(self) -> Vec<Op>
         ensures { result.items ≡ self }
@@ -213,5 +245,63 @@ impl Ops {
             }
         }
         count
+    }
+}
+
+// Returns the call that stands for a removal and the next call, or nothing.
+fn join_removal(index: usize, count: usize, next: &Op) -> Result<Option<Op>, NoMemory>
+    ensures { IfOk result (λ o. o ≡ joined_removal index count next.now) }
+{
+    let Op::Remove {
+        index: before,
+        count: more,
+    } = next
+    else {
+        return Ok(None);
+    };
+    if *more != 1 || index.checked_sub(1) != Some(*before) {
+        return Ok(None);
+    }
+    let Some(count) = count.checked_add(1) else {
+        return Err(NoMemory);
+    };
+    Ok(Some(Op::Remove {
+        index: *before,
+        count,
+    }))
+}
+
+// Returns the call that stands for a move and the next call, or nothing.
+fn join_move(from: usize, to: usize, count: usize, next: &Op) -> Result<Option<Op>, NoMemory>
+    ensures { IfOk result (λ o. o ≡ joined_move from to count next.now) }
+{
+    let Op::Move {
+        from: source,
+        to: target,
+        count: more,
+    } = next
+    else {
+        return Ok(None);
+    };
+    if *more != 1
+        || from.checked_add(count) != Some(*source)
+        || to.checked_add(count) != Some(*target)
+    {
+        return Ok(None);
+    }
+    let Some(count) = count.checked_add(1) else {
+        return Err(NoMemory);
+    };
+    Ok(Some(Op::Move { from, to, count }))
+}
+
+// Returns the call that stands for two neighbouring calls, or nothing.
+fn join(call: &Op, next: &Op) -> Result<Option<Op>, NoMemory>
+    ensures { IfOk result (λ o. o ≡ joined_call call.now next.now) }
+{
+    match call {
+        Op::Remove { index, count } => join_removal(*index, *count, next),
+        Op::Move { from, to, count } => join_move(*from, *to, *count, next),
+        _ => Ok(None),
     }
 }

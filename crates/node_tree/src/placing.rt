@@ -3,15 +3,17 @@ ghost use Rattle.std.specs.Prelude.{◌≡◌, ◌≤◌, ◌<◌, ◌-◌, ◌+
 ghost use Rattle.rt_groups.specs.Nodes.{Nodes, None as no_nodes};
 ghost use Rattle.node_tree.specs.declared.ops.Op.{Op as op_data};
 ghost use Rattle.node_tree.specs.declared.ops.Op.TheVariants as op;
-ghost use Rattle.node_tree.specs.NodeTrees.{TreeNode, node_list};
-ghost use Rattle.node_tree.specs.Placing.{set_calls, sets_since, children_since, calls_inside, ops_between, ops};
+ghost use Rattle.node_tree.specs.NodeTrees.{TreeNode, tree_node, node_list};
+ghost use Rattle.node_tree.specs.Placing.{set_calls, sets_since, children_since, calls_inside, completion, ops_between, ops};
 ghost use Rattle.node_tree.specs.Premises.{AllDistinct, ChildrenAreDistinct};
 ghost use Rattle.node_tree.specs.FlatNodes.{FlatNode, flat_nodes};
 ghost use Rattle.node_tree.specs.SiblingLists.{sibling_calls, flat_before, first_node, nodes_from, BeginAlike, HaveSameNumbers};
 
 use crate::counts::Counts;
 use crate::flat::NodeRef;
-use crate::level::{old_part, part_of_nodes, push_arrangements, push_removals, push_sets};
+use crate::level::{
+    old_part, part_of_nodes, push_arrangements, push_completion, push_removals, push_sets,
+};
 use crate::ops::{Op, Ops};
 use crate::sibling_index::SiblingIndex;
 use crate::siblings::{Sibling, count_kept, list_siblings};
@@ -29,9 +31,10 @@ fn push_child_calls<'s, 'n>(
     ensures { OnOk result (ops.new ≡ ops.old ++ sibling_calls old.now new.now nodes.now) }
 {
     let counts = count_kept(alloc, old.siblings(), new)?;
-    push_removals(&counts, ops)?;
+    let start = ops.len();
+    push_removals(&counts, start, ops)?;
     let left = Counts::new(alloc, counts)?;
-    push_arrangements(alloc, left, old, new, nodes, ops)?;
+    push_arrangements(alloc, left, old, new, nodes, start, ops)?;
     Ok(())
 }
 
@@ -86,7 +89,7 @@ fn after_first<'s, 'n>(nodes: &'s [NodeRef<'n>]) -> &'s [NodeRef<'n>]
     part_of_nodes(nodes, 1, nodes.len())
 }
 
-// Appends the calls inside a new node. The list `new` has the node and the nodes inside it, and `old` has what the node
+// Appends the calls inside a new node, and the report of an inserted one. The list `new` has the node and the nodes inside it, and `old` has what the node
 // was, or nothing.
 #[cycle(place)]
 fn push_inner<'o, 'n>(
@@ -99,8 +102,9 @@ fn push_inner<'o, 'n>(
     ensures { (before : Option TreeNode) (node : FlatNode) (children : Nodes) →
         old.now ≡ flat_before before → new.now ≡ node ∷ flat_nodes children →
         ChildrenAreDistinct before → AllDistinct children →
-        OnOk result (ops.new ≡ ops.old ++ calls_inside index
-        (sets_since before node.attributes ++ ops_between (children_since before) children)) }
+        OnOk result (ops.new ≡ ops.old ++ (calls_inside index
+        (sets_since before node.attributes ++ ops_between (children_since before) children)
+        ++ completion before index (tree_node node.number node.kind node.attributes children))) }
 {
     let Some((node, inside)) = new.split_first() else {
         return Ok(());
@@ -109,7 +113,8 @@ fn push_inner<'o, 'n>(
     ops.push(Op::Down { index })?;
     push_sets_since(alloc, old, node, ops)?;
     push_level(alloc, after_first(old), inside, ops)?;
-    end_inside(start, ops)
+    end_inside(start, ops)?;
+    push_completion(alloc, index, old, node, ops)
 }
 
 // Returns the nodes after the first one and those inside it.

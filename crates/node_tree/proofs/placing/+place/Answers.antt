@@ -4,7 +4,8 @@ use Rattle.node_tree.specs.Placing.{sets_since, children_since, ops_between}
 use Rattle.node_tree.specs.SiblingLists.{index_in}
 use Rattle.node_tree.specs.NodeTrees.{node_list}
 use Rattle.node_tree.proofs.SameLevels.{along_begins, along_goes_on, along_ends, is_some}
-use Rattle.node_tree.proofs.PlacedLevels.{listed, level_begins, level_ends, level_goes_on, old_children, inside_before, distinct_before, same_first, inside_all}
+use Rattle.node_tree.proofs.PlacedLevels.{completed_inside, listed, level_begins, level_ends, level_goes_on, old_children, inside_before, distinct_before, same_first, inside_all}
+use Rattle.node_tree.proofs.JoinedPushes.{on_ok}
 use Rattle.node_tree.proofs.placing.+place.Goals as goal
 
 pub push_inner-returns : goal.push_inner-returns
@@ -17,9 +18,12 @@ push_inner-returns t c = λ before node children e f d distinct.
     let all = inside_all before node c.in-Some.node.now children c.args.index c.args.ops.now c.push.new.self
     c.push_sets_since.new.ops c.push_level.new.ops same.0
     c.in_ok-push.ensures.ok (c.in_ok-push_sets_since.ensures before e) level in
-    c.end_inside.ensures c.args.ops.now
+    let inside = c.in_ok-end_inside.ensures c.args.ops.now
     (sets_since before node.attributes ++ ops_between (children_since before) children) c.args.index all
-    (sym c.len-start.ensures)
+    (sym c.len-start.ensures) in
+    on_ok c.push_completion.result _ _ (λ done. completed_inside before node c.in-Some.node.now children c.args.index
+    c.args.ops.now c.end_inside.new.ops c.push_completion.new.ops _ same.0 inside done)
+    (c.push_completion.ensures before children e)
 
 pub push_other_level-loop-index-init : goal.push_other_level-loop-index-init
 push_other_level-loop-index-init t c = λ o n e f d distinct.
