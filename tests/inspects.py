@@ -77,6 +77,8 @@ FAULTY = [
     (frame(ops=["insertTopDown 0 #1 N a=1"]), "line 4: the operations of frame 1 do not give its tree"),
     (frame(ops=[*FRAME["ops"], "down 0", 'set a "b c=1"', "up"]), "line 4: the operations of frame 1 do not give its tree"),
     (frame(ops=["turn 1"]), "line 4: the operation 'turn 1' is unknown"),
+    (frame(ops=[*FRAME["ops"], "insertBottomUp 0 #2 N"]),
+     "line 4: the operation 'insertBottomUp 0 #2 N' reports another node than the one at its index"),
     (frame(ops=["down 3"]), MISFIT % 4),
     (frame(changed=["b"]), MISFIT % 4),
     (frame(groups=[{**ROOT, "cause": "luck"}, NODE]), "line 4: the cause 'luck' of a call is unknown"),
