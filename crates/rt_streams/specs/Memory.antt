@@ -5,6 +5,12 @@ use Rattle.rt_streams.specs.declared.source.Failed.{Failed}
 use Rattle.std.specs.List.{list_any}
 use Rattle.rt_streams.specs.Streams.{next_count}
 
+-- The numbers, from 1, of the calls that fail, the number of calls so far, and the number of those that failed.
+pub record CallCounts : Type 0 where
+  pub failing : List ℕ
+  pub made : ℕ
+  pub faults : ℕ
+
 -- A source in memory. `left` are the bytes not yet read, `taken` is the number of bytes read, modulo 2^64, and `piece`
 -- is the most that one call reads. `failing` are the numbers, from 1, of the calls that fail, `calls` is the number of
 -- calls so far, and `faults` the number of those that failed.

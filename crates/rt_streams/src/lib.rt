@@ -10,12 +10,14 @@
 #![tactic(auto)]
 
 mod adapters;
+mod call_counter;
 mod gate;
 mod memory;
 mod sink;
 mod source;
 
 pub use adapters::{Reading, Writing};
+pub use call_counter::CallCounter;
 pub use gate::{Gate, OpenGate};
 pub use memory::{MemSink, MemSource};
 pub use sink::{Sink, WriteFault, write_all};

@@ -4,51 +4,10 @@ ghost use Rattle.std.specs.Io.KnownBytes.{Keeps, Appends};
 ghost use Rattle.rt_streams.specs.Streams.{Rose, HasCause, HandsOut, IsTaken, CountsBytes, next_count};
 ghost use Rattle.rt_streams.specs.Memory.{Feed, Store, fails_next, is_fault};
 
+use crate::call_counter::CallCounter;
 use crate::{Failed, Sink, Source};
 use std::alloc::{AllocError, Global};
 use std::marker::Model;
-
-// The number of calls so far, the calls that fail, and the number of faults. Each counter stops at 2^64 - 1.
-#[derive(Drop)]
-struct CallCounter {
-    failing: Vec<u64>,
-    made: u64,
-    faults: u64,
-}
-
-impl CallCounter {
-    fn new(failing: Vec<u64>) -> Self
-        ensures { result ≡ record { failing = failing; made = 0; faults = 0 } }
-    {
-        CallCounter {
-            failing,
-            made: 0,
-            faults: 0,
-        }
-    }
-
-    // Adds 1 to the count of faults.
-    fn fault(&mut self)
-        ensures { self.new ≡ record self.old { faults = next_count self.old.faults } }
-    {
-        self.faults = self.faults.saturating_add(1);
-    }
-
-    // Counts the next call, and fails if `failing` contains its number.
-    fn next(&mut self) -> Result<(), Failed>
-        ensures fails { IsErr result ↔ IsTrue (fails_next self.old.failing.items self.old.made) }
-        ensures failing { self.new.failing ≡ self.old.failing }
-        ensures made { self.new.made ≡ next_count self.old.made }
-        ensures faults { self.new.faults ≡ (if is_err result then next_count self.old.faults else self.old.faults) }
-    {
-        self.made = self.made.saturating_add(1);
-        if self.failing.contains(&self.made) {
-            self.fault();
-            return Err(Failed);
-        }
-        Ok(())
-    }
-}
 
 /// A source over bytes in memory, for tests. This project's own rule.
 #[derive(Drop)]
@@ -69,7 +28,7 @@ impl Model for MemSource {
       left = drop s.at s.bytes.items;
       taken = s.at % 2 ^ 64;
       piece = s.piece;
-      failing = s.calls.failing.items;
+      failing = s.calls.failing;
       calls = s.calls.made;
       faults = s.calls.faults;
     } };
@@ -152,7 +111,7 @@ impl Model for MemSink {
       written = s.bytes.items;
       room = s.room;
       piece = s.piece;
-      failing = s.calls.failing.items;
+      failing = s.calls.failing;
       calls = s.calls.made;
       faults = s.calls.faults;
     } };
