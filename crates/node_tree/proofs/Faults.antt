@@ -1,37 +1,45 @@
--- Calls on a tree that has no faults of its own.
-use Rattle.std.proofs.Common.{ℕ, ◌≡◌, ◌≤◌, true, false, Result, Ok, Err, refl, sym, ◌∙◌, arith, true≢false}
+-- Calls that fail by a list, and others.
+use Rattle.std.proofs.Common.{ℕ, ◌≡◌, ◌≤◌, true, false, Result, Ok, Err, inl, inr, refl, sym, ◌∙◌, arith, true≢false, if◌then◌else◌}
+use Rattle.std.specs.Prelude.{is_err}
 use Rattle.rt_streams.specs.declared.source.Failed.{Failed}
 use Rattle.rt_streams.specs.Streams.{HasCause, next_count}
-use Rattle.rt_streams.specs.Memory.{fails_next}
-use Rattle.node_tree.specs.declared.failing.FailingTree.{FailingTree}
+use Rattle.rt_streams.specs.Memory.{CallCounts, fails_next}
 use Rattle.node_tree.specs.Planned.{FollowsPlan}
 
--- A result without a fault has any cause.
-pub cause_kept : {T E : Type 0} (before now : ℕ) (r : Result T E) → before ≤ now → HasCause 0 0 r
-    → HasCause before now r
-cause_kept before now (Ok u) later none = record { later = later; failed = tt }
-cause_kept before now (Err e) later none = absurd (let rose = none.failed in omega (arith, rose))
+-- A count of faults that rises with a failed call shows its cause.
+pub caused : (before now : ℕ) (r : Result Unit Failed) → before ≤ now
+    → now ≡ (if is_err r then next_count before else before) → HasCause before now r
+caused before now (Ok u) later e = record { later = later; failed = tt }
+caused before now (Err x) later e =
+    let same : now ≡ next_count before = e in record { later = later; failed = omega (arith, same) }
 
--- A call that the plan lets through follows it.
-pub passes : (before now : FailingTree) (r : Result Unit Failed)
-    → fails_next before.failing.items before.calls ≡ false → now.failing.items ≡ before.failing.items
-    → now.calls ≡ next_count before.calls → now.faults ≡ before.faults → HasCause 0 0 r → FollowsPlan before now r
-passes before now (Ok u) lets plan calls faults none = record {
-  fails = (λ never. absurd (true≢false (sym never)), λ holds. absurd (true≢false (sym holds ∙ lets)));
-  kept = tt;
+-- A call that the list does not have follows the plan.
+pub passes : (before now : CallCounts) (was is : ℕ) (r : Result Unit Failed)
+    → fails_next before.failing before.made ≡ false → now.failing ≡ before.failing
+    → now.made ≡ next_count before.made → now.faults ≡ (if is_err r then next_count before.faults else before.faults)
+    → HasCause was is r → FollowsPlan before now was is r
+passes before now was is (Ok u) lets plan calls faults has = record {
+  fails = λ listed. absurd (true≢false (sym listed ∙ lets));
+  cause = λ failed. absurd (true≢false (sym failed));
   plan = plan;
   calls = calls;
   faults = faults;
 }
-passes before now (Err e) lets plan calls faults none = absurd (let rose = none.failed in omega (arith, rose))
+passes before now was is (Err e) lets plan calls faults has = record {
+  fails = λ listed. refl;
+  cause = λ failed. inr has.failed;
+  plan = plan;
+  calls = calls;
+  faults = faults;
+}
 
--- A call that the plan lets fail follows it.
-pub fails : (before now : FailingTree) (e : Failed) → fails_next before.failing.items before.calls ≡ true
-    → now.tree ≡ before.tree → now.failing.items ≡ before.failing.items → now.calls ≡ next_count before.calls
-    → now.faults ≡ next_count before.faults → FollowsPlan before now (Err e)
-fails before now e holds same plan calls faults = record {
-  fails = (λ failed. holds, λ listed. refl);
-  kept = same;
+-- A call that the list has follows the plan.
+pub fails : (before now : CallCounts) (was is : ℕ) (e : Failed) → fails_next before.failing before.made ≡ true
+    → now.failing ≡ before.failing → now.made ≡ next_count before.made → now.faults ≡ next_count before.faults
+    → FollowsPlan before now was is (Err e)
+fails before now was is e holds plan calls faults = record {
+  fails = λ listed. refl;
+  cause = λ failed. inl holds;
   plan = plan;
   calls = calls;
   faults = faults;

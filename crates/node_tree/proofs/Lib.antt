@@ -9,6 +9,7 @@ pub mod SetCalls
 pub mod InnerCalls
 pub mod Exchanges
 pub mod StoredNodes
+pub mod ListedNodes
 pub mod FirstNodes
 pub mod NamedAttributes
 pub mod TreeSteps

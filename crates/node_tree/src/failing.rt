@@ -1,199 +1,224 @@
-// A node tree whose calls fail where a test wants it.
-ghost use Rattle.std.specs.Prelude.{◌≡◌, ◌≤◌, ◌+◌, ◌<◌, IsTrue, Some, OnOk, if◌then◌else◌};
-ghost use Rattle.rt_streams.specs.Streams.{Rose, HasCause, next_count};
+// An applier whose calls fail where a test wants it.
+ghost use Rattle.std.specs.Prelude.{◌≡◌, ◌≤◌, ◌+◌, ◌<◌, IsTrue, OnOk, is_err, if◌then◌else◌};
+ghost use Rattle.rt_streams.specs.Streams.{HasCause, next_count};
 ghost use Rattle.rt_streams.specs.Memory.{fails_next};
 ghost use Rattle.node_tree.specs.Calls.{Allows, Becomes, insert_count};
 ghost use Rattle.node_tree.specs.declared.ops.Op.TheVariants as op;
 ghost use Rattle.node_tree.specs.Planned.{FollowsPlan};
-ghost use Rattle.node_tree.specs.NodeTrees.{CursorTree, tree_at_root};
-ghost use Rattle.node_tree.specs.StoredTree.{cursor_tree};
-ghost use Rattle.rt_groups.specs.Nodes.{None as no_nodes};
 
 use crate::applier::Applier;
 use crate::ops::{NewNode, Ops};
 use crate::tree::NodeTree;
-use rt_streams::Failed;
+use rt_streams::{CallCounter, Failed};
 use rt_values::{NoMemory, Value, Word};
 use std::alloc::Global;
 
-/// A tree of nodes in memory whose calls fail exactly as a list says. For tests of what follows a failure.
+/// An applier over another one, whose calls fail exactly where a list says or the other one fails. For tests of what
+/// follows a failure.
 ///
-/// A call that fails leaves the tree. Calls are counted from 1, without `reserve`.
+/// A call that fails by the list leaves the other applier. Calls are counted from 1, without `reserve`.
 #[derive(Drop)]
-pub struct FailingTree {
-    tree: NodeTree,
-    // The numbers of the calls that fail.
-    failing: Vec<u64>,
-    // The number of calls so far.
-    calls: u64,
-    // The number of failed calls. It stops at 2^64 - 1.
-    faults: u64,
+pub struct FailingApplier<A: Drop> {
+    inner: A,
+    calls: CallCounter,
 }
 
-impl FailingTree {
-    /// Returns the tree without nodes, whose calls with the numbers `failing` fail. The counts of calls and of failed
+/// A tree of nodes in memory whose calls fail exactly where a list says.
+pub type FailingTree = FailingApplier<NodeTree>;
+
+impl<A: Drop> FailingApplier<A> {
+    /// Returns the applier over `inner` whose calls with the numbers `failing` fail. The counts of calls and of failed
     /// calls are 0.
-    pub fn new(alloc: Global, failing: Vec<u64>) -> Self
-        ensures tree { ⟦<FailingTree as Applier>⟧.tree result ≡ Some (tree_at_root no_nodes) }
-        ensures faults { ⟦<FailingTree as Applier>⟧.faults result ≡ 0 }
-        ensures failing { result.failing.items ≡ failing.items }
-        ensures calls { result.calls ≡ 0 }
+    pub fn new(inner: A, failing: Vec<u64>) -> Self
+        ensures inner { result.inner ≡ inner }
+        ensures calls { result.calls ≡ record { failing = failing.items; made = 0; faults = 0 } }
     {
-        FailingTree {
-            tree: NodeTree::new(alloc),
-            failing,
-            calls: 0,
-            faults: 0,
+        FailingApplier {
+            inner,
+            calls: CallCounter::new(failing),
         }
     }
 
-    // Counts a call, and returns whether it fails.
-    fn fails(&mut self) -> bool
-        ensures fails { result ≡ fails_next self.old.failing.items self.old.calls }
-        ensures tree { self.new.tree ≡ self.old.tree }
-        ensures failing { self.new.failing ≡ self.old.failing }
-        ensures calls { self.new.calls ≡ next_count self.old.calls }
-        ensures faults { self.new.faults ≡ (if result then next_count self.old.faults else self.old.faults) }
-        ensures later { self.old.faults ≤ self.new.faults }
-        ensures rose { IsTrue result → Rose self.old.faults self.new.faults }
+    /// Returns the other applier.
+    pub fn inner(&self) -> &A
+        ensures { result.now ≡ self.now.inner }
     {
-        self.calls = self.calls.saturating_add(1);
-        if !self.failing.contains(&self.calls) {
-            return false;
+        &self.inner
+    }
+
+    // Counts a call, and returns whether the list has it.
+    fn fails(&mut self) -> bool
+        ensures fails { result ≡ fails_next self.old.calls.failing self.old.calls.made }
+        ensures inner { self.new.inner ≡ self.old.inner }
+        ensures failing { self.new.calls.failing ≡ self.old.calls.failing }
+        ensures made { self.new.calls.made ≡ next_count self.old.calls.made }
+        ensures faults { self.new.calls.faults
+            ≡ (if result then next_count self.old.calls.faults else self.old.calls.faults) }
+        ensures later { self.old.calls.faults ≤ self.new.calls.faults }
+    {
+        self.calls.next().is_err()
+    }
+
+    // Counts a fault if a call of the other applier failed.
+    fn noted(&mut self, made: Result<(), Failed>) -> Result<(), Failed>
+        ensures same { result ≡ made }
+        ensures inner { self.new.inner ≡ self.old.inner }
+        ensures failing { self.new.calls.failing ≡ self.old.calls.failing }
+        ensures made { self.new.calls.made ≡ self.old.calls.made }
+        ensures faults { self.new.calls.faults
+            ≡ (if is_err made then next_count self.old.calls.faults else self.old.calls.faults) }
+        ensures later { self.old.calls.faults ≤ self.new.calls.faults }
+    {
+        if made.is_err() {
+            self.calls.fault();
         }
-        self.faults = self.faults.saturating_add(1);
-        true
+        made
     }
 }
 
-#[tactic(auto, using(crate::proofs::Faults::cause_kept, crate::proofs::Faults::passes, crate::proofs::Faults::fails))]
-impl Applier for FailingTree {
-    ghost tree = { λ t. Some (cursor_tree t.tree) };
+#[tactic(auto, using(crate::proofs::Faults::fails, crate::proofs::Faults::passes, crate::proofs::Faults::caused))]
+impl<A: Applier + Drop> Applier for FailingApplier<A> {
+    ghost tree = { λ t. A.tree t.inner };
 
-    ghost spare = { λ t. t.tree.spare };
+    ghost spare = { λ t. A.spare t.inner };
 
-    ghost faults = { λ t. t.faults };
+    ghost faults = { λ t. t.calls.faults };
 
     fn reserve(&mut self, alloc: Global, ops: &Ops) -> Result<(), NoMemory>
-        ensures tree { Some (cursor_tree self.new.tree) ≡ Some (cursor_tree self.old.tree) }
-        ensures spare { self.old.tree.spare ≤ self.new.tree.spare }
-        ensures room { OnOk result (insert_count ops.now ≤ self.new.tree.spare) }
-        ensures faults { self.new.faults ≡ self.old.faults }
-        ensures plan { self.new.failing ≡ self.old.failing }
+        ensures tree { A.tree self.new.inner ≡ A.tree self.old.inner }
+        ensures spare { A.spare self.old.inner ≤ A.spare self.new.inner }
+        ensures room { OnOk result (insert_count ops.now ≤ A.spare self.new.inner) }
+        ensures faults { self.new.calls.faults ≡ self.old.calls.faults }
         ensures calls { self.new.calls ≡ self.old.calls }
     {
-        self.tree.reserve(alloc, ops)
+        self.inner.reserve(alloc, ops)
     }
 
     fn down(&mut self, index: usize) -> Result<(), Failed>
-        requires { Allows (Some (cursor_tree self.old.tree)) (op.Down index) }
-        ensures tree { OnOk result (Becomes
-            (Some (cursor_tree self.old.tree)) (Some (cursor_tree self.new.tree)) (op.Down index)) }
-        ensures spare { self.old.tree.spare ≤ self.new.tree.spare }
-        ensures cause { HasCause self.old.faults self.new.faults result }
-        ensures plan { FollowsPlan self.old self.new result }
+        requires { Allows (A.tree self.old.inner) (op.Down index) }
+        ensures tree { OnOk result (Becomes (A.tree self.old.inner) (A.tree self.new.inner) (op.Down index)) }
+        ensures spare { A.spare self.old.inner ≤ A.spare self.new.inner }
+        ensures cause { HasCause self.old.calls.faults self.new.calls.faults result }
+        ensures kept { IsTrue (fails_next self.old.calls.failing self.old.calls.made) → self.new.inner ≡ self.old.inner }
+        ensures plan { FollowsPlan
+            self.old.calls self.new.calls (A.faults self.old.inner) (A.faults self.new.inner) result }
     {
         if self.fails() {
             return Err(Failed);
         }
-        self.tree.down(index)
+        let made = self.inner.down(index);
+        self.noted(made)
     }
 
     fn up(&mut self) -> Result<(), Failed>
-        requires { Allows (Some (cursor_tree self.old.tree)) op.Up }
-        ensures tree { OnOk result (Becomes
-            (Some (cursor_tree self.old.tree)) (Some (cursor_tree self.new.tree)) op.Up) }
-        ensures spare { self.old.tree.spare ≤ self.new.tree.spare }
-        ensures cause { HasCause self.old.faults self.new.faults result }
-        ensures plan { FollowsPlan self.old self.new result }
+        requires { Allows (A.tree self.old.inner) op.Up }
+        ensures tree { OnOk result (Becomes (A.tree self.old.inner) (A.tree self.new.inner) op.Up) }
+        ensures spare { A.spare self.old.inner ≤ A.spare self.new.inner }
+        ensures cause { HasCause self.old.calls.faults self.new.calls.faults result }
+        ensures kept { IsTrue (fails_next self.old.calls.failing self.old.calls.made) → self.new.inner ≡ self.old.inner }
+        ensures plan { FollowsPlan
+            self.old.calls self.new.calls (A.faults self.old.inner) (A.faults self.new.inner) result }
     {
         if self.fails() {
             return Err(Failed);
         }
-        self.tree.up()
+        let made = self.inner.up();
+        self.noted(made)
     }
 
     fn insert_top_down(&mut self, index: usize, node: NewNode) -> Result<(), Failed>
-        requires inside { Allows (Some (cursor_tree self.old.tree)) (op.InsertTopDown index node) }
-        requires room { 0 < self.old.tree.spare }
-        ensures tree { OnOk result (Becomes
-            (Some (cursor_tree self.old.tree)) (Some (cursor_tree self.new.tree)) (op.InsertTopDown index node)) }
-        ensures spare { self.old.tree.spare ≤ self.new.tree.spare + 1 }
-        ensures cause { HasCause self.old.faults self.new.faults result }
-        ensures plan { FollowsPlan self.old self.new result }
+        requires inside { Allows (A.tree self.old.inner) (op.InsertTopDown index node) }
+        requires room { 0 < A.spare self.old.inner }
+        ensures tree { OnOk result (Becomes (A.tree self.old.inner) (A.tree self.new.inner) (op.InsertTopDown index node)) }
+        ensures spare { A.spare self.old.inner ≤ A.spare self.new.inner + 1 }
+        ensures cause { HasCause self.old.calls.faults self.new.calls.faults result }
+        ensures kept { IsTrue (fails_next self.old.calls.failing self.old.calls.made) → self.new.inner ≡ self.old.inner }
+        ensures plan { FollowsPlan
+            self.old.calls self.new.calls (A.faults self.old.inner) (A.faults self.new.inner) result }
     {
         if self.fails() {
             return Err(Failed);
         }
-        self.tree.insert_top_down(index, node)
+        let made = self.inner.insert_top_down(index, node);
+        self.noted(made)
     }
 
     fn insert_bottom_up(&mut self, index: usize, node: NewNode) -> Result<(), Failed>
-        requires { Allows (Some (cursor_tree self.old.tree)) (op.InsertBottomUp index node) }
-        ensures tree { OnOk result (Becomes
-            (Some (cursor_tree self.old.tree)) (Some (cursor_tree self.new.tree)) (op.InsertBottomUp index node)) }
-        ensures spare { self.old.tree.spare ≤ self.new.tree.spare }
-        ensures cause { HasCause self.old.faults self.new.faults result }
-        ensures plan { FollowsPlan self.old self.new result }
+        requires { Allows (A.tree self.old.inner) (op.InsertBottomUp index node) }
+        ensures tree { OnOk result (Becomes (A.tree self.old.inner) (A.tree self.new.inner) (op.InsertBottomUp index node)) }
+        ensures spare { A.spare self.old.inner ≤ A.spare self.new.inner }
+        ensures cause { HasCause self.old.calls.faults self.new.calls.faults result }
+        ensures kept { IsTrue (fails_next self.old.calls.failing self.old.calls.made) → self.new.inner ≡ self.old.inner }
+        ensures plan { FollowsPlan
+            self.old.calls self.new.calls (A.faults self.old.inner) (A.faults self.new.inner) result }
     {
         if self.fails() {
             return Err(Failed);
         }
-        self.tree.insert_bottom_up(index, node)
+        let made = self.inner.insert_bottom_up(index, node);
+        self.noted(made)
     }
 
     fn remove(&mut self, index: usize, count: usize) -> Result<(), Failed>
-        requires { Allows (Some (cursor_tree self.old.tree)) (op.Remove index count) }
-        ensures tree { OnOk result (Becomes
-            (Some (cursor_tree self.old.tree)) (Some (cursor_tree self.new.tree)) (op.Remove index count)) }
-        ensures spare { self.old.tree.spare ≤ self.new.tree.spare }
-        ensures cause { HasCause self.old.faults self.new.faults result }
-        ensures plan { FollowsPlan self.old self.new result }
+        requires { Allows (A.tree self.old.inner) (op.Remove index count) }
+        ensures tree { OnOk result (Becomes (A.tree self.old.inner) (A.tree self.new.inner) (op.Remove index count)) }
+        ensures spare { A.spare self.old.inner ≤ A.spare self.new.inner }
+        ensures cause { HasCause self.old.calls.faults self.new.calls.faults result }
+        ensures kept { IsTrue (fails_next self.old.calls.failing self.old.calls.made) → self.new.inner ≡ self.old.inner }
+        ensures plan { FollowsPlan
+            self.old.calls self.new.calls (A.faults self.old.inner) (A.faults self.new.inner) result }
     {
         if self.fails() {
             return Err(Failed);
         }
-        self.tree.remove(index, count)
+        let made = self.inner.remove(index, count);
+        self.noted(made)
     }
 
     fn move_range(&mut self, from: usize, to: usize, count: usize) -> Result<(), Failed>
-        requires { Allows (Some (cursor_tree self.old.tree)) (op.Move from to count) }
-        ensures tree { OnOk result (Becomes
-            (Some (cursor_tree self.old.tree)) (Some (cursor_tree self.new.tree)) (op.Move from to count)) }
-        ensures spare { self.old.tree.spare ≤ self.new.tree.spare }
-        ensures cause { HasCause self.old.faults self.new.faults result }
-        ensures plan { FollowsPlan self.old self.new result }
+        requires { Allows (A.tree self.old.inner) (op.Move from to count) }
+        ensures tree { OnOk result (Becomes (A.tree self.old.inner) (A.tree self.new.inner) (op.Move from to count)) }
+        ensures spare { A.spare self.old.inner ≤ A.spare self.new.inner }
+        ensures cause { HasCause self.old.calls.faults self.new.calls.faults result }
+        ensures kept { IsTrue (fails_next self.old.calls.failing self.old.calls.made) → self.new.inner ≡ self.old.inner }
+        ensures plan { FollowsPlan
+            self.old.calls self.new.calls (A.faults self.old.inner) (A.faults self.new.inner) result }
     {
         if self.fails() {
             return Err(Failed);
         }
-        self.tree.move_range(from, to, count)
+        let made = self.inner.move_range(from, to, count);
+        self.noted(made)
     }
 
     fn set(&mut self, name: Word, value: Value) -> Result<(), Failed>
-        requires { Allows (Some (cursor_tree self.old.tree)) (op.Set name value) }
-        ensures tree { OnOk result (Becomes
-            (Some (cursor_tree self.old.tree)) (Some (cursor_tree self.new.tree)) (op.Set name value)) }
-        ensures spare { self.old.tree.spare ≤ self.new.tree.spare }
-        ensures cause { HasCause self.old.faults self.new.faults result }
-        ensures plan { FollowsPlan self.old self.new result }
+        requires { Allows (A.tree self.old.inner) (op.Set name value) }
+        ensures tree { OnOk result (Becomes (A.tree self.old.inner) (A.tree self.new.inner) (op.Set name value)) }
+        ensures spare { A.spare self.old.inner ≤ A.spare self.new.inner }
+        ensures cause { HasCause self.old.calls.faults self.new.calls.faults result }
+        ensures kept { IsTrue (fails_next self.old.calls.failing self.old.calls.made) → self.new.inner ≡ self.old.inner }
+        ensures plan { FollowsPlan
+            self.old.calls self.new.calls (A.faults self.old.inner) (A.faults self.new.inner) result }
     {
         if self.fails() {
             return Err(Failed);
         }
-        self.tree.set(name, value)
+        let made = self.inner.set(name, value);
+        self.noted(made)
     }
 
     fn clear(&mut self) -> Result<(), Failed>
-        ensures tree { OnOk result (Becomes
-            (Some (cursor_tree self.old.tree)) (Some (cursor_tree self.new.tree)) op.Clear) }
-        ensures spare { self.old.tree.spare ≤ self.new.tree.spare }
-        ensures cause { HasCause self.old.faults self.new.faults result }
-        ensures plan { FollowsPlan self.old self.new result }
+        ensures tree { OnOk result (Becomes (A.tree self.old.inner) (A.tree self.new.inner) op.Clear) }
+        ensures spare { A.spare self.old.inner ≤ A.spare self.new.inner }
+        ensures cause { HasCause self.old.calls.faults self.new.calls.faults result }
+        ensures kept { IsTrue (fails_next self.old.calls.failing self.old.calls.made) → self.new.inner ≡ self.old.inner }
+        ensures plan { FollowsPlan
+            self.old.calls self.new.calls (A.faults self.old.inner) (A.faults self.new.inner) result }
     {
         if self.fails() {
             return Err(Failed);
         }
-        self.tree.clear()
+        let made = self.inner.clear();
+        self.noted(made)
     }
 }

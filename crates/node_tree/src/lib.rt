@@ -19,6 +19,7 @@ mod counts;
 mod failing;
 mod flat;
 mod kept;
+mod kept_nodes;
 mod laws;
 mod level;
 mod listing;
@@ -32,7 +33,7 @@ mod unit;
 
 pub use applier::Applier;
 pub use carrying::carry;
-pub use failing::FailingTree;
+pub use failing::{FailingApplier, FailingTree};
 pub use flat::NodeRef;
 pub use laws::{ops_turn_the_old_tree_into_the_new, unchanged_tree_needs_no_calls};
 pub use listing::list_nodes;

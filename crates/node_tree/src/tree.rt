@@ -1,6 +1,8 @@
 // A node tree in memory.
-ghost use Rattle.std.specs.Prelude.{◌≡◌, ◌+◌, ◌≤◌, ◌<◌, ◌++◌, ◌∷◌, [], List, ℕ, length, take, drop, Some, OnOk, IsOk, MatchOption};
-ghost use Rattle.node_tree.specs.NodeTrees.{CursorTree, tree_at_root};
+ghost use Rattle.std.specs.Prelude.{◌≡◌, ◌+◌, ◌≤◌, ◌<◌, ◌++◌, ◌∷◌, [], List, ℕ, length, take, drop, Some, OnOk, IsOk, IfOk, MatchOption};
+ghost use Rattle.node_tree.specs.NodeTrees.{CursorTree, node_list, tree_at_root};
+ghost use Rattle.node_tree.specs.FlatNodes.{flat_nodes};
+ghost use Rattle.rt_groups.specs.Nodes.{Nodes};
 ghost use Rattle.node_tree.specs.Calls.{insert_count};
 ghost use Rattle.node_tree.specs.StoredTree.{cursor_tree, stored_after_down, stored_after_up, inserted_value, stored_after_set};
 ghost use Rattle.std.specs.List.{insert};
@@ -8,7 +10,9 @@ ghost use Rattle.gap_buffer.specs.Buffer.{list_after_move};
 ghost use Rattle.rt_groups.specs.Nodes.{None as no_nodes};
 
 use crate::applier::Applier;
+use crate::flat::NodeRef;
 use crate::kept::KeptNode;
+use crate::kept_nodes::push_nodes;
 use crate::lists::{
     close_first, exchange, fill_first, fill_up, join, open_first, set_in_first, split, take_all,
 };
@@ -62,6 +66,17 @@ impl NodeTree {
             spare: LinkedList::new(alloc),
             made: 0,
         }
+    }
+
+    /// Returns the nodes below the current node in preorder, so all nodes of the tree if the unseen root is current. Copies
+    /// no values. A rule of this project: with it a program can show what it has in memory.
+    pub fn list(&self, alloc: Global) -> Result<Vec<NodeRef<'_>>, NoMemory>
+        ensures { (t : Nodes) → (cursor_tree self.now).children ≡ node_list t
+            → IfOk result (λ v. v.items ≡ flat_nodes t) }
+    {
+        let mut nodes = Vec::new(alloc);
+        push_nodes(&self.children, &mut nodes)?;
+        Ok(nodes)
     }
 
     // Opens the child at `index`.

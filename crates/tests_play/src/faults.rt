@@ -1,115 +1,30 @@
 // Frames over an applier whose calls fail.
-ghost use Rattle.std.specs.Prelude.{◌≡◌, ◌≤◌, ◌<◌, ◌^◌, None, OnErr};
-ghost use Rattle.rt_streams.specs.Streams.{Rose};
+ghost use Rattle.std.specs.Prelude.{◌≡◌, ◌<◌};
 
 use crate::map_view::{MapView, view_of};
 use crate::programs::checked_program;
 use lang_checks::Checked;
-use node_tree::{Applier, NewNode, Op, Ops};
+use node_tree::{FailingApplier, Op, Ops, UnitApplier};
 use recomposer::{Composition, FrameStop};
 use rt_groups::Report;
-use rt_streams::Failed;
-use rt_values::{NoMemory, Steps, Value, Word};
+use rt_values::Steps;
 use std::alloc::Global;
 use std::marker::Brand;
 use std::sync::ledger::{Blank, Ledger};
 use std::test::Fail;
 
-// A row for each item.
+// A row for each item, without keys.
 const PROGRAM: &str = "(compose 1)
 (state list Ints Structural (ints))
-(fun root () (for i (get list) (key i (node Row ((item i))))))";
+(fun root () (for i (get list) (node Row ((item i)))))";
 
-// A call on an applier.
-#[derive(Clone, Copy, PartialEq, Eq)]
-enum Made {
-    Clear,
-    Insert { index: usize, number: u64 },
-    Other,
-}
+// The calls of the first frame of three items: an insert of each row and the report that it is complete.
+const FIRST: u64 = 6;
 
-// An applier that lists its calls. One of them, counted from 1, fails.
-#[derive(Drop)]
-struct FailingList {
-    made: Vec<Made>,
-    failing: u64,
-    calls: u64,
-    faults: u64,
-}
+// The calls of the frame in which the three items are in another order: for each row `down`, `set` and `up`.
+const SECOND: u64 = 9;
 
-impl FailingList {
-    // Counts a call, and lists it unless it fails.
-    fn make(&mut self, call: Made) -> Result<(), Failed>
-        ensures later { self.old.faults ≤ self.new.faults }
-        ensures failed { OnErr result (Rose self.old.faults self.new.faults) }
-    {
-        self.calls = self.calls.saturating_add(1);
-        if self.calls == self.failing {
-            self.faults = self.faults.saturating_add(1);
-            return Err(Failed);
-        }
-        let _ = self.made.push(call);
-        Ok(())
-    }
-}
-
-impl Applier for FailingList {
-    ghost tree = { λ _. None };
-
-    ghost spare = { λ _. 2 ^ 64 };
-
-    ghost faults = { λ l. l.faults };
-
-    fn reserve(&mut self, _alloc: Global, ops: &Ops) -> Result<(), NoMemory> {
-        let _count = ops.insert_count();
-        Ok(())
-    }
-
-    fn down(&mut self, _index: usize) -> Result<(), Failed> {
-        self.make(Made::Other)
-    }
-
-    fn up(&mut self) -> Result<(), Failed> {
-        self.make(Made::Other)
-    }
-
-    fn insert_top_down(&mut self, index: usize, node: NewNode) -> Result<(), Failed> {
-        self.make(Made::Insert {
-            index,
-            number: node.number,
-        })
-    }
-
-    fn insert_bottom_up(&mut self, _index: usize, _node: NewNode) -> Result<(), Failed> {
-        self.make(Made::Other)
-    }
-
-    fn remove(&mut self, _index: usize, _count: usize) -> Result<(), Failed> {
-        self.make(Made::Other)
-    }
-
-    fn move_range(&mut self, _from: usize, _to: usize, _count: usize) -> Result<(), Failed> {
-        self.make(Made::Other)
-    }
-
-    fn set(&mut self, _name: Word, _value: Value) -> Result<(), Failed> {
-        self.make(Made::Other)
-    }
-
-    fn clear(&mut self) -> Result<(), Failed> {
-        self.make(Made::Clear)
-    }
-}
-
-// Returns the applier whose call number `failing` fails.
-fn failing_list(alloc: Global, failing: u64) -> FailingList {
-    FailingList {
-        made: Vec::new(alloc),
-        failing,
-        calls: 0,
-        faults: 0,
-    }
-}
+type Failing = FailingApplier<UnitApplier>;
 
 // Composes what the frame owes, and makes its calls on the applier. `blank` is the ledger of the steps, which no test
 // reads.
@@ -117,7 +32,7 @@ fn recompose_counting<L: Ledger>(
     alloc: Global,
     composition: &mut Composition,
     view: &mut MapView,
-    applier: &mut FailingList,
+    applier: &mut Failing,
     blank: Blank,
 ) -> Result<Report, FrameStop>
     requires name { blank.name ≡ L.name }
@@ -129,91 +44,84 @@ fn recompose_counting<L: Ledger>(
     composition.recompose_with(alloc, view, applier, &mut steps)
 }
 
-fn recompose_with(
+// Makes a frame in which the list has these items.
+fn frame_with(
     alloc: Global,
     composition: &mut Composition,
-    view: &mut MapView,
-    applier: &mut FailingList,
-) -> Result<Report, FrameStop> {
-    recompose_counting::<Brand>(alloc, composition, view, applier, Blank::new(1))
-}
-
-// Whether a list of calls begins with `clear`.
-fn begins_with_clear(ops: &Ops) -> bool {
-    matches!(ops.items().first(), Some(Op::Clear))
-}
-
-// Makes the first frame. Returns whether the applier fails, and nothing but the next number is kept.
-fn fails_at_an_insert(
-    alloc: Global,
-    composition: &mut Composition,
-    view: &mut MapView,
-    applier: &mut FailingList,
-) -> bool {
+    items: &[i64],
+    applier: &mut Failing,
+) -> Result<Result<Report, FrameStop>, Fail> {
+    let mut view = view_of(alloc, items, &[])?;
     composition.note(&[0]);
-    let first = recompose_with(alloc, composition, view, applier);
-    matches!(first, Err(FrameStop::ApplierFault))
-        && composition.next() == 4
-        && composition.table().len() == 0
-        && composition.ops().len() == 0
+    Ok(recompose_counting::<Brand>(alloc, composition, &mut view, applier, Blank::new(1)))
 }
 
-// Makes a frame after a fault. Returns whether it clears the tree and inserts three nodes.
-fn inserts_all_again(
+// Whether the calls insert three rows with these numbers, and then report each.
+fn inserts_three(calls: &[Op], numbers: [u64; 3]) -> bool {
+    let [
+        Op::InsertTopDown { index: 0, node: a },
+        Op::InsertTopDown { index: 1, node: b },
+        Op::InsertTopDown { index: 2, node: c },
+        Op::InsertBottomUp { index: 0, node: d },
+        Op::InsertBottomUp { index: 1, node: e },
+        Op::InsertBottomUp { index: 2, node: f },
+    ] = calls
+    else {
+        return false;
+    };
+    [a.number, b.number, c.number] == numbers && [d.number, e.number, f.number] == numbers
+}
+
+// Whether the calls clear the tree and then insert three rows with these numbers.
+fn clears_and_inserts(ops: &Ops, numbers: [u64; 3]) -> bool {
+    matches!(ops.items().split_first(), Some((Op::Clear, calls)) if inserts_three(calls, numbers))
+}
+
+// Makes a frame whose call fails. Returns whether nothing but the next number is kept, and the calls of the last good
+// frame are lent.
+fn fails_and_keeps_the_number(
     alloc: Global,
     composition: &mut Composition,
-    view: &mut MapView,
-    applier: &mut FailingList,
-) -> bool {
-    let second = recompose_with(alloc, composition, view, applier);
-    matches!(second, Ok(Report { nodes: 3, .. }))
-        && composition.ops().len() == 4
-        && begins_with_clear(composition.ops())
-}
-
-// The calls that succeed if the second one fails.
-const MADE_AROUND_A_FAULT: [Made; 5] = [
-    Made::Insert {
-        index: 0,
-        number: 1,
-    },
-    Made::Clear,
-    Made::Insert {
-        index: 0,
-        number: 4,
-    },
-    Made::Insert {
-        index: 1,
-        number: 5,
-    },
-    Made::Insert {
-        index: 2,
-        number: 6,
-    },
-];
-
-// Makes a frame over an applier that fails, and one after it. Returns whether the applier is called as it should be.
-fn clears_after_a_fault(alloc: Global, composition: &mut Composition) -> Result<bool, Fail> {
-    let mut view = view_of(alloc, &[1, 2, 3], &[])?;
-    let mut applier = failing_list(alloc, 2);
+    applier: &mut Failing,
+) -> Result<bool, Fail> {
+    let refused = frame_with(alloc, composition, &[3, 1, 2], applier)?;
     Ok(
-        fails_at_an_insert(alloc, composition, &mut view, &mut applier)
-            && inserts_all_again(alloc, composition, &mut view, &mut applier)
-            && applier.made.as_slice() == MADE_AROUND_A_FAULT.as_slice(),
+        matches!(refused, Err(FrameStop::ApplierFault))
+            && composition.next() == 4
+            && composition.table().len() == 0
+            && inserts_three(composition.ops().items(), [1, 2, 3]),
     )
 }
 
-// Makes a frame over an applier that fails, and one after it, both in a new composition. Returns whether the applier is
-// called as it should be.
-fn clears_in_new(alloc: Global, program: &Checked) -> Result<bool, Fail> {
+// Makes a good frame, one after it, in which call number `failing` fails, and a third one. Returns whether the last one begins anew.
+fn fails_and_recovers(alloc: Global, program: &Checked, failing: u64) -> Result<bool, Fail> {
     let mut composition = Composition::new(alloc, program, 0)?;
-    clears_after_a_fault(alloc, &mut composition)
+    let mut applier = FailingApplier::new(UnitApplier, vec![in alloc; failing]?);
+    let first = frame_with(alloc, &mut composition, &[1, 2, 3], &mut applier)?;
+    if !matches!(first, Ok(Report { nodes: 3, .. }))
+        || !inserts_three(composition.ops().items(), [1, 2, 3])
+    {
+        return Ok(false);
+    }
+    if !fails_and_keeps_the_number(alloc, &mut composition, &mut applier)? {
+        return Ok(false);
+    }
+    let last = frame_with(alloc, &mut composition, &[3, 1, 2], &mut applier)?;
+    Ok(
+        matches!(last, Ok(Report { nodes: 3, .. }))
+            && clears_and_inserts(composition.ops(), [4, 5, 6]),
+    )
 }
 
-// The frame after a fault clears the tree, and makes all nodes again with new numbers.
+// Whichever call of a frame fails, the frame after it clears the tree, and makes all nodes again with new numbers.
 #[test]
 fn fault_of_the_applier_clears_the_tree_and_uses_up_numbers(rt: HostRuntime) -> Result<(), Fail> {
     let program = checked_program(rt.alloc(), PROGRAM.as_bytes())?;
-    assert!(rt; clears_in_new(rt.alloc(), &program)?);
+    for failing in FIRST + 1..=FIRST + SECOND {
+        assert!(rt;
+            fails_and_recovers(rt.alloc(), &program, failing)?,
+            "{failing}"
+        );
+    }
     Ok(())
 }
