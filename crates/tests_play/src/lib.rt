@@ -1,7 +1,10 @@
 //! Tests of `lang_write`, `lang_meaning`, `recomposer`, `script_lang`, `play_gen`, `play_run` and `play_core` from outside:
-//! calls that the program does not make, an applier and streams that fail, logs and histories, and actors in turn.
+//! calls that the program does not make, an applier and streams that fail, a clock at its end, logs and histories, and actors
+//! in turn.
 #![tactic(auto)]
 
+#[cfg(test)]
+mod clock;
 #[cfg(test)]
 mod faults;
 #[cfg(test)]

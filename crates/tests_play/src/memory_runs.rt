@@ -33,17 +33,24 @@ pub fn source_failing(alloc: Global, bytes: &[u8], failing: u64) -> Result<MemSo
 
 /// Makes an empty sink. The call with the number `failing`, counted from 1, fails, or none if that is 0.
 pub fn sink_failing(alloc: Global, failing: u64) -> Result<MemSink, Fail> {
-    Ok(MemSink::new(alloc, 4096, 4096, [failing].to_vec(alloc)?)?)
+    sink_with_room(alloc, 4096, failing)
 }
 
-/// What `play` is called with: its one argument, its input, and the numbers of the read and of the write that fail,
-/// counted from 1, or 0 for none.
+/// Makes an empty sink that takes `room` bytes in all. The call with the number `failing`, counted from 1, fails, or
+/// none if that is 0.
+pub fn sink_with_room(alloc: Global, room: usize, failing: u64) -> Result<MemSink, Fail> {
+    Ok(MemSink::new(alloc, room, 4096, [failing].to_vec(alloc)?)?)
+}
+
+/// What `play` is called with: its one argument, its input, the numbers of the read and of the write that fail, counted
+/// from 1, or 0 for none, and how many bytes the sink takes.
 #[derive(Clone, Copy)]
 pub struct Run<'a> {
     pub word: &'a str,
     pub input: &'a [u8],
     pub failing_read: u64,
     pub failing_write: u64,
+    pub room: usize,
 }
 
 /// Runs `play` on a new world through a gate. Returns the status and the bytes that are written.
@@ -58,7 +65,7 @@ pub fn play_on<R: Threads + Wait + Sync, V: Versions<P = BuiltIn>, G: Gate + Syn
 {
     let words = vec![in alloc; run.word.to_string(alloc)?]?;
     let mut source = source_failing(alloc, run.input, run.failing_read)?;
-    let mut sink = sink_failing(alloc, run.failing_write)?;
+    let mut sink = sink_with_room(alloc, run.room, run.failing_write)?;
     let status = play(rt, alloc, &words, world, &mut source, &mut sink, gate);
     Ok((status, sink.bytes().to_vec(alloc)?))
 }

@@ -68,6 +68,7 @@ fn ends_after<R: Threads + Wait + Sync>(
         input: COUNTER,
         failing_read: 0,
         failing_write: (count as u64).saturating_add(1),
+        room: 4096,
     };
     let (status, written) = play_on_new(rt, alloc, run)?;
     Ok(status == Status::WriteFault && written == first_lines(alloc, lines, count)?)
@@ -96,6 +97,7 @@ fn writes_nothing<R: Threads + Wait + Sync>(
         input: COUNTER,
         failing_read,
         failing_write: 0,
+        room: 4096,
     };
     let (status, written) = play_on_new(rt, alloc, run)?;
     Ok(status == Status::ReadFault && written.is_empty())
@@ -107,5 +109,21 @@ fn a_failing_read_writes_nothing(rt: HostRuntime) -> Result<(), Fail> {
     for failing_read in 1..9 {
         assert!(rt; writes_nothing(&rt, rt.alloc(), failing_read)?);
     }
+    Ok(())
+}
+
+// A sink that takes no byte is a write fault, although none of its calls fails.
+#[test]
+fn a_sink_without_room_is_a_write_fault(rt: HostRuntime) -> Result<(), Fail> {
+    let run = Run {
+        word: "run",
+        input: COUNTER,
+        failing_read: 0,
+        failing_write: 0,
+        room: 0,
+    };
+    let (status, written) = play_on_new(&rt, rt.alloc(), run)?;
+    assert!(rt; status == Status::WriteFault);
+    assert!(rt; written.is_empty());
     Ok(())
 }

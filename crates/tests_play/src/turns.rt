@@ -105,6 +105,7 @@ fn play_through<R: Threads + Wait + Sync>(
         input,
         failing_read: 0,
         failing_write: 0,
+        room: 4096,
     };
     play_on(rt, alloc, &mut world, run, gate)
 }
