@@ -10,7 +10,7 @@ use Rattle.rt_values.specs.declared.value.Ty.TheVariants as ty
 use Rattle.rt_values.specs.declared.value.Value.{Value}
 use Rattle.lang_ast.specs.declared.program.State.{State}
 use Rattle.lang_ast.specs.Terms.{Func}
-use Rattle.lang_ast.specs.Programs.{root_number, functions_of}
+use Rattle.lang_ast.specs.Programs.{Program, root_number, functions_of}
 use Rattle.lang_checks.specs.declared.faults.CheckKind.{CheckKind}
 use Rattle.lang_checks.specs.declared.faults.CheckKind.TheVariants as kind
 use Rattle.lang_checks.specs.Scopes.{duplicate_faults}
@@ -117,9 +117,9 @@ fourth a b c d e h =
     let three = none_in c (d ++ e) two.1 in
     (none_in d e three.1).0
 
-pub program-fits : (header : ℕ) (states : List State) (functions : List Func)
-    → program_faults (record { header = header; states = states; functions = functions }) ≡ [] → StatesFit states
-program-fits header states functions h =
-    states-fit states (fourth (duplicate_faults [] (map (λ s. s.name) states))
-    (duplicate_faults [] (map (λ f. f.name) functions))
-    (fault_unless (nat_lt (root_number functions) (length functions)) kind.Unknown header) (states_faults states) _ h)
+pub program-fits : (p : Program) → program_faults p ≡ [] → StatesFit p.states
+program-fits p h =
+    states-fit p.states (fourth (duplicate_faults [] (map (λ s. s.name) p.states))
+    (duplicate_faults [] (map (λ f. f.name) p.functions))
+    (fault_unless (nat_lt (root_number p.functions) (length p.functions)) kind.Unknown p.header) (states_faults p.states) _
+    h)

@@ -81,11 +81,13 @@ fn refuses_the_first<V: Versions<P = BuiltIn>>(
     world: &mut V,
 ) -> Result<bool, Fail> {
     let mut composition = Composition::new(alloc, program, 0)?;
-    Ok(makes_state(alloc, world)
-        && is_spent(alloc, &mut composition, world)
-        && is_spent(alloc, &mut composition, world)
-        && parts_of(&composition) == [1, 0, 0]
-        && matches!(world.read(alloc, 0, 0, 0), Ok(Value::Int(7))))
+    Ok(
+        makes_state(alloc, world)
+            && is_spent(alloc, &mut composition, world)
+            && is_spent(alloc, &mut composition, world)
+            && parts_of(&composition) == [1, 0, 0]
+            && matches!(world.read(alloc, 0, 0, 0), Ok(Value::Int(7))),
+    )
 }
 
 // Makes a frame with the last tick of the clock, and begins another one. Returns whether the first is good, and the
@@ -98,10 +100,12 @@ fn refuses_the_second<V: Versions<P = BuiltIn>>(
     let mut composition = Composition::new(alloc, program, 0)?;
     let is_made = makes_state(alloc, world);
     let first = frame_counting::<V, Brand>(alloc, &mut composition, world, Blank::new(1));
-    Ok(is_made
-        && matches!(first, Ok(Report { nodes: 1, .. }))
-        && is_spent(alloc, &mut composition, world)
-        && parts_of(&composition) == [2, 2, 2])
+    Ok(
+        is_made
+            && matches!(first, Ok(Report { nodes: 1, .. }))
+            && is_spent(alloc, &mut composition, world)
+            && parts_of(&composition) == [2, 2, 2],
+    )
 }
 
 // At the end of the clock no frame begins, over either world, and all that there was stays.

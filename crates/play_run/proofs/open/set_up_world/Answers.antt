@@ -1,4 +1,5 @@
 use Rattle.std.proofs.Common.{◌≤◌, length, sym, subst}
+use Rattle.lang_ast.specs.Programs.{program_view}
 use Rattle.lang_ast.specs.SyntaxView.{functions_view}
 use Rattle.lang_ast.proofs.Limits.{few_states}
 use Rattle.play_run.specs.Opening.{StatesFit}
@@ -8,8 +9,7 @@ use Rattle.play_run.proofs.open.set_up_world.Goals as goal
 pub open_world-requires-clause-fit : goal.open_world-requires-clause-fit
 open_world-requires-clause-fit g c =
     subst StatesFit (sym c.states.ensures.states)
-    (program-fits c.args.program.now.header c.args.program.now.states.items
-    (functions_view c.args.program.now.functions.items) c.states.ensures.checked.fine)
+    (program-fits (program_view c.args.program.now) c.states.ensures.checked.fine)
 
 pub open_world-requires-clause-few : goal.open_world-requires-clause-few
 open_world-requires-clause-few g c =

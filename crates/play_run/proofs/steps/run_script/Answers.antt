@@ -1,6 +1,5 @@
 use Rattle.std.proofs.Common.{sym, ap, None}
-use Rattle.lang_ast.specs.Programs.{functions_of}
-use Rattle.lang_ast.specs.SyntaxView.{functions_view}
+use Rattle.lang_ast.specs.Programs.{functions_of, program_view}
 use Rattle.lang_script.specs.StepCalls.{script_parts}
 use Rattle.play_run.specs.RunOutput.{first_run, parts_after}
 use Rattle.play_run.specs.RunPromise.{job_titles, job_style, job_functions}
@@ -16,7 +15,7 @@ pub returns-clause-says : goal.returns-clause-says
 returns-clause-says g c =
     let p = c.args.job.now.program in
     let parts = script_parts c.args.job.now.script.actors.items c.args.job.now.script.forms.items in
-    let fit = program-fits p.header p.states.items (functions_view p.functions.items) c.args.job.now.fine in
+    let fit = program-fits (program_view p) c.args.job.now.fine in
     says_same c.run_do_forms-done.result _ _ _ _
     (sym (run_text_is (job_style c.args.job.now c.args.flags) (job_functions c.args.job.now)
     (g.V.Versions.log c.args.world.now) parts))
@@ -30,7 +29,7 @@ returns-clause-log g c =
     let p = c.args.job.now.program in
     let parts = script_parts c.args.job.now.script.actors.items c.args.job.now.script.forms.items in
     let log = g.V.Versions.log c.args.world.now in
-    let fit = program-fits p.header p.states.items (functions_view p.functions.items) c.args.job.now.fine in
+    let fit = program-fits (program_view p) c.args.job.now.fine in
     let ran = (c.run_do_forms-done.ensures.runs (first_run p.states.items log)
     (opened 0 p.states.items log fit c.set_up_world.ensures.log c.in-Ok.ensures.opened
     c.in-Ok-new.ensures.composition (ap functions_of c.in-Ok-new.ensures.program) c.in-Ok-new.ensures.names)).left in
@@ -41,7 +40,7 @@ returns-clause-stops g c =
     let p = c.args.job.now.program in
     let parts = script_parts c.args.job.now.script.actors.items c.args.job.now.script.forms.items in
     let log = g.V.Versions.log c.args.world.now in
-    let fit = program-fits p.header p.states.items (functions_view p.functions.items) c.args.job.now.fine in
+    let fit = program-fits (program_view p) c.args.job.now.fine in
     let ran = (c.run_do_forms-done.ensures.runs (first_run p.states.items log)
     (opened 0 p.states.items log fit c.set_up_world.ensures.log c.in-Ok.ensures.opened
     c.in-Ok-new.ensures.composition (ap functions_of c.in-Ok-new.ensures.program) c.in-Ok-new.ensures.names)).stops in
