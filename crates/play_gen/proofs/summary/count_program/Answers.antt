@@ -21,7 +21,7 @@ returns g c =
     let script = generated_script c.args.number c.args.size in
     let parts = script_parts (actors_of script) script in
     let memory = c.in_ok-memory.ensures in
-    let fit = program-fits p.header states functions
+    let fit = program-fits (program_view p)
     (subst (λ (q : declared). program_faults (program_view q) ≡ []) memory.program
     memory.composition.checked.fine) in
     let facts = opened_facts {functions = functions} {stands = g.V.Versions.stands} {world = c.args.world.now}

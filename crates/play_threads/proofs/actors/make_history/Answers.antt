@@ -3,7 +3,7 @@ use Rattle.std.proofs.lemmas.List.{length-map}
 use Rattle.snap_shared.specs.Seats.{IsNewSeat}
 use Rattle.snap_shared.specs.SharedCalls.{HasOnlyCallersBelow, numbers_below}
 use Rattle.lang_script.specs.StepCalls.{script_parts, opening_world}
-use Rattle.lang_ast.specs.SyntaxView.{functions_view}
+use Rattle.lang_ast.specs.Programs.{program_view}
 use Rattle.play_run.proofs.Openings.{program-fits}
 use Rattle.play_threads.proofs.ActorEnds.{ready, all_fit, all_acted}
 use Rattle.play_threads.proofs.Openings.{opening_counts, opening_shaped, opening_global}
@@ -29,8 +29,7 @@ returns g c =
     let w = opening_world states in
     let parts = script_parts c.args.job.now.script.actors.items c.args.job.now.script.forms.items in
     let n = length c.args.job.now.script.actors.items in
-    let fit = program-fits c.args.job.now.program.header states (functions_view c.args.job.now.program.functions.items)
-    c.args.job.now.fine in
+    let fit = program-fits (program_view c.args.job.now.program) c.args.job.now.fine in
     let actors = c.in-Ok-actors_for.actors.items in
     let long : c.len.result ≡ n = search rules in
     let number : length c.in-Ok.seats.items ≡ n = search (rules, c.in-Ok.ensures.many) in

@@ -1,4 +1,4 @@
-use Rattle.lang_ast.specs.SyntaxView.{functions_view}
+use Rattle.lang_ast.specs.Programs.{program_view}
 use Rattle.play_run.proofs.Openings.{program-fits}
 use Rattle.play_threads.proofs.Texts.{calls_in_turn, part_is_written, all_is_written, whole_part}
 use Rattle.play_threads.proofs.threads.write_calls.Goals as goal
@@ -7,7 +7,7 @@ pub replay-requires-clause-turn : goal.replay-requires-clause-turn
 replay-requires-clause-turn g c =
     let program = c.args.job.now.program in
     calls_in_turn c.args.job.now c.args.end
-    (program-fits program.header program.states.items (functions_view program.functions.items) c.args.job.now.fine)
+    (program-fits (program_view program) c.args.job.now.fine)
     c.requires.fine c.requires.calls
 
 pub returns-then-short-clause-says : goal.returns-then-short-clause-says
