@@ -1,75 +1,17 @@
 -- Unused ids lose their owners, and the rules of ids stay.
-use Rattle.std.proofs.Common.{◌≡◌, ◌≢◌, ℕ, ◌<◌, List, [], ◌∷◌, length, refl, sym, ap, ◌∙◌, subst, Bool, true, false, not, ◌&&◌, ◌||◌, ◌==◌, arith, inl, inr, nat_lt}
-use Rattle.std.specs.Prelude.{slice_set, nat_le}
-use Rattle.std.proofs.lemmas.List.{get_or-set_same, get_or-set_other}
-use Rattle.std.proofs.lemmas.Bool.Decides.{Decides-eqb}
+use Rattle.std.proofs.Common.{◌≡◌, ℕ, ◌<◌, List, length, refl, sym, ap, ◌∙◌, subst, Bool, true, false, not, ◌&&◌, arith, nat_lt}
+use Rattle.std.specs.Prelude.{nat_le}
 use Rattle.rt_values.specs.Maps.{contains}
 use Rattle.snap_ids.specs.IdLists.{IsRising, without_ids, is_valid}
-use Rattle.snap_ids.proofs.Booleans.{same_or_other, not_both, not_true, and_seen, and_alone, and_like}
-use Rattle.snap_ids.proofs.IdLists.{contains-without_ids, rising-without_ids, without_ids-twice}
-use Rattle.snap_ids.proofs.Members.{has_head}
+use Rattle.snap_ids.proofs.Booleans.{and_seen, and_alone, and_like}
+use Rattle.snap_ids.proofs.IdLists.{contains-without_ids, rising-without_ids}
 use Rattle.snap_nested.specs.Ids.{Ids, IsSound, valid_for_base}
 use Rattle.snap_nested.specs.Kept.{AreKept}
-use Rattle.snap_nested.specs.Members.{no_member, member, ids_of, AreMembers, AreOpen, is_owned}
+use Rattle.snap_nested.specs.Members.{member, ids_of, AreMembers, AreOpen, is_owned}
 use Rattle.snap_nested.specs.Unused.{LosesOwners, without_unused}
 use Rattle.snap_nested.specs.declared.family.Member.{Member}
 use Rattle.snap_nested.proofs.Members.{any_member, owned_by}
 use Rattle.snap_nested.proofs.Kept.{kept_rising, kept_owned, kept_each}
-
-unused-twice : (d : List ℕ) (m : Member) → without_unused d (without_unused d m) ≡ without_unused d m
-unused-twice d m =
-    ap (λ (l : List ℕ). record m { ids = l; invalid = without_ids (without_ids m.invalid d) d })
-    (without_ids-twice m.ids d)
-    ∙ ap (λ (l : List ℕ). record m { ids = without_ids m.ids d; invalid = l }) (without_ids-twice m.invalid d)
-
--- One step of the loop that removes ids from each open member.
-module _ (d : List ℕ) (before cur : List Member) (name : ℕ) (there : name < length cur)
-    (all : (k : ℕ) → without_unused d (member cur k) ≡ without_unused d (member before k)) where
-  abbrev stepped : List Member
-  stepped = slice_set cur name (without_unused d (member cur name))
-
-  at_step : member stepped name ≡ without_unused d (member cur name)
-  at_step = get_or-set_same cur name (without_unused d (member cur name)) no_member there
-
-  at_others : (k : ℕ) → k ≢ name → member stepped k ≡ member cur k
-  at_others k other = get_or-set_other cur name k (without_unused d (member cur name)) no_member other
-
-  pub all_dropped : (k : ℕ) → without_unused d (member stepped k) ≡ without_unused d (member before k)
-  all_dropped k = elim (same_or_other k name) [
-    | inl e ↦ subst (λ n. without_unused d (member stepped n) ≡ without_unused d (member before n)) (sym e)
-        (ap (without_unused d) at_step ∙ unused-twice d (member cur name) ∙ all name)
-    | inr e ↦ ap (without_unused d) (at_others k e) ∙ all k
-  ]
-
-  pub done_dropped : (more : List ℕ)
-      → ((k : ℕ) → contains k (name ∷ more) ≡ false → member cur k ≡ without_unused d (member before k)) → (k : ℕ)
-      → contains k more ≡ false → member stepped k ≡ without_unused d (member before k)
-  done_dropped more done k out = elim (same_or_other k name) [
-    | inl e ↦ subst (λ n. member stepped n ≡ without_unused d (member before n)) (sym e) (at_step ∙ all name)
-    | inr e ↦ at_others k e ∙ done k
-        (neither (name == k) (contains k more) (λ h. e (sym ((Decides-eqb name k).0 h))) out)
-  ] where
-    neither : (a b : Bool) → (a ≡ true → ⊥) → b ≡ false → (a || b) ≡ false
-    neither true b h k = absurd (h refl)
-    neither false b h k = k
-
-empty_list : (xs : List ℕ) → ((i : ℕ) → contains i xs ≡ true → ⊥) → xs ≡ []
-empty_list [] h = refl
-empty_list (x ∷ xs) h = absurd (h x (has_head x xs))
-
--- A name that is not open has no ids to lose.
-pub unopened : (d os : List ℕ) (ms : List Member) (n : ℕ) → AreOpen os ms → contains n os ≡ false
-    → member ms n ≡ without_unused d (member ms n)
-unopened d os ms n o out =
-    let m = member ms n in
-    let own : m.ids ≡ [] = empty_list m.ids (λ i h. not_both (contains n os) (o.kept n i h) out) in
-    let none : m.invalid ≡ [] = o.shut n (not_true m.is_live (λ h. not_both (contains n os) (o.live n h) out)) in
-    bare m own none where
-      bare : (m : Member) → m.ids ≡ [] → m.invalid ≡ [] → m ≡ without_unused d m
-      bare m own none =
-          ap (λ (l : List ℕ). record m { ids = l }) (own ∙ sym (ap (λ (l : List ℕ). without_ids l d) own))
-          ∙ ap (λ (l : List ℕ). record m { ids = without_ids m.ids d; invalid = l })
-          (none ∙ sym (ap (λ (l : List ℕ). without_ids l d) none))
 
 module _ {f g : Ids} {handed : ℕ} {unused : ℕ → Bool} (a : LosesOwners f g unused) (s : IsSound f handed)
     (root : unused 1 ≡ false) (first : (n i : ℕ) → f.owns n i ≡ true → unused (f.first n) ≡ false)

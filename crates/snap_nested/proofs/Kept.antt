@@ -1,6 +1,5 @@
 -- Invalid ids are ids that members have: every change of the members keeps that. And the gathering of such ids.
 use Rattle.std.proofs.Common.{◌≡◌, ◌≢◌, ℕ, zero, suc, ◌+◌, ◌-◌, ◌<◌, ◌≤◌, inl, inr, List, [], ◌∷◌, length, refl, sym, ap, subst, ◌∙◌, true, false, ◌||◌, ◌==◌, arith}
-use Rattle.std.specs.Prelude.{slice_index_or}
 use Rattle.rt_values.specs.Maps.{contains}
 use Rattle.rt_values.specs.declared.names.Kind.{Kind}
 use Rattle.snap_ids.specs.IdLists.{IsRising, with_run, without_ids}
@@ -234,9 +233,8 @@ module _ (ms ns : List Member) (name : ℕ) (gone : IsForgotten ms ns name) (k :
     | inl e ↦ (
       member ns name,
       ap (λ (j : ℕ). member ns j) e,
-      subst (λ (m : Member). IsRising m.invalid) (sym gone.here)
-          (rising-without_ids (member ms name).invalid own (kept_rising ms k name)),
-      λ i h. rest_owned name i (sym (ap (λ (m : Member). contains i m.invalid) gone.here) ∙ h),
+      subst (λ (m : Member). IsRising m.invalid) (sym gone.here) tt,
+      λ i h. absurd (nothing i (sym (ap (λ (m : Member). contains i m.invalid) gone.here) ∙ h)),
     )
     | inr e ↦ (
       member ns n,
@@ -245,7 +243,9 @@ module _ (ms ns : List Member) (name : ℕ) (gone : IsForgotten ms ns name) (k :
           (rising-without_ids (member ms n).invalid own (kept_rising ms k n)),
       λ i h. rest_owned n i (sym (ap (λ (m : Member). contains i m.invalid) (gone.others n e)) ∙ h),
     )
-  ])
+  ]) where
+    nothing : (i : ℕ) → contains i [] ≡ true → ⊥
+    nothing i h = cc
 
 pub kept_start : AreKept (global ∷ [])
 kept_start zero = refl
@@ -327,11 +327,3 @@ none_new ms from handed xs a past r = record {
   each = λ i w. let p = any_member (λ (m : Member). contains i m.ids) ms w.1 in
       absurd (omega (arith, w.0, past, (a.sound.owned p.0 i p.1).1));
 }
-
--- An item at an index within the list is the same whatever stands for an index past the end.
-pub at_index : (ms : List Member) (n : ℕ) (m : Member) → n < length ms → m ≡ slice_index_or ms n m → member ms n ≡ m
-at_index ms n m there is = any ms n there ∙ sym is where
-  any : (ms : List Member) (n : ℕ) → n < length ms → member ms n ≡ slice_index_or ms n m
-  any [] n h = absurd (omega (arith, h))
-  any (l ∷ ms) zero h = refl
-  any (l ∷ ms) (suc n) h = any ms n (omega (arith, h))

@@ -16,7 +16,7 @@ use Rattle.snap_nested.specs.declared.family.Member.{Member}
 use Rattle.snap_nested.proofs.Advancing.{live_advanced, first_advanced, owned_before, sees_advanced}
 use Rattle.snap_nested.proofs.Entering.{was_entered, owned_entered, new_unseen_entered}
 use Rattle.snap_nested.proofs.Applying.{was_applied, owned_other, sees_first_applied}
-use Rattle.snap_nested.proofs.Closing.{was_disposed, owns_disposed, first_disposed, sees_disposed, was_forgotten, owned_forgotten, other_forgotten, sees_known}
+use Rattle.snap_nested.proofs.Closing.{was_disposed, owns_disposed, first_disposed, sees_disposed, was_forgotten, owned_forgotten, other_forgotten, live_other, sees_known}
 use Rattle.snap_nested.proofs.Members.{dated, live_member, enters_entered, advances_advanced, disposes_closed, forgets_forgotten}
 use Rattle.snap_nested.proofs.Merging.{members_between, applies_merged, live_between, parent_between, up_between}
 use Rattle.snap_nested.proofs.Free.{some_own}
@@ -83,11 +83,13 @@ later_shut {f} {g} a s inner t = later_on t (was_disposed a s inner) (λ n i own
 later_gone : {f g : Ids} {handed name : ℕ} (a : Forgets f g name) (s : IsSound f handed) (closed : f.live name ≡ false)
     → AreSeenLater f → AreSeenLater g
 later_gone {f} {g} a s closed t = later_on t (was_forgotten a s closed) (λ n i own.
-    let was = owned_forgotten a s closed n i own in (
+    let was = owned_forgotten a s closed n i own in
+    let o = other_forgotten a s closed n i own in (
       i,
       was,
-      λ m now. ap (λ (k : ℕ). g.sees m k) (a.first n)
-          ∙ sees_known a s closed m n (f.first n) (other_forgotten a s closed n i own) (s.first_own n i was),
+      λ m now. ap (λ (k : ℕ). g.sees m k) (a.first n o)
+          ∙ sees_known a s closed m n (f.first n) (live_other a s closed m (was_forgotten a s closed m now)) o
+          (s.first_own n i was),
     ))
 
 pub later_lost : {f g : Ids} {unused : ℕ → Bool} → LosesOwners f g unused
@@ -122,7 +124,7 @@ later_closed ms handed name a live inner =
 
 pub later_forgotten : (ms ns : List Member) (handed name : ℕ) → AreMembers ms handed
     → (member ms name).is_live ≡ false → IsForgotten ms ns name → AreSeenLater (ids_of ms) → AreSeenLater (ids_of ns)
-later_forgotten ms ns handed name a closed gone = later_gone (forgets_forgotten ms ns name gone) a.sound closed
+later_forgotten ms ns handed name a closed gone = later_gone (forgets_forgotten ms ns name gone closed) a.sound closed
 
 pub later_merged : (ms : List Member) (handed name into : ℕ) (a : AreMembers ms handed)
     (live : (member ms name).is_live ≡ true) (inner : 0 < name) (parent : (member ms name).parent ≡ into)

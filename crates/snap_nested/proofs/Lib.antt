@@ -14,3 +14,5 @@ pub mod Kept
 pub mod Dropping
 pub mod Later
 pub mod Needed
+pub mod ByName
+pub mod Forgetting

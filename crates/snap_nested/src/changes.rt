@@ -8,11 +8,10 @@ ghost use Rattle.snap_nested.specs.Later.{AreSeenLater};
 ghost use Rattle.snap_nested.specs.Unused.{without_unused};
 ghost use Rattle.snap_nested.specs.Members.{member, members_after_enter, members_after_advance, members_after_close, members_after_merge, sees, is_owned, invalid_after_advance, ids_of, AreMembers, is_free, without_invalid, AreOpen, IsForgotten, global};
 
-use crate::Member;
+use crate::{Member, MemberList};
 use rt_values::{Caller, Kind, Name, NoMemory};
 use snap_ids::{IdList, IdSet};
 use std::alloc::Global;
-use std::mem::replace;
 
 // Adds the ids of `own` that are greater than `from` to `all`.
 fn add_ids_above(own: &IdSet, from: u64, all: &mut IdSet) -> Result<(), NoMemory>
@@ -27,29 +26,38 @@ fn add_ids_above(own: &IdSet, from: u64, all: &mut IdSet) -> Result<(), NoMemory
     Ok(())
 }
 
-// Adds the ids of a member that are greater than `from` to `all`.
+// Adds the ids of a member that are greater than `from` to `all`. The member is looked for at `index` first.
 fn add_member_ids(
-    members: &[Member],
+    members: &MemberList,
+    index: usize,
     name: Name,
     from: u64,
     all: &mut IdSet,
 ) -> Result<(), NoMemory>
-    requires there { name < length members.now }
-    requires rising { IsRising all.old }
+    requires { IsRising all.old }
     ensures { OnOk result (Gathers (λ i. (from < i) × (contains i (member members.now name).ids ≡ true))
         all.old all.new) }
 {
-    add_ids_above(&members[name as usize].ids, from, all)
+    let Some(member) = members.get_near(index, name) else {
+        return Ok(());
+    };
+    add_ids_above(&member.ids, from, all)
 }
 
 // Adds the ids greater than `from` that members have to `all`. Looks at the open names only.
-fn add_owned(members: &[Member], held: &IdList, from: u64, all: &mut IdSet) -> Result<(), NoMemory>
+fn add_owned(
+    members: &MemberList,
+    held: &IdList,
+    from: u64,
+    all: &mut IdSet,
+) -> Result<(), NoMemory>
     requires open_names { AreOpen held.now members.now }
     requires rising { IsRising all.old }
     ensures { OnOk result (Gathers (λ i. (from < i) × (is_owned members.now i ≡ true)) all.old all.new) }
 {
-    for name in held.ids() {
-        add_member_ids(members, *name, from, all)?;
+    let names = held.ids();
+    for index in 0..names.len() {
+        add_member_ids(members, index, names[index], from, all)?;
     }
     Ok(())
 }
@@ -57,7 +65,7 @@ fn add_owned(members: &[Member], held: &IdList, from: u64, all: &mut IdSet) -> R
 // Adds the ids greater than `from` that members have to `all`. Looks at no member if `from` is the last id that was
 // handed out.
 fn add_new(
-    members: &[Member],
+    members: &MemberList,
     held: &IdList,
     handed: u64,
     from: u64,
@@ -78,7 +86,7 @@ fn add_new(
 // last one: members have all of its invalid ids already.
 fn seal(
     alloc: Global,
-    members: &[Member],
+    members: &MemberList,
     held: &IdList,
     handed: u64,
     name: Name,
@@ -86,12 +94,14 @@ fn seal(
     requires open_names { AreOpen held.now members.now }
     requires sound { AreMembers members.now handed }
     requires kept { AreKept members.now }
-    requires there { name < length members.now }
+    requires live { (member members.now name).is_live ≡ true }
     requires room { handed < 2 ^ 62 }
     requires low { (member members.now name).id ≤ handed }
     ensures { IfOk result (λ s. s ≡ invalid_after_advance members.now (member members.now name) handed) }
 {
-    let member = &members[name as usize];
+    let Some(member) = members.get(name) else {
+        unreachable!();
+    };
     let mut all = member.invalid.copy(alloc)?;
     add_new(members, held, handed, member.id, &mut all)?;
     Ok(all)
@@ -110,7 +120,7 @@ fn copy_with(alloc: Global, ids: &IdSet, id: u64) -> Result<IdSet, NoMemory>
 // invalid too.
 fn seal_both(
     alloc: Global,
-    members: &[Member],
+    members: &MemberList,
     held: &IdList,
     handed: u64,
     parent: Name,
@@ -118,7 +128,7 @@ fn seal_both(
     requires open_names { AreOpen held.now members.now }
     requires sound { AreMembers members.now handed }
     requires kept { AreKept members.now }
-    requires there { parent < length members.now }
+    requires live { (member members.now parent).is_live ≡ true }
     requires room { handed + 1 < 2 ^ 62 }
     requires low { (member members.now parent).id ≤ handed }
     ensures { IfOk result (λ s. (s.0 ≡ invalid_after_advance members.now (member members.now parent) handed)
@@ -132,17 +142,17 @@ fn seal_both(
 // Appends a member with these invalid ids.
 fn push_member(
     alloc: Global,
-    members: &mut Vec<Member>,
+    members: &mut MemberList,
     handed: u64,
     parent: Name,
     kind: Kind,
     owner: Caller,
     invalid: IdSet,
 ) -> Result<(), NoMemory>
-    requires sealed { invalid ≡ invalid_after_advance members.old.items (member members.old.items parent) handed }
+    requires sealed { invalid ≡ invalid_after_advance members.old (member members.old parent) handed }
     requires room { handed < 2 ^ 62 }
-    ensures ok { OnOk result (members.new.items ≡ members_after_enter members.old.items handed parent kind owner) }
-    ensures err { OnErr result (members.new.items ≡ members.old.items) }
+    ensures ok { OnOk result (members.new ≡ members_after_enter members.old handed parent kind owner) }
+    ensures err { OnErr result (members.new ≡ members.old) }
 {
     let id = handed + 1;
     let ids = IdSet::of(alloc, id)?;
@@ -160,46 +170,34 @@ fn push_member(
 }
 
 // Gives a member a new id, and replaces its invalid ids.
-fn add_id(
-    members: &mut Vec<Member>,
-    handed: u64,
-    name: Name,
-    invalid: IdSet,
-) -> Result<(), NoMemory>
-    requires sealed { invalid ≡ invalid_after_advance members.old.items (member members.old.items name) handed }
-    requires there { name < length members.old.items }
+fn add_id(members: &mut MemberList, handed: u64, name: Name, invalid: IdSet) -> Result<(), NoMemory>
+    requires sealed { invalid ≡ invalid_after_advance members.old (member members.old name) handed }
+    requires live { (member members.old name).is_live ≡ true }
     requires room { handed < 2 ^ 62 }
-    ensures ok { OnOk result (members.new.items ≡ members_after_advance members.old.items handed name) }
-    ensures err { OnErr result (members.new.items ≡ members.old.items) }
+    ensures ok { OnOk result (members.new ≡ members_after_advance members.old handed name) }
+    ensures err { OnErr result (members.new ≡ members.old) }
 {
-    let id = handed + 1;
-    let member = &mut members[name as usize];
-    let Ok(()) = member.ids.set(id) else {
-        return Err(NoMemory);
-    };
-    member.id = id;
-    member.invalid = invalid;
-    Ok(())
+    members.advance(name, handed + 1, invalid)
 }
 
 /// Appends a member for which the ids are valid that are valid for its parent.
 pub fn enter_member(
     alloc: Global,
-    members: &mut Vec<Member>,
+    members: &mut MemberList,
     held: &IdList,
     handed: u64,
     parent: Name,
     kind: Kind,
     owner: Caller,
 ) -> Result<(), NoMemory>
-    requires open_names { AreOpen held.now members.old.items }
-    requires sound { AreMembers members.old.items handed }
-    requires kept { AreKept members.old.items }
-    requires there { parent < length members.old.items }
+    requires open_names { AreOpen held.now members.old }
+    requires sound { AreMembers members.old handed }
+    requires kept { AreKept members.old }
+    requires live { (member members.old parent).is_live ≡ true }
     requires room { handed < 2 ^ 62 }
-    requires low { (member members.old.items parent).id ≤ handed }
-    ensures ok { OnOk result (members.new.items ≡ members_after_enter members.old.items handed parent kind owner) }
-    ensures err { OnErr result (members.new.items ≡ members.old.items) }
+    requires low { (member members.old parent).id ≤ handed }
+    ensures ok { OnOk result (members.new ≡ members_after_enter members.old handed parent kind owner) }
+    ensures err { OnErr result (members.new ≡ members.old) }
 {
     let invalid = seal(alloc, members, held, handed, parent)?;
     push_member(alloc, members, handed, parent, kind, owner, invalid)
@@ -208,66 +206,51 @@ pub fn enter_member(
 /// Gives a member a new id.
 pub fn advance_member(
     alloc: Global,
-    members: &mut Vec<Member>,
+    members: &mut MemberList,
     held: &IdList,
     handed: u64,
     name: Name,
 ) -> Result<(), NoMemory>
-    requires open_names { AreOpen held.now members.old.items }
-    requires sound { AreMembers members.old.items handed }
-    requires kept { AreKept members.old.items }
-    requires there { name < length members.old.items }
+    requires open_names { AreOpen held.now members.old }
+    requires sound { AreMembers members.old handed }
+    requires kept { AreKept members.old }
+    requires live { (member members.old name).is_live ≡ true }
     requires room { handed < 2 ^ 62 }
-    requires low { (member members.old.items name).id ≤ handed }
-    ensures ok { OnOk result (members.new.items ≡ members_after_advance members.old.items handed name) }
-    ensures err { OnErr result (members.new.items ≡ members.old.items) }
+    requires low { (member members.old name).id ≤ handed }
+    ensures ok { OnOk result (members.new ≡ members_after_advance members.old handed name) }
+    ensures err { OnErr result (members.new ≡ members.old) }
 {
     let invalid = seal(alloc, members, held, handed, name)?;
     add_id(members, handed, name, invalid)
 }
 
-/// Closes a member, which keeps its ids.
-pub fn close_member(members: &mut Vec<Member>, name: Name)
-    requires { name < length members.old.items }
-    ensures { members.new.items ≡ members_after_close members.old.items name }
-{
-    let alloc = *members.allocator();
-    let member = &mut members[name as usize];
-    member.is_live = false;
-    member.invalid = IdSet::new(alloc);
-}
-
 /// Gives the member `into` a new id and the ids of the member `name`, and closes `name`.
 pub fn merge_member(
     alloc: Global,
-    members: &mut Vec<Member>,
+    members: &mut MemberList,
     held: &IdList,
     handed: u64,
     name: Name,
     into: Name,
 ) -> Result<(), NoMemory>
-    requires open_names { AreOpen held.now members.old.items }
-    requires sound { AreMembers members.old.items handed }
-    requires kept { AreKept members.old.items }
-    requires there { name < length members.old.items }
-    requires above { into < length members.old.items }
+    requires open_names { AreOpen held.now members.old }
+    requires sound { AreMembers members.old handed }
+    requires kept { AreKept members.old }
+    requires live { (member members.old name).is_live ≡ true }
+    requires above { (member members.old into).is_live ≡ true }
     requires room { handed < 2 ^ 62 }
-    requires low { (member members.old.items into).id ≤ handed }
-    ensures ok { OnOk result (members.new.items ≡ members_after_merge members.old.items handed name into) }
-    ensures err { OnErr result (members.new.items ≡ members.old.items) }
+    requires low { (member members.old into).id ≤ handed }
+    ensures ok { OnOk result (members.new ≡ members_after_merge members.old handed name into) }
+    ensures err { OnErr result (members.new ≡ members.old) }
 {
-    let id = handed + 1;
-    let below = members[name as usize].ids.copy(alloc)?;
+    let Some(child) = members.get(name) else {
+        unreachable!();
+    };
+    let below = child.ids.copy(alloc)?;
     let mut invalid = seal(alloc, members, held, handed, into)?;
     invalid.remove_all(&below);
-    let parent = &mut members[into as usize];
-    parent.ids.set_and_add_all(id, &below)?;
-    parent.id = id;
-    parent.invalid = invalid;
-    let member = &mut members[name as usize];
-    member.is_live = false;
-    member.ids = IdSet::new(alloc);
-    member.invalid = IdSet::new(alloc);
+    members.merge(into, handed + 1, &below, invalid)?;
+    members.remove(name);
     Ok(())
 }
 
@@ -275,22 +258,22 @@ pub fn merge_member(
 /// invalid for the parent.
 pub fn take_members(
     alloc: Global,
-    members: &mut Vec<Member>,
+    members: &mut MemberList,
     held: &IdList,
     handed: u64,
     parent: Name,
     kind: Kind,
     owner: Caller,
 ) -> Result<(), NoMemory>
-    requires open_names { AreOpen held.now members.old.items }
-    requires sound { AreMembers members.old.items handed }
-    requires kept { AreKept members.old.items }
-    requires there { parent < length members.old.items }
+    requires open_names { AreOpen held.now members.old }
+    requires sound { AreMembers members.old handed }
+    requires kept { AreKept members.old }
+    requires live { (member members.old parent).is_live ≡ true }
     requires room { handed + 1 < 2 ^ 62 }
-    requires low { (member members.old.items parent).id ≤ handed }
-    ensures ok { OnOk result (members.new.items ≡ members_after_advance
-        (members_after_enter members.old.items handed parent kind owner) (handed + 1) parent) }
-    ensures err { OnErr result (members.new.items ≡ members.old.items) }
+    requires low { (member members.old parent).id ≤ handed }
+    ensures ok { OnOk result (members.new ≡ members_after_advance
+        (members_after_enter members.old handed parent kind owner) (handed + 1) parent) }
+    ensures err { OnErr result (members.new ≡ members.old) }
 {
     let (invalid, sealed) = seal_both(alloc, members, held, handed, parent)?;
     push_member(alloc, members, handed, parent, kind, owner, invalid)?;
@@ -301,23 +284,24 @@ pub fn take_members(
     Ok(())
 }
 
-// Returns whether the member with this name is live and the id is valid for it.
-fn sees(members: &[Member], name: Name, id: u64) -> bool
+// Returns whether the member with this name is live and the id is valid for it. The member is looked for at `index`
+// first.
+fn sees(members: &MemberList, index: usize, name: Name, id: u64) -> bool
     ensures { result ≡ sees id (member members.now name) }
 {
-    match members.get(name as usize) {
+    match members.get_near(index, name) {
         Some(member) => { member.is_live && 0 < id && id <= member.id && !member.invalid.get(id) }
         None => false,
     }
 }
 
 // Returns whether the id is valid for a live member with one of the names from index `from` on.
-fn is_seen_from(members: &[Member], names: &[Name], from: usize, id: u64) -> bool
+fn is_seen_from(members: &MemberList, names: &[Name], from: usize, id: u64) -> bool
     requires { from ≤ length names.now }
     ensures { result ≡ list_any (λ n. sees id (member members.now n)) (drop from names.now) }
 {
     for index in from..names.len() {
-        if sees(members, names[index], id) {
+        if sees(members, index, names[index], id) {
             return true;
         }
     }
@@ -326,14 +310,14 @@ fn is_seen_from(members: &[Member], names: &[Name], from: usize, id: u64) -> boo
 
 // Returns whether the member with the open name at `index` is closed and keeps ids, of which the first is valid for no
 // live member. Looks only at the names from `index` on: the id is valid for no member with a lower name.
-fn is_free(members: &[Member], names: &[Name], index: usize) -> bool
+fn is_free(members: &MemberList, names: &[Name], index: usize) -> bool
     requires open_names { AreOpen names.now members.now }
     requires rising { IsRising names.now }
     requires later { AreSeenLater (ids_of members.now) }
     requires there { index < length names.now }
     ensures { result ≡ is_free members.now (member members.now (slice_index_or names.now index 0)) }
 {
-    let Some(member) = members.get(names[index] as usize) else {
+    let Some(member) = members.get_near(index, names[index]) else {
         return false;
     };
     if member.is_live || member.ids.is_empty() {
@@ -343,7 +327,7 @@ fn is_free(members: &[Member], names: &[Name], index: usize) -> bool
 }
 
 /// Returns the first name that is free: closed, with ids that no live member needs.
-pub fn first_free(members: &[Member], held: &IdList) -> Option<Name>
+pub fn first_free(members: &MemberList, held: &IdList) -> Option<Name>
     requires open_names { AreOpen held.now members.now }
     requires later { AreSeenLater (ids_of members.now) }
     ensures within { IfSome result (λ n. n < length members.now) }
@@ -360,75 +344,12 @@ pub fn first_free(members: &[Member], held: &IdList) -> Option<Name>
     None
 }
 
-// Removes `own` from the invalid ids of a member.
-fn free_at(members: &mut Vec<Member>, name: Name, own: &IdSet)
-    requires { name < length members.old.items }
-    ensures { members.new.items ≡ slice_set members.old.items name (without_invalid own.now
-        (member members.old.items name)) }
+/// Removes a member, and removes its ids from the invalid ids of all others.
+pub fn forget_member(members: &mut MemberList, name: Name)
+    ensures { IsForgotten members.old members.new name }
 {
-    members[name as usize].invalid.remove_all(own);
-}
-
-// Removes `own` from the invalid ids of all members. Looks at the open names only: the others have no invalid ids.
-fn free_all(members: &mut Vec<Member>, held: &IdList, own: &IdSet)
-    requires within { (n : ℕ) → contains n held.now ≡ true → n < length members.old.items }
-    requires shut { (n : ℕ) → contains n held.now ≡ false → (member members.old.items n).invalid ≡ [] }
-    ensures count { length members.new.items ≡ length members.old.items }
-    ensures each { (n : ℕ) → member members.new.items n ≡ without_invalid own.now (member members.old.items n) }
-{
-    for name in held.ids() {
-        free_at(members, *name, own);
-    }
-}
-
-/// Removes the ids of a member, and removes them from the invalid ids of all members.
-pub fn forget_member(members: &mut Vec<Member>, held: &IdList, name: Name)
-    requires open_names { AreOpen held.now members.old.items }
-    requires there { name < length members.old.items }
-    ensures { IsForgotten members.old.items members.new.items name }
-{
-    let alloc = *members.allocator();
-    let own = replace(&mut members[name as usize].ids, IdSet::new(alloc));
-    free_all(members, held, &own);
-}
-
-// Removes `unused` from the own and the invalid ids of a member.
-fn drop_at(members: &mut Vec<Member>, name: Name, unused: &IdSet)
-    requires { name < length members.old.items }
-    ensures { members.new.items ≡ slice_set members.old.items name (without_unused unused.now
-        (member members.old.items name)) }
-{
-    let member = &mut members[name as usize];
-    member.ids.remove_all(unused);
-    member.invalid.remove_all(unused);
-}
-
-/// Removes `unused` from the own and the invalid ids of all members. Looks at the open names only: the others have no
-/// ids.
-pub fn drop_all(members: &mut Vec<Member>, held: &IdList, unused: &IdSet)
-    requires { AreOpen held.now members.old.items }
-    ensures count { length members.new.items ≡ length members.old.items }
-    ensures each { (n : ℕ) → member members.new.items n ≡ without_unused unused.now (member members.old.items n) }
-{
-    for name in held.ids() {
-        drop_at(members, *name, unused);
-    }
-}
-
-/// Returns the list with only global.
-pub fn global_alone(alloc: Global) -> Result<Vec<Member>, NoMemory>
-    ensures { IfOk result (λ ms. ms.items ≡ global ∷ []) }
-{
-    let mut members = Vec::new(alloc);
-    members.push(Member {
-        is_live: true,
-        parent: 0,
-        owner: 0,
-        kind: Kind::Mutable,
-        first: 1,
-        id: 1,
-        ids: IdSet::of(alloc, 1)?,
-        invalid: IdSet::new(alloc),
-    })?;
-    Ok(members)
+    let Some(gone) = members.remove(name) else {
+        return;
+    };
+    members.remove_invalid(&gone.ids);
 }
